@@ -1,5 +1,6 @@
 -- What left sides are.
-use Rattle.std.proofs.Common.{◌≡◌, ◌≢◌, ◌<◌, ◌+◌, ℕ, suc, Bool, true, false, List, [], ◌∷◌, length, Bor, Option, Some, None, if◌then◌else◌, refl, sym, ap, ◌∙◌, subst, arith}
+use Rattle.std.proofs.Common.{◌≡◌, ◌≢◌, ◌&&◌, ◌||◌, ◌==◌, ◌++◌, ℕ, suc, Bool, true, false, List, [], ◌∷◌, length, Bor, Option, Some, None, if◌then◌else◌, refl, sym, ap, ◌∙◌, subst}
+use Rattle.std.specs.List.{list_any}
 use Rattle.sim_base.specs.declared.numbering.DeclNo.{DeclNo}
 use Rattle.sim_base.specs.declared.numbering.TokenNo.{TokenNo}
 use Rattle.sim_scope.specs.declared.bound.Bound.{Bound}
@@ -17,76 +18,116 @@ use Rattle.sim_scope.specs.declared.types.Mode.TheVariants as mode
 use Rattle.sim_scope.specs.declared.types.SimType.{SimType}
 use Rattle.sim_scope.specs.declared.types.WrittenMode.{WrittenMode}
 use Rattle.sim_scope.specs.Scopes.{entry_of}
+use Rattle.sim_scope.specs.Tables.{BlockOf as TableBlock}
 use Rattle.sim_scope.specs.Source.{Source, block_of, denoted, level_of, line_at, source_of}
 use Rattle.sim_tree.specs.declared.expr.Expr.{Expr}
 use Rattle.sim_tree.specs.Syntax.{NoMore}
 use Rattle.sim_meaning.specs.Entries.{cells_from, with_cell}
 use Rattle.sim_meaning.specs.Pending.{Declared, Held, Key, Result, same_key}
-use Rattle.sim_meaning.specs.Texts.{BlockText, ProcedureText, Text, text}
+use Rattle.sim_meaning.specs.Texts.{BlockText, ClassText, ConnectionText, PrefixedText, ProcedureText, StandardText, Text, text}
 use Rattle.codegen_expr.specs.declared.spot.Spot.{Spot}
-use Rattle.codegen_expr.specs.Built.{KeyBuilt, is_around, is_there, place_from, slot_in}
+use Rattle.codegen_expr.specs.Built.{KeyBuilt, is_around, is_there, place_from, slot_in, unless_prefixed}
 use Rattle.codegen_expr.specs.Known.{has_result}
-use Rattle.codegen_expr.specs.Sites.{HasCell, cells_in, place_of, slot_of}
+use Rattle.codegen_expr.specs.Sites.{HasCell, cells_in, frame_text, hidden_before, hidden_from, hidden_in, is_connection, own_part, prefix_of}
+use Rattle.codegen_expr.proofs.Slots.{slot_found, slot_within}
 use Rattle.codegen.specs.declared.left.Left.{Left}
 use Rattle.codegen.specs.declared.left.Left.TheVariants as left
 use Rattle.codegen.specs.CodeLeft.{AtAddress, InCell, NotBuilt, Stored, stored_declared, stored_element, stored_formal, stored_named, stored_result, stored_variable}
-use Rattle.codegen.specs.EmitLeft.{FindsDeclared, FindsElement, FindsFormal, FindsLeft, FindsOwn, FindsResult, FindsVariable, IsVariable, operands_in}
+use Rattle.codegen.specs.EmitLeft.{FindsDeclared, FindsElement, FindsFormal, FindsLeft, FindsOwn, FindsResult, FindsVariable, IsSlot, IsVariable, operands_in}
 
 -- ---- cells by key
 
-pub found_place : (n : ℕ) (key : Key) (hs : List Held) (k : ℕ) → place_from n key hs ≡ Some k → (k ≡ n + place_of key hs) × (place_of key hs < length hs)
-found_place n key [] k e = absurd (cc)
-found_place n key (h ∷ hs) k e = cases (same_key h.key key) refl e (λ f. found_place (suc n) key hs k f)
-  where
-    cases : (b : Bool) → same_key h.key key ≡ b → (if b then Some n else place_from (suc n) key hs) ≡ Some k → (place_from (suc n) key hs ≡ Some k → (k ≡ suc n + place_of key hs) × (place_of key hs < length hs)) → (k ≡ n + (if b then 0 else suc (place_of key hs))) × ((if b then 0 else suc (place_of key hs)) < length (h ∷ hs))
-    cases true is e f = let same : n ≡ k = cc in (omega (arith, same), omega arith)
-    cases false is e f = let r = f e in let r0 = r.0 in let r1 = r.1 in (omega (arith, r0), omega (arith, r1))
-
-pub slot_found : (s : Source) (t : ℕ) (key : Key) (k : ℕ) → slot_in s t key ≡ Some k → k ≡ slot_of s t key
-unfolding slot_in slot_of
-slot_found s t key k e = let r = (found_place 0 key (cells_in s t (text s t)) k e).0 in omega (arith, r)
-
 pub cell_there : (s : Source) (t : ℕ) (key : Key) → is_there (slot_in s t key) ≡ true → HasCell s t key
-unfolding slot_in slot_of
-cell_there s t key h = cases (place_from 0 key (cells_in s t (text s t))) refl h
+cell_there s t key h = cases (slot_in s t key) refl h
   where
-    cases : (o : Option ℕ) → place_from 0 key (cells_in s t (text s t)) ≡ o → is_there o ≡ true → place_of key (cells_in s t (text s t)) < length (cells_in s t (text s t))
+    cases : (o : Option ℕ) → slot_in s t key ≡ o → is_there o ≡ true → HasCell s t key
     cases None e h = absurd (cc)
-    cases (Some k) e h = (found_place 0 key (cells_in s t (text s t)) k e).1
+    cases (Some k) e h = slot_within s t key k e
 
--- no declaration has the cell of a result
-no_result_before : (s : Source) (n : ℕ) (d : DeclNo) (o : Option Entry) (hs : List Held) → ((m : ℕ) → place_from m Result hs ≡ None) → place_from n Result (with_cell d o hs) ≡ None
-no_result_before s n d None hs f = f n
-no_result_before s n d (Some (entry.Variable type)) hs f = f (suc n)
-no_result_before s n d (Some (entry.Constant type)) hs f = f (suc n)
-no_result_before s n d (Some (entry.Array element dimensions)) hs f = f (suc n)
-no_result_before s n d (Some (entry.Formal x)) hs f = f (suc n)
-no_result_before s n d (Some (entry.Procedure result block)) hs f = f n
-no_result_before s n d (Some (entry.Class block)) hs f = f n
-no_result_before s n d (Some (entry.Virtual result own)) hs f = f n
-no_result_before s n d (Some (entry.Unspecified written)) hs f = f n
-no_result_before s n d (Some (entry.Attribute name parameter result)) hs f = f n
+pub is_slot : (s : Source) (t : ℕ) (key : Key) (k : ℕ) → slot_in s t key ≡ Some k → IsSlot s t key k
+is_slot s t key k e final = slot_found s final t key k e
 
-no_result : (s : Source) (ds : List DeclNo) (n : ℕ) → place_from n Result (cells_from s ds) ≡ None
-no_result s [] n = refl
-no_result s (d ∷ ds) n = no_result_before s n d (entry_of s.tables d) (cells_from s ds) (no_result s ds)
+-- no declaration and no connection has the cell of a result
+abbrev has_it : List Held → Bool
+has_it hs = list_any (λ h. same_key h.key Result) hs
+
+absent : (hs : List Held) (n : ℕ) → has_it hs ≡ false → place_from n Result hs ≡ None
+absent [] n e = refl
+absent (h ∷ hs) n e = cases (same_key h.key Result) e (absent hs (suc n))
+  where
+    cases : (c : Bool) → (c || has_it hs) ≡ false → (has_it hs ≡ false → place_from (suc n) Result hs ≡ None) → (if c then Some n else place_from (suc n) Result hs) ≡ None
+    cases true e more = absurd (cc)
+    cases false e more = more e
+
+none_before : (d : DeclNo) (o : Option Entry) (hs : List Held) → has_it hs ≡ false → has_it (with_cell d o hs) ≡ false
+none_before d None hs f = f
+none_before d (Some (entry.Variable type)) hs f = f
+none_before d (Some (entry.Constant type)) hs f = f
+none_before d (Some (entry.Array element dimensions)) hs f = f
+none_before d (Some (entry.Formal x)) hs f = f
+none_before d (Some (entry.Procedure result block)) hs f = f
+none_before d (Some (entry.Class block)) hs f = f
+none_before d (Some (entry.Virtual result own)) hs f = f
+none_before d (Some (entry.Unspecified written)) hs f = f
+none_before d (Some (entry.Attribute name parameter result)) hs f = f
+
+none_declared : (s : Source) (ds : List DeclNo) → has_it (cells_from s ds) ≡ false
+none_declared s [] = refl
+none_declared s (d ∷ ds) = none_before d (entry_of s.tables d) (cells_from s ds) (none_declared s ds)
+
+none_hidden : (s : Source) (k m : ℕ) (bs : List TableBlock) → has_it (hidden_from s k m bs) ≡ false
+none_hidden s k m [] = refl
+none_hidden s k m (x ∷ xs) = cases (is_connection x.kind && frame_text s m == k) (none_hidden s k (suc m) xs)
+  where
+    cases : (c : Bool) → has_it (hidden_from s k (suc m) xs) ≡ false → has_it (hidden_before c x (hidden_from s k (suc m) xs)) ≡ false
+    cases true more = more
+    cases false more = more
+
+none_joined : (hs ms : List Held) → has_it hs ≡ false → has_it ms ≡ false → has_it (hs ++ ms) ≡ false
+none_joined [] ms e f = f
+none_joined (h ∷ hs) ms e f = cases (same_key h.key Result) e (λ z. none_joined hs ms z f)
+  where
+    cases : (c : Bool) → (c || has_it hs) ≡ false → (has_it hs ≡ false → has_it (hs ++ ms) ≡ false) → (c || has_it (hs ++ ms)) ≡ false
+    cases true e more = absurd (cc)
+    cases false e more = more e
 
 -- the cell of a result is the first one, and only a procedure with a result has one
-result_cell : (s : Source) (k : ℕ) (x : Option Text) → has_result x ≡ true → (place_from 0 Result (cells_in s k x) ≡ Some 0) × (place_of Result (cells_in s k x) ≡ 0)
+result_cell : (s : Source) (k : ℕ) (x : Option Text) → has_result x ≡ true → place_from 0 Result (cells_in s k x ++ hidden_in s k) ≡ Some 0
 unfolding Rattle.sim_meaning.specs.Entries.first_cells
 result_cell s k None h = absurd (cc)
 result_cell s k (Some (BlockText begin ds ss)) h = absurd (cc)
 result_cell s k (Some (ProcedureText None x a)) h = absurd (cc)
-result_cell s k (Some (ProcedureText (Some type) x a)) h = (refl, refl)
+result_cell s k (Some (ProcedureText (Some type) x a)) h = refl
 result_cell s k (Some _) h = absurd (cc)
 
-result_none : (s : Source) (k : ℕ) (x : Option Text) → has_result x ≡ false → place_from 0 Result (cells_in s k x) ≡ None
+no_result : (s : Source) (k : ℕ) (x : Option Text) → has_result x ≡ false → has_it (cells_in s k x) ≡ false
 unfolding Rattle.sim_meaning.specs.Entries.first_cells
-result_none s k None h = refl
-result_none s k (Some (BlockText begin ds ss)) h = no_result s _ 0
-result_none s k (Some (ProcedureText None x a)) h = no_result s _ 0
-result_none s k (Some (ProcedureText (Some type) x a)) h = absurd (cc)
-result_none s k (Some _) h = refl
+no_result s k None h = refl
+no_result s k (Some (BlockText begin ds ss)) h = none_declared s _
+no_result s k (Some (ProcedureText None x a)) h = none_declared s _
+no_result s k (Some (ProcedureText (Some type) x a)) h = absurd (cc)
+no_result s k (Some (ClassText prefix x ds ss)) h = none_declared s _
+no_result s k (Some (PrefixedText class es ds ss)) h = none_declared s _
+no_result s k (Some ConnectionText) h = refl
+no_result s k (Some (StandardText which)) h = refl
+
+result_none : (s : Source) (k : ℕ) (x : Option Text) → has_result x ≡ false → place_from 0 Result (cells_in s k x ++ hidden_in s k) ≡ None
+unfolding hidden_in
+result_none s k x h = absent (cells_in s k x ++ hidden_in s k) 0 (none_joined (cells_in s k x) (hidden_in s k) (no_result s k x h) (none_hidden s k 0 s.tables.blocks))
+
+pub result_slot_prefixed : (b : Bound) (k u : ℕ) (r : Option ℕ) → r ≡ prefix_of b.scopes k → r ≡ Some u → None ≡ slot_in (source_of b) k Result
+unfolding slot_in source_of
+result_slot_prefixed b k u r er some = ap (λ z. unless_prefixed z (place_from 0 Result (own_part (source_of b) k))) (sym some ∙ er)
+
+pub result_slot_first : (b : Bound) (k : ℕ) (r : Option ℕ) (t : Bool) → r ≡ prefix_of b.scopes k → r ≡ None → t ≡ has_result (text (source_of b) k) → t ≡ true → Some 0 ≡ slot_in (source_of b) k Result
+unfolding slot_in source_of
+result_slot_first b k r t er none et is =
+    sym (result_cell (source_of b) k (text (source_of b) k) (sym et ∙ is)) ∙ ap (λ z. unless_prefixed z (place_from 0 Result (own_part (source_of b) k))) (sym none ∙ er)
+
+pub result_slot_none : (b : Bound) (k : ℕ) (r : Option ℕ) (t : Bool) → r ≡ prefix_of b.scopes k → r ≡ None → t ≡ has_result (text (source_of b) k) → t ≡ false → None ≡ slot_in (source_of b) k Result
+unfolding slot_in source_of
+result_slot_none b k r t er none et is =
+    sym (result_none (source_of b) k (text (source_of b) k) (sym et ∙ is)) ∙ ap (λ z. unless_prefixed z (place_from 0 Result (own_part (source_of b) k))) (sym none ∙ er)
 
 -- ---- operands
 
@@ -134,7 +175,7 @@ module _ (b : Bound) (w : Spot) where
       let s = source_of b in
       let here : slot_in s (block_of s d) (Declared d.0) ≡ Some k = sym es' ∙ some in
       let inside : is_around b.scopes (length b.scopes.blocks) w.text (block_of s d) ≡ true = ap (λ z. is_around b.scopes (length b.scopes.blocks) w.text z) (sym eb) ∙ around in
-      cell_of d es none (left.Cell level k) (block_of s d, Declared d.0, refl, record { has = ap is_there here; inside = record { found = inside } }, el ∙ ap (level_of s) eb, slot_found s (block_of s d) (Declared d.0) k here)
+      cell_of d es none (left.Cell level k) (block_of s d, Declared d.0, refl, record { has = ap is_there here; inside = record { found = inside } }, el ∙ ap (level_of s) eb, is_slot s (block_of s d) (Declared d.0) k here)
 
   -- ---- elements and results
 
@@ -154,40 +195,35 @@ module _ (b : Bound) (w : Spot) where
   unfolding FindsResult
   result_of k es none r f = subst (λ z. IsVariable (source_of b) w r (stored_result k z)) (sym (no_operands es none)) f
 
-  no_cell : (k : ℕ) (t : Bool) → t ≡ has_result (text (source_of b) k) → t ≡ false → is_there (slot_in (source_of b) k Result) ≡ false
-  unfolding slot_in
-  no_cell k t et is = ap is_there (result_none (source_of b) k (text (source_of b) k) (sym et ∙ is))
-
-  pub result_missing : (k : ℕ) (es : List Expr) (t : Bool) → length es ≡ 0 → t ≡ has_result (text (source_of b) k) → t ≡ false → FindsResult b w k es left.NotBuilt
-  result_missing k es t none et is = result_of k es none left.NotBuilt (λ h. let x = h.has in let u = no_cell k t et is in cc)
+  pub result_missing : (k : ℕ) (es : List Expr) (o : Option ℕ) → length es ≡ 0 → o ≡ slot_in (source_of b) k Result → o ≡ None → FindsResult b w k es left.NotBuilt
+  result_missing k es o none eo is = result_of k es none left.NotBuilt (λ h. let x = h.has in let u : is_there (slot_in (source_of b) k Result) ≡ false = ap is_there (sym eo ∙ is) in cc)
 
   pub result_outside : (k : ℕ) (es : List Expr) → length es ≡ 0 → is_around b.scopes (length b.scopes.blocks) w.text k ≡ false → FindsResult b w k es left.NotBuilt
   unfolding source_of
   result_outside k es none out = result_of k es none left.NotBuilt (λ h. let t = h.inside.found in cc)
 
   -- the cell of a result that is there
-  pub own_cell : (k level : ℕ) (t : Bool) → t ≡ has_result (text (source_of b) k) → t ≡ true → is_around b.scopes (length b.scopes.blocks) w.text k ≡ true → level ≡ level_of (source_of b) k → KeyBuilt (source_of b) w.text k Result × (level ≡ level_of (source_of b) k) × (0 ≡ slot_of (source_of b) k Result)
-  unfolding slot_in slot_of source_of
-  own_cell k level t et is around el =
+  pub own_cell : (k level slot : ℕ) (o : Option ℕ) → o ≡ slot_in (source_of b) k Result → o ≡ Some slot → is_around b.scopes (length b.scopes.blocks) w.text k ≡ true → level ≡ level_of (source_of b) k → KeyBuilt (source_of b) w.text k Result × (level ≡ level_of (source_of b) k) × IsSlot (source_of b) k Result slot
+  unfolding source_of
+  own_cell k level slot o eo is around el =
       let s = source_of b in
-      let r = result_cell s k (text s k) (sym et ∙ is) in
-      (record { has = ap is_there r.0; inside = record { found = around } }, el, sym r.1)
+      (record { has = ap is_there (sym eo ∙ is); inside = record { found = around } }, el, is_slot s k Result slot (sym eo ∙ is))
 
-  pub result_found : (k level : ℕ) (es : List Expr) (t : Bool) → length es ≡ 0 → t ≡ has_result (text (source_of b) k) → t ≡ true → is_around b.scopes (length b.scopes.blocks) w.text k ≡ true → level ≡ level_of (source_of b) k → FindsResult b w k es (left.Cell level 0)
-  result_found k level es t none et is around el = let r = own_cell k level t et is around el in result_of k es none (left.Cell level 0) (k, Result, refl, r.0, r.1, r.2)
+  pub result_found : (k level slot : ℕ) (es : List Expr) (o : Option ℕ) → length es ≡ 0 → o ≡ slot_in (source_of b) k Result → o ≡ Some slot → is_around b.scopes (length b.scopes.blocks) w.text k ≡ true → level ≡ level_of (source_of b) k → FindsResult b w k es (left.Cell level slot)
+  result_found k level slot es o none eo is around el = let r = own_cell k level slot o eo is around el in result_of k es none (left.Cell level slot) (k, Result, refl, r.0, r.1, r.2)
 
   -- the text in it
-  pub own_missing : (k : ℕ) (t : Bool) → t ≡ has_result (text (source_of b) k) → t ≡ false → FindsOwn b w k left.NotBuilt
+  pub own_missing : (k : ℕ) (o : Option ℕ) → o ≡ slot_in (source_of b) k Result → o ≡ None → FindsOwn b w k left.NotBuilt
   unfolding FindsOwn
-  own_missing k t et is e line h = let x = h.has in let u = no_cell k t et is in cc
+  own_missing k o eo is e line h = let x = h.has in let u : is_there (slot_in (source_of b) k Result) ≡ false = ap is_there (sym eo ∙ is) in cc
 
   pub own_outside : (k : ℕ) → is_around b.scopes (length b.scopes.blocks) w.text k ≡ false → FindsOwn b w k left.NotBuilt
   unfolding FindsOwn source_of
   own_outside k out e line h = let t = h.inside.found in cc
 
-  pub own_found : (k level : ℕ) (t : Bool) → t ≡ has_result (text (source_of b) k) → t ≡ true → is_around b.scopes (length b.scopes.blocks) w.text k ≡ true → level ≡ level_of (source_of b) k → FindsOwn b w k (left.Result level 0)
+  pub own_found : (k level slot : ℕ) (o : Option ℕ) → o ≡ slot_in (source_of b) k Result → o ≡ Some slot → is_around b.scopes (length b.scopes.blocks) w.text k ≡ true → level ≡ level_of (source_of b) k → FindsOwn b w k (left.Result level slot)
   unfolding FindsOwn
-  own_found k level t et is around el e line = let r = own_cell k level t et is around el in (k, refl, r.0, r.1, r.2)
+  own_found k level slot o eo is around el e line = let r = own_cell k level slot o eo is around el in (k, refl, r.0, r.1, r.2)
 
   -- ---- formal parameters
 
@@ -278,4 +314,4 @@ module _ (b : Bound) (w : Spot) where
   pub left_nothing : (token : TokenNo) (o : Option Denotation) (es : List Expr) → o ≡ denoted (source_of b) token.0 → o ≡ None → FindsLeft b w token es left.NotBuilt
   left_nothing token o es eo none = as_named token o _ es left.NotBuilt eo none (λ h. h)
 
-pub ruleset lefts = (variable_subscripts, variable_no_slot, variable_outside, variable_cell, element_none, element_found, result_subscripts, result_missing, result_outside, result_found, formal_by_name, value_simple, value_array, value_procedure, reference_simple, reference_array, reference_procedure, declared_variable, declared_array, declared_formal, declared_result, declared_constant, declared_class, declared_virtual, declared_unspecified, declared_attribute, declared_nowhere, left_declared, left_standard, left_nothing)
+pub ruleset lefts = (result_slot_prefixed, result_slot_first, result_slot_none, variable_subscripts, variable_no_slot, variable_outside, variable_cell, element_none, element_found, result_subscripts, result_missing, result_outside, result_found, formal_by_name, value_simple, value_array, value_procedure, reference_simple, reference_array, reference_procedure, declared_variable, declared_array, declared_formal, declared_result, declared_constant, declared_class, declared_virtual, declared_unspecified, declared_attribute, declared_nowhere, left_declared, left_standard, left_nothing)

@@ -1,11 +1,13 @@
 -- Arrays, one declaration behind another.
-use Rattle.std.proofs.Common.{◌≡◌, ◌≢◌, ◌<◌, ℕ, ℤ, pos, suc, true, false, List, [], ◌∷◌, length, map, drop, Option, Some, None, refl, sym, ap, ◌∙◌, subst, arith}
+use Rattle.std.proofs.Common.{◌≡◌, ◌≢◌, ◌<◌, ℕ, ℤ, pos, suc, Bool, true, false, List, [], ◌∷◌, length, map, drop, Option, Some, None, refl, sym, ap, ◌∙◌, subst, arith}
 use Rattle.std.specs.Prelude.{⊤, slice_index_or}
 use Rattle.std.specs.declared.alloc.Global.{Global}
 use Rattle.std.specs.declared.vec.Vec.{Vec}
 use Rattle.sim_base.specs.declared.numbering.DeclNo.{DeclNo}
 use Rattle.sim_base.specs.declared.numbering.TokenNo.{TokenNo}
 use Rattle.sim_scope.specs.declared.bound.Bound.{Bound}
+use Rattle.sim_scope.specs.declared.types.Entry.{Entry}
+use Rattle.sim_scope.specs.Scopes.{entry_of}
 use Rattle.sim_scope.specs.Source.{Source, block_of, level_of, line_at, source_of}
 use Rattle.sim_tree.specs.declared.expr.Identifier.{Identifier}
 use Rattle.sim_tree.specs.declared.stmt.ArraySegment.{ArraySegment}
@@ -23,6 +25,7 @@ use Rattle.sim_tree.proofs.ProgramSyntaxLemmas as v
 use Rattle.sim_code.specs.declared.instr.Instr.{Instr}
 use Rattle.sim_code.specs.declared.instr.Instr.TheVariants as i
 use Rattle.sim_code.specs.Code.{CodeOf}
+use Rattle.sim_code.specs.Running.{runs}
 use Rattle.sim_meaning.specs.Pending.{Declared}
 use Rattle.sim_meaning.specs.Texts.{declared_at, kind_named}
 use Rattle.codegen_expr.specs.declared.spot.Spot.{Spot}
@@ -30,12 +33,13 @@ use Rattle.codegen_expr.specs.Built.{IsBuilt, is_there, slot_in}
 use Rattle.codegen_expr.specs.CodeExpr.{ExprAt}
 use Rattle.codegen_expr.specs.Drafts.{DraftOf, Emits, given_up, with_instr, with_push}
 use Rattle.codegen_expr.specs.Emit.{Puts, Writes}
-use Rattle.codegen_expr.specs.Sites.{At, HasCell, Is, Pushes, Site, slot_of}
+use Rattle.codegen_expr.specs.Sites.{At, HasCell, Is, Pushes, Site, Varies, is_constant, slot_of}
 use Rattle.codegen_expr.proofs.Pieces.{emits_as, emits_at, emits_none, emits_nothing, emits_push, emits_push_at, emits_then}
 use Rattle.codegen.specs.BuiltProgram.{ArraysBuilt, BoundsBuilt, KeptBuilt, MadeBuilt, NamesBuilt, SegmentsBuilt}
 use Rattle.codegen.specs.CodeArrays.{ArraysAt, BoundsAt, FurtherAt, KeepsArray, LoadsArray, MakesAt, SegmentsAt, element_number}
 use Rattle.codegen.specs.EmitArrays.{FindsKept, FurtherBuilt, KeptIs, OwesArrays, OwesBounds, OwesFurther, OwesSegments, PutsArrays, WritesArrays, WritesBounds, WritesFurther, WritesKeep, WritesLoad, WritesMade, WritesSegment, WritesSegments}
-use Rattle.codegen.proofs.Cells.{cell_there, slot_found}
+use Rattle.codegen_expr.proofs.Slots.{slot_found}
+use Rattle.codegen.proofs.Cells.{cell_there}
 
 module _ (b : Bound) (w : Spot) where
   -- ---- one array
@@ -48,14 +52,20 @@ module _ (b : Bound) (w : Spot) where
   unfolding FindsKept
   kept_elsewhere t o x m eo some em ne = λ h. (let k : KeptBuilt (source_of b) w.text (Some x) = subst (KeptBuilt (source_of b) w.text) (sym eo ∙ some) h in ne (em ∙ k.0))
 
-  pub kept_found : (t : TokenNo) (o : Option DeclNo) (x : DeclNo) (m : ℕ) (r : Option ℕ) → o ≡ declared_at (source_of b) t.0 → o ≡ Some x → m ≡ block_of (source_of b) x → m ≡ w.text → r ≡ slot_in (source_of b) (block_of (source_of b) x) (Declared x.0) → FindsKept b w t r
-  unfolding FindsKept
-  kept_found t o x m None eo some em here er = λ h.
+  pub kept_constant : (t : TokenNo) (o : Option DeclNo) (x : DeclNo) (y : Option Entry) (z : Bool) → o ≡ declared_at (source_of b) t.0 → o ≡ Some x → y ≡ entry_of b.scopes x → z ≡ is_constant y → z ≡ true → FindsKept b w t None
+  unfolding FindsKept source_of
+  kept_constant t o x y z eo some ey ez yes' = λ h.
+      let k : KeptBuilt (source_of b) w.text (Some x) = subst (KeptBuilt (source_of b) w.text) (sym eo ∙ some) h in
+      let e : true ≡ false = sym yes' ∙ ez ∙ ap is_constant ey ∙ k.1 in cc
+
+  pub kept_found : (t : TokenNo) (o : Option DeclNo) (x : DeclNo) (m : ℕ) (y : Option Entry) (z : Bool) (r : Option ℕ) → o ≡ declared_at (source_of b) t.0 → o ≡ Some x → m ≡ block_of (source_of b) x → m ≡ w.text → y ≡ entry_of b.scopes x → z ≡ is_constant y → z ≡ false → r ≡ slot_in (source_of b) (block_of (source_of b) x) (Declared x.0) → FindsKept b w t r
+  unfolding FindsKept source_of
+  kept_found t o x m y z None eo some em here ey ez no' er = λ h.
       let s = source_of b in
       let k : KeptBuilt s w.text (Some x) = subst (KeptBuilt s w.text) (sym eo ∙ some) h in
       let none : is_there (slot_in s w.text (Declared x.0)) ≡ false = ap is_there (ap (λ z. slot_in s z (Declared x.0)) (sym (sym em ∙ here)) ∙ sym er) in
-      let e : true ≡ false = sym k.1 ∙ none in cc
-  kept_found t o x m (Some n) eo some em here er = (x, sym eo ∙ some, sym em ∙ here, ap (λ z. slot_in (source_of b) z (Declared x.0)) (sym (sym em ∙ here)) ∙ sym er)
+      let e : true ≡ false = sym k.2 ∙ none in cc
+  kept_found t o x m y z (Some n) eo some em here ey ez no' er = (x, sym eo ∙ some, sym em ∙ here, sym (ap is_constant ey) ∙ sym ez ∙ no', ap (λ z. slot_in (source_of b) z (Declared x.0)) (sym (sym em ∙ here)) ∙ sym er)
 
   -- what is kept, by the declaration
   kept_as : (a c : DraftOf) (t : TokenNo) (x : DeclNo) (At' : Option DeclNo → CodeOf → Site → ℕ → ℕ → Type 0) → declared_at (source_of b) t.0 ≡ Some x → Emits w a c (KeptBuilt (source_of b) w.text (Some x)) (At' (Some x)) → Emits w a c (KeptBuilt (source_of b) w.text (declared_at (source_of b) t.0)) (At' (declared_at (source_of b) t.0))
@@ -67,11 +77,11 @@ module _ (b : Bound) (w : Spot) where
       let s = source_of b in
       let k : KeptIs s w.text t.0 (Some slot) = subst (KeptIs s w.text t.0) er f in
       let key = Declared k.0.0 in
-      let there : is_there (slot_in s w.text key) ≡ true = ap is_there k.3 in
-      let at : x ≡ i.Store (pos (level_of s w.text)) (pos (slot_of s w.text key)) = ex ∙ ap (λ z. i.Store (pos z) (pos slot)) el ∙ ap (λ z. i.Store (pos (level_of s w.text)) (pos z)) (slot_found s w.text key slot k.3) in
+      let there : is_there (slot_in s w.text key) ≡ true = ap is_there k.4 in
+      let at : (final : CodeOf) → x ≡ i.Store (pos (level_of s w.text)) (pos (slot_of s final w.text key)) = λ final. ex ∙ ap (λ z. i.Store (pos z) (pos slot)) el ∙ ap (λ z. i.Store (pos (level_of s w.text)) (pos z)) (slot_found s final w.text key slot k.4) in
       kept_as a c t k.0 (λ o final site p q. KeepsArray s final site o p q) k.1
-      (emits_as w ⊤ _ _ _ a c (λ h. tt) (λ h. (k.2, there)) (λ final site p q stands _ r. subst (λ z. HasCell s z key × Is final (i.Store (pos (level_of s z)) (pos (slot_of s z key))) p q) (sym stands) (cell_there s w.text key there, record { line = 0; is = r }))
-      (emits_at w a c (i.Store (pos (level_of s w.text)) (pos (slot_of s w.text key))) 0 (ec ∙ ap (λ z. with_instr a z 0) at) (λ z. cc) refl))
+      (emits_as w ⊤ _ _ _ a c (λ h. tt) (λ h. (k.2, k.3, there)) (λ final site p q stands _ r. subst (λ z. HasCell s z key × Varies s k.0 × Is final (i.Store (pos (level_of s z)) (pos (slot_of s final z key))) p q) (sym stands) (cell_there s w.text key there, k.3, record { line = 0; is = subst (λ z. At final z 0 p q) (at final) r }))
+      (emits_at w a c x 0 ec (λ z. let h : i.Store (pos level) (pos slot) ≡ i.Halt = sym ex ∙ z in cc) (ap runs ex)))
 
   pub write_no_keep : (a c : DraftOf) (t : TokenNo) (r : Option ℕ) → FindsKept b w t r → r ≡ None → c ≡ given_up a → WritesKeep b w a c t
   unfolding FindsKept WritesKeep
@@ -83,11 +93,11 @@ module _ (b : Bound) (w : Spot) where
       let s = source_of b in
       let k : KeptIs s w.text t.0 (Some slot) = subst (KeptIs s w.text t.0) er f in
       let key = Declared k.0.0 in
-      let there : is_there (slot_in s w.text key) ≡ true = ap is_there k.3 in
-      let at : x ≡ i.Load (pos (level_of s w.text)) (pos (slot_of s w.text key)) = ex ∙ ap (λ z. i.Load (pos z) (pos slot)) el ∙ ap (λ z. i.Load (pos (level_of s w.text)) (pos z)) (slot_found s w.text key slot k.3) in
+      let there : is_there (slot_in s w.text key) ≡ true = ap is_there k.4 in
+      let at : (final : CodeOf) → x ≡ i.Load (pos (level_of s w.text)) (pos (slot_of s final w.text key)) = λ final. ex ∙ ap (λ z. i.Load (pos z) (pos slot)) el ∙ ap (λ z. i.Load (pos (level_of s w.text)) (pos z)) (slot_found s final w.text key slot k.4) in
       kept_as a c t k.0 (λ o final site p q. LoadsArray s final site o p q) k.1
-      (emits_as w ⊤ _ _ _ a c (λ h. tt) (λ h. (k.2, there)) (λ final site p q stands _ r. subst (λ z. HasCell s z key × Pushes final site 0 (i.Load (pos (level_of s z)) (pos (slot_of s z key))) p q) (sym stands) (cell_there s w.text key there, r))
-      (emits_push w a c 0 (i.Load (pos (level_of s w.text)) (pos (slot_of s w.text key))) 0 (ec ∙ ap (λ z. with_push a 0 z 0) at) (λ z. cc) refl))
+      (emits_as w ⊤ _ _ _ a c (λ h. tt) (λ h. (k.2, k.3, there)) (λ final site p q stands _ r. subst (λ z. HasCell s z key × Pushes final site 0 (i.Load (pos (level_of s z)) (pos (slot_of s final z key))) p q) (sym stands) (cell_there s w.text key there, subst (λ z. Pushes final site 0 z p q) (at final) r))
+      (emits_push w a c 0 x 0 ec (λ z. let h : i.Load (pos level) (pos slot) ≡ i.Halt = sym ex ∙ z in cc) (ap runs ex)))
 
   pub write_no_load : (a c : DraftOf) (t : TokenNo) (r : Option ℕ) → FindsKept b w t r → r ≡ None → c ≡ given_up a → WritesLoad b w a c t
   unfolding FindsKept WritesLoad
@@ -237,4 +247,4 @@ module _ (b : Bound) (w : Spot) where
   unfolding OwesArrays WritesArrays
   arrays_none a c xs r f is = f c (subst (WritesArrays b w c c) (sym is) (emits_none w c))
 
-pub ruleset declared = (kept_nowhere, kept_elsewhere, kept_found, write_keep, write_no_keep, write_load, write_no_load, write_none_made, write_made, write_segment, puts_variables, puts_procedure, puts_class, puts_arrays)
+pub ruleset declared = (kept_nowhere, kept_elsewhere, kept_constant, kept_found, write_keep, write_no_keep, write_load, write_no_load, write_none_made, write_made, write_segment, puts_variables, puts_procedure, puts_class, puts_arrays)

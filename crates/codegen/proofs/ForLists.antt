@@ -25,12 +25,13 @@ use Rattle.sim_tree.proofs.ProgramSyntaxLemmas as v
 use Rattle.codegen_expr.specs.declared.spot.Spot.{Spot}
 use Rattle.codegen_expr.specs.Drafts.{DraftOf, Emits}
 use Rattle.codegen_expr.proofs.Pieces.{emits_as, emits_none, emits_then}
-use Rattle.codegen.specs.BuiltProgram.{ElementsBuilt, ListBuilt, StatementBuilt}
-use Rattle.codegen.specs.CodeFor.{ListAt, is_empty}
+use Rattle.codegen.specs.BuiltProgram.{StatementBuilt}
+use Rattle.codegen.specs.CodeFor.{ListAt, Variable, is_empty}
+use Rattle.codegen.specs.EmitTargets.{ElementsOver, ListOver}
 use Rattle.codegen.specs.CodeStm.{StmAt}
 use Rattle.codegen.specs.Emit.{WritesElementOf, WritesList}
 use Rattle.codegen.specs.EmitLists.{EachBuilt, OwesEach, WritesEach}
-use Rattle.codegen.specs.declared.statement.Target.{Target}
+use Rattle.codegen.specs.declared.targets.Target.{Target}
 
 -- ---- empty statements
 
@@ -80,13 +81,13 @@ pub ruleset empties = (empty_empty, other_block, other_call, other_assigned, oth
 
 -- ---- elements
 
-each_of : (s : Source) (k : ℕ) (o : Option ℕ) (es : List Element) (Turn : Type 0) → Turn → ElementsBuilt s k o es → EachBuilt s k o es Turn
-each_of s k o [] Turn f h = tt
-each_of s k o (e ∷ es) Turn f h = ((h.0, f), each_of s k o es Turn f h.1)
+each_of : (s : Source) (k : ℕ) (v : Variable) (es : List Element) (Turn : Type 0) → Turn → ElementsOver s k v es → EachBuilt s k v es Turn
+each_of s k v [] Turn f h = tt
+each_of s k v (e ∷ es) Turn f h = ((h.0, f), each_of s k v es Turn f h.1)
 
-elements_of : (s : Source) (k : ℕ) (o : Option ℕ) (es : List Element) (Turn : Type 0) → EachBuilt s k o es Turn → ElementsBuilt s k o es
-elements_of s k o [] Turn h = tt
-elements_of s k o (e ∷ es) Turn h = (h.0.0, elements_of s k o es Turn h.1)
+elements_of : (s : Source) (k : ℕ) (v : Variable) (es : List Element) (Turn : Type 0) → EachBuilt s k v es Turn → ElementsOver s k v es
+elements_of s k v [] Turn h = tt
+elements_of s k v (e ∷ es) Turn h = (h.0.0, elements_of s k v es Turn h.1)
 
 module _ (b : Bound) (w : Spot) where
   pub each_all : (a : DraftOf) (t0 : Target) (xs : List Element) (z : Stmt) → OwesEach b w a t0 xs z a xs
@@ -112,7 +113,7 @@ module _ (b : Bound) (w : Spot) where
       let s = source_of b in
       let all = x ∷ y ∷ xs in
       let Body = StatementBuilt s w.text (statement_syntax z) in
-      subst (λ u. Emits w a c (ListBuilt s w.text variable.assigned all Body) (λ final site p q. ListAt s final site 0 variable u all (λ site. StmAt s final site 0 (statement_syntax z)) p q)) (sym is ∙ ee)
-      (emits_as w _ _ _ _ a c (λ h. each_of s w.text variable.assigned all Body h.1 h.0) (λ h. (elements_of s w.text variable.assigned all Body h, h.0.1)) (λ final site p q _ _ at. at 0) (f variable ct))
+      subst (λ u. Emits w a c (ListOver s w.text variable all Body) (λ final site p q. ListAt s final site 0 variable u all (λ site. StmAt s final site 0 (statement_syntax z)) p q)) (sym is ∙ ee)
+      (emits_as w _ _ _ _ a c (λ h. each_of s w.text variable all Body h.1 h.0) (λ h. (elements_of s w.text variable all Body h, h.0.1)) (λ final site p q _ _ at. at 0) (f variable ct))
 
 pub ruleset lists = (write_each_of)

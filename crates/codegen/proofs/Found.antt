@@ -1,8 +1,15 @@
 -- What left sides are found to be.
-use Rattle.std.proofs.Common.{◌≡◌, ◌≢◌, ℕ, Bool, true, false, List, [], ◌∷◌, length, map, Bor, Option, Some, None, refl, sym, ap, ◌∙◌, subst}
+use Rattle.std.proofs.Common.{◌≡◌, ◌≢◌, ◌-◌, ℕ, zero, suc, Bool, true, false, List, [], ◌∷◌, length, map, slice_index_or, Bor, Option, Some, None, refl, sym, ap, ◌∙◌, subst, arith}
+use Rattle.std.specs.declared.alloc.Global.{Global}
+use Rattle.std.specs.declared.vec.Vec.{Vec}
+use Rattle.sim_base.specs.declared.numbering.DeclNo.{DeclNo}
+use Rattle.sim_base.specs.declared.numbering.TokenNo.{TokenNo}
 use Rattle.sim_scope.specs.declared.bound.Bound.{Bound}
 use Rattle.sim_scope.specs.declared.scopes.Denotation.{Denotation}
-use Rattle.sim_scope.specs.Source.{Source, denoted, source_of}
+use Rattle.sim_scope.specs.declared.scopes.Denotation.TheVariants as denotation
+use Rattle.sim_scope.specs.declared.standard.StandardName.{StandardName}
+use Rattle.sim_scope.specs.Source.{Source, denoted, line_at, source_of}
+use Rattle.sim_tree.specs.declared.expr.Selector.TheVariants as take
 use Rattle.sim_tree.specs.declared.expr.Expr.{Expr}
 use Rattle.sim_tree.specs.declared.expr.Identifier.{Identifier}
 use Rattle.sim_tree.specs.declared.expr.Selector.{Selector}
@@ -10,15 +17,17 @@ use Rattle.sim_tree.specs.declared.stmt.Assignment.{Assignment}
 use Rattle.sim_tree.specs.declared.stmt.Assignment.TheVariants as assignment
 use Rattle.sim_tree.specs.Syntax.{Binary, Constant, Dot, Expression, If, Member, Named, New, Not, Parentheses, Qua, Signed, This, expressions}
 use Rattle.sim_tree.specs.SyntaxOf.{Cast, Selection, Take, selected, selector_syntax, syntax_of}
-use Rattle.sim_meaning.specs.Closing.{is_text, own_block_denoted, own_result}
+use Rattle.sim_meaning.specs.Attributes.{connection_at, declared_attribute}
+use Rattle.sim_meaning.specs.Closing.{is_text, own_block_denoted, own_result, result_meant, unless_connected}
 use Rattle.codegen_expr.specs.declared.forms.Form.{Form}
 use Rattle.codegen_expr.specs.declared.forms.Form.TheVariants as form
 use Rattle.codegen_expr.specs.declared.spot.Spot.{Spot}
-use Rattle.codegen_expr.specs.Forms.{FindsForm, FormIs, IsOther}
+use Rattle.codegen_expr.specs.Forms.{FindsForm, FormIs, IsNew, IsOther}
 use Rattle.codegen.specs.declared.left.Left.{Left}
 use Rattle.codegen.specs.declared.left.Left.TheVariants as left
-use Rattle.codegen.specs.CodeLeft.{NotBuilt, Stored, stored_left, stored_of, stored_text}
-use Rattle.codegen.specs.EmitLeft.{FindsLeft, FindsOwn, FindsSide, FindsText, FindsWhole, IsLeft, IsVariable}
+use Rattle.codegen.specs.CodeLeft.{NotBuilt, Stored, stored_found, stored_left, stored_named, stored_of, stored_text}
+use Rattle.codegen.specs.EmitLeft.{FindsLeft, FindsNamed, FindsOwn, FindsOwnNamed, FindsSide, FindsTaken, FindsText, FindsWhole, IsLeft, IsVariable, IsWhole, operands_in, own_if}
+use Rattle.codegen_expr.proofs.Attributes.{selector-Dot, selector-Qua}
 use Rattle.codegen.proofs.Cells.{own_found, own_missing, own_outside}
 
 pub form_at : (f g : Form) (x : Expr) → FindsForm f x → f ≡ g → FormIs g (syntax_of x)
@@ -38,21 +47,32 @@ left_other s (Qua i a k) h = absurd h
 left_other s (Constant l i) h = refl
 left_other s (Named k args) h = absurd h
 left_other s (This i k) h = refl
-left_other s (New i k args) h = refl
+left_other s (New i k args) h = absurd h
 left_other s (Parentheses i a) h = absurd h
 
-left_selected : (s : Source) (x : Expression) (y : Selection) (ys : List Selection) → NotBuilt ≡ stored_left s (selected x (y ∷ ys))
-left_selected s x (Take i k args) [] = refl
-left_selected s x (Cast i k) [] = refl
-left_selected s x (Take i k args) (z ∷ zs) = left_selected s (Dot i x k args) z zs
-left_selected s x (Cast i k) (z ∷ zs) = left_selected s (Qua i x k) z zs
+left_new : (s : Source) (x : Expression) → IsNew x → NotBuilt ≡ stored_left s x
+left_new s (New i k args) h = refl
+left_new s _ h = absurd h
 
-left_taken : (s : Source) (x p : Expression) (l : List Selector) → x ≡ selected p (map selector_syntax l) → length l ≢ 0 → NotBuilt ≡ stored_left s x
-left_taken s x p [] is some' = absurd (some' refl)
-left_taken s x p (y ∷ ys) is some' = left_selected s p (selector_syntax y) (map selector_syntax ys) ∙ sym (ap (stored_left s) is)
+-- what is taken last, whatever is in front
+abbrev last_of : Selection → List Selection → Selection
+last_of y [] = y
+last_of y (z ∷ zs) = last_of z zs
 
-own_other : (s : Source) (x : Expression) → IsOther x → None ≡ own_result s x
-unfolding own_result
+abbrev WholeOf : Source → Spot → Left → Expression → Type 0
+WholeOf s w r e = IsWhole s w e r (stored_left s e)
+
+behind : (s : Source) (w : Spot) (r : Left) (x : Expression) (y : Selection) (ys : List Selection) → ((e : Expression) → WholeOf s w r (selected e (last_of y ys ∷ []))) → WholeOf s w r (selected x (y ∷ ys))
+behind s w r x y [] f = f x
+behind s w r x (Take i k args) (z ∷ zs) f = behind s w r (Dot i x k args) z zs f
+behind s w r x (Cast i k) (z ∷ zs) f = behind s w r (Qua i x k) z zs f
+
+last_is : (y : Selector) (ys : List Selector) (z : Selector) → z ≡ slice_index_or (y ∷ ys) (length (y ∷ ys) - 1) z → selector_syntax z ≡ last_of (selector_syntax y) (map selector_syntax ys)
+last_is y [] z e = ap selector_syntax e
+last_is y (u ∷ us) z e = last_is u us z (subst (λ n. z ≡ slice_index_or (y ∷ u ∷ us) n z) (let f : length (y ∷ u ∷ us) - 1 ≡ suc (length (u ∷ us) - 1) = omega arith in f) e)
+
+own_other : (s : Source) (x : Expression) → IsOther x → None ≡ result_meant s x
+unfolding result_meant
 own_other s (If i c a b) h = refl
 own_other s (Binary op i a b) h = refl
 own_other s (Not i a) h = refl
@@ -63,64 +83,126 @@ own_other s (Qua i a k) h = absurd h
 own_other s (Constant l i) h = refl
 own_other s (Named k args) h = absurd h
 own_other s (This i k) h = refl
-own_other s (New i k args) h = refl
+own_other s (New i k args) h = absurd h
 own_other s (Parentheses i a) h = absurd h
 
-own_selected : (s : Source) (x : Expression) (y : Selection) (ys : List Selection) → None ≡ own_result s (selected x (y ∷ ys))
-unfolding own_result
+own_new : (s : Source) (x : Expression) → IsNew x → None ≡ result_meant s x
+unfolding result_meant
+own_new s (New i k args) h = refl
+own_new s _ h = absurd h
+
+own_selected : (s : Source) (x : Expression) (y : Selection) (ys : List Selection) → None ≡ result_meant s (selected x (y ∷ ys))
+unfolding result_meant
 own_selected s x (Take i k args) [] = refl
 own_selected s x (Cast i k) [] = refl
 own_selected s x (Take i k args) (z ∷ zs) = own_selected s (Dot i x k args) z zs
 own_selected s x (Cast i k) (z ∷ zs) = own_selected s (Qua i x k) z zs
 
-own_taken : (s : Source) (x p : Expression) (l : List Selector) → x ≡ selected p (map selector_syntax l) → length l ≢ 0 → None ≡ own_result s x
+own_taken : (s : Source) (x p : Expression) (l : List Selector) → x ≡ selected p (map selector_syntax l) → length l ≢ 0 → None ≡ result_meant s x
 own_taken s x p [] is some' = absurd (some' refl)
-own_taken s x p (y ∷ ys) is some' = own_selected s p (selector_syntax y) (map selector_syntax ys) ∙ sym (ap (own_result s) is)
+own_taken s x p (y ∷ ys) is some' = own_selected s p (selector_syntax y) (map selector_syntax ys) ∙ sym (ap (result_meant s) is)
 
-own_alone : (s : Source) (k : Identifier) (l : List Expr) → length l ≡ 0 → own_block_denoted s k.token.0 (denoted s k.token.0) ≡ own_result s (Named k (expressions (map syntax_of l)))
-unfolding own_result
-own_alone s k [] e = refl
-own_alone s k (x ∷ xs) e = absurd (cc)
+-- an identifier alone, or with subscripts
+abbrev seen_own : Source → TokenNo → Option ℕ
+seen_own s token = unless_connected (connection_at s token.0) (own_block_denoted s token.0 (denoted s token.0))
 
-own_called : (s : Source) (k : Identifier) (l : List Expr) → length l ≢ 0 → None ≡ own_result s (Named k (expressions (map syntax_of l)))
-unfolding own_result
-own_called s k [] e = absurd (e refl)
-own_called s k (x ∷ xs) e = refl
+own_operands : (s : Source) (k : Identifier) (l : List Expr) → own_if (length l) (seen_own s k.token) ≡ result_meant s (Named k (expressions (map syntax_of l)))
+unfolding result_meant own_result
+own_operands s k [] = refl
+own_operands s k (x ∷ xs) = through (connection_at s k.token.0)
+  where
+    through : (o : Option ℕ) → None ≡ unless_connected o None
+    through None = refl
+    through (Some c) = refl
 
 -- ---- variables
 
 module _ (b : Bound) (w : Spot) where
   not_left : (x : Expr) → NotBuilt ≡ stored_left (source_of b) (syntax_of x) → FindsWhole b w x left.NotBuilt
   unfolding FindsWhole
-  not_left x e = subst (λ z. IsVariable (source_of b) w left.NotBuilt z) e (λ h. h)
+  not_left x e = subst (λ z. IsWhole (source_of b) w (syntax_of x) left.NotBuilt z) e (λ h. h)
 
-  pub whole_named : (x : Expr) (f : Form) (k : Bor Identifier) (l : Bor (List Expr)) (r : Left) → FindsForm f x → f ≡ form.Named k l → FindsLeft b w k.now.token l.now r → FindsWhole b w x r
-  unfolding FindsWhole FindsLeft
-  whole_named x f k l r h is g = subst (λ z. IsVariable (source_of b) w r (stored_left (source_of b) z)) (sym (form_at f (form.Named k l) x h is)) g
+  whole_of : (e : Expression) (r : Left) (t : Stored) → IsVariable (source_of b) w r t → IsWhole (source_of b) w e r t
+  whole_of e (left.Cell level slot) t f = f
+  whole_of e (left.Element token d es) t f = f
+  whole_of e left.Text t f = absurd f
+  whole_of e (left.Result level slot) t f = absurd f
+  whole_of e left.Attribute t f = absurd f
+  whole_of e left.Reference t f = absurd f
+  whole_of e left.NotBuilt t f = f
 
-  pub whole_taken : (x : Expr) (f : Form) (p : Bor Expr) (l : Bor (List Selector)) → FindsForm f x → f ≡ form.Taken p l → FindsWhole b w x left.NotBuilt
-  whole_taken x f p l h is = let g = form_at f (form.Taken p l) x h is in not_left x (left_taken (source_of b) (syntax_of x) (syntax_of p.now) l.now g.0 g.1)
+  pub named_through : (x : Identifier) (es : List Expr) (o : Option ℕ) (k : ℕ) → o ≡ connection_at (source_of b) x.token.0 → o ≡ Some k → FindsNamed b w x es left.Attribute
+  unfolding FindsNamed
+  named_through x es o k eo some = sym (ap (λ z. stored_found z (Named x (operands_in es)) (stored_named (source_of b) (denoted (source_of b) x.token.0) (operands_in es) (line_at (source_of b) x.token.0))) (sym some ∙ eo))
+
+  pub named_plain : (x : Identifier) (es : List Expr) (o : Option ℕ) (r : Left) → o ≡ connection_at (source_of b) x.token.0 → o ≡ None → FindsLeft b w x.token es r → FindsNamed b w x es r
+  unfolding FindsNamed FindsLeft
+  named_plain x es o r eo none f = subst (λ z. IsWhole (source_of b) w (Named x (operands_in es)) r (stored_found z (Named x (operands_in es)) (stored_named (source_of b) (denoted (source_of b) x.token.0) (operands_in es) (line_at (source_of b) x.token.0)))) (sym none ∙ eo) (whole_of (Named x (operands_in es)) r _ f)
+
+  pub taken_attribute : (y : Selector) (i : TokenNo) (k : Identifier) (l : Vec Expr Global) (o : Option Denotation) (d : DeclNo) → y ≡ take.Dot i k l → o ≡ denoted (source_of b) k.token.0 → o ≡ Some (denotation.Declared d) → FindsTaken b w y left.Attribute
+  unfolding FindsTaken
+  taken_attribute y i k l o d is eo some e =
+      subst (λ z. WholeOf (source_of b) w left.Attribute (selected e (z ∷ []))) (sym (ap selector_syntax is ∙ selector-Dot i k l))
+      (sym (ap (λ z. stored_found (declared_attribute z) (dotted e) NotBuilt) (sym some ∙ eo)))
+    where
+      dotted : Expression → Expression
+      dotted e = Dot i.0 e k (expressions (map syntax_of l.items))
+
+  pub taken_standard : (y : Selector) (i : TokenNo) (k : Identifier) (l : Vec Expr Global) (o : Option Denotation) (n : StandardName) → y ≡ take.Dot i k l → o ≡ denoted (source_of b) k.token.0 → o ≡ Some (denotation.Standard n) → FindsTaken b w y left.NotBuilt
+  unfolding FindsTaken
+  taken_standard y i k l o n is eo some e =
+      subst (λ z. WholeOf (source_of b) w left.NotBuilt (selected e (z ∷ []))) (sym (ap selector_syntax is ∙ selector-Dot i k l))
+      (subst (λ z. IsWhole (source_of b) w (Dot i.0 e k (expressions (map syntax_of l.items))) left.NotBuilt (stored_found (declared_attribute z) (Dot i.0 e k (expressions (map syntax_of l.items))) NotBuilt)) (sym some ∙ eo) (λ h. h))
+
+  pub taken_unknown : (y : Selector) (i : TokenNo) (k : Identifier) (l : Vec Expr Global) (o : Option Denotation) → y ≡ take.Dot i k l → o ≡ denoted (source_of b) k.token.0 → o ≡ None → FindsTaken b w y left.NotBuilt
+  unfolding FindsTaken
+  taken_unknown y i k l o is eo none e =
+      subst (λ z. WholeOf (source_of b) w left.NotBuilt (selected e (z ∷ []))) (sym (ap selector_syntax is ∙ selector-Dot i k l))
+      (subst (λ z. IsWhole (source_of b) w (Dot i.0 e k (expressions (map syntax_of l.items))) left.NotBuilt (stored_found (declared_attribute z) (Dot i.0 e k (expressions (map syntax_of l.items))) NotBuilt)) (sym none ∙ eo) (λ h. h))
+
+  pub taken_cast : (y : Selector) (i : TokenNo) (k : Identifier) → y ≡ take.Qua i k → FindsTaken b w y left.NotBuilt
+  unfolding FindsTaken
+  taken_cast y i k is e = subst (λ z. WholeOf (source_of b) w left.NotBuilt (selected e (z ∷ []))) (sym (ap selector_syntax is ∙ selector-Qua i k)) (λ h. h)
+
+  pub whole_named : (x : Expr) (f : Form) (k : Bor Identifier) (l : Bor (List Expr)) (r : Left) → FindsForm f x → f ≡ form.Named k l → FindsNamed b w k.now l.now r → FindsWhole b w x r
+  unfolding FindsWhole FindsNamed
+  whole_named x f k l r h is g = subst (λ z. WholeOf (source_of b) w r z) (sym (form_at f (form.Named k l) x h is)) g
+
+  pub whole_taken : (x : Expr) (f : Form) (p : Bor Expr) (l : Bor (List Selector)) (n : ℕ) (y : Selector) (r : Left) → FindsForm f x → f ≡ form.Taken p l → n ≡ length l.now - 1 → y ≡ slice_index_or l.now n y → FindsTaken b w y r → FindsWhole b w x r
+  unfolding FindsWhole FindsTaken
+  whole_taken x f p l n y r h is en ey g =
+      let g' = form_at f (form.Taken p l) x h is in
+      subst (λ z. WholeOf (source_of b) w r z) (sym g'.0) (cases l.now g'.1 (subst (λ m. y ≡ slice_index_or l.now m y) en ey))
+    where
+      cases : (ys : List Selector) → length ys ≢ 0 → y ≡ slice_index_or ys (length ys - 1) y → WholeOf (source_of b) w r (selected (syntax_of p.now) (map selector_syntax ys))
+      cases [] ne e = absurd (ne refl)
+      cases (z ∷ zs) ne e = behind (source_of b) w r (syntax_of p.now) (selector_syntax z) (map selector_syntax zs) (λ u. subst (λ m. WholeOf (source_of b) w r (selected u (m ∷ []))) (last_is z zs y e) (g u))
 
   pub whole_closed : (x : Expr) (f : Form) (p : Bor Expr) → FindsForm f x → f ≡ form.Closed p → FindsWhole b w x left.NotBuilt
   whole_closed x f p h is = not_left x (sym (ap (stored_left (source_of b)) (form_at f (form.Closed p) x h is).1))
+
+  pub whole_new : (x : Expr) (f : Form) → FindsForm f x → f ≡ form.New → FindsWhole b w x left.NotBuilt
+  whole_new x f h is = not_left x (left_new (source_of b) (syntax_of x) (form_at f form.New x h is))
 
   pub whole_other : (x : Expr) (f : Form) → FindsForm f x → f ≡ form.Other → FindsWhole b w x left.NotBuilt
   whole_other x f h is = not_left x (left_other (source_of b) (syntax_of x) (form_at f form.Other x h is))
 
   -- ---- texts
 
-  pub text_own : (x : Expr) (o : Option ℕ) (k : ℕ) (r : Left) → o ≡ own_result (source_of b) (syntax_of x) → o ≡ Some k → FindsOwn b w k r → FindsText b w x r
+  pub text_own : (x : Expr) (o : Option ℕ) (k : ℕ) (r : Left) → o ≡ result_meant (source_of b) (syntax_of x) → o ≡ Some k → FindsOwn b w k r → FindsText b w x r
   unfolding FindsText FindsOwn
   text_own x o k r eo some f line = subst (λ z. IsLeft (source_of b) w (syntax_of x) line r (stored_text z (syntax_of x) line)) (sym some ∙ eo) (f (syntax_of x) line)
 
-  pub text_plain : (x : Expr) (o : Option ℕ) → o ≡ own_result (source_of b) (syntax_of x) → o ≡ None → FindsText b w x left.Text
+  pub text_plain : (x : Expr) (o : Option ℕ) → o ≡ result_meant (source_of b) (syntax_of x) → o ≡ None → FindsText b w x left.Text
   unfolding FindsText
   text_plain x o eo none line = subst (λ z. IsLeft (source_of b) w (syntax_of x) line left.Text (stored_text z (syntax_of x) line)) (sym none ∙ eo) refl
 
   -- ---- sides
 
-  as_left : (e : Expression) (line : ℕ) (r : Left) (t : Stored) → IsVariable (source_of b) w r t → IsLeft (source_of b) w e line r t
+  as_left : (e : Expression) (line : ℕ) (r : Left) (t : Stored) → IsWhole (source_of b) w e r t → IsLeft (source_of b) w e line r t
   as_left e line (left.Cell level slot) t f = f
+  as_left e line left.Attribute t f = f
+  as_left e line left.Reference t f = absurd f
   as_left e line (left.Element token d es) t f = f
   as_left e line left.Text t f = absurd f
   as_left e line (left.Result level slot) t f = absurd f
@@ -145,27 +227,42 @@ module _ (b : Bound) (w : Spot) where
   unfolding FindsWhole
   side_value sign x r t et is es f = as_side sign assignment.Value x r t false et is es (λ line. as_left (syntax_of x) line r _ f)
 
-  pub side_reference : (sign : Assignment) (x : Expr) (t : Bool) → t ≡ is_text (source_of b) (syntax_of x) → t ≡ false → sign ≡ assignment.Reference → FindsSide b w sign x left.NotBuilt
-  side_reference sign x t et is es = as_side sign assignment.Reference x left.NotBuilt t false et is es (λ line h. h)
+  pub side_reference : (sign : Assignment) (x : Expr) (t : Bool) → t ≡ is_text (source_of b) (syntax_of x) → t ≡ false → sign ≡ assignment.Reference → FindsSide b w sign x left.Reference
+  side_reference sign x t et is es = as_side sign assignment.Reference x left.Reference t false et is es (λ line. refl)
 
 -- ---- results
 
-pub own_named_form : (b : Bound) (x : Expr) (f : Form) (k : Bor Identifier) (l : Bor (List Expr)) (o : Option ℕ) (u : Option Denotation) → FindsForm f x → f ≡ form.Named k l → length l.now ≡ 0 → u ≡ denoted (source_of b) k.now.token.0 → o ≡ own_block_denoted (source_of b) k.now.token.0 u → o ≡ own_result (source_of b) (syntax_of x)
-own_named_form b x f k l o u h is none eu eo =
+pub own_subscripts : (b : Bound) (token : TokenNo) (n : ℕ) → n ≢ 0 → FindsOwnNamed b token n None
+unfolding FindsOwnNamed
+own_subscripts b token zero ne = absurd (ne refl)
+own_subscripts b token (suc n) ne = refl
+
+pub own_through : (b : Bound) (token : TokenNo) (n c : ℕ) (o : Option ℕ) → n ≡ 0 → o ≡ connection_at (source_of b) token.0 → o ≡ Some c → FindsOwnNamed b token n None
+unfolding FindsOwnNamed
+own_through b token n c o none eo some = ap (λ z. unless_connected z (own_block_denoted (source_of b) token.0 (denoted (source_of b) token.0))) (sym some ∙ eo) ∙ ap (λ z. own_if z (seen_own (source_of b) token)) (sym none)
+
+pub own_plain : (b : Bound) (token : TokenNo) (n : ℕ) (o p : Option ℕ) (u : Option Denotation) → n ≡ 0 → o ≡ connection_at (source_of b) token.0 → o ≡ None → u ≡ denoted (source_of b) token.0 → p ≡ own_block_denoted (source_of b) token.0 u → FindsOwnNamed b token n p
+unfolding FindsOwnNamed
+own_plain b token n o p u none eo no' eu ep =
+    ep ∙ ap (own_block_denoted (source_of b) token.0) eu ∙ ap (λ z. unless_connected z (own_block_denoted (source_of b) token.0 (denoted (source_of b) token.0))) (sym no' ∙ eo) ∙ ap (λ z. own_if z (seen_own (source_of b) token)) (sym none)
+
+pub own_named_form : (b : Bound) (x : Expr) (f : Form) (k : Bor Identifier) (l : Bor (List Expr)) (o : Option ℕ) (n : ℕ) → FindsForm f x → f ≡ form.Named k l → n ≡ length l.now → FindsOwnNamed b k.now.token n o → o ≡ result_meant (source_of b) (syntax_of x)
+unfolding FindsOwnNamed
+own_named_form b x f k l o n h is en eo =
     let s = source_of b in
-    eo ∙ ap (own_block_denoted s k.now.token.0) eu ∙ own_alone s k.now l.now none ∙ sym (ap (own_result s) (form_at f (form.Named k l) x h is))
+    eo ∙ ap (λ z. own_if z (seen_own s k.now.token)) en ∙ own_operands s k.now l.now ∙ sym (ap (result_meant s) (form_at f (form.Named k l) x h is))
 
-pub own_called_form : (b : Bound) (x : Expr) (f : Form) (k : Bor Identifier) (l : Bor (List Expr)) → FindsForm f x → f ≡ form.Named k l → length l.now ≢ 0 → None ≡ own_result (source_of b) (syntax_of x)
-own_called_form b x f k l h is some' = own_called (source_of b) k.now l.now some' ∙ sym (ap (own_result (source_of b)) (form_at f (form.Named k l) x h is))
-
-pub own_taken_form : (b : Bound) (x : Expr) (f : Form) (p : Bor Expr) (l : Bor (List Selector)) → FindsForm f x → f ≡ form.Taken p l → None ≡ own_result (source_of b) (syntax_of x)
+pub own_taken_form : (b : Bound) (x : Expr) (f : Form) (p : Bor Expr) (l : Bor (List Selector)) → FindsForm f x → f ≡ form.Taken p l → None ≡ result_meant (source_of b) (syntax_of x)
 own_taken_form b x f p l h is = let g = form_at f (form.Taken p l) x h is in own_taken (source_of b) (syntax_of x) (syntax_of p.now) l.now g.0 g.1
 
-pub own_closed_form : (b : Bound) (x : Expr) (f : Form) (p : Bor Expr) → FindsForm f x → f ≡ form.Closed p → None ≡ own_result (source_of b) (syntax_of x)
-unfolding own_result
-own_closed_form b x f p h is = sym (ap (own_result (source_of b)) (form_at f (form.Closed p) x h is).1)
+pub own_closed_form : (b : Bound) (x : Expr) (f : Form) (p : Bor Expr) → FindsForm f x → f ≡ form.Closed p → None ≡ result_meant (source_of b) (syntax_of x)
+unfolding result_meant
+own_closed_form b x f p h is = sym (ap (result_meant (source_of b)) (form_at f (form.Closed p) x h is).1)
 
-pub own_other_form : (b : Bound) (x : Expr) (f : Form) → FindsForm f x → f ≡ form.Other → None ≡ own_result (source_of b) (syntax_of x)
+pub own_new_form : (b : Bound) (x : Expr) (f : Form) → FindsForm f x → f ≡ form.New → None ≡ result_meant (source_of b) (syntax_of x)
+own_new_form b x f h is = own_new (source_of b) (syntax_of x) (form_at f form.New x h is)
+
+pub own_other_form : (b : Bound) (x : Expr) (f : Form) → FindsForm f x → f ≡ form.Other → None ≡ result_meant (source_of b) (syntax_of x)
 own_other_form b x f h is = own_other (source_of b) (syntax_of x) (form_at f form.Other x h is)
 
-pub ruleset founds = (whole_named, whole_taken, whole_closed, whole_other, text_own, text_plain, side_text, side_denoted, side_value, side_reference, own_named_form, own_called_form, own_taken_form, own_closed_form, own_other_form, own_found, own_missing, own_outside)
+pub ruleset founds = (named_through, named_plain, taken_attribute, taken_standard, taken_unknown, taken_cast, whole_named, whole_taken, whole_closed, whole_new, whole_other, text_own, text_plain, side_text, side_denoted, side_value, side_reference, own_subscripts, own_through, own_plain, own_named_form, own_taken_form, own_closed_form, own_new_form, own_other_form, own_found, own_missing, own_outside)

@@ -1,6 +1,6 @@
 -- What the frames of a text hold.
-use Rattle.std.proofs.Common.{◌≡◌, ℕ, List, [], ◌∷◌, ◌++◌, map, Option, Some, None, refl, sym, ap, ◌∙◌, append_assoc, append-nil}
-use Rattle.std.specs.Prelude.{slice_get, take}
+use Rattle.std.proofs.Common.{◌≡◌, ◌<◌, ◌≤◌, ◌+◌, ℕ, zero, suc, Bool, true, false, List, [], ◌∷◌, ◌++◌, drop, length, map, Option, Some, None, refl, sym, ap, ◌∙◌, subst, arith, append_assoc, append-nil}
+use Rattle.std.specs.Prelude.{◌&&◌, ◌==◌, slice_get, take}
 use Rattle.sim_base.specs.declared.numbering.DeclNo.{DeclNo}
 use Rattle.sim_scope.specs.declared.bound.Bound.{Bound}
 use Rattle.sim_values.specs.declared.standard.Standard.{Standard}
@@ -18,13 +18,17 @@ use Rattle.sim_tree.specs.declared.stmt.TypeName.TheVariants as type_name
 use Rattle.sim_values.specs.Plain.{initial}
 use Rattle.sim_code.specs.declared.code.CodeType.{CodeType}
 use Rattle.sim_code.specs.declared.code.CodeType.TheVariants as type
-use Rattle.sim_meaning.specs.Closing.{formals_from as formals_closed, formal_before as formal_before_closed}
+use Rattle.sim_code.specs.declared.code.BlockKind.{BlockKind}
+use Rattle.sim_code.specs.declared.code.BlockKind.TheVariants as kind
+use Rattle.sim_meaning.specs.Closing.{class_parameters, formals_from as formals_closed, formal_before as formal_before_closed}
 use Rattle.sim_meaning.specs.Entries.{cells_from, formal_before, formals_from, formals_of, numbers_of, with_cell, with_result}
 use Rattle.sim_meaning.specs.Pending.{Held}
 use Rattle.sim_meaning.specs.Texts.{kind_named, kind_of_type}
 use Rattle.codegen_expr.specs.Emit.{formals_of_block}
+use Rattle.codegen_expr.specs.Known.{is_hidden}
+use Rattle.codegen_expr.specs.Sites.{connects, frame_text, hidden_before, hidden_from, hidden_in, is_connected, is_connection}
 use Rattle.codegen.specs.Compiled.{type_of, type_of_cell, type_of_name, type_of_plain}
-use Rattle.codegen.specs.EmitProgram.{CellTypes, OwesCells, PushesCell, PushesCells, PushesResult}
+use Rattle.codegen.specs.EmitProgram.{CellTypes, HidesConnections, OwesCells, OwesHidden, PushesCell, PushesCells, PushesResult, formals_by_kind, with_hidden}
 
 of_type : (x : SimType) → type_of (Some x) ≡ type_of_plain (initial (kind_of_type x))
 of_type t.Integer = refl
@@ -154,5 +158,90 @@ formals_same s k = cases (slice_get s.tables.blocks k) refl
     cases : (o : Option TableBlock) → slice_get s.tables.blocks k ≡ o → formals_of_block s k ≡ formals_of s k
     cases None e = rw e refl
     cases (Some x) e = rw e (same_formals s (take x.formals x.numbers))
+
+-- ---- parameters of classes
+
+pub formals_of_class : (s : Source) (a : BlockKind) (k : ℕ) (fs : List Formal) → a ≡ kind.Object → fs ≡ class_parameters s (Some k) → fs ≡ formals_by_kind s a k
+formals_of_class s a k fs is e = e ∙ ap (λ z. formals_by_kind s z k) (sym is)
+
+pub formals_of_prefixed : (s : Source) (a : BlockKind) (k : ℕ) (fs : List Formal) → a ≡ kind.Prefixed → fs ≡ class_parameters s (Some k) → fs ≡ formals_by_kind s a k
+formals_of_prefixed s a k fs is e = e ∙ ap (λ z. formals_by_kind s z k) (sym is)
+
+pub formals_of_sub_block : (s : Source) (a : BlockKind) (k : ℕ) (fs : List Formal) → a ≡ kind.SubBlock → fs ≡ formals_of_block s k → fs ≡ formals_by_kind s a k
+formals_of_sub_block s a k fs is e = e ∙ formals_same s k ∙ ap (λ z. formals_by_kind s z k) (sym is)
+
+pub formals_of_procedure : (s : Source) (a : BlockKind) (k : ℕ) (fs : List Formal) → a ≡ kind.Procedure → fs ≡ formals_of_block s k → fs ≡ formals_by_kind s a k
+formals_of_procedure s a k fs is e = e ∙ formals_same s k ∙ ap (λ z. formals_by_kind s z k) (sym is)
+
+-- ---- hidden cells
+
+drop_at : {A : Type 0} (xs : List A) (k : ℕ) → k < length xs → (x : A) × (slice_get xs k ≡ Some x) × (drop k xs ≡ x ∷ drop (suc k) xs)
+drop_at [] k le = absurd (omega (arith, le))
+drop_at (x ∷ xs) zero le = (x, refl, refl)
+drop_at (x ∷ xs) (suc k) le = drop_at xs k (omega (arith, le))
+
+drop_behind : {A : Type 0} (xs : List A) (k : ℕ) → length xs ≤ k → drop k xs ≡ []
+drop_behind [] zero le = refl
+drop_behind [] (suc k) le = refl
+drop_behind (x ∷ xs) zero le = absurd (omega (arith, le))
+drop_behind (x ∷ xs) (suc k) le = drop_behind xs k (omega (arith, le))
+
+pub hidden_all : (b : Bound) (old : List CodeType) (k : ℕ) → OwesHidden b old k old 0
+unfolding OwesHidden hidden_in source_of
+hidden_all b old k = refl
+
+hidden_from_next : (b : Bound) (k i : ℕ) (r : Bool) → i < length b.scopes.blocks → r ≡ is_hidden (source_of b) k i → (x : TableBlock) × (hidden_from (source_of b) k i (drop i b.scopes.blocks) ≡ hidden_before r x (hidden_from (source_of b) k (suc i) (drop (suc i) b.scopes.blocks)))
+unfolding is_connected source_of
+hidden_from_next b k i r le e =
+    let s = source_of b in
+    let row = drop_at b.scopes.blocks i le in
+    let flag : (is_connection row.0.kind && frame_text s i == k) ≡ r = sym (ap (λ z. connects z && frame_text s i == k) row.1) ∙ sym e in
+    (row.0, ap (hidden_from s k i) row.2 ∙ ap (λ z. hidden_before z row.0 (hidden_from s k (suc i) (drop (suc i) b.scopes.blocks))) flag)
+
+hidden_more : (b : Bound) (old now new : List CodeType) (k i : ℕ) (r : Bool) → OwesHidden b old k now i → i < length b.scopes.blocks → r ≡ is_hidden (source_of b) k i → r ≡ true → new ≡ now ++ (type.Nothing ∷ []) → OwesHidden b old k new (i + 1)
+unfolding OwesHidden
+hidden_more b old now new k i r f le e one en =
+    let s = source_of b in
+    let next = hidden_from_next b k i r le e in
+    let more : i + 1 ≡ suc i = omega arith in
+    subst (λ z. new ++ map type_of_cell (hidden_from s k z (drop z b.scopes.blocks)) ≡ old ++ map type_of_cell (hidden_in s k)) (sym more)
+    (ap (λ z. z ++ map type_of_cell (hidden_from s k (suc i) (drop (suc i) b.scopes.blocks))) en ∙ append_assoc now (type.Nothing ∷ []) (map type_of_cell (hidden_from s k (suc i) (drop (suc i) b.scopes.blocks)))
+    ∙ sym (ap (λ z. now ++ map type_of_cell z) (next.1 ∙ ap (λ z. hidden_before z next.0 (hidden_from s k (suc i) (drop (suc i) b.scopes.blocks))) one)) ∙ f)
+
+hidden_other : (b : Bound) (old now : List CodeType) (k i : ℕ) (r : Bool) → OwesHidden b old k now i → i < length b.scopes.blocks → r ≡ is_hidden (source_of b) k i → r ≡ false → OwesHidden b old k now (i + 1)
+unfolding OwesHidden
+hidden_other b old now k i r f le e none =
+    let s = source_of b in
+    let next = hidden_from_next b k i r le e in
+    let more : i + 1 ≡ suc i = omega arith in
+    subst (λ z. now ++ map type_of_cell (hidden_from s k z (drop z b.scopes.blocks)) ≡ old ++ map type_of_cell (hidden_in s k)) (sym more)
+    (sym (ap (λ z. now ++ map type_of_cell z) (next.1 ∙ ap (λ z. hidden_before z next.0 (hidden_from s k (suc i) (drop (suc i) b.scopes.blocks))) none)) ∙ f)
+
+pub hidden_one : (old new : List CodeType) (r o : Bool) → r ≡ o → r ≡ true → new ≡ old ++ (type.Nothing ∷ []) → new ≡ with_hidden o old
+hidden_one old new r o e one en = en ∙ ap (λ z. with_hidden z old) (sym one ∙ e)
+
+pub hidden_none : (old : List CodeType) (r o : Bool) → r ≡ o → r ≡ false → old ≡ with_hidden o old
+hidden_none old r o e none = ap (λ z. with_hidden z old) (sym none ∙ e)
+
+pub ruleset hides = (hidden_one, hidden_none)
+
+pub hidden_next : (b : Bound) (old now new : List CodeType) (k i n count : ℕ) → OwesHidden b old k now i → count ≡ length b.scopes.blocks → i < count → n ≡ i → new ≡ with_hidden (is_hidden (source_of b) k n) now → OwesHidden b old k new (i + 1)
+hidden_next b old now new k i n count f ec le en e = cases (is_hidden (source_of b) k i) refl
+  where
+    at : new ≡ with_hidden (is_hidden (source_of b) k i) now
+    at = e ∙ ap (λ z. with_hidden (is_hidden (source_of b) k z) now) en
+
+    inside : i < length b.scopes.blocks
+    inside = omega (arith, ec, le)
+
+    cases : (r : Bool) → is_hidden (source_of b) k i ≡ r → OwesHidden b old k new (i + 1)
+    cases true h = hidden_more b old now new k i true f inside (sym h) refl (at ∙ ap (λ z. with_hidden z now) h)
+    cases false h = subst (λ z. OwesHidden b old k z (i + 1)) (sym (at ∙ ap (λ z. with_hidden z now) h)) (hidden_other b old now k i false f inside (sym h) refl)
+
+pub hidden_last : (b : Bound) (old now : List CodeType) (k i : ℕ) → OwesHidden b old k now i → length b.scopes.blocks ≤ i → HidesConnections b old now k
+unfolding OwesHidden HidesConnections
+hidden_last b old now k i f le = sym (append-nil now) ∙ sym (ap (λ z. now ++ map type_of_cell (hidden_from (source_of b) k i z)) (drop_behind b.scopes.blocks i le)) ∙ f
+
+pub ruleset formals = (formals_of_class, formals_of_prefixed, formals_of_sub_block, formals_of_procedure)
 
 pub ruleset heads = (push_variable, push_constant, push_array, push_formal, push_procedure, push_class, push_virtual, push_unspecified, push_attribute, push_nothing, push_no_result, push_some_result, cells_found)

@@ -11,7 +11,7 @@ use Rattle.codegen_expr.specs.Sites.{Site, lined}
 use Rattle.codegen_expr.proofs.Pieces.{Fronts, append_at, becomes_filled, becomes_later, fronts_le, fronts_set, fronts_then, get_front, later_emits, run_more, run_set, set_len, set_other, set_same}
 use Rattle.codegen.specs.EmitShared.{OpenAt, Turns}
 
-get_bound : {A : Type 0} (xs : List A) (k : ℕ) (x : A) → slice_get xs k ≡ Some x → k < length xs
+pub get_bound : {A : Type 0} (xs : List A) (k : ℕ) (x : A) → slice_get xs k ≡ Some x → k < length xs
 get_bound [] k x e = absurd (cc)
 get_bound (y ∷ ys) zero x e = omega arith
 get_bound (y ∷ ys) (suc k) x e = let f = get_bound ys k x e in omega (arith, f)
@@ -37,6 +37,7 @@ turns_none t a low H here = record {
   longer = omega arith;
   roomier = omega arith;
   larger = omega arith;
+  classed = refl;
   built = λ _ w. w;
   before = λ w. w;
   only = λ w. tt;
@@ -74,6 +75,7 @@ turns_more t a m c d h low on hs E Q One B H lh hole e la lm ec r both =
       longer = omega (arith, am, same, cd);
       roomier = omega (arith, room, rm, rd);
       larger = omega (arith, size, sm, sd);
+      classed = r.classed ∙ ap (λ z. z.classes) ec ∙ e.classed;
       built = λ p w. r.built p.1 (whole ∙ e.built p.0 w);
       before = λ w. e.before (sym whole ∙ r.before w);
       only = λ w. (e.only (sym whole ∙ r.before w), r.only w);
@@ -131,6 +133,7 @@ emits_hole t a c e =
       front = ei;
       roomier = omega (arith, er);
       larger = omega (arith, es);
+      classed = ap (λ z. z.classes) e;
       built = λ _ w. ew ∙ w;
       before = λ w. sym ew ∙ w;
       only = λ w. tt;
@@ -140,4 +143,4 @@ emits_hole t a c e =
 
 -- said otherwise, where the code stands
 pub emits_here : (t : Spot) (P : Type 0) (A B : CodeOf → Site → ℕ → ℕ → Type 0) (a c : DraftOf) → ((final : CodeOf) (site : Site) → site.text ≡ t.text → A final site (length a.instrs) (length c.instrs) → B final site (length a.instrs) (length c.instrs)) → Emits t a c P A → Emits t a c P B
-emits_here t P A B a c f e = record { rest = e.rest; front = e.front; roomier = e.roomier; larger = e.larger; built = e.built; before = e.before; only = e.only; fits = e.fits; at = λ w final site g. f final site g.stands (e.at w final site g) }
+emits_here t P A B a c f e = record { rest = e.rest; front = e.front; roomier = e.roomier; larger = e.larger; classed = e.classed; built = e.built; before = e.before; only = e.only; fits = e.fits; at = λ w final site g. f final site g.stands (e.at w final site g) }

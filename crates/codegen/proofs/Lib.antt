@@ -1,10 +1,13 @@
+pub mod WorkedObjects
 pub mod Worked
 pub mod Cells
 pub mod Found
 pub mod Cycles
 pub mod Rest
+pub mod Inspected
 pub mod Views
 pub mod Holes
+pub mod ClassLevels
 pub mod Sides
 pub mod Ones
 pub mod TakenCalls
@@ -16,3 +19,7 @@ pub mod Heads
 pub mod Declared
 pub mod Walked
 pub mod Whole
+pub mod Controls
+pub mod Lying
+pub mod Connected
+pub mod Filled

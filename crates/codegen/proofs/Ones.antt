@@ -1,11 +1,10 @@
--- One left side, and the controlled variable.
-use Rattle.std.proofs.Common.{◌≡◌, ℕ, pos, List, Some, None, Bor, refl, sym, ap, ◌∙◌, subst}
-use Rattle.std.specs.Prelude.{⊤, option_map}
+-- One left side.
+use Rattle.std.proofs.Common.{◌≡◌, ℕ, pos, List, Bor, refl, sym, ap, ◌∙◌, subst}
+use Rattle.std.specs.Prelude.{⊤}
 use Rattle.sim_base.specs.declared.numbering.DeclNo.{DeclNo}
-use Rattle.sim_base.specs.declared.numbering.Line.{Line}
 use Rattle.sim_base.specs.declared.numbering.TokenNo.{TokenNo}
 use Rattle.sim_scope.specs.declared.bound.Bound.{Bound}
-use Rattle.sim_scope.specs.Source.{level_of, line_at, source_of}
+use Rattle.sim_scope.specs.Source.{line_at, source_of}
 use Rattle.sim_tree.specs.declared.expr.Expr.{Expr}
 use Rattle.sim_tree.specs.SyntaxOf.{syntax_of}
 use Rattle.sim_code.specs.declared.instr.Instr.{Instr}
@@ -13,23 +12,20 @@ use Rattle.sim_code.specs.declared.instr.Instr.TheVariants as i
 use Rattle.sim_meaning.specs.Pending.{Result}
 use Rattle.codegen_expr.specs.declared.spot.Spot.{Spot}
 use Rattle.codegen_expr.specs.Built.{IsBuilt, KeyBuilt}
-use Rattle.codegen_expr.specs.CodeExpr.{ElementAt, ExprAt, ExprsAt}
+use Rattle.codegen_expr.specs.CodeExpr.{ElementAt, ExprAt, ExprsAt, PlaceAt, ReferencePlaceAt}
 use Rattle.codegen_expr.specs.Drafts.{DraftOf, Emits, given_up, with_instr, with_push}
-use Rattle.codegen_expr.specs.Emit.{Puts, Writes, WritesElement}
-use Rattle.codegen_expr.specs.Sites.{At, Pushes, slot_of}
+use Rattle.codegen_expr.specs.Emit.{Puts, PutsPlace, Writes, WritesElement, WritesPlace}
+use Rattle.codegen_expr.specs.Sites.{At, Pushes}
 use Rattle.codegen_expr.proofs.Pieces.{emits_as, emits_at, emits_nothing, emits_push, emits_then}
 use Rattle.codegen.specs.declared.left.Left.{Left}
 use Rattle.codegen.specs.declared.left.Left.TheVariants as left
 use Rattle.codegen.specs.declared.several.Side.{Side}
-use Rattle.codegen.specs.declared.statement.Target.{Target}
 use Rattle.codegen.specs.BuiltProgram.{LeftBuilt}
-use Rattle.codegen.specs.CodeFor.{GivesBy}
-use Rattle.codegen.specs.Emit.{OneGoesAt, WritesGiven, WritesOne}
-use Rattle.codegen.specs.EmitLeft.{FindsSide, operands_in}
+use Rattle.codegen.specs.Emit.{OneGoesAt, WritesOne}
+use Rattle.codegen.specs.EmitLeft.{FindsSide, WritesReferencePlace, operands_in}
 use Rattle.codegen.specs.EmitSeveral.{side_in}
-use Rattle.codegen.specs.EmitShared.{line_in}
 use Rattle.codegen.proofs.Cells.{cell_there}
-use Rattle.codegen.proofs.Sides.{at_side, here}
+use Rattle.codegen.proofs.Sides.{at_side, here, load_of, store_of}
 
 module _ (b : Bound) (w : Spot) where
   pub one_cell : (c0 c1 c2 : DraftOf) (x : Side) (v : Expr) (level slot : ℕ) (r : Left) (y : Instr) → FindsSide b w x.sign x.left.now r → r ≡ left.Cell level slot → Writes b w 0 c0 c1 v → y ≡ i.Store (pos level) (pos slot) → c2 ≡ with_instr c1 y 0 → WritesOne b w c0 c2 (side_in x) v
@@ -40,13 +36,12 @@ module _ (b : Bound) (w : Spot) where
       let home = l.0 in
       let key = l.1 in
       let built : KeyBuilt s w.text home key = l.3 in
-      let at : y ≡ i.Store (pos (level_of s home)) (pos (slot_of s home key)) = ey ∙ ap (λ z. i.Store (pos z) (pos slot)) l.4 ∙ ap (λ z. i.Store (pos (level_of s home)) (pos z)) l.5 in
       subst (λ z. Emits w c0 c2 (LeftBuilt s w.text z × IsBuilt s w.text (syntax_of v)) (λ final site p q. OneGoesAt s final site z (syntax_of v) p q)) (sym l.2)
-      (emits_as w _ _ _ _ c0 c2 (λ h. (h.1, tt)) (λ h. (built, h.0)) (λ final site p q stands _ k. (here b w s home site.text stands built.inside, cell_there s home key built.has, (k.0, k.1, record { line = 0; is = k.2 })))
-      (emits_then w _ ⊤ (λ z site. ExprAt s z site 0 (syntax_of v)) (λ final site p q. At final (i.Store (pos (level_of s home)) (pos (slot_of s home key))) 0 p q) c0 c1 c2 g
-      (emits_at w c1 c2 (i.Store (pos (level_of s home)) (pos (slot_of s home key))) 0 (ec ∙ ap (λ z. with_instr c1 z 0) at) (λ z. cc) refl)))
+      (emits_as w _ _ _ _ c0 c2 (λ h. (h.1, tt)) (λ h. (built, h.0)) (λ final site p q stands _ k. (here b w s home site.text stands built.inside, cell_there s home key built.has, (k.0, k.1, record { line = 0; is = subst (λ z. At final z 0 k.0 q) (store_of b w s final home level slot key l.4 l.5) k.2 })))
+      (emits_then w _ ⊤ (λ z site. ExprAt s z site 0 (syntax_of v)) (λ final site p q. At final (i.Store (pos level) (pos slot)) 0 p q) c0 c1 c2 g
+      (emits_at w c1 c2 (i.Store (pos level) (pos slot)) 0 (ec ∙ ap (λ z. with_instr c1 z 0) ey) (λ z. cc) refl)))
 
-  pub one_element : (c0 c1 c2 c3 : DraftOf) (x : Side) (v : Expr) (token : TokenNo) (d : DeclNo) (es : Bor (List Expr)) (r : Left) → FindsSide b w x.sign x.left.now r → r ≡ left.Element token d es → WritesElement b w 0 c0 c1 token d es.now → Writes b w 1 c1 c2 v → c3 ≡ with_instr c2 i.Put 0 → WritesOne b w c0 c3 (side_in x) v
+  pub one_element : (c0 c1 c2 c3 : DraftOf) (x : Side) (v : Expr) (token : TokenNo) (d : DeclNo) (es : Bor (List Expr)) (r : Left) → FindsSide b w x.sign x.left.now r → r ≡ left.Element token d es → WritesElement b w 0 c0 c1 0 token d es.now → Writes b w 1 c1 c2 v → c3 ≡ with_instr c2 i.Put 0 → WritesOne b w c0 c3 (side_in x) v
   unfolding WritesOne WritesElement Writes Puts
   one_element c0 c1 c2 c3 x v token d es r f er g h ec =
       let s = source_of b in
@@ -55,7 +50,7 @@ module _ (b : Bound) (w : Spot) where
       let l = at_side b w x r (left.Element token d es) f er in
       subst (λ z. Emits w c0 c3 (LeftBuilt s w.text z × IsBuilt s w.text (syntax_of v)) (λ final site p q. OneGoesAt s final site z (syntax_of v) p q)) (sym l)
       (emits_as w _ _ _ _ c0 c3 (λ k. (k.0, (k.1, tt))) (λ k. (k.0, k.1.0)) (λ final site p q stands _ k. (k.0, k.1, (k.2.0, k.2.1, record { line = 0; is = k.2.2 })))
-      (emits_then w _ _ (λ final site p q. ElementAt s final site 0 line d xs (λ m n. ExprsAt s final site 1 xs m n) p q) (λ final site p q. (y : ℕ) × ExprAt s final site 1 (syntax_of v) p y × At final i.Put 0 y q) c0 c1 c3 g
+      (emits_then w _ _ (λ final site p q. ElementAt s final site 0 line 0 d xs (λ m n. ExprsAt s final site 1 xs m n) p q) (λ final site p q. (y : ℕ) × ExprAt s final site 1 (syntax_of v) p y × At final i.Put 0 y q) c0 c1 c3 g
       (emits_then w _ ⊤ (λ z site. ExprAt s z site 1 (syntax_of v)) (λ final site p q. At final i.Put 0 p q) c1 c2 c3 h (emits_at w c2 c3 i.Put 0 ec (λ z. cc) refl))))
 
   pub one_text : (c0 c1 c2 c3 : DraftOf) (x : Side) (v : Expr) (line : ℕ) (r : Left) → FindsSide b w x.sign x.left.now r → r ≡ left.Text → Writes b w 0 c0 c1 x.left.now → Writes b w 1 c1 c2 v → line ≡ line_at (source_of b) x.token.0 → c3 ≡ with_instr c2 i.AssignT line → WritesOne b w c0 c3 (side_in x) v
@@ -77,40 +72,35 @@ module _ (b : Bound) (w : Spot) where
       let l = at_side b w x r (left.Result level slot) f er in
       let home = l.0 in
       let built : KeyBuilt s w.text home Result = l.2 in
-      let load = i.Load (pos (level_of s home)) (pos (slot_of s home Result)) in
-      let is : y ≡ load = ey ∙ ap (λ z. i.Load (pos z) (pos slot)) l.3 ∙ ap (λ z. i.Load (pos (level_of s home)) (pos z)) l.4 in
+      let load = i.Load (pos level) (pos slot) in
       subst (λ z. Emits w c0 c3 (LeftBuilt s w.text z × IsBuilt s w.text (syntax_of v)) (λ final site p q. OneGoesAt s final site z (syntax_of v) p q)) (sym l.1)
-      (emits_as w _ _ _ _ c0 c3 (λ k. (tt, (k.1, tt))) (λ k. (built, k.1.0)) (λ final site p q stands _ k. (k.0, record { load = k.1; inside = here b w s home site.text stands built.inside; within = cell_there s home Result built.has }, (k.2.0, k.2.1, k.2.2)))
-      (emits_then w ⊤ _ (λ final site p q. Pushes final site 0 load p q) (λ final site p q. (u : ℕ) × ExprAt s final site 1 (syntax_of v) p u × At final i.AssignT at u q) c0 c1 c3 (emits_push w c0 c1 0 load 0 (e1 ∙ ap (λ z. with_push c0 0 z 0) is) (λ z. cc) refl)
+      (emits_as w _ _ _ _ c0 c3 (λ k. (tt, (k.1, tt))) (λ k. (built, k.1.0)) (λ final site p q stands _ k. (k.0, record { load = subst (λ z. Pushes final site 0 z p k.0) (load_of b w s final home level slot Result l.3 l.4) k.1; inside = here b w s home site.text stands built.inside; within = cell_there s home Result built.has }, (k.2.0, k.2.1, k.2.2)))
+      (emits_then w ⊤ _ (λ final site p q. Pushes final site 0 load p q) (λ final site p q. (u : ℕ) × ExprAt s final site 1 (syntax_of v) p u × At final i.AssignT at u q) c0 c1 c3 (emits_push w c0 c1 0 load 0 (e1 ∙ ap (λ z. with_push c0 0 z 0) ey) (λ z. cc) refl)
       (emits_then w _ ⊤ (λ z site. ExprAt s z site 1 (syntax_of v)) (λ final site p q. At final i.AssignT at p q) c1 c2 c3 h (emits_at w c2 c3 i.AssignT at (ec ∙ ap (with_instr c2 i.AssignT) el) (λ z. cc) refl))))
 
   pub one_unbuilt : (a c : DraftOf) (x : Side) (v : Expr) (r : Left) → FindsSide b w x.sign x.left.now r → r ≡ left.NotBuilt → c ≡ given_up a → WritesOne b w a c (side_in x) v
   unfolding WritesOne
   one_unbuilt a c x v r f er ec = emits_nothing w a c _ _ (λ h. at_side b w x r left.NotBuilt f er h.0) ec
 
-  -- ---- the controlled variable
-
-  pub given_value : (c0 c1 c2 : DraftOf) (t : Target) (v : Expr) (x : Instr) → t.assigned ≡ None → Writes b w 0 c0 c1 v → x ≡ i.Store (pos t.level) (pos t.slot) → c2 ≡ with_instr c1 x 0 → WritesGiven b w c0 c2 t v
-  unfolding WritesGiven Writes Puts
-  given_value c0 c1 c2 t v x none g ex ec m k =
+  pub one_attribute : (c0 c1 c2 c3 : DraftOf) (x : Side) (v : Expr) (r : Left) → FindsSide b w x.sign x.left.now r → r ≡ left.Attribute → WritesPlace b w 0 c0 c1 0 x.left.now → Writes b w 1 c1 c2 v → c3 ≡ with_instr c2 i.Put 0 → WritesOne b w c0 c3 (side_in x) v
+  unfolding WritesOne WritesPlace PutsPlace Writes Puts
+  one_attribute c0 c1 c2 c3 x v r f er g h ec =
       let s = source_of b in
-      let takes = sym k.assigned ∙ ap (option_map line_in) none in
-      let at : x ≡ i.Store (pos (level_of s m.text)) (pos (slot_of s m.text m.key)) = ex ∙ ap (λ z. i.Store (pos z) (pos t.slot)) k.level ∙ ap (λ z. i.Store (pos (level_of s m.text)) (pos z)) k.slot in
-      subst (λ z. Emits w c0 c2 (IsBuilt s w.text (syntax_of v)) (λ final site p q. GivesBy s final site 0 m z (syntax_of v) p q)) (sym takes)
-      (emits_as w _ _ _ _ c0 c2 (λ h. (h, tt)) (λ h. h.0) (λ final site p q _ _ r. (r.0, r.1, record { line = 0; is = r.2 }))
-      (emits_then w _ ⊤ (λ z site. ExprAt s z site 0 (syntax_of v)) (λ final site p q. At final (i.Store (pos (level_of s m.text)) (pos (slot_of s m.text m.key))) 0 p q) c0 c1 c2 g
-      (emits_at w c1 c2 (i.Store (pos (level_of s m.text)) (pos (slot_of s m.text m.key))) 0 (ec ∙ ap (λ z. with_instr c1 z 0) at) (λ z. cc) refl)))
+      let l = at_side b w x r left.Attribute f er in
+      subst (λ z. Emits w c0 c3 (LeftBuilt s w.text z × IsBuilt s w.text (syntax_of v)) (λ final site p q. OneGoesAt s final site z (syntax_of v) p q)) (sym l)
+      (emits_as w _ _ _ _ c0 c3 (λ k. (k.0, (k.1, tt))) (λ k. (k.0, k.1.0)) (λ final site p q stands _ k. (k.0, k.1, (k.2.0, k.2.1, record { line = 0; is = k.2.2 })))
+      (emits_then w _ _ (λ final site p q. PlaceAt s final site 0 0 (syntax_of x.left.now) p q) (λ final site p q. (y : ℕ) × ExprAt s final site 1 (syntax_of v) p y × At final i.Put 0 y q) c0 c1 c3 g
+      (emits_then w _ ⊤ (λ z site. ExprAt s z site 1 (syntax_of v)) (λ final site p q. At final i.Put 0 p q) c1 c2 c3 h (emits_at w c2 c3 i.Put 0 ec (λ z. cc) refl))))
 
-  pub given_text : (c0 c1 c2 c3 : DraftOf) (t : Target) (v : Expr) (line : Line) (x : Instr) → t.assigned ≡ Some line → x ≡ i.Load (pos t.level) (pos t.slot) → c1 ≡ with_push c0 0 x 0 → Writes b w 1 c1 c2 v → c3 ≡ with_instr c2 i.AssignT line.0 → WritesGiven b w c0 c3 t v
-  unfolding WritesGiven Writes Puts
-  given_text c0 c1 c2 c3 t v line x some ex e1 g ec m k =
+  pub one_reference : (c0 c1 c2 c3 : DraftOf) (x : Side) (v : Expr) (line : ℕ) (r : Left) → FindsSide b w x.sign x.left.now r → r ≡ left.Reference → WritesReferencePlace b w 0 c0 c1 x.left.now → Writes b w 1 c1 c2 v → line ≡ line_at (source_of b) x.token.0 → c3 ≡ with_instr c2 i.Put line → WritesOne b w c0 c3 (side_in x) v
+  unfolding WritesOne WritesReferencePlace Writes Puts
+  one_reference c0 c1 c2 c3 x v line r f er g h el ec =
       let s = source_of b in
-      let gets = sym k.assigned ∙ ap (option_map line_in) some in
-      let load = i.Load (pos (level_of s m.text)) (pos (slot_of s m.text m.key)) in
-      let at : x ≡ load = ex ∙ ap (λ z. i.Load (pos z) (pos t.slot)) k.level ∙ ap (λ z. i.Load (pos (level_of s m.text)) (pos z)) k.slot in
-      subst (λ z. Emits w c0 c3 (IsBuilt s w.text (syntax_of v)) (λ final site p q. GivesBy s final site 0 m z (syntax_of v) p q)) (sym gets)
-      (emits_as w _ _ _ _ c0 c3 (λ h. (tt, (h, tt))) (λ h. h.1.0) (λ final site p q _ _ r. (r.0, r.2.0, r.1, r.2.1, r.2.2))
-      (emits_then w ⊤ _ (λ final site p q. Pushes final site 0 load p q) (λ final site p q. (y : ℕ) × ExprAt s final site 1 (syntax_of v) p y × At final i.AssignT line.0 y q) c0 c1 c3 (emits_push w c0 c1 0 load 0 (e1 ∙ ap (λ z. with_push c0 0 z 0) at) (λ z. cc) refl)
-      (emits_then w _ ⊤ (λ z site. ExprAt s z site 1 (syntax_of v)) (λ final site p q. At final i.AssignT line.0 p q) c1 c2 c3 g (emits_at w c2 c3 i.AssignT line.0 ec (λ z. cc) refl))))
+      let at = line_at s x.token.0 in
+      let l = at_side b w x r left.Reference f er in
+      subst (λ z. Emits w c0 c3 (LeftBuilt s w.text z × IsBuilt s w.text (syntax_of v)) (λ final site p q. OneGoesAt s final site z (syntax_of v) p q)) (sym l)
+      (emits_as w _ _ _ _ c0 c3 (λ k. (k.0, (k.1, tt))) (λ k. (k.0, k.1.0)) (λ final site p q stands _ k. (k.0, k.1, (k.2.0, k.2.1, k.2.2)))
+      (emits_then w _ _ (λ final site p q. ReferencePlaceAt s final site 0 (syntax_of x.left.now) p q) (λ final site p q. (y : ℕ) × ExprAt s final site 1 (syntax_of v) p y × At final i.Put at y q) c0 c1 c3 g
+      (emits_then w _ ⊤ (λ z site. ExprAt s z site 1 (syntax_of v)) (λ final site p q. At final i.Put at p q) c1 c2 c3 h (emits_at w c2 c3 i.Put at (ec ∙ ap (with_instr c2 i.Put) el) (λ z. cc) refl))))
 
-pub ruleset ones = (one_cell, one_element, one_text, one_result, one_unbuilt, given_value, given_text)
+pub ruleset ones = (one_cell, one_element, one_text, one_result, one_attribute, one_reference, one_unbuilt)

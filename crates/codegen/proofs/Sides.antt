@@ -15,12 +15,12 @@ use Rattle.sim_tree.specs.SyntaxOfProgram.{right_side_syntax}
 use Rattle.sim_code.specs.declared.instr.Instr.{Instr}
 use Rattle.sim_code.specs.declared.instr.Instr.TheVariants as i
 use Rattle.sim_code.specs.Code.{CodeOf}
-use Rattle.sim_meaning.specs.Pending.{Result}
+use Rattle.sim_meaning.specs.Pending.{Key, Result}
 use Rattle.codegen_expr.specs.declared.spot.Spot.{Spot}
 use Rattle.codegen_expr.specs.Built.{IsBuilt, KeyBuilt, StandsIn}
 use Rattle.codegen_expr.specs.CodeExpr.{ExprAt}
 use Rattle.codegen_expr.specs.Drafts.{DraftOf, Emits, given_up, with_instr, with_push, with_temp}
-use Rattle.codegen_expr.specs.Emit.{Puts, Writes, WritesElement}
+use Rattle.codegen_expr.specs.Emit.{Puts, PutsPlace, Writes, WritesElement, WritesPlace}
 use Rattle.codegen_expr.specs.Sites.{At, Inside, Pushes, Site, slot_of}
 use Rattle.codegen_expr.proofs.Around.{inside}
 use Rattle.codegen_expr.proofs.Pieces.{emits_as, emits_at, emits_none, emits_nothing, emits_push, emits_temp, emits_then}
@@ -28,9 +28,9 @@ use Rattle.codegen.specs.declared.left.Left.{Left}
 use Rattle.codegen.specs.declared.left.Left.TheVariants as left
 use Rattle.codegen.specs.BuiltProgram.{AssignBuilt, LeftBuilt, LeftsBuilt}
 use Rattle.codegen.specs.declared.several.Side.{Side}
-use Rattle.codegen.specs.CodeLeft.{AssignAt, AtAddress, GivesAt, GoesAt, InCell, LeftsAt, NotBuilt, StoreAt, Stored, ToResult, ToText, below, each_stored, stored}
+use Rattle.codegen.specs.CodeLeft.{AssignAt, AtAddress, AtAttribute, GivesAt, GoesAt, InCell, LeftsAt, NotBuilt, StoreAt, Stored, ToReference, ToResult, ToText, below, each_stored, stored}
 use Rattle.codegen.specs.Emit.{WritesAssignment}
-use Rattle.codegen.specs.EmitLeft.{FindsSide, IsLeft, operands_in}
+use Rattle.codegen.specs.EmitLeft.{FindsSide, IsLeft, IsSlot, WritesReferencePlace, operands_in}
 use Rattle.codegen.specs.EmitSeveral.{EndsOn, GiveAt, HasGiven, OwesAddresses, SideOf, WritesAddress, WritesAddresses, WritesGive, WritesGives, after, side_in, sides, stored_all, stored_side}
 use Rattle.codegen.proofs.Cells.{cell_there}
 
@@ -107,6 +107,8 @@ none_left n k le = omega (arith, le)
 lefts_next : (s : Source) (code : CodeOf) (site : Site) (t : Stored) (ts : List Stored) (n k : ℕ) (End : ℕ → ℕ → ℕ → Type 0) (p x q : ℕ) → LeftsAt s code site n (t ∷ []) (EndsOn k) p x → LeftsAt s code site k ts End x q → LeftsAt s code site n (t ∷ ts) End p q
 lefts_next s code site (InCell home key) ts n k End p x q f g = (f.0, f.1, subst (λ z. LeftsAt s code site z ts End p q) f.2.0 (subst (λ z. LeftsAt s code site k ts End z q) f.2.1 g))
 lefts_next s code site (AtAddress d es line) ts n k End p x q f g = (f.0, f.1, subst (λ z. LeftsAt s code site z ts End f.0 q) f.2.0 (subst (λ z. LeftsAt s code site k ts End z q) f.2.1 g))
+lefts_next s code site (AtAttribute e) ts n k End p x q f g = (f.0, f.1, subst (λ z. LeftsAt s code site z ts End f.0 q) f.2.0 (subst (λ z. LeftsAt s code site k ts End z q) f.2.1 g))
+lefts_next s code site (ToReference e line) ts n k End p x q f g = (f.0, f.1, subst (λ z. LeftsAt s code site z ts End f.0 q) f.2.0 (subst (λ z. LeftsAt s code site k ts End z q) f.2.1 g))
 lefts_next s code site (ToText e line) ts n k End p x q f g = (f.0, f.1, subst (λ z. LeftsAt s code site z ts End f.0 q) f.2.0 (subst (λ z. LeftsAt s code site k ts End z q) f.2.1 g))
 lefts_next s code site (ToResult home line) ts n k End p x q f g = (f.0, f.1, subst (λ z. LeftsAt s code site z ts End f.0 q) f.2.0 (subst (λ z. LeftsAt s code site k ts End z q) f.2.1 g))
 lefts_next s code site NotBuilt ts n k End p x q f g = absurd f
@@ -116,6 +118,8 @@ lefts_then : (s : Source) (code : CodeOf) (site : Site) (ts : List Stored) (n m 
 lefts_then s code site [] n m End p x q f g = subst (λ z. End z p q) f.0 (subst (λ z. End m z q) f.1 g)
 lefts_then s code site (InCell home key ∷ ts) n m End p x q f g = (f.0, f.1, lefts_then s code site ts n m End p x q f.2 g)
 lefts_then s code site (AtAddress d es line ∷ ts) n m End p x q f g = (f.0, f.1, lefts_then s code site ts (suc n) m End f.0 x q f.2 g)
+lefts_then s code site (AtAttribute e ∷ ts) n m End p x q f g = (f.0, f.1, lefts_then s code site ts (suc n) m End f.0 x q f.2 g)
+lefts_then s code site (ToReference e line ∷ ts) n m End p x q f g = (f.0, f.1, lefts_then s code site ts (suc n) m End f.0 x q f.2 g)
 lefts_then s code site (ToText e line ∷ ts) n m End p x q f g = (f.0, f.1, lefts_then s code site ts (suc n) m End f.0 x q f.2 g)
 lefts_then s code site (ToResult home line ∷ ts) n m End p x q f g = (f.0, f.1, lefts_then s code site ts (suc n) m End f.0 x q f.2 g)
 lefts_then s code site (NotBuilt ∷ ts) n m End p x q f g = absurd f
@@ -133,6 +137,14 @@ taken_off : (d : DeclNo) (es : Expressions) (line n m : ℕ) → m ≡ n - 1 →
 taken_off d es line zero m e = let f : m ≡ 0 = omega (arith, e) in f
 taken_off d es line (suc n) m e = let f : m ≡ n = omega (arith, e) in f
 
+attribute_off : (e : Expression) (n m : ℕ) → m ≡ n - 1 → m ≡ below (AtAttribute e) n
+attribute_off e zero m h = let f : m ≡ 0 = omega (arith, h) in f
+attribute_off e (suc n) m h = let f : m ≡ n = omega (arith, h) in f
+
+reference_off : (e : Expression) (line n m : ℕ) → m ≡ n - 1 → m ≡ below (ToReference e line) n
+reference_off e line zero m h = let f : m ≡ 0 = omega (arith, h) in f
+reference_off e line (suc n) m h = let f : m ≡ n = omega (arith, h) in f
+
 text_off : (e : Expression) (line n m : ℕ) → m ≡ n - 1 → m ≡ below (ToText e line) n
 text_off e line zero m h = let f : m ≡ 0 = omega (arith, h) in f
 text_off e line (suc n) m h = let f : m ≡ n = omega (arith, h) in f
@@ -145,11 +157,18 @@ module _ (b : Bound) (w : Spot) where
   pub here : (s : Source) (home text : ℕ) → text ≡ w.text → StandsIn s w.text home → Inside s.tables text home
   here s home text stands h = subst (λ z. Inside s.tables z home) (sym stands) (inside s.tables home (length s.tables.blocks) w.text h.found)
 
+  -- a cell of a text around, by its level and its number
+  pub store_of : (s : Source) (final : CodeOf) (home level slot : ℕ) (key : Key) → level ≡ level_of s home → IsSlot s home key slot → i.Store (pos level) (pos slot) ≡ i.Store (pos (level_of s home)) (pos (slot_of s final home key))
+  store_of s final home level slot key el es = ap (λ z. i.Store (pos z) (pos slot)) el ∙ ap (λ z. i.Store (pos (level_of s home)) (pos z)) (es final)
+
+  pub load_of : (s : Source) (final : CodeOf) (home level slot : ℕ) (key : Key) → level ≡ level_of s home → IsSlot s home key slot → i.Load (pos level) (pos slot) ≡ i.Load (pos (level_of s home)) (pos (slot_of s final home key))
+  load_of s final home level slot key el es = ap (λ z. i.Load (pos z) (pos slot)) el ∙ ap (λ z. i.Load (pos (level_of s home)) (pos z)) (es final)
+
   -- what comes never, where what stands before is whole
   given_nothing : (a c : DraftOf) (H : CodeOf → Site → ℕ → ℕ → Type 0) → (a.whole ≡ true → ⊥) → c ≡ given_up a → Emits w a c ⊤ H
   given_nothing a c H never ec =
       let e = emits_nothing w a c (a.whole ≡ true) H never ec in
-      record { rest = e.rest; front = e.front; roomier = e.roomier; larger = e.larger; built = λ _ v. e.built v v; before = e.before; only = λ v. tt; fits = e.fits; at = e.at }
+      record { rest = e.rest; front = e.front; roomier = e.roomier; larger = e.larger; classed = e.classed; built = λ _ v. e.built v v; before = e.before; only = λ v. tt; fits = e.fits; at = e.at }
 
   -- ---- addresses
 
@@ -168,7 +187,7 @@ module _ (b : Bound) (w : Spot) where
       subst (λ z. Emits w a a (LeftBuilt s w.text z) (λ final site p q. LeftsAt s final site k (z ∷ []) (EndsOn k) p q)) (sym l.2)
       (emits_as w _ _ _ _ a a (λ h. tt) (λ h. built) (λ final site p q stands _ g. (here s home site.text stands built.inside, cell_there s home key built.has, (refl, g))) (emits_none w a))
 
-  pub address_element : (a c : DraftOf) (k m : ℕ) (x : Side) (token : TokenNo) (d : DeclNo) (es : Bor (List Expr)) (r : Left) → FindsSide b w x.sign x.left.now r → r ≡ left.Element token d es → WritesElement b w k a c token d es.now → m ≡ suc k → WritesAddress b w k a c m (side_in x)
+  pub address_element : (a c : DraftOf) (k m : ℕ) (x : Side) (token : TokenNo) (d : DeclNo) (es : Bor (List Expr)) (r : Left) → FindsSide b w x.sign x.left.now r → r ≡ left.Element token d es → WritesElement b w k a c 0 token d es.now → m ≡ suc k → WritesAddress b w k a c m (side_in x)
   unfolding WritesAddress WritesElement
   address_element a c k m x token d es r f er g em =
       let s = source_of b in
@@ -191,11 +210,26 @@ module _ (b : Bound) (w : Spot) where
       let l = at_side x r (left.Result level slot) f er in
       let home = l.0 in
       let built : KeyBuilt s w.text home Result = l.2 in
-      let at : y ≡ i.Load (pos (level_of s home)) (pos (slot_of s home Result)) = ey ∙ ap (λ z. i.Load (pos z) (pos slot)) l.3 ∙ ap (λ z. i.Load (pos (level_of s home)) (pos z)) l.4 in
       subst (λ z. Emits w a c (LeftBuilt s w.text z) (λ final site p q. LeftsAt s final site k (z ∷ []) (EndsOn m) p q)) (sym l.1)
-      (emits_as w ⊤ _ (λ final site p q. Pushes final site k (i.Load (pos (level_of s home)) (pos (slot_of s home Result))) p q) _ a c (λ h. tt) (λ h. built)
-      (λ final site p q stands _ g. (q, record { load = g; inside = here s home site.text stands built.inside; within = cell_there s home Result built.has }, (em, refl)))
-      (emits_push w a c k (i.Load (pos (level_of s home)) (pos (slot_of s home Result))) 0 (ec ∙ ap (λ z. with_push a k z 0) at) (λ z. cc) refl))
+      (emits_as w ⊤ _ (λ final site p q. Pushes final site k (i.Load (pos level) (pos slot)) p q) _ a c (λ h. tt) (λ h. built)
+      (λ final site p q stands _ g. (q, record { load = subst (λ z. Pushes final site k z p q) (load_of s final home level slot Result l.3 l.4) g; inside = here s home site.text stands built.inside; within = cell_there s home Result built.has }, (em, refl)))
+      (emits_push w a c k (i.Load (pos level) (pos slot)) 0 (ec ∙ ap (λ z. with_push a k z 0) ey) (λ z. cc) refl))
+
+  pub address_attribute : (a c : DraftOf) (k m : ℕ) (x : Side) (r : Left) → FindsSide b w x.sign x.left.now r → r ≡ left.Attribute → WritesPlace b w k a c 0 x.left.now → m ≡ suc k → WritesAddress b w k a c m (side_in x)
+  unfolding WritesAddress WritesPlace PutsPlace
+  address_attribute a c k m x r f er g em =
+      let s = source_of b in
+      let l = at_side x r left.Attribute f er in
+      subst (λ z. Emits w a c (LeftBuilt s w.text z) (λ final site p q. LeftsAt s final site k (z ∷ []) (EndsOn m) p q)) (sym l)
+      (emits_as w _ _ _ _ a c (λ h. h) (λ h. h) (λ final site p q _ _ h. (q, h, (em, refl))) g)
+
+  pub address_reference : (a c : DraftOf) (k m : ℕ) (x : Side) (r : Left) → FindsSide b w x.sign x.left.now r → r ≡ left.Reference → WritesReferencePlace b w k a c x.left.now → m ≡ suc k → WritesAddress b w k a c m (side_in x)
+  unfolding WritesAddress WritesReferencePlace
+  address_reference a c k m x r f er g em =
+      let s = source_of b in
+      let l = at_side x r left.Reference f er in
+      subst (λ z. Emits w a c (LeftBuilt s w.text z) (λ final site p q. LeftsAt s final site k (z ∷ []) (EndsOn m) p q)) (sym l)
+      (emits_as w _ _ _ _ a c (λ h. h) (λ h. h) (λ final site p q _ _ h. (q, h, (em, refl))) g)
 
   pub address_unbuilt : (a c : DraftOf) (k m : ℕ) (x : Side) (r : Left) → FindsSide b w x.sign x.left.now r → r ≡ left.NotBuilt → c ≡ given_up a → WritesAddress b w k a c m (side_in x)
   unfolding WritesAddress
@@ -228,13 +262,12 @@ module _ (b : Bound) (w : Spot) where
       let l = at_side v r (left.Cell level slot) f er in
       let home = l.0 in
       let key = l.1 in
-      let at : y ≡ i.Store (pos (level_of s home)) (pos (slot_of s home key)) = ey ∙ ap (λ z. i.Store (pos z) (pos slot)) l.4 ∙ ap (λ z. i.Store (pos (level_of s home)) (pos z)) l.5 in
       let load : x ≡ i.Load (pos (level_of s w.text)) (pos w.used) = ex ∙ ap (λ z. i.Load (pos z) (pos w.used)) em in
       subst (λ z. (a.whole ≡ true → LeftBuilt s w.text z) → Emits w a d ⊤ (λ final site p q. GiveAt s final site w.used k k z p q)) (sym l.2)
-      (λ _. emits_as w _ _ _ _ a d (λ h. (tt, tt)) (λ h. tt) (λ final site p q stands _ g. (refl, (g.0, subst (λ z. Pushes final site k (i.Load (pos (level_of s z)) (pos w.used)) p g.0) (sym stands) g.1, record { line = 0; is = g.2 })))
-      (emits_then w ⊤ ⊤ (λ final site p q. Pushes final site k (i.Load (pos (level_of s w.text)) (pos w.used)) p q) (λ final site p q. At final (i.Store (pos (level_of s home)) (pos (slot_of s home key))) 0 p q) a c d
+      (λ _. emits_as w _ _ _ _ a d (λ h. (tt, tt)) (λ h. tt) (λ final site p q stands _ g. (refl, (g.0, subst (λ z. Pushes final site k (i.Load (pos (level_of s z)) (pos w.used)) p g.0) (sym stands) g.1, record { line = 0; is = subst (λ z. At final z 0 g.0 q) (store_of s final home level slot key l.4 l.5) g.2 })))
+      (emits_then w ⊤ ⊤ (λ final site p q. Pushes final site k (i.Load (pos (level_of s w.text)) (pos w.used)) p q) (λ final site p q. At final (i.Store (pos level) (pos slot)) 0 p q) a c d
       (emits_push w a c k (i.Load (pos (level_of s w.text)) (pos w.used)) 0 (ec ∙ ap (λ z. with_push a k z 0) load) (λ z. cc) refl)
-      (emits_at w c d (i.Store (pos (level_of s home)) (pos (slot_of s home key))) 0 (ed ∙ ap (λ z. with_instr c z 0) at) (λ z. cc) refl)))
+      (emits_at w c d (i.Store (pos level) (pos slot)) 0 (ed ∙ ap (λ z. with_instr c z 0) ey) (λ z. cc) refl)))
 
   pub give_element : (a c d : DraftOf) (k j : ℕ) (v : Side) (m : ℕ) (token : TokenNo) (u : DeclNo) (es : Bor (List Expr)) (r : Left) (x : Instr) → FindsSide b w v.sign v.left.now r → r ≡ left.Element token u es → m ≡ level_of (source_of b) w.text → x ≡ i.Load (pos m) (pos w.used) → c ≡ with_push a k x 0 → d ≡ with_instr c i.Put 0 → j ≡ k - 1 → WritesGive b w k a d j (side_in v)
   unfolding WritesGive
@@ -271,6 +304,30 @@ module _ (b : Bound) (w : Spot) where
       (emits_then w ⊤ ⊤ (λ final site p q. Pushes final site k (i.Load (pos (level_of s w.text)) (pos w.used)) p q) (λ final site p q. At final i.AssignT (line_at s v.token.0) p q) a c d
       (emits_push w a c k (i.Load (pos (level_of s w.text)) (pos w.used)) 0 (ec ∙ ap (λ z. with_push a k z 0) load) (λ z. cc) refl)
       (emits_at w c d i.AssignT (line_at s v.token.0) (ed ∙ ap (with_instr c i.AssignT) el) (λ z. cc) refl)))
+
+  pub give_attribute : (a c d : DraftOf) (k j : ℕ) (v : Side) (m : ℕ) (r : Left) (x : Instr) → FindsSide b w v.sign v.left.now r → r ≡ left.Attribute → m ≡ level_of (source_of b) w.text → x ≡ i.Load (pos m) (pos w.used) → c ≡ with_push a k x 0 → d ≡ with_instr c i.Put 0 → j ≡ k - 1 → WritesGive b w k a d j (side_in v)
+  unfolding WritesGive
+  give_attribute a c d k j v m r x f er em ex ec ed ej =
+      let s = source_of b in
+      let l = at_side v r left.Attribute f er in
+      let load : x ≡ i.Load (pos (level_of s w.text)) (pos w.used) = ex ∙ ap (λ z. i.Load (pos z) (pos w.used)) em in
+      subst (λ z. (a.whole ≡ true → LeftBuilt s w.text z) → Emits w a d ⊤ (λ final site p q. GiveAt s final site w.used k j z p q)) (sym l)
+      (λ _. emits_as w _ _ _ _ a d (λ h. (tt, tt)) (λ h. tt) (λ final site p q stands _ g. (attribute_off (syntax_of v.left.now) k j ej, (g.0, subst (λ z. Pushes final site k (i.Load (pos (level_of s z)) (pos w.used)) p g.0) (sym stands) g.1, record { line = 0; is = g.2 })))
+      (emits_then w ⊤ ⊤ (λ final site p q. Pushes final site k (i.Load (pos (level_of s w.text)) (pos w.used)) p q) (λ final site p q. At final i.Put 0 p q) a c d
+      (emits_push w a c k (i.Load (pos (level_of s w.text)) (pos w.used)) 0 (ec ∙ ap (λ z. with_push a k z 0) load) (λ z. cc) refl)
+      (emits_at w c d i.Put 0 ed (λ z. cc) refl)))
+
+  pub give_reference : (a c d : DraftOf) (k j : ℕ) (v : Side) (m line : ℕ) (r : Left) (x : Instr) → FindsSide b w v.sign v.left.now r → r ≡ left.Reference → m ≡ level_of (source_of b) w.text → x ≡ i.Load (pos m) (pos w.used) → c ≡ with_push a k x 0 → line ≡ line_at (source_of b) v.token.0 → d ≡ with_instr c i.Put line → j ≡ k - 1 → WritesGive b w k a d j (side_in v)
+  unfolding WritesGive
+  give_reference a c d k j v m line r x f er em ex ec el ed ej =
+      let s = source_of b in
+      let l = at_side v r left.Reference f er in
+      let load : x ≡ i.Load (pos (level_of s w.text)) (pos w.used) = ex ∙ ap (λ z. i.Load (pos z) (pos w.used)) em in
+      subst (λ z. (a.whole ≡ true → LeftBuilt s w.text z) → Emits w a d ⊤ (λ final site p q. GiveAt s final site w.used k j z p q)) (sym l)
+      (λ _. emits_as w _ _ _ _ a d (λ h. (tt, tt)) (λ h. tt) (λ final site p q stands _ g. (reference_off (syntax_of v.left.now) (line_at s v.token.0) k j ej, (g.0, subst (λ z. Pushes final site k (i.Load (pos (level_of s z)) (pos w.used)) p g.0) (sym stands) g.1, g.2)))
+      (emits_then w ⊤ ⊤ (λ final site p q. Pushes final site k (i.Load (pos (level_of s w.text)) (pos w.used)) p q) (λ final site p q. At final i.Put (line_at s v.token.0) p q) a c d
+      (emits_push w a c k (i.Load (pos (level_of s w.text)) (pos w.used)) 0 (ec ∙ ap (λ z. with_push a k z 0) load) (λ z. cc) refl)
+      (emits_at w c d i.Put (line_at s v.token.0) (ed ∙ ap (with_instr c i.Put) el) (λ z. cc) refl)))
 
   pub give_unbuilt : (a c : DraftOf) (k m : ℕ) (v : Side) (r : Left) → FindsSide b w v.sign v.left.now r → r ≡ left.NotBuilt → c ≡ given_up a → WritesGive b w k a c m (side_in v)
   unfolding WritesGive
@@ -332,4 +389,4 @@ module _ (b : Bound) (w : Spot) where
       (emits_then w (IsBuilt s w.text value) _ (λ final site p q. ExprAt s final site j value p q) (λ final site p q. (u : ℕ) × At final store 0 p u × GivesAt s final site w.used j (reverse ts) u q) c2 c3 c5 f
       (emits_then w ⊤ ⊤ (λ final site p q. At final store 0 p q) (λ final site p q. GivesAt s final site w.used j (reverse ts) p q) c3 c4 c5 keep give))))))
 
-pub ruleset severals = (side_first, side_later, address_cell, address_element, address_text, address_result, address_unbuilt, give_cell, give_element, give_text, give_result, give_unbuilt, write_several)
+pub ruleset severals = (side_first, side_later, address_cell, address_element, address_text, address_result, address_attribute, address_reference, address_unbuilt, give_cell, give_element, give_text, give_result, give_attribute, give_reference, give_unbuilt, write_several)

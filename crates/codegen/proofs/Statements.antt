@@ -1,6 +1,6 @@
 -- Statements, one part behind another.
 use Rattle.std.proofs.Common.{◌≡◌, ◌≢◌, ◌≤◌, ℕ, zero, ℤ, pos, suc, Bool, List, [], ◌∷◌, length, map, Option, Some, None, Bor, true, false, refl, sym, ap, ◌∙◌, subst, arith}
-use Rattle.std.specs.Prelude.{⊤, is_some, option_map, slice_get, slice_index_or}
+use Rattle.std.specs.Prelude.{⊤, option_map, slice_get, slice_index_or}
 use Rattle.std.specs.declared.alloc.Global.{Global}
 use Rattle.std.specs.declared.boxed.Box.{Box}
 use Rattle.std.specs.declared.vec.Vec.{Vec}
@@ -11,13 +11,14 @@ use Rattle.sim_scope.specs.declared.bound.Bound.{Bound}
 use Rattle.sim_scope.specs.declared.scopes.Denotation.{Denotation}
 use Rattle.sim_scope.specs.Assignments.{last_value, left_sides}
 use Rattle.sim_scope.specs.Access.{block_at, encloser}
-use Rattle.sim_scope.specs.Source.{Source, block_around, denoted, level_of, line_at, source_of, type_at}
+use Rattle.sim_scope.specs.Source.{Source, block_around, denoted, line_at, source_of, type_at}
 use Rattle.sim_tree.specs.declared.expr.Expr.{Expr}
 use Rattle.sim_tree.specs.declared.expr.Identifier.{Identifier}
 use Rattle.sim_tree.specs.declared.expr.Selector.{Selector}
 use Rattle.sim_tree.specs.declared.program.BlockPrefix.{BlockPrefix}
 use Rattle.sim_tree.specs.declared.stmt.Activation.{Activation}
 use Rattle.sim_tree.specs.declared.stmt.Assigned.{Assigned}
+use Rattle.sim_tree.specs.declared.stmt.Assignment.{Assignment}
 use Rattle.sim_tree.specs.declared.stmt.Assignment.TheVariants as assignment
 use Rattle.sim_tree.specs.declared.stmt.Block.{Block}
 use Rattle.sim_tree.specs.declared.stmt.Decl.{Decl}
@@ -28,40 +29,44 @@ use Rattle.sim_tree.specs.declared.stmt.Stmt.TheVariants as t
 use Rattle.sim_tree.specs.declared.stmt.Timing.{Timing}
 use Rattle.sim_tree.specs.declared.stmt.When.{When}
 use Rattle.sim_tree.specs.Syntax as syntax
-use Rattle.sim_tree.specs.Syntax.{Also, Begin, Dot, Expression, Expressions, Named, NoMore, NoStatement, Qua, Statement, declarations, expressions, statements}
+use Rattle.sim_tree.specs.Syntax.{Also, Begin, Dot, Expression, Named, NoMore, NoStatement, Qua, Statement, declarations, expressions, statements}
 use Rattle.sim_tree.specs.SyntaxOf.{syntax_of}
-use Rattle.sim_tree.specs.SyntaxOfProgram.{block_syntax, declaration_syntax, element_syntax, reference_element_syntax, right_side_syntax, statement_syntax}
+use Rattle.sim_tree.specs.SyntaxOfProgram.{arm_syntax, arms, block_syntax, branch_syntax, declaration_syntax, element_syntax, reference_element_syntax, right_side_syntax, statement_syntax}
 use Rattle.sim_tree.proofs.ProgramSyntaxLemmas as v
 use Rattle.sim_code.specs.declared.instr.Instr.{Instr}
 use Rattle.sim_code.specs.declared.instr.Instr.TheVariants as i
 use Rattle.sim_code.specs.Code.{CodeOf}
+use Rattle.sim_meaning.specs.Attributes.{connection_at}
 use Rattle.sim_meaning.specs.Statements.{denoted_leaves, leaves}
 use Rattle.codegen_expr.specs.declared.spot.Spot.{Spot}
-use Rattle.codegen_expr.specs.Built.{ActualsBuilt, AreBuilt, IsBuilt, KeyBuilt, NamedBuilt}
-use Rattle.codegen_expr.specs.CodeExpr.{ActualsAt, ExprAt, ExprsAt, NamedAt, block_number, gives}
+use Rattle.codegen_expr.specs.Built.{ActualsBuilt, AreBuilt, ConnectedNameBuilt, IsBuilt, NamedBuilt, ThroughBuilt}
+use Rattle.codegen_expr.specs.CodeExpr.{ActualsAt, ConnectedNameAt, ExprAt, ExprsAt, NamedAt, ThroughAt, gives}
 use Rattle.codegen_expr.specs.Drafts.{DraftOf, Emits, filled_in, given_up, with_hole, with_instr, with_push}
 use Rattle.codegen_expr.specs.declared.forms.Form.{Form}
 use Rattle.codegen_expr.specs.declared.forms.Form.TheVariants as form
-use Rattle.codegen_expr.specs.Forms.{FindsForm, IsOther}
+use Rattle.codegen_expr.specs.Forms.{FindsForm, IsNew, IsOther}
 use Rattle.codegen_expr.specs.Emit.{PutsNamed, Writes, WritesNamed}
-use Rattle.codegen_expr.specs.Sites.{At, Is, Pushes, Site, slot_of}
+use Rattle.codegen_expr.specs.Sites.{At, Is, Pushes, Site, block_number}
 use Rattle.codegen_expr.proofs.Pieces.{emits_as, emits_at, emits_if, emits_loop, emits_none, emits_nothing, emits_push, emits_then, emits_when}
 use Rattle.codegen.specs.declared.left.Left.{Left}
 use Rattle.codegen.specs.declared.left.Left.TheVariants as left
-use Rattle.codegen.specs.BuiltProgram.{AssignBuilt, BlockBuilt, CalledBuilt, EnterBuilt, ForBuilt, LeftBuilt, ListBuilt, StatementBuilt, StatementsBuilt, TakesValues}
-use Rattle.codegen.specs.CodeFor.{ForAt, GivesVariable, ListAt, Variable, assigned_by, is_empty}
-use Rattle.codegen.specs.CodeLeft.{AssignAt, InCell, NotBuilt, Stored, ToResult, ToText, AtAddress, each_stored, stored_left}
+use Rattle.codegen.specs.BuiltProgram.{AssignBuilt, BlockBuilt, CalledBuilt, ElementsBuilt, EnterBuilt, ForBuilt, LeftBuilt, ListBuilt, StatementBuilt, StatementsBuilt, StepsBuilt, VariableBuilt}
+use Rattle.codegen.specs.CodeFor.{ForAt, GivesVariable, ListAt, LoadsVariable, OfCell, OfPlace, OfReference, StoresVariable, TakesValues, Variable, VariableThere, assigned_by, is_empty, variable_of, variable_stored}
+use Rattle.codegen.specs.CodeLeft.{AssignAt, AtAddress, AtAttribute, InCell, NotBuilt, Stored, ToReference, ToResult, ToText, each_stored, stored_left}
 use Rattle.sim_meaning.specs.Closing.{is_text, is_text_type}
-use Rattle.codegen.specs.CodeStm.{BlockAt, CalledAt, DropsAt, EnterAt, StmAt, StmsAt}
+use Rattle.codegen.specs.CodeStm.{ArmsAt, BlockAt, CalledAt, ConnectsAt, DropsAt, EnterAt, InspectAt, StmAt, StmsAt}
+use Rattle.codegen.specs.EmitTargets.{Controls, ElementsOver, ListOver, WritesLoaded, WritesStored, line_in, takes_values}
 use Rattle.codegen.specs.Emit.{OwesStatements, WritesAssignment, WritesBlock, WritesCall, WritesCalled, WritesElementOf, WritesFor, WritesGiven, WritesList, WritesOne, WritesStatement, WritesStatements, WritesTakenCall}
 use Rattle.codegen.specs.declared.elements.Element.{Element}
 use Rattle.codegen.specs.declared.elements.Element.TheVariants as view
-use Rattle.codegen.specs.declared.statement.Target.{Target}
-use Rattle.codegen.specs.EmitLeft.{FindsLeft, IsVariable}
+use Rattle.codegen.specs.declared.targets.Target.{Target}
+use Rattle.codegen.specs.declared.targets.Target.TheVariants as target
+use Rattle.codegen.specs.EmitLeft.{FindsNamed, IsWhole}
 use Rattle.codegen.specs.ForElements.{view_syntax}
+use Rattle.codegen.proofs.Inspected.{WritesArms, WritesInspect}
 use Rattle.codegen.proofs.Cells.{cell_there}
 use Rattle.codegen.specs.declared.lists.Shared.{Shared}
-use Rattle.codegen.specs.EmitShared.{Controls, TurnBuilt, TurnOf, WritesSent, WritesTurn, begins, line_in}
+use Rattle.codegen.specs.EmitShared.{TurnBuilt, TurnOf, WritesSent, WritesTurn, begins}
 use Rattle.codegen.proofs.Found.{form_at}
 use Rattle.codegen.proofs.Sides.{here}
 use Rattle.codegen.proofs.Cycles.{emits_cycle}
@@ -154,11 +159,20 @@ module _ (b : Bound) (w : Spot) where
   pub write_inner : (a c : DraftOf) (x : Stmt) (k : TokenNo) → x ≡ t.Inner k → c ≡ given_up a → WritesStatement b w a c x
   write_inner a c x k is ec = unbuilt a c x _ (ap statement_syntax is ∙ v.syntax-Inner k) (λ z. z) ec
 
-  pub write_inspect : (a c : DraftOf) (x : Stmt) (k : TokenNo) (h : Expr) (n : TokenNo) (p : Box Stmt Global) (m : TokenNo) (o : Option (Box Stmt Global)) → x ≡ t.Inspect k h n p m o → c ≡ given_up a → WritesStatement b w a c x
-  write_inspect a c x k h n p m o is ec = unbuilt a c x _ (ap statement_syntax is ∙ v.syntax-Inspect k h n p m o) (λ z. z) ec
+  pub write_connects : (a c d : DraftOf) (x : Stmt) (k : TokenNo) (h : Expr) (n : TokenNo) (p : Box Stmt Global) (m : TokenNo) (o : Option (Box Stmt Global)) (y : Stmt) → x ≡ t.Inspect k h n p m o → y ≡ p.value → c ≡ with_instr a i.Tick 0 → WritesInspect b w c d h n y o → WritesStatement b w a d x
+  unfolding WritesInspect
+  write_connects a c d x k h n p m o y is ey ec f =
+      let s = source_of b in
+      stm_as a d x _ (ap statement_syntax is ∙ v.syntax-Inspect k h n p m o ∙ ap (λ z. syntax.Inspect k.0 (syntax_of h) n.0 (statement_syntax z) m.0 (branch_syntax o)) (sym ey))
+      (tick_then _ (λ final site. InspectAt final site 0 (ExprAt s final site 0 (syntax_of h)) (ConnectsAt s final site n.0 (block_around s n.0) (λ site. StmAt s final site 0 (statement_syntax y))) (StmsAt s final site 0 (branch_syntax o))) a c d ec f)
 
-  pub write_inspect_when : (a c : DraftOf) (x : Stmt) (k : TokenNo) (h : Expr) (l : Vec When Global) (o : Option (Box Stmt Global)) → x ≡ t.InspectWhen k h l o → c ≡ given_up a → WritesStatement b w a c x
-  write_inspect_when a c x k h l o is ec = unbuilt a c x _ (ap statement_syntax is ∙ v.syntax-InspectWhen k h l o) (λ z. z) ec
+  pub write_arms : (a c0 c1 d : DraftOf) (x : Stmt) (k : TokenNo) (h : Expr) (l : Vec When Global) (xs : List When) (o : Option (Box Stmt Global)) → x ≡ t.InspectWhen k h l o → xs ≡ l.items → c0 ≡ with_instr a i.Tick 0 → Writes b w 0 c0 c1 h → WritesArms b w c1 d xs o → WritesStatement b w a d x
+  unfolding Writes Rattle.codegen_expr.specs.Emit.Puts WritesArms
+  write_arms a c0 c1 d x k h l xs o is ex e0 f g =
+      let s = source_of b in
+      stm_as a d x _ (ap statement_syntax is ∙ v.syntax-InspectWhen k h l o ∙ ap (λ z. syntax.InspectWhen k.0 (syntax_of h) (arms (map arm_syntax z)) (branch_syntax o)) (sym ex))
+      (emits_as w _ _ _ _ a d (λ z. (z.0, (z.1, z.2))) (λ z. (z.0, z.1.0, z.1.1)) (λ final site p q _ _ r. (r.0, r.2.0, r.1, r.2.1, r.2.2))
+      (tick_then _ _ a c0 d e0 (emits_then w _ _ (λ final site. ExprAt s final site 0 (syntax_of h)) (λ final site. ArmsAt s final site 0 (arms (map arm_syntax xs)) (StmsAt s final site 0 (branch_syntax o))) c0 c1 d f g)))
 
   pub write_activation : (a c : DraftOf) (x : Stmt) (k : TokenNo) (n : Activation) (h : Expr) (o : Option Timing) → x ≡ t.Activation k n h o → c ≡ given_up a → WritesStatement b w a c x
   write_activation a c x k n h o is ec = unbuilt a c x _ (ap statement_syntax is ∙ v.syntax-Activation k n h o) (λ z. z) ec
@@ -236,7 +250,7 @@ module _ (b : Bound) (w : Spot) where
   no_call (syntax.Constant k h) f z = z
   no_call (Named name es) f z = f
   no_call (syntax.This k h) f z = z
-  no_call (syntax.New k h l) f z = z
+  no_call (syntax.New k h l) f z = f
   no_call (syntax.Parentheses k h) f z = z
 
   call_as : (a c : DraftOf) (x : Expr) (y : Expression) → syntax_of x ≡ y → Emits w a c (CalledBuilt (source_of b) w.text y) (λ final site p q. (k : ℕ) × CalledAt (source_of b) final site 0 y p k × DropsAt final (leaves (source_of b) y) k q) → WritesCall b w a c x
@@ -257,6 +271,19 @@ module _ (b : Bound) (w : Spot) where
   pub write_closed_call : (a c : DraftOf) (x : Expr) (f : Form) (p : Bor Expr) → FindsForm f x → f ≡ form.Closed p → c ≡ given_up a → WritesCall b w a c x
   write_closed_call a c x f p h is ec = call_as a c x _ (form_at f (form.Closed p) x h is).1 (emits_nothing w a c _ _ (λ z. z) ec)
 
+  pub write_new_call : (a c d : DraftOf) (x : Expr) (f : Form) → FindsForm f x → f ≡ form.New → Writes b w 0 a c x → d ≡ with_instr c i.Pop 0 → WritesCall b w a d x
+  unfolding Writes Rattle.codegen_expr.specs.Emit.Puts
+  write_new_call a c d x f h is g ed = call_as a d x (syntax_of x) refl (cases (syntax_of x) (form_at f form.New x h is) g)
+    where
+      s : Source
+      s = source_of b
+
+      cases : (y : Expression) → IsNew y → Emits w a c (IsBuilt s w.text y) (λ final site p q. ExprAt s final site 0 y p q) → Emits w a d (CalledBuilt s w.text y) (λ final site p q. (k : ℕ) × CalledAt s final site 0 y p k × DropsAt final (leaves s y) k q)
+      cases (syntax.New k y l) n e =
+          emits_as w _ _ _ _ a d (λ z. (z, tt)) (λ z. z.0) (λ final site p q _ _ r. (r.0, r.1, record { line = 0; is = r.2 }))
+          (emits_then w _ ⊤ _ (λ final site p q. At final i.Pop 0 p q) a c d e (emits_at w c d i.Pop 0 ed (λ z. cc) refl))
+      cases _ n e = absurd n
+
   pub write_other_call : (a c : DraftOf) (x : Expr) (f : Form) → FindsForm f x → f ≡ form.Other → c ≡ given_up a → WritesCall b w a c x
   write_other_call a c x f h is ec = call_as a c x (syntax_of x) refl (emits_nothing w a c _ _ (no_call (syntax_of x) (form_at f form.Other x h is)) ec)
 
@@ -269,7 +296,9 @@ module _ (b : Bound) (w : Spot) where
       let xs = expressions (map syntax_of es) in
       let same : denoted_leaves s (denoted s x.token.0) ≡ gives s (denoted s x.token.0) = ap (denoted_leaves s) (sym eo) ∙ sym el ∙ eg ∙ ap (gives s) eo in
       let drops : denoted_leaves s (denoted s x.token.0) ≡ k = ap (denoted_leaves s) (sym eo) ∙ sym el in
-      let f' = subst (λ z. Emits w a c (NamedBuilt s w.text z xs (AreBuilt s w.text xs) (λ formals. ActualsBuilt s w.text xs formals)) (λ final site p q. NamedAt s final site 0 (line_at s x.token.0) z xs (λ m n. ExprsAt s final site 0 xs m n) (λ m n. ExprsAt s final site 1 xs m n) (λ formals m n. ActualsAt s final site 1 (line_at s x.token.0) xs formals m n) p q)) eo f in
+      let f' = subst (λ z. Emits w a c (ThroughBuilt (connection_at s x.token.0) (λ m. ConnectedNameBuilt s w.text m z xs (AreBuilt s w.text xs) (λ formals. ActualsBuilt s w.text xs formals)) (NamedBuilt s w.text z xs (AreBuilt s w.text xs) (λ formals. ActualsBuilt s w.text xs formals)))
+      (λ final site p q. ThroughAt (connection_at s x.token.0) (λ m. ConnectedNameAt s final site 0 (line_at s x.token.0) m z xs (ExprsAt s final site 1 xs) (λ formals. ActualsAt s final site 1 (line_at s x.token.0) false xs formals))
+      (NamedAt s final site 0 (line_at s x.token.0) z xs (ExprsAt s final site 0 xs) (ExprsAt s final site 1 xs) (λ formals. ActualsAt s final site 1 (line_at s x.token.0) false xs formals)) p q)) eo f in
       emits_as w _ _ _ _ a d (λ h. (h.1, tt)) (λ h. (same, h.0)) (λ final site p q _ _ r. (r.0, (same, r.1), subst (λ z. DropsAt final z r.0 q) (sym drops) r.2))
       (emits_then w _ ⊤ _ (λ final site p q. DropsAt final k p q) a c d f' g)
 
@@ -317,84 +346,139 @@ module _ (b : Bound) (w : Spot) where
 
   -- ---- `for`
 
-  abbrev Fors : (a c : DraftOf) → Identifier → Option (Option ℕ) → List syntax.Element → Statement → Type 0
-  Fors a c y assigned es z =
-      Emits w a c (ForBuilt (source_of b) w.text assigned (stored_left (source_of b) (Named y NoMore)) es (StatementBuilt (source_of b) w.text z))
-      (λ final site p q. ForAt (source_of b) final site 0 assigned (stored_left (source_of b) (Named y NoMore)) (is_empty z) es (λ site. StmAt (source_of b) final site 0 z) p q)
+  abbrev Fors : (a c : DraftOf) → Option Variable → List syntax.Element → Statement → Type 0
+  Fors a c v es z =
+      Emits w a c (ForBuilt (source_of b) w.text v es (StatementBuilt (source_of b) w.text z))
+      (λ final site p q. ForAt (source_of b) final site 0 v (is_empty z) es (λ site. StmAt (source_of b) final site 0 z) p q)
+
+  -- the variable of an identifier, by whether it is a text and by the sign
+  abbrev over : Identifier → (text : Bool) → Assignment → (line : ℕ) → Option Variable
+  over y u sign line = variable_of (source_of b) line (Named y NoMore) (assigned_by u sign line)
 
   -- whether the variable is a text
   text_is : (y : Identifier) (t u : Bool) → t ≡ is_text_type (type_at (source_of b) y.token.0) → t ≡ u → u ≡ is_text (source_of b) (Named y NoMore)
   unfolding is_text
   text_is y k0 u et is = sym is ∙ et
 
-  values_as : (a c d : DraftOf) (x : Stmt) (k : TokenNo) (y : Identifier) (n : TokenNo) (l : Vec ForElement Global) (es : List ForElement) (p : Box Stmt Global) (z : Stmt) (k0 u : Bool) → x ≡ t.For k y n l p → es ≡ l.items → z ≡ p.value → c ≡ with_instr a i.Tick 0 → k0 ≡ is_text_type (type_at (source_of b) y.token.0) → k0 ≡ u → Fors c d y (assigned_by u assignment.Value (line_at (source_of b) n.0)) (map element_syntax es) (statement_syntax z) → WritesStatement b w a d x
+  values_as : (a c d : DraftOf) (x : Stmt) (k : TokenNo) (y : Identifier) (n : TokenNo) (l : Vec ForElement Global) (es : List ForElement) (p : Box Stmt Global) (z : Stmt) (k0 u : Bool) → x ≡ t.For k y n l p → es ≡ l.items → z ≡ p.value → c ≡ with_instr a i.Tick 0 → k0 ≡ is_text_type (type_at (source_of b) y.token.0) → k0 ≡ u → Fors c d (over y u assignment.Value (line_at (source_of b) n.0)) (map element_syntax es) (statement_syntax z) → WritesStatement b w a d x
   values_as a c d x k y n l es p z k0 u is ee ez ec et eu f =
       let s = source_of b in
       stm_as a d x _ (ap statement_syntax is ∙ v.syntax-For k y n l p ∙ ap (λ m. syntax.For k.0 y assignment.Value n.0 (map element_syntax m) (statement_syntax p.value)) (sym ee) ∙ ap (λ m. syntax.For k.0 y assignment.Value n.0 (map element_syntax es) (statement_syntax m)) (sym ez))
-      (tick_then _ _ a c d ec (subst (λ m. Fors c d y (assigned_by m assignment.Value (line_at s n.0)) (map element_syntax es) (statement_syntax z)) (text_is y k0 u et eu) f))
+      (tick_then _ _ a c d ec (subst (λ m. Fors c d (over y m assignment.Value (line_at s n.0)) (map element_syntax es) (statement_syntax z)) (text_is y k0 u et eu) f))
 
   pub write_for_texts : (a c d : DraftOf) (x : Stmt) (k : TokenNo) (y : Identifier) (n : TokenNo) (l : Vec ForElement Global) (es : List ForElement) (p : Box Stmt Global) (z : Stmt) (k0 : Bool) (line : Line) → x ≡ t.For k y n l p → es ≡ l.items → z ≡ p.value → c ≡ with_instr a i.Tick 0 → k0 ≡ is_text_type (type_at (source_of b) y.token.0) → k0 ≡ true → line.0 ≡ line_at (source_of b) n.0 → WritesFor b w c d y (Some line.0) (map element_syntax es) z → WritesStatement b w a d x
   unfolding WritesFor
-  write_for_texts a c d x k y n l es p z k0 line is ee ez ec et yes' el f = values_as a c d x k y n l es p z k0 true is ee ez ec et yes' (subst (λ m. Fors c d y (Some (Some m)) (map element_syntax es) (statement_syntax z)) el f)
+  write_for_texts a c d x k y n l es p z k0 line is ee ez ec et yes' el f = values_as a c d x k y n l es p z k0 true is ee ez ec et yes' (subst (λ m. Fors c d (variable_stored (stored_left (source_of b) (Named y NoMore)) (Some m)) (map element_syntax es) (statement_syntax z)) el f)
 
   pub write_for_values : (a c d : DraftOf) (x : Stmt) (k : TokenNo) (y : Identifier) (n : TokenNo) (l : Vec ForElement Global) (es : List ForElement) (p : Box Stmt Global) (z : Stmt) (k0 : Bool) → x ≡ t.For k y n l p → es ≡ l.items → z ≡ p.value → c ≡ with_instr a i.Tick 0 → k0 ≡ is_text_type (type_at (source_of b) y.token.0) → k0 ≡ false → WritesFor b w c d y None (map element_syntax es) z → WritesStatement b w a d x
   unfolding WritesFor
   write_for_values a c d x k y n l es p z k0 is ee ez ec et not' f = values_as a c d x k y n l es p z k0 false is ee ez ec et not' f
 
-  references_as : (a c d : DraftOf) (x : Stmt) (k : TokenNo) (y : Identifier) (n : TokenNo) (l : Vec ReferenceElement Global) (es : List ReferenceElement) (p : Box Stmt Global) (z : Stmt) (k0 u : Bool) → x ≡ t.ForReference k y n l p → es ≡ l.items → z ≡ p.value → c ≡ with_instr a i.Tick 0 → k0 ≡ is_text_type (type_at (source_of b) y.token.0) → k0 ≡ u → Fors c d y (assigned_by u assignment.Reference (line_at (source_of b) n.0)) (map reference_element_syntax es) (statement_syntax z) → WritesStatement b w a d x
+  references_as : (a c d : DraftOf) (x : Stmt) (k : TokenNo) (y : Identifier) (n : TokenNo) (l : Vec ReferenceElement Global) (es : List ReferenceElement) (p : Box Stmt Global) (z : Stmt) (k0 u : Bool) → x ≡ t.ForReference k y n l p → es ≡ l.items → z ≡ p.value → c ≡ with_instr a i.Tick 0 → k0 ≡ is_text_type (type_at (source_of b) y.token.0) → k0 ≡ u → Fors c d (over y u assignment.Reference (line_at (source_of b) n.0)) (map reference_element_syntax es) (statement_syntax z) → WritesStatement b w a d x
   references_as a c d x k y n l es p z k0 u is ee ez ec et eu f =
       let s = source_of b in
       stm_as a d x _ (ap statement_syntax is ∙ v.syntax-ForReference k y n l p ∙ ap (λ m. syntax.For k.0 y assignment.Reference n.0 (map reference_element_syntax m) (statement_syntax p.value)) (sym ee) ∙ ap (λ m. syntax.For k.0 y assignment.Reference n.0 (map reference_element_syntax es) (statement_syntax m)) (sym ez))
-      (tick_then _ _ a c d ec (subst (λ m. Fors c d y (assigned_by m assignment.Reference (line_at s n.0)) (map reference_element_syntax es) (statement_syntax z)) (text_is y k0 u et eu) f))
+      (tick_then _ _ a c d ec (subst (λ m. Fors c d (over y m assignment.Reference (line_at s n.0)) (map reference_element_syntax es) (statement_syntax z)) (text_is y k0 u et eu) f))
 
   pub write_references : (a c d : DraftOf) (x : Stmt) (k : TokenNo) (y : Identifier) (n : TokenNo) (l : Vec ReferenceElement Global) (es : List ReferenceElement) (p : Box Stmt Global) (z : Stmt) (k0 : Bool) → x ≡ t.ForReference k y n l p → es ≡ l.items → z ≡ p.value → c ≡ with_instr a i.Tick 0 → k0 ≡ is_text_type (type_at (source_of b) y.token.0) → k0 ≡ true → WritesFor b w c d y None (map reference_element_syntax es) z → WritesStatement b w a d x
   unfolding WritesFor
   write_references a c d x k y n l es p z k0 is ee ez ec et yes' f = references_as a c d x k y n l es p z k0 true is ee ez ec et yes' f
 
-  -- references to objects are not built
-  pub write_objects : (a c d : DraftOf) (x : Stmt) (k : TokenNo) (y : Identifier) (n : TokenNo) (l : Vec ReferenceElement Global) (p : Box Stmt Global) (k0 : Bool) → x ≡ t.ForReference k y n l p → c ≡ with_instr a i.Tick 0 → k0 ≡ is_text_type (type_at (source_of b) y.token.0) → k0 ≡ false → d ≡ given_up c → WritesStatement b w a d x
-  write_objects a c d x k y n l p k0 is ec et not' ed =
-      references_as a c d x k y n l l.items p p.value k0 false is refl refl ec et not' (emits_nothing w c d _ _ (λ h. h) ed)
+  -- ---- the variable, and the list over it
 
-  no_for : (s : Source) (k : ℕ) (assigned : Option ℕ) (t0 : Stored) (es : List syntax.Element) (Body : Type 0) → ForBuilt s k (Some assigned) t0 es Body → LeftBuilt s k t0
-  no_for s k assigned (InCell home key) es Body h = h.0
-  no_for s k assigned (AtAddress d es line) es' Body h = absurd h
-  no_for s k assigned (ToText e line) es' Body h = absurd h
-  no_for s k assigned (ToResult home line) es' Body h = absurd h
-  no_for s k assigned NotBuilt es Body h = h
+  over_all : (s : Source) (k : ℕ) (v : Variable) (es : List syntax.Element) → VariableBuilt s k v → ElementsBuilt s k v es → ElementsOver s k v es
+  over_all s k v [] f h = tt
+  over_all s k v (e ∷ es) f h = ((f, h.0), over_all s k v es f h.1)
+
+  all_over : (s : Source) (k : ℕ) (v : Variable) (es : List syntax.Element) → ElementsOver s k v es → ElementsBuilt s k v es
+  all_over s k v [] h = tt
+  all_over s k v (e ∷ es) h = (h.0.1, all_over s k v es h.1)
+
+  over_list : (s : Source) (k : ℕ) (v : Variable) (es : List syntax.Element) (Body : Type 0) → VariableBuilt s k v × ListBuilt s k v es Body → ListOver s k v es Body
+  over_list s k v [] Body h = h.1
+  over_list s k v (e ∷ []) Body h = (((h.0, h.1.0), tt), h.1.1)
+  over_list s k v (e ∷ f ∷ es) Body h = (over_all s k v (e ∷ f ∷ es) h.0 h.1.0, h.1.1)
+
+  list_over : (s : Source) (k : ℕ) (v : Variable) (es : List syntax.Element) (Body : Type 0) → ListOver s k v es Body → VariableBuilt s k v × ListBuilt s k v es Body
+  list_over s k v [] Body h = absurd h
+  list_over s k v (e ∷ []) Body h = (h.0.0.0, (h.0.0.1, h.1))
+  list_over s k v (e ∷ f ∷ es) Body h = (h.0.0.0, (all_over s k v (e ∷ f ∷ es) h.0, h.1))
+
+  there : (s : Source) (v : Variable) (site : Site) → site.text ≡ w.text → VariableBuilt s w.text v → VariableThere s site v
+  there s (OfCell home key line) site stands built = (here b w s home site.text stands built.inside, cell_there s home key built.has)
+  there s (OfPlace e line) site stands built = tt
+  there s (OfReference e line) site stands built = tt
+
+  for_over : (a c : DraftOf) (t0 : Target) (v : Variable) (es : List syntax.Element) (z : Stmt) → Controls (source_of b) w.text t0 v → WritesList b w a c t0 es z → Fors a c (Some v) es (statement_syntax z)
+  unfolding WritesList
+  for_over a c t0 v es z ct f =
+      let s = source_of b in
+      let Body = StatementBuilt s w.text (statement_syntax z) in
+      let g = f v ct in
+      record {
+        rest = g.rest;
+        front = g.front;
+        roomier = g.roomier;
+        larger = g.larger;
+        classed = g.classed;
+        built = λ h. g.built (over_list s w.text v es Body h);
+        before = g.before;
+        only = λ u. list_over s w.text v es Body (g.only u);
+        fits = g.fits;
+        at = λ u final site k. (there s v site k.stands (list_over s w.text v es Body (g.only u)).0, g.at u final site k);
+      }
+
+  pub write_objects : (a c d : DraftOf) (x : Stmt) (k : TokenNo) (y : Identifier) (y' : Bor Identifier) (n : TokenNo) (l : Vec ReferenceElement Global) (es : List ReferenceElement) (p : Box Stmt Global) (z : Stmt) (k0 : Bool) (line : Line) → x ≡ t.ForReference k y n l p → y ≡ y'.now → es ≡ l.items → z ≡ p.value → c ≡ with_instr a i.Tick 0 → k0 ≡ is_text_type (type_at (source_of b) y.token.0) → k0 ≡ false → line.0 ≡ line_at (source_of b) n.0 → WritesList b w c d (target.Reference y' line) (map reference_element_syntax es) z → WritesStatement b w a d x
+  write_objects a c d x k y y' n l es p z k0 line is ey ee ez ec et not' el f =
+      references_as a c d x k y n l es p z k0 false is ee ez ec et not' (for_over c d (target.Reference y' line) (OfReference (Named y NoMore) (line_at (source_of b) n.0)) (map reference_element_syntax es) z (ap (λ m. Named m NoMore) ey, el) f)
 
   -- what the variable is found to be
-  for_is : (name : Identifier) (r r' : Left) → FindsLeft b w name.token [] r → r ≡ r' → IsVariable (source_of b) w r' (stored_left (source_of b) (Named name NoMore))
-  unfolding FindsLeft
-  for_is name r r' f er = subst (λ z. IsVariable (source_of b) w z (stored_left (source_of b) (Named name NoMore))) er f
+  abbrev Found : Identifier → Left → Type 0
+  Found name r = IsWhole (source_of b) w (Named name NoMore) r (stored_left (source_of b) (Named name NoMore))
 
-  pub write_for_unbuilt : (a c : DraftOf) (name : Identifier) (o : Option ℕ) (es : List syntax.Element) (z : Stmt) (r : Left) → FindsLeft b w name.token [] r → r ≡ left.NotBuilt → c ≡ given_up a → WritesFor b w a c name o es z
+  for_is : (name : Identifier) (r r' : Left) → FindsNamed b w name [] r → r ≡ r' → Found name r'
+  unfolding FindsNamed
+  for_is name r r' f er = subst (λ z. Found name z) er f
+
+  no_for : (s : Source) (o : Option ℕ) (t0 : Stored) (es : List syntax.Element) (Body : Type 0) → ForBuilt s w.text (variable_stored t0 o) es Body → LeftBuilt s w.text t0
+  no_for s o (InCell home key) es Body h = h.0
+  no_for s o (AtAttribute e) es Body h = h.0
+  no_for s o (AtAddress d es line) es' Body h = absurd h
+  no_for s o (ToReference e line) es' Body h = absurd h
+  no_for s o (ToText e line) es' Body h = absurd h
+  no_for s o (ToResult home line) es' Body h = absurd h
+  no_for s o NotBuilt es Body h = absurd h
+
+  pub write_for_unbuilt : (a c : DraftOf) (name : Identifier) (o : Option ℕ) (es : List syntax.Element) (z : Stmt) (r : Left) → FindsNamed b w name [] r → r ≡ left.NotBuilt → c ≡ given_up a → WritesFor b w a c name o es z
   unfolding WritesFor
-  write_for_unbuilt a c name o es z r f er ec = emits_nothing w a c _ _ (λ h. for_is name r left.NotBuilt f er (no_for (source_of b) w.text o _ _ _ h)) ec
+  write_for_unbuilt a c name o es z r f er ec = emits_nothing w a c _ _ (λ h. for_is name r left.NotBuilt f er (no_for (source_of b) o _ es _ h)) ec
 
-  pub write_for_text : (a c : DraftOf) (name : Identifier) (o : Option ℕ) (es : List syntax.Element) (z : Stmt) (r : Left) → FindsLeft b w name.token [] r → r ≡ left.Text → c ≡ given_up a → WritesFor b w a c name o es z
+  pub write_for_text : (a c : DraftOf) (name : Identifier) (o : Option ℕ) (es : List syntax.Element) (z : Stmt) (r : Left) → FindsNamed b w name [] r → r ≡ left.Text → c ≡ given_up a → WritesFor b w a c name o es z
   write_for_text a c name o es z r f er ec = absurd (for_is name r left.Text f er)
 
-  pub write_for_result : (a c : DraftOf) (name : Identifier) (o : Option ℕ) (es : List syntax.Element) (z : Stmt) (level slot : ℕ) (r : Left) → FindsLeft b w name.token [] r → r ≡ left.Result level slot → c ≡ given_up a → WritesFor b w a c name o es z
+  pub write_for_result : (a c : DraftOf) (name : Identifier) (o : Option ℕ) (es : List syntax.Element) (z : Stmt) (level slot : ℕ) (r : Left) → FindsNamed b w name [] r → r ≡ left.Result level slot → c ≡ given_up a → WritesFor b w a c name o es z
   write_for_result a c name o es z level slot r f er ec = absurd (for_is name r (left.Result level slot) f er)
 
-  pub write_for_element : (a c : DraftOf) (name : Identifier) (o : Option ℕ) (es : List syntax.Element) (z : Stmt) (token : TokenNo) (d : DeclNo) (xs : Bor (List Expr)) (r : Left) → FindsLeft b w name.token [] r → r ≡ left.Element token d xs → c ≡ given_up a → WritesFor b w a c name o es z
+  pub write_for_reference : (a c : DraftOf) (name : Identifier) (o : Option ℕ) (es : List syntax.Element) (z : Stmt) (r : Left) → FindsNamed b w name [] r → r ≡ left.Reference → c ≡ given_up a → WritesFor b w a c name o es z
+  write_for_reference a c name o es z r f er ec = absurd (for_is name r left.Reference f er)
+
+  pub write_for_element : (a c : DraftOf) (name : Identifier) (o : Option ℕ) (es : List syntax.Element) (z : Stmt) (token : TokenNo) (d : DeclNo) (xs : Bor (List Expr)) (r : Left) → FindsNamed b w name [] r → r ≡ left.Element token d xs → c ≡ given_up a → WritesFor b w a c name o es z
   unfolding WritesFor
   write_for_element a c name o es z token d xs r f er ec =
       let l = for_is name r (left.Element token d xs) f er in
-      emits_nothing w a c _ _ (λ h. subst (λ m. ForBuilt (source_of b) w.text (Some o) m es (StatementBuilt (source_of b) w.text (statement_syntax z))) l h) ec
+      emits_nothing w a c _ _ (λ h. subst (λ m. ForBuilt (source_of b) w.text (variable_stored m o) es (StatementBuilt (source_of b) w.text (statement_syntax z))) l h) ec
 
-  pub write_for_cell : (a c : DraftOf) (name : Identifier) (o : Option Line) (es : List syntax.Element) (z : Stmt) (level slot : ℕ) (r : Left) → FindsLeft b w name.token [] r → r ≡ left.Cell level slot → WritesList b w a c (record { level = level; slot = slot; assigned = o }) es z → WritesFor b w a c name (option_map line_in o) es z
-  unfolding WritesFor WritesList
+  pub write_for_cell : (a c : DraftOf) (name : Identifier) (o : Option Line) (es : List syntax.Element) (z : Stmt) (level slot : ℕ) (r : Left) → FindsNamed b w name [] r → r ≡ left.Cell level slot → WritesList b w a c (target.Cell level slot o) es z → WritesFor b w a c name (option_map line_in o) es z
+  unfolding WritesFor
   write_for_cell a c name o es z level slot r f er g =
-      let s = source_of b in
       let l = for_is name r (left.Cell level slot) f er in
-      let home = l.0 in
-      let key = l.1 in
-      let built : KeyBuilt s w.text home key = l.3 in
-      let variable : Variable = record { text = home; key = key; assigned = option_map line_in o } in
-      subst (λ m. Emits w a c (ForBuilt s w.text (Some (option_map line_in o)) m es (StatementBuilt s w.text (statement_syntax z))) (λ final site p q. ForAt s final site 0 (Some (option_map line_in o)) m (is_empty (statement_syntax z)) es (λ site. StmAt s final site 0 (statement_syntax z)) p q)) (sym l.2)
-      (emits_as w _ _ _ _ a c (λ h. h.1) (λ h. (built, h)) (λ final site p q stands _ k. (here b w s home site.text stands built.inside, cell_there s home key built.has, k)) (g variable (record { level = l.4; slot = l.5; assigned = refl })))
+      subst (λ m. Fors a c (variable_stored m (option_map line_in o)) es (statement_syntax z)) (sym l.2) (for_over a c (target.Cell level slot o) (OfCell l.0 l.1 (option_map line_in o)) es z (l.4, l.5, refl, l.3) g)
+
+  pub write_for_attribute : (a c : DraftOf) (name : Bor Identifier) (o : Option Line) (es : List syntax.Element) (z : Stmt) (r : Left) → FindsNamed b w name.now [] r → r ≡ left.Attribute → WritesList b w a c (target.Place name o) es z → WritesFor b w a c name.now (option_map line_in o) es z
+  unfolding WritesFor
+  write_for_attribute a c name o es z r f er g =
+      let l = for_is name.now r left.Attribute f er in
+      subst (λ m. Fors a c (variable_stored m (option_map line_in o)) es (statement_syntax z)) (sym l) (for_over a c (target.Place name o) (OfPlace (Named name.now NoMore) (option_map line_in o)) es z (refl, refl) g)
 
   alone : {A : Type 0} (xs : List A) (x : A) → length xs ≡ 1 → slice_get xs 0 ≡ Some x → xs ≡ x ∷ []
   alone [] x one at = absurd (omega (arith, one))
@@ -405,14 +489,14 @@ module _ (b : Bound) (w : Spot) where
   unfolding WritesList WritesElementOf
   write_one_of a c es z t0 x on m em one at f variable k =
       let s = source_of b in
-      subst (λ m. Emits w a c (ListBuilt s w.text variable.assigned m (StatementBuilt s w.text (statement_syntax z))) (λ final site p q. ListAt s final site 0 variable (is_empty (statement_syntax z)) m (λ site. StmAt s final site 0 (statement_syntax z)) p q)) (sym (alone es x (sym em ∙ one) at))
-      (f variable k (omega arith)).2
+      subst (λ m. Emits w a c (ListOver s w.text variable m (StatementBuilt s w.text (statement_syntax z))) (λ final site p q. ListAt s final site 0 variable (is_empty (statement_syntax z)) m (λ site. StmAt s final site 0 (statement_syntax z)) p q)) (sym (alone es x (sym em ∙ one) at))
+      (emits_as w _ _ _ _ a c (λ h. (h.0.0, h.1)) (λ h. ((h.0, tt), h.1)) (λ final site p q _ _ r. r) (f variable k (omega arith)).2)
 
   pub write_no_element : (a c : DraftOf) (es : List syntax.Element) (z : Stmt) (t0 : Target) (m : ℕ) → m ≡ length es → m ≡ 0 → c ≡ given_up a → WritesList b w a c t0 es z
   unfolding WritesList
   write_no_element a c es z t0 m em none ec variable k = emits_nothing w a c _ _ (never es (sym em ∙ none)) ec
     where
-      never : (es : List syntax.Element) → length es ≡ 0 → ListBuilt (source_of b) w.text variable.assigned es (StatementBuilt (source_of b) w.text (statement_syntax z)) → ⊥
+      never : (es : List syntax.Element) → length es ≡ 0 → ListOver (source_of b) w.text variable es (StatementBuilt (source_of b) w.text (statement_syntax z)) → ⊥
       never [] none h = h
       never (x ∷ xs) none h = absurd (omega (arith, none))
 
@@ -426,18 +510,6 @@ module _ (b : Bound) (w : Spot) where
   pub turn_sent : (a c : DraftOf) (z : Stmt) (k : Option Shared) (m : Shared) (on : ℕ) → k ≡ Some m → WritesSent b w a c m.start m.number → on ≡ length c.instrs → WritesTurn b w a c z k on
   unfolding WritesTurn WritesSent
   turn_sent a c z k m on is f at = subst (λ n. (on ≡ length c.instrs) × (begins n ≤ length a.instrs → Emits w a c (TurnBuilt (source_of b) w.text (statement_syntax z) n) (λ final site p q. TurnOf (source_of b) final site w.used (statement_syntax z) n on p q))) (sym is) (at, λ le. emits_here w _ _ _ a c (λ final site stands r. (r, sym at)) (f le))
-
-  store_of : (s : Source) (k : Variable) (t0 : Target) (x : Instr) → Controls s t0 k → x ≡ i.Store (pos t0.level) (pos t0.slot) → x ≡ i.Store (pos (level_of s k.text)) (pos (slot_of s k.text k.key))
-  store_of s k t0 x c ex = ex ∙ ap (λ z. i.Store (pos z) (pos t0.slot)) c.level ∙ ap (λ z. i.Store (pos (level_of s k.text)) (pos z)) c.slot
-
-  load_of : (s : Source) (k : Variable) (t0 : Target) (x : Instr) → Controls s t0 k → x ≡ i.Load (pos t0.level) (pos t0.slot) → x ≡ i.Load (pos (level_of s k.text)) (pos (slot_of s k.text k.key))
-  load_of s k t0 x c ex = ex ∙ ap (λ z. i.Load (pos z) (pos t0.slot)) c.level ∙ ap (λ z. i.Load (pos (level_of s k.text)) (pos z)) c.slot
-
-  abbrev StoresAt : Source → Variable → Place
-  StoresAt s k final site p q = At final (i.Store (pos (level_of s k.text)) (pos (slot_of s k.text k.key))) 0 p q
-
-  emits_store : (s : Source) (a c : DraftOf) (k : Variable) (x : Instr) → x ≡ i.Store (pos (level_of s k.text)) (pos (slot_of s k.text k.key)) → c ≡ with_instr a x 0 → Emits w a c ⊤ (StoresAt s k)
-  emits_store s a c k x ex ec = emits_at w a c (i.Store (pos (level_of s k.text)) (pos (slot_of s k.text k.key))) 0 (ec ∙ ap (λ z. with_instr a z 0) ex) (λ z. cc) refl
 
   pub write_once : (c0 c1 c2 c3 : DraftOf) (t0 : Target) (x : Element) (h : Bor Expr) (z : Stmt) (turn : Option Shared) (on : ℕ) → x ≡ view.Once h → c1 ≡ with_instr c0 i.Tick 0 → WritesGiven b w c1 c2 t0 h.now → WritesTurn b w c2 c3 z turn on → WritesElementOf b w c0 c3 t0 (view_syntax x) z turn on
   unfolding WritesGiven WritesTurn WritesElementOf
@@ -475,7 +547,7 @@ module _ (b : Bound) (w : Spot) where
       let at = j.0 in (
         omega (arith, at, n1, n2, n4, n5, n6),
         omega (arith, at, n7, n8),
-        emits_as w _ _ _ _ c0 c8 (λ o. o) (λ o. o)
+        emits_as w _ _ _ _ c0 c8 (λ o. (((o.0.0, o.0.1.0), o.0.1.1), o.1)) (λ o. ((o.0.0.0, (o.0.0.1, o.0.1)), o.1))
             (λ final site p q _ _ r. record { x = r.test.0; z = r.test.2.0; u = r.y; b = r.z; w = r.v; tick = r.test.1; given = r.test.2.1; test = r.test.2.2; jump = r.jump; leads = r.leads; turn = r.body; «back» = r.«back»; behind = r.behind })
             (emits_cycle w _ _ _ (λ o site p q. TurnOf s o site w.used (statement_syntax z) turn on p q) c0 c4 c5 c6 c7 c8 start end jump es
             (tick_then _ _ c0 c1 c4 e1
@@ -484,33 +556,60 @@ module _ (b : Bound) (w : Spot) where
       ))
 
   -- steps are over values
-  pub write_no_step : (a c : DraftOf) (t0 : Target) (x : Element) (h m o : Bor Expr) (token : TokenNo) (z : Stmt) (turn : Option Shared) (on : ℕ) (r : Bool) → x ≡ view.Step h token m o → r ≡ is_some t0.assigned → r ≡ true → c ≡ given_up a → on ≡ length c.instrs → WritesElementOf b w a c t0 (view_syntax x) z turn on
-  unfolding WritesElementOf
-  write_no_step a c t0 x h m o token z turn on r is er yes' ec at =
-      element_as a c t0 (view_syntax x) (syntax.Step (syntax_of h.now) token.0 (syntax_of m.now) (syntax_of o.now)) z turn on (ap view_syntax is) (λ k ct le.
-      let none = emits_nothing w a c _ _ (λ q. no_values t0.assigned k.assigned ct.assigned (sym er ∙ yes') q.0.0) ec in
-      let n1 = longer w a c _ _ none in (omega (arith, at, n1), omega (arith, at), none))
-    where
-      no_values : (o : Option Line) (u : Option ℕ) → option_map line_in o ≡ u → is_some o ≡ true → TakesValues u → ⊥
-      no_values None u e s q = cc
-      no_values (Some line) None e s q = cc
-      no_values (Some line) (Some n) e s q = q
+  steps_taken : (t0 : Target) (v : Variable) → Controls (source_of b) w.text t0 v → takes_values t0 ≡ true → StepsBuilt v × TakesValues v
+  steps_taken (target.Cell level slot None) (OfCell home key None) k e = (tt, refl)
+  steps_taken (target.Cell level slot None) (OfCell home key (Some line)) k e = let f = k.2 in absurd (cc)
+  steps_taken (target.Cell level slot (Some line)) v k e = absurd (cc)
+  steps_taken (target.Cell level slot None) (OfPlace x line) k e = absurd k
+  steps_taken (target.Cell level slot None) (OfReference x line) k e = absurd k
+  steps_taken (target.Place name None) (OfPlace x None) k e = (tt, refl)
+  steps_taken (target.Place name None) (OfPlace x (Some line)) k e = let f = k.1 in absurd (cc)
+  steps_taken (target.Place name (Some line)) v k e = absurd (cc)
+  steps_taken (target.Place name None) (OfCell home key line) k e = absurd k
+  steps_taken (target.Place name None) (OfReference x line) k e = absurd k
+  steps_taken (target.Reference name at) v k e = absurd (cc)
 
-  pub write_step : (c0 c1 c2 c3 c4 c5 c6 c7 c8 c9 c10 c11 c12 c13 c14 c15 c16 : DraftOf) (t0 : Target) (line : ℕ) (x : Element) (h m o : Bor Expr) (token : TokenNo) (z : Stmt) (n1 n2 n3 n4 : Instr) (test end : ℤ) (jump : ℕ) (turn : Option Shared) (on : ℕ) (r0 : Bool) → x ≡ view.Step h token m o → r0 ≡ is_some t0.assigned → r0 ≡ false
-      → Writes b w 0 c0 c1 h.now → n1 ≡ i.Store (pos t0.level) (pos t0.slot) → c2 ≡ with_instr c1 n1 0 → Writes b w 0 c2 c3 m.now → test ≡ pos (length c3.instrs) → c4 ≡ with_instr c3 i.Tick 0 → n2 ≡ i.Load (pos t0.level) (pos t0.slot) → c5 ≡ with_push c4 1 n2 0 → Writes b w 2 c5 c6 o.now → c7 ≡ with_instr c6 i.StepTest 0
-      → jump ≡ length c7.instrs → c8 ≡ with_hole c7 → WritesTurn b w c8 c9 z turn on → Writes b w 0 c9 c10 m.now → c11 ≡ with_push c10 1 i.Dup 0 → n3 ≡ i.Load (pos t0.level) (pos t0.slot) → c12 ≡ with_push c11 2 n3 0 → line ≡ line_at (source_of b) token.0 → c13 ≡ with_instr c12 i.Add line → n4 ≡ i.Store (pos t0.level) (pos t0.slot) → c14 ≡ with_instr c13 n4 0
+  no_steps : (t0 : Target) (v : Variable) → Controls (source_of b) w.text t0 v → takes_values t0 ≡ false → StepsBuilt v → ⊥
+  no_steps (target.Cell level slot (Some line)) (OfCell home key None) k e h = let f = k.2 in cc
+  no_steps (target.Cell level slot (Some line)) (OfCell home key (Some n)) k e h = h
+  no_steps (target.Cell level slot None) v k e h = cc
+  no_steps (target.Cell level slot (Some line)) (OfPlace x n) k e h = k
+  no_steps (target.Cell level slot (Some line)) (OfReference x n) k e h = k
+  no_steps (target.Place name (Some line)) (OfPlace x None) k e h = let f = k.1 in cc
+  no_steps (target.Place name (Some line)) (OfPlace x (Some n)) k e h = h
+  no_steps (target.Place name None) v k e h = cc
+  no_steps (target.Place name (Some line)) (OfCell home key n) k e h = k
+  no_steps (target.Place name (Some line)) (OfReference x n) k e h = k
+  no_steps (target.Reference name at) (OfReference x n) k e h = h
+  no_steps (target.Reference name at) (OfCell home key n) k e h = k
+  no_steps (target.Reference name at) (OfPlace x n) k e h = k
+
+  pub write_no_step : (a c : DraftOf) (t0 : Target) (x : Element) (h m o : Bor Expr) (token : TokenNo) (z : Stmt) (turn : Option Shared) (on : ℕ) (r : Bool) → x ≡ view.Step h token m o → r ≡ takes_values t0 → r ≡ false → c ≡ given_up a → on ≡ length c.instrs → WritesElementOf b w a c t0 (view_syntax x) z turn on
+  unfolding WritesElementOf
+  write_no_step a c t0 x h m o token z turn on r is er no0 ec at =
+      element_as a c t0 (view_syntax x) (syntax.Step (syntax_of h.now) token.0 (syntax_of m.now) (syntax_of o.now)) z turn on (ap view_syntax is) (λ k ct le.
+      let none = emits_nothing w a c _ _ (λ q. no_steps t0 k ct (sym er ∙ no0) q.0.1.0) ec in
+      let n1 = longer w a c _ _ none in (omega (arith, at, n1), omega (arith, at), none))
+
+  pub write_step : (c0 c1 c2 c3 c4 c5 c6 c7 c8 c9 c10 c11 c12 c13 c14 c15 c16 : DraftOf) (t0 : Target) (line : ℕ) (x : Element) (h m o : Bor Expr) (token : TokenNo) (z : Stmt) (test end : ℤ) (jump : ℕ) (turn : Option Shared) (on : ℕ) (r0 : Bool) → x ≡ view.Step h token m o → r0 ≡ takes_values t0 → r0 ≡ true
+      → Writes b w 0 c0 c1 h.now → WritesStored b w 0 c1 c2 t0 → Writes b w 0 c2 c3 m.now → test ≡ pos (length c3.instrs) → c4 ≡ with_instr c3 i.Tick 0 → WritesLoaded b w 1 c4 c5 t0 → Writes b w 2 c5 c6 o.now → c7 ≡ with_instr c6 i.StepTest 0
+      → jump ≡ length c7.instrs → c8 ≡ with_hole c7 → WritesTurn b w c8 c9 z turn on → Writes b w 0 c9 c10 m.now → c11 ≡ with_push c10 1 i.Dup 0 → WritesLoaded b w 2 c11 c12 t0 → line ≡ line_at (source_of b) token.0 → c13 ≡ with_instr c12 i.Add line → WritesStored b w 1 c13 c14 t0
       → c15 ≡ with_instr c14 (i.Jump test) 0 → end ≡ pos (length c15.instrs) → c16 ≡ filled_in c15 jump (i.JumpF end) → WritesElementOf b w c0 c16 t0 (view_syntax x) z turn on
-  unfolding Writes Rattle.codegen_expr.specs.Emit.Puts WritesTurn WritesElementOf
-  write_step c0 c1 c2 c3 c4 c5 c6 c7 c8 c9 c10 c11 c12 c13 c14 c15 c16 t0 line x h m o token z n1 n2 n3 n4 test end jump turn on r0 is er0 no0 f1 en1 e2 f3 et e4 en2 e5 f6 e7 ej e8 f9 f10 e11 en3 e12 el13 e13 en4 e14 e15 ee e16 =
+  unfolding Writes Rattle.codegen_expr.specs.Emit.Puts WritesTurn WritesElementOf WritesStored WritesLoaded
+  write_step c0 c1 c2 c3 c4 c5 c6 c7 c8 c9 c10 c11 c12 c13 c14 c15 c16 t0 line x h m o token z test end jump turn on r0 is er0 yes0 f1 s1 f3 et e4 s2 f6 e7 ej e8 f9 f10 e11 s3 el13 e13 s4 e15 ee e16 =
       let s = source_of b in
       let at = line_at s token.0 in
       element_as c0 c16 t0 (view_syntax x) (syntax.Step (syntax_of h.now) token.0 (syntax_of m.now) (syntax_of o.now)) z turn on (ap view_syntax is) (λ k ct le.
-      let takes : k.assigned ≡ None = sym ct.assigned ∙ ap (option_map line_in) (no_line t0.assigned (sym er0 ∙ no0)) in
+      let takes = steps_taken t0 k ct (sym er0 ∙ yes0) in
+      let v1 = s1 k ct in
+      let v2 = s2 k ct in
+      let v3 = s3 k ct in
+      let v4 = s4 k ct in
       let t1 = longer w c0 c1 _ _ f1 in
-      let t2 = longer_put c1 c2 n1 0 e2 in
+      let t2 = longer w c1 c2 _ _ v1 in
       let t3 = longer w c2 c3 _ _ f3 in
       let t4 = longer_put c3 c4 i.Tick 0 e4 in
-      let t5 = longer_push c4 c5 1 n2 0 e5 in
+      let t5 = longer w c4 c5 _ _ v2 in
       let t6 = longer w c5 c6 _ _ f6 in
       let t7 = longer_put c6 c7 i.StepTest 0 e7 in
       let t8 = longer_hole c7 c8 e8 in
@@ -518,18 +617,17 @@ module _ (b : Bound) (w : Spot) where
       let t9 = longer w c8 c9 _ _ go in
       let t10 = longer w c9 c10 _ _ f10 in
       let t11 = longer_push c10 c11 1 i.Dup 0 e11 in
-      let t12 = longer_push c11 c12 2 n3 0 e12 in
+      let t12 = longer w c11 c12 _ _ v3 in
       let t13 = longer_put c12 c13 i.Add line e13 in
-      let t14 = longer_put c13 c14 n4 0 e14 in
+      let t14 = longer w c13 c14 _ _ v4 in
       let t15 = longer_put c14 c15 (i.Jump test) 0 e15 in
       let t16 = as_long c15 c16 jump (i.JumpF end) e16 in
-      let there = f9.0 in
-      let load = i.Load (pos (level_of s k.text)) (pos (slot_of s k.text k.key)) in (
-        omega (arith, there, t1, t2, t3, t4, t5, t6, t7, t8, t9),
-        omega (arith, there, t10, t11, t12, t13, t14, t15, t16),
+      let there' = f9.0 in (
+        omega (arith, there', t1, t2, t3, t4, t5, t6, t7, t8, t9),
+        omega (arith, there', t10, t11, t12, t13, t14, t15, t16),
         emits_as w _ _ _ _ c0 c16
-            (λ j. (j.0.1, (tt, (j.0.2, ((tt, (j.0.3, tt)), (j.1, (j.0.2, (tt, (tt, (tt, tt))))))))))
-            (λ j. ((subst TakesValues (sym takes) tt, j.0, j.1.1.0, j.1.1.1.0.1.0), j.1.1.1.1.0))
+            (λ j. (j.0.1.1, (j.0.0, (j.0.1.2, ((j.0.0, (j.0.1.3, tt)), (j.1, (j.0.1.2, (tt, (j.0.0, (tt, j.0.0))))))))))
+            (λ j. ((j.1.0, (takes.0, j.0, j.1.1.0, j.1.1.1.0.1.0)), j.1.1.1.1.0))
             (λ final site p q _ _ r.
             let first = r.2.2.2 in
             record {
@@ -547,9 +645,9 @@ module _ (b : Bound) (w : Spot) where
               l = first.body.2.2.2.0;
               m = first.body.2.2.2.2.0;
               w = first.v;
-              takes = takes;
+              takes = takes.1;
               first = r.1;
-              stored = record { line = 0; is = r.2.1 };
+              stored = r.2.1;
               first_step = r.2.2.1;
               tick = first.test.1;
               variable = first.test.2.1;
@@ -562,29 +660,24 @@ module _ (b : Bound) (w : Spot) where
               again = first.body.2.2.1;
               old = first.body.2.2.2.1;
               sum = first.body.2.2.2.2.1;
-              raised = record { line = 0; is = first.body.2.2.2.2.2 };
+              raised = first.body.2.2.2.2.2;
               «back» = first.«back»;
               behind = first.behind;
             })
             (emits_then w _ _ (λ j site. ExprAt s j site 0 (syntax_of h.now)) _ c0 c1 c16 f1
-            (emits_then w ⊤ _ (StoresAt s k) _ c1 c2 c16 (emits_store s c1 c2 k n1 (store_of s k t0 n1 ct en1) e2)
+            (emits_then w _ _ (λ j site p q. StoresVariable s j site 0 k p q) _ c1 c2 c16 v1
             (emits_then w _ _ (λ j site. ExprAt s j site 0 (syntax_of m.now)) _ c2 c3 c16 f3
             (emits_cycle w _ _ _ _ c3 c7 c8 c14 c15 c16 test end jump et
             (tick_then _ _ c3 c4 c7 e4
-            (emits_then w ⊤ _ (λ j site p q. Pushes j site 1 load p q) _ c4 c5 c7 (emits_push w c4 c5 1 load 0 (e5 ∙ ap (λ j. with_push c4 1 j 0) (load_of s k t0 n2 ct en2)) (λ j. cc) refl)
+            (emits_then w _ _ (λ j site p q. LoadsVariable s j site 1 k p q) _ c4 c5 c7 v2
             (emits_then w _ ⊤ (λ j site. ExprAt s j site 2 (syntax_of o.now)) (λ j site p q. At j i.StepTest 0 p q) c5 c6 c7 f6 (emits_at w c6 c7 i.StepTest 0 e7 (λ j. cc) refl))))
             ej e8
             (emits_then w _ _ (λ j site p q. TurnOf s j site w.used (statement_syntax z) turn on p q) _ c8 c9 c14 go
             (emits_then w _ _ (λ j site. ExprAt s j site 0 (syntax_of m.now)) _ c9 c10 c14 f10
             (emits_then w ⊤ _ (λ j site p q. Pushes j site 1 i.Dup p q) _ c10 c11 c14 (emits_push w c10 c11 1 i.Dup 0 e11 (λ j. cc) refl)
-            (emits_then w ⊤ _ (λ j site p q. Pushes j site 2 load p q) _ c11 c12 c14 (emits_push w c11 c12 2 load 0 (e12 ∙ ap (λ j. with_push c11 2 j 0) (load_of s k t0 n3 ct en3)) (λ j. cc) refl)
-            (emits_then w ⊤ ⊤ (λ j site p q. At j i.Add at p q) (StoresAt s k) c12 c13 c14 (emits_at w c12 c13 i.Add at (e13 ∙ ap (λ j. with_instr c12 i.Add j) el13) (λ j. cc) refl)
-            (emits_store s c13 c14 k n4 (store_of s k t0 n4 ct en4) e14))))))
+            (emits_then w _ _ (λ j site p q. LoadsVariable s j site 2 k p q) _ c11 c12 c14 v3
+            (emits_then w ⊤ _ (λ j site p q. At j i.Add at p q) (λ j site p q. StoresVariable s j site 1 k p q) c12 c13 c14 (emits_at w c12 c13 i.Add at (e13 ∙ ap (λ j. with_instr c12 i.Add j) el13) (λ j. cc) refl) v4)))))
             e15 ee e16)))),
       ))
-    where
-      no_line : (o : Option Line) → is_some o ≡ false → o ≡ None
-      no_line None e = refl
-      no_line (Some line) e = absurd (cc)
 
-pub ruleset writes = (write_empty, write_block, write_call, write_assigned, write_when, write_while, write_for_texts, write_for_values, write_references, write_objects, write_prefixed, write_inner, write_inspect, write_inspect_when, write_activation, write_body, write_nowhere, write_outermost, write_elsewhere, write_entry, write_named_call, write_taken_call, some_taken, write_closed_call, write_other_call, write_dropped, write_kept, write_lost, write_stays, write_single, write_not_single, write_for_unbuilt, write_for_text, write_for_result, write_for_element, write_for_cell, write_one_of, write_no_element, write_once, write_while_element, write_no_step, turn_whole, turn_sent)
+pub ruleset writes = (write_empty, write_block, write_call, write_assigned, write_when, write_while, write_for_texts, write_for_values, write_references, write_objects, write_prefixed, write_inner, write_connects, write_arms, write_activation, write_body, write_nowhere, write_outermost, write_elsewhere, write_entry, write_named_call, write_taken_call, some_taken, write_closed_call, write_new_call, write_other_call, write_dropped, write_kept, write_lost, write_stays, write_single, write_not_single, write_for_unbuilt, write_for_text, write_for_result, write_for_reference, write_for_element, write_for_cell, write_for_attribute, write_one_of, write_no_element, write_once, write_while_element, write_no_step, write_step, turn_whole, turn_sent)

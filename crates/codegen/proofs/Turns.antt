@@ -16,13 +16,14 @@ use Rattle.codegen_expr.specs.Drafts.{Becomes, DraftOf, Emits, filled_in, with_h
 use Rattle.codegen_expr.specs.Sites.{Ahead, Is, Site, lined}
 use Rattle.codegen_expr.proofs.Pieces.{becomes_filled, becomes_later, emits_as, emits_inside, emits_temp, emits_then, fronts_set, fronts_then, get_front, later_emits, run_set, set_same}
 use Rattle.codegen.specs.declared.lists.Shared.{Shared}
-use Rattle.codegen.specs.BuiltProgram.{ElementsBuilt, StatementBuilt}
+use Rattle.codegen.specs.BuiltProgram.{StatementBuilt}
 use Rattle.codegen.specs.CodeFor.{ElementsAt, ListAt, OneElementAt, ReturnsAt, TurnAt, Variable, is_empty}
+use Rattle.codegen.specs.EmitTargets.{ElementsOver}
 use Rattle.codegen.specs.CodeStm.{StmAt}
 use Rattle.codegen.specs.Emit.{WritesElementOf, WritesList, WritesStatement}
 use Rattle.codegen.specs.EmitShared.{OpenAt, OwesTurns, PutsTurn, Turns, WritesInside, WritesReturns, WritesTurns, hole_before, holes_from}
 use Rattle.codegen.proofs.Holes.{as_long, emits_hole, hole_there, longer, longer_hole, open_front, open_set, turns_more, turns_none}
-use Rattle.codegen.specs.declared.statement.Target.{Target}
+use Rattle.codegen.specs.declared.targets.Target.{Target}
 use Rattle.codegen.proofs.Views.{from_get, two_left}
 
 -- the same element with other turns
@@ -43,15 +44,15 @@ drop_get (x ∷ xs) (suc k) on rs e = drop_get xs k on rs e
 first_tick : (s : Source) (code : CodeOf) (site : Site) (n : ℕ) (a : Statement) (p q : ℕ) → is_empty a ≡ false → StmAt s code site n a p q → (u : ℕ) × Is code i.Tick p u
 first_tick s code site n (syntax.Empty token) p q e r = absurd (cc)
 first_tick s code site n (syntax.Compound k) p q e r = (r.0, r.1)
-first_tick s code site n (syntax.Prefixed k es m) p q e r = absurd r
+first_tick s code site n (syntax.Prefixed k es m) p q e r = (r.0, r.1)
 first_tick s code site n (syntax.Inner token) p q e r = absurd r
 first_tick s code site n (syntax.Call k) p q e r = (r.0, r.2)
 first_tick s code site n (syntax.Assign left rs) p q e r = (r.0, r.1)
 first_tick s code site n (syntax.Choose token c a k) p q e r = (r.0, r.1)
 first_tick s code site n (syntax.Repeat token c a) p q e r = (r.0, r.3)
 first_tick s code site n (syntax.For token x sign assign es a) p q e r = (r.0, r.1)
-first_tick s code site n (syntax.Inspect token object opening a end otherwise) p q e r = absurd r
-first_tick s code site n (syntax.InspectWhen token object arms otherwise) p q e r = absurd r
+first_tick s code site n (syntax.Inspect token object opening a end otherwise) p q e r = (r.0, r.1)
+first_tick s code site n (syntax.InspectWhen token object arms otherwise) p q e r = (r.0, r.2)
 first_tick s code site n (syntax.Activate token k process schedule) p q e r = absurd r
 
 shared_at : (s : Source) (v : Variable) (x y : Element) (xs : List Element) (a : Statement) → is_empty a ≡ false → (temp : ℕ) (final : CodeOf) (site : Site) (p q : ℕ)
@@ -144,7 +145,7 @@ module _ (b : Bound) (w : Spot) where
       let n4 : length c3.instrs ≤ length c4.instrs = longer w c3 c4 _ _ back.1 in
       let n5 : length c5.instrs ≡ length c4.instrs = as_long c4 c5 over _ e5' in
       let open_5 : OpenAt c5.instrs (length c3.instrs) hs = subst (λ l. OpenAt l (length c3.instrs) hs) (sym ei) (open_set c4.instrs over (length c3.instrs) hs jump (omega (arith, eo, n2, n3)) back.0) in
-      let r = subst (λ n. OpenAt c5.instrs (length c3.instrs) (holes_from n 0 all) → Turns w c5 c6 (holes_from n 0 all) (length c3.instrs) (ElementsBuilt s w.text v.assigned all) (λ final site rs p q. (length rs ≡ length all) × ((every : List ℕ) → drop 0 every ≡ rs → ElementsAt s final site 0 v 0 all (TurnAt s final site 0 w.used start every) p q))) ec (turns_ v ct (length c3.instrs) (omega (arith, es, n3, n4, n5))) open_5 in
+      let r = subst (λ n. OpenAt c5.instrs (length c3.instrs) (holes_from n 0 all) → Turns w c5 c6 (holes_from n 0 all) (length c3.instrs) (ElementsOver s w.text v all) (λ final site rs p q. (length rs ≡ length all) × ((every : List ℕ) → drop 0 every ≡ rs → ElementsAt s final site 0 v 0 all (TurnAt s final site 0 w.used start every) p q))) ec (turns_ v ct (length c3.instrs) (omega (arith, es, n3, n4, n5))) open_5 in
       let e14 = emits_then w ⊤ (Body × ⊤) _ _ c1 c2 c4 (emits_hole w c1 c2 e2) (emits_then w Body ⊤ _ _ c2 c3 c4 body back.1) in
       let open_2 : slice_get c4.instrs over ≡ Some (lined i.Halt 0) = ap (λ l. slice_get l over) (fronts_then c2.instrs c3.instrs c4.instrs (body.rest, body.front) (back.1.rest, back.1.front)).1 ∙ get_front c2.instrs (fronts_then c2.instrs c3.instrs c4.instrs (body.rest, body.front) (back.1.rest, back.1.front)).0 over (lined i.Halt 0) (ap (slice_get c2.instrs) eo ∙ hole_there c1 c2 e2) in
       let put : slice_get c5.instrs over ≡ Some jump = ap (λ l. slice_get l over) ei ∙ set_same c4.instrs over (lined i.Halt 0) jump open_2 in
@@ -157,12 +158,13 @@ module _ (b : Bound) (w : Spot) where
       let n6 = r.longer in
       emits_as w _ _ _ _ c0 c6 (λ h. (h.1, h.0)) (λ h. (h.1, h.0))
       (λ final site p q stands _ k. shared_at s v x y xs a some w.used final site p q (k.0, k.1, k.2.0, k.2.1, k.2.2, k.2.3, k.2.4, k.2.5, k.2.6, k.2.7, k.2.8, k.2.9))
-      (emits_temp w (Body × ElementsBuilt s w.text v.assigned all) (λ final site p q. (start : ℕ) × (d : ℕ) × (first : ℕ) × (targets : List ℕ) × (length targets ≡ length all) × Is final (i.Jump (pos first)) p start × Ahead final p first × StmAt s final (record site { used = suc w.used }) 0 a start d × ReturnsAt s final site 0 w.used 0 targets d first × ElementsAt s final site 0 v 0 all (TurnAt s final site 0 w.used start targets) first q) c0 c1 c6 w.used refl e1
+      (emits_temp w (Body × ElementsOver s w.text v all) (λ final site p q. (start : ℕ) × (d : ℕ) × (first : ℕ) × (targets : List ℕ) × (length targets ≡ length all) × Is final (i.Jump (pos first)) p start × Ahead final p first × StmAt s final (record site { used = suc w.used }) 0 a start d × ReturnsAt s final site 0 w.used 0 targets d first × ElementsAt s final site 0 v 0 all (TurnAt s final site 0 w.used start targets) first q) c0 c1 c6 w.used refl e1
       (record {
         rest = f16.0;
         front = f16.1;
         roomier = omega (arith, rm, room, rr);
         larger = omega (arith, sm, size, sr);
+        classed = r.classed ∙ ap (λ z. z.classes) e5' ∙ e14.classed;
         built = λ p h. r.built p.1 (whole ∙ e14.built (tt, (p.0, tt)) h);
         before = λ h. e14.before (sym whole ∙ r.before h);
         only = λ h. ((e14.only (sym whole ∙ r.before h)).1.0, r.only h);

@@ -1,136 +1,349 @@
 -- The whole code.
-use Rattle.std.proofs.Common.{◌≡◌, ◌<◌, ◌≤◌, ◌+◌, ℕ, zero, suc, Bool, true, false, List, [], ◌∷◌, length, Some, refl, sym, ap, ◌∙◌, subst, arith}
-use Rattle.std.specs.Prelude.{◌||◌, slice_get}
-use Rattle.std.specs.List.{list_any}
+use Rattle.std.proofs.Common.{◌≡◌, ◌<◌, ◌≤◌, ◌+◌, ℕ, zero, suc, Bool, true, false, List, [], ◌∷◌, ◌++◌, drop, length, map, Option, Some, None, refl, sym, ap, ◌∙◌, subst, arith, append_assoc, append-nil, length-append}
+use Rattle.std.specs.Prelude.{slice_get}
 use Rattle.sim_scope.specs.declared.bound.Bound.{Bound}
-use Rattle.sim_scope.specs.declared.types.BlockKind.{BlockKind as TableKind}
 use Rattle.sim_scope.specs.Source.{Source, source_of}
 use Rattle.sim_scope.specs.Tables.{BlockOf as TableBlock}
 use Rattle.sim_code.specs.Code.{BlockOf, CodeOf}
 use Rattle.sim_code.specs.Running.{AllRun}
+use Rattle.sim_meaning.specs.Attributes as Attributes
 use Rattle.sim_meaning.specs.Constants.{constants_of}
-use Rattle.sim_meaning.specs.Texts.{BlockText, Text, is_class_kind, text}
-use Rattle.codegen_expr.specs.CodeExpr.{block_number, blocks_before, is_connection}
-use Rattle.codegen_expr.specs.Drafts.{DraftOf}
-use Rattle.codegen.specs.BuiltProgram.{ProgramBuilt, is_special, texts_of}
-use Rattle.codegen.specs.Compiled.{CodeHas, Compiled, TextCode}
-use Rattle.codegen.specs.EmitProgram.{TextsCoded, WritesProgram}
+use Rattle.sim_meaning.specs.Texts.{BlockText, ClassText, ConnectionText, PrefixedText, ProcedureText, StandardText, Text, program_texts, text}
+use Rattle.program_texts.specs.declared.tree.TextTree.{TextTree}
+use Rattle.program_texts.specs.TextTrees.{AreTexts, text_in}
+use Rattle.text_tables.specs.Making.{ClassNumbers, classes_from}
+use Rattle.codegen_expr.specs.Sites.{block_number, blocks_before, class_in, counted_unless, is_connected, is_connection}
+use Rattle.codegen_expr.specs.Drafts.{DraftOf, class_of}
+use Rattle.codegen_expr.proofs.Pieces.{get_front}
+use Rattle.codegen.specs.declared.texts.Written.{Written}
+use Rattle.codegen.specs.Agrees.{Agrees}
+use Rattle.codegen.specs.BuiltProgram.{ProgramBuilt, TextBuilt, TextsBuilt, texts_of}
+use Rattle.codegen.specs.Compiled.{CodeHas, Compiled}
+use Rattle.codegen.specs.EmitProgram.{Begins, Ends, Next, TextEmitted, TextsEmitted, WritesProgram, WritesText, WritesTo, blocks_in, classes_in}
 
 -- ---- lists
-
-at_index : {A : Type 0} (xs : List A) (k : ℕ) → k < length xs → (x : A) × (slice_get xs k ≡ Some x)
-at_index [] k le = absurd (omega (arith, le))
-at_index (x ∷ xs) zero le = (x, refl)
-at_index (x ∷ xs) (suc k) le = at_index xs k (omega (arith, le))
 
 within : {A : Type 0} (xs : List A) (k : ℕ) (x : A) → slice_get xs k ≡ Some x → k < length xs
 within [] k x e = absurd (cc)
 within (y ∷ xs) zero x e = omega arith
 within (y ∷ xs) (suc k) x e = let h = within xs k x e in omega (arith, h)
 
+at_map : {A B : Type 0} (f : A → B) (xs : List A) (k : ℕ) (x : A) → slice_get xs k ≡ Some x → slice_get (map f xs) k ≡ Some (f x)
+at_map f [] k x e = absurd (cc)
+at_map f (y ∷ xs) zero x e = ap (option_map f) e
+  where
+    option_map : {A B : Type 0} (f : A → B) → Option A → Option B
+    option_map f None = None
+    option_map f (Some a) = Some (f a)
+at_map f (y ∷ xs) (suc k) x e = at_map f xs k x e
+
+drop_at : {A : Type 0} (xs : List A) (k : ℕ) (x : A) → slice_get xs k ≡ Some x → drop k xs ≡ x ∷ drop (suc k) xs
+drop_at [] k x e = absurd (cc)
+drop_at (y ∷ xs) zero x e = ap (λ z. first y z ∷ xs) e
+  where
+    first : {A : Type 0} → A → Option A → A
+    first y None = y
+    first y (Some z) = z
+drop_at (y ∷ xs) (suc k) x e = drop_at xs k x e
+
+drop_behind : {A : Type 0} (xs : List A) (k : ℕ) → length xs ≤ k → drop k xs ≡ []
+drop_behind [] zero le = refl
+drop_behind [] (suc k) le = refl
+drop_behind (x ∷ xs) zero le = absurd (omega (arith, le))
+drop_behind (x ∷ xs) (suc k) le = drop_behind xs k (omega (arith, le))
+
+split_at : {A : Type 0} (xs ys : List A) (k : ℕ) (x : A) → slice_get (xs ++ ys) k ≡ Some x → (k < length xs → slice_get xs k ≡ Some x) × (length xs ≤ k → (j : ℕ) × (k ≡ length xs + j) × (slice_get ys j ≡ Some x))
+split_at [] ys k x e = (λ le. absurd (omega (arith, le)), λ le. (k, omega arith, e))
+split_at (y ∷ xs) ys zero x e = (λ le. e, λ le. absurd (omega (arith, le)))
+split_at (y ∷ xs) ys (suc k) x e =
+    let r = split_at xs ys k x e in
+    (λ le. r.0 (omega (arith, le)), λ le. let q = r.1 (omega (arith, le)) in let same = q.1 in (q.0, omega (arith, same), q.2))
+
+class_behind : (xs : List ℕ) (y : ℕ) (ys : List ℕ) (n : ℕ) → n ≡ length xs → class_of (xs ++ (y ∷ ys)) n ≡ y
+class_behind [] y ys zero e = refl
+class_behind [] y ys (suc n) e = absurd (omega (arith, e))
+class_behind (x ∷ xs) y ys zero e = absurd (omega (arith, e))
+class_behind (x ∷ xs) y ys (suc n) e = class_behind xs y ys n (omega (arith, e))
+
+class_past : (xs : List ℕ) (n : ℕ) → length xs ≤ n → class_of xs n ≡ 0
+class_past [] n le = refl
+class_past (x ∷ xs) zero le = absurd (omega (arith, le))
+class_past (x ∷ xs) (suc n) le = class_past xs n (omega (arith, le))
+
 some_same : {A : Type 0} (x y : A) → Some x ≡ Some y → x ≡ y
 some_same x y e = cc
 
--- the code of the text at a place
-abbrev CodeOfText : Source → CodeOf → ℕ → Text → BlockOf → Type 0
-CodeOfText s code k x blk = list_any is_special s.tables.blocks ≡ false → text s k ≡ Some x → TextCode s code k x blk
+-- ---- one text more
 
-coded_at : (s : Source) (code : CodeOf) (xs : List Text) (bs : List BlockOf) (n j m : ℕ) (x : Text) → m ≡ n + j → TextsCoded s code n xs bs → slice_get xs j ≡ Some x → (blk : BlockOf) × (slice_get bs j ≡ Some blk) × CodeOfText s code m x blk
-coded_at s code [] bs n j m x e h is = absurd (cc)
-coded_at s code (y ∷ xs) [] n j m x e h is = absurd h
-coded_at s code (y ∷ xs) (c ∷ bs) n zero m x e h is =
-    let same : y ≡ x = some_same y x is in
-    let at : n ≡ m = omega (arith, e) in
-    (c, refl, subst (λ z. CodeOfText s code z x c) at (subst (λ z. CodeOfText s code n z c) same h.0))
-coded_at s code (y ∷ xs) (c ∷ bs) n (suc j) m x e h is = coded_at s code xs bs (suc n) j m x (omega (arith, e)) h.1 is
+abbrev one_unless : Bool → ℕ
+one_unless true = 0
+one_unless false = 1
 
--- ---- numbers of blocks
-
-plain_numbers : (bs : List TableBlock) (k : ℕ) → list_any is_special bs ≡ false → k ≤ length bs → blocks_before k bs ≡ k
-plain_numbers bs zero h le = refl
-plain_numbers [] (suc k) h le = absurd (omega (arith, le))
-plain_numbers (b ∷ bs) (suc k) h le = cases b.kind (is_class_kind b.kind) refl h (plain_numbers bs k)
+count_next : (bs : List TableBlock) (k : ℕ) (b : TableBlock) → slice_get bs k ≡ Some b → blocks_before (suc k) bs ≡ blocks_before k bs + one_unless (is_connection b.kind)
+count_next [] k b e = absurd (cc)
+count_next (c ∷ bs) zero b e = cases (is_connection c.kind) refl
   where
-    cases : (x : TableKind) (c : Bool) → is_class_kind b.kind ≡ c → ((c || is_connection b.kind) || list_any is_special bs) ≡ false → (list_any is_special bs ≡ false → k ≤ length bs → blocks_before k bs ≡ k) → blocks_before (suc k) (b ∷ bs) ≡ suc k
-    cases x true e h f = absurd (cc)
-    cases x false e h f = connected (is_connection b.kind) refl h f
-      where
-        connected : (d : Bool) → is_connection b.kind ≡ d → (d || list_any is_special bs) ≡ false → (list_any is_special bs ≡ false → k ≤ length bs → blocks_before k bs ≡ k) → blocks_before (suc k) (b ∷ bs) ≡ suc k
-        connected true e h f = absurd (cc)
-        connected false e h f = rw e (ap suc (f h (omega (arith, le))))
+    same : c ≡ b
+    same = some_same c b e
 
--- ---- kinds of blocks
+    cases : (o : Bool) → is_connection c.kind ≡ o → counted_unless (is_connection c.kind) 0 ≡ 0 + one_unless (is_connection b.kind)
+    cases true h = let g : is_connection b.kind ≡ true = ap (λ z. is_connection z.kind) (sym same) ∙ h in subst (λ z. counted_unless (is_connection c.kind) 0 ≡ 0 + one_unless z) (sym g) (ap (λ z. counted_unless z 0) h ∙ omega arith)
+    cases false h = let g : is_connection b.kind ≡ false = ap (λ z. is_connection z.kind) (sym same) ∙ h in subst (λ z. counted_unless (is_connection c.kind) 0 ≡ 0 + one_unless z) (sym g) (ap (λ z. counted_unless z 0) h ∙ omega arith)
+count_next (c ∷ bs) (suc k) b e = more (is_connection c.kind) (count_next bs k b e)
+  where
+    more : (o : Bool) → blocks_before (suc k) bs ≡ blocks_before k bs + one_unless (is_connection b.kind) → counted_unless o (blocks_before (suc k) bs) ≡ counted_unless o (blocks_before k bs) + one_unless (is_connection b.kind)
+    more true h = h
+    more false h = omega (arith, h)
 
-has_code : (s : Source) (code : CodeOf) (k : ℕ) (x : Text) (blk : BlockOf) → TextCode s code k x blk → CodeHas s code k x (Some blk)
-has_code s code zero (BlockText begin ds ss) blk h = h
-has_code s code (suc k) (BlockText begin ds ss) blk h = h
-has_code s code zero _ blk h = h
-has_code s code (suc k) _ blk h = h
+texts_count : (x : Text) → one_unless (Attributes.is_connection (Some x)) ≡ blocks_in x
+texts_count (BlockText begin ds ss) = refl
+texts_count (ProcedureText result h a) = refl
+texts_count (ClassText prefix h ds ss) = refl
+texts_count (PrefixedText class arguments ds ss) = refl
+texts_count ConnectionText = refl
+texts_count (StandardText which) = refl
 
--- ---- what is found
+row_of : {A : Type 0} (xs : List A) (k : ℕ) → k < length xs → (x : A) × (slice_get xs k ≡ Some x)
+row_of [] k le = absurd (omega (arith, le))
+row_of (x ∷ xs) zero le = (x, refl)
+row_of (x ∷ xs) (suc k) le = row_of xs k (omega (arith, le))
 
--- the code of these blocks and instructions
-abbrev whole_code : Bound → List BlockOf → DraftOf → CodeOf
-whole_code b blocks new = record { texts = constants_of (source_of b); blocks = blocks; classes = []; thunks = []; actual_lists = []; instrs = new.instrs }
+-- the number of the block behind a text
+number_next : (s : Source) (k : ℕ) (x : Text) → Agrees s → text s k ≡ Some x → block_number s (suc k) ≡ block_number s k + blocks_in x
+unfolding block_number is_connected text
+number_next s k x agrees is =
+    let inside : k < length (program_texts s.program.prefix s.program.block) = within (program_texts s.program.prefix s.program.block) k x is in
+    let many = agrees.as_many in
+    let row = row_of s.tables.blocks k (omega (arith, inside, many)) in
+    let same : is_connection row.0.kind ≡ Attributes.is_connection (Some x) = sym (ap Rattle.codegen_expr.specs.Sites.connects row.1) ∙ agrees.connected k ∙ ap Attributes.is_connection is in
+    count_next s.tables.blocks k row.0 row.1 ∙ ap (λ z. blocks_before k s.tables.blocks + one_unless z) same ∙ ap (λ z. blocks_before k s.tables.blocks + z) (texts_count x)
 
--- from nothing, the texts of the program are written, with these blocks
-abbrev Compiles : Bound → (old new : DraftOf) → (blocks : List BlockOf) → Type 0
-Compiles b old new blocks = (length old.instrs ≡ 0) × (old.whole ≡ true) × WritesProgram b old new blocks
+-- ---- the classes of blocks
 
-module _ (b : Bound) (old new : DraftOf) (blocks : List BlockOf) (built : ProgramBuilt (source_of b)) (f : Compiles b old new blocks) where
-  whole : new.whole ≡ true
-  unfolding WritesProgram
-  whole = (f.2 f.0).built built.texts f.1
+-- the classes from a text on: those of its block, and then the rest
+class_next : (n : ℕ) (x : Text) (xs : List Text) → classes_in x ≡ 1 → classes_from n (x ∷ xs) ≡ suc n ∷ classes_from (suc n) xs
+class_next n (BlockText begin ds ss) xs e = absurd (cc)
+class_next n (ProcedureText result h a) xs e = absurd (cc)
+class_next n (ClassText prefix h ds ss) xs e = refl
+class_next n (PrefixedText class arguments ds ss) xs e = refl
+class_next n ConnectionText xs e = absurd (cc)
+class_next n (StandardText which) xs e = absurd (cc)
 
-  as_many : length blocks ≡ length (texts_of (source_of b))
-  unfolding WritesProgram
-  as_many = let e = f.2 f.0 in ap length e.blocks ∙ e.counted whole
+one_class : (x : Text) → 0 < classes_in x → classes_in x ≡ 1
+one_class (BlockText begin ds ss) le = absurd (omega (arith, le))
+one_class (ProcedureText result h a) le = absurd (omega (arith, le))
+one_class (ClassText prefix h ds ss) le = refl
+one_class (PrefixedText class arguments ds ss) le = refl
+one_class ConnectionText le = absurd (omega (arith, le))
+one_class (StandardText which) le = absurd (omega (arith, le))
 
-  coded : TextsCoded (source_of b) (whole_code b blocks new) 0 (texts_of (source_of b)) blocks
-  unfolding WritesProgram
-  coded = let e = f.2 f.0 in subst (λ z. TextsCoded (source_of b) (whole_code b blocks new) 0 (texts_of (source_of b)) z) (sym e.blocks) (e.at whole (whole_code b blocks new) (record { keeps = λ k x is ne. is }))
+record Rest (n m : ℕ) (x : Text) (xs : List Text) : Type 0 where
+  pub own : List ℕ
+  pub is : classes_from n (x ∷ xs) ≡ own ++ classes_from m xs
+  pub many : length own ≡ blocks_in x
 
-  text_at : (k : ℕ) → text (source_of b) k ≡ slice_get (texts_of (source_of b)) k
+rest_of : (n m : ℕ) (x : Text) (xs : List Text) → m ≡ n + classes_in x → Rest n m x xs
+rest_of n m (BlockText begin ds ss) xs e = let same : n ≡ m = omega (arith, e) in record { own = 0 ∷ []; is = ap (λ z. 0 ∷ classes_from z xs) same; many = refl }
+rest_of n m (ProcedureText result h a) xs e = let same : n ≡ m = omega (arith, e) in record { own = 0 ∷ []; is = ap (λ z. 0 ∷ classes_from z xs) same; many = refl }
+rest_of n m (ClassText prefix h ds ss) xs e = let same : suc n ≡ m = omega (arith, e) in record { own = suc n ∷ []; is = ap (λ z. suc n ∷ classes_from z xs) same; many = refl }
+rest_of n m (PrefixedText class arguments ds ss) xs e = let same : suc n ≡ m = omega (arith, e) in record { own = suc n ∷ []; is = ap (λ z. suc n ∷ classes_from z xs) same; many = refl }
+rest_of n m ConnectionText xs e = let same : n ≡ m = omega (arith, e) in record { own = []; is = ap (λ z. classes_from z xs) same; many = refl }
+rest_of n m (StandardText which) xs e = let same : n ≡ m = omega (arith, e) in record { own = 0 ∷ []; is = ap (λ z. 0 ∷ classes_from z xs) same; many = refl }
+
+-- ---- texts that are built
+
+text_built : (s : Source) (xs : List Text) (n k m : ℕ) (x : Text) → m ≡ n + k → TextsBuilt s n xs → slice_get xs k ≡ Some x → TextBuilt s m x
+text_built s [] n k m x e h is = absurd (cc)
+text_built s (y ∷ xs) n zero m x e h is = let same : n ≡ m = omega (arith, e) in subst (λ z. TextBuilt s z x) same (subst (TextBuilt s n) (some_same y x is) h.0)
+text_built s (y ∷ xs) n (suc k) m x e h is = text_built s xs (suc n) k m x (omega (arith, e)) h.1 is
+
+-- what is written later keeps what was there
+ends_before : (s : Source) (old new : Written) (k : ℕ) (x : Text) (final : CodeOf) → TextEmitted s old new k x → Ends new final → Ends old final
+ends_before s old new k x final f g = record {
+  grows = Rattle.codegen_expr.proofs.Pieces.grows_then old.draft.instrs new.draft.instrs final.instrs (Rattle.codegen_expr.proofs.Pieces.grows_front old.draft.instrs new.draft.instrs (f.rest, f.front)) g.grows;
+  blocks = λ j b is. g.blocks j b (ap (λ z. slice_get z j) f.blocks ∙ get_front old.blocks.items f.added j b is);
+  classes = λ j c is. g.classes j c (ap (λ z. slice_get z j) f.classes ∙ get_front old.classes.items f.further j c is);
+  classed = λ j. g.classed j ∙ ap (λ z. class_of z j) f.classed;
+}
+
+-- ---- the first texts
+
+none_runs : AllRun []
+unfolding AllRun
+none_runs k x e = absurd (cc)
+
+none_before : (s : Source) → block_number s 0 ≡ 0
+unfolding block_number
+none_before s = refl
+
+started : (s : Source) (w : Written) → Begins s w → TextsEmitted s w w (texts_of s) 0
+started s w f = record {
+  whole = f.whole;
+  fits = subst AllRun (sym f.none) none_runs;
+  classed = refl;
+  numbers = [];
+  to_come = f.classes ∙ ap (λ z. classes_from (length z) (texts_of s)) (sym f.no_class);
+  as_many = ap length (sym f.no_block);
+  counted = none_before s ∙ ap length (sym f.no_block);
+  started = λ e. ap length f.none;
+  numbered = λ j b is. absurd (nowhere j b (sym (ap (λ z. slice_get z j) f.no_block) ∙ is));
+  each = λ final g k x le is. absurd (omega (arith, le));
+}
+  where
+    nowhere : (j : ℕ) (b : BlockOf) → slice_get [] j ≡ Some b → ⊥
+    nowhere j b e = cc
+
+data Below (j k : ℕ) : Type 0 where
+  lower : j < k → Below j k
+  equal : j ≡ k → Below j k
+
+below : (j k : ℕ) → j < suc k → Below j k
+below zero zero le = equal refl
+below zero (suc k) le = lower (omega arith)
+below (suc j) zero le = absurd (omega (arith, le))
+below (suc j) (suc k) le = up (below j k (omega (arith, le)))
+  where
+    up : Below j k → Below (suc j) (suc k)
+    up (lower h) = lower (omega (arith, h))
+    up (equal h) = equal (ap suc h)
+
+either : {A : Type 0} (j k : ℕ) → Below j k → (j < k → A) → (j ≡ k → A) → A
+either j k (lower h) f g = f h
+either j k (equal h) f g = g h
+
+data Beside (j k : ℕ) : Type 0 where
+  short : j < k → Beside j k
+  long : k ≤ j → Beside j k
+
+beside : (j k : ℕ) → Beside j k
+beside j zero = long (omega arith)
+beside zero (suc k) = short (omega arith)
+beside (suc j) (suc k) = up (beside j k)
+  where
+    up : Beside j k → Beside (suc j) (suc k)
+    up (short h) = short (omega (arith, h))
+    up (long h) = long (omega (arith, h))
+
+sides : {A : Type 0} (j k : ℕ) → Beside j k → (j < k → A) → (k ≤ j → A) → A
+sides j k (short h) f g = f h
+sides j k (long h) f g = g h
+
+module _ (s : Source) (built : ProgramBuilt s) (old now new : Written) (k : ℕ) (x : Text) (is : text s k ≡ Some x) (e : TextsEmitted s old now (texts_of s) k) where
+  at : slice_get (texts_of s) k ≡ Some x
   unfolding text texts_of
-  text_at k = refl
+  at = is
 
-  of_tables : length b.scopes.blocks ≡ length (texts_of (source_of b))
-  unfolding texts_of source_of
-  of_tables = built.agrees.as_many
+  to_come : old.draft.classes ≡ e.numbers ++ classes_from (length now.classes.items) (x ∷ drop (suc k) (texts_of s))
+  to_come = e.to_come ∙ ap (λ z. e.numbers ++ classes_from (length now.classes.items) z) (drop_at (texts_of s) k x at)
 
-  plain : list_any is_special b.scopes.blocks ≡ false
-  unfolding source_of
-  plain = built.plain
+  next : Next s now k x
+  next = record {
+    agrees = built.agrees;
+    is = is;
+    alone = built.unprefixed.classes k;
+    block = e.counted;
+    class = λ le.
+        ap (λ z. class_of z (length now.blocks.items)) (e.classed ∙ to_come ∙ ap (λ z. e.numbers ++ z) (class_next (length now.classes.items) x (drop (suc k) (texts_of s)) (one_class x le)))
+        ∙ class_behind e.numbers (suc (length now.classes.items)) (classes_from (suc (length now.classes.items)) (drop (suc k) (texts_of s))) (length now.blocks.items) (sym e.as_many);
+    first = e.started;
+  }
 
-  has_each : (k : ℕ) (x : Text) → text (source_of b) k ≡ Some x → CodeHas (source_of b) (whole_code b blocks new) k x (slice_get blocks (block_number (source_of b) k))
-  unfolding source_of block_number
-  has_each k x is =
-      let at = coded_at (source_of b) (whole_code b blocks new) (texts_of (source_of b)) blocks 0 k k x (omega arith) coded (sym (text_at k) ∙ is) in
-      let le : k < length blocks = within blocks k at.0 at.1 in
-      let one : length blocks ≡ length (texts_of (source_of b)) = as_many in
-      let other : length b.scopes.blocks ≡ length (texts_of (source_of b)) = of_tables in
-      let number : blocks_before k b.scopes.blocks ≡ k = plain_numbers b.scopes.blocks k plain (omega (arith, le, one, other)) in
-      subst (λ z. CodeHas (source_of b) (whole_code b blocks new) k x z) (sym (ap (slice_get blocks) number ∙ at.1)) (has_code (source_of b) (whole_code b blocks new) k x at.0 (at.2 plain is))
+  step : TextEmitted s now new k x → TextsEmitted s old new (texts_of s) (suc k)
+  step f =
+      let whole : new.draft.whole ≡ true = f.built (text_built s (texts_of s) 0 k k x (omega arith) built.texts at) e.whole in
+      let blocks : length new.blocks.items ≡ length now.blocks.items + blocks_in x = ap length f.blocks ∙ length-append now.blocks.items f.added ∙ ap (λ z. length now.blocks.items + z) (f.counted whole) in
+      let classes : length new.classes.items ≡ length now.classes.items + classes_in x = ap length f.classes ∙ length-append now.classes.items f.further ∙ ap (λ z. length now.classes.items + z) (f.counted_classes whole) in
+      let rest = rest_of (length now.classes.items) (length new.classes.items) x (drop (suc k) (texts_of s)) classes in
+      record {
+        whole = whole;
+        fits = f.fits e.fits;
+        classed = f.classed ∙ e.classed;
+        numbers = e.numbers ++ rest.own;
+        to_come = to_come ∙ ap (λ z. e.numbers ++ z) rest.is ∙ sym (append_assoc e.numbers rest.own (classes_from (length new.classes.items) (drop (suc k) (texts_of s))));
+        as_many = length-append e.numbers rest.own ∙ ap (λ z. z + length rest.own) e.as_many ∙ ap (λ z. length now.blocks.items + z) rest.many ∙ sym blocks;
+        counted = number_next s k x built.agrees is ∙ ap (λ z. z + blocks_in x) e.counted ∙ sym blocks;
+        started = λ q. absurd (omega (arith, q));
+        numbered = λ j b there.
+            let r = split_at now.blocks.items f.added j b (sym (ap (λ z. slice_get z j) f.blocks) ∙ there) in
+            sides j (length now.blocks.items) (beside j (length now.blocks.items)) (λ le. e.numbered j b (r.0 le)) (λ le. let q = r.1 le in f.numbered whole q.0 b q.2 ∙ ap (λ z. class_of z (length now.blocks.items + q.0)) e.classed ∙ ap (class_of old.draft.classes) (sym q.1));
+        each = λ final g j y le there. either j k (below j k le) (λ le. e.each final (ends_before s now new k x final f g) j y le there) (λ same. subst (λ z. CodeHas s final z y (slice_get final.blocks (block_number s z))) (sym same) (subst (λ z. CodeHas s final k z (slice_get final.blocks (block_number s k))) (some_same x y (sym is ∙ ap (text s) (sym same) ∙ there)) (f.at whole final g)));
+      }
 
-  whole_stands : Compiled (source_of b) (whole_code b blocks new)
-  whole_stands = record { agrees = built.agrees; texts = refl; each = has_each }
+pub texts_first : (b : Bound) (old : Written) (ts : List TextTree) → WritesTo b old old ts 0
+unfolding WritesTo
+texts_first b old ts are built f = started (source_of b) old f
 
--- a draft that is new
-abbrev nothing : DraftOf
-nothing = record { instrs = []; room = 0; size = 0; whole = true }
+pub texts_next : (b : Bound) (old now new : Written) (ts : List TextTree) (k : ℕ) (x : TextTree) → WritesTo b old now ts k → slice_get ts k ≡ Some x → WritesText b now new k x → WritesTo b old new ts (k + 1)
+unfolding WritesTo WritesText AreTexts text Rattle.sim_tree.specs.SyntaxOfProgram.program_syntax source_of
+texts_next b old now new ts k x f is g are built begins =
+    let s = source_of b in
+    let here : text s k ≡ Some (text_in x) = sym (ap (λ z. slice_get z k) are) ∙ at_map text_in ts k x is in
+    let e = f are built begins in
+    let more : suc k ≡ k + 1 = omega arith in
+    subst (λ z. TextsEmitted s old new (texts_of s) z) more (step s built old now new k (text_in x) here e (g (next s built old now now k (text_in x) here e)))
 
-from_nothing : (b : Bound) (old new : DraftOf) (blocks : List BlockOf) → old ≡ nothing → WritesProgram b old new blocks → Compiles b old new blocks
-from_nothing b old new blocks e f = (ap (λ z. length z.instrs) e, ap (λ z. z.whole) e, f)
+pub texts_last : (b : Bound) (old new : Written) (ts : List TextTree) (k : ℕ) → WritesTo b old new ts k → k ≡ length ts → WritesProgram b old new ts
+unfolding WritesProgram
+texts_last b old new ts k f e = subst (WritesTo b old new ts) e f
 
-pub code_stands : (b : Bound) (old new : DraftOf) (blocks : List BlockOf) (ts : List (List ℕ)) → ProgramBuilt (source_of b) → old ≡ nothing → WritesProgram b old new blocks → ts ≡ constants_of (source_of b)
-    → Compiled (source_of b) (record { texts = ts; blocks = blocks; classes = []; thunks = []; actual_lists = []; instrs = new.instrs })
-code_stands b old new blocks ts built e f et =
-    subst (λ z. Compiled (source_of b) (record { texts = z; blocks = blocks; classes = []; thunks = []; actual_lists = []; instrs = new.instrs })) (sym et) (whole_stands b old new blocks built (from_nothing b old new blocks e f))
+-- ---- the code
 
-pub code_runs : (b : Bound) (old new : DraftOf) (blocks : List BlockOf) → old ≡ nothing → WritesProgram b old new blocks → AllRun new.instrs
-unfolding WritesProgram AllRun
-code_runs b old new blocks e f =
-    let none : length old.instrs ≡ 0 = ap (λ z. length z.instrs) e in
-    (f none).fits (λ k x is. absurd (let le = within old.instrs k x is in omega (arith, le, none)))
+abbrev whole_code : List (List ℕ) → Written → CodeOf
+whole_code texts w = record { texts = texts; blocks = w.blocks.items; classes = w.classes.items; thunks = []; actual_lists = []; instrs = w.draft.instrs }
+
+abbrev nothing : List ℕ → DraftOf
+nothing classes = record { instrs = []; room = 0; size = 0; whole = true; classes = classes }
+
+map_length : {A B : Type 0} (f : A → B) (xs : List A) → length (map f xs) ≡ length xs
+map_length f [] = refl
+map_length f (x ∷ xs) = ap suc (map_length f xs)
+
+module _ (b : Bound) (old new : Written) (ts : List TextTree) (numbers : List ℕ) (built : ProgramBuilt (source_of b)) (are : AreTexts b.program ts) (no_draft : old.draft ≡ nothing numbers) (no_block : old.blocks.items ≡ []) (no_class : old.classes.items ≡ []) (cn : ClassNumbers b numbers) (f : WritesProgram b old new ts) where
+  begins : Begins (source_of b) old
+  unfolding ClassNumbers texts_of
+  begins = record { none = ap (λ z. z.instrs) no_draft; whole = ap (λ z. z.whole) no_draft; classes = ap (λ z. z.classes) no_draft ∙ cn; no_block = no_block; no_class = no_class }
+
+  emitted : TextsEmitted (source_of b) old new (texts_of (source_of b)) (length ts)
+  unfolding WritesProgram WritesTo
+  emitted = f are built begins
+
+  as_many : length ts ≡ length (texts_of (source_of b))
+  unfolding AreTexts texts_of source_of Rattle.sim_tree.specs.SyntaxOfProgram.program_syntax
+  as_many = sym (map_length text_in ts) ∙ ap length are
+
+  all_numbers : new.draft.classes ≡ emitted.numbers
+  all_numbers =
+      let many = as_many in
+      emitted.classed ∙ emitted.to_come ∙ ap (λ z. emitted.numbers ++ classes_from (length new.classes.items) z) (drop_behind (texts_of (source_of b)) (length ts) (omega (arith, many))) ∙ append-nil emitted.numbers
+
+  classed : (j : ℕ) → class_in (slice_get new.blocks.items j) ≡ class_of new.draft.classes j
+  classed j = cases (slice_get new.blocks.items j) refl
+    where
+      behind : (xs : List BlockOf) (j : ℕ) → slice_get xs j ≡ None → length xs ≤ j
+      behind [] j e = omega arith
+      behind (x ∷ xs) zero e = absurd (cc)
+      behind (x ∷ xs) (suc j) e = let le = behind xs j e in omega (arith, le)
+
+      cases : (o : Option BlockOf) → slice_get new.blocks.items j ≡ o → class_in o ≡ class_of new.draft.classes j
+      cases None e = let le = behind new.blocks.items j e in let many = emitted.as_many in sym (ap (λ z. class_of z j) all_numbers ∙ class_past emitted.numbers j (omega (arith, le, many)))
+      cases (Some x) e = emitted.numbered j x e ∙ ap (λ z. class_of z j) (sym emitted.classed)
+
+  stands : (texts : List (List ℕ)) → texts ≡ constants_of (source_of b) → Compiled (source_of b) (whole_code texts new)
+  unfolding text texts_of
+  stands texts et = record {
+    agrees = built.agrees;
+    texts = et;
+    each = λ k x is.
+        let inside : k < length (texts_of (source_of b)) = within (texts_of (source_of b)) k x is in
+        let many = as_many in
+        emitted.each (whole_code texts new) (record { grows = record { keeps = λ j y there ne. there }; blocks = λ j y there. there; classes = λ j y there. there; classed = classed }) k x (omega (arith, inside, many)) is;
+  }
+
+pub code_stands : (b : Bound) (old new : Written) (ts : List TextTree) (numbers : List ℕ) (texts : List (List ℕ)) → ProgramBuilt (source_of b) → AreTexts b.program ts → old.draft ≡ nothing numbers → old.blocks.items ≡ [] → old.classes.items ≡ [] → ClassNumbers b numbers → WritesProgram b old new ts → texts ≡ constants_of (source_of b)
+    → Compiled (source_of b) (record { texts = texts; blocks = new.blocks.items; classes = new.classes.items; thunks = []; actual_lists = []; instrs = new.draft.instrs })
+code_stands b old new ts numbers texts built are ed eb ec cn f et = stands b old new ts numbers built are ed eb ec cn f texts et
+
+pub code_runs : (b : Bound) (old new : Written) (ts : List TextTree) (numbers : List ℕ) → ProgramBuilt (source_of b) → AreTexts b.program ts → old.draft ≡ nothing numbers → old.blocks.items ≡ [] → old.classes.items ≡ [] → ClassNumbers b numbers → WritesProgram b old new ts → AllRun new.draft.instrs
+code_runs b old new ts numbers built are ed eb ec cn f = (emitted b old new ts numbers built are ed eb ec cn f).fits
 
 pub ruleset wholes = (code_stands, code_runs)

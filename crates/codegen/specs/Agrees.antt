@@ -1,16 +1,21 @@
 -- That the tables of scopes agree with each other and with the texts, as far as code rests on it: the tables of each program do.
-use Rattle.std.specs.Prelude.{◌≡◌, ℕ, suc, length, Option, Some, None}
+use Rattle.std.specs.Prelude.{◌≡◌, ◌<◌, ℕ, suc, Bool, true, false, length, slice_get, Option, Some, None}
 use Rattle.sim_base.specs.declared.numbering.DeclNo.{DeclNo}
 use Rattle.sim_scope.specs.declared.types.Entry.TheVariants as entry
+use Rattle.sim_scope.specs.declared.types.Formal.{Formal}
 use Rattle.sim_scope.specs.declared.types.SimType.{SimType}
 use Rattle.sim_scope.specs.Access.{encloser}
-use Rattle.sim_scope.specs.Scopes.{entry_of}
-use Rattle.sim_scope.specs.Source.{Source, block_of, level_of}
+use Rattle.sim_scope.specs.Scopes.{entry_of, formals_in}
+use Rattle.sim_scope.specs.Source.{Source, block_around, block_of, level_of}
 use Rattle.sim_tree.specs.declared.stmt.TypeName.{TypeName}
 use Rattle.sim_tree.specs.Syntax.{Heading, Statement}
+use Rattle.sim_meaning.specs.Attributes.{first_in, is_connection}
 use Rattle.sim_meaning.specs.Closing.{has_type}
+use Rattle.sim_meaning.specs.Entries.{numbers_of}
+use Rattle.sim_meaning.specs.Levels.{has_levels, is_class}
 use Rattle.sim_meaning.specs.Meaning.{has_result}
-use Rattle.sim_meaning.specs.Texts.{ProcedureText, program_texts, text}
+use Rattle.sim_meaning.specs.Texts.{PrefixedText, ProcedureText, Text, program_texts, text}
+use Rattle.codegen_expr.specs.Sites.{LevelOf, frame_text, is_connected, prefix_of}
 
 -- the text of a declared procedure stands in the text of its declaration, and has a result where the declaration has one
 pub record ProcedureThere (s : Source) (d : DeclNo) (result : Option SimType) (k : ℕ) : Type 0 where
@@ -21,11 +26,47 @@ pub record ProcedureThere (s : Source) (d : DeclNo) (result : Option SimType) (k
   pub around : encloser s.tables k ≡ Some (block_of s d)
   pub same : has_result given ≡ has_type result
 
+abbrev pub is_prefixed : Option Text → Bool
+is_prefixed (Some (PrefixedText class arguments ds ss)) = true
+is_prefixed _ = false
+
+-- no class and no block has a prefix
+pub record Unprefixed (s : Source) : Type 0 where
+  pub classes : (k : ℕ) → prefix_of s.tables k ≡ None
+  pub blocks : (k : ℕ) → is_prefixed (text s k) ≡ false
+
+-- A class or a prefixed block has a class in front of it, of the same level. What is around that class is one of the levels of what is around
+-- the text.
+pub record AroundBoth (s : Source) (k around_front : ℕ) : Type 0 where
+  pub around : ℕ
+  pub is : encloser s.tables k ≡ Some around
+  pub level : LevelOf s.tables (frame_text s around) (frame_text s around_front)
+
+pub record PrefixThere (s : Source) (k front : ℕ) : Type 0 where
+  pub has : has_levels (text s k) ≡ true
+  pub class : is_class (text s front) ≡ true
+  pub level : level_of s front ≡ level_of s k
+  pub around : (u : ℕ) → encloser s.tables front ≡ Some u → AroundBoth s k u
+
 pub record Agrees (s : Source) : Type 0 where
   -- nothing is around the program's block
   pub outermost : encloser s.tables 0 ≡ None
-  -- the tables have a block for each text
+  -- the tables have a block for each text, and a connection for each connection
   pub as_many : length s.tables.blocks ≡ length (program_texts s.program.prefix s.program.block)
-  -- any other text is one level deeper than the text around it
-  pub levels : (t u : ℕ) → encloser s.tables t ≡ Some u → level_of s t ≡ suc (level_of s u)
+  pub connected : (k : ℕ) → is_connected s.tables k ≡ is_connection (text s k)
+  -- a text stands in one before it
+  pub nesting : (t u : ℕ) → encloser s.tables t ≡ Some u → u < t
+  -- it is one level deeper than the text around it, but a connection, which is no level of its own
+  pub levels : (t u : ℕ) → encloser s.tables t ≡ Some u → is_connected s.tables t ≡ false → level_of s t ≡ suc (level_of s u)
+  pub same_level : (t u : ℕ) → encloser s.tables t ≡ Some u → is_connected s.tables t ≡ true → level_of s t ≡ level_of s u
+  -- a connection is the innermost text around the token with which it begins
+  pub begun : (k : ℕ) → is_connected s.tables k ≡ true → block_around s (first_in (slice_get s.tables.blocks k)) ≡ Some k
+  pub prefixes : (k front : ℕ) → prefix_of s.tables k ≡ Some front → PrefixThere s k front
+  -- a text lists what is declared in it, each declaration once
+  pub owned : (k n : ℕ) (d : DeclNo) → slice_get (numbers_of s k) n ≡ Some d → block_of s d ≡ k
+  pub once : (k n m : ℕ) (d : DeclNo) → slice_get (numbers_of s k) n ≡ Some d → slice_get (numbers_of s k) m ≡ Some d → n ≡ m
+  -- the first of these are its formal parameters, as many as it has
+  pub formals : (k n : ℕ) (d : DeclNo) → slice_get (formals_in (slice_get s.tables.blocks k)) n ≡ Some d → (f : Formal) × (entry_of s.tables d ≡ Some (entry.Formal f))
+  -- the texts of procedures and classes stand where these are declared
+  pub classes : (d : DeclNo) (k : ℕ) → entry_of s.tables d ≡ Some (entry.Class k) → encloser s.tables k ≡ Some (block_of s d)
   pub procedures : (d : DeclNo) (result : Option SimType) (k : ℕ) → entry_of s.tables d ≡ Some (entry.Procedure result k) → ProcedureThere s d result k

@@ -1,31 +1,35 @@
--- Which programs are built: all without classes, prefixed blocks and connections whose expressions are built, and whose left sides are no
+-- Which programs are built: all in which no class and no block has a prefix, whose expressions are built, and whose left sides are no
 -- parameters by name.
 use Rattle.std.specs.Prelude.{◌≡◌, ⊤, ℕ, zero, suc, Bool, true, false, ◌||◌, List, [], ◌∷◌, Option, Some, None}
-use Rattle.std.specs.List.{list_any}
 use Rattle.sim_base.specs.declared.numbering.DeclNo.{DeclNo}
 use Rattle.sim_scope.specs.Assignments.{last_value, left_sides}
 use Rattle.sim_scope.specs.Access.{encloser}
 use Rattle.sim_scope.specs.Source.{Source, block_around, block_of, denoted, line_at}
-use Rattle.sim_scope.specs.Tables.{BlockOf}
 use Rattle.sim_tree.specs.declared.expr.Identifier.{Identifier}
-use Rattle.sim_tree.specs.Syntax.{Also, Arrayed, Arrays, Begin, Block, BoundPair, Declarations, DeclareClass, DeclareProcedure, Element, Expression, NoDeclaration, NoMore, NoStatement, Statement, Statements, Variables, With}
+use Rattle.sim_tree.specs.Syntax.{Also, Arms, Arrayed, Arrays, Begin, Block, BoundPair, Declarations, DeclareClass, DeclareProcedure, Element, Expression, NoArm, NoDeclaration, NoMore, NoStatement, Statement, Statements, Variables, When, With}
 use Rattle.sim_tree.specs.Syntax as syntax
-use Rattle.sim_meaning.specs.Closing.{is_text, is_variable, stream_of}
+use Rattle.sim_meaning.specs.Attributes.{cell_of_connection, connection_at}
+use Rattle.sim_meaning.specs.Closing.{is_attribute, is_text, is_variable, stream_of}
+use Rattle.sim_meaning.specs.Levels.{class_at, writes_inner}
 use Rattle.sim_meaning.specs.Statements.{leaves}
-use Rattle.sim_meaning.specs.Pending.{Declared, Result}
-use Rattle.sim_meaning.specs.Texts.{BlockText, ProcedureText, Text, declared_at, program_texts, is_class_kind, text}
-use Rattle.codegen_expr.specs.Built.{ActualsBuilt, AreBuilt, CellBuilt, DotBuilt, IsBuilt, KeyBuilt, NamedBuilt, PlaceBuilt, is_there, slot_in}
-use Rattle.codegen_expr.specs.CodeExpr.{gives, is_connection}
-use Rattle.codegen.specs.Agrees.{Agrees}
-use Rattle.codegen.specs.CodeFor.{assigned_by}
-use Rattle.codegen.specs.CodeLeft.{AtAddress, InCell, NotBuilt, Stored, ToResult, ToText, each_stored, stored_left}
+use Rattle.sim_meaning.specs.Pending.{Connection, Declared, Result}
+use Rattle.sim_meaning.specs.Texts.{BlockText, ClassText, ConnectionText, PrefixedText, ProcedureText, StandardText, Text, declared_at, program_texts, text}
+use Rattle.codegen_expr.specs.Built.{ActualsBuilt, AreBuilt, CellBuilt, ClassBuilt, ConnectedNameBuilt, DotBuilt, IsBuilt, KeyBuilt, NamedBuilt, PlaceBuilt, ReferenceBuilt, ThroughBuilt, is_there, slot_in}
+use Rattle.codegen_expr.specs.CodeExpr.{gives}
+use Rattle.codegen_expr.specs.Sites.{Varies, frame_text}
+use Rattle.codegen.specs.Agrees.{Agrees, Unprefixed}
+use Rattle.codegen.specs.CodeFor.{OfCell, OfPlace, OfReference, Variable, assigned_by, variable_of}
+use Rattle.codegen.specs.CodeLeft.{AtAddress, AtAttribute, InCell, NotBuilt, Stored, ToReference, ToResult, ToText, each_stored}
+use Rattle.codegen.specs.CodeStm.{inner_of}
 
 -- ---- assignments
 
--- a left side: a cell of a text around, an element of an array in such a cell, or a text
+-- a left side: a cell of a text around, an element of an array in such a cell, an attribute of an object, a reference, or a text
 abbrev pub LeftBuilt : Source → (text : ℕ) → Stored → Type 0
 LeftBuilt s text (InCell home key) = KeyBuilt s text home key
 LeftBuilt s text (AtAddress d es line) = CellBuilt s text d × AreBuilt s text es
+LeftBuilt s text (AtAttribute e) = PlaceBuilt s text e
+LeftBuilt s text (ToReference e line) = ReferenceBuilt s text e
 LeftBuilt s text (ToText e line) = IsBuilt s text e
 LeftBuilt s text (ToResult home line) = KeyBuilt s text home Result
 LeftBuilt s text NotBuilt = ⊥
@@ -44,29 +48,34 @@ AssignBuilt s text (t ∷ u ∷ ts) e = LeftsBuilt s text (t ∷ u ∷ ts) × Is
 -- ---- `for` lists
 
 -- a step element is over a variable that takes values
-abbrev pub TakesValues : (assigned : Option ℕ) → Type 0
-TakesValues None = ⊤
-TakesValues (Some line) = ⊥
+abbrev pub StepsBuilt : Variable → Type 0
+StepsBuilt (OfCell home key None) = ⊤
+StepsBuilt (OfPlace e None) = ⊤
+StepsBuilt _ = ⊥
 
-abbrev pub ElementBuilt : Source → (text : ℕ) → (assigned : Option ℕ) → Element → Type 0
-ElementBuilt s text assigned (syntax.Once e) = IsBuilt s text e
-ElementBuilt s text assigned (syntax.While e token c) = IsBuilt s text e × IsBuilt s text c
-ElementBuilt s text assigned (syntax.Step start token step limit) = TakesValues assigned × IsBuilt s text start × IsBuilt s text step × IsBuilt s text limit
+abbrev pub ElementBuilt : Source → (text : ℕ) → Variable → Element → Type 0
+ElementBuilt s text v (syntax.Once e) = IsBuilt s text e
+ElementBuilt s text v (syntax.While e token c) = IsBuilt s text e × IsBuilt s text c
+ElementBuilt s text v (syntax.Step start token step limit) = StepsBuilt v × IsBuilt s text start × IsBuilt s text step × IsBuilt s text limit
 
-abbrev pub ElementsBuilt : Source → (text : ℕ) → (assigned : Option ℕ) → List Element → Type 0
-ElementsBuilt s text assigned [] = ⊤
-ElementsBuilt s text assigned (e ∷ es) = ElementBuilt s text assigned e × ElementsBuilt s text assigned es
+abbrev pub ElementsBuilt : Source → (text : ℕ) → Variable → List Element → Type 0
+ElementsBuilt s text v [] = ⊤
+ElementsBuilt s text v (e ∷ es) = ElementBuilt s text v e × ElementsBuilt s text v es
 
 -- a list of one element or more
-abbrev pub ListBuilt : Source → (text : ℕ) → (assigned : Option ℕ) → List Element → (Body : Type 0) → Type 0
-ListBuilt s text assigned [] Body = ⊥
-ListBuilt s text assigned (e ∷ []) Body = ElementBuilt s text assigned e × Body
-ListBuilt s text assigned (e ∷ f ∷ es) Body = ElementsBuilt s text assigned (e ∷ f ∷ es) × Body
+abbrev pub ListBuilt : Source → (text : ℕ) → Variable → List Element → (Body : Type 0) → Type 0
+ListBuilt s text v [] Body = ⊥
+ListBuilt s text v (e ∷ []) Body = ElementBuilt s text v e × Body
+ListBuilt s text v (e ∷ f ∷ es) Body = ElementsBuilt s text v (e ∷ f ∷ es) × Body
 
--- over a variable that is a cell
-abbrev pub ForBuilt : Source → (text : ℕ) → (assigned : Option (Option ℕ)) → Stored → List Element → (Body : Type 0) → Type 0
-ForBuilt s text (Some assigned) (InCell home key) es Body = KeyBuilt s text home key × ListBuilt s text assigned es Body
-ForBuilt s text _ _ _ Body = ⊥
+abbrev pub VariableBuilt : Source → (text : ℕ) → Variable → Type 0
+VariableBuilt s text (OfCell home key assigned) = KeyBuilt s text home key
+VariableBuilt s text (OfPlace e assigned) = PlaceBuilt s text e
+VariableBuilt s text (OfReference e line) = ReferenceBuilt s text e
+
+abbrev pub ForBuilt : Source → (text : ℕ) → Option Variable → List Element → (Body : Type 0) → Type 0
+ForBuilt s text None es Body = ⊥
+ForBuilt s text (Some v) es Body = VariableBuilt s text v × ListBuilt s text v es Body
 
 -- ---- statements
 
@@ -76,13 +85,28 @@ EnterBuilt s text None = ⊥
 EnterBuilt s text (Some zero) = ⊥
 EnterBuilt s text (Some (suc k)) = encloser s.tables (suc k) ≡ Some text
 
--- a call: an identifier or an attribute, which leaves a value just where its entry or row says so
+-- a call: an identifier or an attribute, which leaves a value just where its entry or row says so, or `new`
 abbrev pub CalledBuilt : Source → (text : ℕ) → Expression → Type 0
 CalledBuilt s text (syntax.Named name es) =
-    (leaves s (syntax.Named name es) ≡ gives s (denoted s name.token.0)) × NamedBuilt s text (denoted s name.token.0) es (AreBuilt s text es) (λ formals. ActualsBuilt s text es formals)
+    (leaves s (syntax.Named name es) ≡ gives s (denoted s name.token.0)) × ThroughBuilt (connection_at s name.token.0)
+    (λ k. ConnectedNameBuilt s text k (denoted s name.token.0) es (AreBuilt s text es) (λ formals. ActualsBuilt s text es formals))
+    (NamedBuilt s text (denoted s name.token.0) es (AreBuilt s text es) (λ formals. ActualsBuilt s text es formals))
 CalledBuilt s text (syntax.Dot token a name es) =
-    (leaves s (syntax.Dot token a name es) ≡ gives s (denoted s name.token.0)) × DotBuilt (denoted s name.token.0) (stream_of s a) (is_variable s a) es (PlaceBuilt s text a) (IsBuilt s text a) (AreBuilt s text es)
+    (leaves s (syntax.Dot token a name es) ≡ gives s (denoted s name.token.0)) × DotBuilt s (denoted s name.token.0) (stream_of s a) (is_variable s a || is_attribute s a) es (PlaceBuilt s text a) (IsBuilt s text a) (AreBuilt s text es) (λ formals. ActualsBuilt s text es formals)
+CalledBuilt s text (syntax.New token class es) = IsBuilt s text (syntax.New token class es)
 CalledBuilt s text _ = ⊥
+
+-- the connection that begins at a token stands in the text, whose frames have a cell for it
+pub record ConnectionBuilt (s : Source) (around opening connection : ℕ) (Body : ℕ → Type 0) : Type 0 where
+  pub is : text s connection ≡ Some ConnectionText
+  pub begins : cell_of_connection s connection ≡ Connection opening
+  pub stands : encloser s.tables connection ≡ Some around
+  pub has : is_there (slot_in s (frame_text s connection) (Connection opening)) ≡ true
+  pub body : Body connection
+
+abbrev pub ConnectsBuilt : Source → (text opening : ℕ) → (connection : Option ℕ) → (Body : ℕ → Type 0) → Type 0
+ConnectsBuilt s text opening None Body = ⊥
+ConnectsBuilt s text opening (Some k) Body = ConnectionBuilt s text opening k Body
 
 abbrev mutual
   pub StatementBuilt : Source → (text : ℕ) → Statement → Type 0
@@ -92,17 +116,36 @@ abbrev mutual
   StatementBuilt s text (syntax.Assign left rs) = AssignBuilt s text (each_stored s (left_sides left rs)) (last_value left rs)
   StatementBuilt s text (syntax.Choose token c a b) = IsBuilt s text c × StatementBuilt s text a × StatementsBuilt s text b
   StatementBuilt s text (syntax.Repeat token c a) = IsBuilt s text c × StatementBuilt s text a
-  StatementBuilt s text (syntax.For token x sign assign es a) = ForBuilt s text (assigned_by (is_text s (syntax.Named x NoMore)) sign (line_at s assign)) (stored_left s (syntax.Named x NoMore)) es (StatementBuilt s text a)
+  StatementBuilt s text (syntax.For token x sign assign es a) = ForBuilt s text (variable_of s (line_at s assign) (syntax.Named x NoMore) (assigned_by (is_text s (syntax.Named x NoMore)) sign (line_at s assign))) es (StatementBuilt s text a)
+  StatementBuilt s text (syntax.Inspect token e opening a end other) = IsBuilt s text e × ConnectsBuilt s text opening (block_around s opening) (λ k. StatementBuilt s k a) × StatementsBuilt s text other
+  StatementBuilt s text (syntax.InspectWhen token e arms other) = IsBuilt s text e × ArmsBuilt s text arms × StatementsBuilt s text other
   StatementBuilt s text _ = ⊥
 
   pub StatementsBuilt : Source → (text : ℕ) → Statements → Type 0
   StatementsBuilt s text NoStatement = ⊤
   StatementsBuilt s text (Also a more) = StatementBuilt s text a × StatementsBuilt s text more
 
+  pub ArmsBuilt : Source → (text : ℕ) → Arms → Type 0
+  ArmsBuilt s text NoArm = ⊤
+  ArmsBuilt s text (When token class opening a end more) = ClassBuilt (class_at s class.token.0) × ConnectsBuilt s text opening (block_around s opening) (λ k. StatementBuilt s k a) × ArmsBuilt s text more
+
   -- what is in a sub-block is built as a text of its own
   pub BlockBuilt : Source → (text : ℕ) → Block → Type 0
   BlockBuilt s text (Begin token NoDeclaration ss end) = StatementsBuilt s text ss
   BlockBuilt s text (Begin token (With d ds) ss end) = EnterBuilt s text (block_around s token)
+
+-- the statements of a class: `inner` is one of these, or none is written
+abbrev pub InnerOrBuilt : Source → (text : ℕ) → (token : Option ℕ) → Statement → (more : Statements) → (More : Type 0) → Type 0
+InnerOrBuilt s text (Some token) a more More = (block_around s token ≡ Some text) × StatementsBuilt s text more
+InnerOrBuilt s text None a more More = StatementBuilt s text a × More
+
+abbrev pub WithInnerBuilt : Source → (text : ℕ) → Statements → Type 0
+WithInnerBuilt s text NoStatement = ⊥
+WithInnerBuilt s text (Also a more) = InnerOrBuilt s text (inner_of a) a more (WithInnerBuilt s text more)
+
+abbrev pub LevelBuilt : Source → (text : ℕ) → (written : Bool) → Statements → Type 0
+LevelBuilt s text true ss = WithInnerBuilt s text ss
+LevelBuilt s text false ss = StatementsBuilt s text ss
 
 -- ---- arrays
 
@@ -113,7 +156,7 @@ BoundsBuilt s text (b ∷ bs) = IsBuilt s text b.lower × IsBuilt s text b.upper
 -- an array is declared in the text, whose frames have a cell for it
 abbrev pub KeptBuilt : Source → (text : ℕ) → Option DeclNo → Type 0
 KeptBuilt s text None = ⊥
-KeptBuilt s text (Some d) = (block_of s d ≡ text) × (is_there (slot_in s text (Declared d.0)) ≡ true)
+KeptBuilt s text (Some d) = (block_of s d ≡ text) × Varies s d × (is_there (slot_in s text (Declared d.0)) ≡ true)
 
 abbrev pub NamesBuilt : Source → (text : ℕ) → List Identifier → Type 0
 NamesBuilt s text [] = ⊤
@@ -137,10 +180,19 @@ ArraysBuilt s text (With (DeclareClass prefix token h interface a end) ds) = Arr
 
 -- ---- programs
 
+-- a class without a prefix
+abbrev pub ClassTextBuilt : Source → (text : ℕ) → (prefix : Option Identifier) → Declarations → Statements → Type 0
+ClassTextBuilt s k None ds ss = ArraysBuilt s k ds × LevelBuilt s k (writes_inner s k) ss
+ClassTextBuilt s k (Some prefix) ds ss = ⊥
+
 abbrev pub TextBuilt : Source → (text : ℕ) → Text → Type 0
 TextBuilt s k (BlockText begin ds ss) = ArraysBuilt s k ds × StatementsBuilt s k ss
 TextBuilt s k (ProcedureText result h a) = StatementBuilt s k a
-TextBuilt s k _ = ⊥
+TextBuilt s zero (ClassText prefix h ds ss) = ⊥
+TextBuilt s (suc k) (ClassText prefix h ds ss) = ClassTextBuilt s (suc k) prefix ds ss
+TextBuilt s k (PrefixedText class arguments ds ss) = ⊥
+TextBuilt s k ConnectionText = ⊤
+TextBuilt s k (StandardText which) = ⊥
 
 -- the texts of a program in their order
 unfoldable pub texts_of : Source → List Text
@@ -151,12 +203,8 @@ abbrev pub TextsBuilt : Source → (number : ℕ) → List Text → Type 0
 TextsBuilt s k [] = ⊤
 TextsBuilt s k (x ∷ xs) = TextBuilt s k x × TextsBuilt s (suc k) xs
 
--- a block of the tables that is a class, a prefixed block or a connection
-abbrev pub is_special : BlockOf → Bool
-is_special b = is_class_kind b.kind || is_connection b.kind
-
--- Each text is built, and the tables have a block for each, none of another kind, and agree.
+-- Each text is built, no class and no block has a prefix, and the tables agree.
 pub record ProgramBuilt (s : Source) : Type 0 where
   pub texts : TextsBuilt s 0 (texts_of s)
-  pub plain : list_any is_special s.tables.blocks ≡ false
+  pub unprefixed : Unprefixed s
   pub agrees : Agrees s

@@ -1,4 +1,4 @@
--- Which code stands for the array declarations of a block, at its entry.
+-- Which code stands for the array declarations of a block or of a level of a class, at its entry.
 use Rattle.std.specs.Prelude.{◌≡◌, ◌<◌, ℕ, suc, ℤ, pos, List, [], ◌∷◌, length, Option, Some, None}
 use Rattle.sim_base.specs.declared.numbering.DeclNo.{DeclNo}
 use Rattle.sim_scope.specs.Source.{Source, level_of, line_at}
@@ -10,7 +10,7 @@ use Rattle.sim_code.specs.declared.instr.Instr.TheVariants as i
 use Rattle.sim_code.specs.Code.{CodeOf}
 use Rattle.sim_meaning.specs.Pending.{Declared}
 use Rattle.sim_meaning.specs.Texts.{declared_at, kind_named}
-use Rattle.codegen_expr.specs.Sites.{At, HasCell, Is, Pushes, Site, slot_of}
+use Rattle.codegen_expr.specs.Sites.{At, HasCell, Is, Pushes, Site, Varies, slot_of}
 use Rattle.codegen_expr.specs.CodeExpr.{ExprAt}
 
 abbrev pub element_number : Kind → ℤ
@@ -23,11 +23,11 @@ element_number kind.Reference = pos 5
 -- the array on top goes into the cell of its declaration
 abbrev pub KeepsArray : Source → CodeOf → Site → Option DeclNo → ℕ → ℕ → Type 0
 KeepsArray s code site None p q = ⊥
-KeepsArray s code site (Some d) p q = HasCell s site.text (Declared d.0) × Is code (i.Store (pos (level_of s site.text)) (pos (slot_of s site.text (Declared d.0)))) p q
+KeepsArray s code site (Some d) p q = HasCell s site.text (Declared d.0) × Varies s d × Is code (i.Store (pos (level_of s site.text)) (pos (slot_of s code site.text (Declared d.0)))) p q
 
 abbrev pub LoadsArray : Source → CodeOf → Site → Option DeclNo → ℕ → ℕ → Type 0
 LoadsArray s code site None p q = ⊥
-LoadsArray s code site (Some d) p q = HasCell s site.text (Declared d.0) × Pushes code site 0 (i.Load (pos (level_of s site.text)) (pos (slot_of s site.text (Declared d.0)))) p q
+LoadsArray s code site (Some d) p q = HasCell s site.text (Declared d.0) × Pushes code site 0 (i.Load (pos (level_of s site.text)) (pos (slot_of s code site.text (Declared d.0)))) p q
 
 -- each further array of a segment is a copy of the first one
 abbrev pub FurtherAt : Source → CodeOf → Site → (first : Option DeclNo) → List Identifier → ℕ → ℕ → Type 0

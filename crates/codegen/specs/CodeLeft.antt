@@ -18,16 +18,20 @@ use Rattle.sim_tree.specs.Syntax.{Expression, Expressions, NoMore, Then}
 use Rattle.sim_tree.specs.Syntax as syntax
 use Rattle.sim_code.specs.declared.instr.Instr.TheVariants as i
 use Rattle.sim_code.specs.Code.{CodeOf}
-use Rattle.sim_meaning.specs.Closing.{is_text, own_result}
+use Rattle.sim_meaning.specs.Attributes.{connection_at, declared_attribute}
+use Rattle.sim_meaning.specs.Closing.{is_text, result_meant}
 use Rattle.sim_meaning.specs.Pending.{Declared, Key, Result}
 use Rattle.codegen_expr.specs.Sites.{At, HasCell, Inside, Is, Pushes, Site, slot_of}
-use Rattle.codegen_expr.specs.CodeExpr.{ElementAt, ExprAt, ExprsAt}
+use Rattle.codegen_expr.specs.CodeExpr.{ElementAt, ExprAt, ExprsAt, PlaceAt, ReferencePlaceAt}
 
--- What a left side is in code: a cell, by its level and its slot; an address on the stack; a text on the stack to which a text is assigned,
--- which is the value of an expression or lies in the cell of the result of a procedure; or not built.
+-- What a left side is in code: a cell, by its level and its slot; the address on the stack of an element, of an attribute of an object, or of
+-- a reference, which is held against its class; a text on the stack to which a text is assigned, which is the value of an expression or lies
+-- in the cell of the result of a procedure; or not built.
 pub data Stored : Type 0 where
   InCell : (text : ℕ) → Key → Stored
   AtAddress : DeclNo → Expressions → (line : ℕ) → Stored
+  AtAttribute : Expression → Stored
+  ToReference : Expression → (line : ℕ) → Stored
   ToText : Expression → (line : ℕ) → Stored
   ToResult : (text line : ℕ) → Stored
   NotBuilt : Stored
@@ -61,9 +65,15 @@ abbrev pub stored_named : Source → Option Denotation → Expressions → (line
 stored_named s (Some (denotation.Declared d)) es line = stored_declared s d es line (entry_of s.tables d)
 stored_named s _ es line = NotBuilt
 
+-- what is seen behind a dot or through a connection is an attribute of an object
+abbrev pub stored_found : {A : Type 0} → Option A → Expression → Stored → Stored
+stored_found None e other = other
+stored_found (Some a) e other = AtAttribute e
+
 -- a variable as a left side
 abbrev pub stored_left : Source → Expression → Stored
-stored_left s (syntax.Named name es) = stored_named s (denoted s name.token.0) es (line_at s name.token.0)
+stored_left s (syntax.Named name es) = stored_found (connection_at s name.token.0) (syntax.Named name es) (stored_named s (denoted s name.token.0) es (line_at s name.token.0))
+stored_left s (syntax.Dot token a name es) = stored_found (declared_attribute (denoted s name.token.0)) (syntax.Dot token a name es) NotBuilt
 stored_left s e = NotBuilt
 
 -- a text to which a text is assigned, with the line of the sign
@@ -72,10 +82,10 @@ stored_text None e line = ToText e line
 stored_text (Some block) e line = ToResult block line
 
 abbrev pub stored_of : (text : Bool) → Assignment → Source → (line : ℕ) → Expression → Stored
-stored_of true assignment.Value s line e = stored_text (own_result s e) e line
+stored_of true assignment.Value s line e = stored_text (result_meant s e) e line
 stored_of true assignment.Reference s line e = stored_left s e
 stored_of false assignment.Value s line e = stored_left s e
-stored_of false assignment.Reference s line e = NotBuilt
+stored_of false assignment.Reference s line e = ToReference e line
 
 -- a left side, with the line of its sign
 abbrev pub stored : Source → Assignment → (line : ℕ) → Expression → Stored
@@ -83,7 +93,7 @@ stored s sign line e = stored_of (is_text s e) sign s line e
 
 -- the text in the cell of the result of a procedure
 pub record ResultAt (s : Source) (code : CodeOf) (site : Site) (n text p q : ℕ) : Type 0 where
-  pub load : Pushes code site n (i.Load (pos (level_of s text)) (pos (slot_of s text Result))) p q
+  pub load : Pushes code site n (i.Load (pos (level_of s text)) (pos (slot_of s code text Result))) p q
   pub inside : Inside s.tables site.text text
   pub within : HasCell s text Result
 
@@ -92,15 +102,19 @@ abbrev pub LeftsAt : Source → CodeOf → Site → ℕ → List Stored → (end
 LeftsAt s code site n [] End p q = End n p q
 LeftsAt s code site n (InCell text key ∷ rest) End p q = Inside s.tables site.text text × HasCell s text key × LeftsAt s code site n rest End p q
 LeftsAt s code site n (AtAddress d es line ∷ rest) End p q =
-    (x : ℕ) × ElementAt s code site n line d es (ExprsAt s code site (suc n) es) p x × LeftsAt s code site (suc n) rest End x q
+    (x : ℕ) × ElementAt s code site n line 0 d es (ExprsAt s code site (suc n) es) p x × LeftsAt s code site (suc n) rest End x q
+LeftsAt s code site n (AtAttribute e ∷ rest) End p q = (x : ℕ) × PlaceAt s code site n 0 e p x × LeftsAt s code site (suc n) rest End x q
+LeftsAt s code site n (ToReference e line ∷ rest) End p q = (x : ℕ) × ReferencePlaceAt s code site n e p x × LeftsAt s code site (suc n) rest End x q
 LeftsAt s code site n (ToText e line ∷ rest) End p q = (x : ℕ) × ExprAt s code site n e p x × LeftsAt s code site (suc n) rest End x q
 LeftsAt s code site n (ToResult text line ∷ rest) End p q = (x : ℕ) × ResultAt s code site n text p x × LeftsAt s code site (suc n) rest End x q
 LeftsAt s code site n (NotBuilt ∷ rest) End p q = ⊥
 
 -- the value on top goes to one left side
 abbrev pub StoreAt : Source → CodeOf → Stored → ℕ → ℕ → Type 0
-StoreAt s code (InCell text key) p q = Is code (i.Store (pos (level_of s text)) (pos (slot_of s text key))) p q
+StoreAt s code (InCell text key) p q = Is code (i.Store (pos (level_of s text)) (pos (slot_of s code text key))) p q
 StoreAt s code (AtAddress d es line) p q = Is code i.Put p q
+StoreAt s code (AtAttribute e) p q = Is code i.Put p q
+StoreAt s code (ToReference e line) p q = At code i.Put line p q
 StoreAt s code (ToText e line) p q = At code i.AssignT line p q
 StoreAt s code (ToResult text line) p q = At code i.AssignT line p q
 StoreAt s code NotBuilt p q = ⊥
@@ -108,6 +122,8 @@ StoreAt s code NotBuilt p q = ⊥
 abbrev pub addresses : List Stored → ℕ
 addresses [] = 0
 addresses (AtAddress d es line ∷ rest) = suc (addresses rest)
+addresses (AtAttribute e ∷ rest) = suc (addresses rest)
+addresses (ToReference e line ∷ rest) = suc (addresses rest)
 addresses (ToText e line ∷ rest) = suc (addresses rest)
 addresses (ToResult text line ∷ rest) = suc (addresses rest)
 addresses (_ ∷ rest) = addresses rest
@@ -115,6 +131,8 @@ addresses (_ ∷ rest) = addresses rest
 -- how many values are left where one left side has its value: one fewer behind an address or a text
 abbrev pub below : Stored → ℕ → ℕ
 below (AtAddress d es line) (suc n) = n
+below (AtAttribute e) (suc n) = n
+below (ToReference e line) (suc n) = n
 below (ToText e line) (suc n) = n
 below (ToResult text line) (suc n) = n
 below _ n = n

@@ -1,18 +1,24 @@
 -- Which code stands for a statement. There are n values on the operand stack before it and behind it.
-use Rattle.std.specs.Prelude.{◌≡◌, ℕ, zero, suc, Bool, true, false, pos, Option, Some, None}
+use Rattle.std.specs.Prelude.{◌≡◌, ◌||◌, ℕ, zero, suc, Bool, true, false, pos, Option, Some, None}
 use Rattle.sim_scope.specs.Assignments.{last_value, left_sides}
 use Rattle.sim_scope.specs.Access.{encloser}
-use Rattle.sim_scope.specs.Source.{Source, block_around, denoted, line_at}
-use Rattle.sim_tree.specs.Syntax.{Also, Begin, Block, Expression, NoDeclaration, NoMore, NoStatement, Statement, Statements, With}
+use Rattle.sim_scope.specs.Source.{Source, block_around, denoted, level_of, line_at}
+use Rattle.sim_tree.specs.Syntax.{Also, Arms, Begin, Block, Expression, Expressions, NoArm, NoDeclaration, NoMore, NoStatement, Statement, Statements, When, With}
 use Rattle.sim_tree.specs.Syntax as syntax
 use Rattle.sim_code.specs.declared.instr.Instr.TheVariants as i
 use Rattle.sim_code.specs.Code.{CodeOf}
-use Rattle.sim_meaning.specs.Closing.{is_text, is_variable, stream_of}
-use Rattle.sim_meaning.specs.Statements.{leaves}
-use Rattle.codegen_expr.specs.Sites.{At, IfAt, Is, LoopAt, Site, WhenAt}
-use Rattle.codegen_expr.specs.CodeExpr.{ActualsAt, DotAt, ExprAt, ExprsAt, NamedAt, PlaceAt, block_number, gives}
-use Rattle.codegen.specs.CodeFor.{ForAt, assigned_by, is_empty}
-use Rattle.codegen.specs.CodeLeft.{AssignAt, each_stored, stored_left}
+use Rattle.sim_meaning.specs.Attributes.{cell_of_connection, connection_at}
+use Rattle.sim_meaning.specs.Closing.{class_parameters, is_attribute, is_text, is_variable, stream_of}
+use Rattle.sim_meaning.specs.Levels.{class_at}
+use Rattle.sim_meaning.specs.Pending.{Connection}
+use Rattle.sim_meaning.specs.Statements.{begin_of, leaves}
+use Rattle.sim_meaning.specs.Texts.{ConnectionText, text}
+use Rattle.sim_meaning.specs.Texts as Texts
+use Rattle.codegen_expr.specs.Sites.{Ahead, At, HasCell, IfAt, Is, LoopAt, Pushes, Site, WhenAt, block_number, class_number, frame_text, slot_of}
+use Rattle.codegen_expr.specs.CodeExpr.{ActualsAt, ConnectedNameAt, DotAt, ExprAt, ExprsAt, NamedAt, PlaceAt, ThroughAt, gives, operands}
+use Rattle.codegen.specs.Agrees.{is_prefixed}
+use Rattle.codegen.specs.CodeFor.{ForAt, assigned_by, is_empty, variable_of}
+use Rattle.codegen.specs.CodeLeft.{AssignAt, each_stored}
 
 -- ---- statements
 
@@ -27,13 +33,91 @@ EnterAt s code site line None p q = ⊥
 EnterAt s code site line (Some zero) p q = ⊥
 EnterAt s code site line (Some (suc k)) p q = (encloser s.tables (suc k) ≡ Some site.text) × At code (i.Enter (pos (block_number s (suc k)))) line p q
 
--- a call that stands as a statement: an identifier or an attribute that leaves a value just where its entry or row says so
+-- A block prefix: its actuals, and the entry of the prefixed block, which stands in the text from which it is entered.
+pub record PrefixAt (s : Source) (code : CodeOf) (site : Site) (n line text : ℕ) (es : Expressions) (p q : ℕ) : Type 0 where
+  pub x : ℕ
+  pub is : is_prefixed (Texts.text s text) ≡ true
+  pub around : encloser s.tables text ≡ Some site.text
+  pub actuals : ActualsAt s code site n line true es (class_parameters s (Some text)) p x
+  pub enter : At code (i.Pref (pos (block_number s text)) (pos (operands es))) line x q
+
+abbrev pub PrefixedAt : Source → CodeOf → Site → (n line : ℕ) → Expressions → Option ℕ → ℕ → ℕ → Type 0
+PrefixedAt s code site n line es None p q = ⊥
+PrefixedAt s code site n line es (Some zero) p q = ⊥
+PrefixedAt s code site n line es (Some (suc k)) p q = PrefixAt s code site n line (suc k) es p q
+
+-- A call that stands as a statement: an identifier or an attribute that leaves a value just where its entry or row says so, or `new`.
 abbrev pub CalledAt : Source → CodeOf → Site → ℕ → Expression → ℕ → ℕ → Type 0
 CalledAt s code site n (syntax.Named name es) p q =
-    (leaves s (syntax.Named name es) ≡ gives s (denoted s name.token.0)) × NamedAt s code site n (line_at s name.token.0) (denoted s name.token.0) es (ExprsAt s code site n es) (ExprsAt s code site (suc n) es) (λ formals. ActualsAt s code site (suc n) (line_at s name.token.0) es formals) p q
+    (leaves s (syntax.Named name es) ≡ gives s (denoted s name.token.0)) × ThroughAt (connection_at s name.token.0)
+    (λ k. ConnectedNameAt s code site n (line_at s name.token.0) k (denoted s name.token.0) es (ExprsAt s code site (suc n) es) (λ formals. ActualsAt s code site (suc n) (line_at s name.token.0) false es formals))
+    (NamedAt s code site n (line_at s name.token.0) (denoted s name.token.0) es (ExprsAt s code site n es) (ExprsAt s code site (suc n) es) (λ formals. ActualsAt s code site (suc n) (line_at s name.token.0) false es formals)) p q
 CalledAt s code site n (syntax.Dot token a name es) p q =
-    (leaves s (syntax.Dot token a name es) ≡ gives s (denoted s name.token.0)) × DotAt code site n (line_at s name.token.0) (denoted s name.token.0) (stream_of s a) (is_variable s a) es (PlaceAt s code site n a) (ExprAt s code site n a) (ExprsAt s code site n es) (ExprsAt s code site (suc n) es) p q
+    (leaves s (syntax.Dot token a name es) ≡ gives s (denoted s name.token.0)) × DotAt s code site n (line_at s name.token.0) (denoted s name.token.0) (stream_of s a) (is_variable s a || is_attribute s a) es
+    (PlaceAt s code site n 0 a) (ExprAt s code site n a) (ExprsAt s code site n es) (ExprsAt s code site (suc n) es) (λ formals. ActualsAt s code site (suc n) (line_at s name.token.0) false es formals) p q
+CalledAt s code site n (syntax.New token class es) p q = ExprAt s code site n (syntax.New token class es) p q
 CalledAt s code site n _ p q = ⊥
+
+-- ---- connections
+
+-- The object on top is kept in the cell of the connection that begins at a token, which stands in the text; then comes its statement, which
+-- stands in the connection.
+pub record ConnectionAt (s : Source) (code : CodeOf) (site : Site) (opening connection : ℕ) (Body : Site → ℕ → ℕ → Type 0) (p q : ℕ) : Type 0 where
+  pub x : ℕ
+  pub is : text s connection ≡ Some ConnectionText
+  pub begins : cell_of_connection s connection ≡ Connection opening
+  pub around : encloser s.tables connection ≡ Some site.text
+  pub kept : Is code (i.Store (pos (level_of s connection)) (pos (slot_of s code (frame_text s connection) (Connection opening)))) p x
+  pub has : HasCell s (frame_text s connection) (Connection opening)
+  pub body : Body (record site { text = connection }) x q
+
+abbrev pub ConnectsAt : Source → CodeOf → Site → (opening : ℕ) → (connection : Option ℕ) → (Body : Site → ℕ → ℕ → Type 0) → ℕ → ℕ → Type 0
+ConnectsAt s code site opening None Body p q = ⊥
+ConnectsAt s code site opening (Some k) Body p q = ConnectionAt s code site opening k Body p q
+
+-- `inspect x do`: the object, which is connected, or `otherwise` where there is none
+pub record InspectAt (code : CodeOf) (site : Site) (n : ℕ) (Object Connected Otherwise : ℕ → ℕ → Type 0) (p q : ℕ) : Type 0 where
+  pub a : ℕ
+  pub b : ℕ
+  pub c : ℕ
+  pub d : ℕ
+  pub e : ℕ
+  pub f : ℕ
+  pub g : ℕ
+  pub y : ℕ
+  pub z : ℕ
+  pub object : Object p a
+  pub again : Pushes code site (suc n) i.Dup a b
+  pub none : Pushes code site (suc (suc n)) i.None b c
+  pub same : Is code i.Same c d
+  pub other : Is code i.Not d e
+  pub jump : Is code (i.JumpF (pos y)) e f
+  pub leads : Ahead code e y
+  pub connected : Connected f g
+  pub over : Is code (i.Jump (pos q)) g y
+  pub past : Ahead code g q
+  pub dropped : Is code i.Pop y z
+  pub otherwise : Otherwise z q
+
+-- an arm: the object is tested, and connected where it is in the class, or else the arms behind are tried
+pub record ArmAt (s : Source) (code : CodeOf) (site : Site) (n class : ℕ) (Connected More : ℕ → ℕ → Type 0) (p q : ℕ) : Type 0 where
+  pub a : ℕ
+  pub b : ℕ
+  pub c : ℕ
+  pub d : ℕ
+  pub y : ℕ
+  pub again : Pushes code site (suc n) i.Dup p a
+  pub test : Is code (i.In (pos (class_number s code class))) a b
+  pub jump : Is code (i.JumpF (pos y)) b c
+  pub leads : Ahead code b y
+  pub connected : Connected c d
+  pub over : Is code (i.Jump (pos q)) d y
+  pub past : Ahead code d q
+  pub more : More y q
+
+abbrev pub ArmOfAt : Source → CodeOf → Site → ℕ → (class : Option ℕ) → (Connected More : ℕ → ℕ → Type 0) → ℕ → ℕ → Type 0
+ArmOfAt s code site n None Connected More p q = ⊥
+ArmOfAt s code site n (Some k) Connected More p q = ArmAt s code site n k Connected More p q
 
 abbrev mutual
   pub StmAt : Source → CodeOf → Site → ℕ → Statement → ℕ → ℕ → Type 0
@@ -45,8 +129,20 @@ abbrev mutual
   StmAt s code site n (syntax.Repeat token c a) p q =
       (t : ℕ) × (y : ℕ) × (w : ℕ) × Is code i.Tick p t × LoopAt code (ExprAt s code site n c) (StmAt s code site n a) t y w q
   StmAt s code site n (syntax.For token x sign assign es a) p q =
-      (t : ℕ) × Is code i.Tick p t × ForAt s code site n (assigned_by (is_text s (syntax.Named x NoMore)) sign (line_at s assign)) (stored_left s (syntax.Named x NoMore)) (is_empty a) es (λ site. StmAt s code site n a) t q
-  StmAt s code site n _ p q = ⊥
+      (t : ℕ) × Is code i.Tick p t × ForAt s code site n (variable_of s (line_at s assign) (syntax.Named x NoMore) (assigned_by (is_text s (syntax.Named x NoMore)) sign (line_at s assign))) (is_empty a) es (λ site. StmAt s code site n a) t q
+  StmAt s code site n (syntax.Prefixed class es b) p q = (t : ℕ) × Is code i.Tick p t × PrefixedAt s code site n (line_at s class.token.0) es (block_around s (begin_of b)) t q
+  StmAt s code site n (syntax.Inspect token e opening a end other) p q =
+      (t : ℕ) × Is code i.Tick p t × InspectAt code site n (ExprAt s code site n e) (ConnectsAt s code site opening (block_around s opening) (λ site. StmAt s code site n a)) (StmsAt s code site n other) t q
+  StmAt s code site n (syntax.InspectWhen token e arms other) p q =
+      (t : ℕ) × (x : ℕ) × Is code i.Tick p t × ExprAt s code site n e t x × ArmsAt s code site n arms (StmsAt s code site n other) x q
+  StmAt s code site n (syntax.Inner token) p q = ⊥
+  StmAt s code site n (syntax.Activate token word e schedule) p q = ⊥
+
+  -- the object is on top; where no arm is taken it is dropped
+  pub ArmsAt : Source → CodeOf → Site → ℕ → Arms → (Otherwise : ℕ → ℕ → Type 0) → ℕ → ℕ → Type 0
+  ArmsAt s code site n NoArm Otherwise p q = (x : ℕ) × Is code i.Pop p x × Otherwise x q
+  ArmsAt s code site n (When token class opening a end more) Otherwise p q =
+      ArmOfAt s code site n (class_at s class.token.0) (ConnectsAt s code site opening (block_around s opening) (λ site. StmAt s code site n a)) (ArmsAt s code site n more Otherwise) p q
 
   pub BranchAt : Source → CodeOf → Site → ℕ → Statements → (Test First : ℕ → ℕ → Type 0) → ℕ → ℕ → Type 0
   BranchAt s code site n NoStatement Test First p q = WhenAt code Test First p q
@@ -60,3 +156,37 @@ abbrev mutual
   pub BlockAt : Source → CodeOf → Site → ℕ → Block → ℕ → ℕ → Type 0
   BlockAt s code site n (Begin token NoDeclaration ss end) p q = StmsAt s code site n ss p q
   BlockAt s code site n (Begin token (With d ds) ss end) p q = EnterAt s code site (line_at s token) (block_around s token) p q
+
+-- ---- the statements of a level of a class, or of a prefixed block
+
+abbrev pub inner_of : Statement → Option ℕ
+inner_of (syntax.Inner token) = Some token
+inner_of _ = None
+
+-- `inner` itself, which is written in the level of this text; `place` is the number of levels in front of it, and `after` is what stands behind
+pub record InnerAt (s : Source) (code : CodeOf) (site : Site) (place after token p q : ℕ) : Type 0 where
+  pub x : ℕ
+  pub its_own : block_around s token ≡ Some site.text
+  pub tick : Is code i.Tick p x
+  pub inner : Is code (i.Inner (pos place)) x after
+  pub on : q ≡ after
+
+-- a statement of such a list, one of which is `inner`
+abbrev pub InnerOrAt : Source → CodeOf → Site → (place after : ℕ) → (token : Option ℕ) → Statement → (more : Statements) → (More : ℕ → ℕ → Type 0) → ℕ → ℕ → Type 0
+InnerOrAt s code site place after (Some token) a more More p q = (x : ℕ) × InnerAt s code site place after token p x × StmsAt s code site 0 more x q
+InnerOrAt s code site place after None a more More p q = (x : ℕ) × StmAt s code site 0 a p x × More x q
+
+abbrev pub WithInnerAt : Source → CodeOf → Site → (place after : ℕ) → Statements → ℕ → ℕ → Type 0
+WithInnerAt s code site place after NoStatement p q = ⊥
+WithInnerAt s code site place after (Also a more) p q = InnerOrAt s code site place after (inner_of a) a more (WithInnerAt s code site place after more) p q
+
+-- where none is written, what stands for it comes behind all statements
+pub record InnerLastAt (s : Source) (code : CodeOf) (site : Site) (place after : ℕ) (ss : Statements) (p q : ℕ) : Type 0 where
+  pub x : ℕ
+  pub statements : StmsAt s code site 0 ss p x
+  pub inner : Is code (i.Inner (pos place)) x after
+  pub on : q ≡ after
+
+abbrev pub LevelAt : Source → CodeOf → Site → (place after : ℕ) → (written : Bool) → Statements → ℕ → ℕ → Type 0
+LevelAt s code site place after true ss p q = WithInnerAt s code site place after ss p q
+LevelAt s code site place after false ss p q = InnerLastAt s code site place after ss p q

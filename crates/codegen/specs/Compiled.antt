@@ -1,5 +1,5 @@
 -- Which code stands for a whole program.
-use Rattle.std.specs.Prelude.{◌≡◌, ◌<◌, ℕ, zero, suc, pos, List, ◌++◌, length, map, slice_get, Option, Some, None}
+use Rattle.std.specs.Prelude.{◌≡◌, ◌<◌, ◌≤◌, ◌+◌, ⊤, ℕ, zero, suc, Bool, false, pos, List, ◌++◌, length, map, slice_get, Option, Some, None}
 use Rattle.sim_scope.specs.declared.types.Formal.{Formal}
 use Rattle.sim_scope.specs.declared.types.FormalKind.{FormalKind}
 use Rattle.sim_scope.specs.declared.types.FormalKind.TheVariants as of
@@ -23,16 +23,18 @@ use Rattle.sim_code.specs.declared.code.CodeType.{CodeType}
 use Rattle.sim_code.specs.declared.code.CodeType.TheVariants as type
 use Rattle.sim_code.specs.declared.instr.Instr.{Instr}
 use Rattle.sim_code.specs.declared.instr.Instr.TheVariants as i
-use Rattle.sim_code.specs.Code.{BlockOf, CodeOf}
+use Rattle.sim_code.specs.Classes.{class_numbered}
+use Rattle.sim_code.specs.Code.{BlockOf, ClassOf, CodeOf}
 use Rattle.sim_meaning.specs.Constants.{constants_of}
+use Rattle.sim_meaning.specs.Closing.{class_parameters}
 use Rattle.sim_meaning.specs.Entries.{formals_of}
+use Rattle.sim_meaning.specs.Levels.{levels_of, writes_inner}
 use Rattle.sim_meaning.specs.Pending.{Held, Of, Val}
-use Rattle.sim_meaning.specs.Texts.{BlockText, ConnectionText, ProcedureText, Text as TextOf, is_class_free, text}
-use Rattle.codegen_expr.specs.Sites.{At, Is, Site, cells_in}
-use Rattle.codegen_expr.specs.CodeExpr.{block_number}
+use Rattle.sim_meaning.specs.Texts.{BlockText, ClassText, ConnectionText, PrefixedText, ProcedureText, StandardText, Text as TextOf, is_class_free, text}
+use Rattle.codegen_expr.specs.Sites.{At, Is, Site, block_in_front, block_number, cells_in, class_in, own_end, own_part, types_in}
 use Rattle.codegen.specs.Agrees.{Agrees}
 use Rattle.codegen.specs.CodeArrays.{ArraysAt}
-use Rattle.codegen.specs.CodeStm.{StmAt, StmsAt}
+use Rattle.codegen.specs.CodeStm.{LevelAt, StmAt, StmsAt}
 
 -- ---- cells
 
@@ -87,20 +89,36 @@ code_formal f = record { mode = code_mode f.mode; shape = code_shape f.kind; cod
 
 -- ---- blocks
 
--- the record of a text: its cells are those of the text in their order, and temps stand behind them
-pub record RecordOf (s : Source) (k : ℕ) (kind : BlockKind) (result_type : CodeType) (b : BlockOf) : Type 0 where
+-- the formal parameters of a text, those of a class or a prefixed block of all its levels
+abbrev pub parameters_of : Source → (text : ℕ) → Option TextOf → List Formal
+parameters_of s k (Some (ClassText prefix h ds ss)) = class_parameters s (Some k)
+parameters_of s k (Some (PrefixedText class arguments ds ss)) = class_parameters s (Some k)
+parameters_of s k _ = formals_of s k
+
+abbrev pub cells_of_block : Option BlockOf → ℕ
+cells_of_block None = 0
+cells_of_block (Some b) = b.cells
+
+abbrev pub room_of_block : Option BlockOf → ℕ
+room_of_block None = 0
+room_of_block (Some b) = b.room
+
+-- The record of a text. Its frames have all that those of the class in front of it have, then the text's own part, then temps. What the text
+-- and the classes in front of it declare costs words; cells of connections and temps cost none.
+pub record RecordOf (s : Source) (code : CodeOf) (k : ℕ) (kind : BlockKind) (result_type : CodeType) (b : BlockOf) : Type 0 where
   pub is_kind : b.kind ≡ kind
   pub level : b.level ≡ level_of s k
-  pub cells : b.cells ≡ length (cells_in s k (text s k))
+  pub cells : b.cells ≡ cells_of_block (block_in_front s code k) + length (cells_in s k (text s k))
   pub class_free : b.class_free ≡ is_class_free s k
   pub gives : b.result_type ≡ result_type
-  pub formals : b.formals ≡ map code_formal (formals_of s k)
+  pub formals : b.formals ≡ map code_formal (parameters_of s k (text s k))
   pub temps : List CodeType
-  pub types : b.types ≡ map type_of_cell (cells_in s k (text s k)) ++ temps
+  pub types : b.types ≡ types_in (block_in_front s code k) ++ (map type_of_cell (own_part s k) ++ temps)
+  pub roomy : room_of_block (block_in_front s code k) ≤ b.room
 
 -- where the code of a text stands
-abbrev pub site_of : (text : ℕ) → BlockOf → Site
-site_of k b = record { text = k; room = b.room; used = b.cells; size = length b.types }
+abbrev pub site_of : Source → CodeOf → (text : ℕ) → BlockOf → Site
+site_of s code k b = record { text = k; room = b.room; used = own_end s code k; size = length b.types }
 
 -- the code of a text from its entry on, up to the instruction that ends it
 pub record BodyOf (code : CodeOf) (Body : ℕ → ℕ → Type 0) (end : Instr) (entry : ℕ) : Type 0 where
@@ -116,31 +134,72 @@ BlockBody s code site ds ss p q = (x : ℕ) × ArraysAt s code site ds p x × St
 
 -- The program's block begins with a jump to the next instruction that has the line of its `begin`.
 pub record ProgramOf (s : Source) (code : CodeOf) (begin : ℕ) (ds : Declarations) (ss : Statements) (b : BlockOf) : Type 0 where
-  pub heads : RecordOf s 0 kind.SubBlock type.Nothing b
+  pub heads : RecordOf s code 0 kind.SubBlock type.Nothing b
   pub start : ℕ
   pub enter : At code (i.Jump (pos start)) (line_at s begin) b.entry start
-  pub body : BodyOf code (BlockBody s code (site_of 0 b) ds ss) (i.EndLevel (pos 0)) start
+  pub body : BodyOf code (BlockBody s code (site_of s code 0 b) ds ss) (i.EndLevel (pos 0)) start
 
 pub record BlockTextOf (s : Source) (code : CodeOf) (k : ℕ) (ds : Declarations) (ss : Statements) (b : BlockOf) : Type 0 where
-  pub heads : RecordOf s k kind.SubBlock type.Nothing b
-  pub body : BodyOf code (BlockBody s code (site_of k b) ds ss) i.Leave b.entry
+  pub heads : RecordOf s code k kind.SubBlock type.Nothing b
+  pub body : BodyOf code (BlockBody s code (site_of s code k b) ds ss) i.Leave b.entry
 
 pub record ProcedureTextOf (s : Source) (code : CodeOf) (k : ℕ) (result : Option TypeName) (a : Statement) (b : BlockOf) : Type 0 where
-  pub heads : RecordOf s k kind.Procedure (type_of_name result) b
-  pub body : BodyOf code (StmAt s code (site_of k b) 0 a) i.Return b.entry
+  pub heads : RecordOf s code k kind.Procedure (type_of_name result) b
+  pub body : BodyOf code (StmAt s code (site_of s code k b) 0 a) i.Return b.entry
 
+-- ---- classes and prefixed blocks
+
+-- the class of a text's block: it has that of the class in front of it for a prefix, which has a lower number
+pub record ClassIs (s : Source) (code : CodeOf) (k : ℕ) (b : BlockOf) (class : ClassOf) : Type 0 where
+  pub numbered : class_numbered code b.class ≡ Some class
+  pub of_block : class.block ≡ block_number s k
+  pub prefix : class.prefix ≡ class_in (block_in_front s code k)
+  pub lower : class.prefix < b.class
+
+-- The code of a level: its declarations, its statements, and what stands behind `inner`, each where the class says.
+pub record LevelOf (s : Source) (code : CodeOf) (k : ℕ) (written : Bool) (ds : Declarations) (ss : Statements) (b : BlockOf) (class : ClassOf) : Type 0 where
+  -- how many levels are in front of it
+  pub place : ℕ
+  pub placed : suc place ≡ length (levels_of s k)
+  pub x : ℕ
+  pub y : ℕ
+  pub declared_there : class.declarations < length code.instrs
+  pub declared : ArraysAt s code (site_of s code k b) ds class.declarations x
+  pub next : Is code (i.NextDecl (pos place)) x y
+  pub stated_there : class.statements < length code.instrs
+  pub stop : ℕ
+  pub stated : LevelAt s code (site_of s code k b) place class.after_inner written ss class.statements stop
+  pub behind_there : class.after_inner < length code.instrs
+  pub last : ℕ
+  pub ends : Is code (i.EndLevel (pos place)) stop last
+
+pub record ClassTextOf (s : Source) (code : CodeOf) (k : ℕ) (kind : BlockKind) (written : Bool) (ds : Declarations) (ss : Statements) (b : BlockOf) : Type 0 where
+  pub heads : RecordOf s code k kind type.Nothing b
+  pub class : ClassOf
+  pub is : ClassIs s code k b class
+  pub level : LevelOf s code k written ds ss b class
+
+-- ---- programs
+
+-- The program's block is the first text, and no class. That it has a prefix, and what standard classes are, is not built.
 abbrev pub TextCode : Source → CodeOf → (text : ℕ) → TextOf → BlockOf → Type 0
 TextCode s code zero (BlockText begin ds ss) b = ProgramOf s code begin ds ss b
 TextCode s code (suc k) (BlockText begin ds ss) b = BlockTextOf s code (suc k) ds ss b
 TextCode s code k (ProcedureText result h a) b = ProcedureTextOf s code k result a b
-TextCode s code k _ b = ⊥
+TextCode s code zero (ClassText prefix h ds ss) b = ⊥
+TextCode s code (suc k) (ClassText prefix h ds ss) b = ClassTextOf s code (suc k) kind.Object (writes_inner s (suc k)) ds ss b
+TextCode s code zero (PrefixedText class arguments ds ss) b = ⊥
+TextCode s code (suc k) (PrefixedText class arguments ds ss) b = ClassTextOf s code (suc k) kind.Prefixed false ds ss b
+TextCode s code k ConnectionText b = ⊥
+TextCode s code k (StandardText which) b = ⊥
 
+-- a connection has no code of its own
 abbrev pub CodeHas : Source → CodeOf → (text : ℕ) → TextOf → Option BlockOf → Type 0
-CodeHas s code k ConnectionText b = ⊥
+CodeHas s code k ConnectionText b = ⊤
 CodeHas s code k x None = ⊥
 CodeHas s code k x (Some b) = TextCode s code k x b
 
--- the tables agree, and the code has a block for each text, and the text constants
+-- the tables agree, and the code has a block for each text but connections, and the text constants
 pub record Compiled (s : Source) (code : CodeOf) : Type 0 where
   pub agrees : Agrees s
   pub texts : code.texts ≡ constants_of s

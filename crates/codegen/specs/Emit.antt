@@ -1,5 +1,5 @@
 -- What is written of a statement.
-use Rattle.std.specs.Prelude.{◌≤◌, ℕ, List, [], ◌∷◌, length, map, Option, Some}
+use Rattle.std.specs.Prelude.{◌≤◌, ℕ, List, [], ◌∷◌, length, map, Option}
 use Rattle.sim_scope.specs.declared.bound.Bound.{Bound}
 use Rattle.sim_scope.specs.Assignments.{last_value, left_sides}
 use Rattle.sim_scope.specs.Source.{Source, denoted, source_of}
@@ -20,13 +20,14 @@ use Rattle.codegen_expr.specs.Drafts.{DraftOf, Emits}
 use Rattle.codegen_expr.specs.declared.operators.Object.{Object}
 use Rattle.codegen_expr.specs.Emit.{PutsBefore, moves_denoted}
 use Rattle.codegen_expr.specs.Sites.{Site}
-use Rattle.codegen.specs.BuiltProgram.{AssignBuilt, BlockBuilt, CalledBuilt, ElementBuilt, ForBuilt, LeftBuilt, ListBuilt, StatementBuilt, StatementsBuilt}
-use Rattle.codegen.specs.CodeFor.{ForAt, GivesVariable, ListAt, OneElementAt, Variable, is_empty}
+use Rattle.codegen.specs.BuiltProgram.{AssignBuilt, BlockBuilt, CalledBuilt, ForBuilt, LeftBuilt, StatementBuilt, StatementsBuilt, VariableBuilt}
+use Rattle.codegen.specs.CodeFor.{ForAt, GivesVariable, ListAt, OneElementAt, Variable, is_empty, variable_stored}
 use Rattle.codegen.specs.CodeLeft.{AssignAt, GoesAt, LeftsAt, Stored, each_stored, stored_left}
 use Rattle.codegen.specs.declared.lists.Shared.{Shared}
-use Rattle.codegen.specs.EmitShared.{Controls, TurnBuilt, TurnOf, begins}
+use Rattle.codegen.specs.EmitShared.{TurnBuilt, TurnOf, begins}
+use Rattle.codegen.specs.EmitTargets.{Controls, ElementOver, ListOver}
 use Rattle.codegen.specs.EmitSeveral.{SideOf, stored_side}
-use Rattle.codegen.specs.declared.statement.Target.{Target}
+use Rattle.codegen.specs.declared.targets.Target.{Target}
 use Rattle.codegen.specs.CodeStm.{BlockAt, CalledAt, DropsAt, StmAt, StmsAt}
 
 -- ---- statements
@@ -90,31 +91,31 @@ WritesOne b w old new x y =
 
 -- ---- `for`
 
--- the line is that of the sign, where a text is assigned to that of the variable
+-- over a variable that is no reference; the line is that of the sign, where a text is assigned to that of the variable
 unfoldable pub WritesFor : Bound → Spot → (old new : DraftOf) → Identifier → (assigned : Option ℕ) → List Element → Stmt → Type 0
 WritesFor b w old new x assigned es a =
     let s = source_of b in
-    let t = stored_left s (Named x NoMore) in
-    Emits w old new (ForBuilt s w.text (Some assigned) t es (StatementBuilt s w.text (statement_syntax a)))
-    (λ final site p q. ForAt s final site 0 (Some assigned) t (is_empty (statement_syntax a)) es (λ site. StmAt s final site 0 (statement_syntax a)) p q)
+    let v = variable_stored (stored_left s (Named x NoMore)) assigned in
+    Emits w old new (ForBuilt s w.text v es (StatementBuilt s w.text (statement_syntax a)))
+    (λ final site p q. ForAt s final site 0 v (is_empty (statement_syntax a)) es (λ site. StmAt s final site 0 (statement_syntax a)) p q)
 
--- a list over a variable that is in this cell
+-- a list over a variable
 unfoldable pub WritesList : Bound → Spot → (old new : DraftOf) → (target : Target) → List Element → Stmt → Type 0
 WritesList b w old new target es a =
-    (v : Variable) → Controls (source_of b) target v
-    → Emits w old new (ListBuilt (source_of b) w.text v.assigned es (StatementBuilt (source_of b) w.text (statement_syntax a)))
+    (v : Variable) → Controls (source_of b) w.text target v
+    → Emits w old new (ListOver (source_of b) w.text v es (StatementBuilt (source_of b) w.text (statement_syntax a)))
     (λ final site p q. ListAt (source_of b) final site 0 v (is_empty (statement_syntax a)) es (λ site. StmAt (source_of b) final site 0 (statement_syntax a)) p q)
 
 -- an element with its turns, which go on at this place
 unfoldable pub WritesElementOf : Bound → Spot → (old new : DraftOf) → (target : Target) → Element → Stmt → Option Shared → (on : ℕ) → Type 0
 WritesElementOf b w old new target x a k on =
-    (v : Variable) → Controls (source_of b) target v → begins k ≤ length old.instrs
+    (v : Variable) → Controls (source_of b) w.text target v → begins k ≤ length old.instrs
     → (length old.instrs ≤ on) × (on ≤ length new.instrs)
-    × Emits w old new (ElementBuilt (source_of b) w.text v.assigned x × TurnBuilt (source_of b) w.text (statement_syntax a) k)
+    × Emits w old new (ElementOver (source_of b) w.text v x × TurnBuilt (source_of b) w.text (statement_syntax a) k)
     (λ final site p q. OneElementAt (source_of b) final site 0 v x (TurnOf (source_of b) final site w.used (statement_syntax a) k on) p q)
 
 -- a value goes to the variable
 unfoldable pub WritesGiven : Bound → Spot → (old new : DraftOf) → (target : Target) → (value : Expr) → Type 0
 WritesGiven b w old new target y =
-    (v : Variable) → Controls (source_of b) target v
-    → Emits w old new (IsBuilt (source_of b) w.text (syntax_of y)) (λ final site p q. GivesVariable (source_of b) final site 0 v (syntax_of y) p q)
+    (v : Variable) → Controls (source_of b) w.text target v
+    → Emits w old new (VariableBuilt (source_of b) w.text v × IsBuilt (source_of b) w.text (syntax_of y)) (λ final site p q. GivesVariable (source_of b) final site 0 v (syntax_of y) p q)

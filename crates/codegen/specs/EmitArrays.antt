@@ -16,6 +16,7 @@ use Rattle.sim_meaning.specs.Texts.{declared_at, kind_named}
 use Rattle.codegen_expr.specs.declared.spot.Spot.{Spot}
 use Rattle.codegen_expr.specs.Built.{slot_in}
 use Rattle.codegen_expr.specs.Drafts.{DraftOf, Emits}
+use Rattle.codegen_expr.specs.Sites.{Varies}
 use Rattle.codegen.specs.BuiltProgram.{ArraysBuilt, BoundsBuilt, KeptBuilt, MadeBuilt, SegmentsBuilt}
 use Rattle.codegen.specs.CodeArrays.{ArraysAt, BoundsAt, FurtherAt, KeepsArray, LoadsArray, MakesAt, SegmentsAt}
 
@@ -24,7 +25,7 @@ use Rattle.codegen.specs.CodeArrays.{ArraysAt, BoundsAt, FurtherAt, KeepsArray, 
 -- the cell of an array that is declared at a token
 abbrev pub KeptIs : Source → (text token : ℕ) → Option ℕ → Type 0
 KeptIs s text token None = KeptBuilt s text (declared_at s token) → ⊥
-KeptIs s text token (Some slot) = (d : DeclNo) × (declared_at s token ≡ Some d) × (block_of s d ≡ text) × (slot_in s text (Declared d.0) ≡ Some slot)
+KeptIs s text token (Some slot) = (d : DeclNo) × (declared_at s token ≡ Some d) × (block_of s d ≡ text) × Varies s d × (slot_in s text (Declared d.0) ≡ Some slot)
 
 unfoldable pub FindsKept : Bound → Spot → TokenNo → Option ℕ → Type 0
 FindsKept b w token r = KeptIs (source_of b) w.text token.0 r

@@ -1,5 +1,5 @@
 -- What is found of a left side.
-use Rattle.std.specs.Prelude.{◌≡◌, ℕ, List, map}
+use Rattle.std.specs.Prelude.{◌≡◌, ℕ, zero, suc, List, [], ◌∷◌, map, Option, None}
 use Rattle.sim_base.specs.declared.numbering.DeclNo.{DeclNo}
 use Rattle.sim_base.specs.declared.numbering.TokenNo.{TokenNo}
 use Rattle.sim_scope.specs.declared.bound.Bound.{Bound}
@@ -9,35 +9,57 @@ use Rattle.sim_scope.specs.Scopes.{entry_of}
 use Rattle.sim_scope.specs.Source.{Source, denoted, level_of, line_at, source_of}
 use Rattle.sim_tree.specs.declared.expr.Expr.{Expr}
 use Rattle.sim_tree.specs.declared.stmt.Assignment.{Assignment}
-use Rattle.sim_tree.specs.Syntax.{Expression, Expressions, expressions}
-use Rattle.sim_tree.specs.SyntaxOf.{syntax_of}
-use Rattle.sim_meaning.specs.Closing.{own_result}
+use Rattle.sim_tree.specs.declared.expr.Identifier.{Identifier}
+use Rattle.sim_tree.specs.declared.expr.Selector.{Selector}
+use Rattle.sim_tree.specs.Syntax.{Expression, Expressions, Named, NoMore, expressions}
+use Rattle.sim_tree.specs.SyntaxOf.{selected, selector_syntax, syntax_of}
+use Rattle.sim_meaning.specs.Attributes.{connection_at}
+use Rattle.sim_meaning.specs.Closing.{own_block_denoted, result_meant, unless_connected}
 use Rattle.sim_meaning.specs.Pending.{Key, Result}
 use Rattle.codegen_expr.specs.declared.spot.Spot.{Spot}
-use Rattle.codegen_expr.specs.Built.{KeyBuilt}
+use Rattle.codegen_expr.specs.Built.{KeyBuilt, ReferenceBuilt}
+use Rattle.codegen_expr.specs.CodeExpr.{ReferencePlaceAt, ResultPlaceAt}
+use Rattle.codegen_expr.specs.Drafts.{DraftOf, Emits}
 use Rattle.codegen_expr.specs.Sites.{slot_of}
+use Rattle.sim_code.specs.Code.{CodeOf}
 use Rattle.codegen.specs.declared.left.Left.{Left}
 use Rattle.codegen.specs.declared.left.Left.TheVariants as left
 use Rattle.codegen.specs.BuiltProgram.{LeftBuilt}
-use Rattle.codegen.specs.CodeLeft.{AtAddress, InCell, Stored, ToResult, ToText, stored, stored_declared, stored_element, stored_formal, stored_left, stored_named, stored_result, stored_text, stored_variable}
+use Rattle.codegen.specs.CodeLeft.{AtAddress, AtAttribute, InCell, Stored, ToReference, ToResult, ToText, stored, stored_declared, stored_element, stored_formal, stored_left, stored_named, stored_result, stored_text, stored_variable}
 
 abbrev pub operands_in : List Expr → Expressions
 operands_in es = expressions (map syntax_of es)
 
+-- the number of a cell in the frames of a text, whatever the code is
+abbrev pub IsSlot : Source → (home : ℕ) → Key → (slot : ℕ) → Type 0
+IsSlot s home key slot = (final : CodeOf) → slot ≡ slot_of s final home key
+
 -- what a variable is found to be as a left side
 abbrev pub IsVariable : Source → Spot → Left → Stored → Type 0
 IsVariable s w (left.Cell level slot) t =
-    (home : ℕ) × (key : Key) × (t ≡ InCell home key) × KeyBuilt s w.text home key × (level ≡ level_of s home) × (slot ≡ slot_of s home key)
+    (home : ℕ) × (key : Key) × (t ≡ InCell home key) × KeyBuilt s w.text home key × (level ≡ level_of s home) × IsSlot s home key slot
 IsVariable s w (left.Element token d es) t = t ≡ AtAddress d (operands_in es.now) (line_at s token.0)
 IsVariable s w left.NotBuilt t = LeftBuilt s w.text t → ⊥
 IsVariable s w _ t = ⊥
+
+-- what an expression is found to be as a variable
+abbrev pub IsWhole : Source → Spot → Expression → Left → Stored → Type 0
+IsWhole s w e left.Attribute t = t ≡ AtAttribute e
+IsWhole s w e l t = IsVariable s w l t
 
 -- what an expression is found to be; the line is that of its sign
 abbrev pub IsLeft : Source → Spot → Expression → (line : ℕ) → Left → Stored → Type 0
 IsLeft s w e line left.Text t = t ≡ ToText e line
 IsLeft s w e line (left.Result level slot) t =
-    (home : ℕ) × (t ≡ ToResult home line) × KeyBuilt s w.text home Result × (level ≡ level_of s home) × (slot ≡ slot_of s home Result)
+    (home : ℕ) × (t ≡ ToResult home line) × KeyBuilt s w.text home Result × (level ≡ level_of s home) × IsSlot s home Result slot
+IsLeft s w e line left.Attribute t = t ≡ AtAttribute e
+IsLeft s w e line left.Reference t = t ≡ ToReference e line
 IsLeft s w e line l t = IsVariable s w l t
+
+-- of an identifier with so many subscripts: it is its own result without any
+abbrev pub own_if : (subscripts : ℕ) → Option ℕ → Option ℕ
+own_if zero own = own
+own_if (suc n) own = None
 
 -- ---- variables
 
@@ -60,8 +82,16 @@ FindsDeclared b w token d es r = IsVariable (source_of b) w r (stored_declared (
 unfoldable pub FindsLeft : Bound → Spot → TokenNo → List Expr → Left → Type 0
 FindsLeft b w token es r = IsVariable (source_of b) w r (stored_named (source_of b) (denoted (source_of b) token.0) (operands_in es) (line_at (source_of b) token.0))
 
+-- the same also where it is seen through a connection
+unfoldable pub FindsNamed : Bound → Spot → Identifier → List Expr → Left → Type 0
+FindsNamed b w x es r = IsWhole (source_of b) w (Named x (operands_in es)) r (stored_left (source_of b) (Named x (operands_in es)))
+
+-- what is taken last of an operand
+unfoldable pub FindsTaken : Bound → Spot → Selector → Left → Type 0
+FindsTaken b w y r = (e : Expression) → IsWhole (source_of b) w (selected e (selector_syntax y ∷ [])) r (stored_left (source_of b) (selected e (selector_syntax y ∷ [])))
+
 unfoldable pub FindsWhole : Bound → Spot → Expr → Left → Type 0
-FindsWhole b w x r = IsVariable (source_of b) w r (stored_left (source_of b) (syntax_of x))
+FindsWhole b w x r = IsWhole (source_of b) w (syntax_of x) r (stored_left (source_of b) (syntax_of x))
 
 -- ---- left sides
 
@@ -69,10 +99,30 @@ FindsWhole b w x r = IsVariable (source_of b) w r (stored_left (source_of b) (sy
 unfoldable pub FindsOwn : Bound → Spot → (text : ℕ) → Left → Type 0
 FindsOwn b w k r = (e : Expression) (line : ℕ) → IsLeft (source_of b) w e line r (ToResult k line)
 
+-- the procedure whose own result an identifier is, as a left side with so many subscripts
+unfoldable pub FindsOwnNamed : Bound → TokenNo → (subscripts : ℕ) → Option ℕ → Type 0
+FindsOwnNamed b token n r = r ≡ own_if n (unless_connected (connection_at (source_of b) token.0) (own_block_denoted (source_of b) token.0 (denoted (source_of b) token.0)))
+
 -- the text that is assigned to
 unfoldable pub FindsText : Bound → Spot → Expr → Left → Type 0
-FindsText b w x r = (line : ℕ) → IsLeft (source_of b) w (syntax_of x) line r (stored_text (own_result (source_of b) (syntax_of x)) (syntax_of x) line)
+FindsText b w x r = (line : ℕ) → IsLeft (source_of b) w (syntax_of x) line r (stored_text (result_meant (source_of b) (syntax_of x)) (syntax_of x) line)
 
 -- a left side, by its sign
 unfoldable pub FindsSide : Bound → Spot → Assignment → Expr → Left → Type 0
 FindsSide b w sign x r = (line : ℕ) → IsLeft (source_of b) w (syntax_of x) line r (stored (source_of b) sign line (syntax_of x))
+
+-- ---- where references lie
+
+-- the result of a procedure around, with a class
+unfoldable pub WritesResultPlace : Bound → Spot → (n : ℕ) → (old new : DraftOf) → (class text : ℕ) → Type 0
+WritesResultPlace b w n old new class k =
+    Emits w old new (KeyBuilt (source_of b) w.text k Result) (λ final site p q. ResultPlaceAt (source_of b) final site n class k p q)
+
+-- a left side that is a reference
+unfoldable pub WritesReferencePlace : Bound → Spot → (n : ℕ) → (old new : DraftOf) → Expr → Type 0
+WritesReferencePlace b w n old new x =
+    Emits w old new (ReferenceBuilt (source_of b) w.text (syntax_of x)) (λ final site p q. ReferencePlaceAt (source_of b) final site n (syntax_of x) p q)
+
+unfoldable pub WritesNamedReference : Bound → Spot → (n : ℕ) → (old new : DraftOf) → Identifier → Type 0
+WritesNamedReference b w n old new x =
+    Emits w old new (ReferenceBuilt (source_of b) w.text (Named x NoMore)) (λ final site p q. ReferencePlaceAt (source_of b) final site n (Named x NoMore) p q)

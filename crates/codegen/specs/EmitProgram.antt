@@ -1,98 +1,182 @@
 -- What is written of the texts of a program.
-use Rattle.std.specs.Prelude.{◌≡◌, ◌<◌, ◌≤◌, ⊤, ℕ, suc, true, false, List, [], ◌∷◌, ◌++◌, length, map, Option, Some}
-use Rattle.std.specs.List.{list_any}
-use Rattle.std.specs.declared.alloc.Global.{Global}
-use Rattle.std.specs.declared.boxed.Box.{Box}
+use Rattle.std.specs.Prelude.{◌≡◌, ◌<◌, ◌≤◌, ◌+◌, ◌&&◌, ℕ, suc, nat_le, nat_lt, Bool, true, false, List, [], ◌∷◌, ◌++◌, drop, length, map, slice_get, Option, Some, None}
 use Rattle.sim_base.specs.declared.numbering.DeclNo.{DeclNo}
+use Rattle.sim_base.specs.declared.numbering.TokenNo.{TokenNo}
 use Rattle.sim_scope.specs.declared.bound.Bound.{Bound}
 use Rattle.sim_scope.specs.declared.types.Entry.{Entry}
-use Rattle.sim_scope.specs.Source.{Source, level_of, source_of}
+use Rattle.sim_scope.specs.declared.types.Formal.{Formal}
+use Rattle.sim_scope.specs.Tables.{BlockOf as TableBlock}
+use Rattle.sim_scope.specs.Source.{Source, block_around, level_of, source_of}
+use Rattle.sim_tree.specs.declared.expr.Identifier.{Identifier}
 use Rattle.sim_tree.specs.declared.stmt.Block.{Block as BlockTree}
 use Rattle.sim_tree.specs.declared.stmt.Decl.{Decl}
 use Rattle.sim_tree.specs.declared.stmt.Stmt.{Stmt}
 use Rattle.sim_tree.specs.declared.stmt.TypeName.{TypeName}
-use Rattle.sim_tree.specs.Syntax.{Begin, Heading, declarations, statements}
-use Rattle.sim_tree.specs.Syntax.{Block as BlockSyntax}
-use Rattle.sim_tree.specs.SyntaxOfProgram.{block_syntax, branch_syntax, declaration_syntax, statement_syntax}
+use Rattle.sim_tree.specs.Syntax.{Heading, declarations, statements}
+use Rattle.sim_tree.specs.SyntaxOfProgram.{block_syntax, declaration_syntax, statement_syntax}
 use Rattle.sim_code.specs.declared.code.BlockKind.{BlockKind}
+use Rattle.sim_code.specs.declared.code.BlockKind.TheVariants as kind
 use Rattle.sim_code.specs.declared.code.CodeType.{CodeType}
+use Rattle.sim_code.specs.declared.code.CodeType.TheVariants as type
 use Rattle.sim_code.specs.declared.instr.Lined.{Lined}
-use Rattle.sim_code.specs.Code.{BlockOf, CodeOf}
+use Rattle.sim_code.specs.Code.{BlockOf, ClassOf, CodeOf}
 use Rattle.sim_code.specs.Running.{AllRun}
+use Rattle.sim_meaning.specs.Closing.{class_parameters}
 use Rattle.sim_meaning.specs.Entries.{cells_from, formals_of, numbers_of, with_cell, with_result}
-use Rattle.sim_meaning.specs.Texts.{BlockText, ProcedureText, Text, block_texts, declaration_texts, declarations_texts, statement_texts, statements_texts, text}
-use Rattle.codegen_expr.specs.Drafts.{DraftOf, Grows}
-use Rattle.codegen.specs.BuiltProgram.{TextsBuilt, is_special, texts_of}
-use Rattle.codegen.specs.Compiled.{TextCode, code_formal, type_of_cell}
+use Rattle.sim_meaning.specs.Levels.{writes_inner}
+use Rattle.sim_meaning.specs.Texts.{ClassText, ConnectionText, PrefixedText, ProcedureText, Text, is_class_free, is_class_kind, text}
+use Rattle.program_texts.specs.declared.tree.TextTree.{TextTree}
+use Rattle.program_texts.specs.TextTrees.{AreTexts, block_text, text_in}
+use Rattle.text_tables.specs.Making.{classes_from}
+use Rattle.codegen_expr.specs.declared.spot.Spot.{Spot}
+use Rattle.codegen_expr.specs.Drafts.{DraftOf, Emits, Grows, class_of}
+use Rattle.codegen_expr.specs.Sites.{block_number, class_in, hidden_from, hidden_in, prefix_of}
+use Rattle.codegen.specs.declared.levels.InnerPlace.{InnerPlace}
+use Rattle.codegen.specs.declared.texts.Head.{Head}
+use Rattle.codegen.specs.declared.texts.Written.{Written}
+use Rattle.codegen.specs.Agrees.{Agrees}
+use Rattle.codegen.specs.BuiltProgram.{LevelBuilt, ProgramBuilt, TextBuilt, WithInnerBuilt, texts_of}
+use Rattle.codegen.specs.CodeStm.{LevelAt, WithInnerAt, inner_of}
+use Rattle.codegen.specs.Compiled.{CodeHas, code_formal, type_of_cell}
 
--- the code of texts, the first of which has this number, as far as the tables are plain and these are the texts of the program
-abbrev pub TextsCoded : Source → CodeOf → (number : ℕ) → List Text → List BlockOf → Type 0
-TextsCoded s code k [] [] = ⊤
-TextsCoded s code k (x ∷ xs) (b ∷ bs) = (list_any is_special s.tables.blocks ≡ false → text s k ≡ Some x → TextCode s code k x b) × TextsCoded s code (suc k) xs bs
-TextsCoded s code k _ _ = ⊥
+-- ---- one text
 
--- Behind old there is the code of these texts, and their blocks are added. The draft stays whole just where all are built; and if it is whole,
--- then whatever the code is in the end, their code stands in it.
-pub record TextsEmitted (s : Source) (old new : DraftOf) (before after : List BlockOf) (xs : List Text) : Type 0 where
+abbrev pub blocks_in : Text → ℕ
+blocks_in ConnectionText = 0
+blocks_in _ = 1
+
+abbrev pub classes_in : Text → ℕ
+classes_in (ClassText prefix h ds ss) = 1
+classes_in (PrefixedText class arguments ds ss) = 1
+classes_in _ = 0
+
+-- The text is the one of this number. No class is in front of it, its block is the next one, and so is its class, if it has one.
+pub record Next (s : Source) (w : Written) (k : ℕ) (x : Text) : Type 0 where
+  pub agrees : Agrees s
+  pub is : text s k ≡ Some x
+  pub alone : prefix_of s.tables k ≡ None
+  pub block : block_number s k ≡ length w.blocks.items
+  pub class : 0 < classes_in x → class_of w.draft.classes (length w.blocks.items) ≡ suc (length w.classes.items)
+  pub first : k ≡ 0 → length w.draft.instrs ≡ 0
+
+-- A code that what is written becomes in the end: it keeps the instructions that are no holes, the blocks and the classes, and each block
+-- has the number of its class.
+pub record Ends (w : Written) (final : CodeOf) : Type 0 where
+  pub grows : Grows w.draft.instrs final.instrs
+  pub blocks : (j : ℕ) (b : BlockOf) → slice_get w.blocks.items j ≡ Some b → slice_get final.blocks j ≡ Some b
+  pub classes : (j : ℕ) (c : ClassOf) → slice_get w.classes.items j ≡ Some c → slice_get final.classes j ≡ Some c
+  pub classed : (j : ℕ) → class_in (slice_get final.blocks j) ≡ class_of w.draft.classes j
+
+-- A text is written. The draft stays whole where the text is built; and if it is whole, then whatever the code is in the end, that of the
+-- text stands in it.
+pub record TextEmitted (s : Source) (old new : Written) (k : ℕ) (x : Text) : Type 0 where
   pub rest : List Lined
-  pub front : new.instrs ≡ old.instrs ++ rest
-  pub fits : AllRun old.instrs → AllRun new.instrs
+  pub front : new.draft.instrs ≡ old.draft.instrs ++ rest
+  pub classed : new.draft.classes ≡ old.draft.classes
+  pub fits : AllRun old.draft.instrs → AllRun new.draft.instrs
   pub added : List BlockOf
-  pub blocks : after ≡ before ++ added
-  pub earlier : new.whole ≡ true → old.whole ≡ true
-  pub built : TextsBuilt s (length before) xs → old.whole ≡ true → new.whole ≡ true
-  pub only : new.whole ≡ true → TextsBuilt s (length before) xs
-  pub counted : new.whole ≡ true → length added ≡ length xs
-  pub at : new.whole ≡ true → (final : CodeOf) → Grows new.instrs final.instrs → TextsCoded s final (length before) xs added
+  pub blocks : new.blocks.items ≡ old.blocks.items ++ added
+  pub further : List ClassOf
+  pub classes : new.classes.items ≡ old.classes.items ++ further
+  pub earlier : new.draft.whole ≡ true → old.draft.whole ≡ true
+  pub built : TextBuilt s k x → old.draft.whole ≡ true → new.draft.whole ≡ true
+  pub counted : new.draft.whole ≡ true → length added ≡ blocks_in x
+  pub counted_classes : new.draft.whole ≡ true → length further ≡ classes_in x
+  pub numbered : new.draft.whole ≡ true → (j : ℕ) (b : BlockOf) → slice_get added j ≡ Some b → b.class ≡ class_of old.draft.classes (length old.blocks.items + j)
+  pub at : new.draft.whole ≡ true → (final : CodeOf) → Ends new final → CodeHas s final k x (slice_get final.blocks (block_number s k))
 
--- the texts of parts of a program, none of which is its block
-unfoldable pub WritesTexts : Bound → (old new : DraftOf) → (before after : List BlockOf) → List Text → Type 0
-WritesTexts b old new before after xs = 0 < length before → TextsEmitted (source_of b) old new before after xs
+unfoldable pub WritesText : Bound → (old new : Written) → (number : ℕ) → TextTree → Type 0
+WritesText b old new k x = Next (source_of b) old k (text_in x) → TextEmitted (source_of b) old new k (text_in x)
 
-unfoldable pub TextsOfStatement : Bound → (old new : DraftOf) → (before after : List BlockOf) → Stmt → Type 0
-TextsOfStatement b old new before after x = WritesTexts b old new before after (statement_texts (statement_syntax x))
+unfoldable pub WritesBlockText : Bound → (old new : Written) → (number : ℕ) → BlockTree → Type 0
+WritesBlockText b old new k x = Next (source_of b) old k (block_text (block_syntax x)) → TextEmitted (source_of b) old new k (block_text (block_syntax x))
 
-unfoldable pub TextsOfStatements : Bound → (old new : DraftOf) → (before after : List BlockOf) → List Stmt → Type 0
-TextsOfStatements b old new before after xs = WritesTexts b old new before after (statements_texts (statements (map statement_syntax xs)))
+unfoldable pub WritesProcedureText : Bound → (old new : Written) → (number : ℕ) → Option TypeName → Stmt → Type 0
+WritesProcedureText b old new k result a = (h : Heading) → Next (source_of b) old k (ProcedureText result h (statement_syntax a)) → TextEmitted (source_of b) old new k (ProcedureText result h (statement_syntax a))
 
-unfoldable pub TextsOfBranch : Bound → (old new : DraftOf) → (before after : List BlockOf) → Option (Box Stmt Global) → Type 0
-TextsOfBranch b old new before after x = WritesTexts b old new before after (statements_texts (branch_syntax x))
+unfoldable pub WritesClassText : Bound → (old new : Written) → (number : ℕ) → List Decl → List Stmt → Type 0
+WritesClassText b old new k ds ss =
+    (prefix : Option Identifier) (h : Heading) → Next (source_of b) old k (ClassText prefix h (declarations (map declaration_syntax ds)) (statements (map statement_syntax ss)))
+    → TextEmitted (source_of b) old new k (ClassText prefix h (declarations (map declaration_syntax ds)) (statements (map statement_syntax ss)))
 
-unfoldable pub TextsOfBlock : Bound → (old new : DraftOf) → (before after : List BlockOf) → BlockTree → Type 0
-TextsOfBlock b old new before after x = WritesTexts b old new before after (block_texts (block_syntax x))
+-- ---- the statements of a class
 
-unfoldable pub TextsOfDeclaration : Bound → (old new : DraftOf) → (before after : List BlockOf) → Decl → Type 0
-TextsOfDeclaration b old new before after x = WritesTexts b old new before after (declaration_texts (declaration_syntax x))
+abbrev pub token_number : Option TokenNo → Option ℕ
+token_number None = None
+token_number (Some token) = Some token.0
 
-unfoldable pub TextsOfDeclarations : Bound → (old new : DraftOf) → (before after : List BlockOf) → List Decl → Type 0
-TextsOfDeclarations b old new before after xs = WritesTexts b old new before after (declarations_texts (declarations (map declaration_syntax xs)))
+-- none of the statements in front of a place is `inner`
+unfoldable pub NoInnerTo : List Stmt → ℕ → Type 0
+NoInnerTo xs n = (k : ℕ) (x : Stmt) → k < n → slice_get xs k ≡ Some x → inner_of (statement_syntax x) ≡ None
 
--- the text that a block is
-abbrev pub own_text : BlockSyntax → Text
-own_text (Begin token ds ss end) = BlockText token ds ss
+-- `inner` is at a place, and not in front of it
+pub record InnerThere (xs : List Stmt) (place : ℕ) (token : TokenNo) : Type 0 where
+  pub none : NoInnerTo xs place
+  pub statement : Stmt
+  pub at : slice_get xs place ≡ Some statement
+  pub is : inner_of (statement_syntax statement) ≡ Some token.0
 
--- a sub-block, a procedure and the program's block, each without the texts inside
-unfoldable pub WritesBlockText : Bound → (old new : DraftOf) → (before after : List BlockOf) → BlockTree → Type 0
-WritesBlockText b old new before after x = WritesTexts b old new before after (own_text (block_syntax x) ∷ [])
+unfoldable pub FirstInner : List Stmt → Option InnerPlace → Type 0
+FirstInner xs None = NoInnerTo xs (length xs)
+FirstInner xs (Some r) = InnerThere xs r.place r.token
 
-unfoldable pub WritesProcedureText : Bound → (old new : DraftOf) → (before after : List BlockOf) → Option TypeName → Stmt → Type 0
-WritesProcedureText b old new before after result a = (h : Heading) → WritesTexts b old new before after (ProcedureText result h (statement_syntax a) ∷ [])
+-- whether a token stands in a text itself
+unfoldable pub IsOwn : Bound → (text : ℕ) → TokenNo → Bool → Type 0
+IsOwn b k token true = block_around (source_of b) token.0 ≡ Some k
+IsOwn b k token false = block_around (source_of b) token.0 ≡ Some k → ⊥
 
-unfoldable pub WritesProgramText : Bound → (old new : DraftOf) → (before after : List BlockOf) → BlockTree → Type 0
-WritesProgramText b old new before after x = length old.instrs ≡ 0 → length before ≡ 0 → TextsEmitted (source_of b) old new before after (own_text (block_syntax x) ∷ []) × (0 < length after)
+-- the statements with what stands for `inner`, behind which is this place
+unfoldable pub WritesLevel : Bound → Spot → (old new : DraftOf) → List Stmt → (after : ℕ) → Type 0
+WritesLevel b w old new xs after =
+    (after ≤ length new.instrs) × Emits w old new (LevelBuilt (source_of b) w.text (writes_inner (source_of b) w.text) (statements (map statement_syntax xs)))
+    (λ final site p q. LevelAt (source_of b) final site 0 after (writes_inner (source_of b) w.text) (statements (map statement_syntax xs)) p q)
 
--- the whole program
-unfoldable pub WritesProgram : Bound → (old new : DraftOf) → (blocks : List BlockOf) → Type 0
-WritesProgram b old new blocks = length old.instrs ≡ 0 → TextsEmitted (source_of b) old new [] blocks (texts_of (source_of b))
+-- the same where one of the statements is `inner`
+unfoldable pub WritesAround : Bound → Spot → (old new : DraftOf) → List Stmt → (after : ℕ) → Type 0
+WritesAround b w old new xs after =
+    (after ≤ length new.instrs) × Emits w old new (WithInnerBuilt (source_of b) w.text (statements (map statement_syntax xs)))
+    (λ final site p q. WithInnerAt (source_of b) final site 0 after (statements (map statement_syntax xs)) p q)
 
--- in a loop: what is written of the rest is written of the whole
-unfoldable pub OwesStatementTexts : Bound → (old : DraftOf) → (before : List BlockOf) → List Stmt → (now : DraftOf) → (blocks : List BlockOf) → List Stmt → Type 0
-OwesStatementTexts b old before xs now blocks rest = (end : DraftOf) (after : List BlockOf) → TextsOfStatements b now end blocks after rest → TextsOfStatements b old end before after xs
+-- ---- all texts
 
-unfoldable pub OwesDeclarationTexts : Bound → (old : DraftOf) → (before : List BlockOf) → List Decl → (now : DraftOf) → (blocks : List BlockOf) → List Decl → Type 0
-OwesDeclarationTexts b old before xs now blocks rest = (end : DraftOf) (after : List BlockOf) → TextsOfDeclarations b now end blocks after rest → TextsOfDeclarations b old end before after xs
+-- of the first texts of a program that is built
+pub record TextsEmitted (s : Source) (old now : Written) (texts : List Text) (done : ℕ) : Type 0 where
+  pub whole : now.draft.whole ≡ true
+  pub fits : AllRun now.draft.instrs
+  pub classed : now.draft.classes ≡ old.draft.classes
+  pub numbers : List ℕ
+  pub to_come : old.draft.classes ≡ numbers ++ classes_from (length now.classes.items) (drop done texts)
+  pub as_many : length numbers ≡ length now.blocks.items
+  pub counted : block_number s done ≡ length now.blocks.items
+  pub started : done ≡ 0 → length now.draft.instrs ≡ 0
+  pub numbered : (j : ℕ) (b : BlockOf) → slice_get now.blocks.items j ≡ Some b → b.class ≡ class_of old.draft.classes j
+  pub each : (final : CodeOf) → Ends now final → (k : ℕ) (x : Text) → k < done → text s k ≡ Some x → CodeHas s final k x (slice_get final.blocks (block_number s k))
+
+-- nothing is written yet, and the classes of blocks are numbered
+pub record Begins (s : Source) (w : Written) : Type 0 where
+  pub none : w.draft.instrs ≡ []
+  pub whole : w.draft.whole ≡ true
+  pub classes : w.draft.classes ≡ classes_from 0 (texts_of s)
+  pub no_block : w.blocks.items ≡ []
+  pub no_class : w.classes.items ≡ []
+
+unfoldable pub WritesTo : Bound → (old now : Written) → List TextTree → (done : ℕ) → Type 0
+WritesTo b old now ts done = AreTexts b.program ts → ProgramBuilt (source_of b) → Begins (source_of b) old → TextsEmitted (source_of b) old now (texts_of (source_of b)) done
+
+unfoldable pub WritesProgram : Bound → (old new : Written) → List TextTree → Type 0
+WritesProgram b old new ts = WritesTo b old new ts (length ts)
 
 -- ---- records
+
+-- the formal parameters of a text, those of a class of all its levels
+abbrev pub formals_by_kind : Source → BlockKind → (text : ℕ) → List Formal
+formals_by_kind s kind.Object k = class_parameters s (Some k)
+formals_by_kind s kind.Prefixed k = class_parameters s (Some k)
+formals_by_kind s _ k = formals_of s k
+
+-- a class or a prefixed block that is inside a block
+abbrev pub class_inside : TableBlock → TableBlock → Bool
+class_inside b c = is_class_kind c.kind && nat_le b.first c.first && nat_lt c.first b.end
 
 -- what the cells of a text hold at the entry; the result, if there is one, is the first
 unfoldable pub CellTypes : Bound → (text : ℕ) → Option TypeName → List CodeType → Type 0
@@ -113,24 +197,40 @@ PushesCell old new entry = (d : DeclNo) → new ≡ old ++ map type_of_cell (wit
 unfoldable pub PushesResult : (old new : List CodeType) → Option TypeName → Type 0
 PushesResult old new result = new ≡ old ++ map type_of_cell (with_result result [])
 
+-- a cell more, if it is one of a connection in the frames of a text
+abbrev pub with_hidden : Bool → List CodeType → List CodeType
+with_hidden true types = types ++ (type.Nothing ∷ [])
+with_hidden false types = types
+
+-- the cells of the connections that stand in a text
+unfoldable pub HidesConnections : Bound → (old new : List CodeType) → (text : ℕ) → Type 0
+HidesConnections b old new k = new ≡ old ++ map type_of_cell (hidden_in (source_of b) k)
+
+-- in a loop over the blocks: those of the rest
+unfoldable pub OwesHidden : Bound → (old : List CodeType) → (text : ℕ) → (now : List CodeType) → (done : ℕ) → Type 0
+OwesHidden b old k now done = now ++ map type_of_cell (hidden_from (source_of b) k done (drop done b.scopes.blocks)) ≡ old ++ map type_of_cell (hidden_in (source_of b) k)
+
 -- the block of a text whose code is written, with what its cells hold at the entry
-pub record BlockAdded (s : Source) (draft : DraftOf) (before after : List BlockOf) (kind : BlockKind) (text entry : ℕ) (result_type : CodeType) (types : List CodeType) : Type 0 where
+pub record BlockAdded (s : Source) (old new : Written) (head : Head) (types : List CodeType) : Type 0 where
+  pub same : new.draft ≡ old.draft
+  pub same_classes : new.classes.items ≡ old.classes.items
   pub block : BlockOf
-  pub is : after ≡ before ++ (block ∷ [])
-  pub is_kind : block.kind ≡ kind
-  pub level : block.level ≡ level_of s text
-  pub cells : block.cells ≡ length types
-  pub room : block.room ≡ draft.room
-  pub starts : block.entry ≡ entry
-  pub class_free : block.class_free ≡ true
-  pub gives : block.result_type ≡ result_type
-  pub formals : block.formals ≡ map code_formal (formals_of s text)
+  pub is : new.blocks.items ≡ old.blocks.items ++ (block ∷ [])
+  pub is_kind : block.kind ≡ head.kind
+  pub level : block.level ≡ level_of s head.text
+  pub cells : block.cells ≡ head.cells
+  pub room : block.room ≡ old.draft.room
+  pub starts : block.entry ≡ head.entry
+  pub class_free : block.class_free ≡ is_class_free s head.text
+  pub gives : block.result_type ≡ head.result_type
+  pub class : block.class ≡ class_of old.draft.classes (block_number s head.text)
+  pub formals : block.formals ≡ map code_formal (formals_by_kind s head.kind head.text)
   pub temps : List CodeType
   pub holds : block.types ≡ types ++ temps
-  pub size : draft.size ≤ length block.types
+  pub size : old.draft.size ≤ length block.types
 
-unfoldable pub AddsBlock : Bound → DraftOf → (before after : List BlockOf) → BlockKind → (text entry : ℕ) → CodeType → (types : List CodeType) → Type 0
-AddsBlock b draft before after kind text entry result_type types = BlockAdded (source_of b) draft before after kind text entry result_type types
+unfoldable pub AddsBlock : Bound → (old new : Written) → Head → (types : List CodeType) → Type 0
+AddsBlock b old new head types = BlockAdded (source_of b) old new head types
 
 -- temps behind them
 unfoldable pub Padded : (old new : List CodeType) → (size : ℕ) → Type 0

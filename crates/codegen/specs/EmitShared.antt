@@ -1,5 +1,5 @@
 -- What is written of a statement that several elements share.
-use Rattle.std.specs.Prelude.{◌≡◌, ◌≤◌, ⊤, ◌+◌, ◌*◌, ℕ, suc, pos, true, List, [], ◌∷◌, ◌++◌, drop, length, slice_get, Option, Some, None, option_map}
+use Rattle.std.specs.Prelude.{◌≡◌, ◌≤◌, ⊤, ◌+◌, ◌*◌, ℕ, suc, pos, true, List, [], ◌∷◌, ◌++◌, drop, length, slice_get, Option, Some, None}
 use Rattle.sim_scope.specs.declared.bound.Bound.{Bound}
 use Rattle.sim_scope.specs.Source.{Source, level_of, source_of}
 use Rattle.sim_tree.specs.declared.stmt.Stmt.{Stmt}
@@ -11,24 +11,13 @@ use Rattle.sim_code.specs.Code.{CodeOf}
 use Rattle.sim_code.specs.Running.{AllRun}
 use Rattle.codegen_expr.specs.declared.spot.Spot.{Spot}
 use Rattle.codegen_expr.specs.Drafts.{Becomes, DraftOf, Emits, filled_in}
-use Rattle.codegen_expr.specs.Sites.{Ahead, Is, Pushes, Site, lined, slot_of}
-use Rattle.sim_base.specs.declared.numbering.Line.{Line}
+use Rattle.codegen_expr.specs.Sites.{Ahead, Is, Pushes, Site, lined}
 use Rattle.codegen.specs.declared.lists.Shared.{Shared}
-use Rattle.codegen.specs.declared.statement.Target.{Target}
-use Rattle.codegen.specs.BuiltProgram.{ElementBuilt, ElementsBuilt, StatementBuilt}
+use Rattle.codegen.specs.declared.targets.Target.{Target}
+use Rattle.codegen.specs.EmitTargets.{Controls, ElementOver, ElementsOver}
+use Rattle.codegen.specs.BuiltProgram.{StatementBuilt}
 use Rattle.codegen.specs.CodeFor.{ElementsAt, OneElementAt, ReturnAt, ReturnsAt, TurnAt, Variable}
 use Rattle.codegen.specs.CodeStm.{StmAt}
-
--- ---- the controlled variable
-
-abbrev pub line_in : Line → ℕ
-line_in line = line.0
-
--- a variable, as it is found
-pub record Controls (s : Source) (t : Target) (v : Variable) : Type 0 where
-  pub level : t.level ≡ level_of s v.text
-  pub slot : t.slot ≡ slot_of s v.text v.key
-  pub assigned : option_map line_in t.assigned ≡ v.assigned
 
 -- ---- holes
 
@@ -58,6 +47,7 @@ pub record Turns (spot : Spot) (old new : DraftOf) (holes : List ℕ) (low : ℕ
   pub longer : length old.instrs ≤ length new.instrs
   pub roomier : old.room ≤ new.room
   pub larger : old.size ≤ new.size
+  pub classed : new.classes ≡ old.classes
   pub built : Built → old.whole ≡ true → new.whole ≡ true
   pub before : new.whole ≡ true → old.whole ≡ true
   pub only : new.whole ≡ true → Built
@@ -101,14 +91,14 @@ WritesSent b w old new start number = start ≤ length old.instrs → Emits w ol
 -- an element whose turns go to the statement, and the jump back to it is written
 unfoldable pub PutsTurn : Bound → Spot → (old new : DraftOf) → (target : Target) → Element → (start number hole : ℕ) → Type 0
 PutsTurn b w old new target x start number hole =
-    (v : Variable) → Controls (source_of b) target v → start ≤ length old.instrs
+    (v : Variable) → Controls (source_of b) w.text target v → start ≤ length old.instrs
     → (m : DraftOf) × (on : ℕ) × (length old.instrs ≤ on) × (on ≤ length m.instrs) × (new ≡ filled_in m hole (i.Jump (pos on)))
-    × Emits w old m (ElementBuilt (source_of b) w.text v.assigned x) (λ final site p q. OneElementAt (source_of b) final site 0 v x (λ p q. SentAt (source_of b) final site w.used start number p q × (q ≡ on)) p q)
+    × Emits w old m (ElementOver (source_of b) w.text v x) (λ final site p q. OneElementAt (source_of b) final site 0 v x (λ p q. SentAt (source_of b) final site w.used start number p q × (q ≡ on)) p q)
 
 unfoldable pub WritesTurns : Bound → Spot → (old new : DraftOf) → (target : Target) → List Element → (start chain number : ℕ) → Type 0
 WritesTurns b w old new target es start chain number =
-    (v : Variable) → Controls (source_of b) target v → (low : ℕ) → start ≤ length old.instrs → OpenAt old.instrs low (holes_from chain number es)
-    → Turns w old new (holes_from chain number es) low (ElementsBuilt (source_of b) w.text v.assigned es)
+    (v : Variable) → Controls (source_of b) w.text target v → (low : ℕ) → start ≤ length old.instrs → OpenAt old.instrs low (holes_from chain number es)
+    → Turns w old new (holes_from chain number es) low (ElementsOver (source_of b) w.text v es)
     (λ final site rs p q. (length rs ≡ length es) × ((all : List ℕ) → drop number all ≡ rs → ElementsAt (source_of b) final site 0 v number es (TurnAt (source_of b) final site 0 w.used start all) p q))
 
 -- in a loop: what is written of the rest is written of the whole

@@ -1,5 +1,5 @@
 -- Code of the worked programs, and that it shows what they show. A line of 0 is that of an instruction without an error.
-use Rattle.std.specs.Prelude.{◌≡◌, ℕ, true, pos, List, [], ◌∷◌}
+use Rattle.std.specs.Prelude.{◌≡◌, ℕ, false, true, pos, List, [], ◌∷◌}
 use Rattle.sim_base.specs.declared.limits.Limits.{Limits}
 use Rattle.sim_code.specs.declared.code.BlockKind.{BlockKind}
 use Rattle.sim_code.specs.declared.code.BlockKind.TheVariants as kind
@@ -11,9 +11,10 @@ use Rattle.sim_code.specs.declared.code.FormalShape.TheVariants as shape
 use Rattle.sim_code.specs.declared.instr.Instr.{Instr}
 use Rattle.sim_code.specs.declared.instr.Instr.TheVariants as i
 use Rattle.sim_code.specs.declared.instr.Lined.{Lined}
-use Rattle.sim_code.specs.Code.{BlockOf, CodeOf}
+use Rattle.sim_code.specs.Code.{BlockOf, ClassOf, CodeOf}
 use Rattle.sim_code.specs.Outcome.{Shown, shown}
 use Rattle.sim_code.specs.Rows.{mrun}
+use Rattle.sim_meaning.specs.ClassExamples.{objects_without_end}
 use Rattle.sim_meaning.specs.Examples.{dimensions, endless, factorial_166, factorial_20, factorial_21, fields, for_list, large_array, limits, seen, sub_block, subscript, value_array}
 
 abbrev pub at : (line : ℕ) → Instr → Lined
@@ -71,7 +72,14 @@ abbrev pub large_array_code : CodeOf
 large_array_code = code (block kind.SubBlock 1 2 0 0 (type.Nothing) (type.Nothing ∷ type.Nothing ∷ []) ([]) ∷ []) (at 1 (i.Jump (pos 1)) ∷ at 0 (i.Int (pos 1)) ∷ at 0 (i.Int (pos 65536)) ∷ at 0 (i.Int (pos 1)) ∷ at 0 (i.Int (pos 65536)) ∷ at 1 (i.Array (pos 1) (pos 2)) ∷ at 0 (i.Store (pos 1) (pos 0)) ∷ at 0 (i.Load (pos 1) (pos 0)) ∷ at 1 i.CopyArr ∷ at 0 (i.Store (pos 1) (pos 1)) ∷ at 0 (i.EndLevel (pos 0)) ∷ [])
 
 abbrev pub sub_block_code : CodeOf
-sub_block_code = code (block kind.SubBlock 1 2 1 0 (type.Nothing) (type.Integer ∷ type.Integer ∷ type.Nothing ∷ []) ([]) ∷ block kind.SubBlock 2 2 0 11 (type.Nothing) (type.Nothing ∷ type.Nothing ∷ []) ([]) ∷ []) (at 1 (i.Jump (pos 1)) ∷ at 0 i.Tick ∷ at 0 (i.Int (pos 2)) ∷ at 0 (i.Store (pos 1) (pos 2)) ∷ at 0 (i.Load (pos 1) (pos 2)) ∷ at 0 (i.Store (pos 1) (pos 1)) ∷ at 0 (i.Load (pos 1) (pos 2)) ∷ at 0 (i.Store (pos 1) (pos 0)) ∷ at 0 i.Tick ∷ at 3 (i.Enter (pos 1)) ∷ at 0 (i.Jump (pos 38)) ∷ at 0 (i.Load (pos 1) (pos 0)) ∷ at 0 (i.Int (pos 3)) ∷ at 3 (i.Array (pos 1) (pos 1)) ∷ at 0 (i.Store (pos 2) (pos 0)) ∷ at 0 (i.Int (pos 1)) ∷ at 0 (i.Load (pos 1) (pos 1)) ∷ at 3 (i.Array (pos 1) (pos 1)) ∷ at 0 (i.Store (pos 2) (pos 1)) ∷ at 0 i.Tick ∷ at 0 (i.Load (pos 2) (pos 0)) ∷ at 0 (i.Int (pos 3)) ∷ at 3 (i.Elem (pos 1) (pos 0)) ∷ at 0 (i.Load (pos 2) (pos 1)) ∷ at 0 (i.Int (pos 2)) ∷ at 3 (i.Elem (pos 1) (pos 0)) ∷ at 0 i.Fetch ∷ at 0 (i.Int (pos 5)) ∷ at 3 i.Add ∷ at 0 i.Put ∷ at 0 i.Tick ∷ at 0 (i.Load (pos 2) (pos 0)) ∷ at 0 (i.Int (pos 3)) ∷ at 3 (i.Elem (pos 1) (pos 0)) ∷ at 0 i.Fetch ∷ at 0 (i.Int (pos 3)) ∷ at 3 (i.Std (pos 40)) ∷ at 0 i.Leave ∷ at 0 i.Tick ∷ at 0 (i.Load (pos 1) (pos 0)) ∷ at 0 (i.Int (pos 2)) ∷ at 4 (i.Rel (pos 2)) ∷ at 0 (i.JumpF (pos 49)) ∷ at 0 (i.Load (pos 1) (pos 1)) ∷ at 0 (i.Load (pos 1) (pos 0)) ∷ at 4 i.Div ∷ at 0 (i.Int (pos 1)) ∷ at 4 (i.Rel (pos 2)) ∷ at 0 (i.Jump (pos 50)) ∷ at 0 (i.Bool (pos 0)) ∷ at 0 (i.JumpF (pos 56)) ∷ at 0 i.Tick ∷ at 0 (i.Load (pos 1) (pos 0)) ∷ at 0 (i.Int (pos 2)) ∷ at 4 (i.Std (pos 40)) ∷ at 0 (i.Jump (pos 60)) ∷ at 0 i.Tick ∷ at 0 (i.Int (pos 0)) ∷ at 0 (i.Int (pos 2)) ∷ at 4 (i.Std (pos 40)) ∷ at 0 i.Tick ∷ at 5 (i.Std (pos 37)) ∷ at 0 (i.EndLevel (pos 0)) ∷ [])
+sub_block_code = code (block kind.SubBlock 1 2 1 0 (type.Nothing) (type.Integer ∷ type.Integer ∷ type.Nothing ∷ []) [] ∷ block kind.SubBlock 2 2 0 35 (type.Nothing) (type.Nothing ∷ type.Nothing ∷ []) [] ∷ []) (at 1 (i.Jump (pos 1)) ∷ at 0 i.Tick ∷ at 0 (i.Int (pos 2)) ∷ at 0 (i.Store (pos 1) (pos 2)) ∷ at 0 (i.Load (pos 1) (pos 2)) ∷ at 0 (i.Store (pos 1) (pos 1)) ∷ at 0 (i.Load (pos 1) (pos 2)) ∷ at 0 (i.Store (pos 1) (pos 0)) ∷ at 0 i.Tick ∷ at 3 (i.Enter (pos 1)) ∷ at 0 i.Tick ∷ at 0 (i.Load (pos 1) (pos 0)) ∷ at 0 (i.Int (pos 2)) ∷ at 4 (i.Rel (pos 2)) ∷ at 0 (i.JumpF (pos 21)) ∷ at 0 (i.Load (pos 1) (pos 1)) ∷ at 0 (i.Load (pos 1) (pos 0)) ∷ at 4 i.Div ∷ at 0 (i.Int (pos 1)) ∷ at 4 (i.Rel (pos 2)) ∷ at 0 (i.Jump (pos 22)) ∷ at 0 (i.Bool (pos 0)) ∷ at 0 (i.JumpF (pos 28)) ∷ at 0 i.Tick ∷ at 0 (i.Load (pos 1) (pos 0)) ∷ at 0 (i.Int (pos 2)) ∷ at 4 (i.Std (pos 40)) ∷ at 0 (i.Jump (pos 32)) ∷ at 0 i.Tick ∷ at 0 (i.Int (pos 0)) ∷ at 0 (i.Int (pos 2)) ∷ at 4 (i.Std (pos 40)) ∷ at 0 i.Tick ∷ at 5 (i.Std (pos 37)) ∷ at 0 (i.EndLevel (pos 0)) ∷ at 0 (i.Load (pos 1) (pos 0)) ∷ at 0 (i.Int (pos 3)) ∷ at 3 (i.Array (pos 1) (pos 1)) ∷ at 0 (i.Store (pos 2) (pos 0)) ∷ at 0 (i.Int (pos 1)) ∷ at 0 (i.Load (pos 1) (pos 1)) ∷ at 3 (i.Array (pos 1) (pos 1)) ∷ at 0 (i.Store (pos 2) (pos 1)) ∷ at 0 i.Tick ∷ at 0 (i.Load (pos 2) (pos 0)) ∷ at 0 (i.Int (pos 3)) ∷ at 3 (i.Elem (pos 1) (pos 0)) ∷ at 0 (i.Load (pos 2) (pos 1)) ∷ at 0 (i.Int (pos 2)) ∷ at 3 (i.Elem (pos 1) (pos 0)) ∷ at 0 i.Fetch ∷ at 0 (i.Int (pos 5)) ∷ at 3 i.Add ∷ at 0 i.Put ∷ at 0 i.Tick ∷ at 0 (i.Load (pos 2) (pos 0)) ∷ at 0 (i.Int (pos 3)) ∷ at 3 (i.Elem (pos 1) (pos 0)) ∷ at 0 i.Fetch ∷ at 0 (i.Int (pos 3)) ∷ at 3 (i.Std (pos 40)) ∷ at 0 i.Leave ∷ [])
+
+-- objects of a class without end: the class is the second block, with one level
+abbrev pub the_class : ClassOf
+the_class = record { prefix = 0; block = 1; declarations = 17; statements = 18; after_inner = 19; process = false; matches = [] }
+
+abbrev pub objects_code : CodeOf
+objects_code = record (code (record (block kind.SubBlock 1 1 0 0 (type.Nothing) (type.Integer ∷ []) []) { class_free = false } ∷ record (block kind.Object 2 2 0 17 (type.Nothing) (type.Integer ∷ type.Integer ∷ []) []) { class_free = false; class = 1 } ∷ []) (at 1 (i.Jump (pos 1)) ∷ at 0 i.Tick ∷ at 0 i.Tick ∷ at 0 (i.Bool (pos 1)) ∷ at 0 (i.JumpF (pos 16)) ∷ at 0 i.Tick ∷ at 0 i.Tick ∷ at 0 (i.Load (pos 1) (pos 0)) ∷ at 0 (i.Int (pos 1)) ∷ at 5 i.Add ∷ at 0 (i.Store (pos 1) (pos 0)) ∷ at 0 i.Tick ∷ at 0 (i.Link (pos 1)) ∷ at 6 (i.New (pos 1) (pos 0)) ∷ at 0 i.Pop ∷ at 0 (i.Jump (pos 2)) ∷ at 0 (i.EndLevel (pos 0)) ∷ at 0 (i.NextDecl (pos 0)) ∷ at 0 (i.Inner (pos 0)) ∷ at 0 (i.EndLevel (pos 0)) ∷ [])) { classes = the_class ∷ [] }
 
 pub record SameShown : Type 0 where
   pub fields_same : seen_code fields_code (limits 1000 1000) 200 ≡ seen fields (limits 1000 1000) 200
@@ -85,3 +93,4 @@ pub record SameShown : Type 0 where
   pub dimensions_same : seen_code dimensions_code (limits 1000 1000) 200 ≡ seen dimensions (limits 1000 1000) 200
   pub large_array_same : seen_code large_array_code (limits 1000 1000) 200 ≡ seen large_array (limits 1000 1000) 200
   pub sub_block_same : seen_code sub_block_code (limits 1000 1000) 300 ≡ seen sub_block (limits 1000 1000) 300
+  pub objects_same : seen_code objects_code (limits 100 200) 1000 ≡ seen objects_without_end (limits 100 200) 1000

@@ -14,3 +14,5 @@ pub mod EmitLists
 pub mod ForElements
 pub mod EmitShared
 pub mod EmitProgram
+pub mod EmitTargets
+pub mod EmitConnections

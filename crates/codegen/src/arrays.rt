@@ -3,6 +3,7 @@ ghost use Rattle.std.specs.Prelude.{◌≡◌, IfOk, OnOk, drop, pos};
 ghost use Rattle.sim_code.specs.declared.instr.Instr.TheVariants as i;
 ghost use Rattle.sim_meaning.specs.Texts.{kind_named};
 ghost use Rattle.codegen_expr.specs.Known.{Known};
+ghost use Rattle.codegen_expr.specs.Sites.{is_constant as is_constant_of};
 ghost use Rattle.text_tables.specs.TokenTable.{AreDeclared};
 ghost use Rattle.codegen.specs.CodeArrays.{element_number as element_number_of};
 ghost use Rattle.codegen.specs.EmitArrays.{FindsKept, PutsArrays, WritesArrays, WritesBounds, WritesFurther, WritesKeep, WritesLoad, WritesMade, WritesSegment, WritesSegments};
@@ -13,7 +14,7 @@ use codegen_expr::{
 };
 use sim_base::{DeclNo, Line, TokenNo};
 use sim_code::Instr;
-use sim_scope::Bound;
+use sim_scope::{Bound, Entry, entry_of};
 use sim_tree::{ArraySegment, Bounds, Decl, Identifier, TypeName};
 use std::alloc::AllocError;
 use text_tables::declared_at;
@@ -28,6 +29,24 @@ fn element_number(name: &TypeName) -> i64
         TypeName::Character(_) => 3,
         TypeName::Text(_) => 4,
         TypeName::Reference { .. } => 5,
+    }
+}
+
+/// Whether a constant is declared.
+fn is_constant(entry: Option<Entry>) -> bool
+    ensures { result ≡ is_constant_of entry }
+{
+    match entry {
+        Some(Entry::Constant(_)) => true,
+        Some(Entry::Variable(_)) => false,
+        Some(Entry::Array { .. }) => false,
+        Some(Entry::Formal(_)) => false,
+        Some(Entry::Procedure { .. }) => false,
+        Some(Entry::Class { .. }) => false,
+        Some(Entry::Virtual { .. }) => false,
+        Some(Entry::Attribute { .. }) => false,
+        Some(Entry::Unspecified { .. }) => false,
+        None => false,
     }
 }
 
@@ -48,6 +67,9 @@ fn find_kept(
         return None;
     };
     if block_of(bound, declaration) != spot.text {
+        return None;
+    }
+    if is_constant(entry_of(&bound.scopes, declaration)) {
         return None;
     }
     slot_of(bound, cells, declaration)

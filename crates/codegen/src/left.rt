@@ -1,19 +1,21 @@
 //! Left sides of assignments.
 ghost use Rattle.std.specs.Prelude.{◌≡◌};
-ghost use Rattle.sim_meaning.specs.Closing.{own_block, own_block_denoted, own_result as own_result_of};
+ghost use Rattle.sim_meaning.specs.Closing.{own_block, own_block_denoted, result_meant as result_meant_of};
 ghost use Rattle.sim_scope.specs.Calls.{is_inside as is_inside_of};
 ghost use Rattle.sim_scope.specs.Source.{source_of};
 ghost use Rattle.sim_tree.specs.SyntaxOf.{syntax_of};
+ghost use Rattle.codegen_expr.specs.Built.{slot_in};
 ghost use Rattle.codegen_expr.specs.Known.{Known};
-ghost use Rattle.codegen.specs.EmitLeft.{FindsDeclared, FindsElement, FindsFormal, FindsLeft, FindsOwn, FindsResult, FindsSide, FindsText, FindsVariable, FindsWhole};
+ghost use Rattle.sim_meaning.specs.Pending.{Result};
+ghost use Rattle.codegen.specs.EmitLeft.{FindsDeclared, FindsElement, FindsFormal, FindsLeft, FindsNamed, FindsOwn, FindsOwnNamed, FindsResult, FindsSide, FindsTaken, FindsText, FindsVariable, FindsWhole};
 
 use codegen_expr::{
-    Cells, Form, Spot, block_of, denoted, form_of, has_result, is_around, is_text, level_of,
-    slot_of,
+    Cells, Form, Spot, block_of, connection_at, denoted, form_of, has_result, is_around, is_text,
+    level_of, prefix_of, slot_of,
 };
 use sim_base::{DeclNo, TokenNo};
 use sim_scope::{Bound, Denotation, Entry, FormalKind, Mode, Scopes, entry_of};
-use sim_tree::{Assignment, Expr, Identifier};
+use sim_tree::{Assignment, Expr, Identifier, Selector};
 
 /// What a left side is.
 #[derive(Clone, Copy)]
@@ -36,6 +38,10 @@ pub(crate) enum Left<'a> {
         level: u32,
         slot: u32,
     },
+    /// An attribute of an object, where it lies.
+    Attribute,
+    /// A reference, which is held against its class.
+    Reference,
     /// It is not built.
     NotBuilt,
 }
@@ -89,7 +95,22 @@ fn find_element<'a>(
     }
 }
 
-/// The result of a procedure, whose cell is the first of its text.
+/// The cell of the result of a procedure, which is the first of its text.
+#[tactic(auto, using(crate::proofs::Cells::lefts))]
+pub(crate) fn result_slot(bound: &Bound, cells: &Cells, text: u32) -> Option<u32>
+    requires cells { Known bound.now cells.now }
+    ensures { result ≡ slot_in (source_of bound.now) text Result }
+{
+    if let Some(_) = prefix_of(&bound.scopes, text) {
+        return None;
+    }
+    if has_result(bound, cells, text) {
+        return Some(0);
+    }
+    None
+}
+
+/// The result of a procedure.
 #[tactic(auto, using(crate::proofs::Cells::lefts))]
 fn find_result<'a>(
     bound: &Bound,
@@ -104,13 +125,13 @@ fn find_result<'a>(
     if subscripts.len() != 0 {
         return Left::NotBuilt;
     }
-    if !has_result(bound, cells, text) {
+    let Some(slot) = result_slot(bound, cells, text) else {
         return Left::NotBuilt;
-    }
+    };
     if is_around(&bound.scopes, spot.text, text) {
         return Left::Cell {
             level: level_of(bound, text),
-            slot: 0,
+            slot,
         };
     }
     Left::NotBuilt
@@ -186,7 +207,7 @@ fn find_declared<'a>(
 
 /// What an identifier with subscripts, or none, is as a variable.
 #[tactic(auto, using(crate::proofs::Cells::lefts))]
-pub(crate) fn find_left<'a>(
+fn find_left<'a>(
     bound: &Bound,
     cells: &Cells,
     spot: Spot,
@@ -205,6 +226,39 @@ pub(crate) fn find_left<'a>(
     }
 }
 
+/// What an identifier with subscripts, or none, is as a variable: what is seen through a connection is an attribute of an object.
+#[tactic(auto, using(crate::proofs::Found::founds))]
+pub(crate) fn find_named<'a>(
+    bound: &Bound,
+    cells: &Cells,
+    spot: Spot,
+    name: &Identifier,
+    subscripts: &'a [Expr],
+) -> Left<'a>
+    requires cells { Known bound.now cells.now }
+    ensures { FindsNamed bound.now spot name.now subscripts.now result }
+{
+    match connection_at(bound, cells, name.token) {
+        Some(_) => Left::Attribute,
+        None => find_left(bound, cells, spot, name.token, subscripts),
+    }
+}
+
+/// What stands behind the last dot, as a variable: what is declared there is an attribute of an object.
+#[tactic(auto, using(crate::proofs::Found::founds))]
+fn find_taken<'a>(bound: &Bound, spot: Spot, last: &Selector) -> Left<'a>
+    ensures { FindsTaken bound.now spot last.now result }
+{
+    match last {
+        Selector::Dot { name, .. } => match denoted(bound, name.token) {
+            Some(Denotation::Declared(_)) => Left::Attribute,
+            Some(Denotation::Standard(_)) => Left::NotBuilt,
+            None => Left::NotBuilt,
+        },
+        Selector::Qua { .. } => Left::NotBuilt,
+    }
+}
+
 /// What an expression is as a variable.
 #[tactic(auto, using(crate::proofs::Found::founds))]
 fn find_whole<'a>(bound: &Bound, cells: &Cells, spot: Spot, left: &'a Expr) -> Left<'a>
@@ -212,9 +266,10 @@ fn find_whole<'a>(bound: &Bound, cells: &Cells, spot: Spot, left: &'a Expr) -> L
     ensures { FindsWhole bound.now spot left.now result }
 {
     match form_of(left) {
-        Form::Named { name, arguments } => find_left(bound, cells, spot, name.token, arguments),
-        Form::Taken { .. } => Left::NotBuilt,
+        Form::Named { name, arguments } => find_named(bound, cells, spot, name, arguments),
+        Form::Taken { rest, .. } => find_taken(bound, spot, &rest[rest.len() - 1]),
         Form::Closed { .. } => Left::NotBuilt,
+        Form::New => Left::NotBuilt,
         Form::Other => Left::NotBuilt,
     }
 }
@@ -259,37 +314,54 @@ fn own_denoted(bound: &Bound, token: TokenNo, denotation: Option<Denotation>) ->
     }
 }
 
+/// The block of the procedure whose result an identifier is as a left side, where it is not seen through a connection.
+#[tactic(auto, using(crate::proofs::Found::founds))]
+pub(crate) fn own_named(
+    bound: &Bound,
+    cells: &Cells,
+    token: TokenNo,
+    subscripts: usize,
+) -> Option<u32>
+    requires cells { Known bound.now cells.now }
+    ensures { FindsOwnNamed bound.now token subscripts result }
+{
+    if subscripts != 0 {
+        return None;
+    }
+    match connection_at(bound, cells, token) {
+        Some(_) => None,
+        None => own_denoted(bound, token, denoted(bound, token)),
+    }
+}
+
 /// The block of the procedure whose result an expression is as a left side.
 #[tactic(auto, using(crate::proofs::Found::founds))]
-fn own_result(bound: &Bound, left: &Expr) -> Option<u32>
-    ensures { result ≡ own_result_of (source_of bound.now) (syntax_of left.now) }
+pub(crate) fn result_meant(bound: &Bound, cells: &Cells, left: &Expr) -> Option<u32>
+    requires cells { Known bound.now cells.now }
+    ensures { result ≡ result_meant_of (source_of bound.now) (syntax_of left.now) }
 {
     match form_of(left) {
-        Form::Named { name, arguments } => {
-            if arguments.len() == 0 {
-                return own_denoted(bound, name.token, denoted(bound, name.token));
-            }
-            None
-        }
+        Form::Named { name, arguments } => own_named(bound, cells, name.token, arguments.len()),
         Form::Taken { .. } => None,
         Form::Closed { .. } => None,
+        Form::New => None,
         Form::Other => None,
     }
 }
 
-/// The text in the cell of the result of a procedure, which is the first of its text.
+/// The text in the cell of the result of a procedure.
 #[tactic(auto, using(crate::proofs::Found::founds))]
 fn find_own<'a>(bound: &Bound, cells: &Cells, spot: Spot, text: u32) -> Left<'a>
     requires cells { Known bound.now cells.now }
     ensures { FindsOwn bound.now spot text result }
 {
-    if !has_result(bound, cells, text) {
+    let Some(slot) = result_slot(bound, cells, text) else {
         return Left::NotBuilt;
-    }
+    };
     if is_around(&bound.scopes, spot.text, text) {
         return Left::Result {
             level: level_of(bound, text),
-            slot: 0,
+            slot,
         };
     }
     Left::NotBuilt
@@ -301,7 +373,7 @@ fn find_text<'a>(bound: &Bound, cells: &Cells, spot: Spot, left: &'a Expr) -> Le
     requires cells { Known bound.now cells.now }
     ensures { FindsText bound.now spot left.now result }
 {
-    match own_result(bound, left) {
+    match result_meant(bound, cells, left) {
         Some(text) => find_own(bound, cells, spot, text),
         None => Left::Text,
     }
@@ -327,6 +399,6 @@ pub(crate) fn find_side<'a>(
     }
     match sign {
         Assignment::Value => find_whole(bound, cells, spot, left),
-        Assignment::Reference => Left::NotBuilt,
+        Assignment::Reference => Left::Reference,
     }
 }

@@ -2,15 +2,20 @@
 #![tactic(auto)]
 
 mod arrays;
+mod connections;
 mod elements;
 pub mod laws;
 mod leaves;
 mod left;
+mod levels;
 mod lists;
 mod program;
 mod records;
+mod references;
 mod several;
 mod statement;
+mod targets;
 mod texts;
 
 pub use program::compile;
+pub use records::holds_class;

@@ -5,12 +5,13 @@ ghost use Rattle.sim_scope.specs.Source.{source_of};
 ghost use Rattle.codegen.specs.BuiltProgram.{ProgramBuilt};
 ghost use Rattle.codegen.specs.Compiled.{Compiled};
 
-use crate::texts::emit_texts;
+use crate::texts::{Written, emit_texts};
 use codegen_expr::Draft;
+use program_texts::texts_of;
 use sim_code::Code;
 use sim_scope::Bound;
 use std::alloc::{AllocError, Global};
-use text_tables::{cells_of, constant_texts, declarations_by_token};
+use text_tables::{cells_of, class_numbers, constant_texts, declarations_by_token};
 
 /// The code of a program that is built. There is none only for want of memory, or for more places than a number of 32 bits counts.
 #[tactic(auto, using(crate::proofs::Whole::wholes))]
@@ -22,15 +23,19 @@ pub fn compile(alloc: Global, bound: &Bound) -> Result<Code, AllocError>
     let cells = cells_of(alloc, bound)?;
     let declared = declarations_by_token(alloc, bound)?;
     let texts = constant_texts(alloc, bound)?;
-    let mut draft = Draft::new(alloc);
-    let mut blocks = Vec::new(alloc);
-    emit_texts(alloc, bound, &cells, &declared, &mut draft, &mut blocks)?;
+    let trees = texts_of(alloc, &bound.program)?;
+    let mut written = Written {
+        draft: Draft::new(alloc, class_numbers(alloc, bound)?),
+        blocks: Vec::new(alloc),
+        classes: Vec::new(alloc),
+    };
+    emit_texts(alloc, bound, &cells, &declared, &mut written, &trees)?;
     Ok(Code {
         texts,
-        blocks,
-        classes: Vec::new(alloc),
+        blocks: written.blocks,
+        classes: written.classes,
         thunks: Vec::new(alloc),
         actual_lists: Vec::new(alloc),
-        instrs: draft.into_instrs(),
+        instrs: written.draft.into_instrs(),
     })
 }

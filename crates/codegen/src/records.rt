@@ -1,16 +1,18 @@
 //! Records of blocks: what the frames of a text hold.
-ghost use Rattle.std.specs.Prelude.{◌≡◌, ◌≤◌, ◌++◌, [], IfOk, List, OnOk, length, map};
+ghost use Rattle.std.specs.Prelude.{◌≡◌, IfOk, OnOk, Some, map};
 ghost use Rattle.sim_code.specs.declared.code.CodeType.{CodeType as CodeTypeOf};
-ghost use Rattle.sim_meaning.specs.Entries.{formals_of, numbers_of};
+ghost use Rattle.sim_meaning.specs.Entries.{numbers_of};
+ghost use Rattle.sim_meaning.specs.Texts.{has_class_in, is_class_free as is_class_free_of, is_class_kind as is_class_kind_of};
 ghost use Rattle.sim_scope.specs.Source.{source_of};
-ghost use Rattle.codegen_expr.specs.Known.{Known};
+ghost use Rattle.codegen_expr.specs.Known.{Known, is_hidden};
 ghost use Rattle.codegen.specs.Compiled.{code_formal as code_formal_of, code_mode as code_mode_of, code_shape as code_shape_of, type_of, type_of_cell, type_of_name as type_of_name_of};
-ghost use Rattle.codegen.specs.EmitProgram.{CellTypes, Padded, PushesCell, PushesCells, PushesResult};
+ghost use Rattle.codegen.specs.EmitProgram.{CellTypes, HidesConnections, Padded, PushesCell, PushesCells, PushesResult, class_inside, formals_by_kind, with_hidden};
 
-use codegen_expr::{Cells, formals_of_block};
+use crate::texts::Head;
+use codegen_expr::{Cells, class_parameters, formals_of_block, is_kept_in};
 use sim_base::DeclNo;
-use sim_code::{CodeFormal, CodeMode, CodeType, FormalShape};
-use sim_scope::{Bound, Entry, Formal, FormalKind, Mode, SimType, entry_of};
+use sim_code::{BlockKind as CodeBlock, CodeFormal, CodeMode, CodeType, FormalShape};
+use sim_scope::{Block, BlockKind, Bound, Entry, Formal, FormalKind, Mode, SimType, entry_of};
 use sim_tree::TypeName;
 use std::alloc::{AllocError, Global};
 
@@ -125,6 +127,85 @@ pub(crate) fn cell_types(
     Ok(types)
 }
 
+/// Whether a block is a class or has a class in front of it.
+fn is_class_kind(kind: BlockKind) -> bool
+    ensures { result ≡ is_class_kind_of kind }
+{
+    match kind {
+        BlockKind::Program => false,
+        BlockKind::SubBlock => false,
+        BlockKind::Procedure => false,
+        BlockKind::Class => true,
+        BlockKind::Prefixed => true,
+        BlockKind::Connection => false,
+        BlockKind::StandardClass(_) => true,
+    }
+}
+
+/// Whether a block inside another one, or that one itself, is such a block.
+fn has_inside(row: &Block, block: &Block) -> bool
+    ensures { result ≡ class_inside row.now block.now }
+{
+    is_class_kind(block.kind()) && row.first().0 <= block.first().0 && block.first().0 < row.end().0
+}
+
+/// Whether a block, or one of these inside it, is a class or has a class in front of it. Time is linear in their number.
+pub fn holds_class(row: &Block, blocks: &[Block]) -> bool
+    ensures { result ≡ has_class_in (Some row.now) blocks.now }
+{
+    for block in blocks {
+        if has_inside(row, block) {
+            return true;
+        }
+    }
+    false
+}
+
+/// Whether no class is declared in a text and no block in it has a prefix. Time is linear in the number of blocks.
+#[tactic(auto, unfolding(sim_scope::specs::Source::source_of, sim_meaning::specs::Texts::is_class_free))]
+pub(crate) fn is_class_free(bound: &Bound, text: u32) -> bool
+    ensures { result ≡ is_class_free_of (source_of bound.now) text }
+{
+    match bound.scopes.blocks().get(text as usize) {
+        Some(row) => !holds_class(row, bound.scopes.blocks()),
+        None => true,
+    }
+}
+
+/// A number as the tables of code have it.
+pub(crate) fn number(count: usize) -> Result<u32, AllocError>
+    ensures { IfOk result (λ n. n ≡ count) }
+{
+    u32::try_from(count).map_err(|_| AllocError)
+}
+
+/// The cell of a connection, if it lies in the frames of a text.
+#[tactic(auto, using(crate::proofs::Heads::hides))]
+fn hide(bound: &Bound, block: u32, text: u32, types: &mut Vec<CodeType>) -> Result<(), AllocError>
+    ensures { OnOk result (types.new.items ≡ with_hidden (is_hidden (source_of bound.now) text block) types.old.items) }
+{
+    if is_kept_in(bound, block, text) {
+        types.push(CodeType::Nothing)?;
+        return Ok(());
+    }
+    Ok(())
+}
+
+/// The cells of the connections that stand in a text, which hold nothing at the entry.
+pub(crate) fn hide_connections(
+    bound: &Bound,
+    text: u32,
+    types: &mut Vec<CodeType>,
+) -> Result<(), AllocError>
+    ensures { OnOk result (HidesConnections bound.now types.old.items types.new.items text) }
+{
+    for index in 0..bound.scopes.block_count() {
+        let block = number(index)?;
+        hide(bound, block, text, types)?;
+    }
+    Ok(())
+}
+
 /// Temps behind the cells, up to a size.
 pub(crate) fn pad(types: &mut Vec<CodeType>, size: usize) -> Result<(), AllocError>
     ensures { OnOk result (Padded types.old.items types.new.items size) }
@@ -166,18 +247,32 @@ fn code_formal(formal: Formal) -> CodeFormal
     }
 }
 
-/// The formal parameters of a text.
+/// The formal parameters of a text, those of a class of all its levels.
+#[tactic(auto, using(crate::proofs::Heads::formals))]
+fn formals_of_head<'a>(bound: &Bound, cells: &'a Cells, head: Head) -> &'a [Formal]
+    requires cells { Known bound.now cells.now }
+    ensures { result.now ≡ formals_by_kind (source_of bound.now) head.kind head.text }
+{
+    match head.kind {
+        CodeBlock::Object => class_parameters(bound, cells, Some(head.text)),
+        CodeBlock::Prefixed => class_parameters(bound, cells, Some(head.text)),
+        CodeBlock::SubBlock => formals_of_block(bound, cells, head.text),
+        CodeBlock::Procedure => formals_of_block(bound, cells, head.text),
+    }
+}
+
+/// The formal parameters of a text as code has them.
 pub(crate) fn code_formals(
     alloc: Global,
     bound: &Bound,
     cells: &Cells,
-    text: u32,
+    head: Head,
 ) -> Result<Vec<CodeFormal>, AllocError>
     requires cells { Known bound.now cells.now }
-    ensures { IfOk result (λ formals. formals.items ≡ map code_formal_of (formals_of (source_of bound.now) text)) }
+    ensures { IfOk result (λ formals. formals.items ≡ map code_formal_of (formals_by_kind (source_of bound.now) head.kind head.text)) }
 {
     let mut formals = Vec::new(alloc);
-    let list = formals_of_block(bound, cells, text);
+    let list = formals_of_head(bound, cells, head);
     for formal in list {
         formals.push(code_formal(*formal))?;
     }

@@ -1,12 +1,14 @@
 //! Assignments to several left sides.
 ghost use Rattle.std.specs.Prelude.{◌≡◌, ◌<◌, ◌-◌, IfOk, OnOk, Some, length, slice_get};
 ghost use Rattle.codegen_expr.specs.Known.{Known};
-ghost use Rattle.codegen.specs.Emit.{WritesAssignment};
+ghost use Rattle.codegen.specs.Emit.{WritesAssignment, WritesOne};
 ghost use Rattle.codegen.specs.EmitSeveral.{WritesAddress, WritesAddresses, WritesGive, WritesGives, side_in, sides};
 
 use crate::left::{Left, find_side};
+use crate::references::emit_reference_place;
 use codegen_expr::{
-    Cells, Draft, Spot, deeper, emit_element, emit_expr, level_of, line_at, load_instr, store_instr,
+    Cells, Draft, Spot, deeper, emit_element, emit_expr, emit_place, level_of, line_at, load_instr,
+    store_instr,
 };
 use sim_base::{Line, TokenNo};
 use sim_code::Instr;
@@ -23,6 +25,66 @@ pub(crate) struct Side<'a> {
     pub token: TokenNo,
     /// The left side.
     pub left: &'a Expr,
+}
+
+/// A value that goes to one left side.
+#[tactic(auto, using(crate::proofs::Ones::ones))]
+pub(crate) fn emit_one(
+    bound: &Bound,
+    cells: &Cells,
+    spot: Spot,
+    draft: &mut Draft,
+    side: Side,
+    value: &Expr,
+) -> Result<(), AllocError>
+    requires cells { Known bound.now cells.now }
+    ensures { OnOk result (WritesOne bound.now spot draft.old draft.new (side_in side.entry) value.now) }
+{
+    match find_side(bound, cells, spot, side.sign, side.left) {
+        Left::Cell { level, slot } => {
+            emit_expr(bound, cells, spot, draft, 0, value)?;
+            draft.put(store_instr(level, slot), Line(0))?;
+            Ok(())
+        }
+        Left::Element {
+            token,
+            array,
+            subscripts,
+        } => {
+            emit_element(bound, cells, spot, draft, 0, 0, token, array, subscripts)?;
+            emit_expr(bound, cells, spot, draft, 1, value)?;
+            draft.put(Instr::Put, Line(0))?;
+            Ok(())
+        }
+        Left::Text => {
+            emit_expr(bound, cells, spot, draft, 0, side.left)?;
+            emit_expr(bound, cells, spot, draft, 1, value)?;
+            draft.put(Instr::AssignT, line_at(bound, side.token))?;
+            Ok(())
+        }
+        Left::Result { level, slot } => {
+            draft.push(0, load_instr(level, slot), Line(0))?;
+            emit_expr(bound, cells, spot, draft, 1, value)?;
+            draft.put(Instr::AssignT, line_at(bound, side.token))?;
+            Ok(())
+        }
+        Left::Attribute => {
+            emit_place(bound, cells, spot, draft, 0, 0, side.left)?;
+            emit_expr(bound, cells, spot, draft, 1, value)?;
+            draft.put(Instr::Put, Line(0))?;
+            Ok(())
+        }
+        Left::Reference => {
+            emit_reference_place(bound, cells, spot, draft, 0, side.left)?;
+            emit_expr(bound, cells, spot, draft, 1, value)?;
+            draft.put(Instr::Put, line_at(bound, side.token))?;
+            Ok(())
+        }
+        Left::NotBuilt => {
+            draft.give_up();
+            Ok(())
+        }
+    }
 }
 
 /// A left side, from left to right.
@@ -66,7 +128,9 @@ fn emit_address(
             array,
             subscripts,
         } => {
-            emit_element(bound, cells, spot, draft, depth, token, array, subscripts)?;
+            emit_element(
+                bound, cells, spot, draft, depth, 0, token, array, subscripts,
+            )?;
             let values = deeper(depth)?;
             Ok(values)
         }
@@ -77,6 +141,16 @@ fn emit_address(
         }
         Left::Result { level, slot } => {
             draft.push(depth, load_instr(level, slot), Line(0))?;
+            let values = deeper(depth)?;
+            Ok(values)
+        }
+        Left::Attribute => {
+            emit_place(bound, cells, spot, draft, depth, 0, item.left)?;
+            let values = deeper(depth)?;
+            Ok(values)
+        }
+        Left::Reference => {
+            emit_reference_place(bound, cells, spot, draft, depth, item.left)?;
             let values = deeper(depth)?;
             Ok(values)
         }
@@ -150,6 +224,16 @@ fn emit_give(
         Left::Result { .. } => {
             draft.push(depth, temp, Line(0))?;
             draft.put(Instr::AssignT, line_at(bound, item.token))?;
+            Ok(shallower(depth))
+        }
+        Left::Attribute => {
+            draft.push(depth, temp, Line(0))?;
+            draft.put(Instr::Put, Line(0))?;
+            Ok(shallower(depth))
+        }
+        Left::Reference => {
+            draft.push(depth, temp, Line(0))?;
+            draft.put(Instr::Put, line_at(bound, item.token))?;
             Ok(shallower(depth))
         }
         Left::NotBuilt => {

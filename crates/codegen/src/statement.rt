@@ -3,18 +3,21 @@ ghost use Rattle.std.specs.Prelude.{◌≡◌, ◌≢◌, ◌<◌, IfOk, OnOk, f
 ghost use Rattle.sim_code.specs.declared.instr.Instr.TheVariants as i;
 ghost use Rattle.codegen_expr.specs.Known.{Known};
 ghost use Rattle.codegen.specs.EmitLists.{WritesEach};
-ghost use Rattle.codegen.specs.EmitShared.{PutsTurn, WritesInside, WritesTurn, WritesTurns, line_in};
+ghost use Rattle.codegen.specs.EmitShared.{PutsTurn, WritesInside, WritesTurn, WritesTurns};
+ghost use Rattle.codegen.specs.EmitTargets.{line_in};
 ghost use Rattle.codegen.specs.CodeFor.{is_empty as is_empty_of};
 ghost use Rattle.sim_tree.specs.SyntaxOfProgram.{statement_syntax};
-ghost use Rattle.codegen.specs.Emit.{WritesAssignment, WritesBlock, WritesCall, WritesCalled, WritesCalledBehind, WritesElementOf, WritesFor, WritesGiven, WritesList, WritesOne, WritesStatement, WritesStatements, WritesTakenCall};
+ghost use Rattle.codegen.specs.Emit.{WritesAssignment, WritesBlock, WritesCall, WritesCalled, WritesCalledBehind, WritesElementOf, WritesFor, WritesList, WritesStatement, WritesStatements, WritesTakenCall};
 ghost use Rattle.codegen.specs.EmitSeveral.{side_in};
 ghost use Rattle.codegen.specs.ForElements.{in_list, view_syntax};
 
+use crate::connections::{emit_arms, emit_connects, emit_otherwise, fill_all};
 use crate::elements::{Element, Elements, count, element_at};
 use crate::leaves::leaves;
-use crate::left::{Left, find_left, find_side};
+use crate::left::{Left, find_named};
 use crate::lists::{Shared, emit_returns, emit_sent, hole_at, is_empty, jump_to};
-use crate::several::{Side, emit_several};
+use crate::several::{Side, emit_one, emit_several};
+use crate::targets::{Target, emit_given, emit_loaded, emit_stored, takes_values};
 use codegen_expr::{
     Cells, Draft, Form, Object, Spot, block_number, deeper, denoted, emit_before, emit_dot,
     emit_element, emit_expr, emit_named, form_of, gives, is_text_at, line_at, load_instr,
@@ -132,25 +135,61 @@ pub(crate) fn emit_statement(
         }
         Stmt::ForReference {
             variable,
+            sign,
             elements,
             body,
             ..
         } => {
             draft.put(Instr::Tick, Line(0))?;
+            let list = Elements::References(elements);
             if is_text_at(bound, variable.token) {
-                let list = Elements::References(elements);
                 emit_for(bound, cells, spot, draft, variable, None, list, body)?;
                 return Ok(());
             }
-            draft.give_up();
+            let target = Target::Reference {
+                name: variable,
+                line: line_at(bound, *sign),
+            };
+            emit_elements(bound, cells, spot, draft, target, list, body)?;
             Ok(())
         }
-        Stmt::Inspect { .. } => {
-            draft.give_up();
+        Stmt::Inspect {
+            object,
+            opening,
+            body,
+            otherwise,
+            ..
+        } => {
+            draft.put(Instr::Tick, Line(0))?;
+            emit_expr(bound, cells, spot, draft, 0, object)?;
+            draft.push(1, Instr::Dup, Line(0))?;
+            draft.push(2, Instr::None, Line(0))?;
+            draft.put(Instr::Same, Line(0))?;
+            draft.put(Instr::Not, Line(0))?;
+            let jump = draft.here();
+            draft.leave_hole()?;
+            emit_connects(bound, cells, spot, draft, *opening, body)?;
+            let over = draft.here();
+            draft.leave_hole()?;
+            let start = draft.place()?;
+            emit_otherwise(bound, cells, spot, draft, otherwise)?;
+            let end = draft.place()?;
+            draft.fill_in(jump, Instr::JumpF(start));
+            draft.fill_in(over, Instr::Jump(end));
             Ok(())
         }
-        Stmt::InspectWhen { .. } => {
-            draft.give_up();
+        Stmt::InspectWhen {
+            object,
+            arms,
+            otherwise,
+            ..
+        } => {
+            draft.put(Instr::Tick, Line(0))?;
+            emit_expr(bound, cells, spot, draft, 0, object)?;
+            let overs = emit_arms(bound, cells, spot, draft, arms)?;
+            emit_otherwise(bound, cells, spot, draft, otherwise)?;
+            let end = draft.place()?;
+            fill_all(draft, &overs, end);
             Ok(())
         }
         Stmt::Activation { .. } => {
@@ -258,6 +297,11 @@ fn emit_call(
         }
         Form::Taken { primary, rest } => {
             emit_taken_call(bound, cells, spot, draft, primary, rest)?;
+            Ok(())
+        }
+        Form::New { .. } => {
+            emit_expr(bound, cells, spot, draft, 0, call)?;
+            draft.put(Instr::Pop, Line(0))?;
             Ok(())
         }
         Form::Closed { .. } => {
@@ -400,66 +444,8 @@ fn emit_assignment(
     Ok(())
 }
 
-/// A value that goes to one left side.
-#[tactic(auto, using(crate::proofs::Ones::ones))]
-fn emit_one(
-    bound: &Bound,
-    cells: &Cells,
-    spot: Spot,
-    draft: &mut Draft,
-    side: Side,
-    value: &Expr,
-) -> Result<(), AllocError>
-    requires cells { Known bound.now cells.now }
-    ensures { OnOk result (WritesOne bound.now spot draft.old draft.new (side_in side.entry) value.now) }
-{
-    match find_side(bound, cells, spot, side.sign, side.left) {
-        Left::Cell { level, slot } => {
-            emit_expr(bound, cells, spot, draft, 0, value)?;
-            draft.put(store_instr(level, slot), Line(0))?;
-            Ok(())
-        }
-        Left::Element {
-            token,
-            array,
-            subscripts,
-        } => {
-            emit_element(bound, cells, spot, draft, 0, token, array, subscripts)?;
-            emit_expr(bound, cells, spot, draft, 1, value)?;
-            draft.put(Instr::Put, Line(0))?;
-            Ok(())
-        }
-        Left::Text => {
-            emit_expr(bound, cells, spot, draft, 0, side.left)?;
-            emit_expr(bound, cells, spot, draft, 1, value)?;
-            draft.put(Instr::AssignT, line_at(bound, side.token))?;
-            Ok(())
-        }
-        Left::Result { level, slot } => {
-            draft.push(0, load_instr(level, slot), Line(0))?;
-            emit_expr(bound, cells, spot, draft, 1, value)?;
-            draft.put(Instr::AssignT, line_at(bound, side.token))?;
-            Ok(())
-        }
-        Left::NotBuilt => {
-            draft.give_up();
-            Ok(())
-        }
-    }
-}
-
-/// A controlled variable.
-#[derive(Clone, Copy)]
-pub struct Target {
-    /// The level of its text.
-    pub level: u32,
-    /// Its number in the frames of that text.
-    pub slot: u32,
-    /// Where its text gets the characters of others: the line of the sign.
-    pub assigned: Option<Line>,
-}
-
-/// A `for` statement behind its tick, with the line of its sign where a text is assigned to the variable's.
+/// A `for` statement behind its tick, over a variable that is no reference, with the line of its sign where a text is assigned to the
+/// variable's.
 #[cycle(emit)]
 #[tactic(auto, using(crate::proofs::Statements::writes))]
 pub(crate) fn emit_for(
@@ -475,11 +461,19 @@ pub(crate) fn emit_for(
     requires cells { Known bound.now cells.now }
     ensures { OnOk result (WritesFor bound.now spot draft.old draft.new variable.now (option_map line_in assigned) (in_list elements.entry) body.now) }
 {
-    match find_left(bound, cells, spot, variable.token, &[]) {
+    match find_named(bound, cells, spot, variable, &[]) {
         Left::Cell { level, slot } => {
-            let target = Target {
+            let target = Target::Cell {
                 level,
                 slot,
+                assigned,
+            };
+            emit_elements(bound, cells, spot, draft, target, elements, body)?;
+            Ok(())
+        }
+        Left::Attribute => {
+            let target = Target::Place {
+                name: variable,
                 assigned,
             };
             emit_elements(bound, cells, spot, draft, target, elements, body)?;
@@ -497,6 +491,10 @@ pub(crate) fn emit_for(
             draft.give_up();
             Ok(())
         }
+        Left::Reference => {
+            draft.give_up();
+            Ok(())
+        }
         Left::NotBuilt => {
             draft.give_up();
             Ok(())
@@ -504,7 +502,7 @@ pub(crate) fn emit_for(
     }
 }
 
-/// A list of elements over the variable in a cell.
+/// A list of elements over a variable.
 #[cycle(emit)]
 #[tactic(auto, using(crate::proofs::Statements::writes, crate::proofs::ForLists::lists))]
 fn emit_elements(
@@ -517,7 +515,7 @@ fn emit_elements(
     body: &Stmt,
 ) -> Result<(), AllocError>
     requires cells { Known bound.now cells.now }
-    ensures { OnOk result (WritesList bound.now spot draft.old draft.new target (in_list elements.entry) body.now) }
+    ensures { OnOk result (WritesList bound.now spot draft.old draft.new target.entry (in_list elements.entry) body.now) }
 {
     if count(elements) == 1 {
         let element = element_at(elements, 0);
@@ -551,7 +549,7 @@ fn emit_shared(
     requires cells { Known bound.now cells.now }
     requires several { 1 < length (in_list elements) }
     requires stands { is_empty_of (statement_syntax body.now) ≡ false }
-    ensures { OnOk result (WritesList bound.now spot draft.old draft.new target (in_list elements.entry) body.now) }
+    ensures { OnOk result (WritesList bound.now spot draft.old draft.new target.entry (in_list elements.entry) body.now) }
 {
     draft.take_temp(spot.used)?;
     let over = draft.here();
@@ -606,7 +604,7 @@ fn emit_turns(
 ) -> Result<(), AllocError>
     requires cells { Known bound.now cells.now }
     requires some { 0 < length (in_list elements) }
-    ensures { OnOk result (WritesTurns bound.now spot draft.old draft.new target (in_list elements.entry) start chain 0) }
+    ensures { OnOk result (WritesTurns bound.now spot draft.old draft.new target.entry (in_list elements.entry) start chain 0) }
 {
     let last = count(elements) - 1;
     for number in 0..last {
@@ -640,7 +638,7 @@ fn emit_turn_at(
     hole: usize,
 ) -> Result<(), AllocError>
     requires cells { Known bound.now cells.now }
-    ensures { OnOk result (PutsTurn bound.now spot draft.old draft.new target (view_syntax element.entry) turn.start turn.number hole) }
+    ensures { OnOk result (PutsTurn bound.now spot draft.old draft.new target.entry (view_syntax element.entry) turn.start turn.number hole) }
 {
     let on = emit_element_of(bound, cells, spot, draft, target, element, body, Some(turn))?;
     let jump = jump_to(on)?;
@@ -661,7 +659,7 @@ fn emit_each(
     body: &Stmt,
 ) -> Result<(), AllocError>
     requires cells { Known bound.now cells.now }
-    ensures { OnOk result (WritesEach bound.now spot draft.old draft.new target (in_list elements.entry) body.now) }
+    ensures { OnOk result (WritesEach bound.now spot draft.old draft.new target.entry (in_list elements.entry) body.now) }
 {
     for index in 0..count(elements) {
         let element = element_at(elements, index);
@@ -696,34 +694,6 @@ fn emit_turn(
     }
 }
 
-/// A value goes to the controlled variable.
-#[tactic(auto, using(crate::proofs::Ones::ones))]
-fn emit_given(
-    bound: &Bound,
-    cells: &Cells,
-    spot: Spot,
-    draft: &mut Draft,
-    target: Target,
-    value: &Expr,
-) -> Result<(), AllocError>
-    requires cells { Known bound.now cells.now }
-    ensures { OnOk result (WritesGiven bound.now spot draft.old draft.new target value.now) }
-{
-    match target.assigned {
-        None => {
-            emit_expr(bound, cells, spot, draft, 0, value)?;
-            draft.put(store_instr(target.level, target.slot), Line(0))?;
-            Ok(())
-        }
-        Some(line) => {
-            draft.push(0, load_instr(target.level, target.slot), Line(0))?;
-            emit_expr(bound, cells, spot, draft, 1, value)?;
-            draft.put(Instr::AssignT, line)?;
-            Ok(())
-        }
-    }
-}
-
 /// One element with its turns. The answer is the place where a turn goes on.
 #[cycle(emit)]
 #[tactic(auto, using(crate::proofs::Statements::writes))]
@@ -738,7 +708,7 @@ fn emit_element_of(
     shared: Option<Shared>,
 ) -> Result<usize, AllocError>
     requires cells { Known bound.now cells.now }
-    ensures { IfOk result (λ on. WritesElementOf bound.now spot draft.old draft.new target (view_syntax element.entry) body.now shared on) }
+    ensures { IfOk result (λ on. WritesElementOf bound.now spot draft.old draft.new target.entry (view_syntax element.entry) body.now shared on) }
 {
     match element {
         Element::Once { value } => {
@@ -770,16 +740,16 @@ fn emit_element_of(
             step,
             limit,
         } => {
-            if target.assigned.is_some() {
+            if !takes_values(target) {
                 draft.give_up();
                 return Ok(draft.here());
             }
             emit_expr(bound, cells, spot, draft, 0, first)?;
-            draft.put(store_instr(target.level, target.slot), Line(0))?;
+            emit_stored(bound, cells, spot, draft, 0, target)?;
             emit_expr(bound, cells, spot, draft, 0, step)?;
             let test = draft.place()?;
             draft.put(Instr::Tick, Line(0))?;
-            draft.push(1, load_instr(target.level, target.slot), Line(0))?;
+            emit_loaded(bound, cells, spot, draft, 1, target)?;
             emit_expr(bound, cells, spot, draft, 2, limit)?;
             draft.put(Instr::StepTest, Line(0))?;
             let jump = draft.here();
@@ -787,9 +757,9 @@ fn emit_element_of(
             let on = emit_turn(bound, cells, spot, draft, body, shared)?;
             emit_expr(bound, cells, spot, draft, 0, step)?;
             draft.push(1, Instr::Dup, Line(0))?;
-            draft.push(2, load_instr(target.level, target.slot), Line(0))?;
+            emit_loaded(bound, cells, spot, draft, 2, target)?;
             draft.put(Instr::Add, line_at(bound, token))?;
-            draft.put(store_instr(target.level, target.slot), Line(0))?;
+            emit_stored(bound, cells, spot, draft, 1, target)?;
             draft.put(Instr::Jump(test), Line(0))?;
             let end = draft.place()?;
             draft.fill_in(jump, Instr::JumpF(end));

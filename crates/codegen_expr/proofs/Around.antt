@@ -8,7 +8,7 @@ use Rattle.sim_scope.specs.Tables.{Tables}
 use Rattle.codegen_expr.specs.Built.{around_or, is_around}
 use Rattle.codegen_expr.specs.Sites.{Inside, itself, further}
 
-neq-eqb : (a b : ℕ) → a ≢ b → (a == b) ≡ false
+pub neq-eqb : (a b : ℕ) → a ≢ b → (a == b) ≡ false
 neq-eqb a b other = ⊎_elim (λ x. absurd (other x.1)) (λ x. x.0) (eqb_tells a b)
 
 module _ (s : Tables) (k : ℕ) where

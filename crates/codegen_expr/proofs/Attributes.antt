@@ -1,5 +1,5 @@
 -- What stands before a dot, and what behind it.
-use Rattle.std.proofs.Common.{◌≡◌, ◌≢◌, ◌<◌, ◌≤◌, ℕ, zero, suc, Bool, false, List, [], ◌∷◌, length, map, drop, Bor, Option, Some, None, refl, sym, ap, ◌∙◌, subst, arith}
+use Rattle.std.proofs.Common.{◌≡◌, ◌≢◌, ◌<◌, ◌≤◌, ◌-◌, ℕ, zero, suc, Bool, false, List, [], ◌∷◌, length, map, drop, Bor, Option, Some, None, refl, sym, ap, ◌∙◌, subst, arith}
 use Rattle.std.specs.Prelude.{slice_index_or}
 use Rattle.std.specs.declared.alloc.Global.{Global}
 use Rattle.std.specs.declared.vec.Vec.{Vec}
@@ -16,11 +16,11 @@ use Rattle.sim_tree.specs.declared.expr.Selector.TheVariants as w
 use Rattle.sim_tree.specs.declared.operator.Operator.{Operator}
 use Rattle.sim_tree.specs.Syntax.{Constant, Binary, Dot, Expression, Expressions, If, Member, Named, New, Not, Parentheses, Qua, Signed, This, expressions}
 use Rattle.sim_tree.specs.SyntaxOf.{Cast, Selection, Tail, Take, expr_layer, factor_layer, factor_syntax, operand_layer, operand_syntax, selected, selector_layer, selector_syntax, syntax_of, term_layer, term_syntax}
-use Rattle.sim_meaning.specs.Closing.{is_image_behind, is_image_denoted, is_variable, is_variable_denoted, stream_denoted, stream_of, typed_token}
+use Rattle.sim_meaning.specs.Closing.{is_attribute, is_attribute_denoted, is_image_behind, is_image_denoted, is_variable, is_variable_denoted, stream_denoted, stream_of, typed_token}
 use Rattle.codegen_expr.specs.declared.forms.Form.{Form}
 use Rattle.codegen_expr.specs.declared.forms.Form.TheVariants as form
-use Rattle.codegen_expr.specs.Emit.{moves_denoted, moves_next, moves_selection, takes_image}
-use Rattle.codegen_expr.specs.Forms.{FindsForm, FormIs, IsOther}
+use Rattle.codegen_expr.specs.Emit.{moves_denoted, moves_next, moves_selection, takes_attribute, takes_image}
+use Rattle.codegen_expr.specs.Forms.{FindsForm, FormIs, IsNew, IsOther}
 
 pub selector-Dot : (i : TokenNo) (y : Identifier) (l : Vec Expr Global) → selector_syntax (w.Dot i y l) ≡ Take i.0 y (expressions (map syntax_of l.items))
 unfolding selector_syntax syntax_of operand_syntax term_syntax factor_syntax
@@ -48,7 +48,7 @@ stream_other s (Qua i a k) h = refl
 stream_other s (Constant l i) h = refl
 stream_other s (Named k args) h = absurd h
 stream_other s (This i k) h = refl
-stream_other s (New i k args) h = refl
+stream_other s (New i k args) h = absurd h
 stream_other s (Parentheses i a) h = refl
 
 pub stream_selected : (s : Source) (x : Expression) (y : Selection) (ys : List Selection) → None ≡ stream_of s (selected x (y ∷ ys))
@@ -73,6 +73,24 @@ pub stream_closed_form : (b : Bound) (x : Expr) (f : Form) (p : Bor Expr) → Fi
 unfolding stream_of
 stream_closed_form b x f p h is = sym (ap (stream_of (source_of b)) (form_at f (form.Closed p) x h is).1)
 
+stream_new : (s : Source) (x : Expression) → IsNew x → None ≡ stream_of s x
+unfolding stream_of
+stream_new s (If i c a b) h = absurd h
+stream_new s (Binary op i a b) h = absurd h
+stream_new s (Not i a) h = absurd h
+stream_new s (Signed k i a) h = absurd h
+stream_new s (Member m i a k) h = absurd h
+stream_new s (Dot i a k args) h = absurd h
+stream_new s (Qua i a k) h = absurd h
+stream_new s (Constant l i) h = absurd h
+stream_new s (Named k args) h = absurd h
+stream_new s (This i k) h = absurd h
+stream_new s (New i k args) h = refl
+stream_new s (Parentheses i a) h = absurd h
+
+pub stream_new_form : (b : Bound) (x : Expr) (f : Form) → FindsForm f x → f ≡ form.New → None ≡ stream_of (source_of b) (syntax_of x)
+stream_new_form b x f h is = stream_new (source_of b) (syntax_of x) (form_at f form.New x h is)
+
 pub stream_other_form : (b : Bound) (x : Expr) (f : Form) → FindsForm f x → f ≡ form.Other → None ≡ stream_of (source_of b) (syntax_of x)
 stream_other_form b x f h is = stream_other (source_of b) (syntax_of x) (form_at f form.Other x h is)
 
@@ -90,7 +108,7 @@ variable_other s (Qua i a k) h = refl
 variable_other s (Constant l i) h = refl
 variable_other s (Named k args) h = absurd h
 variable_other s (This i k) h = refl
-variable_other s (New i k args) h = refl
+variable_other s (New i k args) h = absurd h
 variable_other s (Parentheses i a) h = refl
 
 pub variable_named_form : (b : Bound) (x : Expr) (f : Form) (k : Bor Identifier) (l : Bor (List Expr)) (o : Bool) (u : Option Denotation) → FindsForm f x → f ≡ form.Named k l → u ≡ denoted (source_of b) k.now.token.0 → ((es : Expressions) → o ≡ is_variable_denoted (source_of b) u es) → o ≡ is_variable (source_of b) (syntax_of x)
@@ -103,6 +121,24 @@ variable_taken_form b x f p l o h is eo = let g = form_at f (form.Taken p l) x h
 pub variable_closed_form : (b : Bound) (x : Expr) (f : Form) (p : Bor Expr) → FindsForm f x → f ≡ form.Closed p → false ≡ is_variable (source_of b) (syntax_of x)
 unfolding is_variable
 variable_closed_form b x f p h is = sym (ap (is_variable (source_of b)) (form_at f (form.Closed p) x h is).1)
+
+variable_new : (s : Source) (x : Expression) → IsNew x → false ≡ is_variable s x
+unfolding is_variable
+variable_new s (If i c a b) h = absurd h
+variable_new s (Binary op i a b) h = absurd h
+variable_new s (Not i a) h = absurd h
+variable_new s (Signed k i a) h = absurd h
+variable_new s (Member m i a k) h = absurd h
+variable_new s (Dot i a k args) h = absurd h
+variable_new s (Qua i a k) h = absurd h
+variable_new s (Constant l i) h = absurd h
+variable_new s (Named k args) h = absurd h
+variable_new s (This i k) h = absurd h
+variable_new s (New i k args) h = refl
+variable_new s (Parentheses i a) h = absurd h
+
+pub variable_new_form : (b : Bound) (x : Expr) (f : Form) → FindsForm f x → f ≡ form.New → false ≡ is_variable (source_of b) (syntax_of x)
+variable_new_form b x f h is = variable_new (source_of b) (syntax_of x) (form_at f form.New x h is)
 
 pub variable_other_form : (b : Bound) (x : Expr) (f : Form) → FindsForm f x → f ≡ form.Other → false ≡ is_variable (source_of b) (syntax_of x)
 variable_other_form b x f h is = variable_other (source_of b) (syntax_of x) (form_at f form.Other x h is)
@@ -159,6 +195,84 @@ image_of_cast b x l y i k one is ey _ =
     let s = source_of b in
     sym (ap (λ z. is_variable s (selected (syntax_of x) (map selector_syntax z))) (one_selector l y one is) ∙ ap (λ z. is_variable s (selected (syntax_of x) (z ∷ []))) (ap selector_syntax ey ∙ selector-Qua i k))
 
+-- ---- variables of objects
+
+attribute_other : (s : Source) (x : Expression) → IsOther x → false ≡ is_attribute s x
+unfolding is_attribute
+attribute_other s (If i c a b) h = refl
+attribute_other s (Binary op i a b) h = refl
+attribute_other s (Not i a) h = refl
+attribute_other s (Signed k i a) h = refl
+attribute_other s (Member m i a k) h = refl
+attribute_other s (Dot i a k args) h = absurd h
+attribute_other s (Qua i a k) h = refl
+attribute_other s (Constant l i) h = refl
+attribute_other s (Named k args) h = refl
+attribute_other s (This i k) h = refl
+attribute_other s (New i k args) h = absurd h
+attribute_other s (Parentheses i a) h = refl
+
+pub attribute_named_form : (b : Bound) (x : Expr) (f : Form) (k : Bor Identifier) (l : Bor (List Expr)) → FindsForm f x → f ≡ form.Named k l → false ≡ is_attribute (source_of b) (syntax_of x)
+unfolding is_attribute
+attribute_named_form b x f k l h is = sym (ap (is_attribute (source_of b)) (form_at f (form.Named k l) x h is))
+
+pub attribute_taken_form : (b : Bound) (x : Expr) (f : Form) (p : Bor Expr) (l : Bor (List Selector)) (o : Bool) → FindsForm f x → f ≡ form.Taken p l → ((y : Expression) → length l.now ≢ 0 → o ≡ is_attribute (source_of b) (selected y (map selector_syntax l.now))) → o ≡ is_attribute (source_of b) (syntax_of x)
+attribute_taken_form b x f p l o h is eo = let g = form_at f (form.Taken p l) x h is in eo (syntax_of p.now) g.1 ∙ sym (ap (is_attribute (source_of b)) g.0)
+
+pub attribute_closed_form : (b : Bound) (x : Expr) (f : Form) (p : Bor Expr) → FindsForm f x → f ≡ form.Closed p → false ≡ is_attribute (source_of b) (syntax_of x)
+unfolding is_attribute
+attribute_closed_form b x f p h is = sym (ap (is_attribute (source_of b)) (form_at f (form.Closed p) x h is).1)
+
+attribute_new : (s : Source) (x : Expression) → IsNew x → false ≡ is_attribute s x
+unfolding is_attribute
+attribute_new s (If i c a b) h = absurd h
+attribute_new s (Binary op i a b) h = absurd h
+attribute_new s (Not i a) h = absurd h
+attribute_new s (Signed k i a) h = absurd h
+attribute_new s (Member m i a k) h = absurd h
+attribute_new s (Dot i a k args) h = absurd h
+attribute_new s (Qua i a k) h = absurd h
+attribute_new s (Constant l i) h = absurd h
+attribute_new s (Named k args) h = absurd h
+attribute_new s (This i k) h = absurd h
+attribute_new s (New i k args) h = refl
+attribute_new s (Parentheses i a) h = absurd h
+
+pub attribute_new_form : (b : Bound) (x : Expr) (f : Form) → FindsForm f x → f ≡ form.New → false ≡ is_attribute (source_of b) (syntax_of x)
+attribute_new_form b x f h is = attribute_new (source_of b) (syntax_of x) (form_at f form.New x h is)
+
+pub attribute_other_form : (b : Bound) (x : Expr) (f : Form) → FindsForm f x → f ≡ form.Other → false ≡ is_attribute (source_of b) (syntax_of x)
+attribute_other_form b x f h is = attribute_other (source_of b) (syntax_of x) (form_at f form.Other x h is)
+
+pub attribute_dot : (b : Bound) (y : Selector) (i : TokenNo) (k : Identifier) (args : Vec Expr Global) (u : Option Denotation) (r : Bool) → y ≡ w.Dot i k args → u ≡ denoted (source_of b) k.token.0 → ((es : Expressions) → r ≡ is_attribute_denoted (source_of b) u es) → r ≡ takes_attribute (source_of b) (selector_syntax y)
+attribute_dot b y i k args u r ey eu er =
+    er (expressions (map syntax_of args.items)) ∙ ap (λ z. is_attribute_denoted (source_of b) z (expressions (map syntax_of args.items))) eu ∙ sym (ap (takes_attribute (source_of b)) (ap selector_syntax ey ∙ selector-Dot i k args))
+
+pub attribute_qua : (b : Bound) (y : Selector) (i : TokenNo) (k : Identifier) → y ≡ w.Qua i k → false ≡ takes_attribute (source_of b) (selector_syntax y)
+attribute_qua b y i k ey = sym (ap (takes_attribute (source_of b)) (ap selector_syntax ey ∙ selector-Qua i k))
+
+pub attribute_one : (s : Source) (x : Expression) (z : Selection) → takes_attribute s z ≡ is_attribute s (selected x (z ∷ []))
+unfolding is_attribute
+attribute_one s x (Take i k args) = refl
+attribute_one s x (Cast i k) = refl
+
+last_attribute : (s : Source) (l : List Selector) (k : ℕ) (y : Selector) (x : Expression) → suc k ≡ length l → y ≡ slice_index_or l k y → takes_attribute s (selector_syntax y) ≡ is_attribute s (selected x (map selector_syntax l))
+last_attribute s [] k y x e is = absurd (omega (arith, e))
+last_attribute s (z ∷ []) zero y x e is = ap (λ v. takes_attribute s (selector_syntax v)) is ∙ attribute_one s x (selector_syntax z)
+last_attribute s (z ∷ []) (suc k) y x e is = absurd (omega (arith, e))
+last_attribute s (z ∷ v ∷ vs) zero y x e is = absurd (omega (arith, e))
+last_attribute s (z ∷ v ∷ vs) (suc k) y x e is = behind (selector_syntax z) (λ x'. last_attribute s (v ∷ vs) k y x' (omega (arith, e)) is)
+  where
+    behind : (u : Selection) → ((x' : Expression) → takes_attribute s (selector_syntax y) ≡ is_attribute s (selected x' (map selector_syntax (v ∷ vs)))) → takes_attribute s (selector_syntax y) ≡ is_attribute s (selected x (u ∷ map selector_syntax (v ∷ vs)))
+    behind (Take i j args) rest = rest (Dot i x j args)
+    behind (Cast i j) rest = rest (Qua i x j)
+
+pub attribute_last : (b : Bound) (l : List Selector) (m : ℕ) (y : Selector) (r : Bool) → length l ≢ 0 → m ≡ length l - 1 → y ≡ slice_index_or l m y → r ≡ takes_attribute (source_of b) (selector_syntax y) → (x : Expression) → length l ≢ 0 → r ≡ is_attribute (source_of b) (selected x (map selector_syntax l))
+attribute_last b l m y r some' em is er x _ = er ∙ last_attribute (source_of b) l m y x (omega (arith, em, some')) is
+
+pub attribute_none : (b : Bound) (l : List Selector) → length l ≡ 0 → (x : Expression) → length l ≢ 0 → false ≡ is_attribute (source_of b) (selected x (map selector_syntax l))
+attribute_none b l none x some' = absurd (some' none)
+
 -- ---- what is taken
 
 pub moves_dot : (b : Bound) (y : Selector) (i : TokenNo) (k : Identifier) (args : Vec Expr Global) (u : Option Denotation) (r : Bool) → y ≡ w.Dot i k args → u ≡ denoted (source_of b) k.token.0 → r ≡ moves_denoted u → r ≡ moves_selection (source_of b) (selector_syntax y)
@@ -204,4 +318,4 @@ fewer_closings x f p h is =
 pub typed_closed : (x : Expr) (f : Form) (p : Bor Expr) (k : ℕ) → FindsForm f x → f ≡ form.Closed p → k ≡ typed_token (syntax_of p.now) → k ≡ typed_token (syntax_of x)
 typed_closed x f p k h is ek = ek ∙ sym (ap typed_token (form_at f (form.Closed p) x h is).1)
 
-pub ruleset dots = (stream_named_form, stream_taken_form, stream_closed_form, stream_other_form, variable_named_form, variable_taken_form, variable_closed_form, variable_other_form, image_of_several, image_of_stream, image_of_no_stream, image_of_cast, moves_dot, moves_qua, takes_dot, takes_qua, moves_there, moves_past)
+pub ruleset dots = (stream_named_form, stream_taken_form, stream_closed_form, stream_other_form, stream_new_form, variable_named_form, variable_taken_form, variable_closed_form, variable_other_form, variable_new_form, image_of_several, image_of_stream, image_of_no_stream, image_of_cast, moves_dot, moves_qua, takes_dot, takes_qua, moves_there, moves_past, attribute_named_form, attribute_taken_form, attribute_closed_form, attribute_other_form, attribute_new_form, attribute_dot, attribute_qua, attribute_last, attribute_none)

@@ -1,8 +1,6 @@
 -- Standard names, and names of texts behind their text.
-use Rattle.std.proofs.Common.{◌≡◌, ◌≢◌, ◌<◌, ◌-◌, ℕ, pos, suc, true, false, List, [], ◌∷◌, length, map, Bor, Option, Some, None, refl, sym, ap, ◌∙◌, subst, arith}
-use Rattle.std.specs.Prelude.{⊤, slice_index_or}
-use Rattle.std.specs.declared.alloc.Global.{Global}
-use Rattle.std.specs.declared.vec.Vec.{Vec}
+use Rattle.std.proofs.Common.{◌≡◌, ◌≢◌, ◌<◌, ◌-◌, ℕ, pos, suc, true, false, List, [], ◌∷◌, length, map, Option, Some, None, refl, sym, ap, ◌∙◌, subst, arith}
+use Rattle.std.specs.Prelude.{⊤}
 use Rattle.sim_base.specs.declared.numbering.DeclNo.{DeclNo}
 use Rattle.sim_base.specs.declared.numbering.TokenNo.{TokenNo}
 use Rattle.sim_scope.specs.declared.bound.Bound.{Bound}
@@ -19,17 +17,15 @@ use Rattle.sim_scope.specs.Scopes.{entry_of}
 use Rattle.sim_scope.specs.Source.{block_of, denoted, level_of, line_at, source_of}
 use Rattle.sim_tree.specs.declared.expr.Expr.{Expr}
 use Rattle.sim_tree.specs.declared.expr.Identifier.{Identifier}
-use Rattle.sim_tree.specs.declared.expr.Selector.{Selector}
-use Rattle.sim_tree.specs.declared.expr.Selector.TheVariants as u
 use Rattle.sim_tree.specs.Syntax.{Binary, Constant, Dot, Expression, Expressions, If, Member, Named, New, NoMore, Not, Parentheses, Qua, Signed, Then, This, expressions}
-use Rattle.sim_tree.specs.SyntaxOf.{Cast, Selection, Take, selected, selector_syntax, syntax_of}
+use Rattle.sim_tree.specs.SyntaxOf.{syntax_of}
 use Rattle.sim_values.specs.declared.standard.Standard.{Standard as Row}
 use Rattle.sim_values.specs.Standard.{is_image, on_image, operands_of, row_of}
 use Rattle.sim_code.specs.declared.instr.Instr.{Instr}
 use Rattle.sim_code.specs.declared.instr.Instr.TheVariants as i
 use Rattle.sim_code.specs.Code.{CodeOf}
 use Rattle.sim_code.specs.Running.{runs, standard_runs}
-use Rattle.sim_meaning.specs.Closing.{stream_of}
+use Rattle.sim_meaning.specs.Attributes.{connection_at}
 use Rattle.sim_meaning.specs.Names.{procedure_named}
 use Rattle.sim_meaning.specs.Pending.{Declared}
 use Rattle.codegen_expr.specs.declared.forms.Form.{Form}
@@ -40,14 +36,14 @@ use Rattle.codegen_expr.specs.declared.names.StandardCode.{StandardCode}
 use Rattle.codegen_expr.specs.declared.operators.Seen.{Seen}
 use Rattle.codegen_expr.specs.declared.operators.Seen.TheVariants as seen
 use Rattle.codegen_expr.specs.declared.spot.Spot.{Spot}
-use Rattle.codegen_expr.specs.Built.{AreBuilt, DeclaredPlaceBuilt, FormalPlaceBuilt, ImageNameBuilt, NamedPlaceBuilt, PlaceBuilt, StandardBuilt, StreamBuilt, is_around, is_there, slot_in}
-use Rattle.codegen_expr.specs.CodeExpr.{DeclaredPlaceAt, ExprsAt, FormalPlaceAt, ImagePlaceAt, NameAt, NamedPlaceAt, PlaceAt, StandardAt, operands}
+use Rattle.codegen_expr.specs.Built.{AreBuilt, ConnectedBuilt, DeclaredPlaceBuilt, FormalPlaceBuilt, ImageNameBuilt, NamedPlaceBuilt, PlaceBehindBuilt, PlaceBuilt, StandardBuilt, ThroughBuilt, is_around, is_there, slot_in}
+use Rattle.codegen_expr.specs.CodeExpr.{ConnectedAt, DeclaredPlaceAt, ExprsAt, FormalPlaceAt, NameAt, NamedPlaceAt, PlaceBehindAt, StandardAt, ThroughAt, operands}
 use Rattle.codegen_expr.specs.Drafts.{DraftOf, Emits, given_up, with_instr, with_push}
-use Rattle.codegen_expr.specs.Emit.{AloneAt, AloneBuilt, Numbered, OnImageIs, PutsPlace, SeenPlaceAt, SeenPlaceBuilt, WritesAlone, WritesBehind, WritesCellPlace, WritesElement, WritesImage, WritesList, WritesNamedPlace, WritesPlace, WritesSeenPlace, WritesStandard, is_named, seen_formal, seen_of}
+use Rattle.codegen_expr.specs.Emit.{AloneAt, AloneBuilt, Numbered, OnImageIs, PutsPlace, SeenPlaceAt, SeenPlaceBuilt, WritesAlone, WritesBehind, WritesCellPlace, WritesElement, WritesImage, WritesList, WritesNamedPlace, WritesPlace, WritesSeenPlace, WritesStandard, WritesUnconnectedPlace, is_named, seen_formal, seen_of}
+use Rattle.codegen_expr.specs.EmitObjects.{OfConnection, PutsBase, WritesPlaceBehind}
 use Rattle.codegen_expr.specs.Forms.{FindsForm, FormIs, IsOther}
 use Rattle.codegen_expr.specs.Sites.{At, HasCell, Inside, Pushes, Site, slot_of}
 use Rattle.codegen_expr.proofs.Around.{inside}
-use Rattle.codegen_expr.proofs.Attributes.{selector-Dot, selector-Qua, stream_selected}
 use Rattle.codegen_expr.proofs.Pieces.{emits_as, emits_at, emits_nothing, emits_push, emits_push_at, emits_then}
 use Rattle.codegen_expr.proofs.Slots.{slot_found, slot_within}
 
@@ -189,79 +185,80 @@ module _ (b : Bound) (w : Spot) (n : ℕ) where
 
   -- ---- where variables lie
 
-  pub place_cell : (a c : DraftOf) (d : DeclNo) (x : Instr) (block k m : ℕ) (slot : Option ℕ) → block ≡ block_of (source_of b) d → slot ≡ slot_in (source_of b) (block_of (source_of b) d) (Declared d.0) → slot ≡ Some k → is_around b.scopes (length b.scopes.blocks) w.text block ≡ true → m ≡ level_of (source_of b) block → x ≡ i.Addr (pos m) (pos k) (pos 0) → c ≡ with_push a n x 0 → WritesCellPlace b w n a c d
+  pub place_cell : (a c : DraftOf) (class : ℕ) (d : DeclNo) (x : Instr) (block k m : ℕ) (slot : Option ℕ) → block ≡ block_of (source_of b) d → slot ≡ slot_in (source_of b) (block_of (source_of b) d) (Declared d.0) → slot ≡ Some k → is_around b.scopes (length b.scopes.blocks) w.text block ≡ true → m ≡ level_of (source_of b) block → x ≡ i.Addr (pos m) (pos k) (pos class) → c ≡ with_push a n x 0 → WritesCellPlace b w n a c class d
   unfolding WritesCellPlace source_of
-  place_cell a c d x block k m slot eb es some around em ex ec =
+  place_cell a c class d x block k m slot eb es some around em ex ec =
       let s = source_of b in
       let found : slot_in s (block_of s d) (Declared d.0) ≡ Some k = sym es ∙ some in
-      let ek : k ≡ slot_of s (block_of s d) (Declared d.0) = slot_found s (block_of s d) (Declared d.0) k found in
-      let at : x ≡ i.Addr (pos (level_of s (block_of s d))) (pos (slot_of s (block_of s d) (Declared d.0))) (pos 0) = ex ∙ ap (λ z. i.Addr (pos z) (pos k) (pos 0)) (em ∙ ap (level_of s) eb) ∙ ap (λ z. i.Addr (pos (level_of s (block_of s d))) (pos z) (pos 0)) ek in
+      let at : (final : CodeOf) → x ≡ i.Addr (pos (level_of s (block_of s d))) (pos (slot_of s final (block_of s d) (Declared d.0))) (pos class) =
+      λ final. ex ∙ ap (λ z. i.Addr (pos z) (pos k) (pos class)) (em ∙ ap (level_of s) eb) ∙ ap (λ z. i.Addr (pos (level_of s (block_of s d))) (pos z) (pos class)) (slot_found s final (block_of s d) (Declared d.0) k found) in
       let there : is_around s.tables (length s.tables.blocks) w.text (block_of s d) ≡ true = ap (λ z. is_around s.tables (length s.tables.blocks) w.text z) (sym eb) ∙ around in
       let is : Inside s.tables w.text (block_of s d) = inside s.tables (block_of s d) (length s.tables.blocks) w.text there in
       let has : HasCell s (block_of s d) (Declared d.0) = slot_within s (block_of s d) (Declared d.0) k found in
-      emits_as w _ _ _ _ a c (λ t. tt) (λ t. record { has = ap is_there found; inside = record { found = there } }) (λ final site p q stands _ r. record { address = r; inside = subst (λ z. Inside s.tables z (block_of s d)) (sym stands) is; within = has })
-      (emits_push w a c n (i.Addr (pos (level_of s (block_of s d))) (pos (slot_of s (block_of s d) (Declared d.0))) (pos 0)) 0 (ec ∙ ap (λ z. with_push a n z 0) at) (λ z. cc) refl)
+      emits_as w _ _ (λ final site p q. Pushes final site n x p q) _ a c (λ t. tt) (λ t. record { has = ap is_there found; inside = record { found = there } })
+      (λ final site p q stands _ r. record { address = subst (λ z. Pushes final site n z p q) (at final) r; inside = subst (λ z. Inside s.tables z (block_of s d)) (sym stands) is; within = has })
+      (emits_push w a c n x 0 ec (λ z. let h : i.Addr (pos m) (pos k) (pos class) ≡ i.Halt = sym ex ∙ z in cc) (ap runs ex))
 
-  pub place_no_slot : (a c : DraftOf) (d : DeclNo) (slot : Option ℕ) → slot ≡ slot_in (source_of b) (block_of (source_of b) d) (Declared d.0) → slot ≡ None → c ≡ given_up a → WritesCellPlace b w n a c d
+  pub place_no_slot : (a c : DraftOf) (class : ℕ) (d : DeclNo) (slot : Option ℕ) → slot ≡ slot_in (source_of b) (block_of (source_of b) d) (Declared d.0) → slot ≡ None → c ≡ given_up a → WritesCellPlace b w n a c class d
   unfolding WritesCellPlace
-  place_no_slot a c d slot es none ec = emits_nothing w a c _ _ (λ h. let k : true ≡ false = sym h.has ∙ ap is_there (sym es ∙ none) in cc) ec
+  place_no_slot a c class d slot es none ec = emits_nothing w a c _ _ (λ h. let k : true ≡ false = sym h.has ∙ ap is_there (sym es ∙ none) in cc) ec
 
-  pub place_outside : (a c : DraftOf) (d : DeclNo) (block : ℕ) → block ≡ block_of (source_of b) d → is_around b.scopes (length b.scopes.blocks) w.text block ≡ false → c ≡ given_up a → WritesCellPlace b w n a c d
+  pub place_outside : (a c : DraftOf) (class : ℕ) (d : DeclNo) (block : ℕ) → block ≡ block_of (source_of b) d → is_around b.scopes (length b.scopes.blocks) w.text block ≡ false → c ≡ given_up a → WritesCellPlace b w n a c class d
   unfolding WritesCellPlace source_of
-  place_outside a c d block eb out ec = emits_nothing w a c _ _ (λ h. let t : is_around b.scopes (length b.scopes.blocks) w.text block ≡ true = ap (λ z. is_around b.scopes (length b.scopes.blocks) w.text z) eb ∙ h.inside.found in cc) ec
+  place_outside a c class d block eb out ec = emits_nothing w a c _ _ (λ h. let t : is_around b.scopes (length b.scopes.blocks) w.text block ≡ true = ap (λ z. is_around b.scopes (length b.scopes.blocks) w.text z) eb ∙ h.inside.found in cc) ec
 
-  abbrev Lies : (a c : DraftOf) → TokenNo → DeclNo → Expressions → Seen → Type 0
-  Lies a c token d es x = Emits w a c (SeenPlaceBuilt (source_of b) w.text d x es (AreBuilt (source_of b) w.text es)) (λ final site p q. SeenPlaceAt (source_of b) final site n (line_at (source_of b) token.0) d x es (λ u v. ExprsAt (source_of b) final site (suc n) es u v) p q)
+  abbrev Lies : (a c : DraftOf) → (class : ℕ) → TokenNo → DeclNo → Expressions → Seen → Type 0
+  Lies a c class token d es x = Emits w a c (SeenPlaceBuilt (source_of b) w.text d x es (AreBuilt (source_of b) w.text es)) (λ final site p q. SeenPlaceAt (source_of b) final site n (line_at (source_of b) token.0) class d x es (λ u v. ExprsAt (source_of b) final site (suc n) es u v) p q)
 
-  pub place_variable : (a c : DraftOf) (token : TokenNo) (d : DeclNo) (x : Seen) (es : List Expr) → x ≡ seen.Variable → length es ≡ 0 → WritesCellPlace b w n a c d → WritesSeenPlace b w n a c token d x es
+  pub place_variable : (a c : DraftOf) (class : ℕ) (token : TokenNo) (d : DeclNo) (x : Seen) (es : List Expr) → x ≡ seen.Variable → length es ≡ 0 → WritesCellPlace b w n a c class d → WritesSeenPlace b w n a c class token d x es
   unfolding WritesSeenPlace WritesCellPlace
-  place_variable a c token d x [] is none f = subst (Lies a c token d NoMore) (sym is) f
-  place_variable a c token d x (y ∷ ys) is none f = absurd (omega (arith, none))
+  place_variable a c class token d x [] is none f = subst (Lies a c class token d NoMore) (sym is) f
+  place_variable a c class token d x (y ∷ ys) is none f = absurd (omega (arith, none))
 
-  pub place_no_variable : (a c : DraftOf) (token : TokenNo) (d : DeclNo) (x : Seen) (es : List Expr) → x ≡ seen.Variable → length es ≢ 0 → c ≡ given_up a → WritesSeenPlace b w n a c token d x es
+  pub place_no_variable : (a c : DraftOf) (class : ℕ) (token : TokenNo) (d : DeclNo) (x : Seen) (es : List Expr) → x ≡ seen.Variable → length es ≢ 0 → c ≡ given_up a → WritesSeenPlace b w n a c class token d x es
   unfolding WritesSeenPlace
-  place_no_variable a c token d x [] is some' ec = absurd (some' refl)
-  place_no_variable a c token d x (y ∷ ys) is some' ec = subst (Lies a c token d (expressions (map syntax_of (y ∷ ys)))) (sym is) (emits_nothing w a c _ _ (λ z. z) ec)
+  place_no_variable a c class token d x [] is some' ec = absurd (some' refl)
+  place_no_variable a c class token d x (y ∷ ys) is some' ec = subst (Lies a c class token d (expressions (map syntax_of (y ∷ ys)))) (sym is) (emits_nothing w a c _ _ (λ z. z) ec)
 
-  pub place_element : (a c : DraftOf) (token : TokenNo) (d : DeclNo) (x : Seen) (es : List Expr) → x ≡ seen.Array → length es ≢ 0 → WritesElement b w n a c token d es → WritesSeenPlace b w n a c token d x es
+  pub place_element : (a c : DraftOf) (class : ℕ) (token : TokenNo) (d : DeclNo) (x : Seen) (es : List Expr) → x ≡ seen.Array → length es ≢ 0 → WritesElement b w n a c class token d es → WritesSeenPlace b w n a c class token d x es
   unfolding WritesSeenPlace WritesElement
-  place_element a c token d x [] is some' f = absurd (some' refl)
-  place_element a c token d x (y ∷ ys) is some' f = subst (Lies a c token d (expressions (map syntax_of (y ∷ ys)))) (sym is) f
+  place_element a c class token d x [] is some' f = absurd (some' refl)
+  place_element a c class token d x (y ∷ ys) is some' f = subst (Lies a c class token d (expressions (map syntax_of (y ∷ ys)))) (sym is) f
 
-  pub place_array : (a c : DraftOf) (token : TokenNo) (d : DeclNo) (x : Seen) (es : List Expr) → x ≡ seen.Array → length es ≡ 0 → c ≡ given_up a → WritesSeenPlace b w n a c token d x es
+  pub place_array : (a c : DraftOf) (class : ℕ) (token : TokenNo) (d : DeclNo) (x : Seen) (es : List Expr) → x ≡ seen.Array → length es ≡ 0 → c ≡ given_up a → WritesSeenPlace b w n a c class token d x es
   unfolding WritesSeenPlace
-  place_array a c token d x [] is none ec = subst (Lies a c token d NoMore) (sym is) (emits_nothing w a c _ _ (λ z. z) ec)
-  place_array a c token d x (y ∷ ys) is none ec = absurd (omega (arith, none))
+  place_array a c class token d x [] is none ec = subst (Lies a c class token d NoMore) (sym is) (emits_nothing w a c _ _ (λ z. z) ec)
+  place_array a c class token d x (y ∷ ys) is none ec = absurd (omega (arith, none))
 
-  pub place_constant : (a c : DraftOf) (token : TokenNo) (d : DeclNo) (x : Seen) (es : List Expr) → x ≡ seen.Constant → c ≡ given_up a → WritesSeenPlace b w n a c token d x es
+  pub place_constant : (a c : DraftOf) (class : ℕ) (token : TokenNo) (d : DeclNo) (x : Seen) (es : List Expr) → x ≡ seen.Constant → c ≡ given_up a → WritesSeenPlace b w n a c class token d x es
   unfolding WritesSeenPlace
-  place_constant a c token d x es is ec = subst (Lies a c token d (expressions (map syntax_of es))) (sym is) (emits_nothing w a c _ _ (λ z. z) ec)
+  place_constant a c class token d x es is ec = subst (Lies a c class token d (expressions (map syntax_of es))) (sym is) (emits_nothing w a c _ _ (λ z. z) ec)
 
-  pub place_call : (a c : DraftOf) (token : TokenNo) (d : DeclNo) (x : Seen) (block : ℕ) (es : List Expr) → x ≡ seen.Call block → c ≡ given_up a → WritesSeenPlace b w n a c token d x es
+  pub place_call : (a c : DraftOf) (class : ℕ) (token : TokenNo) (d : DeclNo) (x : Seen) (block : ℕ) (es : List Expr) → x ≡ seen.Call block → c ≡ given_up a → WritesSeenPlace b w n a c class token d x es
   unfolding WritesSeenPlace
-  place_call a c token d x block es is ec = subst (Lies a c token d (expressions (map syntax_of es))) (sym is) (emits_nothing w a c _ _ (λ z. z) ec)
+  place_call a c class token d x block es is ec = subst (Lies a c class token d (expressions (map syntax_of es))) (sym is) (emits_nothing w a c _ _ (λ z. z) ec)
 
-  pub place_nothing : (a c : DraftOf) (token : TokenNo) (d : DeclNo) (x : Seen) (es : List Expr) → x ≡ seen.Nothing → c ≡ given_up a → WritesSeenPlace b w n a c token d x es
+  pub place_nothing : (a c : DraftOf) (class : ℕ) (token : TokenNo) (d : DeclNo) (x : Seen) (es : List Expr) → x ≡ seen.Nothing → c ≡ given_up a → WritesSeenPlace b w n a c class token d x es
   unfolding WritesSeenPlace
-  place_nothing a c token d x es is ec = subst (Lies a c token d (expressions (map syntax_of es))) (sym is) (emits_nothing w a c _ _ (λ z. z) ec)
+  place_nothing a c class token d x es is ec = subst (Lies a c class token d (expressions (map syntax_of es))) (sym is) (emits_nothing w a c _ _ (λ z. z) ec)
 
-  lies_emits : (a c : DraftOf) (line : ℕ) (d : DeclNo) (k : Option Entry) (es : Expressions) (O : Type 0) (A : Part)
-      → Emits w a c (SeenPlaceBuilt (source_of b) w.text d (seen_of k) es O) (λ final site p q. SeenPlaceAt (source_of b) final site n line d (seen_of k) es (A final site) p q)
-      → Emits w a c (DeclaredPlaceBuilt (source_of b) w.text d k es O) (λ final site p q. DeclaredPlaceAt (source_of b) final site n line d k es (A final site) p q)
-  lies_emits a c line d None es O A f = f
-  lies_emits a c line d (Some (entry.Variable type)) es O A f = f
-  lies_emits a c line d (Some (entry.Constant type)) es O A f = f
-  lies_emits a c line d (Some (entry.Array element dimensions)) es O A f = f
-  lies_emits a c line d (Some (entry.Procedure result block)) es O A f = f
-  lies_emits a c line d (Some (entry.Class text)) es O A f = f
-  lies_emits a c line d (Some (entry.Virtual result own)) es O A f = f
-  lies_emits a c line d (Some (entry.Unspecified written)) es O A f = f
-  lies_emits a c line d (Some (entry.Attribute name parameter result)) es O A f = f
-  lies_emits a c line d (Some (entry.Formal x)) es O A f = formal x.mode x.kind f
+  lies_emits : (a c : DraftOf) (line class : ℕ) (d : DeclNo) (k : Option Entry) (es : Expressions) (O : Type 0) (A : Part)
+      → Emits w a c (SeenPlaceBuilt (source_of b) w.text d (seen_of k) es O) (λ final site p q. SeenPlaceAt (source_of b) final site n line class d (seen_of k) es (A final site) p q)
+      → Emits w a c (DeclaredPlaceBuilt (source_of b) w.text d k es O) (λ final site p q. DeclaredPlaceAt (source_of b) final site n line class d k es (A final site) p q)
+  lies_emits a c line class d None es O A f = f
+  lies_emits a c line class d (Some (entry.Variable type)) es O A f = f
+  lies_emits a c line class d (Some (entry.Constant type)) es O A f = f
+  lies_emits a c line class d (Some (entry.Array element dimensions)) es O A f = f
+  lies_emits a c line class d (Some (entry.Procedure result block)) es O A f = f
+  lies_emits a c line class d (Some (entry.Class text)) es O A f = f
+  lies_emits a c line class d (Some (entry.Virtual result own)) es O A f = f
+  lies_emits a c line class d (Some (entry.Unspecified written)) es O A f = f
+  lies_emits a c line class d (Some (entry.Attribute name parameter result)) es O A f = f
+  lies_emits a c line class d (Some (entry.Formal x)) es O A f = formal x.mode x.kind f
     where
       formal : (m : Mode) (k : FormalKind)
-          → Emits w a c (SeenPlaceBuilt (source_of b) w.text d (seen_formal m k) es O) (λ final site p q. SeenPlaceAt (source_of b) final site n line d (seen_formal m k) es (A final site) p q)
-          → Emits w a c (FormalPlaceBuilt (source_of b) w.text d m k es O) (λ final site p q. FormalPlaceAt (source_of b) final site n line d m k es (A final site) p q)
+          → Emits w a c (SeenPlaceBuilt (source_of b) w.text d (seen_formal m k) es O) (λ final site p q. SeenPlaceAt (source_of b) final site n line class d (seen_formal m k) es (A final site) p q)
+          → Emits w a c (FormalPlaceBuilt (source_of b) w.text d m k es O) (λ final site p q. FormalPlaceAt (source_of b) final site n line class d m k es (A final site) p q)
       formal mode.ByName shape.Simple f = f
       formal mode.ByName shape.Array f = f
       formal mode.ByName shape.Procedure f = f
@@ -272,34 +269,46 @@ module _ (b : Bound) (w : Spot) (n : ℕ) where
       formal mode.ByReference shape.Array f = f
       formal mode.ByReference shape.Procedure f = f
 
-  abbrev LiesNamed : (a c : DraftOf) → Identifier → List Expr → Option Denotation → Type 0
-  LiesNamed a c x es o =
+  abbrev LiesNamed : (a c : DraftOf) → (class : ℕ) → Identifier → List Expr → Option Denotation → Type 0
+  LiesNamed a c class x es o =
       Emits w a c (NamedPlaceBuilt (source_of b) w.text o (expressions (map syntax_of es)) (AreBuilt (source_of b) w.text (expressions (map syntax_of es))))
-      (λ final site p q. NamedPlaceAt (source_of b) final site n (line_at (source_of b) x.token.0) o (expressions (map syntax_of es)) (λ u v. ExprsAt (source_of b) final site (suc n) (expressions (map syntax_of es)) u v) p q)
+      (λ final site p q. NamedPlaceAt (source_of b) final site n (line_at (source_of b) x.token.0) class o (expressions (map syntax_of es)) (λ u v. ExprsAt (source_of b) final site (suc n) (expressions (map syntax_of es)) u v) p q)
 
-  lies_named : (a c : DraftOf) (x : Identifier) (es : List Expr) (o : Option Denotation) → o ≡ denoted (source_of b) x.token.0 → LiesNamed a c x es o → WritesNamedPlace b w n a c x es
-  unfolding WritesNamedPlace PutsPlace
-  lies_named a c x es o eo f = subst (LiesNamed a c x es) eo f
+  lies_named : (a c : DraftOf) (class : ℕ) (x : Identifier) (es : List Expr) (o : Option Denotation) → o ≡ denoted (source_of b) x.token.0 → LiesNamed a c class x es o → WritesUnconnectedPlace b w n a c class x es
+  unfolding WritesUnconnectedPlace
+  lies_named a c class x es o eo f = subst (LiesNamed a c class x es) eo f
 
-  pub place_declared : (a c : DraftOf) (x : Identifier) (es : List Expr) (o : Option Denotation) (d : DeclNo) (k : Option Entry) (r : Seen) → o ≡ denoted (source_of b) x.token.0 → o ≡ Some (denotation.Declared d) → k ≡ entry_of b.scopes d → r ≡ seen_of k → WritesSeenPlace b w n a c x.token d r es → WritesNamedPlace b w n a c x es
+  pub place_declared : (a c : DraftOf) (class : ℕ) (x : Identifier) (es : List Expr) (o : Option Denotation) (d : DeclNo) (k : Option Entry) (r : Seen) → o ≡ denoted (source_of b) x.token.0 → o ≡ Some (denotation.Declared d) → k ≡ entry_of b.scopes d → r ≡ seen_of k → WritesSeenPlace b w n a c class x.token d r es → WritesUnconnectedPlace b w n a c class x es
   unfolding WritesSeenPlace source_of
-  place_declared a c x ys o d k r eo some ek er f =
+  place_declared a c class x ys o d k r eo some ek er f =
       let s = source_of b in
       let es = expressions (map syntax_of ys) in
       let same : r ≡ seen_of (entry_of s.tables d) = er ∙ ap seen_of ek in
-      lies_named a c x ys o eo (subst (LiesNamed a c x ys) (sym some)
-      (lies_emits a c (line_at s x.token.0) d (entry_of s.tables d) es (AreBuilt s w.text es) (λ final site p q. ExprsAt s final site (suc n) es p q) (subst (Lies a c x.token d es) same f)))
+      lies_named a c class x ys o eo (subst (LiesNamed a c class x ys) (sym some)
+      (lies_emits a c (line_at s x.token.0) class d (entry_of s.tables d) es (AreBuilt s w.text es) (λ final site p q. ExprsAt s final site (suc n) es p q) (subst (Lies a c class x.token d es) same f)))
 
-  pub place_standard : (a c : DraftOf) (x : Identifier) (es : List Expr) (o : Option Denotation) (k : StandardName) → o ≡ denoted (source_of b) x.token.0 → o ≡ Some (denotation.Standard k) → WritesImage w n a c 1 → WritesNamedPlace b w n a c x es
+  pub place_standard : (a c : DraftOf) (class : ℕ) (x : Identifier) (es : List Expr) (o : Option Denotation) (k : StandardName) → o ≡ denoted (source_of b) x.token.0 → o ≡ Some (denotation.Standard k) → WritesImage w n a c 1 → WritesUnconnectedPlace b w n a c class x es
   unfolding WritesImage
-  place_standard a c x es o k eo some f = lies_named a c x es o eo (subst (LiesNamed a c x es) (sym some) f)
+  place_standard a c class x es o k eo some f = lies_named a c class x es o eo (subst (LiesNamed a c class x es) (sym some) f)
 
-  pub place_undeclared : (a c : DraftOf) (x : Identifier) (es : List Expr) (o : Option Denotation) → o ≡ denoted (source_of b) x.token.0 → o ≡ None → WritesImage w n a c 1 → WritesNamedPlace b w n a c x es
+  pub place_undeclared : (a c : DraftOf) (class : ℕ) (x : Identifier) (es : List Expr) (o : Option Denotation) → o ≡ denoted (source_of b) x.token.0 → o ≡ None → WritesImage w n a c 1 → WritesUnconnectedPlace b w n a c class x es
   unfolding WritesImage
-  place_undeclared a c x es o eo none f = lies_named a c x es o eo (subst (LiesNamed a c x es) (sym none) f)
+  place_undeclared a c class x es o eo none f = lies_named a c class x es o eo (subst (LiesNamed a c class x es) (sym none) f)
 
-  place_as : (a c : DraftOf) (x y : Expression) → y ≡ x → PutsPlace (source_of b) w n a c x → PutsPlace (source_of b) w n a c y
-  place_as a c x y e f = subst (PutsPlace (source_of b) w n a c) (sym e) f
+  abbrev Seen' : (a c : DraftOf) → (class : ℕ) → Identifier → Expressions → (connection : Option ℕ) → Type 0
+  Seen' a c class x es o =
+      Emits w a c (ThroughBuilt o (λ k. PlaceBehindBuilt (source_of b) (denoted (source_of b) x.token.0) es (ConnectedBuilt (source_of b) w.text k) (AreBuilt (source_of b) w.text es)) (NamedPlaceBuilt (source_of b) w.text (denoted (source_of b) x.token.0) es (AreBuilt (source_of b) w.text es)))
+      (λ final site p q. ThroughAt o
+      (λ k. PlaceBehindAt (source_of b) final (line_at (source_of b) x.token.0) class (denoted (source_of b) x.token.0) es (λ u v. ConnectedAt (source_of b) final site n k u v) (λ u v. ExprsAt (source_of b) final site (suc n) es u v))
+      (NamedPlaceAt (source_of b) final site n (line_at (source_of b) x.token.0) class (denoted (source_of b) x.token.0) es (λ u v. ExprsAt (source_of b) final site (suc n) es u v)) p q)
+
+  pub place_through : (a c0 c : DraftOf) (class : ℕ) (x : Identifier) (es : List Expr) (o : Option ℕ) (k : ℕ) → o ≡ connection_at (source_of b) x.token.0 → o ≡ Some k → PutsBase (source_of b) w n a c0 (OfConnection k) → WritesPlaceBehind b w n c0 c class x.token es → WritesNamedPlace b w n a c class x es
+  unfolding WritesNamedPlace PutsPlace WritesPlaceBehind
+  place_through a c0 c class x es o k eo some f g = subst (Seen' a c class x (expressions (map syntax_of es))) (sym some ∙ eo) (g a (OfConnection k) f)
+
+  pub place_unconnected : (a c : DraftOf) (class : ℕ) (x : Identifier) (es : List Expr) (o : Option ℕ) → o ≡ connection_at (source_of b) x.token.0 → o ≡ None → WritesUnconnectedPlace b w n a c class x es → WritesNamedPlace b w n a c class x es
+  unfolding WritesNamedPlace PutsPlace WritesUnconnectedPlace
+  place_unconnected a c class x es o eo none f = subst (Seen' a c class x (expressions (map syntax_of es))) (sym none ∙ eo) f
 
   no_place : (x : Expression) → IsOther x → PlaceBuilt (source_of b) w.text x → ⊥
   no_place (If i c a e) h t = t
@@ -312,67 +321,15 @@ module _ (b : Bound) (w : Spot) (n : ℕ) where
   no_place (Constant l i) h t = t
   no_place (Named k args) h t = h
   no_place (This i k) h t = t
-  no_place (New i k args) h t = t
+  no_place (New i k args) h t = h
   no_place (Parentheses i a) h t = h
 
-  pub place_other_form : (a c : DraftOf) (x : Expr) (f : Form) → FindsForm f x → f ≡ form.Other → c ≡ given_up a → WritesPlace b w n a c x
+  pub place_other_form : (a c : DraftOf) (class : ℕ) (x : Expr) (f : Form) → FindsForm f x → f ≡ form.Other → c ≡ given_up a → WritesPlace b w n a c class x
   unfolding FindsForm WritesPlace PutsPlace
-  place_other_form a c x f h is ec = emits_nothing w a c _ _ (no_place (syntax_of x) (subst (λ z. FormIs z (syntax_of x)) is h)) ec
-
-  -- ---- the image of a stream
-
-  behind_several : (x : Expression) (y z : Selection) (zs : List Selection) → PlaceBuilt (source_of b) w.text (selected x (y ∷ z ∷ zs)) → ⊥
-  behind_several x (Take i k args) (Take j k' args') [] t = streamless (stream_selected (source_of b) x (Take i k args) []) t
-    where
-      streamless : {o : Option ℕ} → None ≡ o → StreamBuilt o → ⊥
-      streamless e h = subst StreamBuilt (sym e) h
-  behind_several x (Cast i k) (Take j k' args') [] t = streamless (stream_selected (source_of b) x (Cast i k) []) t
-    where
-      streamless : {o : Option ℕ} → None ≡ o → StreamBuilt o → ⊥
-      streamless e h = subst StreamBuilt (sym e) h
-  behind_several x (Take i k args) (Cast j k') [] t = t
-  behind_several x (Cast i k) (Cast j k') [] t = t
-  behind_several x (Take i k args) z (u ∷ us) t = behind_several (Dot i x k args) z u us t
-  behind_several x (Cast i k) z (u ∷ us) t = behind_several (Qua i x k) z u us t
-
-  pub image_several : (a c : DraftOf) (x : Expr) (l : List Selector) → length l ≢ 1 → c ≡ given_up a → length l ≢ 0 → PutsPlace (source_of b) w n a c (selected (syntax_of x) (map selector_syntax l))
-  unfolding PutsPlace
-  image_several a c x [] one ec some' = absurd (some' refl)
-  image_several a c x (y ∷ []) one ec some' = absurd (one refl)
-  image_several a c x (y ∷ z ∷ zs) one ec some' = emits_nothing w a c _ _ (behind_several (syntax_of x) (selector_syntax y) (selector_syntax z) (map selector_syntax zs)) ec
-
-  one_selector : (l : List Selector) (y : Selector) → length l ≡ 1 → y ≡ slice_index_or l 0 y → l ≡ y ∷ []
-  one_selector [] y e is = absurd (cc)
-  one_selector (z ∷ []) y e is = ap (λ v. v ∷ []) (sym is)
-  one_selector (z ∷ v ∷ vs) y e is = absurd (cc)
-
-  one_dot : (x : Expr) (l : List Selector) (y : Selector) (j : TokenNo) (k : Identifier) (args : Vec Expr Global) → length l ≡ 1 → y ≡ slice_index_or l 0 y → y ≡ u.Dot j k args → selected (syntax_of x) (map selector_syntax l) ≡ Dot j.0 (syntax_of x) k (expressions (map syntax_of args.items))
-  one_dot x l y j k args one is ey = ap (λ z. selected (syntax_of x) (map selector_syntax z)) (one_selector l y one is) ∙ ap (λ z. selected (syntax_of x) (z ∷ [])) (ap selector_syntax ey ∙ selector-Dot j k args)
-
-  stream_place : (a c : DraftOf) (o : Option ℕ) (img : ℕ) → Some img ≡ o → WritesImage w n a c img → Emits w a c (StreamBuilt o) (λ final site p q. ImagePlaceAt final site n o p q)
-  unfolding WritesImage
-  stream_place a c o img e f = subst (λ z. Emits w a c (StreamBuilt z) (λ final site p q. ImagePlaceAt final site n z p q)) e f
-
-  pub image_there : (a c : DraftOf) (x : Expr) (l : List Selector) (y : Selector) (j : TokenNo) (k : Identifier) (args : Vec Expr Global) (o : Option ℕ) (img : ℕ) → length l ≡ 1 → y ≡ slice_index_or l 0 y → y ≡ u.Dot j k args → o ≡ stream_of (source_of b) (syntax_of x) → o ≡ Some img → WritesImage w n a c img → length l ≢ 0 → PutsPlace (source_of b) w n a c (selected (syntax_of x) (map selector_syntax l))
-  unfolding PutsPlace
-  image_there a c x l y j k args o img one is ey eo some f _ = place_as' (one_dot x l y j k args one is ey) (stream_place a c (stream_of (source_of b) (syntax_of x)) img (sym some ∙ eo) f)
-    where
-      place_as' : {z v : Expression} → z ≡ v → Emits w a c (PlaceBuilt (source_of b) w.text v) (λ final site p q. PlaceAt (source_of b) final site n v p q) → Emits w a c (PlaceBuilt (source_of b) w.text z) (λ final site p q. PlaceAt (source_of b) final site n z p q)
-      place_as' {z} {v} e g = subst (λ t. Emits w a c (PlaceBuilt (source_of b) w.text t) (λ final site p q. PlaceAt (source_of b) final site n t p q)) (sym e) g
-
-  pub image_not_there : (a c : DraftOf) (x : Expr) (l : List Selector) (y : Selector) (j : TokenNo) (k : Identifier) (args : Vec Expr Global) (o : Option ℕ) → length l ≡ 1 → y ≡ slice_index_or l 0 y → y ≡ u.Dot j k args → o ≡ stream_of (source_of b) (syntax_of x) → o ≡ None → c ≡ given_up a → length l ≢ 0 → PutsPlace (source_of b) w n a c (selected (syntax_of x) (map selector_syntax l))
-  unfolding PutsPlace
-  image_not_there a c x l y j k args o one is ey eo none ec _ =
-      emits_nothing w a c _ _ (λ t. let g : PlaceBuilt (source_of b) w.text (Dot j.0 (syntax_of x) k (expressions (map syntax_of args.items))) = subst (PlaceBuilt (source_of b) w.text) (one_dot x l y j k args one is ey) t in subst StreamBuilt (sym eo ∙ none) g) ec
-
-  pub image_cast : (a c : DraftOf) (x : Expr) (l : List Selector) (y : Selector) (j : TokenNo) (k : Identifier) → length l ≡ 1 → y ≡ slice_index_or l 0 y → y ≡ u.Qua j k → c ≡ given_up a → length l ≢ 0 → PutsPlace (source_of b) w n a c (selected (syntax_of x) (map selector_syntax l))
-  unfolding PutsPlace
-  image_cast a c x l y j k one is ey ec _ =
-      let same : selected (syntax_of x) (map selector_syntax l) ≡ Qua j.0 (syntax_of x) k = ap (λ z. selected (syntax_of x) (map selector_syntax z)) (one_selector l y one is) ∙ ap (λ z. selected (syntax_of x) (z ∷ [])) (ap selector_syntax ey ∙ selector-Qua j k) in
-      emits_nothing w a c _ _ (λ t. subst (PlaceBuilt (source_of b) w.text) same t) ec
+  place_other_form a c class x f h is ec = emits_nothing w a c _ _ (no_place (syntax_of x) (subst (λ z. FormIs z (syntax_of x)) is h)) ec
 
 -- standard names
 pub ruleset behind = (alone_performed, alone_no_number, alone_other_number, behind_performed, behind_no_number, behind_no_operand, behind_other_number, image_itself, image_with_operands, image_of_text, image_nothing)
 
 -- where variables lie
-pub ruleset lies = (place_cell, place_no_slot, place_outside, place_variable, place_no_variable, place_element, place_array, place_constant, place_call, place_nothing, place_declared, place_standard, place_undeclared, image_several, image_there, image_not_there, image_cast)
+pub ruleset lies = (place_cell, place_no_slot, place_outside, place_variable, place_no_variable, place_element, place_array, place_constant, place_call, place_nothing, place_declared, place_standard, place_undeclared, place_through, place_unconnected)

@@ -22,7 +22,7 @@ use Rattle.sim_tree.proofs.SyntaxLemmas as v
 use Rattle.sim_meaning.specs.Closing.{typed_token}
 use Rattle.codegen_expr.specs.declared.forms.Form.{Form}
 use Rattle.codegen_expr.specs.declared.forms.Form.TheVariants as form
-use Rattle.codegen_expr.specs.Forms.{FormIs, FindsForm, IsOther}
+use Rattle.codegen_expr.specs.Forms.{FormIs, FindsForm, IsNew, IsOther}
 
 chain_other : (x : Expression) (t : Tail) (ts : List Tail) → IsOther (chain x (t ∷ ts))
 chain_other x t [] = tt
@@ -169,8 +169,9 @@ other_Notext a t is = none a _ (ap syntax_of is ∙ v.syntax-Notext t) tt
 pub other_This : (a : Expr) (t : TokenNo) (x : Identifier) → a ≡ e.This t x → FindsForm form.Other a
 other_This a t x is = none a _ (ap syntax_of is ∙ v.syntax-This t x) tt
 
-pub other_New : (a : Expr) (t : TokenNo) (x : Identifier) (l : Vec Expr Global) → a ≡ e.New t x l → FindsForm form.Other a
-other_New a t x l is = none a _ (ap syntax_of is ∙ v.syntax-New t x l) tt
+pub new_New : (a : Expr) (t : TokenNo) (x : Identifier) (l : Vec Expr Global) → a ≡ e.New t x l → FindsForm form.New a
+unfolding FindsForm
+new_New a t x l is = subst IsNew (sym (ap syntax_of is ∙ v.syntax-New t x l)) tt
 
 pub closed_Parentheses : (a : Expr) (t : TokenNo) (q : Box Expr Global) (p : Bor Expr) → a ≡ e.Parentheses t q → p.now ≡ q.value → FindsForm (form.Closed p) a
 unfolding FindsForm
@@ -189,7 +190,7 @@ typed_other (Qua i a k) h = absurd h
 typed_other (Constant l i) h = refl
 typed_other (Named k args) h = absurd h
 typed_other (This i k) h = refl
-typed_other (New i k args) h = refl
+typed_other (New i k args) h = absurd h
 typed_other (Parentheses i a) h = absurd h
 
 typed_selected : (x : Expression) (t : Selection) (ts : List Selection) → naming (selected x (t ∷ ts)) ≡ typed_token (selected x (t ∷ ts))
@@ -217,6 +218,24 @@ taken x p (t ∷ ts) r is n h = as_named r x _ is (typed_selected p (selector_sy
 pub token_taken : (c : Form) (x : Expr) (p : Bor Expr) (l : Bor (List Selector)) (r : TokenNo) → FindsForm c x → c ≡ form.Taken p l → NamingIs r x → r.0 ≡ typed_token (syntax_of x)
 unfolding FindsForm
 token_taken c x p l r f is h = let g : FormIs (form.Taken p l) (syntax_of x) = subst (λ z. FormIs z (syntax_of x)) is f in taken x (syntax_of p.now) l.now r g.0 g.1 h
+
+typed_new : (x : Expression) → IsNew x → naming x ≡ typed_token x
+typed_new (If i c a b) h = absurd h
+typed_new (Binary op i a b) h = absurd h
+typed_new (Not i a) h = absurd h
+typed_new (Signed k i a) h = absurd h
+typed_new (Member m i a k) h = absurd h
+typed_new (Dot i a k args) h = absurd h
+typed_new (Qua i a k) h = absurd h
+typed_new (Constant l i) h = absurd h
+typed_new (Named k args) h = absurd h
+typed_new (This i k) h = absurd h
+typed_new (New i k args) h = refl
+typed_new (Parentheses i a) h = absurd h
+
+pub token_new : (c : Form) (x : Expr) (r : TokenNo) → FindsForm c x → c ≡ form.New → NamingIs r x → r.0 ≡ typed_token (syntax_of x)
+unfolding FindsForm
+token_new c x r f is h = as_named r x (syntax_of x) refl (typed_new (syntax_of x) (subst (λ z. FormIs z (syntax_of x)) is f)) h
 
 pub token_other : (c : Form) (x : Expr) (r : TokenNo) → FindsForm c x → c ≡ form.Other → NamingIs r x → r.0 ≡ typed_token (syntax_of x)
 unfolding FindsForm
@@ -264,4 +283,4 @@ pub level_Not : (a x : Expr) (p : Box Expr Global) (l : Vec TokenNo Global) (ts 
 level_Not a x p l [] is ex et n = ap syntax_of is ∙ v.syntax-Not l p ∙ ap (λ z. negated l.items (syntax_of z)) (sym ex) ∙ ap (λ z. negated z (syntax_of x)) (sym et)
 level_Not a x p l (t ∷ ts) is ex et n = absurd (omega (arith, n))
 
-pub ruleset formed = (same_OrElse, other_OrElse, same_AndThen, other_AndThen, same_Eqv, other_Eqv, same_Imp, other_Imp, same_Or, other_Or, same_And, other_And, same_Concatenation, other_Concatenation, same_Power, other_Power, same_Product, other_Product, same_Sum, other_Sum, signed_Sum, same_Postfix, taken_Postfix, same_Not, other_Not, is_Named, other_If, other_Related, other_Member, other_Integer, other_Character, other_Text, other_True, other_False, other_NoObject, other_Notext, other_This, other_New, closed_Parentheses, token_closed, token_named, token_taken, token_other)
+pub ruleset formed = (same_OrElse, other_OrElse, same_AndThen, other_AndThen, same_Eqv, other_Eqv, same_Imp, other_Imp, same_Or, other_Or, same_And, other_And, same_Concatenation, other_Concatenation, same_Power, other_Power, same_Product, other_Product, same_Sum, other_Sum, signed_Sum, same_Postfix, taken_Postfix, same_Not, other_Not, is_Named, other_If, other_Related, other_Member, other_Integer, other_Character, other_Text, other_True, other_False, other_NoObject, other_Notext, other_This, new_New, closed_Parentheses, token_closed, token_named, token_taken, token_new, token_other)

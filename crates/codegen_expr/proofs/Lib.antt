@@ -1,5 +1,6 @@
 pub mod Around
 pub mod Slots
+pub mod Frames
 pub mod Pieces
 pub mod Formed
 pub mod Attributes
@@ -7,6 +8,7 @@ pub mod Texts
 pub mod Joins
 pub mod Written
 pub mod Seen
+pub mod OfObjects
 pub mod Behind
 pub mod Places
 pub mod Taken

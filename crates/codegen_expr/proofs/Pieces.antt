@@ -9,8 +9,9 @@ use Rattle.sim_code.specs.declared.instr.Lined.{Lined}
 use Rattle.sim_code.specs.Code.{CodeOf}
 use Rattle.sim_code.specs.Running.{AllRun, runs}
 use Rattle.codegen_expr.specs.declared.spot.Spot.{Spot}
-use Rattle.codegen_expr.specs.Sites.{At, IfAt, Pushes, Site, lined, WhenAt, LoopAt}
-use Rattle.codegen_expr.specs.Drafts.{Becomes, DraftOf, Emits, Grows, filled_in, given_up, with_hole, with_instr, with_push, with_room, with_temp}
+use Rattle.sim_scope.specs.Source.{Source}
+use Rattle.codegen_expr.specs.Sites.{At, IfAt, Pushes, Site, block_number, class_in, class_number, lined, WhenAt, LoopAt}
+use Rattle.codegen_expr.specs.Drafts.{Becomes, DraftOf, Emits, Grows, class_of, filled_in, given_up, with_hole, with_instr, with_push, with_room, with_temp}
 
 pub set_len : {A : Type 0} (xs : List A) (i : ℕ) (v : A) → length (slice_set xs i v) ≡ length xs
 set_len [] i v = refl
@@ -116,19 +117,20 @@ pub record Later (a b : DraftOf) : Type 0 where
   pub front : Fronts a.instrs b.instrs
   pub roomier : a.room ≤ b.room
   pub larger : a.size ≤ b.size
+  pub classed : b.classes ≡ a.classes
 
 pub later_then : (a b c : DraftOf) → Later a b → Later b c → Later a c
-later_then a b c f g = record { front = fronts_then a.instrs b.instrs c.instrs f.front g.front; roomier = (let ab = f.roomier in let bc = g.roomier in omega (arith, ab, bc)); larger = (let ab = f.larger in let bc = g.larger in omega (arith, ab, bc)) }
+later_then a b c f g = record { front = fronts_then a.instrs b.instrs c.instrs f.front g.front; roomier = (let ab = f.roomier in let bc = g.roomier in omega (arith, ab, bc)); larger = (let ab = f.larger in let bc = g.larger in omega (arith, ab, bc)); classed = g.classed ∙ f.classed }
 
 pub later_emits : (t : Spot) (a b : DraftOf) (P : Type 0) (H : CodeOf → Site → ℕ → ℕ → Type 0) → Emits t a b P H → Later a b
-later_emits t a b P H e = record { front = (e.rest, e.front); roomier = e.roomier; larger = e.larger }
+later_emits t a b P H e = record { front = (e.rest, e.front); roomier = e.roomier; larger = e.larger; classed = e.classed }
 
 le_same : (m n : ℕ) → n ≡ m → m ≤ n
 le_same m n e = omega (arith, e)
 
 pub later_hole : (a b : DraftOf) → b ≡ with_hole a → Later a b
 unfolding with_hole
-later_hole a b e = record { front = (lined i.Halt 0 ∷ [], ap (λ z. z.instrs) e); roomier = le_same a.room b.room (ap (λ z. z.room) e); larger = le_same a.size b.size (ap (λ z. z.size) e) }
+later_hole a b e = record { front = (lined i.Halt 0 ∷ [], ap (λ z. z.instrs) e); roomier = le_same a.room b.room (ap (λ z. z.room) e); larger = le_same a.size b.size (ap (λ z. z.size) e); classed = ap (λ z. z.classes) e }
 
 -- what the earlier one becomes is what the later one becomes
 pub becomes_later : (t : Spot) (a b : DraftOf) (final : CodeOf) (site : Site) → Later a b → Becomes t b final site → Becomes t a final site
@@ -146,6 +148,7 @@ becomes_later t a b final site l g =
       stands = g.stands;
       taken = g.taken;
       follows = omega (arith, le, fs);
+      classed = λ k. g.classed k ∙ ap (λ z. class_of z k) l.classed;
     }
 
 pub becomes_filled : (t : Spot) (a b : DraftOf) (final : CodeOf) (site : Site) (k : ℕ) (x : Instr) → slice_get a.instrs k ≡ Some (lined i.Halt 0) → b ≡ filled_in a k x → Becomes t b final site → Becomes t a final site
@@ -165,6 +168,7 @@ becomes_filled t a b final site k x hole e g =
       stands = g.stands;
       taken = g.taken;
       follows = omega (arith, el, fs);
+      classed = λ k. g.classed k ∙ ap (λ z. class_of z.classes k) e;
     }
 
 -- one instruction
@@ -178,6 +182,7 @@ emits_at t a b x line e ne r =
       front = ei;
       roomier = le_same a.room b.room (ap (λ z. z.room) e);
       larger = le_same a.size b.size (ap (λ z. z.size) e);
+      classed = ap (λ z. z.classes) e;
       built = λ _ w. ew ∙ w;
       before = λ w. sym ew ∙ w;
       only = λ w. tt;
@@ -202,6 +207,7 @@ emits_push_at t a b n x line e ne r =
       front = ei;
       roomier = subst (λ z. a.room ≤ z) (sym er) left;
       larger = le_same a.size b.size (ap (λ z. z.size) e);
+      classed = ap (λ z. z.classes) e;
       built = λ _ w. ew ∙ w;
       before = λ w. sym ew ∙ w;
       only = λ w. tt;
@@ -229,6 +235,7 @@ emits_nothing t a b P H never e =
       front = ei ∙ sym (append-nil a.instrs);
       roomier = le_same a.room b.room (ap (λ z. z.room) e);
       larger = le_same a.size b.size (ap (λ z. z.size) e);
+      classed = ap (λ z. z.classes) e;
       built = λ p w. absurd (never p);
       before = λ w. absurd (clash (sym ew ∙ w));
       only = λ w. absurd (clash (sym ew ∙ w));
@@ -241,7 +248,7 @@ emits_nothing t a b P H never e =
 
 -- nothing
 pub emits_none : (t : Spot) (a : DraftOf) → Emits t a a ⊤ (λ final site p q. q ≡ p)
-emits_none t a = record { rest = []; front = sym (append-nil a.instrs); roomier = le_same a.room a.room refl; larger = le_same a.size a.size refl; built = λ _ w. w; before = λ w. w; only = λ w. tt; fits = λ h. h; at = λ w final site g. refl }
+emits_none t a = record { rest = []; front = sym (append-nil a.instrs); roomier = le_same a.room a.room refl; larger = le_same a.size a.size refl; classed = refl; built = λ _ w. w; before = λ w. w; only = λ w. tt; fits = λ h. h; at = λ w final site g. refl }
 
 -- one behind another
 pub emits_then : (t : Spot) (P Q : Type 0) (A B : CodeOf → Site → ℕ → ℕ → Type 0) (a b c : DraftOf) → Emits t a b P A → Emits t b c Q B → Emits t a c (P × Q) (λ final site p q. (x : ℕ) × A final site p x × B final site x q)
@@ -252,6 +259,7 @@ emits_then t P Q A B a b c f g =
       front = l.front.1;
       roomier = l.roomier;
       larger = l.larger;
+      classed = l.classed;
       built = λ p w. g.built p.1 (f.built p.0 w);
       before = λ w. f.before (g.before w);
       only = λ w. (f.only (g.before w), g.only w);
@@ -261,7 +269,7 @@ emits_then t P Q A B a b c f g =
 
 -- said otherwise
 pub emits_as : (t : Spot) (P Q : Type 0) (A B : CodeOf → Site → ℕ → ℕ → Type 0) (a b : DraftOf) → (Q → P) → (P → Q) → ((final : CodeOf) (site : Site) (p q : ℕ) → site.text ≡ t.text → site.used ≡ t.used → A final site p q → B final site p q) → Emits t a b P A → Emits t a b Q B
-emits_as t P Q A B a b back forth f e = record { rest = e.rest; front = e.front; roomier = e.roomier; larger = e.larger; built = λ q w. e.built (back q) w; before = e.before; only = λ w. forth (e.only w); fits = e.fits; at = λ w final site g. f final site (length a.instrs) (length b.instrs) g.stands g.taken (e.at w final site g) }
+emits_as t P Q A B a b back forth f e = record { rest = e.rest; front = e.front; roomier = e.roomier; larger = e.larger; classed = e.classed; built = λ q w. e.built (back q) w; before = e.before; only = λ w. forth (e.only w); fits = e.fits; at = λ w final site g. f final site (length a.instrs) (length b.instrs) g.stands g.taken (e.at w final site g) }
 
 pub emits_push : (t : Spot) (a b : DraftOf) (n : ℕ) (x : Instr) (line : ℕ) → b ≡ with_push a n x line → x ≢ i.Halt → runs x ≡ true → Emits t a b ⊤ (λ final site p q. Pushes final site n x p q)
 emits_push t a b n x line e ne r = emits_as t ⊤ ⊤ (λ final site p q. At final x line p q × (n < site.room)) _ a b (λ z. z) (λ z. z) (λ final site p q _ _ r. record { is = record { line = line; is = r.0 }; fits = r.1 }) (emits_push_at t a b n x line e ne r)
@@ -314,6 +322,7 @@ emits_if t P Q R A B C c0 c1 c2 c3 c4 c5 c6 c7 jump over start end a ej e2 b eo 
       front = f07.1;
       roomier = subst (λ z. c0.room ≤ z) (sym room) l05.roomier;
       larger = subst (λ z. c0.size ≤ z) (sym size) l05.larger;
+      classed = ap (λ z. z.classes) e7 ∙ ap (λ z. z.classes) e6 ∙ l05.classed;
       built = λ p w. whole ∙ c.built p.2 (whole34 ∙ b.built p.1 (whole12 ∙ a.built p.0 w));
       before = λ w. a.before (at1w w);
       only = λ w. (a.only (at1w w), b.only (at3 w), c.only (at5 w));
@@ -376,6 +385,7 @@ emits_when t P Q A B c0 c1 c2 c3 c4 jump end a ej e2 b ee e4 =
       front = f04.1;
       roomier = subst (λ z. c0.room ≤ z) (sym room) l03.roomier;
       larger = subst (λ z. c0.size ≤ z) (sym size) l03.larger;
+      classed = ap (λ z. z.classes) e4 ∙ l03.classed;
       built = λ p w. whole ∙ b.built p.1 (whole12 ∙ a.built p.0 w);
       before = λ w. a.before (at1 w);
       only = λ w. (a.only (at1 w), b.only (at3 w));
@@ -397,7 +407,7 @@ emits_when t P Q A B c0 c1 c2 c3 c4 jump end a ej e2 b ee e4 =
 
 later_instr : (a b : DraftOf) (x : Instr) (line : ℕ) → b ≡ with_instr a x line → Later a b
 unfolding with_instr
-later_instr a b x line e = record { front = (lined x line ∷ [], ap (λ z. z.instrs) e); roomier = le_same a.room b.room (ap (λ z. z.room) e); larger = le_same a.size b.size (ap (λ z. z.size) e) }
+later_instr a b x line e = record { front = (lined x line ∷ [], ap (λ z. z.instrs) e); roomier = le_same a.room b.room (ap (λ z. z.room) e); larger = le_same a.size b.size (ap (λ z. z.size) e); classed = ap (λ z. z.classes) e }
 
 -- a loop, which is a part that may be left out and ends with a jump back to its tick
 pub emits_loop : (t : Spot) (P Q : Type 0) (A B : CodeOf → Site → ℕ → ℕ → Type 0) (c1 c2 c3 c4 c5 c6 new : DraftOf) (start end : ℤ) (jump : ℕ) → start ≡ pos (length c1.instrs) → c2 ≡ with_instr c1 i.Tick 0 → Emits t c2 c3 P A → jump ≡ length c3.instrs → c4 ≡ with_hole c3 → Emits t c4 c5 Q B
@@ -417,6 +427,7 @@ emits_loop t P Q A B c1 c2 c3 c4 c5 c6 new start end jump es e2 a ej e4 b e6 ee 
       front = all.front;
       roomier = all.roomier;
       larger = all.larger;
+      classed = all.classed;
       built = λ p w. all.built ((tt, p.0), (p.1, tt)) w;
       before = all.before;
       only = λ w. (let r = all.only w in (r.0.1, r.1.0));
@@ -445,6 +456,7 @@ emits_temp t P A a b c temp et e f =
       front = f.front ∙ ap (λ z. z ++ f.rest) ei;
       roomier = omega (arith, er, bc);
       larger = omega (arith, es, left, bc');
+      classed = f.classed ∙ ap (λ z. z.classes) e;
       built = λ p w. f.built p (ew ∙ w);
       before = λ w. sym ew ∙ f.before w;
       only = f.only;
@@ -472,6 +484,7 @@ emits_temp_behind t P A a b c temp e f =
       front = f.front ∙ ap (λ z. z ++ f.rest) ei;
       roomier = omega (arith, er, bc);
       larger = omega (arith, es, left, bc');
+      classed = f.classed ∙ ap (λ z. z.classes) e;
       built = λ p w. f.built p (ew ∙ w);
       before = λ w. sym ew ∙ f.before w;
       only = f.only;
@@ -496,6 +509,7 @@ emits_room t P A a b c n e f =
       front = f.front ∙ ap (λ z. z ++ f.rest) ei;
       roomier = omega (arith, er, left, bc);
       larger = omega (arith, es, bc');
+      classed = f.classed ∙ ap (λ z. z.classes) e;
       built = λ p w. f.built p (ew ∙ w);
       before = λ w. sym ew ∙ f.before w;
       only = f.only;
@@ -510,9 +524,30 @@ emits_inside t u P A a b temp et eu f = record {
   front = f.front;
   roomier = f.roomier;
   larger = f.larger;
+  classed = f.classed;
   built = f.built;
   before = f.before;
   only = f.only;
   fits = f.fits;
-  at = λ w final site g. f.at w final (record site { used = suc temp }) (record { grows = g.grows; roomy = g.roomy; sized = g.sized; stands = g.stands ∙ sym et; taken = sym eu; follows = g.follows });
+  at = λ w final site g. f.at w final (record site { used = suc temp }) (record { grows = g.grows; roomy = g.roomy; sized = g.sized; stands = g.stands ∙ sym et; taken = sym eu; follows = g.follows; classed = g.classed });
 }
+
+-- said otherwise, where it is known which classes the blocks of the final code are those of
+pub emits_classed : (t : Spot) (P : Type 0) (A B : CodeOf → Site → ℕ → ℕ → Type 0) (a b : DraftOf) → ((final : CodeOf) (site : Site) (p q : ℕ) → ((k : ℕ) → class_in (slice_get final.blocks k) ≡ class_of a.classes k) → A final site p q → B final site p q) → Emits t a b P A → Emits t a b P B
+emits_classed t P A B a b f e = record {
+  rest = e.rest;
+  front = e.front;
+  roomier = e.roomier;
+  larger = e.larger;
+  classed = e.classed;
+  built = e.built;
+  before = e.before;
+  only = e.only;
+  fits = e.fits;
+  at = λ w final site g. f final site (length a.instrs) (length b.instrs) (λ k. g.classed k ∙ ap (λ z. class_of z k) e.classed) (e.at w final site g);
+}
+
+-- the number of a class in the final code is the one that was given out
+pub class_numbered : (s : Source) (final : CodeOf) (cs : List ℕ) (k c : ℕ) → ((j : ℕ) → class_in (slice_get final.blocks j) ≡ class_of cs j) → c ≡ class_of cs (block_number s k) → class_number s final k ≡ c
+unfolding class_number
+class_numbered s final cs k c all e = all (block_number s k) ∙ sym e

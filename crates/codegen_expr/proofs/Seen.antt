@@ -1,5 +1,5 @@
 -- Identifiers with their operands.
-use Rattle.std.proofs.Common.{◌≡◌, ◌≢◌, ◌<◌, ℕ, pos, suc, Bool, List, [], ◌∷◌, length, map, Option, Some, None, true, false, refl, sym, ap, ◌∙◌, subst, arith}
+use Rattle.std.proofs.Common.{◌≡◌, ◌≢◌, ◌<◌, ◌≤◌, ℕ, pos, suc, Bool, List, [], ◌∷◌, length, map, Option, Some, None, true, false, refl, sym, ap, ◌∙◌, subst, arith}
 use Rattle.std.specs.Prelude.{⊤}
 use Rattle.sim_base.specs.declared.numbering.DeclNo.{DeclNo}
 use Rattle.sim_base.specs.declared.numbering.TokenNo.{TokenNo}
@@ -28,6 +28,7 @@ use Rattle.sim_values.specs.Standard.{row_of}
 use Rattle.sim_code.specs.declared.instr.Instr.{Instr}
 use Rattle.sim_code.specs.declared.instr.Instr.TheVariants as i
 use Rattle.sim_code.specs.Code.{CodeOf}
+use Rattle.sim_meaning.specs.Attributes.{connection_at, parameter_qualification}
 use Rattle.sim_meaning.specs.Closing.{formals_at, formals_from, is_text_type}
 use Rattle.sim_meaning.specs.Texts.{constant_of}
 use Rattle.codegen_expr.specs.declared.operators.Passed.{Passed}
@@ -35,22 +36,23 @@ use Rattle.codegen_expr.specs.declared.operators.Passed.TheVariants as passed
 use Rattle.codegen_expr.specs.declared.operators.Seen.{Seen}
 use Rattle.codegen_expr.specs.declared.operators.Seen.TheVariants as seen
 use Rattle.codegen_expr.specs.declared.spot.Spot.{Spot}
-use Rattle.codegen_expr.specs.Built.{ActualBuilt, ActualsBuilt, AreBuilt, CallBuilt, ConstantBuilt, DeclaredBuilt, IsBuilt, FormalBuilt, is_around}
-use Rattle.codegen_expr.specs.CodeExpr.{ActualAt, ActualsAt, CallAt, DeclaredAt, ElementAt, ExprAt, ExprsAt, FormalAt, StandardIs, block_number, gives, operands}
+use Rattle.codegen_expr.specs.Built.{ActualBuilt, ActualsBuilt, AreBuilt, CallBuilt, ConnectedNameBuilt, ConstantBuilt, DeclaredBuilt, IsBuilt, FormalBuilt, NamedBuilt, ThroughBuilt, is_around}
+use Rattle.codegen_expr.specs.CodeExpr.{ActualAt, ActualsAt, CallAt, ConnectedNameAt, DeclaredAt, ElementAt, ExprAt, ExprsAt, FittingAt, FormalAt, NamedAt, StandardIs, ThroughAt, gives, operands}
 use Rattle.codegen_expr.specs.Drafts.{DraftOf, Emits, given_up, with_instr, with_push}
-use Rattle.codegen_expr.specs.Emit.{OwesActuals, Puts, PutsNamed, PutsSeen, SeenAt, SeenBuilt, Writes, WritesActual, WritesActuals, WritesCall, WritesCell, WritesConstant, WritesElement, WritesGiving, WritesLink, WritesNamed, WritesSeen, WritesStandard, formals_of_block, passed_of, seen_formal, seen_of}
-use Rattle.codegen_expr.specs.Sites.{At, Inside, Pushes, Site}
+use Rattle.codegen_expr.specs.Emit.{OwesActuals, Puts, PutsNamed, PutsSeen, PutsUnconnected, SeenAt, SeenBuilt, Writes, WritesActual, WritesActuals, WritesCall, WritesCell, WritesConstant, WritesElement, WritesGiving, WritesLink, WritesNamed, WritesPassed, WritesSeen, WritesStandard, WritesThrough, WritesUnconnected, formals_of_block, passed_of, seen_formal, seen_of}
+use Rattle.codegen_expr.specs.EmitObjects.{OfConnection, PutsBase, WritesFit, WritesOf}
+use Rattle.codegen_expr.specs.Sites.{At, Inside, Is, Pushes, Site, block_number, class_number}
 use Rattle.codegen_expr.proofs.Around.{inside}
 use Rattle.codegen_expr.proofs.Pieces.{emits_as, emits_at, emits_none, emits_nothing, emits_push, emits_push_at, emits_then}
 
 abbrev Place : Type 1
 Place = CodeOf → Site → ℕ → ℕ → Type 0
 
-block_formals : (s : Source) (d : DeclNo) (result : Option SimType) (block : ℕ) → Some (entry.Procedure result block) ≡ entry_of s.tables d → formals_of_block s block ≡ formals_at s d
+pub block_formals : (s : Source) (d : DeclNo) (result : Option SimType) (block : ℕ) → Some (entry.Procedure result block) ≡ entry_of s.tables d → formals_of_block s block ≡ formals_at s d
 unfolding formals_of
 block_formals s d result block e = ap (λ k. formals_from s (formals_at_block s.tables (block_in k))) e
 
-count : (es : List Expr) → operands (expressions (map syntax_of es)) ≡ length es
+pub count : (es : List Expr) → operands (expressions (map syntax_of es)) ≡ length es
 count [] = refl
 count (x ∷ xs) = ap suc (count xs)
 
@@ -71,99 +73,152 @@ module _ (b : Bound) (w : Spot) (n : ℕ) where
   unfolding WritesLink source_of
   see_no_link a c d block eb out ec = emits_nothing w a c _ _ (λ h. let t : is_around b.scopes (length b.scopes.blocks) w.text block ≡ true = ap (λ z. is_around b.scopes (length b.scopes.blocks) w.text z) eb ∙ h.found in cc) ec
 
-  pub see_call : (a c0 c1 c : DraftOf) (token : TokenNo) (d : DeclNo) (block : ℕ) (es : List Expr) (fs : List Formal) (m k line : ℕ) (x : Instr) (number : ℕ) → m ≡ suc n → WritesLink b w n a c0 d → fs ≡ formals_of_block (source_of b) block → WritesActuals b w m c0 c1 token es fs → number ≡ block_number (source_of b) block → k ≡ length es → x ≡ i.Call (pos number) (pos k) → line ≡ line_at (source_of b) token.0 → c ≡ with_instr c1 x line → WritesCall b w n a c token d block es
+  pub see_call : (a c0 c1 c : DraftOf) (token : TokenNo) (d : DeclNo) (block : ℕ) (es : List Expr) (fs : List Formal) (m k line : ℕ) (x : Instr) (number : ℕ) → m ≡ suc n → WritesLink b w n a c0 d → fs ≡ formals_of_block (source_of b) block → WritesActuals b w m c0 c1 false token es fs → number ≡ block_number (source_of b) block → k ≡ length es → x ≡ i.Call (pos number) (pos k) → line ≡ line_at (source_of b) token.0 → c ≡ with_instr c1 x line → WritesCall b w n a c token d block es
   unfolding WritesCall WritesSeen PutsSeen WritesLink WritesActuals
   see_call a c0 c1 c token d block ys fs m k line x number em f ef g en ek ex el ec =
       let s = source_of b in
       let es = expressions (map syntax_of ys) in
       let is : i.Call (pos (block_number s block)) (pos (operands es)) ≢ i.Halt = λ z. cc in
       let at : x ≡ i.Call (pos (block_number s block)) (pos (operands es)) = ex ∙ ap (λ z. i.Call (pos z) (pos k)) en ∙ ap (λ z. i.Call (pos (block_number s block)) (pos z)) (ek ∙ sym (count ys)) in
-      let g1 = subst (λ z. Emits w c0 c1 (ActualsBuilt s w.text es fs) (λ final site p q. ActualsAt s final site z (line_at s token.0) es fs p q)) em g in
-      let g2 = subst (λ z. Emits w c0 c1 (ActualsBuilt s w.text es z) (λ final site p q. ActualsAt s final site (suc n) (line_at s token.0) es z p q)) ef g1 in
+      let g1 = subst (λ z. Emits w c0 c1 (ActualsBuilt s w.text es fs) (λ final site p q. ActualsAt s final site z (line_at s token.0) false es fs p q)) em g in
+      let g2 = subst (λ z. Emits w c0 c1 (ActualsBuilt s w.text es z) (λ final site p q. ActualsAt s final site (suc n) (line_at s token.0) false es z p q)) ef g1 in
       emits_as w _ _ _ _ a c (λ t. (t.0, (t.1, tt))) (λ t. (t.0, t.1.0)) (λ final site p q _ _ r. record { x = r.0; y = r.2.0; link = r.1.0; inside = r.1.1; actuals = r.2.1; call = r.2.2 })
-      (emits_then w _ _ (λ z site p q. Pushes z site n (i.Link (pos (level_of s (block_of s d)))) p q × Inside s.tables site.text (block_of s d)) (λ z site p q. (y : ℕ) × ActualsAt s z site (suc n) (line_at s token.0) es (formals_of_block s block) p y × At z (i.Call (pos (block_number s block)) (pos (operands es))) (line_at s token.0) y q) a c0 c f
-      (emits_then w _ _ (λ z site p q. ActualsAt s z site (suc n) (line_at s token.0) es (formals_of_block s block) p q) (λ z site. At z (i.Call (pos (block_number s block)) (pos (operands es))) (line_at s token.0)) c0 c1 c g2
+      (emits_then w _ _ (λ z site p q. Pushes z site n (i.Link (pos (level_of s (block_of s d)))) p q × Inside s.tables site.text (block_of s d)) (λ z site p q. (y : ℕ) × ActualsAt s z site (suc n) (line_at s token.0) false es (formals_of_block s block) p y × At z (i.Call (pos (block_number s block)) (pos (operands es))) (line_at s token.0) y q) a c0 c f
+      (emits_then w _ _ (λ z site p q. ActualsAt s z site (suc n) (line_at s token.0) false es (formals_of_block s block) p q) (λ z site. At z (i.Call (pos (block_number s block)) (pos (operands es))) (line_at s token.0)) c0 c1 c g2
       (emits_at w c1 c (i.Call (pos (block_number s block)) (pos (operands es))) (line_at s token.0) (ec ∙ ap (λ z. with_instr c1 z line) at ∙ ap (λ z. with_instr c1 (i.Call (pos (block_number s block)) (pos (operands es))) z) el) is refl)))
 
   -- ---- actual parameters
 
-  plain_passed : (m : Mode) (k : FormalKind) (t : Bool) (line : ℕ) (P : Type 0) (A : Place) (a c : DraftOf) → passed.Plain ≡ passed_of m k t → Emits w a c P A → Emits w a c (P × ActualBuilt m k) (λ final site p q. ActualAt final site n line m k t (A final site) p q)
-  plain_passed mode.ByValue shape.Array t line P A a c e f = absurd (cc)
-  plain_passed mode.ByValue shape.Simple true line P A a c e f = absurd (cc)
-  plain_passed mode.ByValue shape.Simple false line P A a c e f = emits_as w _ _ _ _ a c (λ t. t.0) (λ t. (t, tt)) (λ final site p q _ _ r. r) f
-  plain_passed mode.ByValue shape.Procedure t line P A a c e f = absurd (cc)
-  plain_passed mode.ByReference shape.Array t line P A a c e f = emits_as w _ _ _ _ a c (λ t. t.0) (λ t. (t, tt)) (λ final site p q _ _ r. r) f
-  plain_passed mode.ByReference shape.Simple t line P A a c e f = emits_as w _ _ _ _ a c (λ t. t.0) (λ t. (t, tt)) (λ final site p q _ _ r. r) f
-  plain_passed mode.ByReference shape.Procedure t line P A a c e f = absurd (cc)
-  plain_passed mode.ByName shape.Array t line P A a c e f = absurd (cc)
-  plain_passed mode.ByName shape.Simple t line P A a c e f = absurd (cc)
-  plain_passed mode.ByName shape.Procedure t line P A a c e f = absurd (cc)
+  plain_passed : (keeps : Bool) (m : Mode) (k : FormalKind) (t : Bool) (line : ℕ) (P : Type 0) (A : Place) (a c : DraftOf) → passed.Plain ≡ passed_of keeps m k t → Emits w a c P A → Emits w a c (P × ActualBuilt m k) (λ final site p q. ActualAt final site n line keeps m k t (A final site) p q)
+  plain_passed keeps mode.ByValue shape.Array t line P A a c e f = absurd (cc)
+  plain_passed keeps mode.ByValue shape.Simple true line P A a c e f = absurd (cc)
+  plain_passed keeps mode.ByValue shape.Simple false line P A a c e f = emits_as w _ _ _ _ a c (λ t. t.0) (λ t. (t, tt)) (λ final site p q _ _ r. r) f
+  plain_passed keeps mode.ByValue shape.Procedure t line P A a c e f = absurd (cc)
+  plain_passed true mode.ByReference shape.Array t line P A a c e f = absurd (cc)
+  plain_passed false mode.ByReference shape.Array t line P A a c e f = emits_as w _ _ _ _ a c (λ t. t.0) (λ t. (t, tt)) (λ final site p q _ _ r. r) f
+  plain_passed true mode.ByReference shape.Simple t line P A a c e f = emits_as w _ _ _ _ a c (λ t. t.0) (λ t. (t, tt)) (λ final site p q _ _ r. r) f
+  plain_passed false mode.ByReference shape.Simple t line P A a c e f = emits_as w _ _ _ _ a c (λ t. t.0) (λ t. (t, tt)) (λ final site p q _ _ r. r) f
+  plain_passed true mode.ByReference shape.Procedure t line P A a c e f = absurd (cc)
+  plain_passed false mode.ByReference shape.Procedure t line P A a c e f = absurd (cc)
+  plain_passed keeps mode.ByName shape.Array t line P A a c e f = absurd (cc)
+  plain_passed keeps mode.ByName shape.Simple t line P A a c e f = absurd (cc)
+  plain_passed keeps mode.ByName shape.Procedure t line P A a c e f = absurd (cc)
 
-  copied_passed : (m : Mode) (k : FormalKind) (t : Bool) (line : ℕ) (P : Type 0) (A : Place) (a c : DraftOf) → passed.Copied ≡ passed_of m k t → Emits w a c (P × ⊤) (λ final site p q. (x : ℕ) × A final site p x × At final i.CopyArr line x q) → Emits w a c (P × ActualBuilt m k) (λ final site p q. ActualAt final site n line m k t (A final site) p q)
-  copied_passed mode.ByValue shape.Array t line P A a c e f = f
-  copied_passed mode.ByValue shape.Simple true line P A a c e f = absurd (cc)
-  copied_passed mode.ByValue shape.Simple false line P A a c e f = absurd (cc)
-  copied_passed mode.ByValue shape.Procedure t line P A a c e f = absurd (cc)
-  copied_passed mode.ByReference shape.Array t line P A a c e f = absurd (cc)
-  copied_passed mode.ByReference shape.Simple t line P A a c e f = absurd (cc)
-  copied_passed mode.ByReference shape.Procedure t line P A a c e f = absurd (cc)
-  copied_passed mode.ByName shape.Array t line P A a c e f = absurd (cc)
-  copied_passed mode.ByName shape.Simple t line P A a c e f = absurd (cc)
-  copied_passed mode.ByName shape.Procedure t line P A a c e f = absurd (cc)
+  copied_passed : (keeps : Bool) (m : Mode) (k : FormalKind) (t : Bool) (line : ℕ) (P : Type 0) (A : Place) (a c : DraftOf) → passed.Copied ≡ passed_of keeps m k t → Emits w a c (P × ⊤) (λ final site p q. (x : ℕ) × A final site p x × At final i.CopyArr line x q) → Emits w a c (P × ActualBuilt m k) (λ final site p q. ActualAt final site n line keeps m k t (A final site) p q)
+  copied_passed keeps mode.ByValue shape.Array t line P A a c e f = f
+  copied_passed keeps mode.ByValue shape.Simple true line P A a c e f = absurd (cc)
+  copied_passed keeps mode.ByValue shape.Simple false line P A a c e f = absurd (cc)
+  copied_passed keeps mode.ByValue shape.Procedure t line P A a c e f = absurd (cc)
+  copied_passed true mode.ByReference shape.Array t line P A a c e f = absurd (cc)
+  copied_passed false mode.ByReference shape.Array t line P A a c e f = absurd (cc)
+  copied_passed true mode.ByReference shape.Simple t line P A a c e f = absurd (cc)
+  copied_passed false mode.ByReference shape.Simple t line P A a c e f = absurd (cc)
+  copied_passed true mode.ByReference shape.Procedure t line P A a c e f = absurd (cc)
+  copied_passed false mode.ByReference shape.Procedure t line P A a c e f = absurd (cc)
+  copied_passed keeps mode.ByName shape.Array t line P A a c e f = absurd (cc)
+  copied_passed keeps mode.ByName shape.Simple t line P A a c e f = absurd (cc)
+  copied_passed keeps mode.ByName shape.Procedure t line P A a c e f = absurd (cc)
+
+  kept_passed : (keeps : Bool) (m : Mode) (k : FormalKind) (t : Bool) (line : ℕ) (P : Type 0) (A : Place) (a c : DraftOf) → passed.Kept ≡ passed_of keeps m k t → Emits w a c (P × ⊤) (λ final site p q. (x : ℕ) × A final site p x × At final i.Keep 0 x q) → Emits w a c (P × ActualBuilt m k) (λ final site p q. ActualAt final site n line keeps m k t (A final site) p q)
+  kept_passed keeps mode.ByValue shape.Array t line P A a c e f = absurd (cc)
+  kept_passed keeps mode.ByValue shape.Simple true line P A a c e f = absurd (cc)
+  kept_passed keeps mode.ByValue shape.Simple false line P A a c e f = absurd (cc)
+  kept_passed keeps mode.ByValue shape.Procedure t line P A a c e f = absurd (cc)
+  kept_passed true mode.ByReference shape.Array t line P A a c e f = emits_as w _ _ _ _ a c (λ t. t) (λ t. t) (λ final site p q _ _ r. (r.0, r.1, record { line = 0; is = r.2 })) f
+  kept_passed false mode.ByReference shape.Array t line P A a c e f = absurd (cc)
+  kept_passed true mode.ByReference shape.Simple t line P A a c e f = absurd (cc)
+  kept_passed false mode.ByReference shape.Simple t line P A a c e f = absurd (cc)
+  kept_passed true mode.ByReference shape.Procedure t line P A a c e f = absurd (cc)
+  kept_passed false mode.ByReference shape.Procedure t line P A a c e f = absurd (cc)
+  kept_passed keeps mode.ByName shape.Array t line P A a c e f = absurd (cc)
+  kept_passed keeps mode.ByName shape.Simple t line P A a c e f = absurd (cc)
+  kept_passed keeps mode.ByName shape.Procedure t line P A a c e f = absurd (cc)
 
   copies : (final : CodeOf) (site : Site) (line x q : ℕ) → At final (i.Std (pos 15)) line x q → n < site.room → StandardIs final site n line name_of.Copy 1 x q
   unfolding row_of
   copies final site line x q at fits = record { as_many = refl; number = 15; numbered = refl; is = at; fits = λ _. fits }
 
-  text_passed : (m : Mode) (k : FormalKind) (t : Bool) (line : ℕ) (P : Type 0) (A : Place) (a c : DraftOf) → passed.CopiedText ≡ passed_of m k t → Emits w a c (P × ⊤) (λ final site p q. (x : ℕ) × A final site p x × (At final (i.Std (pos 15)) line x q × (n < site.room))) → Emits w a c (P × ActualBuilt m k) (λ final site p q. ActualAt final site n line m k t (A final site) p q)
-  text_passed mode.ByValue shape.Array t line P A a c e f = absurd (cc)
-  text_passed mode.ByValue shape.Simple true line P A a c e f = emits_as w _ _ _ _ a c (λ t. t) (λ t. t) (λ final site p q _ _ r. (r.0, r.1, copies final site line r.0 q r.2.0 r.2.1)) f
-  text_passed mode.ByValue shape.Simple false line P A a c e f = absurd (cc)
-  text_passed mode.ByValue shape.Procedure t line P A a c e f = absurd (cc)
-  text_passed mode.ByReference shape.Array t line P A a c e f = absurd (cc)
-  text_passed mode.ByReference shape.Simple t line P A a c e f = absurd (cc)
-  text_passed mode.ByReference shape.Procedure t line P A a c e f = absurd (cc)
-  text_passed mode.ByName shape.Array t line P A a c e f = absurd (cc)
-  text_passed mode.ByName shape.Simple t line P A a c e f = absurd (cc)
-  text_passed mode.ByName shape.Procedure t line P A a c e f = absurd (cc)
+  text_passed : (keeps : Bool) (m : Mode) (k : FormalKind) (t : Bool) (line : ℕ) (P : Type 0) (A : Place) (a c : DraftOf) → passed.CopiedText ≡ passed_of keeps m k t → Emits w a c (P × ⊤) (λ final site p q. (x : ℕ) × A final site p x × (At final (i.Std (pos 15)) line x q × (n < site.room))) → Emits w a c (P × ActualBuilt m k) (λ final site p q. ActualAt final site n line keeps m k t (A final site) p q)
+  text_passed keeps mode.ByValue shape.Array t line P A a c e f = absurd (cc)
+  text_passed keeps mode.ByValue shape.Simple true line P A a c e f = emits_as w _ _ _ _ a c (λ t. t) (λ t. t) (λ final site p q _ _ r. (r.0, r.1, copies final site line r.0 q r.2.0 r.2.1)) f
+  text_passed keeps mode.ByValue shape.Simple false line P A a c e f = absurd (cc)
+  text_passed keeps mode.ByValue shape.Procedure t line P A a c e f = absurd (cc)
+  text_passed true mode.ByReference shape.Array t line P A a c e f = absurd (cc)
+  text_passed false mode.ByReference shape.Array t line P A a c e f = absurd (cc)
+  text_passed true mode.ByReference shape.Simple t line P A a c e f = absurd (cc)
+  text_passed false mode.ByReference shape.Simple t line P A a c e f = absurd (cc)
+  text_passed true mode.ByReference shape.Procedure t line P A a c e f = absurd (cc)
+  text_passed false mode.ByReference shape.Procedure t line P A a c e f = absurd (cc)
+  text_passed keeps mode.ByName shape.Array t line P A a c e f = absurd (cc)
+  text_passed keeps mode.ByName shape.Simple t line P A a c e f = absurd (cc)
+  text_passed keeps mode.ByName shape.Procedure t line P A a c e f = absurd (cc)
 
-  other_passed : (m : Mode) (k : FormalKind) (t : Bool) → passed.Other ≡ passed_of m k t → ActualBuilt m k → ⊥
-  other_passed mode.ByValue shape.Array t e h = cc
-  other_passed mode.ByValue shape.Simple true e h = cc
-  other_passed mode.ByValue shape.Simple false e h = cc
-  other_passed mode.ByValue shape.Procedure t e h = h
-  other_passed mode.ByReference shape.Array t e h = cc
-  other_passed mode.ByReference shape.Simple t e h = cc
-  other_passed mode.ByReference shape.Procedure t e h = h
-  other_passed mode.ByName shape.Array t e h = h
-  other_passed mode.ByName shape.Simple t e h = h
-  other_passed mode.ByName shape.Procedure t e h = h
+  other_passed : (keeps : Bool) (m : Mode) (k : FormalKind) (t : Bool) → passed.Other ≡ passed_of keeps m k t → ActualBuilt m k → ⊥
+  other_passed keeps mode.ByValue shape.Array t e h = cc
+  other_passed keeps mode.ByValue shape.Simple true e h = cc
+  other_passed keeps mode.ByValue shape.Simple false e h = cc
+  other_passed keeps mode.ByValue shape.Procedure t e h = h
+  other_passed true mode.ByReference shape.Array t e h = cc
+  other_passed false mode.ByReference shape.Array t e h = cc
+  other_passed true mode.ByReference shape.Simple t e h = cc
+  other_passed false mode.ByReference shape.Simple t e h = cc
+  other_passed true mode.ByReference shape.Procedure t e h = h
+  other_passed false mode.ByReference shape.Procedure t e h = h
+  other_passed keeps mode.ByName shape.Array t e h = h
+  other_passed keeps mode.ByName shape.Simple t e h = h
+  other_passed keeps mode.ByName shape.Procedure t e h = h
 
-  pub see_plain_actual : (a c : DraftOf) (token : TokenNo) (x : Expr) (f : Formal) (k : Passed) → Writes b w n a c x → k ≡ passed_of f.mode f.kind (is_text_type f.ty) → k ≡ passed.Plain → WritesActual b w n a c token x f
-  unfolding WritesActual Writes Puts
-  see_plain_actual a c token x f k g ek is = plain_passed f.mode f.kind (is_text_type f.ty) (line_at (source_of b) token.0) _ (λ z site p q. ExprAt (source_of b) z site n (syntax_of x) p q) a c (sym is ∙ ek) g
+  pub see_plain_actual : (a c : DraftOf) (keeps : Bool) (token : TokenNo) (x : Expr) (f : Formal) (k : Passed) → Writes b w n a c x → k ≡ passed_of keeps f.mode f.kind (is_text_type f.ty) → k ≡ passed.Plain → WritesPassed b w n a c keeps token x f
+  unfolding WritesPassed Writes Puts
+  see_plain_actual a c keeps token x f k g ek is = plain_passed keeps f.mode f.kind (is_text_type f.ty) (line_at (source_of b) token.0) _ (λ z site p q. ExprAt (source_of b) z site n (syntax_of x) p q) a c (sym is ∙ ek) g
 
-  pub see_copied_actual : (a c0 c : DraftOf) (token : TokenNo) (x : Expr) (f : Formal) (k : Passed) (line : ℕ) → Writes b w n a c0 x → k ≡ passed_of f.mode f.kind (is_text_type f.ty) → k ≡ passed.Copied → line ≡ line_at (source_of b) token.0 → c ≡ with_instr c0 i.CopyArr line → WritesActual b w n a c token x f
-  unfolding WritesActual Writes Puts
-  see_copied_actual a c0 c token x f k line g ek is el ec =
+  pub see_copied_actual : (a c0 c : DraftOf) (keeps : Bool) (token : TokenNo) (x : Expr) (f : Formal) (k : Passed) (line : ℕ) → Writes b w n a c0 x → k ≡ passed_of keeps f.mode f.kind (is_text_type f.ty) → k ≡ passed.Copied → line ≡ line_at (source_of b) token.0 → c ≡ with_instr c0 i.CopyArr line → WritesPassed b w n a c keeps token x f
+  unfolding WritesPassed Writes Puts
+  see_copied_actual a c0 c keeps token x f k line g ek is el ec =
       let s = source_of b in
-      copied_passed f.mode f.kind (is_text_type f.ty) (line_at s token.0) _ (λ z site p q. ExprAt s z site n (syntax_of x) p q) a c (sym is ∙ ek)
+      copied_passed keeps f.mode f.kind (is_text_type f.ty) (line_at s token.0) _ (λ z site p q. ExprAt s z site n (syntax_of x) p q) a c (sym is ∙ ek)
       (emits_then w _ _ (λ z site p q. ExprAt s z site n (syntax_of x) p q) (λ z site. At z i.CopyArr (line_at s token.0)) a c0 c g (emits_at w c0 c i.CopyArr (line_at s token.0) (ec ∙ ap (λ z. with_instr c0 i.CopyArr z) el) (λ z. cc) refl))
 
-  pub see_text_actual : (a c0 c : DraftOf) (token : TokenNo) (x : Expr) (f : Formal) (k : Passed) (line : ℕ) (y : Instr) → Writes b w n a c0 x → k ≡ passed_of f.mode f.kind (is_text_type f.ty) → k ≡ passed.CopiedText → y ≡ i.Std (pos 15) → line ≡ line_at (source_of b) token.0 → c ≡ with_push c0 n y line → WritesActual b w n a c token x f
-  unfolding WritesActual Writes Puts
-  see_text_actual a c0 c token x f k line y g ek is ey el ec =
+  pub see_text_actual : (a c0 c : DraftOf) (keeps : Bool) (token : TokenNo) (x : Expr) (f : Formal) (k : Passed) (line : ℕ) (y : Instr) → Writes b w n a c0 x → k ≡ passed_of keeps f.mode f.kind (is_text_type f.ty) → k ≡ passed.CopiedText → y ≡ i.Std (pos 15) → line ≡ line_at (source_of b) token.0 → c ≡ with_push c0 n y line → WritesPassed b w n a c keeps token x f
+  unfolding WritesPassed Writes Puts
+  see_text_actual a c0 c keeps token x f k line y g ek is ey el ec =
       let s = source_of b in
-      text_passed f.mode f.kind (is_text_type f.ty) (line_at s token.0) _ (λ z site p q. ExprAt s z site n (syntax_of x) p q) a c (sym is ∙ ek)
+      text_passed keeps f.mode f.kind (is_text_type f.ty) (line_at s token.0) _ (λ z site p q. ExprAt s z site n (syntax_of x) p q) a c (sym is ∙ ek)
       (emits_then w _ _ (λ z site p q. ExprAt s z site n (syntax_of x) p q) (λ z site p q. At z (i.Std (pos 15)) (line_at s token.0) p q × (n < site.room)) a c0 c g
       (emits_push_at w c0 c n (i.Std (pos 15)) (line_at s token.0) (ec ∙ ap (λ z. with_push c0 n z line) ey ∙ ap (λ z. with_push c0 n (i.Std (pos 15)) z) el) (λ z. cc) refl))
 
-  pub see_no_actual : (a c0 c : DraftOf) (token : TokenNo) (x : Expr) (f : Formal) (k : Passed) → Writes b w n a c0 x → k ≡ passed_of f.mode f.kind (is_text_type f.ty) → k ≡ passed.Other → c ≡ given_up c0 → WritesActual b w n a c token x f
-  unfolding WritesActual Writes Puts
-  see_no_actual a c0 c token x f k g ek is ec =
-      let never : ActualBuilt f.mode f.kind → ⊥ = other_passed f.mode f.kind (is_text_type f.ty) (sym is ∙ ek) in
+  pub see_no_actual : (a c0 c : DraftOf) (keeps : Bool) (token : TokenNo) (x : Expr) (f : Formal) (k : Passed) → Writes b w n a c0 x → k ≡ passed_of keeps f.mode f.kind (is_text_type f.ty) → k ≡ passed.Other → c ≡ given_up c0 → WritesPassed b w n a c keeps token x f
+  unfolding WritesPassed Writes Puts
+  see_no_actual a c0 c keeps token x f k g ek is ec =
+      let never : ActualBuilt f.mode f.kind → ⊥ = other_passed keeps f.mode f.kind (is_text_type f.ty) (sym is ∙ ek) in
       emits_as w (IsBuilt (source_of b) w.text (syntax_of x) × ⊥) _ _ _ a c (λ q. absurd (never q.1)) (λ q. absurd q.1) (λ final site p q _ _ r. absurd r.2)
       (emits_then w _ ⊥ (λ z site p q. ExprAt (source_of b) z site n (syntax_of x) p q) (λ final site p q. ⊥) a c0 c g (emits_nothing w c0 c ⊥ (λ final site p q. ⊥) (λ z. z) ec))
+
+  pub see_kept_actual : (a c0 c : DraftOf) (keeps : Bool) (token : TokenNo) (x : Expr) (f : Formal) (k : Passed) → Writes b w n a c0 x → k ≡ passed_of keeps f.mode f.kind (is_text_type f.ty) → k ≡ passed.Kept → c ≡ with_instr c0 i.Keep 0 → WritesPassed b w n a c keeps token x f
+  unfolding WritesPassed Writes Puts
+  see_kept_actual a c0 c keeps token x f k g ek is ec =
+      let s = source_of b in
+      kept_passed keeps f.mode f.kind (is_text_type f.ty) (line_at s token.0) _ (λ z site p q. ExprAt s z site n (syntax_of x) p q) a c (sym is ∙ ek)
+      (emits_then w _ _ (λ z site p q. ExprAt s z site n (syntax_of x) p q) (λ z site. At z i.Keep 0) a c0 c g (emits_at w c0 c i.Keep 0 ec (λ z. cc) refl))
+
+  abbrev Fitting : (a c : DraftOf) → (keeps : Bool) → TokenNo → Expr → Formal → Option ℕ → Type 0
+  Fitting a c keeps token x f o =
+      Emits w a c (IsBuilt (source_of b) w.text (syntax_of x) × ActualBuilt f.mode f.kind)
+      (λ final site p q. FittingAt (source_of b) final site n (line_at (source_of b) token.0) o (λ u v. ActualAt final site n (line_at (source_of b) token.0) keeps f.mode f.kind (is_text_type f.ty) (λ y z. ExprAt (source_of b) final site n (syntax_of x) y z) u v) p q)
+
+  pub see_unfitted : (a c : DraftOf) (keeps : Bool) (token : TokenNo) (x : Expr) (f : Formal) (o : Option ℕ) → WritesPassed b w n a c keeps token x f → o ≡ parameter_qualification (source_of b) f.kind f.ty → o ≡ None → WritesActual b w n a c keeps token x f
+  unfolding WritesPassed WritesActual
+  see_unfitted a c keeps token x f o g eo none = subst (Fitting a c keeps token x f) (sym none ∙ eo) g
+
+  pub see_fitted : (a c0 c : DraftOf) (keeps : Bool) (token : TokenNo) (x : Expr) (f : Formal) (o : Option ℕ) (k : ℕ) → WritesPassed b w n a c0 keeps token x f → o ≡ parameter_qualification (source_of b) f.kind f.ty → o ≡ Some k → WritesFit b w n c0 c token k → WritesActual b w n a c keeps token x f
+  unfolding WritesPassed WritesActual WritesFit
+  see_fitted a c0 c keeps token x f o k g eo some h =
+      let s = source_of b in
+      subst (Fitting a c keeps token x f) (sym some ∙ eo)
+      (emits_as w _ _ _ _ a c (λ t. (t, tt)) (λ t. t.0) (λ final site p q _ _ r. record { x = r.0; y = r.2.2; z = r.2.3; w = r.2.4; temp = w.used; behind = r.2.0; within = r.2.1; actual = r.1; address = r.2.5; under = r.2.6; put = r.2.7; again = r.2.8 })
+      (emits_then w _ _ (λ z site p q. ActualAt z site n (line_at s token.0) keeps f.mode f.kind (is_text_type f.ty) (λ u v. ExprAt s z site n (syntax_of x) u v) p q)
+      (λ z site p q. (site.used ≤ w.used) × (w.used < site.size) × (y : ℕ) × (u : ℕ) × (v : ℕ)
+      × Pushes z site (suc n) (i.Addr (pos (level_of s site.text)) (pos w.used) (pos (class_number s z k))) p y × Is z i.Swap y u × At z i.Put (line_at s token.0) u v × Pushes z site n (i.Load (pos (level_of s site.text)) (pos w.used)) v q) a c0 c g h))
 
   unlike : (s : Source) (es : List Expr) (fs : List Formal) → length es ≢ length fs → ActualsBuilt s w.text (expressions (map syntax_of es)) fs → ⊥
   unlike s [] [] other h = other refl
@@ -171,33 +226,33 @@ module _ (b : Bound) (w : Spot) (n : ℕ) where
   unlike s (x ∷ es) [] other h = h
   unlike s (x ∷ es) (f ∷ fs) other h = unlike s es fs (λ e. other (ap suc e)) h.2
 
-  pub see_unlike : (a c : DraftOf) (token : TokenNo) (es : List Expr) (fs : List Formal) → length es ≢ length fs → c ≡ given_up a → WritesActuals b w n a c token es fs
+  pub see_unlike : (a c : DraftOf) (keeps : Bool) (token : TokenNo) (es : List Expr) (fs : List Formal) → length es ≢ length fs → c ≡ given_up a → WritesActuals b w n a c keeps token es fs
   unfolding WritesActuals
-  see_unlike a c token es fs other ec = emits_nothing w a c _ _ (unlike (source_of b) es fs other) ec
+  see_unlike a c keeps token es fs other ec = emits_nothing w a c _ _ (unlike (source_of b) es fs other) ec
 
-  pub actuals_all : (a : DraftOf) (token : TokenNo) (es : List Expr) (fs : List Formal) → OwesActuals b w n a token es fs n a es fs
+  pub actuals_all : (a : DraftOf) (keeps : Bool) (token : TokenNo) (es : List Expr) (fs : List Formal) → OwesActuals b w n a keeps token es fs n a es fs
   unfolding OwesActuals
-  actuals_all a token es fs end f = f
+  actuals_all a keeps token es fs end f = f
 
-  pub actuals_next : (a c d : DraftOf) (token : TokenNo) (es r r' : List Expr) (fs g g' : List Formal) (m m' : ℕ) (x : Expr) (f : Formal) → OwesActuals b w n a token es fs m c r g → r ≡ x ∷ r' → g ≡ f ∷ g' → WritesActual b w m c d token x f → m' ≡ suc m → OwesActuals b w n a token es fs m' d r' g'
+  pub actuals_next : (a c d : DraftOf) (keeps : Bool) (token : TokenNo) (es r r' : List Expr) (fs g g' : List Formal) (m m' : ℕ) (x : Expr) (f : Formal) → OwesActuals b w n a keeps token es fs m c r g → r ≡ x ∷ r' → g ≡ f ∷ g' → WritesActual b w m c d keeps token x f → m' ≡ suc m → OwesActuals b w n a keeps token es fs m' d r' g'
   unfolding OwesActuals WritesActuals WritesActual
-  actuals_next a c d token es r r' fs g g' m m' x f owes er eg one em end rest =
+  actuals_next a c d keeps token es r r' fs g g' m m' x f owes er eg one em end rest =
       let s = source_of b in
       let line = line_at s token.0 in
       let xs' = expressions (map syntax_of r') in
-      let rest' = subst (λ z. Emits w d end (ActualsBuilt s w.text xs' g') (λ final site p q. ActualsAt s final site z line xs' g' p q)) em rest in
+      let rest' = subst (λ z. Emits w d end (ActualsBuilt s w.text xs' g') (λ final site p q. ActualsAt s final site z line keeps xs' g' p q)) em rest in
       owes end
-      (subst (λ z. Emits w c end (ActualsBuilt s w.text (expressions (map syntax_of z)) g) (λ final site p q. ActualsAt s final site m line (expressions (map syntax_of z)) g p q)) (sym er)
-      (subst (λ z. Emits w c end (ActualsBuilt s w.text (expressions (map syntax_of (x ∷ r'))) z) (λ final site p q. ActualsAt s final site m line (expressions (map syntax_of (x ∷ r'))) z p q)) (sym eg)
+      (subst (λ z. Emits w c end (ActualsBuilt s w.text (expressions (map syntax_of z)) g) (λ final site p q. ActualsAt s final site m line keeps (expressions (map syntax_of z)) g p q)) (sym er)
+      (subst (λ z. Emits w c end (ActualsBuilt s w.text (expressions (map syntax_of (x ∷ r'))) z) (λ final site p q. ActualsAt s final site m line keeps (expressions (map syntax_of (x ∷ r'))) z p q)) (sym eg)
       (emits_as w _ _ _ _ c end (λ t. ((t.0, t.1), t.2)) (λ t. (t.0.0, t.0.1, t.1)) (λ final site p q _ _ r. r)
-      (emits_then w _ _ (λ z site p q. ActualAt z site m line f.mode f.kind (is_text_type f.ty) (λ u v. ExprAt s z site m (syntax_of x) u v) p q) (λ z site p q. ActualsAt s z site (suc m) line xs' g' p q) c d end one rest'))))
+      (emits_then w _ _ (λ z site p q. FittingAt s z site m line (parameter_qualification s f.kind f.ty) (λ y y'. ActualAt z site m line keeps f.mode f.kind (is_text_type f.ty) (λ u v. ExprAt s z site m (syntax_of x) u v) y y') p q) (λ z site p q. ActualsAt s z site (suc m) line keeps xs' g' p q) c d end one rest'))))
 
-  pub actuals_none : (a c : DraftOf) (token : TokenNo) (es r : List Expr) (fs g : List Formal) (m : ℕ) → OwesActuals b w n a token es fs m c r g → r ≡ [] → g ≡ [] → WritesActuals b w n a c token es fs
+  pub actuals_none : (a c : DraftOf) (keeps : Bool) (token : TokenNo) (es r : List Expr) (fs g : List Formal) (m : ℕ) → OwesActuals b w n a keeps token es fs m c r g → r ≡ [] → g ≡ [] → WritesActuals b w n a c keeps token es fs
   unfolding OwesActuals WritesActuals
-  actuals_none a c token es r fs g m f er eg =
+  actuals_none a c keeps token es r fs g m f er eg =
       let s = source_of b in
-      f c (subst (λ z. Emits w c c (ActualsBuilt s w.text (expressions (map syntax_of z)) g) (λ final site p q. ActualsAt s final site m (line_at s token.0) (expressions (map syntax_of z)) g p q)) (sym er)
-      (subst (λ z. Emits w c c (ActualsBuilt s w.text NoMore z) (λ final site p q. ActualsAt s final site m (line_at s token.0) NoMore z p q)) (sym eg) (emits_none w c)))
+      f c (subst (λ z. Emits w c c (ActualsBuilt s w.text (expressions (map syntax_of z)) g) (λ final site p q. ActualsAt s final site m (line_at s token.0) keeps (expressions (map syntax_of z)) g p q)) (sym er)
+      (subst (λ z. Emits w c c (ActualsBuilt s w.text NoMore z) (λ final site p q. ActualsAt s final site m (line_at s token.0) keeps NoMore z p q)) (sym eg) (emits_none w c)))
 
   -- ---- what a declared identifier is seen as
 
@@ -235,7 +290,7 @@ module _ (b : Bound) (w : Spot) (n : ℕ) where
   see_array a c token d x [] is none f = subst (λ z. AsSeen a c token d z NoMore) (sym is) f
   see_array a c token d x (y ∷ ys) is none f = absurd (omega (arith, none))
 
-  pub see_element : (a c0 c : DraftOf) (token : TokenNo) (d : DeclNo) (x : Seen) (es : List Expr) → x ≡ seen.Array → length es ≢ 0 → WritesElement b w n a c0 token d es → c ≡ with_instr c0 i.Fetch 0 → WritesSeen b w n a c token d x es
+  pub see_element : (a c0 c : DraftOf) (token : TokenNo) (d : DeclNo) (x : Seen) (es : List Expr) → x ≡ seen.Array → length es ≢ 0 → WritesElement b w n a c0 0 token d es → c ≡ with_instr c0 i.Fetch 0 → WritesSeen b w n a c token d x es
   unfolding WritesSeen PutsSeen WritesElement
   see_element a c0 c token d x [] is some' f ec = absurd (some' refl)
   see_element a c0 c token d x (y ∷ ys) is some' f ec =
@@ -243,7 +298,7 @@ module _ (b : Bound) (w : Spot) (n : ℕ) where
       let es = expressions (map syntax_of (y ∷ ys)) in
       subst (λ z. AsSeen a c token d z es) (sym is)
       (emits_as w _ _ _ _ a c (λ t. (t, tt)) (λ t. t.0) (λ final site p q _ _ r. (r.0, r.1, record { line = 0; is = r.2 }))
-      (emits_then w _ _ (λ z site p q. ElementAt s z site n (line_at s token.0) d es (λ u v. ExprsAt s z site (suc n) es u v) p q) (λ z site. At z i.Fetch 0) a c0 c f (emits_at w c0 c i.Fetch 0 ec (λ z. cc) refl)))
+      (emits_then w _ _ (λ z site p q. ElementAt s z site n (line_at s token.0) 0 d es (λ u v. ExprsAt s z site (suc n) es u v) p q) (λ z site. At z i.Fetch 0) a c0 c f (emits_at w c0 c i.Fetch 0 ec (λ z. cc) refl)))
 
   pub see_called : (a c : DraftOf) (token : TokenNo) (d : DeclNo) (x : Seen) (block : ℕ) (es : List Expr) → x ≡ seen.Call block → WritesCall b w n a c token d block es → WritesSeen b w n a c token d x es
   unfolding WritesCall
@@ -283,24 +338,60 @@ module _ (b : Bound) (w : Spot) (n : ℕ) where
       formal mode.ByReference shape.Array f = f
       formal mode.ByReference shape.Procedure f = f
 
-  pub see_declared : (a c : DraftOf) (token : TokenNo) (es : List Expr) (u : Option Denotation) (d : DeclNo) (k : Option Entry) (x : Seen) → u ≡ Some (denotation.Declared d) → k ≡ entry_of b.scopes d → x ≡ seen_of k → WritesSeen b w n a c token d x es → WritesNamed b w n a c token u es
-  unfolding WritesNamed PutsNamed WritesSeen PutsSeen source_of
+  pub see_declared : (a c : DraftOf) (token : TokenNo) (es : List Expr) (u : Option Denotation) (d : DeclNo) (k : Option Entry) (x : Seen) → u ≡ Some (denotation.Declared d) → k ≡ entry_of b.scopes d → x ≡ seen_of k → WritesSeen b w n a c token d x es → WritesUnconnected b w n a c token u es
+  unfolding WritesUnconnected PutsUnconnected WritesSeen PutsSeen source_of
   see_declared a c token ys u d k x some ek ex f =
       let s = source_of b in
       let es = expressions (map syntax_of ys) in
       let line = line_at s token.0 in
       let same : x ≡ seen_of (entry_of s.tables d) = ex ∙ ap seen_of ek in
       let f' = subst (λ z. PutsSeen s w n a c token d z es) same f in
-      subst (λ z. PutsNamed s w n a c token z es) (sym some)
-      (seen_emits a c line d (entry_of s.tables d) es (AreBuilt s w.text es) (λ formals. ActualsBuilt s w.text es formals) (λ final site p q. ExprsAt s final site (suc n) es p q) (λ final site formals p q. ActualsAt s final site (suc n) line es formals p q) refl f')
+      subst (λ z. PutsUnconnected s w n a c token z es) (sym some)
+      (seen_emits a c line d (entry_of s.tables d) es (AreBuilt s w.text es) (λ formals. ActualsBuilt s w.text es formals) (λ final site p q. ExprsAt s final site (suc n) es p q) (λ final site formals p q. ActualsAt s final site (suc n) line false es formals p q) refl f')
 
-  pub see_standard : (a c : DraftOf) (token : TokenNo) (es : List Expr) (u : Option Denotation) (k : StandardName) → u ≡ Some (denotation.Standard k) → WritesStandard b w n a c 1 token k es → WritesNamed b w n a c token u es
-  unfolding WritesNamed PutsNamed WritesStandard
-  see_standard a c token ys u k some f = subst (λ z. PutsNamed (source_of b) w n a c token z (expressions (map syntax_of ys))) (sym some) f
+  pub see_standard : (a c : DraftOf) (token : TokenNo) (es : List Expr) (u : Option Denotation) (k : StandardName) → u ≡ Some (denotation.Standard k) → WritesStandard b w n a c 1 token k es → WritesUnconnected b w n a c token u es
+  unfolding WritesUnconnected PutsUnconnected WritesStandard
+  see_standard a c token ys u k some f = subst (λ z. PutsUnconnected (source_of b) w n a c token z (expressions (map syntax_of ys))) (sym some) f
 
-  pub see_undeclared : (a c : DraftOf) (token : TokenNo) (es : List Expr) (u : Option Denotation) → u ≡ None → c ≡ given_up a → WritesNamed b w n a c token u es
-  unfolding WritesNamed PutsNamed
-  see_undeclared a c token ys u none ec = subst (λ z. PutsNamed (source_of b) w n a c token z (expressions (map syntax_of ys))) (sym none) (emits_nothing w a c _ _ (λ z. z) ec)
+  pub see_undeclared : (a c : DraftOf) (token : TokenNo) (es : List Expr) (u : Option Denotation) → u ≡ None → c ≡ given_up a → WritesUnconnected b w n a c token u es
+  unfolding WritesUnconnected PutsUnconnected
+  see_undeclared a c token ys u none ec = subst (λ z. PutsUnconnected (source_of b) w n a c token z (expressions (map syntax_of ys))) (sym none) (emits_nothing w a c _ _ (λ z. z) ec)
+
+  -- ---- through connections
+
+  abbrev Connected : (a c : DraftOf) → TokenNo → (connection : ℕ) → Expressions → Option Denotation → Type 0
+  Connected a c token k es o =
+      Emits w a c (ConnectedNameBuilt (source_of b) w.text k o es (AreBuilt (source_of b) w.text es) (λ formals. ActualsBuilt (source_of b) w.text es formals))
+      (λ final site p q. ConnectedNameAt (source_of b) final site n (line_at (source_of b) token.0) k o es (λ x y. ExprsAt (source_of b) final site (suc n) es x y) (λ formals x y. ActualsAt (source_of b) final site (suc n) (line_at (source_of b) token.0) false es formals x y) p q)
+
+  pub through_declared : (a c0 c : DraftOf) (token : TokenNo) (es : List Expr) (k : ℕ) (o : Option Denotation) (d : DeclNo) → o ≡ Some (denotation.Declared d) → PutsBase (source_of b) w n a c0 (OfConnection k) → WritesOf b w n c0 c token d es → WritesThrough b w n a c token k o es
+  unfolding WritesOf WritesThrough
+  through_declared a c0 c token ys k o d some f g = subst (Connected a c token k (expressions (map syntax_of ys))) (sym some) (g a (OfConnection k) f)
+
+  pub through_standard : (a c : DraftOf) (token : TokenNo) (es : List Expr) (k : ℕ) (o : Option Denotation) (x : StandardName) → o ≡ Some (denotation.Standard x) → c ≡ given_up a → WritesThrough b w n a c token k o es
+  unfolding WritesThrough
+  through_standard a c token ys k o x some ec = subst (Connected a c token k (expressions (map syntax_of ys))) (sym some) (emits_nothing w a c _ _ (λ z. z) ec)
+
+  pub through_undeclared : (a c : DraftOf) (token : TokenNo) (es : List Expr) (k : ℕ) (o : Option Denotation) → o ≡ None → c ≡ given_up a → WritesThrough b w n a c token k o es
+  unfolding WritesThrough
+  through_undeclared a c token ys k o none ec = subst (Connected a c token k (expressions (map syntax_of ys))) (sym none) (emits_nothing w a c _ _ (λ z. z) ec)
+
+  abbrev Through : (a c : DraftOf) → TokenNo → Option Denotation → Expressions → (connection : Option ℕ) → Type 0
+  Through a c token u es o =
+      Emits w a c
+      (ThroughBuilt o (λ k. ConnectedNameBuilt (source_of b) w.text k u es (AreBuilt (source_of b) w.text es) (λ formals. ActualsBuilt (source_of b) w.text es formals))
+      (NamedBuilt (source_of b) w.text u es (AreBuilt (source_of b) w.text es) (λ formals. ActualsBuilt (source_of b) w.text es formals)))
+      (λ final site p q. ThroughAt o
+      (λ k. ConnectedNameAt (source_of b) final site n (line_at (source_of b) token.0) k u es (λ x y. ExprsAt (source_of b) final site (suc n) es x y) (λ formals x y. ActualsAt (source_of b) final site (suc n) (line_at (source_of b) token.0) false es formals x y))
+      (NamedAt (source_of b) final site n (line_at (source_of b) token.0) u es (λ x y. ExprsAt (source_of b) final site n es x y) (λ x y. ExprsAt (source_of b) final site (suc n) es x y) (λ formals x y. ActualsAt (source_of b) final site (suc n) (line_at (source_of b) token.0) false es formals x y)) p q)
+
+  pub see_through : (a c : DraftOf) (token : TokenNo) (es : List Expr) (u : Option Denotation) (o : Option ℕ) (k : ℕ) → o ≡ connection_at (source_of b) token.0 → o ≡ Some k → WritesThrough b w n a c token k u es → WritesNamed b w n a c token u es
+  unfolding WritesNamed PutsNamed WritesThrough
+  see_through a c token ys u o k eo some f = subst (Through a c token u (expressions (map syntax_of ys))) (sym some ∙ eo) f
+
+  pub see_unconnected : (a c : DraftOf) (token : TokenNo) (es : List Expr) (u : Option Denotation) (o : Option ℕ) → o ≡ connection_at (source_of b) token.0 → o ≡ None → WritesUnconnected b w n a c token u es → WritesNamed b w n a c token u es
+  unfolding WritesNamed PutsNamed WritesUnconnected PutsUnconnected
+  see_unconnected a c token ys u o eo none f = subst (Through a c token u (expressions (map syntax_of ys))) (sym none ∙ eo) f
 
   pub see_giving : (a c : DraftOf) (x : Identifier) (es : List Expr) (u : Option Denotation) → u ≡ denoted (source_of b) x.token.0 → gives (source_of b) u ≡ true → WritesNamed b w n a c x.token u es → WritesGiving b w n a c x es
   unfolding WritesNamed PutsNamed WritesGiving Puts
@@ -314,4 +405,4 @@ module _ (b : Bound) (w : Spot) (n : ℕ) where
   unfolding WritesGiving Puts
   see_not_giving a c x ys u eu not' ec = emits_nothing w a c _ _ (λ h. let t : gives (source_of b) u ≡ true = ap (gives (source_of b)) eu ∙ h.0 in cc) ec
 
-pub ruleset sees = (see_link, see_no_link, see_call, see_plain_actual, see_copied_actual, see_text_actual, see_no_actual, see_unlike, see_variable, see_no_variable, see_constant, see_no_constant, see_array, see_element, see_called, see_nothing, see_declared, see_standard, see_undeclared, see_giving, see_not_giving)
+pub ruleset sees = (see_link, see_no_link, see_call, see_plain_actual, see_copied_actual, see_text_actual, see_no_actual, see_kept_actual, see_unfitted, see_fitted, see_unlike, see_variable, see_no_variable, see_constant, see_no_constant, see_array, see_element, see_called, see_nothing, see_declared, see_standard, see_undeclared, through_declared, through_standard, through_undeclared, see_through, see_unconnected, see_giving, see_not_giving)

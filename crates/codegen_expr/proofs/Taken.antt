@@ -1,6 +1,6 @@
 -- What is taken of operands, one thing after the other.
 use Rattle.std.proofs.Common.{◌≡◌, ◌≢◌, ◌<◌, ◌≤◌, ◌+◌, ◌-◌, ℕ, zero, suc, Bool, true, false, List, [], ◌∷◌, length, map, drop, take, Option, Some, None, refl, sym, ap, ◌∙◌, subst, arith}
-use Rattle.std.specs.Prelude.{◌&&◌, slice_index_or}
+use Rattle.std.specs.Prelude.{◌&&◌, ◌||◌, slice_index_or}
 use Rattle.std.specs.declared.alloc.Global.{Global}
 use Rattle.std.specs.declared.vec.Vec.{Vec}
 use Rattle.sim_base.specs.declared.numbering.DeclNo.{DeclNo}
@@ -9,24 +9,32 @@ use Rattle.sim_scope.specs.declared.bound.Bound.{Bound}
 use Rattle.sim_scope.specs.declared.scopes.Denotation.{Denotation}
 use Rattle.sim_scope.specs.declared.scopes.Denotation.TheVariants as denotation
 use Rattle.sim_scope.specs.declared.standard.StandardName.{StandardName}
+use Rattle.sim_scope.specs.declared.standard.StandardName.TheVariants as found
+use Rattle.sim_scope.specs.declared.types.Entry.{Entry}
+use Rattle.sim_scope.specs.declared.types.Entry.TheVariants as entry
+use Rattle.sim_scope.specs.declared.types.FormalKind.{FormalKind}
+use Rattle.sim_scope.specs.declared.types.FormalKind.TheVariants as shape
+use Rattle.sim_scope.specs.Scopes.{entry_of}
 use Rattle.sim_scope.specs.Source.{Source, denoted, line_at, source_of}
 use Rattle.sim_tree.specs.declared.expr.Expr.{Expr}
 use Rattle.sim_tree.specs.declared.expr.Identifier.{Identifier}
 use Rattle.sim_tree.specs.declared.expr.Selector.{Selector}
 use Rattle.sim_tree.specs.declared.expr.Selector.TheVariants as u
-use Rattle.sim_tree.specs.Syntax.{Dot, Expression, Expressions, Qua, expressions}
+use Rattle.sim_tree.specs.Syntax.{Binary, Constant, Dot, Expression, Expressions, If, Member, Named, New, NoMore, Not, Parentheses, Qua, Signed, Then, This, expressions}
 use Rattle.sim_tree.specs.SyntaxOf.{Cast, Selection, Take, selected, selector_syntax, syntax_of}
 use Rattle.sim_values.specs.declared.standard.Standard.{Standard as Row}
 use Rattle.sim_code.specs.Code.{CodeOf}
-use Rattle.sim_meaning.specs.Closing.{is_image_behind, is_image_denoted, is_variable, stream_of}
-use Rattle.sim_meaning.specs.Names.{procedure_named}
+use Rattle.sim_meaning.specs.Attributes.{connection_at}
+use Rattle.sim_meaning.specs.Closing.{is_attribute, is_attribute_denoted, is_image_behind, is_image_denoted, is_variable, stream_denoted, stream_of}
+use Rattle.sim_meaning.specs.Names.{procedure_named, stream_named}
 use Rattle.codegen_expr.specs.declared.operators.Object.{Object}
 use Rattle.codegen_expr.specs.declared.operators.Object.TheVariants as object
 use Rattle.codegen_expr.specs.declared.spot.Spot.{Spot}
-use Rattle.codegen_expr.specs.Built.{AreBuilt, AttributeBuilt, DotBuilt, IsBuilt, NameBuilt, ObjectBuilt, PlaceBuilt, StreamBuilt}
-use Rattle.codegen_expr.specs.CodeExpr.{AttributeAt, DotAt, ExprAt, ExprsAt, ImagePlaceAt, ObjectAt, PlaceAt, StandardIs, gives, operands}
+use Rattle.codegen_expr.specs.Built.{ActualsBuilt, AreBuilt, AttributeBuilt, ConnectedNameBuilt, DotBuilt, IsBuilt, NameBuilt, NamedBuilt, ObjectBuilt, OfObjectBuilt, ParameterOfBuilt, PlaceBehindBuilt, PlaceBuilt, StandardBuilt, StreamBuilt, ThroughBuilt}
+use Rattle.codegen_expr.specs.CodeExpr.{ActualsAt, AttributeAt, DotAt, ExprAt, ExprsAt, ObjectAt, PlaceAt, PlaceBehindAt, StandardIs, StreamPlaceAt, gives, operands}
 use Rattle.codegen_expr.specs.Drafts.{DraftOf, Emits, given_up}
-use Rattle.codegen_expr.specs.Emit.{AloneAt, AloneBuilt, Puts, PutsBefore, PutsPlace, Writes, WritesBefore, WritesBehind, WritesDot, WritesEnd, WritesImage, WritesLast, WritesPlace, WritesStandard, WritesStart, WritesStep, WritesSteps, WritesTaken, image_placed, moves_denoted, moves_named, moves_next, moves_selection, takes_image}
+use Rattle.codegen_expr.specs.Emit.{AloneAt, AloneBuilt, Puts, PutsBefore, PutsPlace, Writes, WritesBefore, WritesBehind, WritesDot, WritesEnd, WritesImage, WritesLast, WritesPlace, WritesStandard, WritesStart, WritesStep, WritesSteps, WritesTaken, WritesTakenPlace, image_placed, lies, moves_denoted, moves_named, moves_next, moves_selection, takes_attribute, takes_image}
+use Rattle.codegen_expr.specs.EmitObjects.{OfValue, PutsBase, WritesOf, WritesPlaceBehind, WritesQua}
 use Rattle.codegen_expr.specs.Sites.{Site}
 use Rattle.codegen_expr.proofs.Attributes.{selector-Dot, selector-Qua}
 use Rattle.codegen_expr.proofs.Pieces.{emits_as, emits_nothing, emits_then}
@@ -50,6 +58,30 @@ qua_variable : (s : Source) (j : ℕ) (e : Expression) (k : Identifier) → is_v
 unfolding is_variable
 qua_variable s j e k = refl
 
+dot_attribute : (s : Source) (j : ℕ) (e : Expression) (k : Identifier) (es : Expressions) → is_attribute s (Dot j e k es) ≡ is_attribute_denoted s (denoted s k.token.0) es
+unfolding is_attribute
+dot_attribute s j e k es = refl
+
+qua_attribute : (s : Source) (j : ℕ) (e : Expression) (k : Identifier) → is_attribute s (Qua j e k) ≡ false
+unfolding is_attribute
+qua_attribute s j e k = refl
+
+-- of two tests
+neither_of : (m p q : Bool) → (m && p) ≡ false → (m && q) ≡ false → (m && (p || q)) ≡ false
+neither_of true true q h g = absurd (cc)
+neither_of true false q h g = g
+neither_of false p q h g = refl
+
+first_of : (m p q : Bool) → m ≡ true → p ≡ true → (m && (p || q)) ≡ true
+first_of true true q h g = refl
+first_of true false q h g = absurd (cc)
+first_of false p q h g = absurd (cc)
+
+second_of : (m p q : Bool) → (m && q) ≡ true → (m && (p || q)) ≡ true
+second_of true true q g = refl
+second_of true false q g = g
+second_of false p q g = absurd (cc)
+
 not_both : (p : Bool) → (p && false) ≡ false
 not_both true = refl
 not_both false = refl
@@ -61,11 +93,11 @@ module _ (b : Bound) (w : Spot) (n : ℕ) where
   unfolding WritesStart
   start_stream a moves x o img eo some = record { puts = (refl, sym eo ∙ some); placed = tt }
 
-  pub start_place : (a c : DraftOf) (moves : Bool) (x : Expr) (o : Option ℕ) (r : Bool) → o ≡ stream_of (source_of b) (syntax_of x) → o ≡ None → r ≡ (moves && is_variable (source_of b) (syntax_of x)) → r ≡ true → WritesPlace b w n a c x → WritesStart b w n a c moves object.Place x
+  pub start_place : (a c : DraftOf) (moves : Bool) (x : Expr) (o : Option ℕ) (r : Bool) → o ≡ stream_of (source_of b) (syntax_of x) → o ≡ None → r ≡ (moves && lies (source_of b) (syntax_of x)) → r ≡ true → WritesPlace b w n a c 0 x → WritesStart b w n a c moves object.Place x
   unfolding WritesStart WritesPlace
   start_place a c moves x o r eo none er yes' f = record { puts = (f, sym eo ∙ none); placed = sym er ∙ yes' }
 
-  pub start_value : (a c : DraftOf) (moves : Bool) (x : Expr) (o : Option ℕ) (r : Bool) → o ≡ stream_of (source_of b) (syntax_of x) → o ≡ None → r ≡ (moves && is_variable (source_of b) (syntax_of x)) → r ≡ false → Writes b w n a c x → WritesStart b w n a c moves object.Value x
+  pub start_value : (a c : DraftOf) (moves : Bool) (x : Expr) (o : Option ℕ) (r : Bool) → o ≡ stream_of (source_of b) (syntax_of x) → o ≡ None → r ≡ (moves && lies (source_of b) (syntax_of x)) → r ≡ false → Writes b w n a c x → WritesStart b w n a c moves object.Value x
   unfolding WritesStart Writes
   start_value a c moves x o r eo none er no' f = record { puts = (f, sym eo ∙ none); placed = sym er ∙ no' }
 
@@ -84,8 +116,9 @@ module _ (b : Bound) (w : Spot) (n : ℕ) where
 
   abbrev Dotted : (start c : DraftOf) → Identifier → List Expr → Expression → Option Denotation → Option ℕ → Type 0
   Dotted start c x ys e d o =
-      Emits w start c (DotBuilt d o (is_variable (source_of b) e) (expressions (map syntax_of ys)) (PlaceBuilt (source_of b) w.text e) (IsBuilt (source_of b) w.text e) (AreBuilt (source_of b) w.text (expressions (map syntax_of ys))))
-      (λ final site p q. DotAt final site n (line_at (source_of b) x.token.0) d o (is_variable (source_of b) e) (expressions (map syntax_of ys)) (λ u v. PlaceAt (source_of b) final site n e u v) (λ u v. ExprAt (source_of b) final site n e u v) (λ u v. ExprsAt (source_of b) final site n (expressions (map syntax_of ys)) u v) (λ u v. ExprsAt (source_of b) final site (suc n) (expressions (map syntax_of ys)) u v) p q)
+      Emits w start c (DotBuilt (source_of b) d o (lies (source_of b) e) (expressions (map syntax_of ys)) (PlaceBuilt (source_of b) w.text e) (IsBuilt (source_of b) w.text e) (AreBuilt (source_of b) w.text (expressions (map syntax_of ys))) (λ formals. ActualsBuilt (source_of b) w.text (expressions (map syntax_of ys)) formals))
+      (λ final site p q. DotAt (source_of b) final site n (line_at (source_of b) x.token.0) d o (lies (source_of b) e) (expressions (map syntax_of ys)) (λ u v. PlaceAt (source_of b) final site n 0 e u v) (λ u v. ExprAt (source_of b) final site n e u v) (λ u v. ExprsAt (source_of b) final site n (expressions (map syntax_of ys)) u v) (λ u v. ExprsAt (source_of b) final site (suc n) (expressions (map syntax_of ys)) u v)
+      (λ formals u v. ActualsAt (source_of b) final site (suc n) (line_at (source_of b) x.token.0) false (expressions (map syntax_of ys)) formals u v) p q)
 
   pub dot_of_stream : (a c : DraftOf) (o : Object) (x : Identifier) (ys : List Expr) (d : Option Denotation) (k : StandardName) (img : ℕ) → d ≡ denoted (source_of b) x.token.0 → d ≡ Some (denotation.Standard k) → o ≡ object.Stream img → WritesStandard b w n a c img x.token k ys → WritesDot b w n a c o x ys
   unfolding WritesDot WritesStandard
@@ -105,18 +138,18 @@ module _ (b : Bound) (w : Spot) (n : ℕ) where
       subst (λ z. Emits w start c (NameBuilt name (suc (operands es)) × ObjectBuilt z P I × AreBuilt (source_of b) w.text es) (λ final site p q. (x : ℕ) × (y : ℕ) × ObjectAt z (A final site) (B final site) p x × C final site x y × StandardIs final site n line name (suc (operands es)) y q)) (sym is)
       (emits_as w _ _ _ _ start c (λ t. (t.1, (t.0, t.2))) (λ t. (t.1.0, t.0, t.1.1)) (λ final site p q _ _ r. (r.0, r.2.0, r.1, r.2.1, r.2.2)) f)
 
-  dot_behind : (start a c : DraftOf) (x : Identifier) (ys : List Expr) (e : Expression) (d : Option Denotation) (k : StandardName) (place : Bool) → d ≡ denoted (source_of b) x.token.0 → d ≡ Some (denotation.Standard k) → stream_of (source_of b) e ≡ None → (moves_denoted (denoted (source_of b) x.token.0) && is_variable (source_of b) e) ≡ place
-      → Emits w start a (ObjectBuilt place (PlaceBuilt (source_of b) w.text e) (IsBuilt (source_of b) w.text e)) (λ final site p q. ObjectAt place (λ u v. PlaceAt (source_of b) final site n e u v) (λ u v. ExprAt (source_of b) final site n e u v) p q)
+  dot_behind : (start a c : DraftOf) (x : Identifier) (ys : List Expr) (e : Expression) (d : Option Denotation) (k : StandardName) (place : Bool) → d ≡ denoted (source_of b) x.token.0 → d ≡ Some (denotation.Standard k) → stream_of (source_of b) e ≡ None → (moves_denoted (denoted (source_of b) x.token.0) && lies (source_of b) e) ≡ place
+      → Emits w start a (ObjectBuilt place (PlaceBuilt (source_of b) w.text e) (IsBuilt (source_of b) w.text e)) (λ final site p q. ObjectAt place (λ u v. PlaceAt (source_of b) final site n 0 e u v) (λ u v. ExprAt (source_of b) final site n e u v) p q)
       → WritesBehind b w n a c x.token k ys → Dotted start c x ys e (denoted (source_of b) x.token.0) (stream_of (source_of b) e)
   unfolding WritesBehind
   dot_behind start a c x ys e d k place ed some stream moves f g =
       let s = source_of b in
       let es = expressions (map syntax_of ys) in
-      let moves' : (moves_named (procedure_named k) && is_variable s e) ≡ place = ap (λ z. moves_denoted z && is_variable s e) (sym some ∙ ed) ∙ moves in
+      let moves' : (moves_named (procedure_named k) && lies s e) ≡ place = ap (λ z. moves_denoted z && lies s e) (sym some ∙ ed) ∙ moves in
       subst (λ z. Dotted start c x ys e z (stream_of s e)) (sym some ∙ ed)
       (subst (λ z. Dotted start c x ys e (Some (denotation.Standard k)) z) (sym stream)
-      (object_emits (procedure_named k) (line_at s x.token.0) 0 place (is_variable s e) es _ _ (λ final site p q. PlaceAt s final site n e p q) (λ final site p q. ExprAt s final site n e p q) (λ final site p q. ExprsAt s final site (suc n) es p q) start c moves'
-      (emits_then w _ _ (λ final site p q. ObjectAt place (λ u v. PlaceAt s final site n e u v) (λ u v. ExprAt s final site n e u v) p q) (λ final site p q. (y : ℕ) × ExprsAt s final site (suc n) es p y × AloneAt final site n (line_at s x.token.0) (procedure_named k) (suc (operands es)) y q) start a c f g)))
+      (object_emits (procedure_named k) (line_at s x.token.0) 0 place (lies s e) es _ _ (λ final site p q. PlaceAt s final site n 0 e p q) (λ final site p q. ExprAt s final site n e p q) (λ final site p q. ExprsAt s final site (suc n) es p q) start c moves'
+      (emits_then w _ _ (λ final site p q. ObjectAt place (λ u v. PlaceAt s final site n 0 e u v) (λ u v. ExprAt s final site n e u v) p q) (λ final site p q. (y : ℕ) × ExprsAt s final site (suc n) es p y × AloneAt final site n (line_at s x.token.0) (procedure_named k) (suc (operands es)) y q) start a c f g)))
 
   pub dot_of_place : (a c : DraftOf) (o : Object) (x : Identifier) (ys : List Expr) (d : Option Denotation) (k : StandardName) → d ≡ denoted (source_of b) x.token.0 → d ≡ Some (denotation.Standard k) → o ≡ object.Place → WritesBehind b w n a c x.token k ys → WritesDot b w n a c o x ys
   unfolding WritesDot PutsPlace
@@ -130,20 +163,83 @@ module _ (b : Bound) (w : Spot) (n : ℕ) where
       let g = subst (λ z. PutsBefore (source_of b) w n start a (moves_denoted (denoted (source_of b) x.token.0)) z e) eo before in
       dot_behind start a c x ys e d k false ed some g.puts.1 g.placed g.puts.0 f
 
-  no_dot : (o : Option ℕ) (v : Bool) (es : Expressions) (P I A : Type 0) → DotBuilt None o v es P I A → ⊥
-  no_dot o v es P I A h = h
+  -- `sysin` and `sysout` are no values
+  streamless : (e : Expression) (img : ℕ) → stream_of (source_of b) e ≡ Some img → IsBuilt (source_of b) w.text e → ⊥
+  unfolding stream_of
+  streamless (Named k es) img is h = named (denoted (source_of b) k.token.0) (connection_at (source_of b) k.token.0) is h.1
+    where
+      standard : (x : StandardName) → stream_named x ≡ Some img → StandardBuilt (procedure_named x) es (AreBuilt (source_of b) w.text es) → ⊥
+      standard (found.Procedure x) is h = cc
+      standard found.Sysin is h = h
+      standard found.Sysout is h = h
+      standard (found.Prefix x) is h = cc
 
-  pub dot_declared : (a c : DraftOf) (o : Object) (x : Identifier) (ys : List Expr) (d : Option Denotation) (k : DeclNo) → d ≡ denoted (source_of b) x.token.0 → d ≡ Some (denotation.Declared k) → c ≡ given_up a → WritesDot b w n a c o x ys
+      named : (o : Option Denotation) (c : Option ℕ) → stream_denoted o ≡ Some img
+          → ThroughBuilt c (λ k. ConnectedNameBuilt (source_of b) w.text k o es (AreBuilt (source_of b) w.text es) (λ formals. ActualsBuilt (source_of b) w.text es formals)) (NamedBuilt (source_of b) w.text o es (AreBuilt (source_of b) w.text es) (λ formals. ActualsBuilt (source_of b) w.text es formals)) → ⊥
+      named None c is h = cc
+      named (Some (denotation.Declared d)) c is h = cc
+      named (Some (denotation.Standard x)) None is h = standard x is h
+      named (Some (denotation.Standard x)) (Some k) is h = h
+  streamless (If i c a e) img is h = cc
+  streamless (Binary op i a e) img is h = cc
+  streamless (Not i a) img is h = cc
+  streamless (Signed k i a) img is h = cc
+  streamless (Member m i a k) img is h = cc
+  streamless (Dot i a k args) img is h = cc
+  streamless (Qua i a k) img is h = cc
+  streamless (Constant l i) img is h = cc
+  streamless (This i k) img is h = cc
+  streamless (New i k args) img is h = cc
+  streamless (Parentheses i a) img is h = cc
+
+  -- what an object has is built where the object is
+  object_built : (d : DeclNo) (k : Option Entry) (es : Expressions) (O P A : Type 0) → OfObjectBuilt (source_of b) d k es O P A → O
+  object_built d (Some (entry.Variable type)) NoMore O P A h = h.0
+  object_built d (Some (entry.Variable type)) (Then e es) O P A h = absurd h
+  object_built d (Some (entry.Constant type)) es O P A h = h.0
+  object_built d (Some (entry.Array element dimensions)) es O P A h = h.0
+  object_built d (Some (entry.Procedure result block)) es O P A h = h.0
+  object_built d (Some (entry.Formal x)) es O P A h = parameter x.kind es h
+    where
+      parameter : (k : FormalKind) (es : Expressions) → ParameterOfBuilt (source_of b) d k es O P → O
+      parameter shape.Simple NoMore h = h.0
+      parameter shape.Simple (Then e es) h = absurd h
+      parameter shape.Array es h = h.0
+      parameter shape.Procedure es h = absurd h
+  object_built d (Some (entry.Class text)) es O P A h = absurd h
+  object_built d (Some (entry.Virtual result own)) es O P A h = absurd h
+  object_built d (Some (entry.Unspecified written)) es O P A h = absurd h
+  object_built d (Some (entry.Attribute name parameter result)) es O P A h = absurd h
+  object_built d None es O P A h = absurd h
+
+  pub dot_of_object : (a c : DraftOf) (o : Object) (x : Identifier) (ys : List Expr) (d : Option Denotation) (k : DeclNo) → d ≡ denoted (source_of b) x.token.0 → d ≡ Some (denotation.Declared k) → o ≡ object.Value → WritesOf b w n a c x.token k ys → WritesDot b w n a c o x ys
+  unfolding WritesDot WritesOf PutsBase Puts
+  dot_of_object a c o x ys d k ed some eo f start e before =
+      let g = subst (λ z. PutsBefore (source_of b) w n start a (moves_denoted (denoted (source_of b) x.token.0)) z e) eo before in
+      subst (λ z. Dotted start c x ys e z (stream_of (source_of b) e)) (sym some ∙ ed) (f start (OfValue e) g.puts.0)
+
+  pub dot_declared_stream : (a c : DraftOf) (o : Object) (x : Identifier) (ys : List Expr) (d : Option Denotation) (k : DeclNo) (img : ℕ) → d ≡ denoted (source_of b) x.token.0 → d ≡ Some (denotation.Declared k) → o ≡ object.Stream img → c ≡ given_up a → WritesDot b w n a c o x ys
   unfolding WritesDot
-  dot_declared a c o x ys d k ed some ec start e before =
-      before_gives_up _ _ start a c _ o e before
-      (λ h. subst (λ z. DotBuilt z (stream_of (source_of b) e) (is_variable (source_of b) e) (expressions (map syntax_of ys)) (PlaceBuilt (source_of b) w.text e) (IsBuilt (source_of b) w.text e) (AreBuilt (source_of b) w.text (expressions (map syntax_of ys)))) (sym ed ∙ some) h) ec
+  dot_declared_stream a c o x ys d k img ed some eo ec start e before =
+      let g = subst (λ z. PutsBefore (source_of b) w n start a (moves_denoted (denoted (source_of b) x.token.0)) z e) eo before in
+      let same : a ≡ start = g.puts.0 in
+      subst (λ z. Dotted start c x ys e z (stream_of (source_of b) e)) (sym some ∙ ed)
+      (emits_nothing w start c _ _ (λ h. streamless e img g.puts.1 (object_built k (entry_of (source_of b).tables k) (expressions (map syntax_of ys)) _ _ _ h)) (ec ∙ ap given_up same))
+
+  pub dot_declared_place : (a c : DraftOf) (o : Object) (x : Identifier) (ys : List Expr) (d : Option Denotation) (k : DeclNo) → d ≡ denoted (source_of b) x.token.0 → d ≡ Some (denotation.Declared k) → o ≡ object.Place → c ≡ given_up a → WritesDot b w n a c o x ys
+  unfolding WritesDot
+  dot_declared_place a c o x ys d k ed some eo ec start e before =
+      let g = subst (λ z. PutsBefore (source_of b) w n start a (moves_denoted (denoted (source_of b) x.token.0)) z e) eo before in
+      let moved : (moves_denoted (denoted (source_of b) x.token.0) && lies (source_of b) e) ≡ true = g.placed in
+      let still : moves_denoted (denoted (source_of b) x.token.0) ≡ false = ap moves_denoted (sym ed ∙ some) in
+      let never : false ≡ true = sym (ap (λ z. z && lies (source_of b) e) still) ∙ moved in
+      absurd (cc)
 
   pub dot_undeclared : (a c : DraftOf) (o : Object) (x : Identifier) (ys : List Expr) (d : Option Denotation) → d ≡ denoted (source_of b) x.token.0 → d ≡ None → c ≡ given_up a → WritesDot b w n a c o x ys
   unfolding WritesDot
   dot_undeclared a c o x ys d ed none ec start e before =
       before_gives_up _ _ start a c _ o e before
-      (λ h. subst (λ z. DotBuilt z (stream_of (source_of b) e) (is_variable (source_of b) e) (expressions (map syntax_of ys)) (PlaceBuilt (source_of b) w.text e) (IsBuilt (source_of b) w.text e) (AreBuilt (source_of b) w.text (expressions (map syntax_of ys)))) (sym ed ∙ none) h) ec
+      (λ h. subst (λ z. DotBuilt (source_of b) z (stream_of (source_of b) e) (lies (source_of b) e) (expressions (map syntax_of ys)) (PlaceBuilt (source_of b) w.text e) (IsBuilt (source_of b) w.text e) (AreBuilt (source_of b) w.text (expressions (map syntax_of ys))) (λ formals. ActualsBuilt (source_of b) w.text (expressions (map syntax_of ys)) formals)) (sym ed ∙ none) h) ec
 
   -- ---- one thing is taken, whose value is needed
 
@@ -170,15 +266,68 @@ module _ (b : Bound) (w : Spot) (n : ℕ) where
       takes_at a c o y (Take j.0 k (expressions (map syntax_of args.items))) (ap selector_syntax ey ∙ selector-Dot j k args) (λ start e before.
       before_gives_up _ _ start a c _ o e before (λ h. let z : true ≡ false = sym h.0 ∙ not' in cc) ec)
 
-  pub last_cast : (a c : DraftOf) (o : Object) (y : Selector) (j : TokenNo) (k : Identifier) → y ≡ u.Qua j k → c ≡ given_up a → WritesLast b w n a c o y
+  pub last_qua : (a c : DraftOf) (o : Object) (y : Selector) (j : TokenNo) (k : Identifier) → y ≡ u.Qua j k → o ≡ object.Value → WritesQua b w n a c j k.token → WritesLast b w n a c o y
+  unfolding Puts WritesQua
+  last_qua a c o y j k ey eo f = takes_at a c o y (Cast j.0 k) (ap selector_syntax ey ∙ selector-Qua j k) (λ start e before.
+      let g = subst (λ z. PutsBefore (source_of b) w n start a false z e) eo before in f start e g.puts.0)
+
+  pub last_qua_stream : (a c : DraftOf) (o : Object) (y : Selector) (j : TokenNo) (k : Identifier) (img : ℕ) → y ≡ u.Qua j k → o ≡ object.Stream img → c ≡ given_up a → WritesLast b w n a c o y
   unfolding Puts
-  last_cast a c o y j k ey ec = takes_at a c o y (Cast j.0 k) (ap selector_syntax ey ∙ selector-Qua j k) (λ start e before. before_gives_up _ _ start a c _ o e before (λ h. h) ec)
+  last_qua_stream a c o y j k img ey eo ec = takes_at a c o y (Cast j.0 k) (ap selector_syntax ey ∙ selector-Qua j k) (λ start e before.
+      let g = subst (λ z. PutsBefore (source_of b) w n start a false z e) eo before in
+      let same : a ≡ start = g.puts.0 in
+      emits_nothing w start c _ _ (λ h. streamless e img g.puts.1 h.1) (ec ∙ ap given_up same))
+
+  pub last_qua_place : (a c : DraftOf) (o : Object) (y : Selector) (j : TokenNo) (k : Identifier) → y ≡ u.Qua j k → o ≡ object.Place → c ≡ given_up a → WritesLast b w n a c o y
+  last_qua_place a c o y j k ey eo ec = takes_at a c o y (Cast j.0 k) (ap selector_syntax ey ∙ selector-Qua j k) (λ start e before.
+      let g = subst (λ z. PutsBefore (source_of b) w n start a false z e) eo before in
+      let never : false ≡ true = g.placed in absurd (cc))
+
+  -- ---- where it lies
+
+  abbrev LiesAt : (a c : DraftOf) → (class : ℕ) → Object → Selection → Type 0
+  LiesAt a c class o z = (start : DraftOf) (e : Expression) → PutsBefore (source_of b) w n start a (moves_selection (source_of b) z) o e → PutsPlace (source_of b) w n start c class (selected e (z ∷ []))
+
+  lies_at : (a c : DraftOf) (class : ℕ) (o : Object) (y : Selector) (z : Selection) → selector_syntax y ≡ z → LiesAt a c class o z → WritesTakenPlace b w n a c class o y
+  unfolding WritesTakenPlace
+  lies_at a c class o y z is f = subst (LiesAt a c class o) (sym is) f
+
+  abbrev OfStream : (a c : DraftOf) → (class : ℕ) → Identifier → Expressions → Expression → Option ℕ → Type 0
+  OfStream a c class k es e o =
+      Emits w a c (StreamBuilt o (PlaceBehindBuilt (source_of b) (denoted (source_of b) k.token.0) es (IsBuilt (source_of b) w.text e) (AreBuilt (source_of b) w.text es)))
+      (λ final site p q. StreamPlaceAt final site n o (λ x y. PlaceBehindAt (source_of b) final (line_at (source_of b) k.token.0) class (denoted (source_of b) k.token.0) es (λ u v. ExprAt (source_of b) final site n e u v) (λ u v. ExprsAt (source_of b) final site (suc n) es u v) x y) p q)
+
+  pub taken_place_stream : (a c : DraftOf) (class : ℕ) (o : Object) (y : Selector) (j : TokenNo) (k : Identifier) (args : Vec Expr Global) (img : ℕ) → y ≡ u.Dot j k args → o ≡ object.Stream img → WritesImage w n a c img → WritesTakenPlace b w n a c class o y
+  unfolding PutsPlace WritesImage
+  taken_place_stream a c class o y j k args img ey eo f = lies_at a c class o y (Take j.0 k (expressions (map syntax_of args.items))) (ap selector_syntax ey ∙ selector-Dot j k args) (λ start e before.
+      let g = subst (λ z. PutsBefore (source_of b) w n start a (moves_denoted (denoted (source_of b) k.token.0)) z e) eo before in
+      let same : a ≡ start = g.puts.0 in
+      subst (OfStream start c class k (expressions (map syntax_of args.items)) e) (sym g.puts.1)
+      (subst (λ z. OfStream z c class k (expressions (map syntax_of args.items)) e (Some img)) same f))
+
+  pub taken_place_value : (a c : DraftOf) (class : ℕ) (o : Object) (y : Selector) (j : TokenNo) (k : Identifier) (args : Vec Expr Global) (ts : List Expr) → y ≡ u.Dot j k args → ts ≡ args.items → o ≡ object.Value → WritesPlaceBehind b w n a c class k.token ts → WritesTakenPlace b w n a c class o y
+  unfolding PutsPlace WritesPlaceBehind PutsBase Puts
+  taken_place_value a c class o y j k args ts ey et eo f = lies_at a c class o y (Take j.0 k (expressions (map syntax_of ts))) (ap selector_syntax ey ∙ selector-Dot j k args ∙ ap (λ z. Take j.0 k (expressions (map syntax_of z))) (sym et)) (λ start e before.
+      let g = subst (λ z. PutsBefore (source_of b) w n start a (moves_denoted (denoted (source_of b) k.token.0)) z e) eo before in
+      subst (OfStream start c class k (expressions (map syntax_of ts)) e) (sym g.puts.1) (f start (OfValue e) g.puts.0))
+
+  unplaced : (o : Option Denotation) (v : Bool) (es : Expressions) (P Q : Type 0) → (moves_denoted o && v) ≡ true → PlaceBehindBuilt (source_of b) o es P Q → ⊥
+  unplaced None v es P Q is h = h
+  unplaced (Some (denotation.Standard x)) v es P Q is h = h
+  unplaced (Some (denotation.Declared d)) v es P Q is h = cc
+
+  pub taken_place_place : (a c : DraftOf) (class : ℕ) (o : Object) (y : Selector) (j : TokenNo) (k : Identifier) (args : Vec Expr Global) → y ≡ u.Dot j k args → o ≡ object.Place → c ≡ given_up a → WritesTakenPlace b w n a c class o y
+  unfolding PutsPlace
+  taken_place_place a c class o y j k args ey eo ec = lies_at a c class o y (Take j.0 k (expressions (map syntax_of args.items))) (ap selector_syntax ey ∙ selector-Dot j k args) (λ start e before.
+      let g = subst (λ z. PutsBefore (source_of b) w n start a (moves_denoted (denoted (source_of b) k.token.0)) z e) eo before in
+      subst (OfStream start c class k (expressions (map syntax_of args.items)) e) (sym g.puts.1)
+      (gives_up _ _ _ _ start a c g.puts.0 (λ h. unplaced (denoted (source_of b) k.token.0) (lies (source_of b) e) (expressions (map syntax_of args.items)) _ _ g.placed h) ec))
+
+  pub taken_place_cast : (a c : DraftOf) (class : ℕ) (o : Object) (y : Selector) (j : TokenNo) (k : Identifier) → y ≡ u.Qua j k → c ≡ given_up a → WritesTakenPlace b w n a c class o y
+  unfolding PutsPlace
+  taken_place_cast a c class o y j k ey ec = lies_at a c class o y (Cast j.0 k) (ap selector_syntax ey ∙ selector-Qua j k) (λ start e before. before_gives_up _ _ start a c _ o e before (λ h. h) ec)
 
   -- ---- one thing is taken, in front of another one
-
-  stream_place : (a c : DraftOf) (o : Option ℕ) (img : ℕ) → Some img ≡ o → WritesImage w n a c img → Emits w a c (StreamBuilt o) (λ final site p q. ImagePlaceAt final site n o p q)
-  unfolding WritesImage
-  stream_place a c o img e f = subst (λ z. Emits w a c (StreamBuilt z) (λ final site p q. ImagePlaceAt final site n z p q)) e f
 
   placed_all : (moves t : Bool) (o : Object) (img : ℕ) → image_placed moves o t ≡ Some img → (moves ≡ true) × (t ≡ true) × (o ≡ object.Stream img)
   placed_all true true (object.Stream k) img e = (refl, refl, ap object.Stream (let z : k ≡ img = cc in z))
@@ -190,14 +339,16 @@ module _ (b : Bound) (w : Spot) (n : ℕ) where
   placed_all false t o img e = absurd (cc)
 
   image_step : (a c : DraftOf) (moves : Bool) (img : ℕ) (z : Selection) → moves ≡ true → takes_image (source_of b) z ≡ true → WritesImage w n a c img → (start : DraftOf) (e : Expression) → PutsBefore (source_of b) w n start a (moves_selection (source_of b) z) (object.Stream img) e → PutsBefore (source_of b) w n start c moves object.Place (selected e (z ∷ []))
-  unfolding PutsPlace
+  unfolding PutsPlace WritesImage
   image_step a c moves img (Take j k es) em et f start e before =
       let s = source_of b in
       let same : a ≡ start = before.puts.0 in
       let stream : stream_of s e ≡ Some img = before.puts.1 in
-      let f' = subst (λ z. WritesImage w n z c img) same f in
       let is : is_variable s (Dot j e k es) ≡ true = dot_variable s j e k es ∙ ap (λ z. is_image_behind z (denoted s k.token.0)) stream ∙ et in
-      record { puts = (stream_place start c (stream_of s e) img (sym stream) f', dot_stream s j e k es); placed = ap (λ z. z && is_variable s (Dot j e k es)) em ∙ is }
+      record {
+        puts = (subst (OfStream start c 0 k es e) (sym stream) (subst (λ z. OfStream z c 0 k es e (Some img)) same f), dot_stream s j e k es);
+        placed = first_of moves (is_variable s (Dot j e k es)) (is_attribute s (Dot j e k es)) em is;
+      }
   image_step a c moves img (Cast j k) em et f start e before = absurd (cc)
 
   pub step_place : (a c : DraftOf) (o : Object) (y : Selector) (moves t : Bool) (r : Option ℕ) (img : ℕ) → r ≡ image_placed moves o (takes_image (source_of b) (selector_syntax y)) → r ≡ Some img → WritesImage w n a c img → WritesStep b w n a c o y moves object.Place
@@ -218,13 +369,33 @@ module _ (b : Bound) (w : Spot) (n : ℕ) where
   behind_object start a moves m object.Place e j k es before none = ap (λ z. moves && z) (dot_variable (source_of b) j e k es ∙ ap (λ z. is_image_behind z (denoted (source_of b) k.token.0)) before.puts.1) ∙ not_both moves
   behind_object start a moves m object.Value e j k es before none = ap (λ z. moves && z) (dot_variable (source_of b) j e k es ∙ ap (λ z. is_image_behind z (denoted (source_of b) k.token.0)) before.puts.1) ∙ not_both moves
 
-  value_step : (a c : DraftOf) (o : Object) (moves : Bool) (z : Selection) → image_placed moves o (takes_image (source_of b) z) ≡ None → Takes a c o z → (start : DraftOf) (e : Expression) → PutsBefore (source_of b) w n start a (moves_selection (source_of b) z) o e → PutsBefore (source_of b) w n start c moves object.Value (selected e (z ∷ []))
-  value_step a c o moves (Take j k es) none f start e before = record { puts = (f start e before, dot_stream (source_of b) j e k es); placed = behind_object start a moves _ o e j k es before none }
-  value_step a c o moves (Cast j k) none f start e before = record { puts = (f start e before, qua_stream (source_of b) j e k); placed = ap (λ z. moves && z) (qua_variable (source_of b) j e k) ∙ not_both moves }
+  value_step : (a c : DraftOf) (o : Object) (moves : Bool) (z : Selection) → image_placed moves o (takes_image (source_of b) z) ≡ None → (moves && takes_attribute (source_of b) z) ≡ false → Takes a c o z → (start : DraftOf) (e : Expression) → PutsBefore (source_of b) w n start a (moves_selection (source_of b) z) o e → PutsBefore (source_of b) w n start c moves object.Value (selected e (z ∷ []))
+  value_step a c o moves (Take j k es) none lacks f start e before =
+      let s = source_of b in
+      record {
+        puts = (f start e before, dot_stream s j e k es);
+        placed = neither_of moves (is_variable s (Dot j e k es)) (is_attribute s (Dot j e k es)) (behind_object start a moves _ o e j k es before none) (ap (λ z. moves && z) (dot_attribute s j e k es) ∙ lacks);
+      }
+  value_step a c o moves (Cast j k) none lacks f start e before =
+      let s = source_of b in
+      record {
+        puts = (f start e before, qua_stream s j e k);
+        placed = neither_of moves (is_variable s (Qua j e k)) (is_attribute s (Qua j e k)) (ap (λ z. moves && z) (qua_variable s j e k) ∙ not_both moves) (ap (λ z. moves && z) (qua_attribute s j e k) ∙ not_both moves);
+      }
 
-  pub step_value : (a c : DraftOf) (o : Object) (y : Selector) (moves : Bool) (r : Option ℕ) → r ≡ image_placed moves o (takes_image (source_of b) (selector_syntax y)) → r ≡ None → WritesLast b w n a c o y → WritesStep b w n a c o y moves object.Value
+  pub step_value : (a c : DraftOf) (o : Object) (y : Selector) (moves t : Bool) (r : Option ℕ) → r ≡ image_placed moves o (takes_image (source_of b) (selector_syntax y)) → r ≡ None → t ≡ (moves && takes_attribute (source_of b) (selector_syntax y)) → t ≡ false → WritesLast b w n a c o y → WritesStep b w n a c o y moves object.Value
   unfolding WritesStep WritesLast
-  step_value a c o y moves r er none f = value_step a c o moves (selector_syntax y) (sym er ∙ none) f
+  step_value a c o y moves t r er none et lacks f = value_step a c o moves (selector_syntax y) (sym er ∙ none) (sym et ∙ lacks) f
+
+  attribute_step : (a c : DraftOf) (o : Object) (moves : Bool) (z : Selection) → (moves && takes_attribute (source_of b) z) ≡ true → LiesAt a c 0 o z → (start : DraftOf) (e : Expression) → PutsBefore (source_of b) w n start a (moves_selection (source_of b) z) o e → PutsBefore (source_of b) w n start c moves object.Place (selected e (z ∷ []))
+  attribute_step a c o moves (Take j k es) yes' f start e before =
+      let s = source_of b in
+      record { puts = (f start e before, dot_stream s j e k es); placed = second_of moves (is_variable s (Dot j e k es)) (is_attribute s (Dot j e k es)) (ap (λ z. moves && z) (dot_attribute s j e k es) ∙ yes') }
+  attribute_step a c o moves (Cast j k) yes' f start e before = let never : false ≡ true = sym (not_both moves) ∙ yes' in absurd (cc)
+
+  pub step_attribute : (a c : DraftOf) (o : Object) (y : Selector) (moves t : Bool) → t ≡ (moves && takes_attribute (source_of b) (selector_syntax y)) → t ≡ true → WritesTakenPlace b w n a c 0 o y → WritesStep b w n a c o y moves object.Place
+  unfolding WritesStep WritesTakenPlace
+  step_attribute a c o y moves t et yes' f = attribute_step a c o moves (selector_syntax y) (sym et ∙ yes') f
 
   -- ---- several things, one after the other
 
@@ -305,8 +476,22 @@ module _ (b : Bound) (w : Spot) (n : ℕ) where
       let all : selected (selected x (take k zs)) (selector_syntax y ∷ []) ≡ selected x zs = one_more zs k (selector_syntax y) (drop (suc k) zs) x (at_drop ys k y lt is') ∙ ap (selected x) (take_map ys (suc k) (omega (arith, some'))) in
       subst (Puts s w n start c) all r
 
+  pub place_taken_last : (a c0 c : DraftOf) (class : ℕ) (x : Expr) (ys : List Selector) (o : Object) (m : ℕ) (y : Selector) → length ys ≢ 0 → m ≡ length ys - 1 → y ≡ slice_index_or ys m y → WritesBefore b w n a c0 o x ys → WritesTakenPlace b w n c0 c class o y → PutsPlace (source_of b) w n a c class (selected (syntax_of x) (map selector_syntax ys))
+  unfolding WritesBefore WritesTakenPlace
+  place_taken_last a c0 c class x ys o m y some' em is f g =
+      let s = source_of b in
+      let zs = map selector_syntax ys in
+      let k = length ys - 1 in
+      let e = syntax_of x in
+      let is' : y ≡ slice_index_or ys k y = subst (λ t. y ≡ slice_index_or ys t y) em is in
+      let lt : k < length ys = omega (arith, some') in
+      let f' = subst (λ t. PutsBefore s w n a c0 t o (selected e (take k zs))) (next_is ys k y lt is') f in
+      let r = g a (selected e (take k zs)) f' in
+      let all : selected (selected e (take k zs)) (selector_syntax y ∷ []) ≡ selected e zs = one_more zs k (selector_syntax y) (drop (suc k) zs) e (at_drop ys k y lt is') ∙ ap (selected e) (take_map ys (suc k) (omega (arith, some'))) in
+      subst (PutsPlace s w n a c class) all r
+
   pub taken_whole : (a c0 c : DraftOf) (x : Expr) (ys : List Selector) (o : Object) → WritesBefore b w n a c0 o x ys → WritesEnd b w n c0 c o ys → WritesTaken b w n a c x ys
   unfolding WritesTaken WritesBefore WritesEnd
   taken_whole a c0 c x ys o f g = g a (syntax_of x) f
 
-pub ruleset taken = (start_stream, start_place, start_value, dot_of_stream, dot_of_place, dot_of_value, dot_declared, dot_undeclared, last_dot, last_no_value, last_cast, step_place, step_value, taken_first, taken_next, taken_end, taken_before, taken_last)
+pub ruleset taken = (start_stream, start_place, start_value, dot_of_stream, dot_of_place, dot_of_value, dot_of_object, dot_declared_stream, dot_declared_place, dot_undeclared, last_dot, last_no_value, last_qua, last_qua_stream, last_qua_place, step_place, step_value, step_attribute, taken_first, taken_next, taken_end, taken_before, taken_last)

@@ -25,7 +25,7 @@ use Rattle.sim_tree.specs.declared.expr.Sign.TheVariants as sign
 use Rattle.sim_tree.specs.declared.expr.Term.{Term}
 use Rattle.sim_tree.specs.declared.operator.Operator.{Operator}
 use Rattle.sim_tree.specs.declared.operator.Operator.TheVariants as o
-use Rattle.sim_tree.specs.Syntax.{Binary, Expression, If, Named, Signed, expressions}
+use Rattle.sim_tree.specs.Syntax.{Binary, Expression, If, Member, Named, New, Signed, This, expressions}
 use Rattle.sim_tree.specs.SyntaxOf.{Tail, chain, factor_syntax, negated, operand_syntax, selected, selector_syntax, signed, syntax_of, term_syntax, with_operator}
 use Rattle.sim_tree.proofs.SyntaxLemmas as v
 use Rattle.sim_values.specs.declared.operators.Calculation.TheVariants as calculation
@@ -46,6 +46,7 @@ use Rattle.codegen_expr.specs.Built.{AreBuilt, IsBuilt, is_around, is_there, slo
 use Rattle.codegen_expr.specs.CodeExpr.{CellAt, ExprAt, ExprsAt, JoinAt, Stand, TwoAt, join_instrs, operands, two_instr}
 use Rattle.codegen_expr.specs.Drafts.{DraftOf, Emits, filled_in, given_up, with_hole, with_instr, with_push}
 use Rattle.codegen_expr.specs.Emit.{OwesList, OwesTails, Puts, Steady, Writes, WritesCell, WritesElement, WritesEnd, WritesGiving, WritesJoin, WritesList, WritesNot, WritesOperand, WritesOperands, WritesSign, WritesStart, WritesSteps, WritesTails, WritesTaken, WritesTextAt, moves_next, sorted_of}
+use Rattle.codegen_expr.specs.EmitObjects.{WritesMember, WritesNew, WritesThis}
 use Rattle.codegen_expr.specs.Sites.{At, HasCell, IfAt, Inside, Pushes, Site, slot_of}
 use Rattle.codegen_expr.proofs.Around.{inside}
 use Rattle.codegen_expr.proofs.Slots.{slot_found, slot_within}
@@ -392,17 +393,17 @@ module _ (b : Bound) (w : Spot) (n : ℕ) where
       let s = source_of b in
       f c (subst (λ z. Emits w c c (AreBuilt s w.text (expressions (map syntax_of z))) (λ final site p q. ExprsAt s final site m (expressions (map syntax_of z)) p q)) (sym is) (emits_none w c))
 
-  pub write_element : (a c0 c1 c : DraftOf) (token : TokenNo) (d : DeclNo) (es : List Expr) (m k line : ℕ) (x : Instr) → m ≡ suc n → WritesCell b w n a c0 d → WritesList b w m c0 c1 es → k ≡ length es → x ≡ i.Elem (pos k) (pos 0) → line ≡ line_at (source_of b) token.0 → c ≡ with_instr c1 x line → WritesElement b w n a c token d es
+  pub write_element : (a c0 c1 c : DraftOf) (token : TokenNo) (d : DeclNo) (es : List Expr) (m k class line : ℕ) (x : Instr) → m ≡ suc n → WritesCell b w n a c0 d → WritesList b w m c0 c1 es → k ≡ length es → x ≡ i.Elem (pos k) (pos class) → line ≡ line_at (source_of b) token.0 → c ≡ with_instr c1 x line → WritesElement b w n a c class token d es
   unfolding WritesElement WritesCell WritesList
-  write_element a c0 c1 c token d es m k line x em f g ek ex el ec =
+  write_element a c0 c1 c token d es m k class line x em f g ek ex el ec =
       let s = source_of b in
       let xs = expressions (map syntax_of es) in
       let g' = subst (λ z. Emits w c0 c1 (AreBuilt s w.text xs) (λ final site p q. ExprsAt s final site z xs p q)) em g in
-      let at : x ≡ i.Elem (pos (operands xs)) (pos 0) = ex ∙ ap (λ z. i.Elem (pos z) (pos 0)) (ek ∙ sym (count es)) in
+      let at : x ≡ i.Elem (pos (operands xs)) (pos class) = ex ∙ ap (λ z. i.Elem (pos z) (pos class)) (ek ∙ sym (count es)) in
       emits_as w _ _ _ _ a c (λ t. (t.0, (t.1, tt))) (λ t. (t.0, t.1.0)) (λ final site p q _ _ r. record { x = r.0; y = r.2.0; array = r.1; subscripts = r.2.1; found = r.2.2 })
-      (emits_then w _ _ (λ z site. CellAt s z site n d) (λ z site p q. (y : ℕ) × ExprsAt s z site (suc n) xs p y × At z (i.Elem (pos (operands xs)) (pos 0)) (line_at s token.0) y q) a c0 c f
-      (emits_then w _ _ (λ z site. ExprsAt s z site (suc n) xs) (λ z site. At z (i.Elem (pos (operands xs)) (pos 0)) (line_at s token.0)) c0 c1 c g'
-      (emits_at w c1 c (i.Elem (pos (operands xs)) (pos 0)) (line_at s token.0) (ec ∙ ap (λ z. with_instr c1 z line) at ∙ ap (λ z. with_instr c1 (i.Elem (pos (operands xs)) (pos 0)) z) el) (λ z. cc) refl)))
+      (emits_then w _ _ (λ z site. CellAt s z site n d) (λ z site p q. (y : ℕ) × ExprsAt s z site (suc n) xs p y × At z (i.Elem (pos (operands xs)) (pos class)) (line_at s token.0) y q) a c0 c f
+      (emits_then w _ _ (λ z site. ExprsAt s z site (suc n) xs) (λ z site. At z (i.Elem (pos (operands xs)) (pos class)) (line_at s token.0)) c0 c1 c g'
+      (emits_at w c1 c (i.Elem (pos (operands xs)) (pos class)) (line_at s token.0) (ec ∙ ap (λ z. with_instr c1 z line) at ∙ ap (λ z. with_instr c1 (i.Elem (pos (operands xs)) (pos class)) z) el) (λ z. cc) refl)))
 
   -- cells
   pub write_load : (a c : DraftOf) (d : DeclNo) (x : Instr) (block k m : ℕ) (slot : Option ℕ) → block ≡ block_of (source_of b) d → slot ≡ slot_in (source_of b) (block_of (source_of b) d) (Declared d.0) → slot ≡ Some k → is_around b.scopes (length b.scopes.blocks) w.text block ≡ true → m ≡ level_of (source_of b) block → x ≡ i.Load (pos m) (pos k) → c ≡ with_push a n x 0 → WritesCell b w n a c d
@@ -410,13 +411,13 @@ module _ (b : Bound) (w : Spot) (n : ℕ) where
   write_load a c d x block k m slot eb es some around em ex ec =
       let s = source_of b in
       let found : slot_in s (block_of s d) (Declared d.0) ≡ Some k = sym es ∙ some in
-      let ek : k ≡ slot_of s (block_of s d) (Declared d.0) = slot_found s (block_of s d) (Declared d.0) k found in
-      let at : x ≡ i.Load (pos (level_of s (block_of s d))) (pos (slot_of s (block_of s d) (Declared d.0))) = ex ∙ ap (λ z. i.Load (pos z) (pos k)) (em ∙ ap (level_of s) eb) ∙ ap (λ z. i.Load (pos (level_of s (block_of s d))) (pos z)) ek in
+      let at : (final : CodeOf) → x ≡ i.Load (pos (level_of s (block_of s d))) (pos (slot_of s final (block_of s d) (Declared d.0))) = λ final. ex ∙ ap (λ z. i.Load (pos z) (pos k)) (em ∙ ap (level_of s) eb) ∙ ap (λ z. i.Load (pos (level_of s (block_of s d))) (pos z)) (slot_found s final (block_of s d) (Declared d.0) k found) in
       let there : is_around s.tables (length s.tables.blocks) w.text (block_of s d) ≡ true = ap (λ z. is_around s.tables (length s.tables.blocks) w.text z) (sym eb) ∙ around in
       let is : Inside s.tables w.text (block_of s d) = inside s.tables (block_of s d) (length s.tables.blocks) w.text there in
       let has : HasCell s (block_of s d) (Declared d.0) = slot_within s (block_of s d) (Declared d.0) k found in
-      emits_as w _ _ _ _ a c (λ t. tt) (λ t. record { has = ap is_there found; inside = record { found = there } }) (λ final site p q stands _ r. record { load = r; inside = subst (λ z. Inside s.tables z (block_of s d)) (sym stands) is; within = has })
-      (emits_push w a c n (i.Load (pos (level_of s (block_of s d))) (pos (slot_of s (block_of s d) (Declared d.0)))) 0 (ec ∙ ap (λ z. with_push a n z 0) at) (λ z. cc) refl)
+      emits_as w _ _ (λ final site p q. Pushes final site n x p q) _ a c (λ t. tt) (λ t. record { has = ap is_there found; inside = record { found = there } })
+      (λ final site p q stands _ r. record { load = subst (λ z. Pushes final site n z p q) (at final) r; inside = subst (λ z. Inside s.tables z (block_of s d)) (sym stands) is; within = has })
+      (emits_push w a c n x 0 ec (λ z. let h : i.Load (pos m) (pos k) ≡ i.Halt = sym ex ∙ z in cc) (ap runs ex))
 
   pub write_no_slot : (a c : DraftOf) (d : DeclNo) (slot : Option ℕ) → slot ≡ slot_in (source_of b) (block_of (source_of b) d) (Declared d.0) → slot ≡ None → c ≡ given_up a → WritesCell b w n a c d
   unfolding WritesCell
@@ -449,30 +450,30 @@ module _ (b : Bound) (w : Spot) (n : ℕ) where
   unfolding Writes Puts
   write_parentheses a c u x t p is ex f = puts_as a c _ (syntax_of u) (sym (ap syntax_of is ∙ v.syntax-Parentheses t p)) (subst (λ z. Emits w a c (IsBuilt (source_of b) w.text (syntax_of z)) (λ final site p q. ExprAt (source_of b) final site n (syntax_of z) p q)) ex f)
 
-  -- what is not built
-  unbuilt : (a c : DraftOf) (u : Expr) (y : Expression) → syntax_of u ≡ y → (IsBuilt (source_of b) w.text y → ⊥) → c ≡ given_up a → Writes b w n a c u
-  unfolding Writes Puts
-  unbuilt a c u y is never ec = emits_nothing w a c _ _ (λ h. never (subst (IsBuilt (source_of b) w.text) is h)) ec
-
-  pub write_Member : (a c : DraftOf) (u : Expr) (p : Box Expr Global) (t : TokenNo) (r : Membership) (x : Identifier) → u ≡ e.Member p t r x → c ≡ given_up a → Writes b w n a c u
-  write_Member a c u p t r x is ec = unbuilt a c u _ (ap syntax_of is ∙ v.syntax-Member p t r x) (λ z. z) ec
+  -- objects
+  pub write_Member : (a c d : DraftOf) (u y : Expr) (p : Box Expr Global) (t : TokenNo) (r : Membership) (x : Identifier) → u ≡ e.Member p t r x → y ≡ p.value → Writes b w n a c y → WritesMember b w n c d r x.token → Writes b w n a d u
+  unfolding Writes WritesMember Puts
+  write_Member a c d u y p t r x is ey f g = puts_as a d (Member r t.0 (syntax_of y) x) (syntax_of u) (ap (λ z. Member r t.0 (syntax_of z) x) ey ∙ sym (ap syntax_of is ∙ v.syntax-Member p t r x)) (g a (syntax_of y) f)
 
   pub write_Text : (a c : DraftOf) (u : Expr) (t : TokenNo) (z : List ℕ) → u ≡ e.Text t z → WritesTextAt b w n a c t → Writes b w n a c u
   unfolding Writes Puts WritesTextAt
   write_Text a c u t z is f = puts_as a c _ (syntax_of u) (sym (ap syntax_of is ∙ v.syntax-Text t z)) f
 
-  pub write_NoObject : (a c : DraftOf) (u : Expr) (t : TokenNo) → u ≡ e.NoObject t → c ≡ given_up a → Writes b w n a c u
-  write_NoObject a c u t is ec = unbuilt a c u _ (ap syntax_of is ∙ v.syntax-NoObject t) (λ z. z) ec
+  pub write_NoObject : (a c : DraftOf) (u : Expr) (t : TokenNo) → u ≡ e.NoObject t → c ≡ with_push a n i.None 0 → Writes b w n a c u
+  unfolding Writes Puts
+  write_NoObject a c u t is ec = puts_as a c _ (syntax_of u) (sym (ap syntax_of is ∙ v.syntax-NoObject t)) (emits_push w a c n i.None 0 ec (λ z. cc) refl)
 
   pub write_Notext : (a c : DraftOf) (u : Expr) (t : TokenNo) → u ≡ e.Notext t → c ≡ with_push a n i.NoText 0 → Writes b w n a c u
   unfolding Writes Puts
   write_Notext a c u t is ec = puts_as a c _ (syntax_of u) (sym (ap syntax_of is ∙ v.syntax-Notext t)) (emits_push w a c n i.NoText 0 ec (λ z. cc) refl)
 
-  pub write_This : (a c : DraftOf) (u : Expr) (t : TokenNo) (x : Identifier) → u ≡ e.This t x → c ≡ given_up a → Writes b w n a c u
-  write_This a c u t x is ec = unbuilt a c u _ (ap syntax_of is ∙ v.syntax-This t x) (λ z. z) ec
+  pub write_This : (a c : DraftOf) (u : Expr) (t : TokenNo) (x : Identifier) → u ≡ e.This t x → WritesThis b w n a c t → Writes b w n a c u
+  unfolding Writes Puts WritesThis
+  write_This a c u t x is f = puts_as a c (This t.0 x) (syntax_of u) (sym (ap syntax_of is ∙ v.syntax-This t x)) f
 
-  pub write_New : (a c : DraftOf) (u : Expr) (t : TokenNo) (x : Identifier) (l : Vec Expr Global) → u ≡ e.New t x l → c ≡ given_up a → Writes b w n a c u
-  write_New a c u t x l is ec = unbuilt a c u _ (ap syntax_of is ∙ v.syntax-New t x l) (λ z. z) ec
+  pub write_New : (a c : DraftOf) (u : Expr) (t : TokenNo) (x : Identifier) (l : Vec Expr Global) (es : List Expr) → u ≡ e.New t x l → es ≡ l.items → WritesNew b w n a c t x es → Writes b w n a c u
+  unfolding Writes Puts WritesNew
+  write_New a c u t x l es is ee f = puts_as a c (New t.0 x (expressions (map syntax_of es))) (syntax_of u) (ap (λ z. New t.0 x (expressions (map syntax_of z))) ee ∙ sym (ap syntax_of is ∙ v.syntax-New t x l)) f
 
 -- what is left of a list
 pub from_drop : {A : Type 0} (xs : List A) (i : ℕ) (x : A) → i < length xs → x ≡ slice_index_or xs i x → drop i xs ≡ x ∷ drop (i + 1) xs

@@ -1,5 +1,5 @@
--- Which expressions are built: all that speak of no object, of no parameter by name and of no formal procedure.
-use Rattle.std.specs.Prelude.{◌≡◌, ◌&&◌, ⊤, ℕ, zero, suc, Bool, true, false, ◌==◌, if◌then◌else◌, List, [], ◌∷◌, length, Option, Some, None}
+-- Which expressions are built: all that speak of no parameter by name and of no formal procedure.
+use Rattle.std.specs.Prelude.{◌≡◌, ◌&&◌, ◌||◌, ⊤, ℕ, zero, suc, Bool, true, false, ◌==◌, if◌then◌else◌, List, [], ◌∷◌, length, Option, Some, None}
 use Rattle.sim_base.specs.declared.numbering.DeclNo.{DeclNo}
 use Rattle.sim_scope.specs.declared.scopes.Denotation.{Denotation}
 use Rattle.sim_scope.specs.declared.scopes.Denotation.TheVariants as denotation
@@ -12,7 +12,7 @@ use Rattle.sim_scope.specs.declared.types.Mode.{Mode}
 use Rattle.sim_scope.specs.declared.types.Mode.TheVariants as mode
 use Rattle.sim_scope.specs.Access.{encloser}
 use Rattle.sim_scope.specs.Scopes.{entry_of}
-use Rattle.sim_scope.specs.Source.{Source, block_of, denoted}
+use Rattle.sim_scope.specs.Source.{Source, block_of, denoted, found_at, type_at}
 use Rattle.sim_scope.specs.Tables.{Tables}
 use Rattle.sim_tree.specs.Syntax.{Expression, Expressions, Literal, NoMore, Then}
 use Rattle.sim_tree.specs.Syntax as syntax
@@ -20,13 +20,15 @@ use Rattle.sim_values.specs.declared.standard.Standard.{Standard}
 use Rattle.sim_values.specs.Standard.{is_image, moves_position, on_image, operands_of, row_of}
 use Rattle.sim_values.specs.Plain.{Plain, Integer, Truth, Character, Text}
 use Rattle.sim_code.specs.Running.{name_runs}
-use Rattle.sim_meaning.specs.Closing.{formals_at, is_variable, stream_of}
+use Rattle.sim_meaning.specs.Attributes.{cell_of_connection, connection_at, is_connection}
+use Rattle.sim_meaning.specs.Closing.{class_parameters, formals_at, is_attribute, is_variable, result_meant, stream_of, typed_token}
 use Rattle.sim_meaning.specs.Constants.{text_constant}
+use Rattle.sim_meaning.specs.Levels.{class_at, qualification}
 use Rattle.sim_meaning.specs.Names.{procedure_named}
-use Rattle.sim_meaning.specs.Pending.{Declared, Held, Key, same_key}
+use Rattle.sim_meaning.specs.Pending.{Declared, Held, Key, Result, same_key}
 use Rattle.sim_meaning.specs.Texts.{constant_of, text}
 use Rattle.codegen_expr.specs.CodeExpr.{gives, operands}
-use Rattle.codegen_expr.specs.Sites.{cells_in}
+use Rattle.codegen_expr.specs.Sites.{frame_text, own_part, prefix_of}
 
 -- ---- cells
 
@@ -48,9 +50,14 @@ abbrev pub place_from : ℕ → Key → List Held → Option ℕ
 place_from n key [] = None
 place_from n key (h ∷ hs) = if same_key h.key key then Some n else place_from (suc n) key hs
 
--- the number of a cell in the frames of a text, if they have it
+-- where a class stands in front of a text, its cells are not built
+abbrev pub unless_prefixed : (prefix : Option ℕ) → Option ℕ → Option ℕ
+unless_prefixed None place = place
+unless_prefixed (Some k) place = None
+
+-- the place of a cell in a text's own part of its frames, if they have it
 unfoldable pub slot_in : Source → (text : ℕ) → Key → Option ℕ
-slot_in s k key = place_from 0 key (cells_in s k (text s k))
+slot_in s k key = unless_prefixed (prefix_of s.tables k) (place_from 0 key (own_part s k))
 
 abbrev pub is_there : Option ℕ → Bool
 is_there None = false
@@ -128,6 +135,88 @@ NamedBuilt s text None es Operands Actuals = ⊥
 NamedBuilt s text (Some (denotation.Declared d)) es Operands Actuals = DeclaredBuilt s text d (entry_of s.tables d) es Operands Actuals
 NamedBuilt s text (Some (denotation.Standard name)) es Operands Actuals = StandardBuilt (procedure_named name) es Operands
 
+-- ---- objects
+
+-- the frames of its text have the cell of an attribute
+abbrev pub HasBuilt : Source → (home : ℕ) → Key → Type 0
+HasBuilt s home key = is_there (slot_in s home key) ≡ true
+
+abbrev pub ConstantOfBuilt : Source → DeclNo → Expressions → (Object : Type 0) → Type 0
+ConstantOfBuilt s d es Object = Object × HasBuilt s (block_of s d) (Declared d.0) × ConstantBuilt (constant_of s d) es
+
+abbrev pub VariableOfBuilt : Source → DeclNo → Expressions → (Object : Type 0) → Type 0
+VariableOfBuilt s d NoMore Object = Object × HasBuilt s (block_of s d) (Declared d.0)
+VariableOfBuilt s d (Then e es) Object = ⊥
+
+abbrev pub ArrayOfBuilt : Source → DeclNo → (Object Subscripts : Type 0) → Type 0
+ArrayOfBuilt s d Object Subscripts = Object × HasBuilt s (block_of s d) (Declared d.0) × Subscripts
+
+abbrev pub ParameterOfBuilt : Source → DeclNo → FormalKind → Expressions → (Object Subscripts : Type 0) → Type 0
+ParameterOfBuilt s d shape.Simple es Object Subscripts = VariableOfBuilt s d es Object
+ParameterOfBuilt s d shape.Array es Object Subscripts = ArrayOfBuilt s d Object Subscripts
+ParameterOfBuilt s d shape.Procedure es Object Subscripts = ⊥
+
+-- what an object has
+abbrev pub OfObjectBuilt : Source → DeclNo → Option Entry → Expressions → (Object Operands Actuals : Type 0) → Type 0
+OfObjectBuilt s d (Some (entry.Variable type)) es Object Operands Actuals = VariableOfBuilt s d es Object
+OfObjectBuilt s d (Some (entry.Constant type)) es Object Operands Actuals = ConstantOfBuilt s d es Object
+OfObjectBuilt s d (Some (entry.Array element dimensions)) es Object Operands Actuals = ArrayOfBuilt s d Object Operands
+OfObjectBuilt s d (Some (entry.Formal f)) es Object Operands Actuals = ParameterOfBuilt s d f.kind es Object Operands
+OfObjectBuilt s d (Some (entry.Procedure result block)) es Object Operands Actuals = Object × Actuals
+OfObjectBuilt s d _ es Object Operands Actuals = ⊥
+
+-- where a variable or an element lies that an object has
+abbrev pub ArrayPlaceOfBuilt : Source → DeclNo → Expressions → (Object Subscripts : Type 0) → Type 0
+ArrayPlaceOfBuilt s d NoMore Object Subscripts = ⊥
+ArrayPlaceOfBuilt s d (Then e es) Object Subscripts = ArrayOfBuilt s d Object Subscripts
+
+abbrev pub ParameterPlaceOfBuilt : Source → DeclNo → FormalKind → Expressions → (Object Subscripts : Type 0) → Type 0
+ParameterPlaceOfBuilt s d shape.Simple es Object Subscripts = VariableOfBuilt s d es Object
+ParameterPlaceOfBuilt s d shape.Array es Object Subscripts = ArrayPlaceOfBuilt s d es Object Subscripts
+ParameterPlaceOfBuilt s d shape.Procedure es Object Subscripts = ⊥
+
+abbrev pub PlaceOfObjectBuilt : Source → DeclNo → Option Entry → Expressions → (Object Subscripts : Type 0) → Type 0
+PlaceOfObjectBuilt s d (Some (entry.Variable type)) es Object Subscripts = VariableOfBuilt s d es Object
+PlaceOfObjectBuilt s d (Some (entry.Array element dimensions)) es Object Subscripts = ArrayPlaceOfBuilt s d es Object Subscripts
+PlaceOfObjectBuilt s d (Some (entry.Formal f)) es Object Subscripts = ParameterPlaceOfBuilt s d f.kind es Object Subscripts
+PlaceOfObjectBuilt s d _ es Object Subscripts = ⊥
+
+abbrev pub PlaceBehindBuilt : Source → Option Denotation → Expressions → (Object Subscripts : Type 0) → Type 0
+PlaceBehindBuilt s (Some (denotation.Declared d)) es Object Subscripts = PlaceOfObjectBuilt s d (entry_of s.tables d) es Object Subscripts
+PlaceBehindBuilt s _ es Object Subscripts = ⊥
+
+-- a connection around, with its cell
+pub record ConnectedBuilt (s : Source) (text connection : ℕ) : Type 0 where
+  pub has : is_there (slot_in s (frame_text s connection) (cell_of_connection s connection)) ≡ true
+  pub inside : StandsIn s text connection
+
+abbrev pub ThroughBuilt : (connection : Option ℕ) → (Connected : ℕ → Type 0) → (Plain : Type 0) → Type 0
+ThroughBuilt None Connected Plain = Plain
+ThroughBuilt (Some k) Connected Plain = Connected k
+
+abbrev pub ConnectedNameBuilt : Source → (text connection : ℕ) → Option Denotation → Expressions → (Operands : Type 0) → (Actuals : List Formal → Type 0) → Type 0
+ConnectedNameBuilt s text k (Some (denotation.Declared d)) es Operands Actuals = OfObjectBuilt s d (entry_of s.tables d) es (ConnectedBuilt s text k) Operands (Actuals (formals_at s d))
+ConnectedNameBuilt s text k _ es Operands Actuals = ⊥
+
+-- `this`
+abbrev pub ThisOfBuilt : Source → (text found : ℕ) → (is_connection : Bool) → Type 0
+ThisOfBuilt s text k true = ConnectedBuilt s text k
+ThisOfBuilt s text k false = StandsIn s text k
+
+abbrev pub ThisFoundBuilt : Source → (text : ℕ) → (found : Option ℕ) → Type 0
+ThisFoundBuilt s t None = ⊥
+ThisFoundBuilt s t (Some k) = ThisOfBuilt s t k (is_connection (text s k))
+
+-- a class that an identifier denotes
+abbrev pub ClassBuilt : (class : Option ℕ) → Type 0
+ClassBuilt None = ⊥
+ClassBuilt (Some k) = ⊤
+
+-- a class that is declared in a text around
+abbrev pub GenerationBuilt : Source → (text : ℕ) → Option Denotation → (class : Option ℕ) → (Actuals : Type 0) → Type 0
+GenerationBuilt s text (Some (denotation.Declared d)) (Some k) Actuals = StandsIn s text (block_of s d) × Actuals
+GenerationBuilt s text _ _ Actuals = ⊥
+
 -- ---- attributes of texts, behind a dot
 
 abbrev pub ArrayPlaceBuilt : Source → (text : ℕ) → DeclNo → Expressions → (Subscripts : Type 0) → Type 0
@@ -150,9 +239,9 @@ abbrev pub NamedPlaceBuilt : Source → (text : ℕ) → Option Denotation → E
 NamedPlaceBuilt s text (Some (denotation.Declared d)) es Subscripts = DeclaredPlaceBuilt s text d (entry_of s.tables d) es Subscripts
 NamedPlaceBuilt s text _ es Subscripts = ⊤
 
-abbrev pub StreamBuilt : (stream : Option ℕ) → Type 0
-StreamBuilt None = ⊥
-StreamBuilt (Some image) = ⊤
+abbrev pub StreamBuilt : (stream : Option ℕ) → (Other : Type 0) → Type 0
+StreamBuilt None Other = Other
+StreamBuilt (Some image) Other = ⊤
 
 abbrev pub ObjectBuilt : (place : Bool) → (Place Value : Type 0) → Type 0
 ObjectBuilt true Place Value = Place
@@ -166,9 +255,10 @@ abbrev pub BehindDotBuilt : (stream : Option ℕ) → Option Standard → (is_va
 BehindDotBuilt (Some image) name is_variable es Place Value Operands = StandardBuilt name es Operands
 BehindDotBuilt None name is_variable es Place Value Operands = AttributeBuilt name is_variable es Place Value Operands
 
-abbrev pub DotBuilt : Option Denotation → (stream : Option ℕ) → (is_variable : Bool) → Expressions → (Place Value Operands : Type 0) → Type 0
-DotBuilt (Some (denotation.Standard name)) stream is_variable es Place Value Operands = BehindDotBuilt stream (procedure_named name) is_variable es Place Value Operands
-DotBuilt _ stream is_variable es Place Value Operands = ⊥
+abbrev pub DotBuilt : Source → Option Denotation → (stream : Option ℕ) → (is_variable : Bool) → Expressions → (Place Value Operands : Type 0) → (Actuals : List Formal → Type 0) → Type 0
+DotBuilt s None stream is_variable es Place Value Operands Actuals = ⊥
+DotBuilt s (Some (denotation.Standard name)) stream is_variable es Place Value Operands Actuals = BehindDotBuilt stream (procedure_named name) is_variable es Place Value Operands
+DotBuilt s (Some (denotation.Declared d)) stream is_variable es Place Value Operands Actuals = OfObjectBuilt s d (entry_of s.tables d) es Value Operands (Actuals (formals_at s d))
 
 -- an actual parameter: none by name, and no procedure
 abbrev pub ActualBuilt : Mode → FormalKind → Type 0
@@ -185,7 +275,7 @@ LiteralBuilt s token (syntax.CharacterValue c) = ⊤
 LiteralBuilt s token (syntax.TextValue bytes) = ConstantBuilt (text_constant s token) NoMore
 LiteralBuilt s token (syntax.BooleanValue b) = ⊤
 LiteralBuilt s token syntax.NoText = ⊤
-LiteralBuilt s token syntax.NoObject = ⊥
+LiteralBuilt s token syntax.NoObject = ⊤
 
 abbrev mutual
   pub IsBuilt : Source → (text : ℕ) → Expression → Type 0
@@ -193,17 +283,24 @@ abbrev mutual
   IsBuilt s text (syntax.Binary op token a b) = IsBuilt s text a × IsBuilt s text b
   IsBuilt s text (syntax.Not token a) = IsBuilt s text a
   IsBuilt s text (syntax.Signed sign token a) = IsBuilt s text a
-  IsBuilt s text (syntax.Constant literal token) = LiteralBuilt s token literal
-  IsBuilt s text (syntax.Named name es) = (gives s (denoted s name.token.0) ≡ true) × NamedBuilt s text (denoted s name.token.0) es (AreBuilt s text es) (λ formals. ActualsBuilt s text es formals)
+  IsBuilt s text (syntax.Member member token a class) = ClassBuilt (class_at s class.token.0) × IsBuilt s text a
   IsBuilt s text (syntax.Dot token a name es) =
-      (gives s (denoted s name.token.0) ≡ true) × DotBuilt (denoted s name.token.0) (stream_of s a) (is_variable s a) es (PlaceBuilt s text a) (IsBuilt s text a) (AreBuilt s text es)
+      (gives s (denoted s name.token.0) ≡ true) × DotBuilt s (denoted s name.token.0) (stream_of s a) (is_variable s a || is_attribute s a) es (PlaceBuilt s text a) (IsBuilt s text a) (AreBuilt s text es) (λ formals. ActualsBuilt s text es formals)
+  IsBuilt s text (syntax.Qua token a class) = ClassBuilt (class_at s class.token.0) × IsBuilt s text a
+  IsBuilt s text (syntax.Constant literal token) = LiteralBuilt s token literal
+  IsBuilt s text (syntax.Named name es) =
+      (gives s (denoted s name.token.0) ≡ true) × ThroughBuilt (connection_at s name.token.0)
+      (λ k. ConnectedNameBuilt s text k (denoted s name.token.0) es (AreBuilt s text es) (λ formals. ActualsBuilt s text es formals))
+      (NamedBuilt s text (denoted s name.token.0) es (AreBuilt s text es) (λ formals. ActualsBuilt s text es formals))
+  IsBuilt s text (syntax.This token class) = ThisFoundBuilt s text (found_at s token)
+  IsBuilt s text (syntax.New token class es) = GenerationBuilt s text (denoted s class.token.0) (class_at s class.token.0) (ActualsBuilt s text es (class_parameters s (class_at s class.token.0)))
   IsBuilt s text (syntax.Parentheses token a) = IsBuilt s text a
-  IsBuilt s text _ = ⊥
 
   -- a variable, where it lies
   pub PlaceBuilt : Source → (text : ℕ) → Expression → Type 0
-  PlaceBuilt s text (syntax.Named name es) = NamedPlaceBuilt s text (denoted s name.token.0) es (AreBuilt s text es)
-  PlaceBuilt s text (syntax.Dot token a name es) = StreamBuilt (stream_of s a)
+  PlaceBuilt s text (syntax.Named name es) =
+      ThroughBuilt (connection_at s name.token.0) (λ k. PlaceBehindBuilt s (denoted s name.token.0) es (ConnectedBuilt s text k) (AreBuilt s text es)) (NamedPlaceBuilt s text (denoted s name.token.0) es (AreBuilt s text es))
+  PlaceBuilt s text (syntax.Dot token a name es) = StreamBuilt (stream_of s a) (PlaceBehindBuilt s (denoted s name.token.0) es (IsBuilt s text a) (AreBuilt s text es))
   PlaceBuilt s text _ = ⊥
 
   pub AreBuilt : Source → (text : ℕ) → Expressions → Type 0
@@ -216,3 +313,11 @@ abbrev mutual
   ActualsBuilt s text NoMore (f ∷ fs) = ⊥
   ActualsBuilt s text (Then e es) [] = ⊥
   ActualsBuilt s text (Then e es) (f ∷ fs) = IsBuilt s text e × ActualBuilt f.mode f.kind × ActualsBuilt s text es fs
+
+-- where a reference lies, with its qualification
+abbrev pub PlaceOrResultBuilt : Source → (text : ℕ) → (own : Option ℕ) → (Place : Type 0) → Type 0
+PlaceOrResultBuilt s text None Place = Place
+PlaceOrResultBuilt s text (Some home) Place = KeyBuilt s text home Result
+
+abbrev pub ReferenceBuilt : Source → (text : ℕ) → Expression → Type 0
+ReferenceBuilt s text e = ClassBuilt (qualification s (type_at s (typed_token e))) × PlaceOrResultBuilt s text (result_meant s e) (PlaceBuilt s text e)

@@ -1,10 +1,8 @@
 -- Which code stands for an expression. At its beginning there are n values on the operand stack, at its end one more.
-use Rattle.std.specs.Prelude.{◌≡◌, ◌≤◌, ◌<◌, ◌&&◌, ℕ, zero, suc, Bool, true, false, ℤ, pos, List, [], ◌∷◌, length, slice_get, Option, Some, None}
+use Rattle.std.specs.Prelude.{◌≡◌, ◌≤◌, ◌<◌, ◌&&◌, ◌||◌, ℕ, suc, Bool, true, false, ℤ, pos, List, [], ◌∷◌, length, slice_get, Option, Some, None}
 use Rattle.sim_base.specs.declared.numbering.DeclNo.{DeclNo}
 use Rattle.sim_scope.specs.declared.scopes.Denotation.{Denotation}
 use Rattle.sim_scope.specs.declared.scopes.Denotation.TheVariants as denotation
-use Rattle.sim_scope.specs.declared.types.BlockKind.{BlockKind}
-use Rattle.sim_scope.specs.declared.types.BlockKind.TheVariants as kind_of_block
 use Rattle.sim_scope.specs.declared.types.Entry.{Entry}
 use Rattle.sim_scope.specs.declared.types.Entry.TheVariants as entry
 use Rattle.sim_scope.specs.declared.types.Formal.{Formal}
@@ -13,8 +11,9 @@ use Rattle.sim_scope.specs.declared.types.FormalKind.TheVariants as shape
 use Rattle.sim_scope.specs.declared.types.Mode.{Mode}
 use Rattle.sim_scope.specs.declared.types.Mode.TheVariants as mode
 use Rattle.sim_scope.specs.Scopes.{entry_of}
-use Rattle.sim_scope.specs.Source.{Source, block_of, denoted, level_of, line_at}
-use Rattle.sim_scope.specs.Tables.{BlockOf}
+use Rattle.sim_scope.specs.Source.{Source, block_of, denoted, found_at, level_of, line_at, type_at}
+use Rattle.sim_tree.specs.declared.expr.Membership.{Membership}
+use Rattle.sim_tree.specs.declared.expr.Membership.TheVariants as membership
 use Rattle.sim_tree.specs.declared.expr.Sign.{Sign}
 use Rattle.sim_tree.specs.declared.expr.Sign.TheVariants as sign
 use Rattle.sim_tree.specs.Syntax.{Expression, Expressions, Literal, NoMore, Then}
@@ -37,13 +36,15 @@ use Rattle.sim_code.specs.declared.instr.Instr.TheVariants as i
 use Rattle.sim_code.specs.Code.{CodeOf}
 use Rattle.sim_code.specs.Names.{standard_names}
 use Rattle.sim_code.specs.Rows.{text_value}
-use Rattle.sim_meaning.specs.Closing.{has_type, Joining, Lazily, Negated, Plainly, Sort, formals_at, is_text, is_text_type, is_variable, sort_of, stream_of, sysout}
+use Rattle.sim_meaning.specs.Attributes.{cell_of_connection, connection_at, is_connection, parameter_qualification}
+use Rattle.sim_meaning.specs.Closing.{has_type, Joining, Lazily, Negated, Plainly, Sort, class_parameters, formals_at, is_attribute, is_text, is_text_type, is_variable, result_meant, sort_of, stream_of, sysout, typed_token}
 use Rattle.sim_meaning.specs.Constants.{constants_of, text_constant}
+use Rattle.sim_meaning.specs.Levels.{class_at, qualification}
 use Rattle.sim_meaning.specs.Names.{procedure_named}
-use Rattle.sim_meaning.specs.Pending.{Declared}
+use Rattle.sim_meaning.specs.Pending.{Declared, Result}
 use Rattle.sim_meaning.specs.Statements.{has_value, standard_leaves}
-use Rattle.sim_meaning.specs.Texts.{constant_of}
-use Rattle.codegen_expr.specs.Sites.{At, HasCell, IfAt, Inside, Is, Pushes, Site, slot_of}
+use Rattle.sim_meaning.specs.Texts.{constant_of, text}
+use Rattle.codegen_expr.specs.Sites.{At, HasCell, IfAt, Inside, Is, Pushes, Site, block_number, class_number, frame_text, slot_of}
 
 -- ---- operators
 
@@ -145,13 +146,13 @@ LiteralAt s code site n token (syntax.CharacterValue c) p q = PlainAt s code sit
 LiteralAt s code site n token (syntax.TextValue bytes) p q = GivenAt s code site n (text_constant s token) p q
 LiteralAt s code site n token (syntax.BooleanValue b) p q = PlainAt s code site n (Truth b) p q
 LiteralAt s code site n token syntax.NoText p q = Pushes code site n i.NoText p q
-LiteralAt s code site n token syntax.NoObject p q = ⊥
+LiteralAt s code site n token syntax.NoObject p q = Pushes code site n i.None p q
 
 -- ---- identifiers
 
 -- the value in the cell of a declaration, which stands in a text around whose frames have it
 pub record CellAt (s : Source) (code : CodeOf) (site : Site) (n : ℕ) (d : DeclNo) (p q : ℕ) : Type 0 where
-  pub load : Pushes code site n (i.Load (pos (level_of s (block_of s d))) (pos (slot_of s (block_of s d) (Declared d.0)))) p q
+  pub load : Pushes code site n (i.Load (pos (level_of s (block_of s d))) (pos (slot_of s code (block_of s d) (Declared d.0)))) p q
   pub inside : Inside s.tables site.text (block_of s d)
   pub within : HasCell s (block_of s d) (Declared d.0)
 
@@ -167,40 +168,23 @@ abbrev pub operands : Expressions → ℕ
 operands NoMore = 0
 operands (Then e es) = suc (operands es)
 
--- the address of an element: the array, the subscripts, which stand on one value more
-pub record ElementAt (s : Source) (code : CodeOf) (site : Site) (n line : ℕ) (d : DeclNo) (es : Expressions) (Subscripts : ℕ → ℕ → Type 0) (p q : ℕ) : Type 0 where
+-- the address of an element, with the class of references there: the array, the subscripts, which stand on one value more
+pub record ElementAt (s : Source) (code : CodeOf) (site : Site) (n line class : ℕ) (d : DeclNo) (es : Expressions) (Subscripts : ℕ → ℕ → Type 0) (p q : ℕ) : Type 0 where
   pub x : ℕ
   pub y : ℕ
   pub array : CellAt s code site n d p x
   pub subscripts : Subscripts x y
-  pub found : At code (i.Elem (pos (operands es)) (pos 0)) line y q
+  pub found : At code (i.Elem (pos (operands es)) (pos class)) line y q
 
 abbrev pub ArrayAt : Source → CodeOf → Site → ℕ → (line : ℕ) → DeclNo → Expressions → (Subscripts : ℕ → ℕ → Type 0) → ℕ → ℕ → Type 0
 ArrayAt s code site n line d NoMore Subscripts p q = CellAt s code site n d p q
-ArrayAt s code site n line d (Then e es) Subscripts p q = (x : ℕ) × ElementAt s code site n line d (Then e es) Subscripts p x × Is code i.Fetch x q
+ArrayAt s code site n line d (Then e es) Subscripts p q = (x : ℕ) × ElementAt s code site n line 0 d (Then e es) Subscripts p x × Is code i.Fetch x q
 
 abbrev pub FormalAt : Source → CodeOf → Site → ℕ → (line : ℕ) → DeclNo → Mode → FormalKind → Expressions → (Subscripts : ℕ → ℕ → Type 0) → ℕ → ℕ → Type 0
 FormalAt s code site n line d mode.ByName kind es Subscripts p q = ⊥
 FormalAt s code site n line d mode shape.Simple es Subscripts p q = VariableAt s code site n d es p q
 FormalAt s code site n line d mode shape.Array es Subscripts p q = ArrayAt s code site n line d es Subscripts p q
 FormalAt s code site n line d mode shape.Procedure es Subscripts p q = ⊥
-
--- blocks of the code are texts without connections, in the same order
-abbrev pub is_connection : BlockKind → Bool
-is_connection kind_of_block.Connection = true
-is_connection _ = false
-
-abbrev pub counted_unless : Bool → ℕ → ℕ
-counted_unless true n = n
-counted_unless false n = suc n
-
-abbrev pub blocks_before : ℕ → List BlockOf → ℕ
-blocks_before zero blocks = 0
-blocks_before (suc k) [] = 0
-blocks_before (suc k) (b ∷ blocks) = counted_unless (is_connection b.kind) (blocks_before k blocks)
-
-unfoldable pub block_number : Source → (text : ℕ) → ℕ
-block_number s k = blocks_before k s.tables.blocks
 
 -- a call: the link to the instance in which the procedure is declared, the actuals, which stand on one value more
 pub record CallAt (s : Source) (code : CodeOf) (site : Site) (n line : ℕ) (d : DeclNo) (text : ℕ) (es : Expressions) (Actuals : ℕ → ℕ → Type 0) (p q : ℕ) : Type 0 where
@@ -255,42 +239,192 @@ gives s None = true
 gives s (Some (denotation.Declared d)) = gives_entry (entry_of s.tables d)
 gives s (Some (denotation.Standard name)) = standard_leaves (procedure_named name)
 
+-- ---- attributes of objects: Object is the reference, on n values
+
+-- where an attribute lies, with the class of a reference there
+pub record AttributePlaceAt (s : Source) (code : CodeOf) (line class : ℕ) (d : DeclNo) (Object : ℕ → ℕ → Type 0) (p q : ℕ) : Type 0 where
+  pub x : ℕ
+  pub object : Object p x
+  pub found : At code (i.AddrR (pos (slot_of s code (block_of s d) (Declared d.0))) (pos class)) line x q
+  pub within : HasCell s (block_of s d) (Declared d.0)
+
+abbrev pub VariableOfAt : Source → CodeOf → (line : ℕ) → DeclNo → Expressions → (Object : ℕ → ℕ → Type 0) → ℕ → ℕ → Type 0
+VariableOfAt s code line d NoMore Object p q = (x : ℕ) × AttributePlaceAt s code line 0 d Object p x × Is code i.Fetch x q
+VariableOfAt s code line d (Then e es) Object p q = ⊥
+
+-- a constant is its value, where there is an object
+pub record ConstantOfAt (s : Source) (code : CodeOf) (site : Site) (n line : ℕ) (d : DeclNo) (Object : ℕ → ℕ → Type 0) (p q : ℕ) : Type 0 where
+  pub x : ℕ
+  pub y : ℕ
+  pub z : ℕ
+  pub object : Object p x
+  pub there : At code i.NotNone line x y
+  pub dropped : Is code i.Pop y z
+  pub value : GivenAt s code site n (constant_of s d) z q
+  pub within : HasCell s (block_of s d) (Declared d.0)
+
+abbrev pub ConstantAttributeAt : Source → CodeOf → Site → ℕ → (line : ℕ) → DeclNo → Expressions → (Object : ℕ → ℕ → Type 0) → ℕ → ℕ → Type 0
+ConstantAttributeAt s code site n line d NoMore Object p q = ConstantOfAt s code site n line d Object p q
+ConstantAttributeAt s code site n line d (Then e es) Object p q = ⊥
+
+-- the address of an element of an array that an object has: the array, then the subscripts
+pub record ElementOfAt (s : Source) (code : CodeOf) (line class : ℕ) (d : DeclNo) (es : Expressions) (Object Subscripts : ℕ → ℕ → Type 0) (p q : ℕ) : Type 0 where
+  pub x : ℕ
+  pub y : ℕ
+  pub z : ℕ
+  pub place : AttributePlaceAt s code line 0 d Object p x
+  pub array : Is code i.Fetch x y
+  pub subscripts : Subscripts y z
+  pub found : At code (i.Elem (pos (operands es)) (pos class)) line z q
+
+abbrev pub ArrayOfAt : Source → CodeOf → (line : ℕ) → DeclNo → Expressions → (Object Subscripts : ℕ → ℕ → Type 0) → ℕ → ℕ → Type 0
+ArrayOfAt s code line d NoMore Object Subscripts p q = VariableOfAt s code line d NoMore Object p q
+ArrayOfAt s code line d (Then e es) Object Subscripts p q = (x : ℕ) × ElementOfAt s code line 0 d (Then e es) Object Subscripts p x × Is code i.Fetch x q
+
+abbrev pub ParameterOfAt : Source → CodeOf → (line : ℕ) → DeclNo → FormalKind → Expressions → (Object Subscripts : ℕ → ℕ → Type 0) → ℕ → ℕ → Type 0
+ParameterOfAt s code line d shape.Simple es Object Subscripts p q = VariableOfAt s code line d es Object p q
+ParameterOfAt s code line d shape.Array es Object Subscripts p q = ArrayOfAt s code line d es Object Subscripts p q
+ParameterOfAt s code line d shape.Procedure es Object Subscripts p q = ⊥
+
+-- a call of a procedure that an object has: the object, which is tested before the actuals
+pub record RemoteCallAt (s : Source) (code : CodeOf) (line text : ℕ) (es : Expressions) (Object Actuals : ℕ → ℕ → Type 0) (p q : ℕ) : Type 0 where
+  pub x : ℕ
+  pub y : ℕ
+  pub z : ℕ
+  pub object : Object p x
+  pub there : At code i.NotNone line x y
+  pub actuals : Actuals y z
+  pub call : At code (i.Call (pos (block_number s text)) (pos (operands es))) line z q
+
+-- what an object has, with its operands, which stand on one value more
+abbrev pub OfObjectAt : Source → CodeOf → Site → ℕ → (line : ℕ) → DeclNo → Option Entry → Expressions → (Object Inner Actuals : ℕ → ℕ → Type 0) → ℕ → ℕ → Type 0
+OfObjectAt s code site n line d (Some (entry.Variable type)) es Object Inner Actuals p q = VariableOfAt s code line d es Object p q
+OfObjectAt s code site n line d (Some (entry.Constant type)) es Object Inner Actuals p q = ConstantAttributeAt s code site n line d es Object p q
+OfObjectAt s code site n line d (Some (entry.Array element dimensions)) es Object Inner Actuals p q = ArrayOfAt s code line d es Object Inner p q
+OfObjectAt s code site n line d (Some (entry.Formal f)) es Object Inner Actuals p q = ParameterOfAt s code line d f.kind es Object Inner p q
+OfObjectAt s code site n line d (Some (entry.Procedure result text)) es Object Inner Actuals p q = RemoteCallAt s code line text es Object Actuals p q
+OfObjectAt s code site n line d _ es Object Inner Actuals p q = ⊥
+
+-- where a variable or an element lies that an object has
+abbrev pub VariablePlaceOfAt : Source → CodeOf → (line class : ℕ) → DeclNo → Expressions → (Object : ℕ → ℕ → Type 0) → ℕ → ℕ → Type 0
+VariablePlaceOfAt s code line class d NoMore Object p q = AttributePlaceAt s code line class d Object p q
+VariablePlaceOfAt s code line class d (Then e es) Object p q = ⊥
+
+abbrev pub ArrayPlaceOfAt : Source → CodeOf → (line class : ℕ) → DeclNo → Expressions → (Object Subscripts : ℕ → ℕ → Type 0) → ℕ → ℕ → Type 0
+ArrayPlaceOfAt s code line class d NoMore Object Subscripts p q = ⊥
+ArrayPlaceOfAt s code line class d (Then e es) Object Subscripts p q = ElementOfAt s code line class d (Then e es) Object Subscripts p q
+
+abbrev pub ParameterPlaceOfAt : Source → CodeOf → (line class : ℕ) → DeclNo → FormalKind → Expressions → (Object Subscripts : ℕ → ℕ → Type 0) → ℕ → ℕ → Type 0
+ParameterPlaceOfAt s code line class d shape.Simple es Object Subscripts p q = VariablePlaceOfAt s code line class d es Object p q
+ParameterPlaceOfAt s code line class d shape.Array es Object Subscripts p q = ArrayPlaceOfAt s code line class d es Object Subscripts p q
+ParameterPlaceOfAt s code line class d shape.Procedure es Object Subscripts p q = ⊥
+
+abbrev pub PlaceOfObjectAt : Source → CodeOf → (line class : ℕ) → DeclNo → Option Entry → Expressions → (Object Subscripts : ℕ → ℕ → Type 0) → ℕ → ℕ → Type 0
+PlaceOfObjectAt s code line class d (Some (entry.Variable type)) es Object Subscripts p q = VariablePlaceOfAt s code line class d es Object p q
+PlaceOfObjectAt s code line class d (Some (entry.Array element dimensions)) es Object Subscripts p q = ArrayPlaceOfAt s code line class d es Object Subscripts p q
+PlaceOfObjectAt s code line class d (Some (entry.Formal f)) es Object Subscripts p q = ParameterPlaceOfAt s code line class d f.kind es Object Subscripts p q
+PlaceOfObjectAt s code line class d _ es Object Subscripts p q = ⊥
+
+abbrev pub PlaceBehindAt : Source → CodeOf → (line class : ℕ) → Option Denotation → Expressions → (Object Subscripts : ℕ → ℕ → Type 0) → ℕ → ℕ → Type 0
+PlaceBehindAt s code line class (Some (denotation.Declared d)) es Object Subscripts p q = PlaceOfObjectAt s code line class d (entry_of s.tables d) es Object Subscripts p q
+PlaceBehindAt s code line class _ es Object Subscripts p q = ⊥
+
+-- ---- connections
+
+-- the object of a connection around, from its cell in the frames of the text in which the connection stands
+pub record ConnectedAt (s : Source) (code : CodeOf) (site : Site) (n connection : ℕ) (p q : ℕ) : Type 0 where
+  pub load : Pushes code site n (i.Load (pos (level_of s connection)) (pos (slot_of s code (frame_text s connection) (cell_of_connection s connection)))) p q
+  pub inside : Inside s.tables site.text connection
+  pub within : HasCell s (frame_text s connection) (cell_of_connection s connection)
+
+-- what is seen through a connection, or else is seen without one
+abbrev pub ThroughAt : (connection : Option ℕ) → (Connected : ℕ → ℕ → ℕ → Type 0) → (Plain : ℕ → ℕ → Type 0) → ℕ → ℕ → Type 0
+ThroughAt None Connected Plain p q = Plain p q
+ThroughAt (Some k) Connected Plain p q = Connected k p q
+
+-- an identifier that is seen through a connection is an attribute of the object there
+abbrev pub ConnectedNameAt : Source → CodeOf → Site → ℕ → (line connection : ℕ) → Option Denotation → Expressions → (Inner : ℕ → ℕ → Type 0) → (Actuals : List Formal → ℕ → ℕ → Type 0) → ℕ → ℕ → Type 0
+ConnectedNameAt s code site n line k (Some (denotation.Declared d)) es Inner Actuals p q = OfObjectAt s code site n line d (entry_of s.tables d) es (ConnectedAt s code site n k) Inner (Actuals (formals_at s d)) p q
+ConnectedNameAt s code site n line k _ es Inner Actuals p q = ⊥
+
+-- ---- classes
+
+-- `this`: the object or prefixed block of a text around, or the object of a connection
+pub record ThisAt (s : Source) (code : CodeOf) (site : Site) (n text p q : ℕ) : Type 0 where
+  pub push : Pushes code site n (i.This (pos (level_of s text))) p q
+  pub inside : Inside s.tables site.text text
+
+abbrev pub ThisOfAt : Source → CodeOf → Site → (n text : ℕ) → (is_connection : Bool) → ℕ → ℕ → Type 0
+ThisOfAt s code site n k true p q = ConnectedAt s code site n k p q
+ThisOfAt s code site n k false p q = ThisAt s code site n k p q
+
+abbrev pub ThisFoundAt : Source → CodeOf → Site → ℕ → (found : Option ℕ) → ℕ → ℕ → Type 0
+ThisFoundAt s code site n None p q = ⊥
+ThisFoundAt s code site n (Some k) p q = ThisOfAt s code site n k (is_connection (text s k)) p q
+
+-- `is`, `in` and `qua`
+abbrev pub member_instr : Membership → (class : ℕ) → Instr
+member_instr membership.Is class = i.Is (pos class)
+member_instr membership.In class = i.In (pos class)
+
+abbrev pub MemberAt : Source → CodeOf → Membership → (class : Option ℕ) → (A : ℕ → ℕ → Type 0) → ℕ → ℕ → Type 0
+MemberAt s code member None A p q = ⊥
+MemberAt s code member (Some k) A p q = (x : ℕ) × A p x × Is code (member_instr member (class_number s code k)) x q
+
+abbrev pub QuaAt : Source → CodeOf → (line : ℕ) → (class : Option ℕ) → (A : ℕ → ℕ → Type 0) → ℕ → ℕ → Type 0
+QuaAt s code line None A p q = ⊥
+QuaAt s code line (Some k) A p q = (x : ℕ) × A p x × At code (i.Qua (pos (class_number s code k))) line x q
+
+-- `new`: the link to the instance in which the class is declared, the actuals, which stand on one value more
+pub record NewAt (s : Source) (code : CodeOf) (site : Site) (n line : ℕ) (d : DeclNo) (text : ℕ) (es : Expressions) (Actuals : ℕ → ℕ → Type 0) (p q : ℕ) : Type 0 where
+  pub x : ℕ
+  pub y : ℕ
+  pub link : Pushes code site n (i.Link (pos (level_of s (block_of s d)))) p x
+  pub inside : Inside s.tables site.text (block_of s d)
+  pub actuals : Actuals x y
+  pub new : At code (i.New (pos (class_number s code text)) (pos (operands es))) line y q
+
+abbrev pub GenerationAt : Source → CodeOf → Site → ℕ → (line : ℕ) → Option Denotation → (class : Option ℕ) → Expressions → (Actuals : ℕ → ℕ → Type 0) → ℕ → ℕ → Type 0
+GenerationAt s code site n line (Some (denotation.Declared d)) (Some k) es Actuals p q = NewAt s code site n line d k es Actuals p q
+GenerationAt s code site n line _ _ es Actuals p q = ⊥
+
 -- ---- attributes of texts, behind a dot
 
--- the address of the cell of a declaration
-pub record CellPlaceAt (s : Source) (code : CodeOf) (site : Site) (n : ℕ) (d : DeclNo) (p q : ℕ) : Type 0 where
-  pub address : Pushes code site n (i.Addr (pos (level_of s (block_of s d))) (pos (slot_of s (block_of s d) (Declared d.0))) (pos 0)) p q
+-- the address of the cell of a declaration, with the class of a reference there
+pub record CellPlaceAt (s : Source) (code : CodeOf) (site : Site) (n class : ℕ) (d : DeclNo) (p q : ℕ) : Type 0 where
+  pub address : Pushes code site n (i.Addr (pos (level_of s (block_of s d))) (pos (slot_of s code (block_of s d) (Declared d.0))) (pos class)) p q
   pub inside : Inside s.tables site.text (block_of s d)
   pub within : HasCell s (block_of s d) (Declared d.0)
 
-abbrev pub VariablePlaceAt : Source → CodeOf → Site → ℕ → DeclNo → Expressions → ℕ → ℕ → Type 0
-VariablePlaceAt s code site n d NoMore p q = CellPlaceAt s code site n d p q
-VariablePlaceAt s code site n d (Then e es) p q = ⊥
+abbrev pub VariablePlaceAt : Source → CodeOf → Site → (n class : ℕ) → DeclNo → Expressions → ℕ → ℕ → Type 0
+VariablePlaceAt s code site n class d NoMore p q = CellPlaceAt s code site n class d p q
+VariablePlaceAt s code site n class d (Then e es) p q = ⊥
 
-abbrev pub ArrayPlaceAt : Source → CodeOf → Site → ℕ → (line : ℕ) → DeclNo → Expressions → (Subscripts : ℕ → ℕ → Type 0) → ℕ → ℕ → Type 0
-ArrayPlaceAt s code site n line d NoMore Subscripts p q = ⊥
-ArrayPlaceAt s code site n line d (Then e es) Subscripts p q = ElementAt s code site n line d (Then e es) Subscripts p q
+abbrev pub ArrayPlaceAt : Source → CodeOf → Site → (n line class : ℕ) → DeclNo → Expressions → (Subscripts : ℕ → ℕ → Type 0) → ℕ → ℕ → Type 0
+ArrayPlaceAt s code site n line class d NoMore Subscripts p q = ⊥
+ArrayPlaceAt s code site n line class d (Then e es) Subscripts p q = ElementAt s code site n line class d (Then e es) Subscripts p q
 
-abbrev pub FormalPlaceAt : Source → CodeOf → Site → ℕ → (line : ℕ) → DeclNo → Mode → FormalKind → Expressions → (Subscripts : ℕ → ℕ → Type 0) → ℕ → ℕ → Type 0
-FormalPlaceAt s code site n line d mode.ByName kind es Subscripts p q = ⊥
-FormalPlaceAt s code site n line d mode shape.Simple es Subscripts p q = VariablePlaceAt s code site n d es p q
-FormalPlaceAt s code site n line d mode shape.Array es Subscripts p q = ArrayPlaceAt s code site n line d es Subscripts p q
-FormalPlaceAt s code site n line d mode shape.Procedure es Subscripts p q = ⊥
+abbrev pub FormalPlaceAt : Source → CodeOf → Site → (n line class : ℕ) → DeclNo → Mode → FormalKind → Expressions → (Subscripts : ℕ → ℕ → Type 0) → ℕ → ℕ → Type 0
+FormalPlaceAt s code site n line class d mode.ByName kind es Subscripts p q = ⊥
+FormalPlaceAt s code site n line class d mode shape.Simple es Subscripts p q = VariablePlaceAt s code site n class d es p q
+FormalPlaceAt s code site n line class d mode shape.Array es Subscripts p q = ArrayPlaceAt s code site n line class d es Subscripts p q
+FormalPlaceAt s code site n line class d mode shape.Procedure es Subscripts p q = ⊥
 
-abbrev pub DeclaredPlaceAt : Source → CodeOf → Site → ℕ → (line : ℕ) → DeclNo → Option Entry → Expressions → (Subscripts : ℕ → ℕ → Type 0) → ℕ → ℕ → Type 0
-DeclaredPlaceAt s code site n line d (Some (entry.Variable type)) es Subscripts p q = VariablePlaceAt s code site n d es p q
-DeclaredPlaceAt s code site n line d (Some (entry.Array element dimensions)) es Subscripts p q = ArrayPlaceAt s code site n line d es Subscripts p q
-DeclaredPlaceAt s code site n line d (Some (entry.Formal f)) es Subscripts p q = FormalPlaceAt s code site n line d f.mode f.kind es Subscripts p q
-DeclaredPlaceAt s code site n line d _ es Subscripts p q = ⊥
-
-abbrev pub ImagePlaceAt : CodeOf → Site → ℕ → (image : Option ℕ) → ℕ → ℕ → Type 0
-ImagePlaceAt code site n None p q = ⊥
-ImagePlaceAt code site n (Some image) p q = Pushes code site n (i.AddrImg (pos image)) p q
+abbrev pub DeclaredPlaceAt : Source → CodeOf → Site → (n line class : ℕ) → DeclNo → Option Entry → Expressions → (Subscripts : ℕ → ℕ → Type 0) → ℕ → ℕ → Type 0
+DeclaredPlaceAt s code site n line class d (Some (entry.Variable type)) es Subscripts p q = VariablePlaceAt s code site n class d es p q
+DeclaredPlaceAt s code site n line class d (Some (entry.Array element dimensions)) es Subscripts p q = ArrayPlaceAt s code site n line class d es Subscripts p q
+DeclaredPlaceAt s code site n line class d (Some (entry.Formal f)) es Subscripts p q = FormalPlaceAt s code site n line class d f.mode f.kind es Subscripts p q
+DeclaredPlaceAt s code site n line class d _ es Subscripts p q = ⊥
 
 -- where the variable lies that an identifier with these subscripts is, or else the image of sysout
-abbrev pub NamedPlaceAt : Source → CodeOf → Site → ℕ → (line : ℕ) → Option Denotation → Expressions → (Subscripts : ℕ → ℕ → Type 0) → ℕ → ℕ → Type 0
-NamedPlaceAt s code site n line (Some (denotation.Declared d)) es Subscripts p q = DeclaredPlaceAt s code site n line d (entry_of s.tables d) es Subscripts p q
-NamedPlaceAt s code site n line _ es Subscripts p q = ImagePlaceAt code site n (Some sysout) p q
+abbrev pub NamedPlaceAt : Source → CodeOf → Site → (n line class : ℕ) → Option Denotation → Expressions → (Subscripts : ℕ → ℕ → Type 0) → ℕ → ℕ → Type 0
+NamedPlaceAt s code site n line class (Some (denotation.Declared d)) es Subscripts p q = DeclaredPlaceAt s code site n line class d (entry_of s.tables d) es Subscripts p q
+NamedPlaceAt s code site n line class _ es Subscripts p q = Pushes code site n (i.AddrImg (pos sysout)) p q
+
+-- the image of a stream, or what else is in front of the dot
+abbrev pub StreamPlaceAt : CodeOf → Site → ℕ → (stream : Option ℕ) → (Other : ℕ → ℕ → Type 0) → ℕ → ℕ → Type 0
+StreamPlaceAt code site n None Other p q = Other p q
+StreamPlaceAt code site n (Some image) Other p q = Pushes code site n (i.AddrImg (pos image)) p q
 
 -- An attribute that moves the position of a variable gets where that lies, any other the text itself.
 abbrev pub ObjectAt : (place : Bool) → (Place Value : ℕ → ℕ → Type 0) → ℕ → ℕ → Type 0
@@ -307,21 +441,43 @@ abbrev pub BehindDotAt : CodeOf → Site → ℕ → (line : ℕ) → (stream : 
 BehindDotAt code site n line (Some image) name is_variable es Place Value Operands Inner p q = StandardAt code site n line image name es Operands Inner p q
 BehindDotAt code site n line None name is_variable es Place Value Operands Inner p q = AttributeAt code site n line name is_variable es Place Value Inner p q
 
-abbrev pub DotAt : CodeOf → Site → ℕ → (line : ℕ) → Option Denotation → (stream : Option ℕ) → (is_variable : Bool) → Expressions → (Place Value Operands Inner : ℕ → ℕ → Type 0) → ℕ → ℕ → Type 0
-DotAt code site n line (Some (denotation.Standard name)) stream is_variable es Place Value Operands Inner p q = BehindDotAt code site n line stream (procedure_named name) is_variable es Place Value Operands Inner p q
-DotAt code site n line _ stream is_variable es Place Value Operands Inner p q = ⊥
+-- An attribute of a text or a stream, or of an object: Value is what is in front of the dot.
+abbrev pub DotAt : Source → CodeOf → Site → ℕ → (line : ℕ) → Option Denotation → (stream : Option ℕ) → (is_variable : Bool) → Expressions → (Place Value Operands Inner : ℕ → ℕ → Type 0) → (Actuals : List Formal → ℕ → ℕ → Type 0) → ℕ → ℕ → Type 0
+DotAt s code site n line None stream is_variable es Place Value Operands Inner Actuals p q = ⊥
+DotAt s code site n line (Some (denotation.Standard name)) stream is_variable es Place Value Operands Inner Actuals p q = BehindDotAt code site n line stream (procedure_named name) is_variable es Place Value Operands Inner p q
+DotAt s code site n line (Some (denotation.Declared d)) stream is_variable es Place Value Operands Inner Actuals p q = OfObjectAt s code site n line d (entry_of s.tables d) es Value Inner (Actuals (formals_at s d)) p q
 
 -- ---- actual parameters
 
--- an array and a text by value are copied
-abbrev pub ActualAt : CodeOf → Site → (n line : ℕ) → Mode → FormalKind → (text : Bool) → (A : ℕ → ℕ → Type 0) → ℕ → ℕ → Type 0
-ActualAt code site n line mode.ByValue shape.Array text A p q = (x : ℕ) × A p x × At code i.CopyArr line x q
-ActualAt code site n line mode.ByReference shape.Array text A p q = A p q
-ActualAt code site n line mode.ByValue shape.Simple true A p q = (x : ℕ) × A p x × StandardIs code site n line name_of.Copy 1 x q
-ActualAt code site n line mode.ByValue shape.Simple false A p q = A p q
-ActualAt code site n line mode.ByReference shape.Simple text A p q = A p q
-ActualAt code site n line mode shape.Procedure text A p q = ⊥
-ActualAt code site n line mode.ByName kind text A p q = ⊥
+-- an array and a text by value are copied; an array by reference of a class is kept
+abbrev pub ActualAt : CodeOf → Site → (n line : ℕ) → (keeps : Bool) → Mode → FormalKind → (text : Bool) → (A : ℕ → ℕ → Type 0) → ℕ → ℕ → Type 0
+ActualAt code site n line keeps mode.ByValue shape.Array text A p q = (x : ℕ) × A p x × At code i.CopyArr line x q
+ActualAt code site n line true mode.ByReference shape.Array text A p q = (x : ℕ) × A p x × Is code i.Keep x q
+ActualAt code site n line false mode.ByReference shape.Array text A p q = A p q
+ActualAt code site n line keeps mode.ByValue shape.Simple true A p q = (x : ℕ) × A p x × StandardIs code site n line name_of.Copy 1 x q
+ActualAt code site n line keeps mode.ByValue shape.Simple false A p q = A p q
+ActualAt code site n line keeps mode.ByReference shape.Simple text A p q = A p q
+ActualAt code site n line keeps mode shape.Procedure text A p q = ⊥
+ActualAt code site n line keeps mode.ByName kind text A p q = ⊥
+
+-- A reference for a formal parameter with a class: it is put into a temp behind those in use, and so held against the class.
+pub record FitsAt (s : Source) (code : CodeOf) (site : Site) (n line class : ℕ) (A : ℕ → ℕ → Type 0) (p q : ℕ) : Type 0 where
+  pub x : ℕ
+  pub y : ℕ
+  pub z : ℕ
+  pub w : ℕ
+  pub temp : ℕ
+  pub behind : site.used ≤ temp
+  pub within : temp < site.size
+  pub actual : A p x
+  pub address : Pushes code site (suc n) (i.Addr (pos (level_of s site.text)) (pos temp) (pos class)) x y
+  pub under : Is code i.Swap y z
+  pub put : At code i.Put line z w
+  pub again : Pushes code site n (i.Load (pos (level_of s site.text)) (pos temp)) w q
+
+abbrev pub FittingAt : Source → CodeOf → Site → (n line : ℕ) → (class : Option ℕ) → (A : ℕ → ℕ → Type 0) → ℕ → ℕ → Type 0
+FittingAt s code site n line None A p q = A p q
+FittingAt s code site n line (Some k) A p q = FitsAt s code site n line (class_number s code k) A p q
 
 -- ---- expressions
 
@@ -332,31 +488,59 @@ abbrev mutual
       TwoAt s code site n (sort_of (is_text s a) op) (line_at s token) (ExprAt s code site n a) (ExprAt s code site n b) (ExprAt s code site (suc n) b) p q
   ExprAt s code site n (syntax.Not token a) p q = OneAt code monadic.Not (line_at s token) (ExprAt s code site n a) p q
   ExprAt s code site n (syntax.Signed sign token a) p q = SignedAt code sign (line_at s token) (ExprAt s code site n a) p q
-  ExprAt s code site n (syntax.Member member token a class) p q = ⊥
+  ExprAt s code site n (syntax.Member member token a class) p q = MemberAt s code member (class_at s class.token.0) (ExprAt s code site n a) p q
   ExprAt s code site n (syntax.Dot token a name es) p q =
-      (gives s (denoted s name.token.0) ≡ true) × DotAt code site n (line_at s name.token.0) (denoted s name.token.0) (stream_of s a) (is_variable s a) es (PlaceAt s code site n a) (ExprAt s code site n a) (ExprsAt s code site n es) (ExprsAt s code site (suc n) es) p q
-  ExprAt s code site n (syntax.Qua token a class) p q = ⊥
+      (gives s (denoted s name.token.0) ≡ true) × DotAt s code site n (line_at s name.token.0) (denoted s name.token.0) (stream_of s a) (is_variable s a || is_attribute s a) es
+      (PlaceAt s code site n 0 a) (ExprAt s code site n a) (ExprsAt s code site n es) (ExprsAt s code site (suc n) es) (λ formals. ActualsAt s code site (suc n) (line_at s name.token.0) false es formals) p q
+  ExprAt s code site n (syntax.Qua token a class) p q = QuaAt s code (line_at s token) (class_at s class.token.0) (ExprAt s code site n a) p q
   ExprAt s code site n (syntax.Constant literal token) p q = LiteralAt s code site n token literal p q
   ExprAt s code site n (syntax.Named name es) p q =
-      (gives s (denoted s name.token.0) ≡ true) × NamedAt s code site n (line_at s name.token.0) (denoted s name.token.0) es (ExprsAt s code site n es) (ExprsAt s code site (suc n) es) (λ formals. ActualsAt s code site (suc n) (line_at s name.token.0) es formals) p q
-  ExprAt s code site n (syntax.This token class) p q = ⊥
-  ExprAt s code site n (syntax.New token class es) p q = ⊥
+      (gives s (denoted s name.token.0) ≡ true) × ThroughAt (connection_at s name.token.0)
+      (λ k. ConnectedNameAt s code site n (line_at s name.token.0) k (denoted s name.token.0) es (ExprsAt s code site (suc n) es) (λ formals. ActualsAt s code site (suc n) (line_at s name.token.0) false es formals))
+      (NamedAt s code site n (line_at s name.token.0) (denoted s name.token.0) es (ExprsAt s code site n es) (ExprsAt s code site (suc n) es) (λ formals. ActualsAt s code site (suc n) (line_at s name.token.0) false es formals)) p q
+  ExprAt s code site n (syntax.This token class) p q = ThisFoundAt s code site n (found_at s token) p q
+  ExprAt s code site n (syntax.New token class es) p q =
+      GenerationAt s code site n (line_at s token) (denoted s class.token.0) (class_at s class.token.0) es (ActualsAt s code site (suc n) (line_at s class.token.0) true es (class_parameters s (class_at s class.token.0))) p q
   ExprAt s code site n (syntax.Parentheses token a) p q = ExprAt s code site n a p q
 
-  -- where a variable lies
-  pub PlaceAt : Source → CodeOf → Site → ℕ → Expression → ℕ → ℕ → Type 0
-  PlaceAt s code site n (syntax.Named name es) p q = NamedPlaceAt s code site n (line_at s name.token.0) (denoted s name.token.0) es (ExprsAt s code site (suc n) es) p q
-  PlaceAt s code site n (syntax.Dot token a name es) p q = ImagePlaceAt code site n (stream_of s a) p q
-  PlaceAt s code site n _ p q = ⊥
+  -- where a variable lies, with the class of a reference there
+  pub PlaceAt : Source → CodeOf → Site → (n class : ℕ) → Expression → ℕ → ℕ → Type 0
+  PlaceAt s code site n c (syntax.Named name es) p q =
+      ThroughAt (connection_at s name.token.0) (λ k. PlaceBehindAt s code (line_at s name.token.0) c (denoted s name.token.0) es (ConnectedAt s code site n k) (ExprsAt s code site (suc n) es))
+      (NamedPlaceAt s code site n (line_at s name.token.0) c (denoted s name.token.0) es (ExprsAt s code site (suc n) es)) p q
+  PlaceAt s code site n c (syntax.Dot token a name es) p q =
+      StreamPlaceAt code site n (stream_of s a) (PlaceBehindAt s code (line_at s name.token.0) c (denoted s name.token.0) es (ExprAt s code site n a) (ExprsAt s code site (suc n) es)) p q
+  PlaceAt s code site n c _ p q = ⊥
 
   -- one value after the other
   pub ExprsAt : Source → CodeOf → Site → ℕ → Expressions → ℕ → ℕ → Type 0
   ExprsAt s code site n NoMore p q = q ≡ p
   ExprsAt s code site n (Then e es) p q = (x : ℕ) × ExprAt s code site n e p x × ExprsAt s code site (suc n) es x q
 
-  pub ActualsAt : Source → CodeOf → Site → ℕ → (line : ℕ) → Expressions → List Formal → ℕ → ℕ → Type 0
-  ActualsAt s code site n line NoMore [] p q = q ≡ p
-  ActualsAt s code site n line NoMore (f ∷ fs) p q = ⊥
-  ActualsAt s code site n line (Then e es) [] p q = ⊥
-  ActualsAt s code site n line (Then e es) (f ∷ fs) p q =
-      (x : ℕ) × ActualAt code site n line f.mode f.kind (is_text_type f.ty) (ExprAt s code site n e) p x × ActualsAt s code site (suc n) line es fs x q
+  -- actual parameters, one for each formal; those of a class keep the arrays that they pass by reference
+  pub ActualsAt : Source → CodeOf → Site → ℕ → (line : ℕ) → (keeps : Bool) → Expressions → List Formal → ℕ → ℕ → Type 0
+  ActualsAt s code site n line keeps NoMore [] p q = q ≡ p
+  ActualsAt s code site n line keeps NoMore (f ∷ fs) p q = ⊥
+  ActualsAt s code site n line keeps (Then e es) [] p q = ⊥
+  ActualsAt s code site n line keeps (Then e es) (f ∷ fs) p q =
+      (x : ℕ) × FittingAt s code site n line (parameter_qualification s f.kind f.ty) (ActualAt code site n line keeps f.mode f.kind (is_text_type f.ty) (ExprAt s code site n e)) p x × ActualsAt s code site (suc n) line keeps es fs x q
+
+-- ---- where a reference lies, with its qualification
+
+-- the address of the result of a procedure around
+pub record ResultPlaceAt (s : Source) (code : CodeOf) (site : Site) (n class text p q : ℕ) : Type 0 where
+  pub address : Pushes code site n (i.Addr (pos (level_of s text)) (pos (slot_of s code text Result)) (pos class)) p q
+  pub inside : Inside s.tables site.text text
+  pub within : HasCell s text Result
+
+abbrev pub PlaceOrResultAt : Source → CodeOf → Site → (n class : ℕ) → (own : Option ℕ) → (Place : ℕ → ℕ → Type 0) → ℕ → ℕ → Type 0
+PlaceOrResultAt s code site n class None Place p q = Place p q
+PlaceOrResultAt s code site n class (Some text) Place p q = ResultPlaceAt s code site n class text p q
+
+abbrev pub QualifiedPlaceAt : Source → CodeOf → Site → ℕ → (class : Option ℕ) → Expression → ℕ → ℕ → Type 0
+QualifiedPlaceAt s code site n None e p q = ⊥
+QualifiedPlaceAt s code site n (Some k) e p q = PlaceOrResultAt s code site n (class_number s code k) (result_meant s e) (PlaceAt s code site n (class_number s code k) e) p q
+
+-- a variable, an element, an attribute or the result of a procedure
+abbrev pub ReferencePlaceAt : Source → CodeOf → Site → ℕ → Expression → ℕ → ℕ → Type 0
+ReferencePlaceAt s code site n e p q = QualifiedPlaceAt s code site n (qualification s (type_at s (typed_token e))) e p q

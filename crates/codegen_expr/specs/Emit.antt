@@ -1,5 +1,5 @@
 -- What is written of an expression.
-use Rattle.std.specs.Prelude.{◌≡◌, ◌<◌, ◌≤◌, ◌-◌, ◌&&◌, not, ⊤, ℕ, suc, pos, Bool, true, false, List, [], ◌∷◌, drop, length, map, slice_get, take, Option, Some, None}
+use Rattle.std.specs.Prelude.{◌≡◌, ◌<◌, ◌≤◌, ◌-◌, ◌&&◌, ◌||◌, not, ⊤, ℕ, suc, pos, Bool, true, false, List, [], ◌∷◌, drop, length, map, slice_get, take, Option, Some, None}
 use Rattle.sim_base.specs.declared.numbering.DeclNo.{DeclNo}
 use Rattle.sim_base.specs.declared.numbering.TokenNo.{TokenNo}
 use Rattle.sim_scope.specs.declared.bound.Bound.{Bound}
@@ -31,7 +31,8 @@ use Rattle.sim_code.specs.declared.instr.Instr.TheVariants as i
 use Rattle.sim_code.specs.Code.{CodeOf}
 use Rattle.sim_code.specs.Names.{standard_names}
 use Rattle.sim_code.specs.Running.{name_runs, runs}
-use Rattle.sim_meaning.specs.Closing.{Joining, Lazily, Negated, Plainly, Sort, formals_from, is_image_denoted, is_text, is_text_type, is_variable, sort_of, stream_of}
+use Rattle.sim_meaning.specs.Attributes.{connection_at, parameter_qualification}
+use Rattle.sim_meaning.specs.Closing.{Joining, Lazily, Negated, Plainly, Sort, formals_from, is_attribute, is_attribute_denoted, is_image_denoted, is_text, is_text_type, is_variable, sort_of, stream_of}
 use Rattle.sim_meaning.specs.Constants.{text_constant}
 use Rattle.sim_meaning.specs.Constants.{text_constant}
 use Rattle.sim_meaning.specs.Names.{procedure_named}
@@ -48,8 +49,8 @@ use Rattle.codegen_expr.specs.declared.operators.Seen.TheVariants as seen
 use Rattle.codegen_expr.specs.declared.operators.Sorted.{Sorted}
 use Rattle.codegen_expr.specs.declared.operators.Sorted.TheVariants as sorted
 use Rattle.codegen_expr.specs.declared.spot.Spot.{Spot}
-use Rattle.codegen_expr.specs.Built.{ActualBuilt, ActualsBuilt, AreBuilt, ArrayBuilt, ArrayPlaceBuilt, CallBuilt, CellBuilt, ConstantBuilt, DotBuilt, IsBuilt, NameBuilt, NamedBuilt, PlaceBuilt, PlainBuilt, StandardBuilt, StandsIn, VariableBuilt}
-use Rattle.codegen_expr.specs.CodeExpr.{ActualAt, ActualsAt, ArrayAt, ArrayPlaceAt, CallAt, CellAt, CellPlaceAt, ConstantAt, DotAt, ElementAt, ExprAt, ExprsAt, GivenAt, IsConstant, NamedAt, PlaceAt, Stand, StandardAt, StandardIs, VariableAt, VariablePlaceAt, join_instrs, operands, two_instr}
+use Rattle.codegen_expr.specs.Built.{ActualBuilt, ActualsBuilt, AreBuilt, ArrayBuilt, ArrayPlaceBuilt, CallBuilt, CellBuilt, ConnectedNameBuilt, ConstantBuilt, DotBuilt, IsBuilt, NameBuilt, NamedBuilt, NamedPlaceBuilt, PlaceBuilt, PlainBuilt, StandardBuilt, StandsIn, ThroughBuilt, VariableBuilt}
+use Rattle.codegen_expr.specs.CodeExpr.{ActualAt, ActualsAt, ArrayAt, ArrayPlaceAt, CallAt, CellAt, CellPlaceAt, ConnectedNameAt, ConstantAt, DotAt, ElementAt, ExprAt, ExprsAt, FittingAt, GivenAt, IsConstant, NamedAt, NamedPlaceAt, PlaceAt, Stand, StandardAt, StandardIs, ThroughAt, VariableAt, VariablePlaceAt, join_instrs, operands, two_instr}
 use Rattle.codegen_expr.specs.Drafts.{DraftOf, Emits}
 use Rattle.codegen_expr.specs.Sites.{Inside, Pushes, Site}
 
@@ -107,15 +108,30 @@ SeenAt s code site n line d seen.Constant es Operands Actuals p q = ConstantAt s
 SeenAt s code site n line d (seen.Call block) es Operands Actuals p q = CallAt s code site n line d block es (Actuals (formals_of_block s block)) p q
 SeenAt s code site n line d seen.Nothing es Operands Actuals p q = ⊥
 
--- how an actual parameter is passed
-abbrev pub passed_of : Mode → FormalKind → (text : Bool) → Passed
-passed_of mode.ByValue shape.Array text = passed.Copied
-passed_of mode.ByReference shape.Array text = passed.Plain
-passed_of mode.ByValue shape.Simple true = passed.CopiedText
-passed_of mode.ByValue shape.Simple false = passed.Plain
-passed_of mode.ByReference shape.Simple text = passed.Plain
-passed_of mode shape.Procedure text = passed.Other
-passed_of mode.ByName kind text = passed.Other
+-- what an attribute of an object is seen as
+abbrev pub parameter_seen : FormalKind → Seen
+parameter_seen shape.Simple = seen.Variable
+parameter_seen shape.Array = seen.Array
+parameter_seen shape.Procedure = seen.Nothing
+
+abbrev pub attribute_seen : Option Entry → Seen
+attribute_seen (Some (entry.Variable type)) = seen.Variable
+attribute_seen (Some (entry.Constant type)) = seen.Constant
+attribute_seen (Some (entry.Array element dimensions)) = seen.Array
+attribute_seen (Some (entry.Formal f)) = parameter_seen f.kind
+attribute_seen (Some (entry.Procedure result block)) = seen.Call block
+attribute_seen _ = seen.Nothing
+
+-- how an actual parameter is passed; a class keeps the arrays that it gets by reference
+abbrev pub passed_of : (keeps : Bool) → Mode → FormalKind → (text : Bool) → Passed
+passed_of keeps mode.ByValue shape.Array text = passed.Copied
+passed_of true mode.ByReference shape.Array text = passed.Kept
+passed_of false mode.ByReference shape.Array text = passed.Plain
+passed_of keeps mode.ByValue shape.Simple true = passed.CopiedText
+passed_of keeps mode.ByValue shape.Simple false = passed.Plain
+passed_of keeps mode.ByReference shape.Simple text = passed.Plain
+passed_of keeps mode shape.Procedure text = passed.Other
+passed_of keeps mode.ByName kind text = passed.Other
 
 -- what code has of a standard name that is done by itself: its number, and how many operands it takes
 pub record NumberedIs (name : Standard) (row : StandardCode) : Type 0 where
@@ -156,7 +172,7 @@ Puts s w n old new e = Emits w old new (IsBuilt s w.text e) (λ final site p q. 
 unfoldable pub PutsSeen : Source → Spot → (n : ℕ) → (old new : DraftOf) → TokenNo → DeclNo → Seen → Expressions → Type 0
 PutsSeen s w n old new token d x es =
     Emits w old new (SeenBuilt s w.text d x es (AreBuilt s w.text es) (λ formals. ActualsBuilt s w.text es formals))
-    (λ final site p q. SeenAt s final site n (line_at s token.0) d x es (λ u v. ExprsAt s final site (suc n) es u v) (λ formals u v. ActualsAt s final site (suc n) (line_at s token.0) es formals u v) p q)
+    (λ final site p q. SeenAt s final site n (line_at s token.0) d x es (λ u v. ExprsAt s final site (suc n) es u v) (λ formals u v. ActualsAt s final site (suc n) (line_at s token.0) false es formals u v) p q)
 
 unfoldable pub Writes : Bound → Spot → (n : ℕ) → (old new : DraftOf) → Expr → Type 0
 Writes b w n old new e = Puts (source_of b) w n old new (syntax_of e)
@@ -185,11 +201,32 @@ WritesSign b w n old new sign token = (start : DraftOf) (x : Expression) → Put
 unfoldable pub WritesNot : Bound → Spot → (n : ℕ) → (old new : DraftOf) → List TokenNo → Expr → Type 0
 WritesNot b w n old new tokens e = Puts (source_of b) w n old new (negated tokens (syntax_of e))
 
+-- an identifier with its operands that is not seen through a connection, and may be a call that leaves no value
+unfoldable pub PutsUnconnected : Source → Spot → (n : ℕ) → (old new : DraftOf) → TokenNo → Option Denotation → Expressions → Type 0
+PutsUnconnected s w n old new token u es =
+    Emits w old new (NamedBuilt s w.text u es (AreBuilt s w.text es) (λ formals. ActualsBuilt s w.text es formals))
+    (λ final site p q. NamedAt s final site n (line_at s token.0) u es (λ x y. ExprsAt s final site n es x y) (λ x y. ExprsAt s final site (suc n) es x y) (λ formals x y. ActualsAt s final site (suc n) (line_at s token.0) false es formals x y) p q)
+
+unfoldable pub WritesUnconnected : Bound → Spot → (n : ℕ) → (old new : DraftOf) → TokenNo → Option Denotation → List Expr → Type 0
+WritesUnconnected b w n old new token u es = PutsUnconnected (source_of b) w n old new token u (expressions (map syntax_of es))
+
+-- the same seen through a connection
+unfoldable pub WritesThrough : Bound → Spot → (n : ℕ) → (old new : DraftOf) → TokenNo → (connection : ℕ) → Option Denotation → List Expr → Type 0
+WritesThrough b w n old new token k u ys =
+    let s = source_of b in
+    let es = expressions (map syntax_of ys) in
+    Emits w old new (ConnectedNameBuilt s w.text k u es (AreBuilt s w.text es) (λ formals. ActualsBuilt s w.text es formals))
+    (λ final site p q. ConnectedNameAt s final site n (line_at s token.0) k u es (λ x y. ExprsAt s final site (suc n) es x y) (λ formals x y. ActualsAt s final site (suc n) (line_at s token.0) false es formals x y) p q)
+
 -- an identifier with its operands, which may be a call that leaves no value
 unfoldable pub PutsNamed : Source → Spot → (n : ℕ) → (old new : DraftOf) → TokenNo → Option Denotation → Expressions → Type 0
 PutsNamed s w n old new token u es =
-    Emits w old new (NamedBuilt s w.text u es (AreBuilt s w.text es) (λ formals. ActualsBuilt s w.text es formals))
-    (λ final site p q. NamedAt s final site n (line_at s token.0) u es (λ x y. ExprsAt s final site n es x y) (λ x y. ExprsAt s final site (suc n) es x y) (λ formals x y. ActualsAt s final site (suc n) (line_at s token.0) es formals x y) p q)
+    Emits w old new
+    (ThroughBuilt (connection_at s token.0) (λ k. ConnectedNameBuilt s w.text k u es (AreBuilt s w.text es) (λ formals. ActualsBuilt s w.text es formals))
+    (NamedBuilt s w.text u es (AreBuilt s w.text es) (λ formals. ActualsBuilt s w.text es formals)))
+    (λ final site p q. ThroughAt (connection_at s token.0)
+    (λ k. ConnectedNameAt s final site n (line_at s token.0) k u es (λ x y. ExprsAt s final site (suc n) es x y) (λ formals x y. ActualsAt s final site (suc n) (line_at s token.0) false es formals x y))
+    (NamedAt s final site n (line_at s token.0) u es (λ x y. ExprsAt s final site n es x y) (λ x y. ExprsAt s final site (suc n) es x y) (λ formals x y. ActualsAt s final site (suc n) (line_at s token.0) false es formals x y)) p q)
 
 unfoldable pub WritesNamed : Bound → Spot → (n : ℕ) → (old new : DraftOf) → TokenNo → Option Denotation → List Expr → Type 0
 WritesNamed b w n old new token u es = PutsNamed (source_of b) w n old new token u (expressions (map syntax_of es))
@@ -202,17 +239,17 @@ WritesCell b w n old new d = Emits w old new (CellBuilt (source_of b) w.text d) 
 unfoldable pub WritesList : Bound → Spot → (n : ℕ) → (old new : DraftOf) → List Expr → Type 0
 WritesList b w n old new es = Emits w old new (AreBuilt (source_of b) w.text (expressions (map syntax_of es))) (λ final site p q. ExprsAt (source_of b) final site n (expressions (map syntax_of es)) p q)
 
--- the address of an element of an array; the token is that of the identifier
-unfoldable pub WritesElement : Bound → Spot → (n : ℕ) → (old new : DraftOf) → TokenNo → DeclNo → List Expr → Type 0
-WritesElement b w n old new token d es =
+-- the address of an element of an array, with the class of a reference there; the token is that of the identifier
+unfoldable pub WritesElement : Bound → Spot → (n : ℕ) → (old new : DraftOf) → (class : ℕ) → TokenNo → DeclNo → List Expr → Type 0
+WritesElement b w n old new class token d es =
     Emits w old new (CellBuilt (source_of b) w.text d × AreBuilt (source_of b) w.text (expressions (map syntax_of es)))
-    (λ final site p q. ElementAt (source_of b) final site n (line_at (source_of b) token.0) d (expressions (map syntax_of es)) (λ x y. ExprsAt (source_of b) final site (suc n) (expressions (map syntax_of es)) x y) p q)
+    (λ final site p q. ElementAt (source_of b) final site n (line_at (source_of b) token.0) class d (expressions (map syntax_of es)) (λ x y. ExprsAt (source_of b) final site (suc n) (expressions (map syntax_of es)) x y) p q)
 
--- actual parameters, one for each formal; the token is that of the procedure's identifier
-unfoldable pub WritesActuals : Bound → Spot → (n : ℕ) → (old new : DraftOf) → TokenNo → List Expr → List Formal → Type 0
-WritesActuals b w n old new token es formals =
+-- actual parameters, one for each formal; the token is that of the identifier that is called
+unfoldable pub WritesActuals : Bound → Spot → (n : ℕ) → (old new : DraftOf) → (keeps : Bool) → TokenNo → List Expr → List Formal → Type 0
+WritesActuals b w n old new keeps token es formals =
     Emits w old new (ActualsBuilt (source_of b) w.text (expressions (map syntax_of es)) formals)
-    (λ final site p q. ActualsAt (source_of b) final site n (line_at (source_of b) token.0) (expressions (map syntax_of es)) formals p q)
+    (λ final site p q. ActualsAt (source_of b) final site n (line_at (source_of b) token.0) keeps (expressions (map syntax_of es)) formals p q)
 
 -- the link that a call of a procedure begins with
 unfoldable pub WritesLink : Bound → Spot → (n : ℕ) → (old new : DraftOf) → DeclNo → Type 0
@@ -259,16 +296,23 @@ WritesImage w n old new image = Emits w old new ⊤ (λ final site p q. Pushes f
 
 -- ---- attributes of texts
 
--- where a variable lies
-unfoldable pub PutsPlace : Source → Spot → (n : ℕ) → (old new : DraftOf) → Expression → Type 0
-PutsPlace s w n old new e = Emits w old new (PlaceBuilt s w.text e) (λ final site p q. PlaceAt s final site n e p q)
+-- where a variable lies, with the class of a reference there
+unfoldable pub PutsPlace : Source → Spot → (n : ℕ) → (old new : DraftOf) → (class : ℕ) → Expression → Type 0
+PutsPlace s w n old new class e = Emits w old new (PlaceBuilt s w.text e) (λ final site p q. PlaceAt s final site n class e p q)
 
-unfoldable pub WritesPlace : Bound → Spot → (n : ℕ) → (old new : DraftOf) → Expr → Type 0
-WritesPlace b w n old new x = PutsPlace (source_of b) w n old new (syntax_of x)
+unfoldable pub WritesPlace : Bound → Spot → (n : ℕ) → (old new : DraftOf) → (class : ℕ) → Expr → Type 0
+WritesPlace b w n old new class x = PutsPlace (source_of b) w n old new class (syntax_of x)
 
 -- the same of an identifier with subscripts
-unfoldable pub WritesNamedPlace : Bound → Spot → (n : ℕ) → (old new : DraftOf) → Identifier → List Expr → Type 0
-WritesNamedPlace b w n old new x es = PutsPlace (source_of b) w n old new (Named x (expressions (map syntax_of es)))
+unfoldable pub WritesNamedPlace : Bound → Spot → (n : ℕ) → (old new : DraftOf) → (class : ℕ) → Identifier → List Expr → Type 0
+WritesNamedPlace b w n old new class x es = PutsPlace (source_of b) w n old new class (Named x (expressions (map syntax_of es)))
+
+-- of one that is not seen through a connection
+unfoldable pub WritesUnconnectedPlace : Bound → Spot → (n : ℕ) → (old new : DraftOf) → (class : ℕ) → Identifier → List Expr → Type 0
+WritesUnconnectedPlace b w n old new class x ys =
+    let s = source_of b in
+    let es = expressions (map syntax_of ys) in
+    Emits w old new (NamedPlaceBuilt s w.text (denoted s x.token.0) es (AreBuilt s w.text es)) (λ final site p q. NamedPlaceAt s final site n (line_at s x.token.0) class (denoted s x.token.0) es (λ u v. ExprsAt s final site (suc n) es u v) p q)
 
 -- of a declared identifier, as it is seen
 abbrev pub SeenPlaceBuilt : Source → (text : ℕ) → DeclNo → Seen → Expressions → (Subscripts : Type 0) → Type 0
@@ -276,32 +320,36 @@ SeenPlaceBuilt s text d seen.Variable es Subscripts = VariableBuilt s text d es
 SeenPlaceBuilt s text d seen.Array es Subscripts = ArrayPlaceBuilt s text d es Subscripts
 SeenPlaceBuilt s text d _ es Subscripts = ⊥
 
-abbrev pub SeenPlaceAt : Source → CodeOf → Site → ℕ → (line : ℕ) → DeclNo → Seen → Expressions → (Subscripts : ℕ → ℕ → Type 0) → ℕ → ℕ → Type 0
-SeenPlaceAt s code site n line d seen.Variable es Subscripts p q = VariablePlaceAt s code site n d es p q
-SeenPlaceAt s code site n line d seen.Array es Subscripts p q = ArrayPlaceAt s code site n line d es Subscripts p q
-SeenPlaceAt s code site n line d _ es Subscripts p q = ⊥
+abbrev pub SeenPlaceAt : Source → CodeOf → Site → (n line class : ℕ) → DeclNo → Seen → Expressions → (Subscripts : ℕ → ℕ → Type 0) → ℕ → ℕ → Type 0
+SeenPlaceAt s code site n line class d seen.Variable es Subscripts p q = VariablePlaceAt s code site n class d es p q
+SeenPlaceAt s code site n line class d seen.Array es Subscripts p q = ArrayPlaceAt s code site n line class d es Subscripts p q
+SeenPlaceAt s code site n line class d _ es Subscripts p q = ⊥
 
-unfoldable pub WritesSeenPlace : Bound → Spot → (n : ℕ) → (old new : DraftOf) → TokenNo → DeclNo → Seen → List Expr → Type 0
-WritesSeenPlace b w n old new token d x ys =
+unfoldable pub WritesSeenPlace : Bound → Spot → (n : ℕ) → (old new : DraftOf) → (class : ℕ) → TokenNo → DeclNo → Seen → List Expr → Type 0
+WritesSeenPlace b w n old new class token d x ys =
     let s = source_of b in
     let es = expressions (map syntax_of ys) in
-    Emits w old new (SeenPlaceBuilt s w.text d x es (AreBuilt s w.text es)) (λ final site p q. SeenPlaceAt s final site n (line_at s token.0) d x es (λ u v. ExprsAt s final site (suc n) es u v) p q)
+    Emits w old new (SeenPlaceBuilt s w.text d x es (AreBuilt s w.text es)) (λ final site p q. SeenPlaceAt s final site n (line_at s token.0) class d x es (λ u v. ExprsAt s final site (suc n) es u v) p q)
 
 -- the address of the cell of a declaration
-unfoldable pub WritesCellPlace : Bound → Spot → (n : ℕ) → (old new : DraftOf) → DeclNo → Type 0
-WritesCellPlace b w n old new d = Emits w old new (CellBuilt (source_of b) w.text d) (λ final site p q. CellPlaceAt (source_of b) final site n d p q)
+unfoldable pub WritesCellPlace : Bound → Spot → (n : ℕ) → (old new : DraftOf) → (class : ℕ) → DeclNo → Type 0
+WritesCellPlace b w n old new class d = Emits w old new (CellBuilt (source_of b) w.text d) (λ final site p q. CellPlaceAt (source_of b) final site n class d p q)
 
 -- What is written of an object before a dot: of sysin and sysout nothing, of a variable where it lies, or the text.
 abbrev pub PutsObject : Source → Spot → (n : ℕ) → (old new : DraftOf) → Object → Expression → Type 0
 PutsObject s w n old new (object.Stream image) e = (new ≡ old) × (stream_of s e ≡ Some image)
-PutsObject s w n old new object.Place e = PutsPlace s w n old new e × (stream_of s e ≡ None)
+PutsObject s w n old new object.Place e = PutsPlace s w n old new 0 e × (stream_of s e ≡ None)
 PutsObject s w n old new object.Value e = Puts s w n old new e × (stream_of s e ≡ None)
+
+-- a variable, or an attribute that is one
+abbrev pub lies : Source → Expression → Bool
+lies s e = is_variable s e || is_attribute s e
 
 -- whether an attribute behind a variable gets where that lies
 abbrev pub Placed : Source → (moves : Bool) → Object → Expression → Type 0
 Placed s moves (object.Stream image) e = ⊤
-Placed s moves object.Place e = (moves && is_variable s e) ≡ true
-Placed s moves object.Value e = (moves && is_variable s e) ≡ false
+Placed s moves object.Place e = (moves && lies s e) ≡ true
+Placed s moves object.Value e = (moves && lies s e) ≡ false
 
 -- An object is written in front of an attribute, of which it is known whether it moves the position of its text.
 pub record PutsBefore (s : Source) (w : Spot) (n : ℕ) (old new : DraftOf) (moves : Bool) (o : Object) (e : Expression) : Type 0 where
@@ -320,6 +368,10 @@ moves_selection s (Cast token class) = false
 abbrev pub takes_image : Source → Selection → Bool
 takes_image s (Take token name es) = is_image_denoted (denoted s name.token.0)
 takes_image s (Cast token class) = false
+
+abbrev pub takes_attribute : Source → Selection → Bool
+takes_attribute s (Take token name es) = is_attribute_denoted s (denoted s name.token.0) es
+takes_attribute s (Cast token class) = false
 
 -- the image of a stream that is taken of it, in front of what moves its position
 abbrev pub image_placed : (moves : Bool) → Object → (takes_image : Bool) → Option ℕ
@@ -353,14 +405,20 @@ WritesDot b w n old new o x ys =
     let s = source_of b in
     let es = expressions (map syntax_of ys) in
     (start : DraftOf) (e : Expression) → PutsBefore s w n start old (moves_denoted (denoted s x.token.0)) o e
-    → Emits w start new (DotBuilt (denoted s x.token.0) (stream_of s e) (is_variable s e) es (PlaceBuilt s w.text e) (IsBuilt s w.text e) (AreBuilt s w.text es))
-    (λ final site p q. DotAt final site n (line_at s x.token.0) (denoted s x.token.0) (stream_of s e) (is_variable s e) es (λ u v. PlaceAt s final site n e u v) (λ u v. ExprAt s final site n e u v) (λ u v. ExprsAt s final site n es u v) (λ u v. ExprsAt s final site (suc n) es u v) p q)
+    → Emits w start new (DotBuilt s (denoted s x.token.0) (stream_of s e) (lies s e) es (PlaceBuilt s w.text e) (IsBuilt s w.text e) (AreBuilt s w.text es) (λ formals. ActualsBuilt s w.text es formals))
+    (λ final site p q. DotAt s final site n (line_at s x.token.0) (denoted s x.token.0) (stream_of s e) (lies s e) es (λ u v. PlaceAt s final site n 0 e u v) (λ u v. ExprAt s final site n e u v) (λ u v. ExprsAt s final site n es u v) (λ u v. ExprsAt s final site (suc n) es u v) (λ formals u v. ActualsAt s final site (suc n) (line_at s x.token.0) false es formals u v) p q)
 
 -- the last thing that is taken of an operand, whose value is needed
 unfoldable pub WritesLast : Bound → Spot → (n : ℕ) → (old new : DraftOf) → Object → Selector → Type 0
 WritesLast b w n old new o y =
     (start : DraftOf) (e : Expression) → PutsBefore (source_of b) w n start old (moves_selection (source_of b) (selector_syntax y)) o e
     → Puts (source_of b) w n start new (selected e (selector_syntax y ∷ []))
+
+-- where the last thing lies that is taken of an operand, with the class of a reference there
+unfoldable pub WritesTakenPlace : Bound → Spot → (n : ℕ) → (old new : DraftOf) → (class : ℕ) → Object → Selector → Type 0
+WritesTakenPlace b w n old new class o y =
+    (start : DraftOf) (e : Expression) → PutsBefore (source_of b) w n start old (moves_selection (source_of b) (selector_syntax y)) o e
+    → PutsPlace (source_of b) w n start new class (selected e (selector_syntax y ∷ []))
 
 -- what is taken of an object but the last of it
 unfoldable pub WritesSteps : Bound → Spot → (n : ℕ) → (old new : DraftOf) → (o : Object) → List Selector → Object → Type 0
@@ -423,18 +481,25 @@ unfoldable pub WritesTextAt : Bound → Spot → (n : ℕ) → (old new : DraftO
 WritesTextAt b w n old new token =
     Emits w old new (ConstantBuilt (text_constant (source_of b) token.0) NoMore) (λ final site p q. GivenAt (source_of b) final site n (text_constant (source_of b) token.0) p q)
 
--- an actual parameter for this formal
-unfoldable pub WritesActual : Bound → Spot → (n : ℕ) → (old new : DraftOf) → TokenNo → Expr → Formal → Type 0
-WritesActual b w n old new token e f =
+-- an actual parameter for this formal, as it is passed
+unfoldable pub WritesPassed : Bound → Spot → (n : ℕ) → (old new : DraftOf) → (keeps : Bool) → TokenNo → Expr → Formal → Type 0
+WritesPassed b w n old new keeps token e f =
     Emits w old new (IsBuilt (source_of b) w.text (syntax_of e) × ActualBuilt f.mode f.kind)
-    (λ final site p q. ActualAt final site n (line_at (source_of b) token.0) f.mode f.kind (is_text_type f.ty) (λ x y. ExprAt (source_of b) final site n (syntax_of e) x y) p q)
+    (λ final site p q. ActualAt final site n (line_at (source_of b) token.0) keeps f.mode f.kind (is_text_type f.ty) (λ x y. ExprAt (source_of b) final site n (syntax_of e) x y) p q)
+
+-- and held against the qualification of the formal
+unfoldable pub WritesActual : Bound → Spot → (n : ℕ) → (old new : DraftOf) → (keeps : Bool) → TokenNo → Expr → Formal → Type 0
+WritesActual b w n old new keeps token e f =
+    let s = source_of b in
+    Emits w old new (IsBuilt s w.text (syntax_of e) × ActualBuilt f.mode f.kind)
+    (λ final site p q. FittingAt s final site n (line_at s token.0) (parameter_qualification s f.kind f.ty) (λ u v. ActualAt final site n (line_at s token.0) keeps f.mode f.kind (is_text_type f.ty) (λ x y. ExprAt s final site n (syntax_of e) x y) u v) p q)
 
 -- in a loop: what is written of the rest is written of the whole
 unfoldable pub OwesList : Bound → Spot → (n : ℕ) → (old : DraftOf) → List Expr → (m : ℕ) → (now : DraftOf) → List Expr → Type 0
 OwesList b w n old es m now rest = (end : DraftOf) → WritesList b w m now end rest → WritesList b w n old end es
 
-unfoldable pub OwesActuals : Bound → Spot → (n : ℕ) → (old : DraftOf) → TokenNo → List Expr → List Formal → (m : ℕ) → (now : DraftOf) → List Expr → List Formal → Type 0
-OwesActuals b w n old token es fs m now rest formals = (end : DraftOf) → WritesActuals b w m now end token rest formals → WritesActuals b w n old end token es fs
+unfoldable pub OwesActuals : Bound → Spot → (n : ℕ) → (old : DraftOf) → (keeps : Bool) → TokenNo → List Expr → List Formal → (m : ℕ) → (now : DraftOf) → List Expr → List Formal → Type 0
+OwesActuals b w n old keeps token es fs m now rest formals = (end : DraftOf) → WritesActuals b w m now end keeps token rest formals → WritesActuals b w n old end keeps token es fs
 
 unfoldable pub OwesTails : Bound → Spot → (n : ℕ) → (old : DraftOf) → List Tail → (now : DraftOf) → List Tail → Type 0
 OwesTails b w n old ts now rest = (end : DraftOf) → WritesTails b w n now end rest → WritesTails b w n old end ts

@@ -4,5 +4,6 @@ pub mod Drafts
 pub mod Built
 pub mod Known
 pub mod Emit
+pub mod EmitObjects
 pub mod PlaceAlone
 pub mod Forms

@@ -7,5 +7,5 @@ use Rattle.codegen_expr.specs.Drafts.{DraftOf, given_up}
 use Rattle.codegen_expr.specs.Emit.{WritesPlace}
 
 -- the operand, if no others stand beside it
-unfoldable pub WritesPlaceAlone : Bound → Spot → (n : ℕ) → (old new : DraftOf) → (others : ℕ) → Expr → Type 0
-WritesPlaceAlone b w n old new others x = (others ≡ 0 → WritesPlace b w n old new x) × (others ≢ 0 → new ≡ given_up old)
+unfoldable pub WritesPlaceAlone : Bound → Spot → (n : ℕ) → (old new : DraftOf) → (class others : ℕ) → Expr → Type 0
+WritesPlaceAlone b w n old new class others x = (others ≡ 0 → WritesPlace b w n old new class x) × (others ≢ 0 → new ≡ given_up old)

@@ -1,14 +1,16 @@
 //! Identifiers with their operands: variables, elements of arrays, constants, calls.
-ghost use Rattle.codegen_expr.specs.Emit.{WritesActual, WritesActuals, WritesCall, WritesElement, WritesGiving, WritesNamed, WritesSeen};
+ghost use Rattle.codegen_expr.specs.Emit.{WritesActual, WritesActuals, WritesCall, WritesElement, WritesGiving, WritesNamed, WritesPassed, WritesSeen, WritesThrough, WritesUnconnected};
 ghost use Rattle.codegen_expr.specs.Known.{Known};
 ghost use Rattle.std.specs.Prelude.{OnOk};
 
 use crate::cells::Cells;
+use crate::classes::{connection_at, parameter_qualification};
 use crate::draft::{Draft, deeper};
 use crate::emit::emit_expr;
 use crate::instructions::{call_instr, element_instr, standard_instr};
-use crate::leaves::{emit_cell, emit_constant, emit_link};
+use crate::leaves::{emit_cell, emit_connected, emit_constant, emit_fit, emit_link};
 use crate::lookups::{block_number, denoted, formals_of_block, gives, line_at};
+use crate::objects::emit_of;
 use crate::operands::emit_list;
 use crate::operators::{Passed, Seen, passed_of, seen_of};
 use crate::spot::Spot;
@@ -19,7 +21,7 @@ use sim_scope::{Bound, Denotation, Formal, entry_of};
 use sim_tree::{Expr, Identifier};
 use std::alloc::AllocError;
 
-/// The address of an element of an array. The token is that of the array's identifier.
+/// The address of an element of an array, with the class of a reference there. The token is that of the array's identifier.
 #[cycle(emit)]
 #[tactic(auto, using(crate::proofs::Written::of_cells))]
 pub fn emit_element(
@@ -28,38 +30,44 @@ pub fn emit_element(
     spot: Spot,
     draft: &mut Draft,
     depth: u32,
+    class: u32,
     token: TokenNo,
     declaration: DeclNo,
     subscripts: &[Expr],
 ) -> Result<(), AllocError>
     requires cells { Known bound.now cells.now }
-    ensures { OnOk result (WritesElement bound.now spot depth draft.old draft.new token declaration subscripts.now) }
+    ensures { OnOk result (WritesElement bound.now spot depth draft.old draft.new class token declaration subscripts.now) }
 {
     let inside = deeper(depth)?;
     emit_cell(bound, cells, spot, draft, depth, declaration)?;
     emit_list(bound, cells, spot, draft, inside, subscripts)?;
-    draft.put(element_instr(subscripts.len())?, line_at(bound, token))
+    draft.put(
+        element_instr(subscripts.len(), class)?,
+        line_at(bound, token),
+    )
 }
 
-/// An actual parameter. The token is that of the procedure's identifier.
+/// An actual parameter as it is passed. The token is that of the identifier that is called; a class keeps the arrays that it gets by reference.
 #[cycle(emit)]
 #[tactic(auto, using(crate::proofs::Seen::sees))]
-fn emit_actual(
+fn emit_passed(
     bound: &Bound,
     cells: &Cells,
     spot: Spot,
     draft: &mut Draft,
     depth: u32,
+    keeps: bool,
     token: TokenNo,
     expr: &Expr,
     formal: Formal,
 ) -> Result<(), AllocError>
     requires cells { Known bound.now cells.now }
-    ensures { OnOk result (WritesActual bound.now spot depth draft.old draft.new token expr.now formal) }
+    ensures { OnOk result (WritesPassed bound.now spot depth draft.old draft.new keeps token expr.now formal) }
 {
     emit_expr(bound, cells, spot, draft, depth, expr)?;
-    match passed_of(formal) {
+    match passed_of(keeps, formal) {
         Passed::Plain => Ok(()),
+        Passed::Kept => draft.put(Instr::Keep, Line(0)),
         Passed::Copied => draft.put(Instr::CopyArr, line_at(bound, token)),
         Passed::CopiedText => draft.push(depth, standard_instr(15), line_at(bound, token)),
         Passed::Other => {
@@ -69,21 +77,47 @@ fn emit_actual(
     }
 }
 
-/// Actual parameters, one for each formal. The token is that of the procedure's identifier.
+/// An actual parameter; a reference is held against the qualification of its formal. The token is that of the identifier that is called.
 #[cycle(emit)]
 #[tactic(auto, using(crate::proofs::Seen::sees))]
-fn emit_actuals(
+fn emit_actual(
     bound: &Bound,
     cells: &Cells,
     spot: Spot,
     draft: &mut Draft,
     depth: u32,
+    keeps: bool,
+    token: TokenNo,
+    expr: &Expr,
+    formal: Formal,
+) -> Result<(), AllocError>
+    requires cells { Known bound.now cells.now }
+    ensures { OnOk result (WritesActual bound.now spot depth draft.old draft.new keeps token expr.now formal) }
+{
+    emit_passed(bound, cells, spot, draft, depth, keeps, token, expr, formal)?;
+    match parameter_qualification(bound, cells, formal) {
+        Some(class) => emit_fit(bound, cells, spot, draft, depth, token, class),
+        None => Ok(()),
+    }
+}
+
+/// Actual parameters, one for each formal. The token is that of the identifier that is called; a class keeps the arrays that it gets by
+/// reference.
+#[cycle(emit)]
+#[tactic(auto, using(crate::proofs::Seen::sees))]
+pub(crate) fn emit_actuals(
+    bound: &Bound,
+    cells: &Cells,
+    spot: Spot,
+    draft: &mut Draft,
+    depth: u32,
+    keeps: bool,
     token: TokenNo,
     list: &[Expr],
     formals: &[Formal],
 ) -> Result<(), AllocError>
     requires cells { Known bound.now cells.now }
-    ensures { OnOk result (WritesActuals bound.now spot depth draft.old draft.new token list.now formals.now) }
+    ensures { OnOk result (WritesActuals bound.now spot depth draft.old draft.new keeps token list.now formals.now) }
 {
     if list.len() != formals.len() {
         draft.give_up();
@@ -97,6 +131,7 @@ fn emit_actuals(
             spot,
             draft,
             inside,
+            keeps,
             token,
             &list[index],
             formals[index],
@@ -126,7 +161,9 @@ fn emit_call(
     let inside = deeper(depth)?;
     emit_link(bound, spot, draft, depth, declaration)?;
     let formals = formals_of_block(bound, cells, block);
-    emit_actuals(bound, cells, spot, draft, inside, token, list, formals)?;
+    emit_actuals(
+        bound, cells, spot, draft, inside, false, token, list, formals,
+    )?;
     let number = block_number(bound, cells, block);
     draft.put(call_instr(number, list.len())?, line_at(bound, token))
 }
@@ -167,7 +204,17 @@ fn emit_seen(
             if list.len() == 0 {
                 return emit_cell(bound, cells, spot, draft, depth, declaration);
             }
-            emit_element(bound, cells, spot, draft, depth, token, declaration, list)?;
+            emit_element(
+                bound,
+                cells,
+                spot,
+                draft,
+                depth,
+                0,
+                token,
+                declaration,
+                list,
+            )?;
             draft.put(Instr::Fetch, Line(0))
         }
         Seen::Call(block) => {
@@ -190,11 +237,10 @@ fn emit_seen(
     }
 }
 
-/// An identifier with its operands, also where it is a call that leaves no value. The token is that of the identifier, and what it denotes
-/// is given.
+/// An identifier with its operands that is not seen through a connection.
 #[cycle(emit)]
 #[tactic(auto, using(crate::proofs::Seen::sees))]
-pub fn emit_named(
+fn emit_unconnected(
     bound: &Bound,
     cells: &Cells,
     spot: Spot,
@@ -205,7 +251,7 @@ pub fn emit_named(
     list: &[Expr],
 ) -> Result<(), AllocError>
     requires cells { Known bound.now cells.now }
-    ensures { OnOk result (WritesNamed bound.now spot depth draft.old draft.new token denoted list.now) }
+    ensures { OnOk result (WritesUnconnected bound.now spot depth draft.old draft.new token denoted list.now) }
 {
     match denoted {
         Some(Denotation::Declared(declaration)) => {
@@ -229,6 +275,66 @@ pub fn emit_named(
             draft.give_up();
             Ok(())
         }
+    }
+}
+
+/// An identifier with its operands that is seen through a connection.
+#[cycle(emit)]
+#[tactic(auto, using(crate::proofs::Seen::sees))]
+fn emit_through(
+    bound: &Bound,
+    cells: &Cells,
+    spot: Spot,
+    draft: &mut Draft,
+    depth: u32,
+    token: TokenNo,
+    connection: u32,
+    denoted: Option<Denotation>,
+    list: &[Expr],
+) -> Result<(), AllocError>
+    requires cells { Known bound.now cells.now }
+    ensures { OnOk result (WritesThrough bound.now spot depth draft.old draft.new token connection denoted list.now) }
+{
+    match denoted {
+        Some(Denotation::Declared(declaration)) => {
+            emit_connected(bound, cells, spot, draft, depth, connection)?;
+            emit_of(bound, cells, spot, draft, depth, token, declaration, list)
+        }
+        Some(Denotation::Standard(_)) => {
+            draft.give_up();
+            Ok(())
+        }
+        None => {
+            draft.give_up();
+            Ok(())
+        }
+    }
+}
+
+/// An identifier with its operands, also where it is a call that leaves no value. The token is that of the identifier, and what it denotes
+/// is given.
+#[cycle(emit)]
+#[tactic(auto, using(crate::proofs::Seen::sees))]
+pub fn emit_named(
+    bound: &Bound,
+    cells: &Cells,
+    spot: Spot,
+    draft: &mut Draft,
+    depth: u32,
+    token: TokenNo,
+    denoted: Option<Denotation>,
+    list: &[Expr],
+) -> Result<(), AllocError>
+    requires cells { Known bound.now cells.now }
+    ensures { OnOk result (WritesNamed bound.now spot depth draft.old draft.new token denoted list.now) }
+{
+    match connection_at(bound, cells, token) {
+        Some(connection) => {
+            emit_through(
+                bound, cells, spot, draft, depth, token, connection, denoted, list,
+            )
+        }
+        None => emit_unconnected(bound, cells, spot, draft, depth, token, denoted, list),
     }
 }
 

@@ -27,7 +27,11 @@ pub struct Cells {
     pub texts: Vec<Option<u32>>,
     /// For each text whether it is a procedure with a result.
     pub results: Vec<bool>,
-    /// For each text the number of its cells.
+    /// For each text whether it is a class.
+    pub classes: Vec<bool>,
+    /// For each text whether it is a connection.
+    pub connections: Vec<bool>,
+    /// For each text the number of the cells that it declares.
     pub counts: Vec<u32>,
     /// For each block of the tables its number among the blocks of code.
     pub numbers: Vec<u32>,
@@ -35,4 +39,6 @@ pub struct Cells {
     pub block_count: u32,
     /// For each block of the tables its formal parameters.
     pub formals: Vec<Vec<Formal>>,
+    /// For each block of the tables the formal parameters of all its levels, if it is a class.
+    pub class_formals: Vec<Vec<Formal>>,
 }

@@ -1,10 +1,10 @@
 //! What stands before a dot, and what behind it.
-ghost use Rattle.std.specs.Prelude.{◌≡◌, ◌≢◌, ◌&&◌, drop, length, map};
+ghost use Rattle.std.specs.Prelude.{◌≡◌, ◌≢◌, ◌&&◌, ◌||◌, drop, length, map};
 ghost use Rattle.sim_scope.specs.Source.{source_of};
-ghost use Rattle.sim_tree.specs.Syntax.{Expressions};
+ghost use Rattle.sim_tree.specs.Syntax.{Expression, Expressions};
 ghost use Rattle.sim_tree.specs.SyntaxOf.{selected, selector_syntax, syntax_of};
-ghost use Rattle.sim_meaning.specs.Closing.{is_image_denoted, is_variable as is_variable_of, is_variable_denoted as is_variable_denoted_of, is_variable_entry as is_variable_entry_of, stream_denoted as stream_denoted_of, stream_of as stream_of_expression};
-ghost use Rattle.codegen_expr.specs.Emit.{image_placed as image_placed_of, moves_denoted as moves_denoted_of, moves_next, moves_selection, takes_image as takes_image_of};
+ghost use Rattle.sim_meaning.specs.Closing.{is_attribute as is_attribute_of, is_attribute_denoted as is_attribute_denoted_of, is_image_denoted, is_variable as is_variable_of, is_variable_denoted as is_variable_denoted_of, is_variable_entry as is_variable_entry_of, stream_denoted as stream_denoted_of, stream_of as stream_of_expression};
+ghost use Rattle.codegen_expr.specs.Emit.{image_placed as image_placed_of, moves_denoted as moves_denoted_of, moves_next, moves_selection, takes_attribute as takes_attribute_of, takes_image as takes_image_of};
 
 use crate::forms::{Form, form_of};
 use crate::lookups::denoted;
@@ -34,6 +34,7 @@ pub(crate) fn stream_of(bound: &Bound, expr: &Expr) -> Option<u32>
         Form::Named { name, .. } => stream_denoted(denoted(bound, name.token)),
         Form::Taken { .. } => None,
         Form::Closed { .. } => None,
+        Form::New => None,
         Form::Other => None,
     }
 }
@@ -115,16 +116,79 @@ pub(crate) fn is_variable(bound: &Bound, expr: &Expr) -> bool
         Form::Named { name, .. } => is_variable_denoted(bound, denoted(bound, name.token)),
         Form::Taken { primary, rest } => is_image_taken(bound, primary, rest),
         Form::Closed { .. } => false,
+        Form::New => false,
         Form::Other => false,
     }
 }
 
-/// Whether what moves the position of a text does so to a variable.
-pub(crate) fn is_placed(bound: &Bound, moves: bool, expr: &Expr) -> bool
-    ensures { result ≡ (moves && is_variable_of (source_of bound.now) (syntax_of expr.now)) }
+/// Whether what is denoted is a variable of an object, or an array that it has.
+#[tactic(auto, unfolding(sim_scope::specs::Source::source_of))]
+fn is_attribute_denoted(bound: &Bound, denotation: Option<Denotation>) -> bool
+    ensures { (es : Expressions) → result ≡ is_attribute_denoted_of (source_of bound.now) denotation es }
+{
+    match denotation {
+        Some(Denotation::Declared(declaration)) => {
+            is_variable_entry(entry_of(&bound.scopes, declaration))
+        }
+        _ => false,
+    }
+}
+
+/// Whether what is taken is a variable of an object, or an element of an array that it has.
+#[tactic(auto, using(crate::proofs::Attributes::dots))]
+fn takes_attribute(bound: &Bound, selector: &Selector) -> bool
+    ensures { result ≡ takes_attribute_of (source_of bound.now) (selector_syntax selector.now) }
+{
+    match selector {
+        Selector::Dot { name, .. } => is_attribute_denoted(bound, denoted(bound, name.token)),
+        Selector::Qua { .. } => false,
+    }
+}
+
+/// Whether what moves the position of a text stands behind a variable of an object.
+pub(crate) fn attribute_placed(bound: &Bound, moves: bool, selector: &Selector) -> bool
+    ensures { result ≡ (moves && takes_attribute_of (source_of bound.now) (selector_syntax selector.now)) }
 {
     if moves {
-        return is_variable(bound, expr);
+        return takes_attribute(bound, selector);
+    }
+    false
+}
+
+/// Whether an expression is a variable of an object, or an element of an array that it has.
+#[tactic(auto, using(crate::proofs::Attributes::dots))]
+fn is_attribute(bound: &Bound, expr: &Expr) -> bool
+    ensures { result ≡ is_attribute_of (source_of bound.now) (syntax_of expr.now) }
+{
+    match form_of(expr) {
+        Form::Named { .. } => false,
+        Form::Taken { rest, .. } => is_attribute_taken(bound, rest),
+        Form::Closed { .. } => false,
+        Form::New => false,
+        Form::Other => false,
+    }
+}
+
+/// Whether the last of what is taken is a variable of an object, or an element of an array that it has.
+#[tactic(auto, using(crate::proofs::Attributes::dots))]
+fn is_attribute_taken(bound: &Bound, rest: &[Selector]) -> bool
+    ensures { (x : Expression) → length rest.now ≢ 0 → result ≡ is_attribute_of (source_of bound.now) (selected x (map selector_syntax rest.now)) }
+{
+    if rest.len() == 0 {
+        return false;
+    }
+    takes_attribute(bound, &rest[rest.len() - 1])
+}
+
+/// Whether what moves the position of a text does so to a variable.
+pub(crate) fn is_placed(bound: &Bound, moves: bool, expr: &Expr) -> bool
+    ensures { result ≡ (moves && (is_variable_of (source_of bound.now) (syntax_of expr.now) || is_attribute_of (source_of bound.now) (syntax_of expr.now))) }
+{
+    if moves {
+        if is_variable(bound, expr) {
+            return true;
+        }
+        return is_attribute(bound, expr);
     }
     false
 }

@@ -1,7 +1,7 @@
 //! Code that is being written.
 ghost use Rattle.std.specs.Prelude.{◌≡◌, [], IfOk, OnOk, length, pos, suc, true};
 ghost use Rattle.sim_code.specs.declared.instr.Instr.TheVariants as i;
-ghost use Rattle.codegen_expr.specs.Drafts.{filled_in, given_up, with_hole, with_instr, with_push, with_room, with_temp};
+ghost use Rattle.codegen_expr.specs.Drafts.{class_of as class_of_block, filled_in, given_up, with_hole, with_instr, with_push, with_room, with_temp};
 
 use sim_base::Line;
 use sim_code::{Instr, Lined};
@@ -15,6 +15,7 @@ pub struct Draft {
     room: u32,
     size: u32,
     whole: bool,
+    classes: Vec<u32>,
 }
 
 impl Model for Draft {
@@ -22,20 +23,36 @@ impl Model for Draft {
 
     ghost Value = { DraftOf };
 
-    ghost view = { λ d. record { instrs = d.instrs.items; room = d.room; size = d.size; whole = d.whole } };
+    ghost view = { λ d. record { instrs = d.instrs.items; room = d.room; size = d.size; whole = d.whole; classes = d.classes.items } };
 }
 
 impl Draft {
-    /// No instruction yet.
-    pub fn new(alloc: Global) -> Draft
-        ensures { result ≡ record { instrs = []; room = 0; size = 0; whole = true } }
+    /// No instruction yet. The class of each block of the code is given, 0 where it is that of no class.
+    pub fn new(alloc: Global, classes: Vec<u32>) -> Draft
+        ensures { result ≡ record { instrs = []; room = 0; size = 0; whole = true; classes = classes.items } }
     {
         Draft {
             instrs: Vec::new(alloc),
             room: 0,
             size: 0,
             whole: true,
+            classes,
         }
+    }
+
+    /// The class of a block of the code, or 0.
+    pub fn class_of(&self, block: u32) -> u32
+        ensures { result ≡ class_of_block self.now.classes block }
+    {
+        match self.classes.get(block as usize) {
+            Some(class) => *class,
+            None => 0,
+        }
+    }
+
+    /// The allocator of the instructions.
+    pub fn alloc(&self) -> Global {
+        *self.instrs.allocator()
     }
 
     /// The instructions.

@@ -8,8 +8,9 @@ use crate::cells::Cells;
 use crate::dots::moves_at;
 use crate::draft::Draft;
 use crate::instructions::character_instr;
-use crate::leaves::{emit_sign, emit_text};
+use crate::leaves::{emit_member, emit_sign, emit_text, emit_this};
 use crate::lookups::is_text;
+use crate::objects::emit_new;
 use crate::operands::{emit_factors, emit_not, emit_operand, emit_operands, emit_terms};
 use crate::selectors::{emit_end, emit_start, emit_steps};
 use crate::spot::Spot;
@@ -149,23 +150,23 @@ pub fn emit_expr(
             emit_operand_named(bound, cells, spot, draft, depth, name, arguments)
         }
         Expr::Parentheses { inner, .. } => emit_expr(bound, cells, spot, draft, depth, inner),
-        Expr::Member { .. } => {
-            draft.give_up();
-            Ok(())
+        Expr::Member {
+            object,
+            membership,
+            class,
+            ..
+        } => {
+            emit_expr(bound, cells, spot, draft, depth, object)?;
+            emit_member(bound, cells, spot, draft, depth, *membership, class.token)
         }
         Expr::Text { token, .. } => emit_text(bound, cells, spot, draft, depth, *token),
-        Expr::NoObject { .. } => {
-            draft.give_up();
-            Ok(())
-        }
+        Expr::NoObject { .. } => draft.push(depth, Instr::None, Line(0)),
         Expr::Notext { .. } => draft.push(depth, Instr::NoText, Line(0)),
-        Expr::This { .. } => {
-            draft.give_up();
-            Ok(())
-        }
-        Expr::New { .. } => {
-            draft.give_up();
-            Ok(())
-        }
+        Expr::This { token, .. } => emit_this(bound, cells, spot, draft, depth, *token),
+        Expr::New {
+            token,
+            class,
+            arguments,
+        } => emit_new(bound, cells, spot, draft, depth, *token, class, arguments),
     }
 }

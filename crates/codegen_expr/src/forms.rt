@@ -24,6 +24,8 @@ pub enum Form<'a> {
     Closed {
         inner: &'a Expr,
     },
+    /// A generation.
+    New,
     /// Something else.
     Other,
 }
@@ -122,19 +124,20 @@ pub fn form_of(expr: &Expr) -> Form
         Expr::NoObject { .. } => Form::Other,
         Expr::Notext { .. } => Form::Other,
         Expr::This { .. } => Form::Other,
-        Expr::New { .. } => Form::Other,
+        Expr::New { .. } => Form::New,
     }
 }
 
 /// The token at which the type of an expression stands.
 #[tactic(auto, using(crate::proofs::Formed::formed))]
-pub(crate) fn typed_token(expr: &Expr) -> TokenNo
+pub fn typed_token(expr: &Expr) -> TokenNo
     ensures { result.0 ≡ typed_token_of (syntax_of expr.now) }
 {
     match form_of(expr) {
         Form::Closed { inner } => typed_token(inner),
         Form::Named { .. } => naming_token(expr),
         Form::Taken { .. } => naming_token(expr),
+        Form::New => naming_token(expr),
         Form::Other => naming_token(expr),
     }
 }

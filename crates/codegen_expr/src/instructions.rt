@@ -1,8 +1,10 @@
 //! Instructions with operands.
 ghost use Rattle.std.specs.Prelude.{◌≡◌, ◌<◌, IfOk, pos};
 ghost use Rattle.sim_code.specs.declared.instr.Instr.TheVariants as i;
+ghost use Rattle.codegen_expr.specs.CodeExpr.{member_instr as member_instr_of};
 
 use sim_code::Instr;
+use sim_tree::Membership;
 use std::alloc::AllocError;
 
 /// The instruction that pushes the value of a cell.
@@ -15,14 +17,14 @@ pub fn load_instr(level: u32, cell: u32) -> Instr
     }
 }
 
-/// The instruction that finds an element by so many subscripts.
-pub fn element_instr(subscripts: usize) -> Result<Instr, AllocError>
-    ensures { IfOk result (λ x. x ≡ i.Elem (pos subscripts) (pos 0)) }
+/// The instruction that finds an element by so many subscripts. The class is that of references in the array, or 0.
+pub fn element_instr(subscripts: usize, class: u32) -> Result<Instr, AllocError>
+    ensures { IfOk result (λ x. x ≡ i.Elem (pos subscripts) (pos class)) }
 {
     let subscripts = i64::try_from(subscripts).map_err(|_| AllocError)?;
     Ok(Instr::Elem {
         subscripts,
-        class: 0,
+        class: i64::from(class),
     })
 }
 
@@ -66,15 +68,60 @@ pub fn constant_text_instr(number: u32) -> Instr
     Instr::TextK(i64::from(number))
 }
 
-/// The instruction that pushes the address of a cell.
-pub fn address_instr(level: u32, cell: u32) -> Instr
-    ensures { result ≡ i.Addr (pos level) (pos cell) (pos 0) }
+/// The instruction that pushes the address of a cell. The class is that of a reference in it, or 0.
+pub fn address_instr(level: u32, cell: u32, class: u32) -> Instr
+    ensures { result ≡ i.Addr (pos level) (pos cell) (pos class) }
 {
     Instr::Addr {
         level: i64::from(level),
         cell: i64::from(cell),
-        class: 0,
+        class: i64::from(class),
     }
+}
+
+/// The instruction that finds a cell of an object. The class is that of a reference in it, or 0.
+pub fn attribute_instr(cell: u32, class: u32) -> Instr
+    ensures { result ≡ i.AddrR (pos cell) (pos class) }
+{
+    Instr::AddrR {
+        cell: i64::from(cell),
+        class: i64::from(class),
+    }
+}
+
+/// The instruction that pushes the object of a level.
+pub fn this_instr(level: u32) -> Instr
+    ensures { result ≡ i.This (pos level) }
+{
+    Instr::This(i64::from(level))
+}
+
+/// The instruction that generates an object of a class with so many actual parameters.
+pub fn new_instr(class: u32, actuals: usize) -> Result<Instr, AllocError>
+    ensures { IfOk result (λ x. x ≡ i.New (pos class) (pos actuals)) }
+{
+    let values = i64::try_from(actuals).map_err(|_| AllocError)?;
+    Ok(Instr::New {
+        class: i64::from(class),
+        values,
+    })
+}
+
+/// The instruction of `is` or `in`.
+pub fn member_instr(member: Membership, class: u32) -> Instr
+    ensures { result ≡ member_instr_of member class }
+{
+    match member {
+        Membership::Is => Instr::Is(i64::from(class)),
+        Membership::In => Instr::In(i64::from(class)),
+    }
+}
+
+/// The instruction of `qua`.
+pub fn qua_instr(class: u32) -> Instr
+    ensures { result ≡ i.Qua (pos class) }
+{
+    Instr::Qua(i64::from(class))
 }
 
 /// The instruction that pushes the address of an image: 0 of sysin, 1 of sysout.

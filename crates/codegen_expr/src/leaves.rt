@@ -1,21 +1,26 @@
 //! The code of parts of expressions that have no parts of their own.
-ghost use Rattle.std.specs.Prelude.{◌≢◌, OnOk, length, map};
+ghost use Rattle.std.specs.Prelude.{OnOk};
 ghost use Rattle.sim_scope.specs.Source.{source_of};
-ghost use Rattle.sim_tree.specs.SyntaxOf.{selected, selector_syntax, syntax_of};
 ghost use Rattle.codegen_expr.specs.Known.{Known};
-ghost use Rattle.codegen_expr.specs.Emit.{PutsPlace, WritesCell, WritesCellPlace, WritesConstant, WritesImage, WritesLink, WritesSign, WritesTextAt};
+ghost use Rattle.codegen_expr.specs.Emit.{WritesCell, WritesCellPlace, WritesConstant, WritesImage, WritesLink, WritesSign, WritesTextAt};
+ghost use Rattle.codegen_expr.specs.EmitObjects.{OfConnection, PutsBase, WritesAttribute, WritesConstantOf, WritesFit, WritesMember, WritesObjectOf, WritesQua, WritesThis};
 
 use crate::cells::Cells;
-use crate::dots::stream_of;
-use crate::draft::Draft;
-use crate::instructions::{address_instr, image_instr, link_instr, load_instr};
-use crate::lookups::{block_of, constant_value, is_around, level_of, line_at, slot_of};
+use crate::classes::{class_at, connection_slot, found_at, is_connection};
+use crate::draft::{Draft, deeper};
+use crate::instructions::{
+    address_instr, attribute_instr, image_instr, link_instr, load_instr, member_instr, qua_instr,
+    this_instr,
+};
+use crate::lookups::{
+    block_number, block_of, constant_value, is_around, level_of, line_at, slot_of,
+};
 use crate::operators::{constant_instr, text_instr};
 use crate::spot::Spot;
 use sim_base::{DeclNo, Line, TokenNo};
 use sim_code::Instr;
 use sim_scope::Bound;
-use sim_tree::{Expr, Selector, Sign};
+use sim_tree::{Membership, Sign};
 use std::alloc::AllocError;
 
 /// A sign behind its operand.
@@ -66,7 +71,7 @@ pub fn emit_cell(
     Ok(())
 }
 
-/// The address of the cell of a declaration.
+/// The address of the cell of a declaration, with the class of a reference there.
 #[tactic(auto, using(crate::proofs::Behind::lies))]
 pub(crate) fn emit_cell_place(
     bound: &Bound,
@@ -74,10 +79,11 @@ pub(crate) fn emit_cell_place(
     spot: Spot,
     draft: &mut Draft,
     depth: u32,
+    class: u32,
     declaration: DeclNo,
 ) -> Result<(), AllocError>
     requires cells { Known bound.now cells.now }
-    ensures { OnOk result (WritesCellPlace bound.now spot depth draft.old draft.new declaration) }
+    ensures { OnOk result (WritesCellPlace bound.now spot depth draft.old draft.new class declaration) }
 {
     let block = block_of(bound, declaration);
     let Some(slot) = slot_of(bound, cells, declaration) else {
@@ -85,7 +91,11 @@ pub(crate) fn emit_cell_place(
         return Ok(());
     };
     if is_around(&bound.scopes, spot.text, block) {
-        draft.push(depth, address_instr(level_of(bound, block), slot), Line(0))?;
+        draft.push(
+            depth,
+            address_instr(level_of(bound, block), slot, class),
+            Line(0),
+        )?;
         return Ok(());
     }
     draft.give_up();
@@ -152,39 +162,7 @@ pub(crate) fn emit_image(
     Ok(())
 }
 
-/// The address of the image that is taken of a stream.
-#[tactic(auto, using(crate::proofs::Behind::lies))]
-pub(crate) fn emit_image_taken(
-    bound: &Bound,
-    spot: Spot,
-    draft: &mut Draft,
-    depth: u32,
-    primary: &Expr,
-    rest: &[Selector],
-) -> Result<(), AllocError>
-    ensures { OnOk result (length rest.now ≢ 0 → PutsPlace (source_of bound.now) spot depth draft.old draft.new (selected (syntax_of primary.now) (map selector_syntax rest.now))) }
-{
-    if rest.len() != 1 {
-        draft.give_up();
-        return Ok(());
-    }
-    match &rest[0] {
-        Selector::Dot { .. } => {
-            let Some(image) = stream_of(bound, primary) else {
-                draft.give_up();
-                return Ok(());
-            };
-            emit_image(spot, draft, depth, image)?;
-            Ok(())
-        }
-        Selector::Qua { .. } => {
-            draft.give_up();
-            Ok(())
-        }
-    }
-}
-
-/// The link to the instance in which a procedure is declared.
+/// The link to the instance in which a procedure or a class is declared.
 #[tactic(auto, using(crate::proofs::Seen::sees))]
 pub(crate) fn emit_link(
     bound: &Bound,
@@ -201,5 +179,196 @@ pub(crate) fn emit_link(
         return Ok(());
     }
     draft.give_up();
+    Ok(())
+}
+
+/// The object of a connection.
+#[tactic(auto, using(crate::proofs::OfObjects::leaves))]
+pub fn emit_connected(
+    bound: &Bound,
+    cells: &Cells,
+    spot: Spot,
+    draft: &mut Draft,
+    depth: u32,
+    connection: u32,
+) -> Result<(), AllocError>
+    requires cells { Known bound.now cells.now }
+    ensures { OnOk result (PutsBase (source_of bound.now) spot depth draft.old draft.new (OfConnection connection)) }
+{
+    let Some(slot) = connection_slot(bound, cells, connection)? else {
+        draft.give_up();
+        return Ok(());
+    };
+    if is_around(&bound.scopes, spot.text, connection) {
+        draft.push(
+            depth,
+            load_instr(level_of(bound, connection), slot),
+            Line(0),
+        )?;
+        return Ok(());
+    }
+    draft.give_up();
+    Ok(())
+}
+
+/// The object of a text around.
+#[tactic(auto, using(crate::proofs::OfObjects::leaves))]
+fn emit_object(
+    bound: &Bound,
+    spot: Spot,
+    draft: &mut Draft,
+    depth: u32,
+    text: u32,
+) -> Result<(), AllocError>
+    ensures { OnOk result (WritesObjectOf bound.now spot depth draft.old draft.new text) }
+{
+    if is_around(&bound.scopes, spot.text, text) {
+        draft.push(depth, this_instr(level_of(bound, text)), Line(0))?;
+        return Ok(());
+    }
+    draft.give_up();
+    Ok(())
+}
+
+/// `this`. The token is that of the word.
+#[tactic(auto, using(crate::proofs::OfObjects::leaves))]
+pub(crate) fn emit_this(
+    bound: &Bound,
+    cells: &Cells,
+    spot: Spot,
+    draft: &mut Draft,
+    depth: u32,
+    token: TokenNo,
+) -> Result<(), AllocError>
+    requires cells { Known bound.now cells.now }
+    ensures { OnOk result (WritesThis bound.now spot depth draft.old draft.new token) }
+{
+    let Some(found) = found_at(bound, token) else {
+        draft.give_up();
+        return Ok(());
+    };
+    if is_connection(bound, cells, found) {
+        emit_connected(bound, cells, spot, draft, depth, found)?;
+        return Ok(());
+    }
+    emit_object(bound, spot, draft, depth, found)?;
+    Ok(())
+}
+
+/// Where an attribute of the object on top lies, with the class of a reference there. The token is that of its identifier.
+#[tactic(auto, using(crate::proofs::OfObjects::leaves))]
+pub(crate) fn emit_attribute(
+    bound: &Bound,
+    cells: &Cells,
+    spot: Spot,
+    draft: &mut Draft,
+    depth: u32,
+    class: u32,
+    token: TokenNo,
+    declaration: DeclNo,
+) -> Result<(), AllocError>
+    requires cells { Known bound.now cells.now }
+    ensures { OnOk result (WritesAttribute bound.now spot depth draft.old draft.new class token declaration) }
+{
+    let Some(slot) = slot_of(bound, cells, declaration) else {
+        draft.give_up();
+        return Ok(());
+    };
+    draft.put(attribute_instr(slot, class), line_at(bound, token))?;
+    Ok(())
+}
+
+/// The value of a constant that the object on top has, which must be there. The token is that of its identifier.
+#[tactic(auto, using(crate::proofs::OfObjects::leaves))]
+pub(crate) fn emit_constant_of(
+    bound: &Bound,
+    cells: &Cells,
+    spot: Spot,
+    draft: &mut Draft,
+    depth: u32,
+    token: TokenNo,
+    declaration: DeclNo,
+) -> Result<(), AllocError>
+    requires cells { Known bound.now cells.now }
+    ensures { OnOk result (WritesConstantOf bound.now spot depth draft.old draft.new token declaration) }
+{
+    let Some(_) = slot_of(bound, cells, declaration) else {
+        draft.give_up();
+        return Ok(());
+    };
+    draft.put(Instr::NotNone, line_at(bound, token))?;
+    draft.put(Instr::Pop, Line(0))?;
+    emit_constant(bound, cells, spot, draft, depth, declaration)?;
+    Ok(())
+}
+
+/// The test of `is` or `in`, or `qua`, behind its operand: the number of the class that is named.
+#[tactic(auto, using(crate::proofs::OfObjects::leaves))]
+pub(crate) fn emit_member(
+    bound: &Bound,
+    cells: &Cells,
+    spot: Spot,
+    draft: &mut Draft,
+    depth: u32,
+    member: Membership,
+    token: TokenNo,
+) -> Result<(), AllocError>
+    requires cells { Known bound.now cells.now }
+    ensures { OnOk result (WritesMember bound.now spot depth draft.old draft.new member token) }
+{
+    let Some(class) = class_at(bound, cells, token) else {
+        draft.give_up();
+        return Ok(());
+    };
+    let number = draft.class_of(block_number(bound, cells, class));
+    draft.put(member_instr(member, number), Line(0))?;
+    Ok(())
+}
+
+/// `qua` behind its operand. The tokens are those of the word and of the class.
+#[tactic(auto, using(crate::proofs::OfObjects::leaves))]
+pub(crate) fn emit_qua(
+    bound: &Bound,
+    cells: &Cells,
+    spot: Spot,
+    draft: &mut Draft,
+    depth: u32,
+    token: TokenNo,
+    class: TokenNo,
+) -> Result<(), AllocError>
+    requires cells { Known bound.now cells.now }
+    ensures { OnOk result (WritesQua bound.now spot depth draft.old draft.new token class) }
+{
+    let Some(found) = class_at(bound, cells, class) else {
+        draft.give_up();
+        return Ok(());
+    };
+    let number = draft.class_of(block_number(bound, cells, found));
+    draft.put(qua_instr(number), line_at(bound, token))?;
+    Ok(())
+}
+
+/// A reference on top is held against a class, by way of a temp. The token is that of the identifier that is called.
+#[tactic(auto, using(crate::proofs::OfObjects::leaves))]
+pub(crate) fn emit_fit(
+    bound: &Bound,
+    cells: &Cells,
+    spot: Spot,
+    draft: &mut Draft,
+    depth: u32,
+    token: TokenNo,
+    class: u32,
+) -> Result<(), AllocError>
+    requires cells { Known bound.now cells.now }
+    ensures { OnOk result (WritesFit bound.now spot depth draft.old draft.new token class) }
+{
+    let inside = deeper(depth)?;
+    let number = draft.class_of(block_number(bound, cells, class));
+    let level = level_of(bound, spot.text);
+    draft.take_temp(spot.used)?;
+    draft.push(inside, address_instr(level, spot.used, number), Line(0))?;
+    draft.put(Instr::Swap, Line(0))?;
+    draft.put(Instr::Put, line_at(bound, token))?;
+    draft.push(depth, load_instr(level, spot.used), Line(0))?;
     Ok(())
 }

@@ -3,6 +3,7 @@
 
 mod calls;
 mod cells;
+mod classes;
 mod dots;
 mod draft;
 mod emit;
@@ -12,6 +13,7 @@ mod joining;
 mod leaves;
 mod lookups;
 mod names;
+mod objects;
 mod operands;
 mod operators;
 mod selectors;
@@ -21,16 +23,21 @@ mod variables;
 
 pub use calls::{emit_element, emit_named};
 pub use cells::{Cells, ConstantValue};
+pub use classes::{
+    class_at, class_parameters, connection_at, connection_slot, first_of, found_at, frame_text,
+    is_connected, is_connection, is_kept_in, qualification,
+};
 pub use draft::{Draft, deeper};
 pub use emit::emit_expr;
-pub use forms::{Form, form_of};
+pub use forms::{Form, form_of, typed_token};
 pub use instructions::{
-    call_instr, character_instr, element_instr, link_instr, load_instr, standard_instr, store_instr,
+    address_instr, attribute_instr, call_instr, character_instr, element_instr, link_instr,
+    load_instr, member_instr, new_instr, standard_instr, store_instr, this_instr,
 };
-pub use leaves::emit_cell;
+pub use leaves::{emit_cell, emit_connected};
 pub use lookups::{
     block_number, block_of, cell_count, constant_value, denoted, formals_of_block, gives,
-    has_result, is_around, is_text, is_text_at, level_of, line_at, slot_of,
+    has_result, is_around, is_text, is_text_at, level_of, line_at, prefix_of, slot_of, type_at,
 };
 pub use names::{StandardCode, standard_leaves};
 pub use operands::emit_list;
@@ -38,3 +45,4 @@ pub use operators::Object;
 pub use selectors::{emit_before, emit_dot};
 pub use spot::Spot;
 pub use standard::emit_standard;
+pub use variables::{emit_named_place, emit_place};

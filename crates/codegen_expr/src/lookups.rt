@@ -1,23 +1,23 @@
 //! What the emitter looks up by token, declaration and block.
 ghost use Rattle.std.specs.Prelude.{◌≡◌, length};
-ghost use Rattle.sim_scope.specs.Source.{block_of, denoted as denoted_of, level_of as level_of_block, line_at as line_at_of, source_of, type_at};
+ghost use Rattle.sim_scope.specs.Source.{block_of, denoted as denoted_of, level_of as level_of_block, line_at as line_at_of, source_of, type_at, type_at as type_at_of};
 ghost use Rattle.sim_scope.specs.Access.{encloser as encloser_of};
 ghost use Rattle.sim_meaning.specs.Closing.{is_text as is_text_of, is_text_type};
 ghost use Rattle.sim_meaning.specs.Constants.{text_constant};
 ghost use Rattle.sim_meaning.specs.Pending.{Declared};
 ghost use Rattle.sim_meaning.specs.Texts.{constant_of, text as text_of};
 ghost use Rattle.codegen_expr.specs.Built.{around_or, is_around as is_around_of, slot_in};
-ghost use Rattle.codegen_expr.specs.CodeExpr.{block_number as block_number_of, gives as gives_of, gives_entry as gives_entry_of};
+ghost use Rattle.codegen_expr.specs.CodeExpr.{gives as gives_of, gives_entry as gives_entry_of};
 ghost use Rattle.codegen_expr.specs.Emit.{formals_of_block as formals_of_block_by};
-ghost use Rattle.codegen_expr.specs.Known.{Known, has_result as has_result_of, number_in, plain_in};
-ghost use Rattle.codegen_expr.specs.Sites.{cells_in};
+ghost use Rattle.codegen_expr.specs.Known.{Known, has_result as has_result_of, number_in, place_in, plain_in};
+ghost use Rattle.codegen_expr.specs.Sites.{block_number as block_number_of, cells_in, prefix_of as prefix_of_block};
 ghost use Rattle.sim_tree.specs.SyntaxOf.{syntax_of};
 
 use crate::cells::{Cells, ConstantValue};
 use crate::forms::typed_token;
 use crate::names::standard_leaves;
 use sim_base::{DeclNo, Line, TokenNo};
-use sim_scope::{Bound, Denotation, Entry, Formal, Scopes, SimType, encloser, entry_of};
+use sim_scope::{BlockKind, Bound, Denotation, Entry, Formal, Scopes, SimType, encloser, entry_of};
 use sim_tree::Expr;
 
 /// What an identifier denotes.
@@ -100,15 +100,42 @@ pub fn is_around(scopes: &Scopes, inner: u32, outer: u32) -> bool
     false
 }
 
-/// The cell of a declaration in the frames of the text that it stands in, where they have one.
+/// What a class or a prefixed block has in front of it.
+#[tactic(auto, unfolding(crate::specs::Sites::prefix_of))]
+pub fn prefix_of(scopes: &Scopes, block: u32) -> Option<u32>
+    ensures { result ≡ prefix_of_block scopes.now block }
+{
+    match scopes.blocks().get(block as usize) {
+        Some(row) => match row.kind() {
+            BlockKind::Connection => None,
+            _ => row.base(),
+        },
+        None => None,
+    }
+}
+
+/// The place of the cell of a declaration among those that its text declares, where it has one.
 #[tactic(auto, unfolding(crate::specs::Known::Known))]
-pub fn slot_of(bound: &Bound, cells: &Cells, declaration: DeclNo) -> Option<u32>
+fn place_of(bound: &Bound, cells: &Cells, declaration: DeclNo) -> Option<u32>
     requires cells { Known bound.now cells.now }
-    ensures { result ≡ slot_in (source_of bound.now) (block_of (source_of bound.now) declaration) (Declared declaration.0) }
+    ensures { result ≡ place_in (source_of bound.now) (block_of (source_of bound.now) declaration) (Declared declaration.0) }
 {
     match cells.slots.get(declaration.0 as usize) {
         Some(slot) => *slot,
         None => None,
+    }
+}
+
+/// The cell of a declaration in the frames of the text that it stands in, where they have one. Those of a text with a class in front of it
+/// are not built.
+#[tactic(auto, using(crate::proofs::Slots::slots))]
+pub fn slot_of(bound: &Bound, cells: &Cells, declaration: DeclNo) -> Option<u32>
+    requires cells { Known bound.now cells.now }
+    ensures { result ≡ slot_in (source_of bound.now) (block_of (source_of bound.now) declaration) (Declared declaration.0) }
+{
+    match prefix_of(&bound.scopes, block_of(bound, declaration)) {
+        Some(_) => None,
+        None => place_of(bound, cells, declaration),
     }
 }
 
@@ -206,5 +233,16 @@ pub fn gives(bound: &Bound, denoted: Option<Denotation>) -> bool
         )),
         Some(Denotation::Standard(name)) => standard_leaves(name),
         None => true,
+    }
+}
+
+/// The type at a token.
+#[tactic(auto, unfolding(sim_scope::specs::Source::type_at, sim_scope::specs::Source::source_of))]
+pub fn type_at(bound: &Bound, token: TokenNo) -> Option<SimType>
+    ensures { result ≡ type_at_of (source_of bound.now) token.0 }
+{
+    match bound.types.get(token.0 as usize) {
+        Some(ty) => *ty,
+        None => None,
     }
 }

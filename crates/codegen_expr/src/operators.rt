@@ -3,7 +3,7 @@ ghost use Rattle.std.specs.Prelude.{◌≡◌};
 ghost use Rattle.sim_meaning.specs.Closing.{is_text_type, sort_of, sort_of_relation};
 ghost use Rattle.sim_meaning.specs.Constants.{text_constant};
 ghost use Rattle.sim_scope.specs.Source.{source_of};
-ghost use Rattle.codegen_expr.specs.Emit.{FindsInstr, passed_of as passed_by, seen_of as seen_by, sorted_of};
+ghost use Rattle.codegen_expr.specs.Emit.{FindsInstr, attribute_seen, passed_of as passed_by, seen_of as seen_by, sorted_of};
 ghost use Rattle.codegen_expr.specs.Known.{Known, plain_of};
 
 use crate::cells::{Cells, ConstantValue};
@@ -108,11 +108,31 @@ pub(crate) fn seen_of(entry: Option<Entry>) -> Seen
     }
 }
 
+/// What an attribute of an object is seen as.
+pub(crate) fn attribute_of(entry: Option<Entry>) -> Seen
+    ensures { result ≡ attribute_seen entry }
+{
+    match entry {
+        Some(Entry::Variable(_)) => Seen::Variable,
+        Some(Entry::Constant(_)) => Seen::Constant,
+        Some(Entry::Array { .. }) => Seen::Array,
+        Some(Entry::Procedure { block, .. }) => Seen::Call(block),
+        Some(Entry::Formal(formal)) => match formal.kind {
+            FormalKind::Simple => Seen::Variable,
+            FormalKind::Array => Seen::Array,
+            FormalKind::Procedure => Seen::Nothing,
+        },
+        _ => Seen::Nothing,
+    }
+}
+
 /// How an actual parameter is passed.
 #[derive(Clone, Copy)]
 pub(crate) enum Passed {
     /// As it is.
     Plain,
+    /// As an array that is kept.
+    Kept,
     /// As a copy of an array.
     Copied,
     /// As a copy of a text.
@@ -121,14 +141,18 @@ pub(crate) enum Passed {
     Other,
 }
 
-/// How an actual parameter is passed.
-pub(crate) fn passed_of(formal: Formal) -> Passed
-    ensures { result ≡ passed_by formal.mode formal.kind (is_text_type formal.ty) }
+/// How an actual parameter is passed; an array that is passed by reference to a class is kept.
+pub(crate) fn passed_of(keeps: bool, formal: Formal) -> Passed
+    ensures { result ≡ passed_by keeps formal.mode formal.kind (is_text_type formal.ty) }
 {
     match (formal.mode, formal.kind, formal.ty) {
         (Mode::ByName, _, _) => Passed::Other,
         (_, FormalKind::Procedure, _) => Passed::Other,
         (Mode::ByValue, FormalKind::Array, _) => Passed::Copied,
+        (Mode::ByReference, FormalKind::Array, _) => match keeps {
+            true => Passed::Kept,
+            false => Passed::Plain,
+        },
         (Mode::ByValue, FormalKind::Simple, Some(SimType::Text)) => Passed::CopiedText,
         (_, _, _) => Passed::Plain,
     }

@@ -1,14 +1,15 @@
 //! What is taken of an operand, behind dots.
-ghost use Rattle.codegen_expr.specs.Emit.{WritesBefore, WritesDot, WritesEnd, WritesLast, WritesStart, WritesStep, WritesSteps};
+ghost use Rattle.codegen_expr.specs.Emit.{WritesBefore, WritesDot, WritesEnd, WritesLast, WritesStart, WritesStep, WritesSteps, WritesTakenPlace};
 ghost use Rattle.codegen_expr.specs.Known.{Known};
 ghost use Rattle.std.specs.Prelude.{IfOk, OnOk, length, ◌≢◌};
 
 use crate::cells::Cells;
-use crate::dots::{image_placed, is_placed, moves_at, stream_of, takes_image};
+use crate::dots::{attribute_placed, image_placed, is_placed, moves_at, stream_of, takes_image};
 use crate::draft::Draft;
 use crate::emit::emit_expr;
-use crate::leaves::emit_image;
+use crate::leaves::{emit_image, emit_qua};
 use crate::lookups::{denoted, gives};
+use crate::objects::{emit_of, emit_place_behind};
 use crate::operators::Object;
 use crate::spot::Spot;
 use crate::standard::{emit_behind, emit_standard};
@@ -36,7 +37,7 @@ pub(crate) fn emit_start(
         return Ok(Object::Stream(image));
     }
     if is_placed(bound, moves, primary) {
-        emit_place(bound, cells, spot, draft, depth, primary)?;
+        emit_place(bound, cells, spot, draft, depth, 0, primary)?;
         return Ok(Object::Place);
     }
     emit_expr(bound, cells, spot, draft, depth, primary)?;
@@ -77,10 +78,28 @@ pub fn emit_dot(
                 )
             }
         },
-        Some(Denotation::Declared(_)) => {
-            draft.give_up();
-            Ok(())
-        }
+        Some(Denotation::Declared(declaration)) => match object {
+            Object::Stream(_) => {
+                draft.give_up();
+                Ok(())
+            }
+            Object::Place => {
+                draft.give_up();
+                Ok(())
+            }
+            Object::Value => {
+                emit_of(
+                    bound,
+                    cells,
+                    spot,
+                    draft,
+                    depth,
+                    name.token,
+                    declaration,
+                    operands,
+                )
+            }
+        },
         None => {
             draft.give_up();
             Ok(())
@@ -115,6 +134,56 @@ fn emit_last(
             draft.give_up();
             Ok(())
         }
+        Selector::Qua { token, class } => match object {
+            Object::Stream(_) => {
+                draft.give_up();
+                Ok(())
+            }
+            Object::Place => {
+                draft.give_up();
+                Ok(())
+            }
+            Object::Value => {
+                emit_qua(bound, cells, spot, draft, depth, *token, class.token)?;
+                Ok(())
+            }
+        },
+    }
+}
+
+/// Where what is taken of an object lies, with the class of a reference there.
+#[cycle(emit)]
+#[tactic(auto, using(crate::proofs::Places::taken_places))]
+pub(crate) fn emit_place_taken(
+    bound: &Bound,
+    cells: &Cells,
+    spot: Spot,
+    draft: &mut Draft,
+    depth: u32,
+    class: u32,
+    object: Object,
+    selector: &Selector,
+) -> Result<(), AllocError>
+    requires cells { Known bound.now cells.now }
+    ensures { OnOk result (WritesTakenPlace bound.now spot depth draft.old draft.new class object selector.now) }
+{
+    match selector {
+        Selector::Dot {
+            name,
+            arguments,
+            ..
+        } => match object {
+            Object::Stream(image) => emit_image(spot, draft, depth, image),
+            Object::Place => {
+                draft.give_up();
+                Ok(())
+            }
+            Object::Value => {
+                emit_place_behind(
+                    bound, cells, spot, draft, depth, class, name.token, arguments,
+                )
+            }
+        },
         Selector::Qua { .. } => {
             draft.give_up();
             Ok(())
@@ -140,6 +209,10 @@ fn emit_step(
 {
     if let Some(image) = image_placed(moves, object, takes_image(bound, selector)) {
         emit_image(spot, draft, depth, image)?;
+        return Ok(Object::Place);
+    }
+    if attribute_placed(bound, moves, selector) {
+        emit_place_taken(bound, cells, spot, draft, depth, 0, object, selector)?;
         return Ok(Object::Place);
     }
     emit_last(bound, cells, spot, draft, depth, object, selector)?;

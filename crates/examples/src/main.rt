@@ -33,7 +33,7 @@ const MODELS: [(&str, Option<&str>); 15] = [
 ];
 
 // The collections of data/ whose sources are run, in the order in which they are shown.
-const COLLECTIONS: [&str; 9] = [
+const COLLECTIONS: [&str; 10] = [
     "messages.cases",
     "programs.cases",
     "tokens.cases",
@@ -41,6 +41,7 @@ const COLLECTIONS: [&str; 9] = [
     "whole_language.cases",
     "texts.cases",
     "numbers.cases",
+    "objects.cases",
     "manual.cases",
     "models.cases",
 ];

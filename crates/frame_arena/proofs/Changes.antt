@@ -7,7 +7,7 @@ use Rattle.sim_code.specs.Instances.{Instance, given, given_in, is_live, is_live
 use Rattle.sim_code.specs.Machine.{Cells, Frames}
 use Rattle.frame_arena.specs.declared.slot.Slot.{Slot}
 use Rattle.frame_arena.specs.declared.frames.Frame.{Frame}
-use Rattle.frame_arena.specs.Frames.{Apart, Has, Holds, Leads, frame_at, instance_of, no_frame}
+use Rattle.frame_arena.specs.Frames.{Apart, Has, Holds, Leads, frame_at, instance_of, no_frame, stands_as}
 
 -- ---- lists and numbers
 
@@ -102,6 +102,8 @@ gives_in fs cells m place j f x h has e free b0 c0 =
           get_set_other m.instances n j _ (λ s. ne q n hq (h.single q place n (was q n hq) (has.0, has.1, has.2 ∙ sym s)))
           ∙ h.known q n (was q n hq)
           ∙ ap (λ g. Some (instance_of cells g)) (sym (frame_other fs place f q (ne q n hq)));
+      standings = λ q n hq. h.standings q n (was q n hq) ∙ ap (λ g. Some (stands_as g.component)) (sym (frame_other fs place f q (ne q n hq)));
+      counted = h.counted ∙ sym (length-set m.instances j _);
       single = λ p q n hp hq. h.single p q n (was p n hp) (was q n hq);
       parents = λ q n hq r up. leads_given fs cells m place j f x r h has e (h.parents q n (was q n hq) r (sym (ap (λ g. g.parent) (frame_other fs place f q (ne q n hq))) ∙ up));
       links = λ at names. leads_given fs cells m place j f x _ h has e (h.links at names);

@@ -10,7 +10,7 @@ use Rattle.frame_arena.specs.declared.slot.Slot.{Slot}
 use Rattle.frame_arena.specs.declared.frames.Frame.{Frame}
 use Rattle.frame_arena.specs.Slots.{cell_value, empty_slot, value_of}
 use Rattle.frame_arena.specs.Stacks.{slot_at}
-use Rattle.frame_arena.specs.Frames.{Apart, Has, Holds, HoldsAfter, Leads, SlotLeads, cells_at, empty_memory, frame_at, instance_of}
+use Rattle.frame_arena.specs.Frames.{Apart, Has, Holds, HoldsAfter, Leads, SlotLeads, cells_at, empty_memory, frame_at, instance_of, stands_as}
 use Rattle.frame_arena.proofs.Reading.{cell_count, live_of}
 use Rattle.frame_arena.proofs.Changes.{apart_kept, base_kept, cells_kept, frame_other, frame_same, get_set_other, get_set_same, has_from, has_to, live_other, off, same_or_not}
 
@@ -45,11 +45,12 @@ leads_entered fs m place f x s r free leads =
 pub here_entered : (fs : List Frame) (place : ℕ) (f : Frame) → place < length fs → f.live ≡ true → Has (set fs place f) place f.number
 here_entered fs place f there on = (subst (λ l. place < l) (sym (length-set fs place f)) there, ap (λ g. g.live) (frame_same fs place f there) ∙ on, ap (λ g. g.number) (frame_same fs place f there))
 
-pub enters : (fs : List Frame) (cells : List Slot) (m : Frames) (place : ℕ) (f : Frame) (s : Standing Activation) → Holds fs cells m → place < length fs → (frame_at fs place).live ≡ false →
+pub enters : (fs : List Frame) (cells : List Slot) (m : Frames) (place : ℕ) (f : Frame) → Holds fs cells m → place < length fs → (frame_at fs place).live ≡ false →
     f.number ≡ length m.instances → f.base ≡ (frame_at fs place).base → f.cells ≡ (frame_at fs place).cells → ((r : FrameRef) → f.parent ≡ Some r → Leads fs m r) →
-    Holds (set fs place f) cells (entered m (instance_of cells f) s)
-enters fs cells m place f s h there free numbered b0 c0 parent =
+    Holds (set fs place f) cells (entered m (instance_of cells f) (stands_as f.component))
+enters fs cells m place f h there free numbered b0 c0 parent =
     let x : Instance Cells = instance_of cells f in
+    let s : Standing Activation = stands_as f.component in
     let fresh : (q n : ℕ) → q ≡ place → Has (set fs place f) q n → n ≡ length m.instances = λ q n p hq. sym hq.2 ∙ ap (λ z. (frame_at (set fs place f) z).number) p ∙ ap (λ g. g.number) (frame_same fs place f there) ∙ numbered in
     record {
       known = λ q n hq.
@@ -59,6 +60,17 @@ enters fs cells m place f s h there free numbered b0 c0 parent =
                 let was : Has fs q n = has_from fs place f q n ne hq in
                 get_old m.instances (x ∷ []) n (known_below fs cells m q n h was) ∙ h.known q n was ∙ ap (λ g. Some (instance_of cells g)) (sym (frame_other fs place f q ne))
           ];
+      standings = λ q n hq.
+          elim (same_or_not q place) [
+            | inl p ↦
+                ap (slice_get (m.standings ++ s ∷ [])) (fresh q n p hq ∙ sym h.counted) ∙ get_new m.standings s
+                ∙ ap (λ g. Some (stands_as g.component)) (sym (ap (frame_at (set fs place f)) p ∙ frame_same fs place f there))
+            | inr ne ↦
+                let was : Has fs q n = has_from fs place f q n ne hq in
+                get_old m.standings (s ∷ []) n (subst (λ l. n < l) (sym h.counted) (known_below fs cells m q n h was)) ∙ h.standings q n was
+                ∙ ap (λ g. Some (stands_as g.component)) (sym (frame_other fs place f q ne))
+          ];
+      counted = let a = length-append m.standings (s ∷ []) in let b = length-append m.instances (x ∷ []) in let c = h.counted in omega (arith, a, b, c);
       single = λ p q n hp hq.
           elim (same_or_not p place) [
             | inl e ↦ elim (same_or_not q place) [
@@ -142,6 +154,8 @@ frees fs cells m place c s h there free h1 h2 leads =
           let ne : place ≡ q → ⊥ = λ p. off (sym free ∙ ap (λ z. (frame_at fs z).live) p ∙ hq.1) in
           h.known q n hq
           ∙ ap (λ l. Some (record (instance_of cells (frame_at fs q)) { cells = l })) (sym (cells_elsewhere cells (frame_at fs q).base (frame_at fs q).cells k s (apart_from (frame_at fs place) (frame_at fs q) c (h.apart place q there hq.0 ne) h1)));
+      standings = h.standings;
+      counted = h.counted;
       single = h.single;
       parents = h.parents;
       links = λ at.
@@ -212,6 +226,8 @@ writes_in fs cells m place j c s h has h1 h2 leads held =
                 ∙ h.known q n hq
                 ∙ ap (λ l. Some (record (instance_of cells (frame_at fs q)) { cells = l })) (sym (cells_elsewhere cells (frame_at fs q).base (frame_at fs q).cells k s (apart_from f (frame_at fs q) c (h.apart place q has.0 hq.0 (λ e. ne (sym e))) h1)))
           ];
+      standings = h.standings;
+      counted = h.counted ∙ sym (length-set m.instances j y);
       single = h.single;
       parents = λ q n hq r up. leads_written fs m j x y r lives below (h.parents q n hq r up);
       links = λ at names.
@@ -285,6 +301,8 @@ keeps fs cells m place h there on =
                 ∙ h.known q n (was q n hq)
                 ∙ ap (λ g. Some (instance_of cells g)) (sym (frame_other fs place f q ne))
           ];
+      standings = λ q n hq. h.standings q n (was q n hq) ∙ ap (λ c. Some (stands_as c)) (sym (kept_by (λ g. g.component) fs place f q there refl));
+      counted = h.counted ∙ sym (length-set m.instances j y);
       single = λ p q n hp hq. h.single p q n (was p n hp) (was q n hq);
       parents = λ q n hq r up. leads r (h.parents q n (was q n hq) r (sym (kept_by (λ g. g.parent) fs place f q there refl) ∙ up));
       links = λ at names. leads _ (h.links at names);
@@ -306,6 +324,8 @@ none_has q n h = omega (arith, h.0)
 pub begins : Holds [] [] empty_memory
 begins = record {
   known = λ q n h. absurd (none_has q n h);
+  standings = λ q n h. absurd (none_has q n h);
+  counted = refl;
   single = λ p q n h h2. absurd (none_has p n h);
   parents = λ q n h r up. absurd (none_has q n h);
   links = λ at names. absurd (off names);

@@ -9,7 +9,7 @@ use Rattle.frame_arena.specs.Slots.{cell_value, empty_slot}
 use Rattle.frame_arena.specs.Stacks.{slot_at}
 use Rattle.sim_code.specs.Outcome.{ArrayOf}
 use Rattle.frame_arena.specs.Arrays.{AllLeadArrays, RegionOf, SlotLeadsArray}
-use Rattle.frame_arena.specs.Frames.{Apart, Has, Holds, Leads, SlotLeads, cells_at, frame_at, instance_of}
+use Rattle.frame_arena.specs.Frames.{Apart, Has, Holds, Leads, SlotLeads, cells_at, frame_at, instance_of, stands_as}
 use Rattle.frame_arena.proofs.Changes.{off, same_or_not}
 
 grown_at : (cells : List Slot) (q : ℕ) → slot_at (cells ++ empty_slot ∷ []) q ≡ slot_at cells q
@@ -28,6 +28,8 @@ grown_cells cells base (suc n) =
 pub grows : (fs : List Frame) (cells : List Slot) (m : Frames) → Holds fs cells m → Holds fs (cells ++ empty_slot ∷ []) m
 grows fs cells m h = record {
   known = λ q n hq. h.known q n hq ∙ ap (λ l. Some (record (instance_of cells (frame_at fs q)) { cells = l })) (sym (grown_cells cells (frame_at fs q).base (frame_at fs q).cells));
+  standings = h.standings;
+  counted = h.counted;
   single = h.single;
   parents = h.parents;
   links = λ at. subst (λ z. SlotLeads fs m z) (sym (grown_at cells at)) (h.links at);
@@ -78,6 +80,10 @@ adds fs old cells m f ho h free base inside =
       known = λ q n hq.
           let was = has_old fs f free q n hq in
           h.known q n was ∙ ap (λ g. Some (instance_of cells g)) (sym (frame_before fs f q was.0));
+      standings = λ q n hq.
+          let was = has_old fs f free q n hq in
+          h.standings q n was ∙ ap (λ g. Some (stands_as g.component)) (sym (frame_before fs f q was.0));
+      counted = h.counted;
       single = λ p q n hp hq. h.single p q n (has_old fs f free p n hp) (has_old fs f free q n hq);
       parents = λ q n hq r up.
           let was = has_old fs f free q n hq in

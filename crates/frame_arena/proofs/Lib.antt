@@ -1,3 +1,4 @@
+pub mod Terminations
 pub mod Tops
 pub mod Reading
 pub mod Changes

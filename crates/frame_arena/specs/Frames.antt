@@ -2,9 +2,12 @@
 -- number is used again, so that what was given back leaves no trace but in the machine's memory.
 use Rattle.std.specs.Prelude.{◌≡◌, ℕ, zero, suc, ◌+◌, ◌<◌, ◌≤◌, ◌⊎◌, Bool, true, false, List, [], ◌∷◌, length, get_or, slice_get, Option, Some, None}
 use Rattle.sim_values.specs.declared.value.FrameRef.{FrameRef}
+use Rattle.sim_chains.specs.Components.{AttachedObject, NoObject, Standing, TerminatedObject}
 use Rattle.sim_code.specs.Instances.{Instance, is_live, no_instances}
-use Rattle.sim_code.specs.Machine.{Cells, Frames, Value}
+use Rattle.sim_code.specs.Machine.{Activation, Cells, Frames, Value}
 use Rattle.frame_arena.specs.declared.slot.Slot.{Slot}
+use Rattle.frame_arena.specs.declared.frames.Component.{Component}
+use Rattle.frame_arena.specs.declared.frames.Component.TheVariants as component
 use Rattle.frame_arena.specs.declared.frames.Frame.{Frame}
 use Rattle.frame_arena.specs.declared.frames.Span.{Span}
 use Rattle.frame_arena.specs.declared.slot.SlotKind.{SlotKind}
@@ -13,7 +16,7 @@ use Rattle.frame_arena.specs.Slots.{value_of, cell_value, count_of}
 use Rattle.frame_arena.specs.Stacks.{slot_at}
 
 abbrev pub no_frame : Frame
-no_frame = record { live = false; number = 0; block = 0; level = 0; parent = None; passing = false; kept = false; base = 0; cells = 0; floor = 0; room = 0; next = 0 }
+no_frame = record { live = false; number = 0; block = 0; level = 0; parent = None; passing = false; kept = false; component = component.NoObject; base = 0; cells = 0; floor = 0; room = 0; next = 0 }
 
 abbrev pub frame_at : List Frame → ℕ → Frame
 frame_at frames place = get_or frames place no_frame
@@ -79,9 +82,17 @@ AllLead frames m slots = (at : ℕ) → SlotLeads frames m (slot_at slots at)
 abbrev pub Apart : Frame → Frame → Type 0
 Apart f g = (f.base + f.cells ≤ g.base) ⊎ (g.base + g.cells ≤ f.base)
 
+-- how a frame stands among the components
+abbrev pub stands_as : Component → Standing Activation
+stands_as component.NoObject = NoObject None
+stands_as component.Attached = AttachedObject
+stands_as component.Terminated = TerminatedObject
+
 -- The frames in the regions are the instances that are not given back.
 pub record Holds (frames : List Frame) (cells : List Slot) (m : Frames) : Type 0 where
   pub known : (place number : ℕ) → Has frames place number → slice_get m.instances number ≡ Some (instance_of cells (frame_at frames place))
+  pub standings : (place number : ℕ) → Has frames place number → slice_get m.standings number ≡ Some (stands_as (frame_at frames place).component)
+  pub counted : length m.standings ≡ length m.instances
   pub single : (place other number : ℕ) → Has frames place number → Has frames other number → place ≡ other
   pub parents : (place number : ℕ) → Has frames place number → (r : FrameRef) → (frame_at frames place).parent ≡ Some r → Leads frames m r
   pub links : (at : ℕ) → SlotLeads frames m (slot_at cells at)

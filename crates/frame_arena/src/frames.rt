@@ -2,11 +2,11 @@
 //! in the order of entry is never used again. A reference to a frame has its region and, as its stamp, its number.
 ghost use Rattle.std.specs.Prelude.{◌≡◌, ℕ, ◌<◌, List, IfSome, Some, None, length, slice_get, slice_set, nat_lt, true, false};
 ghost use Rattle.sim_values.specs.declared.value.FrameRef.{FrameRef};
-ghost use Rattle.sim_chains.specs.Components.{Standing};
+ghost use Rattle.sim_chains.specs.Components.{AttachedObject, Standing, TerminatedObject};
 ghost use Rattle.sim_code.specs.Instances.{Instance, at_level as frame_of_level, entered, given, is_given_at_end as ends_for_good, is_live, with_instance};
 ghost use Rattle.sim_code.specs.Machine.{Activation, Cells, Frames, Value, joined, cell as cell_of_frame, cell_set};
 ghost use Rattle.frame_arena.specs.declared.slot.Slot.{Slot};
-ghost use Rattle.frame_arena.specs.Frames.{Has, Holds, HoldsAfter, IsSpan, Leads, LeadsAfter, SlotLeads, cells_at, found_value, frame_at, instance_of, number_in, number_there, rooms, span_number};
+ghost use Rattle.frame_arena.specs.Frames.{Has, Holds, HoldsAfter, IsSpan, Leads, LeadsAfter, SlotLeads, cells_at, found_value, frame_at, instance_of, number_in, number_there, rooms, span_number, stands_as};
 ghost use Rattle.frame_arena.specs.Slots.{cell_value, value_of};
 ghost use Rattle.frame_arena.specs.Stacks.{slot_at};
 ghost use Rattle.sim_code.specs.Outcome.{ArrayOf};
@@ -14,6 +14,17 @@ ghost use Rattle.frame_arena.specs.Arrays.{AllLeadArrays, RegionOf, SlotLeadsArr
 
 use crate::slot::{NOTHING, Slot, SlotKind};
 use sim_values::FrameRef;
+
+/// How a frame stands as a component.
+#[derive(Clone, Copy, Debug, PartialEq, Eq)]
+pub enum Component {
+    /// It is that of no object.
+    NoObject,
+    /// It is that of an attached object.
+    Attached,
+    /// It is that of a terminated object.
+    Terminated,
+}
 
 /// A frame in its region.
 #[derive(Clone, Copy, Debug)]
@@ -32,6 +43,8 @@ pub struct Frame {
     pub passing: bool,
     /// Whether it is kept at its end.
     pub kept: bool,
+    /// How it stands as a component.
+    pub component: Component,
     /// Where its cells begin.
     pub base: u32,
     /// How many cells it has.
@@ -256,6 +269,8 @@ pub struct Entry {
     pub parent: Option<FrameRef>,
     /// Whether it is a sub-block or procedure whose text has no class declaration and no prefixed block.
     pub passing: bool,
+    /// How it stands as a component.
+    pub component: Component,
 }
 
 /// A frame enters a region that is free. Its cells have what lies there: `set_free` puts it there before.
@@ -266,9 +281,9 @@ pub fn enter(frames: &mut [Frame], place: usize, entry: Entry)
     ensures stacks { rooms frames.new ≡ rooms frames.old }
     ensures here { Has frames.new place entry.number }
     ensures leads { (m : Frames) (x : Instance Cells) (standing : Standing Activation) (r : FrameRef) → Leads frames.old m r → Leads frames.new (entered m x standing) r }
-    ensures holds { (cells : List Slot) (m : Frames) (standing : Standing Activation) → Holds frames.old cells m → entry.number ≡ length m.instances → ((r : FrameRef) → entry.parent ≡ Some r → Leads frames.old m r) →
+    ensures holds { (cells : List Slot) (m : Frames) → Holds frames.old cells m → entry.number ≡ length m.instances → ((r : FrameRef) → entry.parent ≡ Some r → Leads frames.old m r) →
         let region = frame_at frames.old place in
-        Holds frames.new cells (entered m (record { text = entry.block; level = entry.level; encloser = number_in entry.parent; cells = cells_at cells region.base region.cells; passing = entry.passing; kept = false; given_back = false }) standing) }
+        Holds frames.new cells (entered m (record { text = entry.block; level = entry.level; encloser = number_in entry.parent; cells = cells_at cells region.base region.cells; passing = entry.passing; kept = false; given_back = false }) (stands_as entry.component)) }
 {
     let frame = &mut frames[place];
     frame.live = true;
@@ -278,6 +293,7 @@ pub fn enter(frames: &mut [Frame], place: usize, entry: Entry)
     frame.parent = entry.parent;
     frame.passing = entry.passing;
     frame.kept = false;
+    frame.component = entry.component;
 }
 
 /// Puts a value into a cell, where its frame was not given back and has such a cell.
@@ -339,4 +355,32 @@ pub fn keep(frames: &mut [Frame], place: usize)
         Leads frames.new (with_instance m frame.number (record (instance_of cells frame) { kept = true })) r }
 {
     frames[place].kept = true;
+}
+
+/// Whether the frame in a region is that of an attached object.
+#[inline(always)]
+pub fn is_attached(frames: &[Frame], place: usize) -> bool
+    requires there { place < length frames.now }
+    requires live { (frame_at frames.now place).live ≡ true }
+    ensures yes { result ≡ true → (cells : List Slot) (m : Frames) → Holds frames.now cells m → slice_get m.standings (frame_at frames.now place).number ≡ Some AttachedObject }
+    ensures no { result ≡ false → (cells : List Slot) (m : Frames) → Holds frames.now cells m → slice_get m.standings (frame_at frames.now place).number ≡ Some AttachedObject → ⊥ }
+{
+    match frames[place].component {
+        Component::Attached => true,
+        Component::NoObject => false,
+        Component::Terminated => false,
+    }
+}
+
+/// The object whose frame is in a region is terminated.
+#[inline(always)]
+pub fn terminate(frames: &mut [Frame], place: usize)
+    requires there { place < length frames.old }
+    requires live { (frame_at frames.old place).live ≡ true }
+    ensures stacks { rooms frames.new ≡ rooms frames.old }
+    ensures holds { (cells : List Slot) (m : Frames) → Holds frames.old cells m →
+        Holds frames.new cells (record m { standings = slice_set m.standings (frame_at frames.old place).number TerminatedObject }) }
+    ensures leads { (m : Frames) (standings : List (Standing Activation)) (r : FrameRef) → Leads frames.old m r → Leads frames.new (record m { standings = standings }) r }
+{
+    frames[place].component = Component::Terminated;
 }

@@ -7,7 +7,7 @@ ghost use Rattle.frame_arena.specs.Arrays.{AllLeadArrays, RegionOf};
 ghost use Rattle.frame_arena.specs.Frames.{Holds, frame_at, HasShape, Laid, Leads, rooms};
 ghost use Rattle.sim_values.specs.declared.value.FrameRef.{FrameRef};
 
-use crate::frames::Frame;
+use crate::frames::{Component, Frame};
 use crate::slot::{EMPTY, Slot};
 use std::alloc::AllocError;
 
@@ -60,6 +60,7 @@ pub fn add_region(
         parent: None,
         passing: false,
         kept: false,
+        component: Component::NoObject,
         base,
         cells: count,
         floor,

@@ -12,6 +12,7 @@ use Rattle.frame_arena.specs.declared.slot.Slot.{Slot}
 use Rattle.frame_arena.specs.Frames.{Has, Holds, HoldsAfter, Leads, LeadsAfter, number_in}
 use Rattle.frame_arena.specs.Slots.{value_of}
 use Rattle.frame_arena.specs.Stacks.{slot_at, values_from}
+use Rattle.object_machine.specs.declared.openings.Beginning.{Beginning}
 use Rattle.object_machine.specs.Calling.{Filled, Fills, called, cells_set_from, opened_with, then_set}
 use Rattle.object_machine.proofs.Departures.{get_last}
 use Rattle.object_machine.proofs.Scalars.{off}
@@ -101,31 +102,31 @@ set_last : {X : Type 0} (xs : List X) (x y : X) → slice_set (xs ++ x ∷ []) (
 set_last [] x y = refl
 set_last (z ∷ zs) x y = ap (λ w. z ∷ w) (set_last zs x y)
 
-module _ (m : Frames) (k : ℕ) (b : BlockOf) (parent : Option FrameRef) where
+module _ (m : Frames) (k : ℕ) (b : BlockOf) (g : Beginning) (parent : Option FrameRef) where
   abbrev with_cells_of : Cells → Instance Cells
   with_cells_of cells = record { text = k; level = b.level; encloser = number_in parent; cells = cells; passing = b.class_free; kept = false; given_back = false }
 
-  live_last : (cells : Cells) → live (opened_with m k b parent cells) (length m.instances) ≡ Some (with_cells_of cells)
+  live_last : (cells : Cells) → live (opened_with m k b g parent cells) (length m.instances) ≡ Some (with_cells_of cells)
   live_last cells = ap (λ x. unless_given x) (get_last m.instances (with_cells_of cells))
 
   abbrev pub opened_if : Option Cells → Option Frames
   opened_if None = None
-  opened_if (Some cells) = Some (opened_with m k b parent cells)
+  opened_if (Some cells) = Some (opened_with m k b g parent cells)
 
-  put_last : (cells : Cells) (q : Option Cells) → cells_put (opened_with m k b parent cells) (length m.instances) (Some (with_cells_of cells)) q ≡ opened_if q
+  put_last : (cells : Cells) (q : Option Cells) → cells_put (opened_with m k b g parent cells) (length m.instances) (Some (with_cells_of cells)) q ≡ opened_if q
   put_last cells None = refl
-  put_last cells (Some cells2) = ap (λ w. Some (record { instances = w; standings = (opened_with m k b parent cells).standings })) (set_last m.instances (with_cells_of cells) (with_cells_of cells2))
+  put_last cells (Some cells2) = ap (λ w. Some (record { instances = w; standings = (opened_with m k b g parent cells).standings })) (set_last m.instances (with_cells_of cells) (with_cells_of cells2))
 
-  set_in_last : (cells : Cells) (c : ℕ) (v : Value) → cell_set (opened_with m k b parent cells) (length m.instances) c v ≡ opened_if (put_in (Some cells) c v)
+  pub set_in_last : (cells : Cells) (c : ℕ) (v : Value) → cell_set (opened_with m k b g parent cells) (length m.instances) c v ≡ opened_if (put_in (Some cells) c v)
   set_in_last cells c v =
-      ap (λ x. cells_put (opened_with m k b parent cells) (length m.instances) x (put_in (cells_in x) c v)) (live_last cells) ∙ put_last cells (put_in (Some cells) c v)
+      ap (λ x. cells_put (opened_with m k b g parent cells) (length m.instances) x (put_in (cells_in x) c v)) (live_last cells) ∙ put_last cells (put_in (Some cells) c v)
 
-  by_test : (vs : List Value) (c : ℕ) (cells2 : Cells) (q : Option Cells) (t : Bool) → cells_set_from (opened_with m k b parent cells2) (length m.instances) (suc c) vs ≡ opened_if q →
+  by_test : (vs : List Value) (c : ℕ) (cells2 : Cells) (q : Option Cells) (t : Bool) → cells_set_from (opened_with m k b g parent cells2) (length m.instances) (suc c) vs ≡ opened_if q →
       then_set (opened_if (if t then Some cells2 else None)) (λ m2. cells_set_from m2 (length m.instances) (suc c) vs) ≡ opened_if (if t then q else None)
   by_test vs c cells2 q true e = e
   by_test vs c cells2 q false e = refl
 
-  pub filled_last : (vs : List Value) (c : ℕ) (cells : Cells) → cells_set_from (opened_with m k b parent cells) (length m.instances) c vs ≡ opened_if (filled c vs cells)
+  pub filled_last : (vs : List Value) (c : ℕ) (cells : Cells) → cells_set_from (opened_with m k b g parent cells) (length m.instances) c vs ≡ opened_if (filled c vs cells)
   filled_last [] c cells = refl
   filled_last (v ∷ vs) c cells =
       ap (λ q. then_set q (λ m2. cells_set_from m2 (length m.instances) (suc c) vs)) (set_in_last cells c v)
@@ -135,7 +136,7 @@ module _ (m : Frames) (k : ℕ) (b : BlockOf) (parent : Option FrameRef) where
   pub record Cellular (q : Option Cells) (filled_memory : Frames) : Type 0 where
     pub cells : Cells
     pub is : q ≡ Some cells
-    pub memory : opened_with m k b parent cells ≡ filled_memory
+    pub memory : opened_with m k b g parent cells ≡ filled_memory
 
   pub cellular : (q : Option Cells) (m2 : Frames) → opened_if q ≡ Some m2 → Cellular q m2
   cellular None m2 e = absurd (cc)
@@ -145,12 +146,12 @@ module _ (m : Frames) (k : ℕ) (b : BlockOf) (parent : Option FrameRef) where
       out None = m
       out (Some w) = w
 
-      some_memory : Some (opened_with m k b parent cells) ≡ Some m2 → opened_with m k b parent cells ≡ m2
+      some_memory : Some (opened_with m k b g parent cells) ≡ Some m2 → opened_with m k b g parent cells ≡ m2
       some_memory e = ap (λ w. out w) e
 
 -- ---- as many values as there are cells fill them, and no more do
 
-set_long : (cells : Cells) (c : ℕ) (x : Option Value) → length (slice_set cells c x) ≡ length cells
+pub set_long : (cells : Cells) (c : ℕ) (x : Option Value) → length (slice_set cells c x) ≡ length cells
 set_long [] c x = refl
 set_long (y ∷ ys) zero x = refl
 set_long (y ∷ ys) (suc c) x = ap suc (set_long ys c x)

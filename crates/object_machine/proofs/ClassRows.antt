@@ -403,3 +403,8 @@ unclassed_by k.Thunk s = refl
 
 pub without_is : (s : Slot) → place_in (value_of (record s { class = 0 })) ≡ unclassed (place_in (value_of s))
 without_is s = unclassed_by s.kind s
+
+-- of a class the test is whether a value may stand there
+pub some_admits : (code : CodeOf) (m : Frames) (c : ℕ) (p : Option Plain) → (c ≡ 0 → ⊥) → admits code m c p ≡ may_stand code m c p
+some_admits code m zero p h = absurd (h refl)
+some_admits code m (suc c) p h = refl

@@ -4,11 +4,12 @@ use Rattle.std.specs.Prelude.{Option, Some, false, slice_get}
 use Rattle.sim_base.specs.declared.limits.Limits.{Limits}
 use Rattle.sim_values.specs.declared.value.FrameRef.{FrameRef}
 use Rattle.sim_code.specs.Code.{BlockOf}
-use Rattle.sim_code.specs.Machine.{Cells, Frames, Machine, first_cells, in_frame, waiting}
+use Rattle.sim_code.specs.Machine.{Cells, Frames, Machine, first_cells, in_new, waiting}
 use Rattle.sim_code.specs.Outcome.{Run, World}
 use Rattle.frame_arena.specs.declared.slot.Slot.{Slot}
-use Rattle.frame_arena.specs.Frames.{number_in}
+use Rattle.frame_arena.specs.Frames.{number_in, stands_as}
 use Rattle.frame_arena.specs.Stacks.{values_of}
+use Rattle.object_machine.specs.declared.openings.Beginning.{Beginning}
 use Rattle.object_machine.specs.declared.machine.Storage.{Storage}
 use Rattle.object_machine.specs.declared.machine.Registers.{Registers}
 use Rattle.object_machine.specs.declared.machine.Activation as working
@@ -24,7 +25,7 @@ use Rattle.object_machine.proofs.Going.{act}
 
 -- a frame that goes on behind its instruction
 abbrev pub behind : working.Activation → Registers
-behind u = record { home = u.registers.home; pc = u.registers.pc + 1; depth = u.registers.depth }
+behind u = record { home = u.registers.home; pc = u.registers.pc + 1; depth = u.registers.depth; stage = u.registers.stage }
 
 abbrev pub under_of : working.Activation → working.Activation
 under_of u = record { registers = behind u; stack = u.stack }
@@ -40,24 +41,24 @@ pub more_fit : (below below2 : List working.Activation) (t : working.Activation)
 more_fit below below2 t e fit one = subst (λ w. AllFit w) (sym e) (all_more (λ u. u.registers.depth ≤ length u.stack.items) below t fit one)
 
 -- a frame with its first values
-pub opens_first : (l : Limits) (p p2 : Storage) (k : ℕ) (b : BlockOf) (parent : Option FrameRef) (t : working.Activation) (before : Option (List ℕ)) (now : Outside) (o : World) (m : Frames) → Opens l p p2 k b parent t before now o m → OpensWith l p p2 k b parent (first_cells b) t before now o o m
-opens_first l p p2 k b parent t before now o m h = record { stores = h.stores; top = h.top; works = h.works; others = h.others }
+pub opens_first : (l : Limits) (p p2 : Storage) (k : ℕ) (b : BlockOf) (g : Beginning) (parent : Option FrameRef) (t : working.Activation) (before : Option (List ℕ)) (now : Outside) (o : World) (m : Frames) → Opens l p p2 k b g parent t before now o m → OpensWith l p p2 k b g parent (first_cells b) t before now o o m
+opens_first l p p2 k b g parent t before now o m h = record { stores = h.stores; top = h.top; works = h.works; others = h.others }
 
-module _ (l : Limits) (line : ℕ) (p p2 : Storage) (k : ℕ) (b : BlockOf) (parent : Option FrameRef) (cells : Cells) (next : working.Activation) (r : Registers) (stack : List Slot) (below : List working.Activation) (top : working.Activation) (below2 : List working.Activation) (before : Option (List ℕ)) (now : Outside) (o o2 : World) (m : Frames) where
+module _ (l : Limits) (line : ℕ) (p p2 : Storage) (k : ℕ) (b : BlockOf) (g : Beginning) (parent : Option FrameRef) (cells : Cells) (next : working.Activation) (r : Registers) (stack : List Slot) (below : List working.Activation) (top : working.Activation) (below2 : List working.Activation) (before : Option (List ℕ)) (now : Outside) (o o2 : World) (m : Frames) where
   abbrev pub Entered : Run Machine
-  Entered = in_frame o2 m k b (number_in parent) cells (waiting (activation_at r stack) (values_of r.depth stack) ∷ below_of below)
+  Entered = in_new o2 m k b g.start g.stage (stands_as g.component) (number_in parent) cells (waiting (activation_at r stack) (values_of r.depth stack) ∷ below_of below)
 
-  module _ (h : OpensWith l p p2 k b parent cells next before now o o2 m) (w : AtWork p o m r stack) (s : AllAtWork p o m below) where
-    still : (t : working.Activation) → t.registers ≡ record r { pc = r.pc + 1 } → t.stack.items ≡ stack → AtWork p2 o2 (opened_with m k b parent cells) t.registers t.stack.items
+  module _ (h : OpensWith l p p2 k b g parent cells next before now o o2 m) (w : AtWork p2 o2 (opened_with m k b g parent cells) r stack) (s : AllAtWork p o m below) where
+    still : (t : working.Activation) → t.registers ≡ record r { pc = r.pc + 1 } → t.stack.items ≡ stack → AtWork p2 o2 (opened_with m k b g parent cells) t.registers t.stack.items
     still t e e2 =
         let r2 : Registers = record r { pc = r.pc + 1 } in
-        let w2 : AtWork p o m r2 stack = record { home = w.home; slots = w.slots; arrays_lead = w.arrays_lead } in
-        subst (λ q. AtWork p2 o2 (opened_with m k b parent cells) q t.stack.items) (sym e) (subst (λ x. AtWork p2 o2 (opened_with m k b parent cells) r2 x) (sym e2) (h.others r2 stack w2))
+        let w2 : AtWork p2 o2 (opened_with m k b g parent cells) r2 stack = record { home = w.home; slots = w.slots; arrays_lead = w.arrays_lead } in
+        subst (λ q. AtWork p2 o2 (opened_with m k b g parent cells) q t.stack.items) (sym e) (subst (λ x. AtWork p2 o2 (opened_with m k b g parent cells) r2 x) (sym e2) w2)
 
     waits : (t : working.Activation) → t.registers ≡ record r { pc = r.pc + 1 } → t.stack.items ≡ stack → activation_of t ≡ waiting (activation_at r stack) (values_of r.depth stack)
     waits t e e2 =
         let r2 : Registers = record r { pc = r.pc + 1 } in
-        ap (λ q. activation_at q t.stack.items) e ∙ ap (λ x. activation_at r2 x) e2 ∙ ap (λ n. act r.home.stamp n (values_of r.depth stack) (length stack)) (let n : r.pc + 1 ≡ suc r.pc = omega arith in n)
+        ap (λ q. activation_at q t.stack.items) e ∙ ap (λ x. activation_at r2 x) e2 ∙ ap (λ n. act r.home.stamp n (values_of r.depth stack) (length stack) r.stage) (let n : r.pc + 1 ≡ suc r.pc = omega arith in n)
 
     covered : Covers flow.On next r stack below top below2 → Leaves flow.On l line p2 top.registers top.stack.items below2 before now Entered
     unfolding Leaves
@@ -68,13 +69,13 @@ module _ (l : Limits) (line : ℕ) (p p2 : Storage) (k : ℕ) (b : BlockOf) (par
         let items = c.1.3 in
         let chain : below_of below2 ≡ waiting (activation_at r stack) (values_of r.depth stack) ∷ below_of below =
         ap (λ w. below_of w) there ∙ below_more below t ∙ ap (λ a. a ∷ below_of below) (waits t regs items) in
-        let first : activation_of top ≡ record { thunk = false; home = length m.instances; pc = b.entry; stack = []; room = b.room } = ap (λ u. activation_of u) c.0 ∙ h.top in (
+        let first : activation_of top ≡ record { thunk = false; home = length m.instances; pc = g.start; stack = []; room = b.room; stage = g.stage } = ap (λ u. activation_of u) c.0 ∙ h.top in (
           ap (λ a. a ∷ (waiting (activation_at r stack) (values_of r.depth stack) ∷ below_of below)) (sym first) ∙ ap (λ w. activation_of top ∷ w) (sym chain),
           record {
             stores = h.stores;
-            top = subst (λ u. AtWork p2 o2 (opened_with m k b parent cells) u.registers u.stack.items) (sym c.0) h.works;
-            others = subst (λ w. AllAtWork p2 o2 (opened_with m k b parent cells) w) (sym there)
-                (all_more (λ u. AtWork p2 o2 (opened_with m k b parent cells) u.registers u.stack.items) below t (λ n u e. h.others u.registers u.stack.items (s n u e)) (still t regs items));
+            top = subst (λ u. AtWork p2 o2 (opened_with m k b g parent cells) u.registers u.stack.items) (sym c.0) h.works;
+            others = subst (λ w. AllAtWork p2 o2 (opened_with m k b g parent cells) w) (sym there)
+                (all_more (λ u. AtWork p2 o2 (opened_with m k b g parent cells) u.registers u.stack.items) below t (λ n u e. h.others u.registers u.stack.items (s n u e)) (still t regs items));
           },
         )
 

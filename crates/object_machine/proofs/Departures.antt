@@ -24,7 +24,7 @@ use Rattle.object_machine.specs.declared.machine.Flow.TheVariants as flow
 use Rattle.object_machine.specs.FrameEnds.{Ends, ValueLeads}
 use Rattle.object_machine.specs.Standing.{AllAtWork, AllFit, AtWork, Leaves, Outside, Stands, Stores, activation_at, activation_of, below_of, ports_of}
 use Rattle.object_machine.proofs.Filling.{none_taken}
-use Rattle.object_machine.proofs.Going.{act}
+use Rattle.object_machine.proofs.Going.{Stays, act, moved}
 use Rattle.object_machine.proofs.Places.{lead_later, led_array_at, led_at}
 
 -- ---- the block of the frame on top
@@ -187,20 +187,18 @@ module _ (l : Limits) (line : ℕ) (p p2 : Storage) (b : BlockOf) (r : Registers
     last_works = s.others (length rest) t (subst (λ w. slice_get w (length rest) ≡ Some t) (sym e) (get_last rest t))
 
     pub becomes_top : (r2 : Registers) (stack2 : List Slot) → Ends l p p2 b r.home.stamp before now o m →
-        r2.home ≡ t.registers.home → r2.pc ≡ t.registers.pc → length stack2 ≡ length t.stack.items → AllLead p.frames.items m stack2 → AllLeadArrays p.arrays.regions o.arrays stack2 →
+        Stays t.registers r2 → r2.pc ≡ t.registers.pc → length stack2 ≡ length t.stack.items → AllLead p.frames.items m stack2 → AllLeadArrays p.arrays.regions o.arrays stack2 →
         ((go : List Value → Run Machine) → pushing_any (length t.stack.items) (values_of t.registers.depth t.stack.items) v o go ≡ go (values_of r2.depth stack2)) →
         Leaves flow.On l line p2 r2 stack2 rest before now (leaving b (below_of below) v r.home.stamp o m)
     unfolding Leaves
     becomes_top r2 stack2 ends home place long slots arrays put =
-        let chain : act t.registers.home.stamp t.registers.pc (values_of r2.depth stack2) (length t.stack.items) ≡ activation_at r2 stack2 =
-        ap (λ f. act f.stamp t.registers.pc (values_of r2.depth stack2) (length t.stack.items)) (sym home)
-        ∙ ap (λ n. act r2.home.stamp n (values_of r2.depth stack2) (length t.stack.items)) (sym place)
-        ∙ ap (λ n. act r2.home.stamp r2.pc (values_of r2.depth stack2) n) (sym long) in
+        let chain : act t.registers.home.stamp t.registers.pc (values_of r2.depth stack2) (length t.stack.items) t.registers.stage ≡ activation_at r2 stack2 =
+        moved t.registers r2 stack2 t.registers.pc (values_of r2.depth stack2) (length t.stack.items) home (sym place) refl (sym long) in
         subst (λ q. Leaves flow.On l line p2 r2 stack2 rest before now q) (sym (leaving_is ∙ put Then)) (
           ap (λ a. a ∷ below_of rest) chain,
           record {
             stores = ends.stores;
-            top = ends.others r2 stack2 (record { home = subst (λ f. Leads p.frames.items m f) (sym home) last_works.home; slots = slots; arrays_lead = arrays });
+            top = ends.others r2 stack2 (record { home = subst (λ f. Leads p.frames.items m f) (sym home.0) last_works.home; slots = slots; arrays_lead = arrays });
             others = others_left ends;
           },
         )

@@ -13,7 +13,6 @@ pub mod Firsts
 pub mod Closings
 pub mod Starting
 pub mod Whole
-pub mod EndRows
 pub mod Having
 pub mod ReadOperands
 pub mod OperandRows
@@ -30,3 +29,11 @@ pub mod Calls
 pub mod Taking
 pub mod Passing
 pub mod ClassRows
+pub mod LevelRows
+pub mod StageRows
+pub mod ObjectEnds
+pub mod ParameterCells
+pub mod Generated
+pub mod Prepared
+pub mod Pushed
+pub mod Held

@@ -3,6 +3,7 @@ use Rattle.std.proofs.Common.{◌≡◌, ℕ, zero, suc, ◌+◌, ◌≤◌, Lis
 use Rattle.std.specs.Prelude.{false, Option}
 use Rattle.sim_base.specs.declared.limits.Limits.{Limits}
 use Rattle.sim_values.specs.declared.value.FrameRef.{FrameRef}
+use Rattle.sim_code.specs.declared.stage.Stage.{Stage}
 use Rattle.sim_code.specs.Code.{BlockOf}
 use Rattle.sim_code.specs.Machine.{Frames, first_cells}
 use Rattle.sim_code.specs.Outcome.{ArrayOf, World}
@@ -12,6 +13,7 @@ use Rattle.frame_arena.specs.Arrays.{AllLeadArrays, ElementsLead, HoldsArrays, R
 use Rattle.frame_arena.specs.Frames.{AllLead, Holds, Leads, names_frame, number_in}
 use Rattle.frame_arena.specs.Slots.{empty_slot}
 use Rattle.frame_arena.specs.Stacks.{slot_at, values_of}
+use Rattle.object_machine.specs.declared.openings.Beginning.{Beginning}
 use Rattle.object_machine.specs.declared.machine.Storage.{Storage}
 use Rattle.object_machine.specs.declared.machine.Activation as working
 use Rattle.object_machine.specs.Standing.{Outside, Stores, Works, activation_at, activation_of, ports_of}
@@ -40,19 +42,19 @@ long_replicate : (n : ℕ) → length (replicate n empty_slot) ≡ n
 long_replicate zero = refl
 long_replicate (suc n) = ap suc (long_replicate n)
 
-pub first_activation : (number count region entry room : ℕ) (stack : List Slot) → number ≡ count → stack ≡ replicate room empty_slot →
-    activation_at (record { home = record { frame = region; stamp = number }; pc = entry; depth = 0 }) stack ≡ record { thunk = false; home = count; pc = entry; stack = []; room = room }
-first_activation number count region entry room stack e s =
-    ap (λ h. act h entry (values_of 0 stack) (length stack)) e
-    ∙ ap (λ v. act count entry v (length stack)) (values_none stack)
-    ∙ ap (λ n. act count entry [] n) (ap length s ∙ long_replicate room)
+pub first_activation : (number count region entry room : ℕ) (stage : Stage) (stack : List Slot) → number ≡ count → stack ≡ replicate room empty_slot →
+    activation_at (record { home = record { frame = region; stamp = number }; pc = entry; depth = 0; stage = stage }) stack ≡ record { thunk = false; home = count; pc = entry; stack = []; room = room; stage = stage }
+first_activation number count region entry room stage stack e s =
+    ap (λ h. act h entry (values_of 0 stack) (length stack) stage) e
+    ∙ ap (λ v. act count entry v (length stack) stage) (values_none stack)
+    ∙ ap (λ n. act count entry [] n stage) (ap length s ∙ long_replicate room)
 
-module _ (l : Limits) (p p2 : Storage) (k : ℕ) (b : BlockOf) (parent : Option FrameRef) (t : working.Activation) (before : Option (List ℕ)) (now : Outside) (o : World) (m : Frames) (s : Stores l p before now o m) where
+module _ (l : Limits) (p p2 : Storage) (k : ℕ) (b : BlockOf) (g : Beginning) (parent : Option FrameRef) (t : working.Activation) (before : Option (List ℕ)) (now : Outside) (o : World) (m : Frames) (s : Stores l p before now o m) where
   pub opens : p2.arrays ≡ p.arrays → p2.texts ≡ p.texts → p2.image ≡ p.image → p2.ticks ≡ p.ticks → p2.words ≡ p.words → p2.entered ≡ p.entered + 1 →
-      Holds p2.frames.items p2.cells.items (opened m k b parent) → ((r : FrameRef) → Leads p.frames.items m r → Leads p2.frames.items (opened m k b parent) r) →
+      Holds p2.frames.items p2.cells.items (opened m k b g parent) → ((r : FrameRef) → Leads p.frames.items m r → Leads p2.frames.items (opened m k b g parent) r) →
       AllLeadArrays p.arrays.regions o.arrays p2.cells.items →
-      Leads p2.frames.items (opened m k b parent) t.registers.home → AllLead p2.frames.items (opened m k b parent) t.stack.items → AllLeadArrays p.arrays.regions o.arrays t.stack.items →
-      activation_of t ≡ record { thunk = false; home = length m.instances; pc = b.entry; stack = []; room = b.room } → Opens l p p2 k b parent t before now o m
+      Leads p2.frames.items (opened m k b g parent) t.registers.home → AllLead p2.frames.items (opened m k b g parent) t.stack.items → AllLeadArrays p.arrays.regions o.arrays t.stack.items →
+      activation_of t ≡ record { thunk = false; home = length m.instances; pc = g.start; stack = []; room = b.room; stage = g.stage } → Opens l p p2 k b g parent t before now o m
   opens ea et ei ek ew en h leads cells home slots arrays top =
       let count = length-append m.instances (record { text = k; level = b.level; encloser = number_in parent; cells = first_cells b; passing = b.class_free; kept = false; given_back = false } ∷ []) in
       record {
@@ -63,29 +65,29 @@ module _ (l : Limits) (p p2 : Storage) (k : ℕ) (b : BlockOf) (parent : Option 
           entered = en ∙ ap (λ n. n + 1) s.entered ∙ sym count;
           arrays = subst (λ a. HoldsArrays a o.arrays) (sym ea) s.arrays;
           cells = subst (λ a. AllLeadArrays a.regions o.arrays p2.cells.items) (sym ea) cells;
-          elements = subst (λ a. ElementsLead p2.frames.items (opened m k b parent) a.regions) (sym ea) (λ place at names. leads _ (s.elements place at names));
+          elements = subst (λ a. ElementsLead p2.frames.items (opened m k b g parent) a.regions) (sym ea) (λ place at names. leads _ (s.elements place at names));
         };
         top = top;
-        works = subst (λ a. Works p2.frames.items (opened m k b parent) a.regions o.arrays t.registers t.stack.items) (sym ea) (record { home = home; slots = slots; arrays_lead = arrays });
-        others = λ r stack w. subst (λ a. Works p2.frames.items (opened m k b parent) a.regions o.arrays r stack) (sym ea)
-            (record { home = leads r.home w.home; slots = lead_later p.frames.items p2.frames.items m (opened m k b parent) leads stack w.slots; arrays_lead = w.arrays_lead });
+        works = subst (λ a. Works p2.frames.items (opened m k b g parent) a.regions o.arrays t.registers t.stack.items) (sym ea) (record { home = home; slots = slots; arrays_lead = arrays });
+        others = λ r stack w. subst (λ a. Works p2.frames.items (opened m k b g parent) a.regions o.arrays r stack) (sym ea)
+            (record { home = leads r.home w.home; slots = lead_later p.frames.items p2.frames.items m (opened m k b g parent) leads stack w.slots; arrays_lead = w.arrays_lead });
       }
 
   -- the same where the regions and the cells are told
   pub opens_from : (fs : List Frame) (cs : List Slot) → p2.frames.items ≡ fs → p2.cells.items ≡ cs →
       p2.arrays ≡ p.arrays → p2.texts ≡ p.texts → p2.image ≡ p.image → p2.ticks ≡ p.ticks → p2.words ≡ p.words → p2.entered ≡ p.entered + 1 →
-      Holds fs cs (opened m k b parent) → ((r : FrameRef) → Leads p.frames.items m r → Leads fs (opened m k b parent) r) →
+      Holds fs cs (opened m k b g parent) → ((r : FrameRef) → Leads p.frames.items m r → Leads fs (opened m k b g parent) r) →
       AllLeadArrays p.arrays.regions o.arrays cs →
-      Leads fs (opened m k b parent) t.registers.home → AllLead fs (opened m k b parent) t.stack.items → AllLeadArrays p.arrays.regions o.arrays t.stack.items →
-      activation_of t ≡ record { thunk = false; home = length m.instances; pc = b.entry; stack = []; room = b.room } → Opens l p p2 k b parent t before now o m
+      Leads fs (opened m k b g parent) t.registers.home → AllLead fs (opened m k b g parent) t.stack.items → AllLeadArrays p.arrays.regions o.arrays t.stack.items →
+      activation_of t ≡ record { thunk = false; home = length m.instances; pc = g.start; stack = []; room = b.room; stage = g.stage } → Opens l p p2 k b g parent t before now o m
   opens_from fs cs ef ec ea et ei ek ew en h leads cells home slots arrays top =
       opens ea et ei ek ew en
-      (subst (λ f. Holds f p2.cells.items (opened m k b parent)) (sym ef) (subst (λ x. Holds fs x (opened m k b parent)) (sym ec) h))
-      (λ r q. subst (λ f. Leads f (opened m k b parent) r) (sym ef) (leads r q))
+      (subst (λ f. Holds f p2.cells.items (opened m k b g parent)) (sym ef) (subst (λ x. Holds fs x (opened m k b g parent)) (sym ec) h))
+      (λ r q. subst (λ f. Leads f (opened m k b g parent) r) (sym ef) (leads r q))
       (subst (λ x. AllLeadArrays p.arrays.regions o.arrays x) (sym ec) cells)
-      (subst (λ f. Leads f (opened m k b parent) t.registers.home) (sym ef) home)
-      (subst (λ f. AllLead f (opened m k b parent) t.stack.items) (sym ef) slots) arrays top
+      (subst (λ f. Leads f (opened m k b g parent) t.registers.home) (sym ef) home)
+      (subst (λ f. AllLead f (opened m k b g parent) t.stack.items) (sym ef) slots) arrays top
 
-pub for_block : (l : Limits) (p p2 : Storage) (k : ℕ) (b b2 : BlockOf) (parent : Option FrameRef) (t : working.Activation) (before : Option (List ℕ)) (now : Outside) (o : World) (m : Frames) → b ≡ b2 →
-    Opens l p p2 k b parent t before now o m → Opens l p p2 k b2 parent t before now o m
-for_block l p p2 k b b2 parent t before now o m e h = subst (λ b. Opens l p p2 k b parent t before now o m) e h
+pub for_block : (l : Limits) (p p2 : Storage) (k : ℕ) (b b2 : BlockOf) (g : Beginning) (parent : Option FrameRef) (t : working.Activation) (before : Option (List ℕ)) (now : Outside) (o : World) (m : Frames) → b ≡ b2 →
+    Opens l p p2 k b g parent t before now o m → Opens l p p2 k b2 g parent t before now o m
+for_block l p p2 k b b2 g parent t before now o m e h = subst (λ b. Opens l p p2 k b g parent t before now o m) e h

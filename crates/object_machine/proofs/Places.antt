@@ -19,7 +19,7 @@ use Rattle.object_machine.specs.declared.machine.Activation as working
 use Rattle.object_machine.specs.declared.machine.Flow.TheVariants as flow
 use Rattle.object_machine.specs.Placing.{IsPlaced, placed_in}
 use Rattle.object_machine.specs.Standing.{Leaves, Outside, SameBut, Stands, Works, activation_at, below_of, ports_of}
-use Rattle.object_machine.proofs.Going.{moved_behind}
+use Rattle.object_machine.proofs.Going.{Stays, moved_behind}
 use Rattle.object_machine.proofs.Scalars.{off}
 
 -- a frame that is there is led to
@@ -114,12 +114,12 @@ module _ (l : Limits) (line : ℕ) (p p2 : Storage) (same : SameBut p p2) (below
   }
 
   pub write_on : (j c depth : ℕ) (v : Value) (q : Option Frames) → cell_set m j c v ≡ q → HoldsAfter true p.frames.items p2.cells.items q → ((f : FrameRef) → Leads p.frames.items m f → LeadsAfter p.frames.items q f) →
-      AllLeadArrays p.arrays.regions o.arrays p2.cells.items → Stands l p r stack below before now o m → r2.home ≡ r.home → r2.pc ≡ r.pc + 1 → r2.depth ≡ depth →
+      AllLeadArrays p.arrays.regions o.arrays p2.cells.items → Stands l p r stack below before now o m → Stays r r2 → r2.pc ≡ r.pc + 1 → r2.depth ≡ depth →
       Leaves flow.On l line p2 r2 stack below before now (having q o (λ m. on o m (activation_at r stack) (values_of depth stack) (below_of below)))
   unfolding having Leaves
   write_on j c depth v None e h leads arrays s e1 e2 e3 = absurd (off (sym h))
   write_on j c depth v (Some m2) e h leads arrays s e1 e2 e3 =
-      let t = stands_written m2 s e1 h.1 arrays (set_count m j c v m2 e) leads in
+      let t = stands_written m2 s e1.0 h.1 arrays (set_count m j c v m2 e) leads in
       (moved_behind r r2 stack depth below e1 e2 e3, t)
 
   -- a value is in the cell where an address leads

@@ -45,6 +45,8 @@ none_has q n h = omega (arith, h.0)
 pub holds_nothing : Holds [] [] empty_memory
 holds_nothing = record {
   known = λ q n h. absurd (none_has q n h);
+  standings = λ q n h. absurd (none_has q n h);
+  counted = refl;
   single = λ p q n h h2. absurd (none_has p n h);
   parents = λ q n h r up. absurd (none_has q n h);
   links = λ at names. absurd (off names);

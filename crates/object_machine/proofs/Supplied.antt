@@ -11,26 +11,30 @@ use Rattle.frame_arena.specs.declared.frames.Frame.{Frame}
 use Rattle.frame_arena.specs.declared.slot.Slot.{Slot}
 use Rattle.frame_arena.specs.Arrays.{AllLeadArrays, ElementsLead, HoldsArrays, KeepLeading, RegionOf}
 use Rattle.frame_arena.specs.Frames.{Holds, Leads}
+use Rattle.object_machine.specs.declared.openings.Beginning.{Beginning}
 use Rattle.object_machine.specs.declared.machine.Storage.{Storage}
 use Rattle.object_machine.specs.declared.machine.Registers.{Registers}
 use Rattle.object_machine.specs.declared.machine.Activation as working
 use Rattle.object_machine.specs.Calling.{Filled, OpensWith, Supplied, cells_set_from, opened_with}
 use Rattle.object_machine.specs.Entering.{Opens, opened}
 use Rattle.object_machine.specs.Standing.{AtWork, InWorld, Outside, SameBut, Works, ports_of}
+use Rattle.sim_code.specs.Levels.{filled_by}
+use Rattle.object_machine.specs.Parameters.{cells_set_by}
+use Rattle.object_machine.proofs.ParameterCells.{filled_by_last}
 use Rattle.object_machine.proofs.Called.{cellular, filled_last}
 use Rattle.object_machine.proofs.Places.{lead_later}
 
 works_on : (fs : List Frame) (m m2 : Frames) (regions : List RegionOf) (arrays : List ArrayOf) → ((f : FrameRef) → Leads fs m f → Leads fs m2 f) → (r : Registers) (slots : List Slot) → Works fs m regions arrays r slots → Works fs m2 regions arrays r slots
 works_on fs m m2 regions arrays later r slots w = record { home = later r.home w.home; slots = lead_later fs fs m m2 later slots w.slots; arrays_lead = w.arrays_lead }
 
-module _ (l : Limits) (p p1 p2 : Storage) (same : SameBut p1 p2) (k : ℕ) (b : BlockOf) (parent : Option FrameRef) (t : working.Activation) (before : Option (List ℕ)) (now : Outside) (o : World) (m : Frames) (h : Opens l p p1 k b parent t before now o m) where
-  with_cells : (cells : Cells) → Holds p1.frames.items p2.cells.items (opened_with m k b parent cells) → ((r : FrameRef) → Leads p1.frames.items (opened m k b parent) r → Leads p1.frames.items (opened_with m k b parent cells) r) → AllLeadArrays p1.arrays.regions o.arrays p2.cells.items →
-      OpensWith l p p2 k b parent cells t before now o o m
+module _ (l : Limits) (p p1 p2 : Storage) (same : SameBut p1 p2) (k : ℕ) (b : BlockOf) (g : Beginning) (parent : Option FrameRef) (t : working.Activation) (before : Option (List ℕ)) (now : Outside) (o : World) (m : Frames) (h : Opens l p p1 k b g parent t before now o m) where
+  with_cells : (cells : Cells) → Holds p1.frames.items p2.cells.items (opened_with m k b g parent cells) → ((r : FrameRef) → Leads p1.frames.items (opened m k b g parent) r → Leads p1.frames.items (opened_with m k b g parent cells) r) → AllLeadArrays p1.arrays.regions o.arrays p2.cells.items →
+      OpensWith l p p2 k b g parent cells t before now o o m
   with_cells cells holds leads arrays =
-      let m2 = opened_with m k b parent cells in
+      let m2 = opened_with m k b g parent cells in
       let s = h.stores in
-      let still : (r : Registers) (stack : List Slot) → AtWork p1 o (opened m k b parent) r stack → AtWork p2 o m2 r stack = λ r stack w.
-      subst (λ v. Works v.items m2 p2.arrays.regions o.arrays r stack) (sym same.frames) (subst (λ a. Works p1.frames.items m2 a.regions o.arrays r stack) (sym same.arrays) (works_on p1.frames.items (opened m k b parent) m2 p1.arrays.regions o.arrays leads r stack w)) in
+      let still : (r : Registers) (stack : List Slot) → AtWork p1 o (opened m k b g parent) r stack → AtWork p2 o m2 r stack = λ r stack w.
+      subst (λ v. Works v.items m2 p2.arrays.regions o.arrays r stack) (sym same.frames) (subst (λ a. Works p1.frames.items m2 a.regions o.arrays r stack) (sym same.arrays) (works_on p1.frames.items (opened m k b g parent) m2 p1.arrays.regions o.arrays leads r stack w)) in
       record {
         stores = record {
           world = record { ticks = s.world.ticks ∙ sym same.ticks; words = s.world.words ∙ sym same.words; texts = s.world.texts ∙ sym same.texts; image = s.world.image ∙ ap (λ i. ports_of i now.source) (sym same.image); written = s.world.written };
@@ -46,15 +50,28 @@ module _ (l : Limits) (p p1 p2 : Storage) (same : SameBut p1 p2) (k : ℕ) (b : 
         others = λ r stack w. still r stack (h.others r stack w);
       }
 
-  pub supplied : (cs : List Slot) → p2.cells.items ≡ cs → (first : ℕ) (vs : List Value) → Filled p1.frames.items cs (opened m k b parent) (cells_set_from (opened m k b parent) t.registers.home.stamp first vs) → AllLeadArrays p1.arrays.regions o.arrays cs →
-      Supplied l p p2 k b parent t before now o m (filled first vs (first_cells b))
+  pub supplied : (cs : List Slot) → p2.cells.items ≡ cs → (first : ℕ) (vs : List Value) → Filled p1.frames.items cs (opened m k b g parent) (cells_set_from (opened m k b g parent) t.registers.home.stamp first vs) → AllLeadArrays p1.arrays.regions o.arrays cs →
+      Supplied l p p2 k b g parent t before now o m (filled first vs (first_cells b))
   supplied cs is first vs f arrays =
       let stamp : length m.instances ≡ t.registers.home.stamp = sym (ap (λ a. a.home) h.top) in
-      let c = cellular m k b parent (filled first vs (first_cells b)) f.memory (sym (filled_last m k b parent vs first (first_cells b)) ∙ ap (λ j. cells_set_from (opened m k b parent) j first vs) stamp ∙ f.is) in
+      let c = cellular m k b g parent (filled first vs (first_cells b)) f.memory (sym (filled_last m k b g parent vs first (first_cells b)) ∙ ap (λ j. cells_set_from (opened m k b g parent) j first vs) stamp ∙ f.is) in
       record {
         cells = c.cells;
         is = c.is;
-        opens = with_cells c.cells (subst (λ x. Holds p1.frames.items x (opened_with m k b parent c.cells)) (sym is) (subst (λ w. Holds p1.frames.items cs w) (sym c.memory) f.holds))
+        opens = with_cells c.cells (subst (λ x. Holds p1.frames.items x (opened_with m k b g parent c.cells)) (sym is) (subst (λ w. Holds p1.frames.items cs w) (sym c.memory) f.holds))
+            (λ r q. subst (λ w. Leads p1.frames.items w r) (sym c.memory) (f.leads r q)) (subst (λ x. AllLeadArrays p1.arrays.regions o.arrays x) (sym is) arrays);
+      }
+
+  -- the same of what has levels
+  pub supplied_by : (cs : List Slot) → p2.cells.items ≡ cs → (place : ℕ → Option ℕ) (vs : List Value) → Filled p1.frames.items cs (opened m k b g parent) (cells_set_by (opened m k b g parent) t.registers.home.stamp place 0 vs) → AllLeadArrays p1.arrays.regions o.arrays cs →
+      Supplied l p p2 k b g parent t before now o m (filled_by place 0 vs (Some (first_cells b)))
+  supplied_by cs is place vs f arrays =
+      let stamp : length m.instances ≡ t.registers.home.stamp = sym (ap (λ a. a.home) h.top) in
+      let c = cellular m k b g parent (filled_by place 0 vs (Some (first_cells b))) f.memory (sym (filled_by_last m k b g parent place vs 0 (first_cells b)) ∙ ap (λ j. cells_set_by (opened m k b g parent) j place 0 vs) stamp ∙ f.is) in
+      record {
+        cells = c.cells;
+        is = c.is;
+        opens = with_cells c.cells (subst (λ x. Holds p1.frames.items x (opened_with m k b g parent c.cells)) (sym is) (subst (λ w. Holds p1.frames.items cs w) (sym c.memory) f.holds))
             (λ r q. subst (λ w. Leads p1.frames.items w r) (sym c.memory) (f.leads r q)) (subst (λ x. AllLeadArrays p1.arrays.regions o.arrays x) (sym is) arrays);
       }
 
@@ -69,13 +86,13 @@ unfolding handed_over
 handed_in p before now owner [] o i = i
 handed_in p before now owner (n ∷ rest) o i = handed_in p before now owner rest (owned_by owner (slice_get o.arrays n) o n) (owned_in p before now owner n (slice_get o.arrays n) o i)
 
-module _ (l : Limits) (p p2 p3 : Storage) (k : ℕ) (b : BlockOf) (parent : Option FrameRef) (cells : Cells) (t : working.Activation) (before : Option (List ℕ)) (now : Outside) (o : World) (m : Frames) (h : OpensWith l p p2 k b parent cells t before now o o m) where
+module _ (l : Limits) (p p2 p3 : Storage) (k : ℕ) (b : BlockOf) (g : Beginning) (parent : Option FrameRef) (cells : Cells) (t : working.Activation) (before : Option (List ℕ)) (now : Outside) (o : World) (m : Frames) (h : OpensWith l p p2 k b g parent cells t before now o o m) where
   pub handed : (owner : ℕ) (ns : List ℕ) → p3.frames ≡ p2.frames → p3.cells ≡ p2.cells → p3.entered ≡ p2.entered → p3.texts ≡ p2.texts → p3.image ≡ p2.image → p3.ticks ≡ p2.ticks → p3.words ≡ p2.words →
-      HoldsArrays p3.arrays (handed_over owner ns o).arrays → KeepLeading p2.arrays o.arrays p3.arrays (handed_over owner ns o).arrays → ElementsLead p2.frames.items (opened_with m k b parent cells) p3.arrays.regions →
-      OpensWith l p p3 k b parent cells t before now o (handed_over owner ns o) m
+      HoldsArrays p3.arrays (handed_over owner ns o).arrays → KeepLeading p2.arrays o.arrays p3.arrays (handed_over owner ns o).arrays → ElementsLead p2.frames.items (opened_with m k b g parent cells) p3.arrays.regions →
+      OpensWith l p p3 k b g parent cells t before now o (handed_over owner ns o) m
   handed owner ns ef ec en et ei ek ew holds keeps elements =
       let o2 = handed_over owner ns o in
-      let m2 = opened_with m k b parent cells in
+      let m2 = opened_with m k b g parent cells in
       let i = handed_in p2 before now owner ns o h.stores.world in
       let still : (r : Registers) (stack : List Slot) → AtWork p2 o m2 r stack → AtWork p3 o2 m2 r stack = λ r stack w.
       subst (λ v. Works v.items m2 p3.arrays.regions o2.arrays r stack) (sym ef) (record { home = w.home; slots = w.slots; arrays_lead = λ at names. keeps _ (w.arrays_lead at names) }) in

@@ -1,7 +1,6 @@
 -- Calls of procedures.
 use Rattle.std.specs.Prelude.{◌≡◌, ℕ, suc, ℤ, false, List, [], ◌∷◌, length, Option, Some, None}
 use Rattle.sim_base.specs.declared.limits.Limits.{Limits}
-use Rattle.sim_chains.specs.Components.{NoObject}
 use Rattle.sim_values.specs.declared.value.FrameRef.{FrameRef}
 use Rattle.sim_code.specs.Code.{BlockOf}
 use Rattle.sim_code.specs.Instances.{entered, is_live}
@@ -10,26 +9,27 @@ use Rattle.sim_code.specs.Machine.{Cells, Frames, Machine, Value, cell_set, fram
 use Rattle.sim_code.specs.Outcome.{Run, World}
 use Rattle.frame_arena.specs.declared.frames.Frame.{Frame}
 use Rattle.frame_arena.specs.declared.slot.Slot.{Slot}
-use Rattle.frame_arena.specs.Frames.{Holds, Leads, number_in}
+use Rattle.frame_arena.specs.Frames.{Holds, Leads, number_in, stands_as}
 use Rattle.frame_arena.specs.Slots.{value_of}
 use Rattle.frame_arena.specs.Stacks.{values_from, values_of}
 use Rattle.object_machine.specs.declared.calling.Actuals.{Actuals}
+use Rattle.object_machine.specs.declared.openings.Beginning.{Beginning}
 use Rattle.object_machine.specs.declared.machine.Storage.{Storage}
 use Rattle.object_machine.specs.declared.machine.Registers.{Registers}
 use Rattle.object_machine.specs.declared.machine.Activation as working
 use Rattle.object_machine.specs.Standing.{AtWork, Outside, Stores, activation_of}
 
 -- the memory with a new frame of a block, which has these cells
-abbrev pub opened_with : Frames → (block : ℕ) → BlockOf → (parent : Option FrameRef) → Cells → Frames
-opened_with m k b parent cells =
-    entered m (record { text = k; level = b.level; encloser = number_in parent; cells = cells; passing = b.class_free; kept = false; given_back = false }) (NoObject None)
+abbrev pub opened_with : Frames → (block : ℕ) → BlockOf → Beginning → (parent : Option FrameRef) → Cells → Frames
+opened_with m k b g parent cells =
+    entered m (record { text = k; level = b.level; encloser = number_in parent; cells = cells; passing = b.class_free; kept = false; given_back = false }) (stands_as g.component)
 
 -- A new frame with these cells stands in the parts, is at work, and all that was at work is so still.
-pub record OpensWith (l : Limits) (p p2 : Storage) (k : ℕ) (b : BlockOf) (parent : Option FrameRef) (cells : Cells) (t : working.Activation) (before : Option (List ℕ)) (now : Outside) (o o2 : World) (m : Frames) : Type 0 where
-  pub stores : Stores l p2 before now o2 (opened_with m k b parent cells)
-  pub top : activation_of t ≡ record { thunk = false; home = length m.instances; pc = b.entry; stack = []; room = b.room }
-  pub works : AtWork p2 o2 (opened_with m k b parent cells) t.registers t.stack.items
-  pub others : (r : Registers) (stack : List Slot) → AtWork p o m r stack → AtWork p2 o2 (opened_with m k b parent cells) r stack
+pub record OpensWith (l : Limits) (p p2 : Storage) (k : ℕ) (b : BlockOf) (g : Beginning) (parent : Option FrameRef) (cells : Cells) (t : working.Activation) (before : Option (List ℕ)) (now : Outside) (o o2 : World) (m : Frames) : Type 0 where
+  pub stores : Stores l p2 before now o2 (opened_with m k b g parent cells)
+  pub top : activation_of t ≡ record { thunk = false; home = length m.instances; pc = g.start; stack = []; room = b.room; stage = g.stage }
+  pub works : AtWork p2 o2 (opened_with m k b g parent cells) t.registers t.stack.items
+  pub others : (r : Registers) (stack : List Slot) → AtWork p o m r stack → AtWork p2 o2 (opened_with m k b g parent cells) r stack
 
 -- the memory with values in the cells of a frame from a place on; none where there are too few cells
 abbrev pub then_set : Option Frames → (Frames → Option Frames) → Option Frames
@@ -69,7 +69,7 @@ with_actuals None stack o go = no_rule o
 with_actuals (Some a) stack o go = go (values_from stack a.at a.count) (values_of a.under stack) a.parent.stamp
 
 -- A new frame was filled.
-pub record Supplied (l : Limits) (p p2 : Storage) (k : ℕ) (b : BlockOf) (parent : Option FrameRef) (t : working.Activation) (before : Option (List ℕ)) (now : Outside) (o : World) (m : Frames) (q : Option Cells) : Type 0 where
+pub record Supplied (l : Limits) (p p2 : Storage) (k : ℕ) (b : BlockOf) (g : Beginning) (parent : Option FrameRef) (t : working.Activation) (before : Option (List ℕ)) (now : Outside) (o : World) (m : Frames) (q : Option Cells) : Type 0 where
   pub cells : Cells
   pub is : q ≡ Some cells
-  pub opens : OpensWith l p p2 k b parent cells t before now o o m
+  pub opens : OpensWith l p p2 k b g parent cells t before now o o m

@@ -5,18 +5,20 @@ use Rattle.sim_code.specs.Code.{BlockOf, CodeOf}
 use Rattle.sim_code.specs.declared.code.BlockKind.{BlockKind}
 use Rattle.sim_code.specs.declared.instr.Lined.{Lined}
 use Rattle.sim_code.specs.Events.{entering, no_rule}
-use Rattle.sim_chains.specs.Components.{NoObject}
 use Rattle.sim_values.specs.declared.value.FrameRef.{FrameRef}
 use Rattle.sim_code.specs.Instances.{entered}
+use Rattle.sim_code.specs.declared.stage.Stage.TheVariants as stage
+use Rattle.frame_arena.specs.declared.frames.Component.TheVariants as component
 use Rattle.sim_code.specs.Machine.{Frames, Machine, block_at, first_cells}
 use Rattle.sim_code.specs.Outcome.{Run, World}
 use Rattle.frame_arena.specs.declared.slot.Slot.{Slot}
-use Rattle.frame_arena.specs.Frames.{number_in}
+use Rattle.frame_arena.specs.Frames.{number_in, stands_as}
 use Rattle.object_machine.specs.declared.machine.Storage.{Storage}
 use Rattle.object_machine.specs.declared.machine.Registers.{Registers}
 use Rattle.object_machine.specs.declared.machine.Activation as working
 use Rattle.object_machine.specs.declared.machine.Flow.{Flow}
 use Rattle.object_machine.specs.declared.machine.Flow.TheVariants as flow
+use Rattle.object_machine.specs.declared.openings.Beginning.{Beginning}
 use Rattle.object_machine.specs.Standing.{AtWork, Leaves, Outside, Stores, activation_of}
 
 -- the number of a block that is there, of the wanted kind, and whose entry is an instruction; or there is no such block
@@ -37,14 +39,18 @@ Pays f l line wanted p before now o m =
 
 -- ---- a new frame
 
+-- how the frame of a sub-block or a procedure begins
+abbrev pub as_frame : BlockOf → Beginning
+as_frame b = record { start = b.entry; stage = stage.NoStage; component = component.NoObject }
+
 -- the memory with a new frame of a block, which has its first values
-abbrev pub opened : Frames → (block : ℕ) → BlockOf → (parent : Option FrameRef) → Frames
-opened m k b parent =
-    entered m (record { text = k; level = b.level; encloser = number_in parent; cells = first_cells b; passing = b.class_free; kept = false; given_back = false }) (NoObject None)
+abbrev pub opened : Frames → (block : ℕ) → BlockOf → Beginning → (parent : Option FrameRef) → Frames
+opened m k b g parent =
+    entered m (record { text = k; level = b.level; encloser = number_in parent; cells = first_cells b; passing = b.class_free; kept = false; given_back = false }) (stands_as g.component)
 
 -- A new frame stands in the parts, is at work, and all that was at work is so still.
-pub record Opens (l : Limits) (p p2 : Storage) (k : ℕ) (b : BlockOf) (parent : Option FrameRef) (t : working.Activation) (before : Option (List ℕ)) (now : Outside) (o : World) (m : Frames) : Type 0 where
-  pub stores : Stores l p2 before now o (opened m k b parent)
-  pub top : activation_of t ≡ record { thunk = false; home = length m.instances; pc = b.entry; stack = []; room = b.room }
-  pub works : AtWork p2 o (opened m k b parent) t.registers t.stack.items
-  pub others : (r : Registers) (stack : List Slot) → AtWork p o m r stack → AtWork p2 o (opened m k b parent) r stack
+pub record Opens (l : Limits) (p p2 : Storage) (k : ℕ) (b : BlockOf) (g : Beginning) (parent : Option FrameRef) (t : working.Activation) (before : Option (List ℕ)) (now : Outside) (o : World) (m : Frames) : Type 0 where
+  pub stores : Stores l p2 before now o (opened m k b g parent)
+  pub top : activation_of t ≡ record { thunk = false; home = length m.instances; pc = g.start; stack = []; room = b.room; stage = g.stage }
+  pub works : AtWork p2 o (opened m k b g parent) t.registers t.stack.items
+  pub others : (r : Registers) (stack : List Slot) → AtWork p o m r stack → AtWork p2 o (opened m k b g parent) r stack

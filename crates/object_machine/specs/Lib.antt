@@ -14,3 +14,7 @@ pub mod Covering
 pub mod Calling
 pub mod Taking
 pub mod Classing
+pub mod Levelling
+pub mod Parameters
+pub mod Generating
+pub mod Preparing

@@ -1,15 +1,17 @@
 //! The row that calls a procedure.
 ghost use Rattle.std.specs.Prelude.{◌≡◌, ℕ, ◌+◌, ◌<◌, ◌≤◌, ◌∷◌, ◌^◌, List, Option, IfSome, Some, None, [], length, true, false, if◌then◌else◌};
+ghost use Rattle.std.specs.List.{list_any};
 ghost use Rattle.sim_base.specs.declared.limits.Limits.{Limits as LimitsOf};
 ghost use Rattle.sim_code.specs.Code.{BlockOf, CodeOf};
-ghost use Rattle.sim_code.specs.Machine.{Activation as ActivationOf, Cells, Frames, Machine, Value, arrays_by_value, filled, first_cells, frame_in, frames_kept, in_frame, is_nothing as is_nothing_of, waiting};
+ghost use Rattle.sim_code.specs.Machine.{Activation as ActivationOf, Cells, Frames, Machine, Value, arrays_by_value, filled, first_cells, frame_in, frames_kept, in_new, is_held as is_held_of, is_nothing as is_nothing_of, waiting};
 ghost use Rattle.sim_code.specs.Outcome.{ArrayOf, Run, World};
 ghost use Rattle.frame_arena.specs.Arrays.{AllLeadArrays, RegionOf};
-ghost use Rattle.frame_arena.specs.Frames.{AllLead, Holds, Leads, SlotLeads, number_in};
+ghost use Rattle.frame_arena.specs.Frames.{AllLead, Holds, Leads, SlotLeads, number_in, stands_as};
 ghost use Rattle.frame_arena.specs.Slots.{value_of};
 ghost use Rattle.frame_arena.specs.Stacks.{values_from, values_of};
 ghost use Rattle.object_machine.specs.Calling.{Filled, Fills, IsParent, Supplied, called, cells_set_from, with_actuals};
 ghost use Rattle.object_machine.specs.Entering.{Opens};
+ghost use Rattle.object_machine.specs.declared.openings.Beginning.{Beginning};
 ghost use Rattle.object_machine.specs.Standing.{AllAtWork, AllFit, AtWork, Leaves, Obeys, Outside, activation_at, below_of};
 ghost use Rattle.sim_values.specs.declared.value.FrameRef.{FrameRef as Reference};
 ghost use Rattle.sim_code.specs.Arrays.{handed_over};
@@ -21,12 +23,12 @@ use crate::constants::index;
 use crate::entering::cover;
 use crate::handing::hand_over;
 use crate::machine::{Activation, Flow, Registers, Storage};
-use crate::openings::open;
+use crate::openings::{as_frame, open};
 use crate::paying::pay;
 use frame_arena::frames::{self, Frame};
 use frame_arena::{Slot, SlotKind, stack};
 use sim_base::Limits;
-use sim_code::{BlockKind, BlockRecord, CodeFormal, CodeType, Lined};
+use sim_code::{BlockKind, BlockRecord, CodeFormal, CodeMode, CodeType, FormalShape, Lined};
 use sim_values::{FrameRef, words_instance};
 use std::alloc::Global;
 
@@ -63,9 +65,9 @@ fn named(slot: Slot) -> Option<FrameRef>
     }
 }
 
-// The frame that a slot names, where it was not given back.
+/// The frame that a slot names, where it was not given back.
 #[inline(always)]
-fn parent_in(frames: &[Frame], slot: Slot) -> Option<FrameRef>
+pub fn parent_in(frames: &[Frame], slot: Slot) -> Option<FrameRef>
     ensures row { (cells : List Slot) (m : Frames) → Holds frames.now cells m → SlotLeads frames.now m slot → IsParent result frames.now m slot }
 {
     let Some(frame) = named(slot) else {
@@ -151,11 +153,42 @@ fn is_filled(cells: usize, first: usize, count: usize) -> bool
     true
 }
 
-// Whether the frames on the chain stay as they are when a block is called.
-fn keeps_none(class_free: bool) -> bool
-    ensures { result ≡ true → (b : BlockOf) (chain : List ActivationOf) (m : Frames) → b.class_free ≡ class_free → frames_kept b chain m ≡ m }
+// Whether a formal is by name, an array by reference or a procedure.
+fn is_held(formal: CodeFormal) -> bool
+    ensures { result ≡ is_held_of formal }
 {
-    class_free
+    match (formal.mode, formal.shape) {
+        (CodeMode::Name, _) => true,
+        (CodeMode::Reference, FormalShape::Array) => true,
+        (CodeMode::Value, FormalShape::Procedure) => true,
+        (CodeMode::Reference, FormalShape::Procedure) => true,
+        _ => false,
+    }
+}
+
+// Whether none is.
+fn holds_none(formals: &[CodeFormal]) -> bool
+    ensures { result ≡ true → list_any is_held_of formals.now ≡ false }
+{
+    for at in 0..formals.len() {
+        let Some(formal) = formals.get(at) else {
+            return false;
+        };
+        if is_held(*formal) {
+            return false;
+        }
+    }
+    true
+}
+
+// Whether the frames on the chain stay as they are when a block is called.
+fn keeps_none(class_free: bool, formals: &[CodeFormal]) -> bool
+    ensures { result ≡ true → (b : BlockOf) (chain : List ActivationOf) (m : Frames) → b.class_free ≡ class_free → b.formals ≡ formals.now → frames_kept b chain m ≡ m }
+{
+    if class_free {
+        return true;
+    }
+    holds_none(formals)
 }
 
 // Where the formal parameters of a procedure begin: behind its result.
@@ -182,9 +215,9 @@ fn supply(
     requires short { first + actuals.count < 2 ^ 64 }
     ensures texts { storage.new.texts ≡ storage.old.texts }
     ensures image { storage.new.image ≡ storage.old.image }
-    ensures row { result ≡ true → (l : LimitsOf) (before : Option (List ℕ)) (now : Outside) (p : Storage) (o : World) (m : Frames) (k : ℕ) (b : BlockOf) (parent : Option Reference) (t : Activation) (r : Registers) →
-        t.registers.home ≡ home → Opens l p storage.old k b parent t before now o m → AtWork p o m r stack.now →
-        Supplied l p storage.new k b parent t before now o m (filled first (values_from stack.now actuals.at actuals.count) (first_cells b)) }
+    ensures row { result ≡ true → (l : LimitsOf) (before : Option (List ℕ)) (now : Outside) (p : Storage) (o : World) (m : Frames) (k : ℕ) (b : BlockOf) (g : Beginning) (parent : Option Reference) (t : Activation) (r : Registers) →
+        t.registers.home ≡ home → Opens l p storage.old k b g parent t before now o m → AtWork p o m r stack.now →
+        Supplied l p storage.new k b g parent t before now o m (filled first (values_from stack.now actuals.at actuals.count) (first_cells b)) }
 {
     let at = actuals.at;
     let count = actuals.count;
@@ -221,10 +254,10 @@ fn pass(
     ensures others { AllFit below.new.items }
     ensures texts { storage.new.texts ≡ storage.old.texts }
     ensures image { storage.new.image ≡ storage.old.image }
-    ensures row { (l : LimitsOf) (line : ℕ) (before : Option (List ℕ)) (now : Outside) (p : Storage) (o : World) (m : Frames) (k : ℕ) (b : BlockOf) (parent : Option Reference) (cells : Cells) →
-        b.formals ≡ formals.now → Opens l p storage.old k b parent next before now o m → AtWork p o m top.old.registers top.old.stack.items → AllAtWork p o m below.old.items →
+    ensures row { (l : LimitsOf) (line : ℕ) (before : Option (List ℕ)) (now : Outside) (p : Storage) (o : World) (m : Frames) (k : ℕ) (b : BlockOf) (g : Beginning) (parent : Option Reference) (cells : Cells) →
+        b.formals ≡ formals.now → Opens l p storage.old k b g parent next before now o m → AtWork p o m top.old.registers top.old.stack.items → AllAtWork p o m below.old.items →
         filled first (values_from top.old.stack.items actuals.at actuals.count) (first_cells b) ≡ Some cells →
-        Leaves result l line storage.new top.new.registers top.new.stack.items below.new.items before now (in_frame (handed_over (length m.instances) (arrays_by_value b.formals (values_from top.old.stack.items actuals.at actuals.count)) o) m k b (number_in parent) cells (waiting (activation_at top.old.registers top.old.stack.items) (values_of actuals.under top.old.stack.items) ∷ below_of below.old.items)) }
+        Leaves result l line storage.new top.new.registers top.new.stack.items below.new.items before now (in_new (handed_over (length m.instances) (arrays_by_value b.formals (values_from top.old.stack.items actuals.at actuals.count)) o) m k b g.start g.stage (stands_as g.component) (number_in parent) cells (waiting (activation_at top.old.registers top.old.stack.items) (values_of actuals.under top.old.stack.items) ∷ below_of below.old.items)) }
 {
     let home = next.registers.home;
     if !supply(storage, home, first, &top.stack, actuals) {
@@ -244,7 +277,8 @@ fn pass(
     cover(top, below, next)
 }
 
-/// Calls a procedure. It answers want of memory where the frames on the chain would have to be kept, since its block is not class-free.
+/// Calls a procedure. It answers want of memory where the frames on the chain would have to be kept, since its block is not class-free
+/// and has a formal by name, an array by reference or a procedure.
 pub fn call(
     alloc: Global,
     blocks: &[BlockRecord],
@@ -283,7 +317,7 @@ pub fn call(
     if !is_filled(block.types.len(), first, actuals.count) {
         return Flow::NoRule;
     }
-    if !keeps_none(block.class_free) {
+    if !keeps_none(block.class_free, &block.formals) {
         return Flow::Memory;
     }
     let flow = pay(limits, storage, words_instance(block.cells, false));
@@ -294,7 +328,14 @@ pub fn call(
     let Ok(short) = u32::try_from(number) else {
         return Flow::Memory;
     };
-    match open(alloc, storage, short, block, Some(actuals.parent)) {
+    match open(
+        alloc,
+        storage,
+        short,
+        block,
+        as_frame(block),
+        Some(actuals.parent),
+    ) {
         Ok(next) => pass(storage, top, below, next, &block.formals, first, actuals),
         Err(_) => Flow::Memory,
     }

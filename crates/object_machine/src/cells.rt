@@ -151,27 +151,6 @@ pub fn store(
     Flow::NoRule
 }
 
-/// Ends the program, where the frame on top is that of block 0. It stops as for want of memory where the frame was given back, which
-/// does not happen to a frame on the chain.
-pub fn end_level(frames: &[Frame], regs: &Registers, operand: i64) -> Flow
-    ensures row { (code : CodeOf) (l : Limits) (line : ℕ) (p : Storage) (stack : List Slot) (below : List Activation) (now : Outside) → p.frames.items ≡ frames.now →
-        Obeys result l line (λ o m a b. row code l o m a b line (Instr.EndLevel operand)) p p regs.now regs.now stack stack below below now now }
-{
-    let Some(level) = index(operand) else {
-        return Flow::NoRule;
-    };
-    if level != 0 {
-        return Flow::NoRule;
-    }
-    let Some(place) = frames::find(frames, regs.home) else {
-        return Flow::Memory;
-    };
-    if frames[place].block != 0 {
-        return Flow::NoRule;
-    }
-    Flow::Normal
-}
-
 /// Pushes the address of a cell, where no class is named. It stops as for want of memory where the cell's number is 2^32 or more: no
 /// frame has such a cell. `own` is the span of some frame.
 #[inline(always)]

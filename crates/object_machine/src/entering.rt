@@ -12,7 +12,7 @@ ghost use Rattle.object_machine.specs.Standing.{AllFit, Obeys, Outside, activati
 
 use crate::blocks::block_of;
 use crate::machine::{Activation, Flow, Storage};
-use crate::openings::open;
+use crate::openings::{as_frame, open};
 use crate::paying::pay;
 use sim_base::Limits;
 use sim_code::{BlockKind, BlockRecord, Lined};
@@ -77,7 +77,14 @@ pub fn enter(
     let Ok(short) = u32::try_from(number) else {
         return Flow::Memory;
     };
-    match open(alloc, storage, short, block, Some(top.registers.home)) {
+    match open(
+        alloc,
+        storage,
+        short,
+        block,
+        as_frame(block),
+        Some(top.registers.home),
+    ) {
         Ok(next) => cover(top, below, next),
         Err(_) => Flow::Memory,
     }

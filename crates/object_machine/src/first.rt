@@ -9,7 +9,7 @@ ghost use Rattle.object_machine.specs.Standing.{Outside, Stores};
 use crate::begin::{Begun, Stop};
 use crate::blocks::block_of;
 use crate::machine::{Flow, Storage};
-use crate::openings::open;
+use crate::openings::{as_frame, open};
 use crate::paying::pay;
 use sim_base::{Limits, Line};
 use sim_code::{BlockKind, BlockRecord, Lined};
@@ -54,7 +54,7 @@ pub fn begin(
     let Ok(short) = u32::try_from(number) else {
         return stopped(Flow::Memory, Line(0));
     };
-    match open(alloc, storage, short, block, None) {
+    match open(alloc, storage, short, block, as_frame(block), None) {
         Ok(activation) => Begun::Started(activation),
         Err(_) => stopped(Flow::Memory, Line(0)),
     }

@@ -1,8 +1,12 @@
 //! Rows that end frames.
 ghost use Rattle.std.specs.Prelude.{◌≡◌, ℕ, ◌<◌, ◌≤◌, List, Option, IfSome, Some, None, length, slice_get, true};
-ghost use Rattle.sim_base.specs.declared.limits.Limits.{Limits};
+ghost use Rattle.sim_base.specs.declared.limits.Limits.{Limits as LimitsOf};
 ghost use Rattle.sim_code.specs.Code.{BlockOf, CodeOf};
-ghost use Rattle.sim_code.specs.Events.{having, when};
+ghost use Rattle.sim_code.specs.Events.{having, ticking, when};
+ghost use Rattle.sim_code.specs.Instances.{object_ended};
+ghost use Rattle.sim_code.specs.Levels.{outermost_ended};
+ghost use Rattle.sim_code.specs.Rows.{row};
+ghost use Rattle.sim_code.specs.declared.instr.Instr.{Instr};
 ghost use Rattle.sim_code.specs.Machine.{Frames, Machine, Value, is_nothing as is_nothing_of, leaving, own_block as own_block_of, pushing_any, with_result};
 ghost use Rattle.sim_code.specs.Outcome.{ArrayOf, Run, World};
 ghost use Rattle.frame_arena.specs.Arrays.{AllLeadArrays, RegionOf};
@@ -12,10 +16,14 @@ ghost use Rattle.object_machine.specs.FrameEnds.{Ends, IsOwn, ValueLeads, handed
 ghost use Rattle.object_machine.specs.Standing.{AllFit, Leaves, Obeys, Outside, Stands, Stores, below_of};
 
 use crate::blocks::same_kind;
+use crate::constants::index;
+use crate::levels::Part;
 use crate::machine::{Activation, Flow, Registers, Storage};
+use crate::stages::{end_inner_level, reached};
 use frame_arena::frames::{self, Frame};
 use frame_arena::{Slot, stack};
-use sim_code::{BlockKind, BlockRecord, CodeType};
+use sim_base::Limits;
+use sim_code::{BlockKind, BlockRecord, ClassRecord, CodeType, Lined};
 use sim_values::{FrameRef, words_instance};
 use std::mem;
 
@@ -91,6 +99,7 @@ fn put(stack: &mut [Slot], regs: &mut Registers, value: Option<Slot>) -> bool
     requires fits { regs.old.depth ≤ length stack.old }
     ensures fits { regs.new.depth ≤ length stack.new }
     ensures home { regs.new.home ≡ regs.old.home }
+    ensures stage { regs.new.stage ≡ regs.old.stage }
     ensures place { regs.new.pc ≡ regs.old.pc }
     ensures long { length stack.new ≡ length stack.old }
     ensures leads { (frames : List Frame) (m : Frames) (regions : List RegionOf) (arrays : List ArrayOf) → AllLead frames m stack.old → ValueLeads frames m regions arrays value → AllLead frames m stack.new }
@@ -114,7 +123,7 @@ fn give(storage: &mut Storage, home: FrameRef, cells: u32, stack: Vec<Slot>)
     requires there { Has storage.old.frames.items home.frame home.stamp }
     ensures texts { storage.new.texts ≡ storage.old.texts }
     ensures image { storage.new.image ≡ storage.old.image }
-    ensures row { (l : Limits) (b : BlockOf) (before : Option (List ℕ)) (now : Outside) (o : World) (m : Frames) → b.cells ≡ cells → Stores l storage.old before now o m →
+    ensures row { (l : LimitsOf) (b : BlockOf) (before : Option (List ℕ)) (now : Outside) (o : World) (m : Frames) → b.cells ≡ cells → Stores l storage.old before now o m →
         Ends l storage.old storage.new b home.stamp before now o m }
 {
     if !frames::is_given_at_end(&storage.frames, home.frame as usize) {
@@ -152,7 +161,7 @@ fn finish(
     ensures others { AllFit below.new.items }
     ensures texts { storage.new.texts ≡ storage.old.texts }
     ensures image { storage.new.image ≡ storage.old.image }
-    ensures row { (l : Limits) (line : ℕ) (b : BlockOf) (before : Option (List ℕ)) (now : Outside) (o : World) (m : Frames) → b.cells ≡ cells →
+    ensures row { (l : LimitsOf) (line : ℕ) (b : BlockOf) (before : Option (List ℕ)) (now : Outside) (o : World) (m : Frames) → b.cells ≡ cells →
         Stands l storage.old top.old.registers top.old.stack.items below.old.items before now o m → ValueLeads storage.old.frames.items m storage.old.arrays.regions o.arrays value →
         Leaves result l line storage.new top.new.registers top.new.stack.items below.new.items before now (leaving b (below_of below.old.items) (found_value value) top.old.registers.home.stamp o m) }
 {
@@ -180,7 +189,7 @@ pub fn leave(
     ensures others { AllFit below.new.items }
     ensures texts { storage.new.texts ≡ storage.old.texts }
     ensures image { storage.new.image ≡ storage.old.image }
-    ensures row { (code : CodeOf) (l : Limits) (line : ℕ) (now : Outside) → code.blocks ≡ blocks.now →
+    ensures row { (code : CodeOf) (l : LimitsOf) (line : ℕ) (now : Outside) → code.blocks ≡ blocks.now →
         Obeys result l line (λ o m a b. own_block_of code BlockKind.SubBlock m a o (λ x. leaving x b None a.home o m)) storage.old storage.new top.old.registers top.new.registers top.old.stack.items top.new.stack.items below.old.items below.new.items now now }
 {
     let home = top.registers.home;
@@ -208,7 +217,7 @@ pub fn give_result(
     ensures others { AllFit below.new.items }
     ensures texts { storage.new.texts ≡ storage.old.texts }
     ensures image { storage.new.image ≡ storage.old.image }
-    ensures row { (code : CodeOf) (l : Limits) (line : ℕ) (now : Outside) → code.blocks ≡ blocks.now →
+    ensures row { (code : CodeOf) (l : LimitsOf) (line : ℕ) (now : Outside) → code.blocks ≡ blocks.now →
         Obeys result l line (λ o m a b. own_block_of code BlockKind.Procedure m a o (λ x. with_result x m a.home o (λ v. leaving x b v a.home o m))) storage.old storage.new top.old.registers top.new.registers top.old.stack.items top.new.stack.items below.old.items below.new.items now now }
 {
     let home = top.registers.home;
@@ -223,4 +232,115 @@ pub fn give_result(
         return Flow::NoRule;
     };
     finish(storage, top, below, own.cells, value)
+}
+
+// An object ends: it takes a tick, is terminated, and the frame below it becomes the top.
+fn end_object(
+    limits: &Limits,
+    storage: &mut Storage,
+    place: usize,
+    top: &mut Activation,
+    below: &mut Vec<Activation>,
+) -> Flow
+    requires there { Has storage.old.frames.items place top.old.registers.home.stamp }
+    requires fits { top.old.registers.depth ≤ length top.old.stack.items }
+    requires others { AllFit below.old.items }
+    ensures fits { top.new.registers.depth ≤ length top.new.stack.items }
+    ensures others { AllFit below.new.items }
+    ensures texts { storage.new.texts ≡ storage.old.texts }
+    ensures image { storage.new.image ≡ storage.old.image }
+    ensures row { (line : ℕ) (before : Option (List ℕ)) (now : Outside) (o : World) (m : Frames) → Stands limits.now storage.old top.old.registers top.old.stack.items below.old.items before now o m →
+        Leaves result limits.now line storage.new top.new.registers top.new.stack.items below.new.items before now (ticking limits.now o (λ p. object_ended p m top.old.registers.home.stamp (below_of below.old.items))) }
+{
+    if storage.ticks >= limits.ticks {
+        return Flow::TickLimit;
+    }
+    storage.ticks += 1;
+    if !frames::is_attached(&storage.frames, place) {
+        return Flow::NoRule;
+    }
+    let Some(next) = below.pop() else {
+        return Flow::NoRule;
+    };
+    frames::terminate(&mut storage.frames, place);
+    *top = next;
+    Flow::On
+}
+
+// The end of the outermost level of the frame in a region: of an object, or of a prefixed block, which ends as a sub-block does.
+fn end_outermost(
+    blocks: &[BlockRecord],
+    limits: &Limits,
+    storage: &mut Storage,
+    place: usize,
+    number: u32,
+    top: &mut Activation,
+    below: &mut Vec<Activation>,
+) -> Flow
+    requires there { Has storage.old.frames.items place top.old.registers.home.stamp }
+    requires region { place ≡ top.old.registers.home.frame }
+    requires fits { top.old.registers.depth ≤ length top.old.stack.items }
+    requires others { AllFit below.old.items }
+    ensures fits { top.new.registers.depth ≤ length top.new.stack.items }
+    ensures others { AllFit below.new.items }
+    ensures texts { storage.new.texts ≡ storage.old.texts }
+    ensures image { storage.new.image ≡ storage.old.image }
+    ensures row { (code : CodeOf) (line : ℕ) (now : Outside) → code.blocks ≡ blocks.now →
+        Obeys result limits.now line (λ o m a b. outermost_ended code limits.now o m a b a.home number) storage.old storage.new top.old.registers top.new.registers top.old.stack.items top.new.stack.items below.old.items below.new.items now now }
+{
+    let Some(_level) = reached(top.registers.stage, Part::AfterInner, 0) else {
+        return Flow::NoRule;
+    };
+    let Some(block) = blocks.get(number as usize) else {
+        return Flow::NoRule;
+    };
+    match block.kind {
+        BlockKind::Object => end_object(limits, storage, place, top, below),
+        BlockKind::Prefixed => finish(storage, top, below, block.cells, None),
+        BlockKind::SubBlock => Flow::NoRule,
+        BlockKind::Procedure => Flow::NoRule,
+    }
+}
+
+/// The end of a level. It answers want of memory where the frame on top was given back already, to which no run comes.
+pub fn end_level(
+    blocks: &[BlockRecord],
+    instrs: &[Lined],
+    classes: &[ClassRecord],
+    limits: &Limits,
+    storage: &mut Storage,
+    top: &mut Activation,
+    below: &mut Vec<Activation>,
+    operand: i64,
+) -> Flow
+    requires fits { top.old.registers.depth ≤ length top.old.stack.items }
+    requires others { AllFit below.old.items }
+    ensures fits { top.new.registers.depth ≤ length top.new.stack.items }
+    ensures others { AllFit below.new.items }
+    ensures texts { storage.new.texts ≡ storage.old.texts }
+    ensures image { storage.new.image ≡ storage.old.image }
+    ensures row { (code : CodeOf) (line : ℕ) (now : Outside) → code.blocks ≡ blocks.now → code.instrs ≡ instrs.now → code.classes ≡ classes.now →
+        Obeys result limits.now line (λ o m a b. row code limits.now o m a b line (Instr.EndLevel operand)) storage.old storage.new top.old.registers top.new.registers top.old.stack.items top.new.stack.items below.old.items below.new.items now now }
+{
+    let Some(level) = index(operand) else {
+        return Flow::NoRule;
+    };
+    if level > 0 {
+        return end_inner_level(
+            &storage.frames,
+            blocks,
+            instrs,
+            classes,
+            &mut top.registers,
+            level,
+        );
+    }
+    let Some(place) = frames::find(&storage.frames, top.registers.home) else {
+        return Flow::Memory;
+    };
+    let number = block_of_frame(&storage.frames, place);
+    if number == 0 {
+        return Flow::Normal;
+    }
+    end_outermost(blocks, limits, storage, place, number, top, below)
 }

@@ -4,6 +4,7 @@ use basic_io::{InImage, OutImage};
 use frame_arena::frames::Frame;
 use frame_arena::{Arrays, Slot};
 use sim_base::RunError;
+use sim_code::Stage;
 use sim_values::FrameRef;
 use text_objects::Texts;
 
@@ -16,6 +17,8 @@ pub struct Registers {
     pub home: FrameRef,
     /// How many values are in its operand stack.
     pub depth: usize,
+    /// Which of its levels is under way.
+    pub stage: Stage,
 }
 
 /// A frame at work.

@@ -56,6 +56,7 @@ fn settle_performed(
     ensures frames { storage.new.frames ≡ storage.old.frames }
     ensures next { Advances result regs.old regs.new }
     ensures home { regs.new.home ≡ regs.old.home }
+    ensures stage { regs.new.stage ≡ regs.old.stage }
     ensures settled { Settles performed result address storage.old storage.new regs.old regs.new }
 {
     match performed {
@@ -94,6 +95,7 @@ fn settle_scan(
     ensures frames { storage.new.frames ≡ storage.old.frames }
     ensures next { Advances result regs.old regs.new }
     ensures home { regs.new.home ≡ regs.old.home }
+    ensures stage { regs.new.stage ≡ regs.old.stage }
     ensures settled { Settles performed result address storage.old storage.new regs.old regs.new }
 {
     match performed {
@@ -112,6 +114,7 @@ fn follow(regs: &mut Registers, placing: Placing, depth: usize) -> Flow
     ensures fits { (room : ℕ) → regs.old.depth ≤ room → depth ≤ room → regs.new.depth ≤ room }
     ensures next { Advances result regs.old regs.new }
     ensures home { regs.new.home ≡ regs.old.home }
+    ensures stage { regs.new.stage ≡ regs.old.stage }
     ensures follows { Follows placing result depth regs.old regs.new }
 {
     match placing {
@@ -174,6 +177,7 @@ fn whole_standard(
     ensures frames { storage.new.frames ≡ storage.old.frames }
     ensures next { Advances result regs.old regs.new }
     ensures home { regs.new.home ≡ regs.old.home }
+    ensures stage { regs.new.stage ≡ regs.old.stage }
     ensures row { (line : ℕ) (below : List Activation) (now : Outside) →
         Obeys result limits.now line (λ o m a b. named limits.now line name o m a b) storage.old storage.new regs.old regs.new stack.old stack.new below below now now }
 {
@@ -218,6 +222,7 @@ fn whole_apart(
         home: regs.home,
         pc: regs.pc,
         depth: regs.depth,
+        stage: regs.stage,
     };
     let flow = whole_standard(limits, storage, stack, &mut apart, name);
     regs.pc = apart.pc;

@@ -7,14 +7,14 @@ ghost use Rattle.sim_base.specs.declared.limits.Limits.{Limits};
 ghost use Rattle.frame_arena.specs.Arrays.{AllLeadArrays, RegionOf, names_array};
 ghost use Rattle.frame_arena.specs.Frames.{Holds, Leads, cells_at, frame_at, names_frame};
 ghost use Rattle.frame_arena.specs.Slots.{cell_value, empty_slot};
-ghost use Rattle.object_machine.specs.Entering.{Opens};
+ghost use Rattle.object_machine.specs.Entering.{Opens, as_frame as as_frame_of};
 ghost use Rattle.object_machine.specs.Standing.{Outside, Stores};
 
 use crate::machine::{Activation, Registers, Storage};
-use frame_arena::frames::{self, Entry, Frame};
+use frame_arena::frames::{self, Component, Entry, Frame};
 use frame_arena::regions::{add_region, take_free};
 use frame_arena::{EMPTY, NOTHING, Slot, SlotKind};
-use sim_code::{BlockRecord, CodeType};
+use sim_code::{BlockRecord, CodeType, Stage};
 use sim_values::FrameRef;
 use std::alloc::{AllocError, Global};
 use std::mem;
@@ -112,6 +112,29 @@ fn fill_first(frames: &[Frame], cells: &mut [Slot], place: usize, types: &[CodeT
     }
 }
 
+/// How a frame begins.
+#[derive(Clone, Copy)]
+pub struct Beginning {
+    /// The index of its first instruction.
+    pub start: usize,
+    /// Which of its levels is under way then.
+    pub stage: Stage,
+    /// How it stands as a component.
+    pub component: Component,
+}
+
+/// How the frame of a sub-block or a procedure begins.
+#[inline(always)]
+pub fn as_frame(block: &BlockRecord) -> Beginning
+    ensures { result ≡ as_frame_of block.now }
+{
+    Beginning {
+        start: block.entry as usize,
+        stage: Stage::NoStage,
+        component: Component::NoObject,
+    }
+}
+
 /// A new frame of a block, with its first values, which is not yet on the chain. It answers want of memory also where there would be
 /// 2^32 regions or 2^63 frames.
 #[inline(always)]
@@ -120,13 +143,14 @@ pub fn open(
     storage: &mut Storage,
     number: u32,
     block: &BlockRecord,
+    beginning: Beginning,
     parent: Option<FrameRef>,
 ) -> Result<Activation, AllocError>
     ensures texts { storage.new.texts ≡ storage.old.texts }
     ensures image { storage.new.image ≡ storage.old.image }
     ensures fits { IfOk result (λ t. t.registers.depth ≤ length t.stack.items) }
     ensures row { IfOk result (λ t. (l : Limits) (before : Option (List ℕ)) (now : Outside) (o : World) (m : Frames) → Stores l storage.old before now o m → ((r : Reference) → parent ≡ Some r → Leads storage.old.frames.items m r) →
-        Opens l storage.old storage.new number block.now parent t before now o m) }
+        Opens l storage.old storage.new number block.now beginning parent t before now o m) }
 {
     let Ok(count) = u32::try_from(block.types.len()) else {
         return Err(AllocError);
@@ -153,6 +177,7 @@ pub fn open(
         level: block.level,
         parent,
         passing: block.class_free,
+        component: beginning.component,
     };
     frames::enter(&mut storage.frames, place, entry);
     storage.entered += 1;
@@ -162,8 +187,9 @@ pub fn open(
                 frame: region,
                 stamp: entry.number,
             },
-            pc: block.entry as usize,
+            pc: beginning.start,
             depth: 0,
+            stage: beginning.stage,
         },
         stack,
     })

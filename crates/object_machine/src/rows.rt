@@ -10,7 +10,7 @@ ghost use Rattle.frame_arena.specs.Frames.{IsSpan};
 ghost use Rattle.object_machine.specs.Standing.{Advances, HasImages, Obeys, Outside, Row, Untouched};
 
 use crate::arrays::{array, copy_array, elem, fetch, keep, put};
-use crate::cells::{address, end_level, link, load, store};
+use crate::cells::{address, link, load, store};
 use crate::control::{jump, jump_if_false, tick};
 use crate::machine::{Activation, Flow, Registers, Storage};
 use crate::names::quiet_standard;
@@ -173,7 +173,6 @@ pub fn obey_other(
         Instr::Keep => keep(&mut storage.arrays, stack, regs),
         Instr::RelT(operand) => relation_of_texts(&storage.texts, stack, regs, operand),
         Instr::SameT => relate(&storage.texts, stack, regs, None),
-        Instr::EndLevel(level) => end_level(&storage.frames, regs, level),
         Instr::This(level) => this(&storage.frames, stack, regs, level),
         Instr::Addr { level, cell, class } => {
             qualified_address(&storage.frames, classes, stack, regs, level, cell, class)
@@ -197,10 +196,6 @@ pub fn obey_other(
         Instr::NameVal { .. } => no_rule(),
         Instr::NameAddr { .. } => no_rule(),
         Instr::EndThunk => no_rule(),
-        Instr::New { .. } => no_rule(),
-        Instr::Pref { .. } => no_rule(),
-        Instr::NextDecl(_) => no_rule(),
-        Instr::Inner(_) => no_rule(),
         Instr::Act(_) => no_rule(),
         Instr::Detach => no_rule(),
         Instr::Attach => no_rule(),

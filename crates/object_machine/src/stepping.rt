@@ -12,11 +12,13 @@ ghost use Rattle.frame_arena.specs.declared.slot.Slot.{Slot};
 
 use crate::calling::call;
 use crate::entering::enter;
-use crate::leaving::{give_result, leave};
+use crate::generating::generate;
+use crate::leaving::{end_level, give_result, leave};
 use crate::machine::{Activation, Flow, Registers, Storage};
 use crate::names::standard;
 use crate::pairs::assign;
 use crate::rows::obey_other;
+use crate::stages::{inner, next_declarations};
 use crate::texts::constant;
 use sim_base::{ByteString, Limits};
 use sim_code::{BlockRecord, ClassRecord, Instr, Lined};
@@ -103,6 +105,38 @@ pub fn step<I: Source, O: Sink>(
         }
         Instr::Return => {
             let flow = give_result(blocks, storage, top, below);
+            without_ports(flow)
+        }
+        Instr::New { class, values } => {
+            let flow = generate(
+                alloc, blocks, instrs, classes, limits, storage, top, below, class, values,
+            );
+            without_ports(flow)
+        }
+        Instr::NextDecl(level) => {
+            let flow = next_declarations(
+                &storage.frames,
+                blocks,
+                instrs,
+                classes,
+                &mut top.registers,
+                level,
+            );
+            without_ports(flow)
+        }
+        Instr::Inner(level) => {
+            let flow = inner(
+                &storage.frames,
+                blocks,
+                instrs,
+                classes,
+                &mut top.registers,
+                level,
+            );
+            without_ports(flow)
+        }
+        Instr::EndLevel(level) => {
+            let flow = end_level(blocks, instrs, classes, limits, storage, top, below, level);
             without_ports(flow)
         }
         _ => {

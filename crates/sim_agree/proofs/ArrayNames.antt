@@ -1,13 +1,13 @@
--- The arrays that a block declares are those of its tables.
+-- The arrays that a block or a class declares are those of its tables.
 use Rattle.std.proofs.Common.{◌≡◌, ◌⊎◌, inl, inr, ℕ, List, [], ◌∷◌, ◌++◌, length, Option, Some, None, refl, sym, ap, ◌∙◌, subst}
 use Rattle.std.specs.Prelude.{slice_get}
 use Rattle.sim_base.specs.declared.numbering.DeclNo.{DeclNo}
 use Rattle.sim_base.specs.declared.numbering.TokenNo.{TokenNo}
 use Rattle.sim_tree.specs.declared.expr.Identifier.{Identifier}
 use Rattle.sim_tree.specs.declared.stmt.TypeName.{TypeName}
-use Rattle.sim_tree.specs.declared.stmt.TypeName.TheVariants as type_name
 use Rattle.sim_tree.specs.declared.stmt.Variable.{Variable}
-use Rattle.sim_tree.specs.Syntax.{Arrayed, Arrays, Declarations, DeclareClass, DeclareProcedure, NoDeclaration, Statements, Variables, With}
+use Rattle.sim_tree.specs.Order.{InOrder}
+use Rattle.sim_tree.specs.Syntax.{Arrayed, Arrays, Declarations, DeclareClass, DeclareProcedure, NoDeclaration, Variables, With}
 use Rattle.sim_scope.specs.declared.scopes.Declaration.{Declaration}
 use Rattle.sim_scope.specs.declared.types.Entry.{Entry}
 use Rattle.sim_scope.specs.declared.types.Entry.TheVariants as entry
@@ -17,117 +17,79 @@ use Rattle.sim_scope.specs.Declare.{declared_by, result_named, type_named}
 use Rattle.sim_scope.specs.Runs.{each}
 use Rattle.sim_scope.specs.Scopes.{entry_of}
 use Rattle.sim_scope.specs.Source.{Source}
-use Rattle.sim_scope.specs.Tables.{Tables}
-use Rattle.sim_values.specs.declared.kind.Kind.{Kind}
 use Rattle.sim_meaning.specs.Entries.{numbers_of}
-use Rattle.sim_meaning.specs.Texts.{BlockText, declared_at, kind_named, kind_of_type, text}
-use Rattle.sim_sound.specs.Typed.{Among, ArrayOf, ArraysAre, arrays_in_segments, arrays_named, arrays_of_block, entry_holds, first, later, of_option}
-use Rattle.sim_tree.specs.Order.{InOrder}
-use Rattle.sim_agree.specs.Plain.{Plain, PlainDeclarations, PlainType}
-use Rattle.sim_agree.proofs.Groups.{Has, OwnEntry, here, own_array, own_marks, own_segment, own_variable, there}
-use Rattle.sim_agree.proofs.Fine.{RowOf}
+use Rattle.sim_meaning.specs.Texts.{Text, declared_at, text}
+use Rattle.sim_sound.specs.Held.{Among, first, later}
+use Rattle.sim_sound.specs.Typed.{arrays_in_segments, arrays_named, arrays_of_block, of_option}
+use Rattle.sim_agree.specs.Plain.{Plain}
+use Rattle.sim_agree.specs.TablesOf.{TablesOf}
 use Rattle.sim_agree.proofs.Clean.{OwedAt, RowFor}
-use Rattle.sim_agree.proofs.Tables.{Bs, Ts, clean, listed, owned, row_at, row_entry}
-use Rattle.sim_agree.proofs.Placing.{token_declared}
+use Rattle.sim_agree.proofs.Constants.{has_split, only}
+use Rattle.sim_agree.proofs.Fine.{Alike, RowIn, class_row, formal_row, own_row, procedure_row}
+use Rattle.sim_agree.proofs.Groups.{Has, OwnEntry, declared_in_text, here, own_array, own_marks, own_segment, own_variable, there}
+use Rattle.sim_agree.proofs.Steps.{Parametric}
+use Rattle.sim_agree.proofs.Tables as t
+use Rattle.sim_agree.proofs.Tables.{Bs, Ts, alike_new}
+use Rattle.sim_agree.proofs.Tokens.{token_declared}
 
 -- ---- the marks of a block
 
-has_left : {m : Mark} (xs ys : List Mark) → Has m xs → Has m (xs ++ ys)
+pub has_left : {m : Mark} (xs ys : List Mark) → Has m xs → Has m (xs ++ ys)
 has_left [] ys h = elim h [ ]
 has_left (x ∷ xs) ys here = here
 has_left (x ∷ xs) ys (there h) = there (has_left xs ys h)
 
-has_right : {m : Mark} (xs ys : List Mark) → Has m ys → Has m (xs ++ ys)
+pub has_right : {m : Mark} (xs ys : List Mark) → Has m ys → Has m (xs ++ ys)
 has_right [] ys h = h
 has_right (x ∷ xs) ys h = there (has_right xs ys h)
 
-pub has_split : {m : Mark} (xs ys : List Mark) → Has m (xs ++ ys) → Has m xs ⊎ Has m ys
-has_split [] ys h = inr h
-has_split (x ∷ xs) ys here = inl here
-has_split {m = m} (x ∷ xs) ys (there h) = go (has_split xs ys h)
-  where
-    go : Has m xs ⊎ Has m ys → Has m (x ∷ xs) ⊎ Has m ys
-    go (inl q) = inl (there q)
-    go (inr q) = inr q
+alike_itself : (e : Entry) → OwnEntry e → Alike e e
+alike_itself (entry.Variable ty) o = refl
+alike_itself (entry.Constant ty) o = refl
+alike_itself (entry.Array ty n) o = (refl, refl)
+alike_itself (entry.Procedure r n) o = absurd o
+alike_itself (entry.Class n) o = absurd o
+alike_itself (entry.Virtual r n) o = absurd o
+alike_itself (entry.Formal f) o = absurd o
+alike_itself (entry.Unspecified w) o = absurd o
+alike_itself (entry.Attribute name given result) o = absurd o
 
-pub only : (y : Identifier) (e : Entry) (m : Mark) → Has m (Declares y e ∷ []) → m ≡ Declares y e
-only y e m here = refl
-only y e m (there h) = elim h [ ]
+-- ---- arrays behind others
 
-module _ (s : Source) (is : s.tables ≡ (declared_by s.program).tables) (plain : Plain s.program) (unbroken : (declared_by s.program).least ≡ None) (order : InOrder s.program) where
-  -- what a block declares itself has a row at its token
-  pub row_for : (k i : ℕ) (ds : Declarations) (ss : Statements) → text s k ≡ Some (BlockText i ds ss) → (x : Identifier) (e : Entry) → Has (Declares x e) (own_marks ds)
-      → (d : DeclNo) × (declared_at s x.token.0 ≡ Some d) × (entry_of s.tables d ≡ Some e) × Among d (numbers_of s k)
+pub option_among : (o : Option DeclNo) (d : DeclNo) (more : List DeclNo) → Among d more → Among d (of_option o more)
+option_among None d more a = a
+option_among (Some e) d more a = later a
+
+pub named_more : (s : Source) (xs : List Identifier) (d : DeclNo) (more : List DeclNo) → Among d more → Among d (arrays_named s xs more)
+named_more s [] d more a = a
+named_more s (x ∷ xs) d more a = option_among (declared_at s x.token.0) d (arrays_named s xs more) (named_more s xs d more a)
+
+pub segments_more : (s : Source) (as_ : List Arrayed) (d : DeclNo) (more : List DeclNo) → Among d more → Among d (arrays_in_segments s as_ more)
+segments_more s [] d more a = a
+segments_more s (x ∷ as_) d more a = named_more s x.names d (arrays_in_segments s as_ more) (segments_more s as_ d more a)
+
+module _ (s : Source) (of : TablesOf s) (plain : Plain s.program) (order : InOrder s.program) where
+  -- what a block or a class declares itself has a row at its token
+  pub row_for : (k : ℕ) (x : Text) → text s k ≡ Some x → (y : Identifier) (e : Entry) → Has (Declares y e) (own_marks (declared_in_text x))
+      → (d : DeclNo) × (declared_at s y.token.0 ≡ Some d) × ((f : Entry) × (entry_of s.tables d ≡ Some f) × Alike e f) × Among d (numbers_of s k)
   unfolding text
-  row_for k i ds ss at x e has = go ((clean s is plain unbroken).complete k i ds ss at x e has)
+  row_for k x at y e has = go ((t.clean s of plain order).complete k x at y e has)
     where
-      go : RowFor (declared_by s.program) k x e ⊎ OwedAt (declared_by s.program).tables.blocks (declared_by s.program).current [] k (Declares x e)
-          → (d : DeclNo) × (declared_at s x.token.0 ≡ Some d) × (entry_of s.tables d ≡ Some e) × Among d (numbers_of s k)
+      go : RowFor (declared_by s.program) k y e ⊎ OwedAt (declared_by s.program).tables.blocks (declared_by s.program).current [] k (Declares y e)
+          → (d : DeclNo) × (declared_at s y.token.0 ≡ Some d) × ((f : Entry) × (entry_of s.tables d ≡ Some f) × Alike e f) × Among d (numbers_of s k)
       go (inr q) = absurd q
       go (inl q) =
           let d : DeclNo = record { 0 = q.number } in
-          let there_ : slice_get s.tables.declarations d.0 ≡ Some q.row = ap (λ (z : Tables). slice_get z.declarations q.number) is ∙ q.at in (
+          let n = (t.completed_tables s of plain order).rows.stays q.number q.row q.at in
+          let own : OwnEntry e = q.own in (
             d,
-            ap (λ (z : TokenNo). declared_at s z.0) (sym q.token) ∙ token_declared s is plain order d q.row there_,
-            row_entry s is plain d q.row there_ ∙ ap Some q.entry,
-            subst (λ z. Among d (numbers_of s z)) q.block (listed s is plain d q.row there_),
+            ap (λ (z : TokenNo). declared_at s z.0) (sym (n.2.token ∙ q.token)) ∙ token_declared s of plain order d n.0 n.1,
+            (n.0.entry, t.row_entry s of plain order d n.0 n.1, alike_new q.row.entry n.0.entry n.2.entry e (subst (Alike e) (sym q.entry) (alike_itself e own))),
+            subst (λ z. Among d (numbers_of s z)) (n.2.block ∙ q.block) (t.listed s of plain order d n.0 n.1),
           )
 
-  of_array : (type : TypeName) → PlainType type → kind_of_type (type_named type) ≡ kind_named type
-  unfolding type_named
-  of_array (type_name.Integer i) p = refl
-  of_array (type_name.Boolean i) p = refl
-  of_array (type_name.Character i) p = refl
-  of_array (type_name.Text i) p = refl
-  of_array (type_name.Reference i class) p = absurd p
-
-  module _ (k i : ℕ) (all : Declarations) (ss : Statements) (at : text s k ≡ Some (BlockText i all ss)) where
-    -- each name of a segment is that of an array of the block
-    abbrev pub SegmentNames : Kind → List Arrayed → Type 0
-    SegmentNames kind [] = Unit {0}
-    SegmentNames kind (a ∷ more) = ArraysAre s kind a.names × SegmentNames kind more
-
-    abbrev pub ArrayNames : Declarations → Type 0
-    ArrayNames NoDeclaration = Unit {0}
-    ArrayNames (With (Arrays type token segments) ds) = SegmentNames (kind_named type) segments × ArrayNames ds
-    ArrayNames (With _ ds) = ArrayNames ds
-
-    array_names : (type : TypeName) → PlainType type → (n : ℕ) (xs : List Identifier) → ((m : Mark) → Has m (each (own_array type n) xs) → Has m (own_marks all)) → ArraysAre s (kind_named type) xs
-    unfolding own_array
-    array_names type p n [] h = tt
-    array_names type p n (x ∷ xs) h =
-        let r = row_for k i all ss at x (entry.Array (type_named type) n) (h (Declares x (entry.Array (type_named type) n)) here) in
-        (record { declaration = r.0; at = r.1; holds = ap entry_holds r.2 ∙ ap (λ z. Some (ArrayOf z)) (of_array type p) }, array_names type p n xs (λ m q. h m (there q)))
-
-    segment_names : (type : TypeName) → PlainType type → (as_ : List Arrayed) → ((m : Mark) → Has m (each (own_segment type) as_) → Has m (own_marks all)) → SegmentNames (kind_named type) as_
-    segment_names type p [] h = tt
-    segment_names type p (a ∷ more) h =
-        (array_names type p (length a.bounds) a.names (λ m q. h m (has_left (own_segment type a) (each (own_segment type) more) q)), segment_names type p more (λ m q. h m (has_right (own_segment type a) (each (own_segment type) more) q)))
-
-    names_from : (ds : Declarations) → PlainDeclarations ds → ((m : Mark) → Has m (own_marks ds) → Has m (own_marks all)) → ArrayNames ds
-    names_from NoDeclaration p h = tt
-    names_from (With (Variables type vs) ds) p h = names_from ds p.1 (λ m q. h m (has_right (each (own_variable type) vs) (own_marks ds) q))
-    names_from (With (Arrays type token segments) ds) p h =
-        (segment_names type p.0.0 segments (λ m q. h m (has_left (each (own_segment type) segments) (own_marks ds) q)), names_from ds p.1 (λ m q. h m (has_right (each (own_segment type) segments) (own_marks ds) q)))
-    names_from (With (DeclareProcedure result token g a e) ds) p h = names_from ds p.1 h
-    names_from (With (DeclareClass prefix token g interface a e) ds) p h = absurd p.0
-
-    pub block_arrays : PlainDeclarations all → ArrayNames all
-    block_arrays p = names_from all p (λ m q. q)
-
+  module _ (k : ℕ) (x : Text) (at : text s k ≡ Some x) where
     -- ---- those that the block's tables have
-
-    option_among : (o : Option DeclNo) (d : DeclNo) (more : List DeclNo) → Among d more → Among d (of_option o more)
-    option_among None d more a = a
-    option_among (Some e) d more a = later a
-
-    named_more : (xs : List Identifier) (d : DeclNo) (more : List DeclNo) → Among d more → Among d (arrays_named s xs more)
-    named_more [] d more a = a
-    named_more (x ∷ xs) d more a = option_among (declared_at s x.token.0) d (arrays_named s xs more) (named_more xs d more a)
-
-    segments_more : (as_ : List Arrayed) (d : DeclNo) (more : List DeclNo) → Among d more → Among d (arrays_in_segments s as_ more)
-    segments_more [] d more a = a
-    segments_more (x ∷ as_) d more a = named_more x.names d (arrays_in_segments s as_ more) (segments_more as_ d more a)
 
     made_named : (type : TypeName) (n : ℕ) (xs : List Identifier) (x : Identifier) (e : Entry) (d : DeclNo) (more : List DeclNo) → Has (Declares x e) (each (own_array type n) xs) → declared_at s x.token.0 ≡ Some d → Among d (arrays_named s xs more)
     unfolding own_array
@@ -151,7 +113,7 @@ module _ (s : Source) (is : s.tables ≡ (declared_by s.program).tables) (plain 
       where
         go : Has (Declares x e) (own_segment type a) ⊎ Has (Declares x e) (each (own_segment type) as_) → (Has (Declares x e) (each (own_segment type) as_) → Among d (arrays_in_segments s as_ more)) → Among d (arrays_in_segments s (a ∷ as_) more)
         go (inl q) rest = made_named type (length a.bounds) a.names x e d (arrays_in_segments s as_ more) q at'
-        go (inr q) rest = named_more a.names d (arrays_in_segments s as_ more) (rest q)
+        go (inr q) rest = named_more s a.names d (arrays_in_segments s as_ more) (rest q)
 
     variable_is : (type : TypeName) (v : Variable) (x : Identifier) (ty : SimType) (n : ℕ) → Has (Declares x (entry.Array ty n)) (own_variable type v) → ⊥
     unfolding own_variable
@@ -183,57 +145,67 @@ module _ (s : Source) (is : s.tables ≡ (declared_by s.program).tables) (plain 
       where
         go : Has (Declares x (entry.Array ty n)) (each (own_segment type) segments) ⊎ Has (Declares x (entry.Array ty n)) (own_marks ds) → (Has (Declares x (entry.Array ty n)) (own_marks ds) → Among d (arrays_of_block s ds)) → Among d (arrays_in_segments s segments (arrays_of_block s ds))
         go (inl q) rest = made_segments type segments x (entry.Array ty n) d (arrays_of_block s ds) q e
-        go (inr q) rest = segments_more segments d (arrays_of_block s ds) (rest q)
+        go (inr q) rest = segments_more s segments d (arrays_of_block s ds) (rest q)
     made_from (With (DeclareProcedure result token g a end) ds) x ty n d h e = made_from ds x ty n d h e
     made_from (With (DeclareClass prefix token g interface a end) ds) x ty n d h e = made_from ds x ty n d h e
 
-    array_entry : (e : Entry) (kind : Kind) → OwnEntry e → entry_holds (Some e) ≡ Some (ArrayOf kind) → (ty : SimType) × (n : ℕ) × (e ≡ entry.Array ty n)
-    array_entry (entry.Array ty n) kind o h = (ty, n, refl)
-    array_entry (entry.Variable ty) kind o h = absurd (cc)
-    array_entry (entry.Constant ty) kind o h = absurd (cc)
-    array_entry (entry.Procedure q n) kind o h = absurd o
-    array_entry (entry.Class n) kind o h = absurd o
-    array_entry (entry.Virtual q n) kind o h = absurd o
-    array_entry (entry.Formal f) kind o h = absurd o
-    array_entry (entry.Unspecified w) kind o h = absurd o
-    array_entry (entry.Attribute name parameter result) kind o h = absurd o
+    array_like : (e : Entry) (ty : SimType) (n : ℕ) → OwnEntry e → Alike e (entry.Array ty n) → (a : SimType) × (m : ℕ) × (e ≡ entry.Array a m)
+    array_like (entry.Array a m) ty n o l = (a, m, refl)
+    array_like (entry.Variable a) ty n o l = absurd l
+    array_like (entry.Constant a) ty n o l = absurd l
+    array_like (entry.Procedure q m) ty n o l = absurd o
+    array_like (entry.Class m) ty n o l = absurd o
+    array_like (entry.Virtual q m) ty n o l = absurd o
+    array_like (entry.Formal f) ty n o l = absurd o
+    array_like (entry.Unspecified w) ty n o l = absurd o
+    array_like (entry.Attribute name given result) ty n o l = absurd o
 
-    -- each array of the block's tables is declared in it
-    pub made : (d : DeclNo) (kind : Kind) → Among d (numbers_of s k) → entry_holds (entry_of s.tables d) ≡ Some (ArrayOf kind) → Among d (arrays_of_block s all)
+    -- each array of its tables is declared in it
+    pub made : (d : DeclNo) (ty : SimType) (n : ℕ) → Among d (numbers_of s k) → entry_of s.tables d ≡ Some (entry.Array ty n) → Among d (arrays_of_block s (declared_in_text x))
     unfolding text
-    made d kind a h =
-        let q = owned s is plain k d a in
-        go q.0 q.1 (sym (ap entry_holds (row_entry s is plain d q.0 q.1)) ∙ h) (subst (λ z. RowOf (Bs s is plain) (Ts s is plain) z q.0) (ap (slice_get (Ts s is plain)) q.2 ∙ at) (row_at s is plain d.0 q.0 q.1))
+    made d ty n a h =
+        let q = t.owned s of plain order k d a in
+        let w = t.text_of_row s of plain order d.0 q.0 q.1 in
+        go q.0 q.1 (some_entry q.0.entry (entry.Array ty n) (sym (t.row_entry s of plain order d q.0 q.1) ∙ h)) w.0 (some_text w.0 x (sym w.1 ∙ ap (slice_get (Ts s of plain order)) q.2 ∙ at)) w.2
       where
-        go : (row : Declaration) → slice_get s.tables.declarations d.0 ≡ Some row → entry_holds (Some row.entry) ≡ Some (ArrayOf kind) → RowOf (Bs s is plain) (Ts s is plain) (Some (BlockText i all ss)) row → Among d (arrays_of_block s all)
-        go row e f (inr p) = absurd (let z : entry_holds (Some (entry.Procedure (result_named p.result) p.number)) ≡ Some (ArrayOf kind) = sym (ap (λ y. entry_holds (Some y)) p.entry) ∙ f in cc)
-        go row e f (inl p) =
-            let q = array_entry row.entry kind p.fits f in
-            made_from all p.name q.0 q.1 d (subst (λ z. Has (Declares p.name z) (own_marks all)) q.2 p.mark) (ap (λ (z : TokenNo). declared_at s z.0) p.token ∙ token_declared s is plain order d row e)
+        some_entry : (e f : Entry) → Some e ≡ Some f → e ≡ f
+        some_entry e f z = cc
+
+        some_text : (y z : Text) → Some y ≡ Some z → y ≡ z
+        some_text y z e = cc
+
+        go : (row : Declaration) → slice_get s.tables.declarations d.0 ≡ Some row → row.entry ≡ entry.Array ty n → (y : Text) → y ≡ x → RowIn (Bs s of plain order) (Ts s of plain order) y d.0 row → Among d (arrays_of_block s (declared_in_text x))
+        go row e f y z (procedure_row u p) = absurd (subst (Alike (entry.Procedure (result_named p.result) p.number)) f p.entry)
+        go row e f y z (class_row u p) = absurd (let g : entry.Class p.number ≡ entry.Array ty n = sym p.entry ∙ f in cc)
+        go row e f y z (formal_row u p) = absurd (subst Parametric f p)
+        go row e f y z (own_row u p) =
+            let q = array_like p.entry ty n p.fits (subst (Alike p.entry) f p.alike) in
+            subst (λ v. Among d (arrays_of_block s (declared_in_text v))) z
+            (made_from (declared_in_text y) p.name q.0 q.1 d (subst (λ v. Has (Declares p.name v) (own_marks (declared_in_text y))) q.2 p.mark) (ap (λ (z : TokenNo). declared_at s z.0) p.token ∙ token_declared s of plain order d row e))
 
     -- each array that is declared in the block is one of its tables
-    own_named : (type : TypeName) (n : ℕ) (xs : List Identifier) (d : DeclNo) (more : List DeclNo) → ((m : Mark) → Has m (each (own_array type n) xs) → Has m (own_marks all)) → Among d (arrays_named s xs more) → Among d (numbers_of s k) ⊎ Among d more
+    own_named : (type : TypeName) (n : ℕ) (xs : List Identifier) (d : DeclNo) (more : List DeclNo) → ((m : Mark) → Has m (each (own_array type n) xs) → Has m (own_marks (declared_in_text x))) → Among d (arrays_named s xs more) → Among d (numbers_of s k) ⊎ Among d more
     unfolding own_array
     own_named type n [] d more h a = inr a
-    own_named type n (x ∷ xs) d more h a =
-        let r = row_for k i all ss at x (entry.Array (type_named type) n) (h (Declares x (entry.Array (type_named type) n)) here) in
+    own_named type n (y ∷ xs) d more h a =
+        let r = row_for k x at y (entry.Array (type_named type) n) (h (Declares y (entry.Array (type_named type) n)) here) in
         go r.0 r.3 (subst (λ o. Among d (of_option o (arrays_named s xs more))) r.1 a) (λ q. own_named type n xs d more (λ m p. h m (there p)) q)
       where
         go : (e : DeclNo) → Among e (numbers_of s k) → Among d (e ∷ arrays_named s xs more) → (Among d (arrays_named s xs more) → Among d (numbers_of s k) ⊎ Among d more) → Among d (numbers_of s k) ⊎ Among d more
         go e b first rest = inl b
         go e b (later c) rest = rest c
 
-    own_segments : (type : TypeName) (as_ : List Arrayed) (d : DeclNo) (more : List DeclNo) → ((m : Mark) → Has m (each (own_segment type) as_) → Has m (own_marks all)) → Among d (arrays_in_segments s as_ more) → Among d (numbers_of s k) ⊎ Among d more
+    own_segments : (type : TypeName) (as_ : List Arrayed) (d : DeclNo) (more : List DeclNo) → ((m : Mark) → Has m (each (own_segment type) as_) → Has m (own_marks (declared_in_text x))) → Among d (arrays_in_segments s as_ more) → Among d (numbers_of s k) ⊎ Among d more
     own_segments type [] d more h a = inr a
-    own_segments type (x ∷ as_) d more h a =
-        go (own_named type (length x.bounds) x.names d (arrays_in_segments s as_ more) (λ m q. h m (has_left (own_segment type x) (each (own_segment type) as_) q)) a)
-        (λ q. own_segments type as_ d more (λ m p. h m (has_right (own_segment type x) (each (own_segment type) as_) p)) q)
+    own_segments type (y ∷ as_) d more h a =
+        go (own_named type (length y.bounds) y.names d (arrays_in_segments s as_ more) (λ m q. h m (has_left (own_segment type y) (each (own_segment type) as_) q)) a)
+        (λ q. own_segments type as_ d more (λ m p. h m (has_right (own_segment type y) (each (own_segment type) as_) p)) q)
       where
         go : Among d (numbers_of s k) ⊎ Among d (arrays_in_segments s as_ more) → (Among d (arrays_in_segments s as_ more) → Among d (numbers_of s k) ⊎ Among d more) → Among d (numbers_of s k) ⊎ Among d more
         go (inl q) rest = inl q
         go (inr q) rest = rest q
 
-    own_from : (ds : Declarations) (d : DeclNo) → ((m : Mark) → Has m (own_marks ds) → Has m (own_marks all)) → Among d (arrays_of_block s ds) → Among d (numbers_of s k)
+    own_from : (ds : Declarations) (d : DeclNo) → ((m : Mark) → Has m (own_marks ds) → Has m (own_marks (declared_in_text x))) → Among d (arrays_of_block s ds) → Among d (numbers_of s k)
     own_from NoDeclaration d h a = elim a [ ]
     own_from (With (Variables type vs) ds) d h a = own_from ds d (λ m q. h m (has_right (each (own_variable type) vs) (own_marks ds) q)) a
     own_from (With (Arrays type token segments) ds) d h a =
@@ -245,5 +217,5 @@ module _ (s : Source) (is : s.tables ≡ (declared_by s.program).tables) (plain 
     own_from (With (DeclareProcedure result token g a' end) ds) d h a = own_from ds d h a
     own_from (With (DeclareClass prefix token g interface a' end) ds) d h a = own_from ds d h a
 
-    pub own : (d : DeclNo) → Among d (arrays_of_block s all) → Among d (numbers_of s k)
-    own d a = own_from all d (λ m q. q) a
+    pub own : (d : DeclNo) → Among d (arrays_of_block s (declared_in_text x)) → Among d (numbers_of s k)
+    own d a = own_from (declared_in_text x) d (λ m q. q) a

@@ -1,5 +1,5 @@
 -- The value of a declared constant is the one that is written where it is declared.
-use Rattle.std.proofs.Common.{◌≡◌, ◌<◌, ◌≤◌, ◌+◌, ◌⊎◌, inl, inr, ℕ, true, false, List, [], ◌∷◌, length, Option, Some, None, refl, sym, ap, ◌∙◌, subst, arith}
+use Rattle.std.proofs.Common.{◌≡◌, ◌<◌, ◌≤◌, ◌+◌, ◌⊎◌, inl, inr, ℕ, true, false, List, [], ◌∷◌, ◌++◌, length, Option, Some, None, refl, sym, ap, ◌∙◌, subst, arith}
 use Rattle.std.specs.Prelude.{◌==◌, if◌then◌else◌, slice_get}
 use Rattle.std.proofs.lemmas.Bool.Decides.{nat_tests}
 use Rattle.sim_base.specs.declared.numbering.DeclNo.{DeclNo}
@@ -8,26 +8,42 @@ use Rattle.sim_tree.specs.declared.expr.Identifier.{Identifier}
 use Rattle.sim_tree.specs.declared.stmt.Constant.{Constant}
 use Rattle.sim_tree.specs.declared.stmt.TypeName.{TypeName}
 use Rattle.sim_tree.specs.declared.stmt.Variable.{Variable}
-use Rattle.sim_tree.specs.Syntax.{Arrayed, Arrays, Declaration as Declared, Declarations, DeclareClass, DeclareProcedure, NoDeclaration, Statements, Variables, With}
+use Rattle.sim_tree.specs.Syntax.{Arrayed, Arrays, Declaration as Declared, Declarations, DeclareClass, DeclareProcedure, NoDeclaration, Variables, With}
 use Rattle.sim_tree.specs.Order.{InOrder}
 use Rattle.sim_scope.specs.declared.scopes.Declaration.{Declaration}
+use Rattle.sim_scope.specs.declared.types.Entry.{Entry}
 use Rattle.sim_scope.specs.declared.types.Entry.TheVariants as entry
 use Rattle.sim_scope.specs.declared.types.SimType.{SimType}
 use Rattle.sim_scope.specs.Building.{Declares, Mark}
-use Rattle.sim_scope.specs.Declare.{declared_by, result_named, type_named}
+use Rattle.sim_scope.specs.Declare.{result_named, type_named}
 use Rattle.sim_scope.specs.Runs.{each}
 use Rattle.sim_scope.specs.Scopes.{entry_of}
 use Rattle.sim_scope.specs.Source.{Source}
 use Rattle.sim_values.specs.Plain.{Plain as Value}
-use Rattle.sim_meaning.specs.Texts.{BlockText, ProcedureText, Text, among_declarations, among_variables, constant_in, constant_of, constant_value, row_constant, text, value_in}
-use Rattle.sim_agree.specs.ConstantAt.{ConstantAt, Lists, OneOf, at_first, further, head, tail}
+use Rattle.sim_meaning.specs.Texts.{BlockText, ClassText, ConnectionText, PrefixedText, ProcedureText, StandardText, Text, among_declarations, among_variables, constant_in, constant_of, constant_value, kind_of_type, row_constant, text, value_in}
+use Rattle.sim_agree.specs.ConstantAt.{ConstantAt, InBlock, InClass, Lists, OneOf, at_first, further, head, tail}
 use Rattle.sim_agree.specs.Plain.{Plain}
-use Rattle.sim_agree.proofs.Groups.{Has, here, own_array, own_marks, own_segment, own_variable, there}
+use Rattle.sim_agree.specs.TablesOf.{TablesOf}
+use Rattle.sim_agree.proofs.Groups.{Has, OwnEntry, here, own_array, own_marks, own_segment, own_variable, there}
 use Rattle.sim_agree.proofs.Steps.{Parametric}
-use Rattle.sim_agree.proofs.Fine.{Own, RowOf}
-use Rattle.sim_agree.proofs.Tables.{Bs, Ts, entry_row, row_at}
-use Rattle.sim_agree.proofs.ArrayNames.{has_split, only}
+use Rattle.sim_agree.proofs.Fine.{Alike, Own, RowIn, class_row, formal_row, own_row, procedure_row}
+use Rattle.sim_agree.proofs.Tables as t
+use Rattle.sim_agree.proofs.Tables.{Bs, Ts}
 use Rattle.sim_agree.proofs.TextOrder.{Between, between_le, between_split, own_tokens, segment_tokens, text_in_order, variable_tokens}
+
+-- one of two lists of marks has it
+pub has_split : {m : Mark} (xs ys : List Mark) → Has m (xs ++ ys) → Has m xs ⊎ Has m ys
+has_split [] ys h = inr h
+has_split (x ∷ xs) ys here = inl here
+has_split {m = m} (x ∷ xs) ys (there h) = go (has_split xs ys h)
+  where
+    go : Has m xs ⊎ Has m ys → Has m (x ∷ xs) ⊎ Has m ys
+    go (inl q) = inl (there q)
+    go (inr q) = inr q
+
+pub only : (y : Identifier) (e : Entry) (m : Mark) → Has m (Declares y e ∷ []) → m ≡ Declares y e
+only y e m here = refl
+only y e m (there h) = elim h [ ]
 
 cases : {m q : Mark} {ms : List Mark} → Has m (q ∷ ms) → (m ≡ q) ⊎ Has m ms
 cases here = inl refl
@@ -164,34 +180,55 @@ module _ (s : Source) (x : Identifier) (ty : SimType) where
   in_declarations (With (DeclareProcedure result n g a e) ds) i j b h = in_more (DeclareProcedure result n g a e) ds i i (let z : i ≤ i = omega arith in z) refl (in_declarations ds i j b h)
   in_declarations (With (DeclareClass prefix n g interface a e) ds) i j b h = in_more (DeclareClass prefix n g interface a e) ds i i (let z : i ≤ i = omega arith in z) refl (in_declarations ds i j b h)
 
-pub constant_at : (s : Source) → s.tables ≡ (declared_by s.program).tables → Plain s.program → InOrder s.program → (d : DeclNo) (ty : SimType) → entry_of s.tables d ≡ Some (entry.Constant ty) → ConstantAt s d ty
+-- what is like a constant is one
+constant_like : (e : Entry) (ty : SimType) → OwnEntry e → Alike e (entry.Constant ty) → (a : SimType) × (e ≡ entry.Constant a) × (kind_of_type a ≡ kind_of_type ty)
+constant_like (entry.Constant a) ty o l = (a, refl, l)
+constant_like (entry.Variable a) ty o l = absurd l
+constant_like (entry.Array a n) ty o l = absurd l
+constant_like (entry.Procedure r n) ty o l = absurd o
+constant_like (entry.Class n) ty o l = absurd o
+constant_like (entry.Virtual r n) ty o l = absurd o
+constant_like (entry.Formal f) ty o l = absurd o
+constant_like (entry.Unspecified w) ty o l = absurd o
+constant_like (entry.Attribute name given result) ty o l = absurd o
+
+pub constant_at : (s : Source) → TablesOf s → Plain s.program → InOrder s.program → (d : DeclNo) (ty : SimType) → entry_of s.tables d ≡ Some (entry.Constant ty) → ConstantAt s d ty
 unfolding text constant_of
-constant_at s is plain order d ty e =
-    let r = entry_row s is plain d (entry.Constant ty) e in go r.0 r.1 r.2 (slice_get (Ts s is plain) r.0.block) refl (row_at s is plain d.0 r.0 r.1)
+constant_at s of plain order d ty e =
+    let r = t.entry_row s of plain order d (entry.Constant ty) e in
+    let w = t.text_of_row s of plain order d.0 r.0 r.1 in go r.0 r.1 r.2 w.0 w.1 w.2
   where
-    found : (row : Declaration) → slice_get s.tables.declarations d.0 ≡ Some row → row.entry ≡ entry.Constant ty → (i : ℕ) (ds : Declarations) (ss : Statements) → text s row.block ≡ Some (BlockText i ds ss) → Own ds row → ConstantAt s d ty
-    found row at same i ds ss there_ p =
-        let o = text_in_order s plain order row.block (BlockText i ds ss) there_ in
-        let q = in_declarations s p.name ty ds o.0 o.1 o.2 (subst (λ z. Has (Declares p.name z) (own_marks ds)) same p.mark) in record {
+    -- among the declarations of a block or a class
+    found : (row : Declaration) → slice_get s.tables.declarations d.0 ≡ Some row → row.entry ≡ entry.Constant ty → (ds : Declarations) (i j : ℕ) → Between i (own_tokens ds) j → Own ds row
+        → InBlock s row.block ds ⊎ InClass s row.block ds → ((token : ℕ) → constant_in s (text s row.block) token ≡ among_declarations s token ds) → ConstantAt s d ty
+    found row at same ds i j b p place value =
+        let c = constant_like p.entry ty p.fits (subst (Alike p.entry) same p.alike) in
+        let q = in_declarations s p.name c.0 ds i j b (subst (λ z. Has (Declares p.name z) (own_marks ds)) c.1 p.mark) in record {
           block = row.block;
-          begin = i;
           declarations = ds;
-          statements = ss;
-          is = there_;
+          is = place;
           type = q.type;
-          named = q.named;
+          named = ap kind_of_type q.named ∙ c.2;
           variables = q.variables;
           declared = q.declared;
           variable = q.variable;
           one = q.one;
           constant = q.constant;
           has = q.has;
-          value = ap (row_constant s) at ∙ ap (λ z. constant_in s z row.token.0) there_ ∙ ap (λ (z : TokenNo). among_declarations s z.0 ds) (sym p.token) ∙ q.value;
+          value = ap (row_constant s) at ∙ value row.token.0 ∙ ap (λ (z : TokenNo). among_declarations s z.0 ds) (sym p.token) ∙ q.value;
         }
 
-    go : (row : Declaration) → slice_get s.tables.declarations d.0 ≡ Some row → row.entry ≡ entry.Constant ty → (o : Option Text) → slice_get (Ts s is plain) row.block ≡ o → RowOf (Bs s is plain) (Ts s is plain) o row → ConstantAt s d ty
-    go row at same (Some (BlockText i ds ss)) there_ (inl p) = found row at same i ds ss there_ p
-    go row at same (Some (BlockText i ds ss)) there_ (inr p) = absurd (let z : entry.Constant ty ≡ entry.Procedure (result_named p.result) p.number = sym same ∙ p.entry in cc)
-    go row at same (Some (ProcedureText result h a)) there_ p = absurd (subst Parametric same p)
-    go row at same None there_ p = absurd p
-    go row at same (Some _) there_ p = absurd p
+    go : (row : Declaration) → slice_get s.tables.declarations d.0 ≡ Some row → row.entry ≡ entry.Constant ty → (x : Text) → slice_get (Ts s of plain order) row.block ≡ Some x → RowIn (Bs s of plain order) (Ts s of plain order) x d.0 row → ConstantAt s d ty
+    go row at same (BlockText i ds ss) there_ (own_row y p) =
+        let o = text_in_order s plain order row.block (BlockText i ds ss) there_ in
+        found row at same ds o.0 o.1 o.2 p (inl (record { begin = i; statements = ss; is = there_ })) (λ token. ap (λ z. constant_in s z token) there_)
+    go row at same (ClassText prefix h ds ss) there_ (own_row y p) =
+        let o = text_in_order s plain order row.block (ClassText prefix h ds ss) there_ in
+        found row at same ds o.0 o.1 o.2 p (inr (record { prefix = prefix; heading = h; statements = ss; is = there_ })) (λ token. ap (λ z. constant_in s z token) there_)
+    go row at same (ProcedureText result h a) there_ (own_row y p) = absurd y
+    go row at same ConnectionText there_ (own_row y p) = absurd y
+    go row at same (PrefixedText class es ds ss) there_ (own_row y p) = absurd y
+    go row at same (StandardText which) there_ (own_row y p) = absurd y
+    go row at same x there_ (procedure_row y p) = absurd (subst (Alike (entry.Procedure (result_named p.result) p.number)) same p.entry)
+    go row at same x there_ (class_row y p) = absurd (let z : entry.Class p.number ≡ entry.Constant ty = sym p.entry ∙ same in cc)
+    go row at same x there_ (formal_row y p) = absurd (subst Parametric same p)

@@ -1,12 +1,9 @@
 -- Where the tokens of a plain program are in order, a block whose text has a token is around the innermost block of that token.
-use Rattle.std.proofs.Common.{◌≡◌, ◌<◌, ◌≤◌, ◌+◌, ◌-◌, ◌⊎◌, inl, inr, ℕ, zero, suc, Bool, true, false, List, [], ◌∷◌, ◌++◌, length, Option, Some, None, refl, sym, ap, ◌∙◌, subst, arith, if◌then◌else◌}
-use Rattle.std.specs.Prelude.{◌&&◌, nat_eq, nat_le, nat_lt, replicate, slice_get, slice_set}
-use Rattle.std.specs.List.{list_any}
-use Rattle.std.specs.Str.{bytes_eq}
+use Rattle.std.proofs.Common.{◌≡◌, ◌<◌, ◌≤◌, ◌+◌, ◌-◌, ◌⊎◌, inl, inr, ℕ, zero, suc, Bool, true, false, List, [], ◌∷◌, ◌++◌, length, Option, Some, None, refl, sym, ap, ◌∙◌, subst, arith}
+use Rattle.std.specs.Prelude.{nat_eq, nat_lt, replicate, slice_get, slice_set}
 use Rattle.std.proofs.lemmas.List.{length-append, length-set}
 use Rattle.std.proofs.lemmas.Option.{slice_get_within}
 use Rattle.std.proofs.lemmas.Bool.Decides.{nat_tests}
-use Rattle.sim_base.specs.declared.numbering.DeclNo.{DeclNo}
 use Rattle.sim_base.specs.declared.rule.Rule.{Rule}
 use Rattle.sim_base.specs.declared.rule.Rule.TheVariants as r
 use Rattle.sim_tree.specs.declared.expr.Identifier.{Identifier}
@@ -14,93 +11,50 @@ use Rattle.sim_tree.specs.Order.{Ascends, InOrder, Spot}
 use Rattle.sim_tree.specs.Syntax.{Program}
 use Rattle.sim_scope.specs.declared.types.BlockKind.{BlockKind}
 use Rattle.sim_scope.specs.declared.types.BlockKind.TheVariants as kind
-use Rattle.sim_scope.specs.declared.types.Entry.{Entry}
 use Rattle.sim_scope.specs.declared.types.Entry.TheVariants as entry
-use Rattle.sim_scope.specs.Building.{BuildingOf, Mark, block_around, broken, broken_if, closed, closed_at, counted, counted_in, declared, declared_again, declared_at, declared_inside, declared_new, declared_twice, found_in, headed as headed_of, is_match, level_in, marked, matched, most_levels, opened, owner_of, parameter as parameter_of, placed, unspecified_at, with_name}
-use Rattle.sim_scope.specs.Calls.{inside_block, is_inside}
+use Rattle.sim_scope.specs.Building.{BuildingOf, Mark, Opens, block_around, broken_if, changed, closed, closed_at, counted, counted_in, declared, found_in, holding_class, level_in, marked, most_levels, opened, owner_of, parameter as parameter_of, placed, specified as specified_of, unspecified_at}
 use Rattle.sim_scope.specs.Declare.{declared_by, empty, result_named}
 use Rattle.sim_scope.specs.Runs.{run}
-use Rattle.sim_scope.specs.Access.{around, block_at, encloser, joined}
-use Rattle.sim_scope.specs.Scopes.{declared_in, entry_of}
-use Rattle.sim_scope.specs.Source.{Source}
-use Rattle.sim_scope.specs.Tables.{BlockOf, Tables}
+use Rattle.sim_scope.specs.Access.{around}
+use Rattle.sim_scope.specs.Tables.{BlockOf}
 use Rattle.sim_scope.proofs.Kept.{kept_set, more_here, more_other, set_here, set_other}
-use Rattle.sim_meaning.specs.Texts.{Text}
-use Rattle.sim_sound.specs.Typed.{Around, further, itself}
 use Rattle.sim_agree.specs.Plain.{Plain}
-use Rattle.sim_agree.proofs.Clean.{Quiet, moded_quiet, specified_quiet}
-use Rattle.sim_agree.proofs.Laid.{Frame, Laid, block, closes, declares, headed, leaves, moded, nothing, parameter, passes, procedure, program, program_laid, specified, uses}
+use Rattle.sim_agree.proofs.Calm.{Calm, Span, class_calm, declared_calm, headed_calm, inner_calm, moded_calm, quals_calm, rule_calm, span, specified_calm}
+use Rattle.sim_agree.proofs.FineRuns.{run_both}
+use Rattle.sim_agree.proofs.Groups.{AreReferences, OfReferences}
+use Rattle.sim_agree.proofs.Laid.{Frame, Held, Laid, block, breaks_rule, closes, connects, declares, declares_class, headed, inner_mark, leaves, moded, nothing, parameter, passes, procedure, program, program_laid, specified, uses}
 use Rattle.sim_agree.proofs.Spots.{reached}
-use Rattle.sim_agree.proofs.Steps.{Step, headed_step, met, moded_step, parameter_step, specified_met}
-
--- ---- what marks that begin and end no block leave as it is
+use Rattle.sim_agree.proofs.Steps.{met}
 
 -- the first token of a block, the token behind it, and the block around it
-abbrev Span : Type 0
-Span = Option (ℕ × ℕ × Option ℕ)
-
-abbrev span : Option BlockOf → Span
-span None = None
-span (Some row) = Some (row.first, row.end, row.encloser)
-
-record Calm (b c : BuildingOf) : Type 0 where
-  current : c.current ≡ b.current
-  size : length c.tables.blocks ≡ length b.tables.blocks
-  places : c.tables.places ≡ b.tables.places
-  spans : (j : ℕ) → span (slice_get c.tables.blocks j) ≡ span (slice_get b.tables.blocks j)
+abbrev placed_span : Option Span → Option (ℕ × ℕ × Option ℕ)
+placed_span None = None
+placed_span (Some x) = Some (x.first, x.end, x.encloser)
 
 some_same : {A : Type 0} (a b : A) → Some a ≡ Some b → a ≡ b
 some_same a b e = cc
 
-nothing_calm : (b : BuildingOf) → Calm b b
-nothing_calm b = record { current = refl; size = refl; places = refl; spans = λ j. refl }
-
-if_calm : (a : Bool) (b c : BuildingOf) (token : ℕ) (rule : Rule) → Calm b c → Calm b (broken_if a c token rule)
-if_calm true b c token rule h = record { current = h.current; size = h.size; places = h.places; spans = h.spans }
-if_calm false b c token rule h = h
-
-declared_row : (b : BuildingOf) (x : Identifier) (e : Entry) (n : ℕ) (o : Option BlockOf) → slice_get b.tables.blocks n ≡ o → Calm b (declared_at b x e n o)
-declared_row b x e n None at = nothing_calm b
-declared_row b x e n (Some row) at = go (list_any (bytes_eq x.name) row.names)
-  where
-    either : (d : DeclNo) (c : Bool) → Calm b (if c then matched b x e n d else declared_twice b x (Some d))
-    either d true = if_calm (nat_eq b.own 65535) b _ x.token.0 r.TooManyDeclarations (record { current = refl; size = refl; places = refl; spans = λ j. refl })
-    either d false = record { current = refl; size = refl; places = refl; spans = λ j. refl }
-
-    again : (o : Option DeclNo) → Calm b (declared_again b x e n o)
-    again None = record { current = refl; size = refl; places = refl; spans = λ j. refl }
-    again (Some d) = either d (is_match e (entry_of b.tables d))
-
-    go : (c : Bool) → Calm b (if c then declared_again b x e n (declared_in (Some row) x.name) else declared_new b x e n row)
-    go true = again (declared_in (Some row) x.name)
-    go false = if_calm (nat_eq b.own 65535) b _ x.token.0 r.TooManyDeclarations (record {
-      current = refl;
-      size = length-set b.tables.blocks n (with_name row x.name (record { 0 = length b.tables.declarations }));
-      places = refl;
-      spans = λ j. kept_set span b.tables.blocks n row (with_name row x.name (record { 0 = length b.tables.declarations })) at refl j;
-    })
-
-declared_calm : (b : BuildingOf) (x : Identifier) (e : Entry) (o : Option ℕ) → Calm b (declared_inside b x e o)
-declared_calm b x e None = nothing_calm b
-declared_calm b x e (Some n) = declared_row b x e n (slice_get b.tables.blocks n) refl
-
-counted_spans : (b : BuildingOf) (o : Option ℕ) (j : ℕ) → span (slice_get (counted_in b o).tables.blocks j) ≡ span (slice_get b.tables.blocks j)
+counted_spans : (b : BuildingOf) (o : Option ℕ) (j : ℕ) → placed_span (span (slice_get (counted_in b o).tables.blocks j)) ≡ placed_span (span (slice_get b.tables.blocks j))
 counted_spans b None j = refl
 counted_spans b (Some n) j = go (slice_get b.tables.blocks n) refl
   where
-    go : (o : Option BlockOf) → slice_get b.tables.blocks n ≡ o → span (slice_get (counted b n o).tables.blocks j) ≡ span (slice_get b.tables.blocks j)
+    go : (o : Option BlockOf) → slice_get b.tables.blocks n ≡ o → placed_span (span (slice_get (counted b n o).tables.blocks j)) ≡ placed_span (span (slice_get b.tables.blocks j))
     go None at = refl
-    go (Some row) at = kept_set span b.tables.blocks n row (record row { formals = length row.numbers }) at refl j
+    go (Some row) at = kept_set (λ o. placed_span (span o)) b.tables.blocks n row (record row { formals = length row.numbers }) at refl j
 
-calm : (b c : BuildingOf) {New : ℕ → _} → Step b c New → ((j : ℕ) → span (slice_get c.tables.blocks j) ≡ span (slice_get b.tables.blocks j)) → Calm b c
-calm b c s h = record { current = s.current; size = s.size; places = s.places; spans = h }
+-- where a block begins and ends, and what is around it
+record Still (b c : BuildingOf) : Type 0 where
+  current : c.current ≡ b.current
+  size : length c.tables.blocks ≡ length b.tables.blocks
+  places : c.tables.places ≡ b.tables.places
+  spans : (j : ℕ) → placed_span (span (slice_get c.tables.blocks j)) ≡ placed_span (span (slice_get b.tables.blocks j))
 
-quiet_calm : (b c : BuildingOf) {New : ℕ → _} → Step b c New → Quiet b c → Calm b c
-quiet_calm b c s q = calm b c s (λ j. ap (λ z. span (slice_get z j)) q.0)
+calm_still : (b c : BuildingOf) → Calm b c → Still b c
+calm_still b c m = record { current = m.current; size = m.size; places = m.places; spans = λ j. ap placed_span (m.spans j) }
 
 -- ---- blocks around one another
 
-data Chain (bs : List BlockOf) : (inner outer : ℕ) → Type 0 where
+pub data Chain (bs : List BlockOf) : (inner outer : ℕ) → Type 0 where
   same : {k : ℕ} → Chain bs k k
   beyond : {k u j : ℕ} → around (slice_get bs k) ≡ Some u → Chain bs u j → Chain bs k j
 
@@ -109,47 +63,59 @@ chain_kept bs cs keep same = same
 chain_kept bs cs keep (beyond e c) = beyond (keep _ _ e) (chain_kept bs cs keep c)
 
 -- a block that is open
-abbrev IsOpen : BuildingOf → ℕ → Type 0
+abbrev pub IsOpen : BuildingOf → ℕ → Type 0
 IsOpen b j = (n : ℕ) × (b.current ≡ Some n) × Chain b.tables.blocks n j
 
-record Deep (b : BuildingOf) (from : ℕ) : Type 0 where
-  reach : length b.tables.places ≤ from
-  within : (n : ℕ) → b.current ≡ Some n → n < length b.tables.blocks
-  nested : (t u : ℕ) → around (slice_get b.tables.blocks t) ≡ Some u → u < length b.tables.blocks
-  ends : (j : ℕ) (row : BlockOf) → slice_get b.tables.blocks j ≡ Some row → IsOpen b j ⊎ (row.end ≤ length b.tables.places)
-  deep : (i k j : ℕ) (row : BlockOf) → slice_get b.tables.places i ≡ Some (Some k) → slice_get b.tables.blocks j ≡ Some row → row.first ≤ i → IsOpen b j ⊎ (i < row.end) → Chain b.tables.blocks k j
+pub record Deep (b : BuildingOf) (from : ℕ) : Type 0 where
+  pub reach : length b.tables.places ≤ from
+  pub within : (n : ℕ) → b.current ≡ Some n → n < length b.tables.blocks
+  pub nested : (t u : ℕ) → around (slice_get b.tables.blocks t) ≡ Some u → u < length b.tables.blocks
+  pub ends : (j : ℕ) (row : BlockOf) → slice_get b.tables.blocks j ≡ Some row → IsOpen b j ⊎ (row.end ≤ length b.tables.places)
+  pub deep : (i k j : ℕ) (row : BlockOf) → slice_get b.tables.places i ≡ Some (Some k) → slice_get b.tables.blocks j ≡ Some row → row.first ≤ i → IsOpen b j ⊎ (i < row.end) → Chain b.tables.blocks k j
+  -- blocks have begun, and the token of a place is in all blocks around the block of the place
+  pub starts : (j : ℕ) (row : BlockOf) → slice_get b.tables.blocks j ≡ Some row → row.first ≤ length b.tables.places
+  pub ranged : (i k : ℕ) → slice_get b.tables.places i ≡ Some (Some k) → k < length b.tables.blocks
+  pub holds : (i k j : ℕ) (row : BlockOf) → slice_get b.tables.places i ≡ Some (Some k) → slice_get b.tables.blocks j ≡ Some row → Chain b.tables.blocks k j → (row.first ≤ i) × (IsOpen b j ⊎ (i < row.end))
 
 later_deep : (b : BuildingOf) (from to : ℕ) → from ≤ to → Deep b from → Deep b to
-later_deep b from to le d = record { reach = (let q : length b.tables.places ≤ from = d.reach in omega arith); within = d.within; nested = d.nested; ends = d.ends; deep = d.deep }
+later_deep b from to le d = record { reach = (let q : length b.tables.places ≤ from = d.reach in omega arith); within = d.within; nested = d.nested; ends = d.ends; deep = d.deep; starts = d.starts; ranged = d.ranged; holds = d.holds }
 
-abbrev out_of : Span → Option ℕ
+abbrev out_of : Option (ℕ × ℕ × Option ℕ) → Option ℕ
 out_of None = None
 out_of (Some x) = x.2
 
-out_span : (o : Option BlockOf) → out_of (span o) ≡ around o
+out_span : (o : Option BlockOf) → out_of (placed_span (span o)) ≡ around o
 out_span None = refl
 out_span (Some row) = refl
 
-span_row : (o : Option BlockOf) (row : BlockOf) → span o ≡ span (Some row) → (old : BlockOf) × (o ≡ Some old) × (old.first ≡ row.first) × (old.end ≡ row.end)
+span_row : (o : Option BlockOf) (row : BlockOf) → placed_span (span o) ≡ placed_span (span (Some row)) → (old : BlockOf) × (o ≡ Some old) × (old.first ≡ row.first) × (old.end ≡ row.end)
 span_row None row e = absurd (cc)
 span_row (Some old) row e =
     let both : (old.first, old.end, old.encloser) ≡ (row.first, row.end, row.encloser) = some_same {A = ℕ × ℕ × Option ℕ} (old.first, old.end, old.encloser) (row.first, row.end, row.encloser) e in
     (old, refl, ap (λ (z : ℕ × ℕ × Option ℕ). z.0) both, ap (λ (z : ℕ × ℕ × Option ℕ). z.1) both)
 
-calm_deep : (b c : BuildingOf) (from : ℕ) → Calm b c → Deep b from → Deep c from
-calm_deep b c from m d = record {
+still_deep : (b c : BuildingOf) (from : ℕ) → Still b c → Deep b from → Deep c from
+still_deep b c from m d = record {
   reach = (let q : length b.tables.places ≤ from = d.reach in let e : length c.tables.places ≡ length b.tables.places = ap length m.places in omega arith);
   within = λ n e. (let lt : n < length b.tables.blocks = d.within n (sym m.current ∙ e) in let z : length c.tables.blocks ≡ length b.tables.blocks = m.size in omega arith);
   nested = λ t u e. (let lt : u < length b.tables.blocks = d.nested t u (sym (out t) ∙ e) in let z : length c.tables.blocks ≡ length b.tables.blocks = m.size in omega arith);
   ends = λ j row at. (let q = old j row at in ends j q.0 row q.2.1 (d.ends j q.0 q.1));
   deep = λ i k j row p at le h. (let q = old j row at in chain_kept b.tables.blocks c.tables.blocks (λ t u e. out t ∙ e) (d.deep i k j q.0 (sym (ap (λ z. slice_get z i) m.places) ∙ p) q.1 (let e : q.0.first ≡ row.first = q.2.0 in omega arith) (back j i q.0 row q.2.1 h)));
+  starts = λ j row at. (let q = old j row at in let le : q.0.first ≤ length b.tables.places = d.starts j q.0 q.1 in let e : q.0.first ≡ row.first = q.2.0 in let l : length c.tables.places ≡ length b.tables.places = ap length m.places in omega arith);
+  ranged = λ i k p. (let lt : k < length b.tables.blocks = d.ranged i k (sym (ap (λ z. slice_get z i) m.places) ∙ p) in let z : length c.tables.blocks ≡ length b.tables.blocks = m.size in omega arith);
+  holds = λ i k j row p at c'. (let q = old j row at in let h = d.holds i k j q.0 (sym (ap (λ z. slice_get z i) m.places) ∙ p) q.1 (chain_kept c.tables.blocks b.tables.blocks (λ t u e. sym (out t) ∙ e) c') in
+      ((let le : q.0.first ≤ i = h.0 in let e : q.0.first ≡ row.first = q.2.0 in omega arith), held j i q.0 row q.2.1 h.1));
 }
   where
     out : (t : ℕ) → around (slice_get c.tables.blocks t) ≡ around (slice_get b.tables.blocks t)
     out t = sym (out_span (slice_get c.tables.blocks t)) ∙ ap out_of (m.spans t) ∙ out_span (slice_get b.tables.blocks t)
 
+    held : (j i : ℕ) (was row : BlockOf) → was.end ≡ row.end → IsOpen b j ⊎ (i < was.end) → IsOpen c j ⊎ (i < row.end)
+    held j i was row e (inl q) = inl (q.0, m.current ∙ q.1, chain_kept b.tables.blocks c.tables.blocks (λ t u f. out t ∙ f) q.2)
+    held j i was row e (inr q) = inr (let lt : i < was.end = q in omega (arith, e))
+
     old : (j : ℕ) (row : BlockOf) → slice_get c.tables.blocks j ≡ Some row → (was : BlockOf) × (slice_get b.tables.blocks j ≡ Some was) × ((was.first ≡ row.first) × (was.end ≡ row.end))
-    old j row at = let q = span_row (slice_get b.tables.blocks j) row (sym (m.spans j) ∙ ap span at) in (q.0, q.1, (q.2, q.3))
+    old j row at = let q = span_row (slice_get b.tables.blocks j) row (sym (m.spans j) ∙ ap (λ o. placed_span (span o)) at) in (q.0, q.1, (q.2, q.3))
 
     forth : (j : ℕ) → IsOpen b j → IsOpen c j
     forth j q = (q.0, m.current ∙ q.1, chain_kept b.tables.blocks c.tables.blocks (λ t u e. out t ∙ e) q.2)
@@ -185,6 +151,9 @@ begun_deep b new first from le is_first is_end out d = record {
   within = λ n e. (let z : length b.tables.blocks ≡ n = some_same (length b.tables.blocks) n e in let m : length cs ≡ length b.tables.blocks + 1 = more in omega arith);
   nested = λ t u e. nested t u (nat_eq t (length b.tables.blocks)) refl e;
   ends = λ j row at. ends j row (nat_eq j (length b.tables.blocks)) refl at;
+  starts = λ j row at. starts j row (nat_eq j (length b.tables.blocks)) refl at;
+  ranged = λ i k p. ranged i k (place_cases b.tables.places b.current (first - length b.tables.places) i (Some k) p);
+  holds = λ i k j row p at c'. holds i k j row (nat_eq j (length b.tables.blocks)) refl at c' (place_cases b.tables.places b.current (first - length b.tables.places) i (Some k) p);
   deep = λ i k j row p at lo h. deep i k j row (nat_eq j (length b.tables.blocks)) refl at lo h (let lt : i < length ps = slice_get_within ps i (Some k) p in let e : length ps ≡ first = long in omega arith) (place_cases b.tables.places b.current (first - length b.tables.places) i (Some k) p);
 }
   where
@@ -272,6 +241,37 @@ begun_deep b new first from le is_first is_end out d = record {
         go (inr q) (inl e) = of_open e
         go (inr q) (inr e) = absurd (let lt' : i < row.end = q in let hi : row.end ≤ length b.tables.places = e in let lo' : length b.tables.places ≤ i = p.1 in omega arith)
 
+    starts : (j : ℕ) (row : BlockOf) (z : Bool) → nat_eq j (length b.tables.blocks) ≡ z → slice_get (b.tables.blocks ++ new ∷ []) j ≡ Some row → row.first ≤ length (placed b.tables b.current first).places
+    starts j row true z at = let e : row.first ≡ first = ap (λ (y : BlockOf). y.first) (some_same row new (sym at ∙ is_new j z)) ∙ is_first in let l : length ps ≡ first = long in omega arith
+    starts j row false z at = let lo : row.first ≤ length b.tables.places = d.starts j row (sym (more_other bs new j z) ∙ at) in let hi : length b.tables.places ≤ first = reach in let l : length ps ≡ first = long in omega arith
+
+    ranged : (i k : ℕ) → (slice_get b.tables.places i ≡ Some (Some k)) ⊎ ((Some k ≡ b.current) × (length b.tables.places ≤ i)) → k < length (b.tables.blocks ++ new ∷ [])
+    ranged i k (inl p) = let lt : k < length b.tables.blocks = d.ranged i k p in let m : length cs ≡ length b.tables.blocks + 1 = more in omega arith
+    ranged i k (inr p) = let lt : k < length b.tables.blocks = d.within k (sym p.0) in let m : length cs ≡ length b.tables.blocks + 1 = more in omega arith
+
+    -- from an old block outward there are old blocks
+    chain_ends : {k j : ℕ} → k < length b.tables.blocks → Chain (b.tables.blocks ++ new ∷ []) k j → j < length b.tables.blocks
+    chain_ends lt same = lt
+    chain_ends {k = k} lt (beyond {u = u} e rest) =
+        let f : around (slice_get bs k) ≡ Some u = sym (ap around (more_other bs new k (let P : nat_eq k (length b.tables.blocks) ≡ false = grind (arith, nat_tests) in P))) ∙ e in chain_ends (d.nested k u f) rest
+
+    holds : (i k j : ℕ) (row : BlockOf) (z : Bool) → nat_eq j (length b.tables.blocks) ≡ z → slice_get (b.tables.blocks ++ new ∷ []) j ≡ Some row → Chain (b.tables.blocks ++ new ∷ []) k j
+        → (slice_get b.tables.places i ≡ Some (Some k)) ⊎ ((Some k ≡ b.current) × (length b.tables.places ≤ i)) → (row.first ≤ i) × (IsOpen c j ⊎ (i < row.end))
+    holds i k j row true z at c' p = absurd (let e : j ≡ length b.tables.blocks = grind (arith, nat_tests) in let lt : j < length b.tables.blocks = chain_ends (old_place p) c' in omega arith)
+      where
+        old_place : (slice_get b.tables.places i ≡ Some (Some k)) ⊎ ((Some k ≡ b.current) × (length b.tables.places ≤ i)) → k < length b.tables.blocks
+        old_place (inl p) = d.ranged i k p
+        old_place (inr p) = d.within k (sym p.0)
+    holds i k j row false z at c' (inl p) = let h = d.holds i k j row p (sym (more_other bs new j z) ∙ at) (old_chain (d.ranged i k p) c') in (h.0, go h.1)
+      where
+        go : IsOpen b j ⊎ (i < row.end) → IsOpen c j ⊎ (i < row.end)
+        go (inl q) = inl (opens j q)
+        go (inr q) = inr q
+    holds i k j row false z at c' (inr p) =
+        let le : row.first ≤ length b.tables.places = d.starts j row (sym (more_other bs new j z) ∙ at) in
+        let lo : length b.tables.places ≤ i = p.1 in
+        (omega arith, inl (opens j (k, sym p.0, old_chain (d.within k (sym p.0)) c')))
+
 -- ---- a block ends
 
 closed_row : (b : BuildingOf) (end n from : ℕ) (o : Option BlockOf) → from ≤ end → b.current ≡ Some n → slice_get b.tables.blocks n ≡ o → (row : BlockOf) → o ≡ Some row → Deep b from → Deep (closed_at b end n o) end
@@ -281,6 +281,9 @@ closed_row b end n from (Some row) le cur at found is d = record {
   within = λ m e. (let lt : m < length bs = d.nested n m (ap around at ∙ e) in let z : length (slice_set b.tables.blocks n (record row { end = end })) ≡ length bs = length-set bs n (record row { end = end }) in omega arith);
   nested = λ t u e. (let lt : u < length bs = d.nested t u (sym (out t) ∙ e) in let z : length (slice_set b.tables.blocks n (record row { end = end })) ≡ length bs = length-set bs n (record row { end = end }) in omega arith);
   ends = λ j other at'. ends j other (nat_eq n j) refl at';
+  starts = λ j other at'. starts j other (nat_eq n j) refl at';
+  ranged = λ i k p. ranged i k (place_cases b.tables.places b.current (end - length b.tables.places) i (Some k) p);
+  holds = λ i k j other p at' c'. holds i k j other (nat_eq n j) refl at' c' (let lt : i < length (placed b.tables b.current end).places = slice_get_within (placed b.tables b.current end).places i (Some k) p in let e : length (placed b.tables b.current end).places ≡ end = long in omega arith) (place_cases b.tables.places b.current (end - length b.tables.places) i (Some k) p);
   deep = λ i k j other p at' lo h. deep i k j other (nat_eq n j) refl at' lo h (place_cases b.tables.places b.current (end - length b.tables.places) i (Some k) p);
 }
   where
@@ -351,6 +354,49 @@ closed_row b end n from (Some row) le cur at found is d = record {
         go (inr q) (inl e) = of_open e
         go (inr q) (inr e) = absurd (let lt : i < other.end = q in let hi : other.end ≤ length b.tables.places = e in let lo' : length b.tables.places ≤ i = p.1 in omega arith)
 
+    starts : (j : ℕ) (other : BlockOf) (z : Bool) → nat_eq n j ≡ z → slice_get (slice_set b.tables.blocks n (record row { end = end })) j ≡ Some other → other.first ≤ length (placed b.tables b.current end).places
+    starts j other true z at' =
+        let f : n ≡ j = grind (arith, nat_tests) in
+        let g : new ≡ other = some_same new other (sym (set_here bs n row new at) ∙ subst (λ m. slice_get cs m ≡ Some other) (sym f) at') in
+        let e : row.first ≡ other.first = ap (λ (y : BlockOf). y.first) g in
+        let lo : row.first ≤ length b.tables.places = d.starts n row at in
+        let hi : length b.tables.places ≤ from = d.reach in
+        let l : length (placed b.tables b.current end).places ≡ end = long in omega arith
+    starts j other false z at' =
+        let lo : other.first ≤ length b.tables.places = d.starts j other (sym (set_other bs n j new z) ∙ at') in
+        let hi : length b.tables.places ≤ from = d.reach in
+        let l : length (placed b.tables b.current end).places ≡ end = long in omega arith
+
+    ranged : (i k : ℕ) → (slice_get b.tables.places i ≡ Some (Some k)) ⊎ ((Some k ≡ b.current) × (length b.tables.places ≤ i)) → k < length (slice_set b.tables.blocks n (record row { end = end }))
+    ranged i k (inl p) = let lt : k < length bs = d.ranged i k p in let z : length (slice_set b.tables.blocks n (record row { end = end })) ≡ length bs = length-set bs n (record row { end = end }) in omega arith
+    ranged i k (inr p) = let lt : k < length bs = d.within k (sym p.0) in let z : length (slice_set b.tables.blocks n (record row { end = end })) ≡ length bs = length-set bs n (record row { end = end }) in omega arith
+
+    keep_back : (t u : ℕ) → around (slice_get (slice_set b.tables.blocks n (record row { end = end })) t) ≡ Some u → around (slice_get b.tables.blocks t) ≡ Some u
+    keep_back t u e = sym (out t) ∙ e
+
+    holds : (i k j : ℕ) (other : BlockOf) (z : Bool) → nat_eq n j ≡ z → slice_get (slice_set b.tables.blocks n (record row { end = end })) j ≡ Some other → Chain (slice_set b.tables.blocks n (record row { end = end })) k j → i < end
+        → (slice_get b.tables.places i ≡ Some (Some k)) ⊎ ((Some k ≡ b.current) × (length b.tables.places ≤ i)) → (other.first ≤ i) × (IsOpen (closed_at b end n (Some row)) j ⊎ (i < other.end))
+    holds i k j other true z at' c' lt p =
+        let f : n ≡ j = grind (arith, nat_tests) in
+        let g : new ≡ other = some_same new other (sym (set_here bs n row new at) ∙ subst (λ m. slice_get cs m ≡ Some other) (sym f) at') in
+        let e : row.first ≡ other.first = ap (λ (y : BlockOf). y.first) g in
+        let h : end ≡ other.end = ap (λ (y : BlockOf). y.end) g in
+        (from_first p (sym f) e, inr (omega (arith, lt, h)))
+      where
+        from_first : (slice_get b.tables.places i ≡ Some (Some k)) ⊎ ((Some k ≡ b.current) × (length b.tables.places ≤ i)) → j ≡ n → row.first ≡ other.first → other.first ≤ i
+        from_first (inl q) f e = let h = d.holds i k n row q at (subst (λ m. Chain bs k m) f (chain_kept cs bs keep_back c')) in let le : row.first ≤ i = h.0 in omega (arith, e)
+        from_first (inr q) f e = let le : row.first ≤ length b.tables.places = d.starts n row at in let lo : length b.tables.places ≤ i = q.1 in omega (arith, e)
+    holds i k j other false z at' c' lt (inl p) =
+        let h = d.holds i k j other p (sym (set_other bs n j new z) ∙ at') (chain_kept cs bs keep_back c') in (h.0, go h.1)
+      where
+        go : IsOpen b j ⊎ (i < other.end) → IsOpen (closed_at b end n (Some row)) j ⊎ (i < other.end)
+        go (inl q) = inl (opens j z q)
+        go (inr q) = inr q
+    holds i k j other false z at' c' lt (inr p) =
+        let le : other.first ≤ length b.tables.places = d.starts j other (sym (set_other bs n j new z) ∙ at') in
+        let lo : length b.tables.places ≤ i = p.1 in
+        (omega arith, inl (opens j z (k, sym p.0, chain_kept cs bs keep_back c')))
+
 row_in : (bs : List BlockOf) (n : ℕ) → n < length bs → (row : BlockOf) × (slice_get bs n ≡ Some row)
 row_in [] n lt = absurd (omega arith)
 row_in (b ∷ bs) zero lt = (b, refl)
@@ -364,7 +410,7 @@ closed_deep b end from (Some n) e le d = let r = row_in b.tables.blocks n (d.wit
 -- ---- the whole
 
 if_deep : (a : Bool) (b : BuildingOf) (token : ℕ) (rule : Rule) (from : ℕ) → Deep b from → Deep (broken_if a b token rule) from
-if_deep true b token rule from d = record { reach = d.reach; within = d.within; nested = d.nested; ends = d.ends; deep = d.deep }
+if_deep true b token rule from d = record { reach = d.reach; within = d.within; nested = d.nested; ends = d.ends; deep = d.deep; starts = d.starts; ranged = d.ranged; holds = d.holds }
 if_deep false b token rule from d = d
 
 opened_deep : (b : BuildingOf) (k : BlockKind) (text first from : ℕ) → from ≤ first → Deep b from → Deep (opened b k text first) (first + 1)
@@ -372,75 +418,73 @@ opened_deep b k text first from le d =
     if_deep (nat_lt most_levels (level_in k (block_around b.tables b.current))) _ text r.TooManyLevels (first + 1)
     (begun_deep b (record { kind = k; first = first; end = first; encloser = b.current; level = level_in k (block_around b.tables b.current); owner = owner_of k b.latest; formals = 0; inner = None; prefix = None; base = None; standard = None; names = []; numbers = []; has_class = false; brought_names = []; brought = []; protected = []; hidden = [] }) first from le refl refl refl d)
 
-parameter_calm : (b : BuildingOf) (x : Identifier) (o : Option ℕ) → b.current ≡ o → Calm b (parameter_of b x)
-parameter_calm b x None cur =
-    subst (λ z. Calm b (counted_in (declared_inside b x (entry.Unspecified None) z) (declared_inside b x (entry.Unspecified None) z).current)) (sym cur) (subst (λ z. Calm b (counted_in b z)) (sym cur) (nothing_calm b))
-parameter_calm b x (Some n) cur =
+parameter_still : (b : BuildingOf) (x : Identifier) → Still b (parameter_of b x)
+parameter_still b x =
     let c : BuildingOf = declared b x (entry.Unspecified None) in
-    calm b (parameter_of b x) (parameter_step b x n cur) (λ j. counted_spans c c.current j ∙ (declared_calm b x (entry.Unspecified None) b.current).spans j)
+    let m = declared_calm b x (entry.Unspecified None) in
+    let k = counted_still c c.current in
+    record { current = k.0 ∙ m.current; size = k.1 ∙ m.size; places = k.2 ∙ m.places; spans = λ j. counted_spans c c.current j ∙ ap placed_span (m.spans j) }
+  where
+    counted_still : (c : BuildingOf) (o : Option ℕ) → ((counted_in c o).current ≡ c.current) × (length (counted_in c o).tables.blocks ≡ length c.tables.blocks) × ((counted_in c o).tables.places ≡ c.tables.places)
+    counted_still c None = (refl, refl, refl)
+    counted_still c (Some n) = go (slice_get c.tables.blocks n)
+      where
+        go : (o : Option BlockOf) → ((counted c n o).current ≡ c.current) × (length (counted c n o).tables.blocks ≡ length c.tables.blocks) × ((counted c n o).tables.places ≡ c.tables.places)
+        go None = (refl, refl, refl)
+        go (Some row) = (refl, length-set c.tables.blocks n (record row { formals = length row.numbers }), refl)
 
-run_deep : {os : List Frame} {ms : List Mark} {l : List Spot} {xs : List Text} (b : BuildingOf) (from : ℕ) → Laid os ms l xs → Ascends from l → Deep b from → (to : ℕ) × Deep (run marked b ms) to
+calm_deep : (b c : BuildingOf) (from : ℕ) → Calm b c → Deep b from → Deep c from
+calm_deep b c from m d = still_deep b c from (calm_still b c m) d
+
+pub run_deep : {os : List Frame} {ms : List Mark} {l : List Spot} {hs : List Held} (b : BuildingOf) (from : ℕ) → Laid os ms l hs → Ascends from l → Deep b from → (to : ℕ) × Deep (run marked b ms) to
 unfolding run marked
 run_deep b from (nothing e) a d = (from, d)
 run_deep b from (uses x u i g) a d = run_deep b (i + 1) g a.1 (later_deep b from (i + 1) (let le : from ≤ i = a.0 in omega arith) d)
 run_deep b from (passes i g) a d = run_deep b (i + 1) g a.1 (later_deep b from (i + 1) (let le : from ≤ i = a.0 in omega arith) d)
 run_deep b from (leaves i g) a d = run_deep b i g a.1 (later_deep b from i a.0 d)
-run_deep b from (declares x e own g) a d =
-    run_deep (declared b x e) (x.token.0 + 1) g a.1 (later_deep (declared b x e) from (x.token.0 + 1) (let le : from ≤ x.token.0 = a.0 in omega arith) (calm_deep b (declared b x e) from (declared_calm b x e b.current) d))
+run_deep b from (declares {ms = ms} quals x e own q g) a d =
+    let c : BuildingOf = run marked (declared b x e) quals in
+    subst (λ z. (to : ℕ) × Deep z to) (sym (run_both (declared b x e) quals ms))
+    (run_deep c (x.token.0 + 1) g a.1 (later_deep c from (x.token.0 + 1) (let le : from ≤ x.token.0 = a.0 in omega arith)
+    (calm_deep (declared b x e) c from (quals_calm (declared b x e) (OfReferences e) quals q) (calm_deep b (declared b x e) from (declared_calm b x e) d))))
 run_deep b from (parameter x g) a d =
-    run_deep (parameter_of b x) (x.token.0 + 1) g a.1 (later_deep (parameter_of b x) from (x.token.0 + 1) (let le : from ≤ x.token.0 = a.0 in omega arith) (calm_deep b (parameter_of b x) from (parameter_calm b x b.current refl) d))
-run_deep b from (moded x g) a d =
-    run_deep _ from g a (calm_deep b _ from (quiet_calm b _ (moded_step b x.token (found_in b.tables b.current x.name)) (moded_quiet b x.token (found_in b.tables b.current x.name))) d)
-run_deep b from (specified x k ty p g) a d =
-    run_deep _ from g a (calm_deep b _ from (quiet_calm b _ (specified_met b x.token k ty (found_in b.tables b.current x.name) p) (specified_quiet (met b (found_in b.tables b.current x.name)) x.token k ty (found_in b.tables b.current x.name))) d)
-run_deep b from (headed x g) a d =
-    run_deep _ from g a (calm_deep b _ from (calm b _ (headed_step b x.token (unspecified_at b.tables (found_in b.tables b.current x.name))) (headed_spans (unspecified_at b.tables (found_in b.tables b.current x.name)))) d)
-  where
-    headed_spans : (o : Option _) (j : ℕ) → span (slice_get (headed_of b x.token o).tables.blocks j) ≡ span (slice_get b.tables.blocks j)
-    headed_spans None j = refl
-    headed_spans (Some w) j = refl
+    run_deep (parameter_of b x) (x.token.0 + 1) g a.1 (later_deep (parameter_of b x) from (x.token.0 + 1) (let le : from ≤ x.token.0 = a.0 in omega arith) (still_deep b (parameter_of b x) from (parameter_still b x) d))
+run_deep b from (moded x g) a d = run_deep _ from g a (calm_deep b _ from (moded_calm b x.token (found_in b.tables b.current x.name)) d)
+run_deep b from (specified {ms = ms} quals x k ty p q g) a d =
+    let c : BuildingOf = specified_of (met b (found_in b.tables b.current x.name)) x.token k ty (found_in b.tables b.current x.name) in
+    subst (λ z. (to : ℕ) × Deep z to) (sym (run_both c quals ms))
+    (run_deep (run marked c quals) from g a (calm_deep c (run marked c quals) from (quals_calm c (AreReferences ty) quals q) (calm_deep b c from (specified_calm b x.token k ty (found_in b.tables b.current x.name)) d)))
+run_deep b from (headed x g) a d = run_deep _ from g a (calm_deep b _ from (headed_calm b x.token (unspecified_at b.tables (found_in b.tables b.current x.name))) d)
+run_deep b from (inner_mark token g) a d = run_deep _ from g a (calm_deep b _ from (inner_calm b token b.current) d)
+run_deep b from (breaks_rule token rule g) a d = run_deep _ from g a (calm_deep b _ from (rule_calm b token rule) d)
 run_deep b from (program text i ds ss g) a d = run_deep (opened b kind.Program text i) (i + 1) g a.1 (opened_deep b kind.Program text i from a.0 d)
 run_deep b from (block text i ds ss y u g) a d = run_deep (opened b kind.SubBlock text i) (i + 1) g a.1 (opened_deep b kind.SubBlock text i from a.0 d)
-run_deep b from (procedure text result h body g) a d =
-    let e : Entry = entry.Procedure (result_named result) (length b.tables.blocks) in
+run_deep b from (connects text i v y u g) a d = run_deep (opened b kind.Connection text i) (i + 1) g a.1 (opened_deep b kind.Connection text i from a.0 d)
+run_deep b from (procedure {ms = ms} text quals result h body q g) a d =
+    let c0 : BuildingOf = declared b h.name (entry.Procedure (result_named result) (length b.tables.blocks)) in
+    let c : BuildingOf = run marked c0 quals in
     let i : ℕ = h.name.token.0 in
-    run_deep (opened (declared b h.name e) kind.Procedure text i) (i + 1) g a.1 (opened_deep (declared b h.name e) kind.Procedure text i from a.0 (calm_deep b (declared b h.name e) from (declared_calm b h.name e b.current) d))
+    subst (λ z. (to : ℕ) × Deep z to) (sym (run_both c0 quals (Opens kind.Procedure text i ∷ ms)))
+    (run_deep (opened c kind.Procedure text i) (i + 1) g a.1 (opened_deep c kind.Procedure text i from a.0
+    (calm_deep c0 c from (quals_calm c0 (AreReferences (result_named result)) quals q) (calm_deep b c0 from (declared_calm b h.name (entry.Procedure (result_named result) (length b.tables.blocks))) d))))
+run_deep b from (declares_class text h ds ss g) a d =
+    let c : BuildingOf = changed (declared b h.name (entry.Class (length b.tables.blocks))) holding_class b.current in
+    let i : ℕ = h.name.token.0 in
+    run_deep (opened c kind.Class text i) (i + 1) g a.1 (opened_deep c kind.Class text i from a.0 (calm_deep b c from (class_calm b h.name (entry.Class (length b.tables.blocks)) b.current) d))
 run_deep b from (closes x end g) a d = run_deep (closed b end b.current) end g a.1 (closed_deep b end from b.current refl a.0 d)
 
 nothing_deep : Deep empty 0
-nothing_deep = record { reach = omega arith; within = λ n e. absurd (cc); nested = λ t u e. absurd (cc); ends = λ j row e. absurd (cc); deep = λ i k j row e at. absurd (cc) }
+nothing_deep = record {
+  reach = omega arith;
+  within = λ n e. absurd (cc);
+  nested = λ t u e. absurd (cc);
+  ends = λ j row e. absurd (cc);
+  deep = λ i k j row e at. absurd (cc);
+  starts = λ j row e. absurd (cc);
+  ranged = λ i k e. absurd (cc);
+  holds = λ i k j row e at c. absurd (cc);
+}
 
-program_deep : (p : Program) → Plain p → InOrder p → (to : ℕ) × Deep (declared_by p) to
+pub program_deep : (p : Program) → Plain p → InOrder p → (to : ℕ) × Deep (declared_by p) to
 unfolding declared_by
 program_deep p q order = run_deep empty 0 (program_laid p q) order nothing_deep
-
-module _ (s : Source) (is : s.tables ≡ (declared_by s.program).tables) (plain : Plain s.program) (order : InOrder s.program) where
-  chain_around : {k j : ℕ} → Chain (declared_by s.program).tables.blocks k j → Around s.tables k j
-  unfolding encloser
-  chain_around same = itself
-  chain_around (beyond {k = k} e c) = further (ap (λ (z : Tables). around (slice_get z.blocks k)) is ∙ e) (chain_around c)
-
-  -- a block whose text has the token is around the innermost block of the token
-  pub inside : (token k j : ℕ) → block_at s.tables token ≡ Some k → is_inside s.tables token j ≡ true → Around s.tables k j
-  unfolding block_at is_inside
-  inside token k j at has = go (slice_get T.places token) refl (sym (ap (λ (z : Tables). joined (slice_get z.places token)) is) ∙ at) (slice_get T.blocks j) refl (sym (ap (λ (z : Tables). inside_block token (slice_get z.blocks j)) is) ∙ has)
-    where
-      T : Tables
-      T = (declared_by s.program).tables
-
-      low_high : (f e : ℕ) → (nat_le f token && nat_lt token e) ≡ true → (f ≤ token) × (token < e)
-      low_high f e h = both (nat_le f token) (nat_lt token e) refl refl h
-        where
-          both : (a b : Bool) → nat_le f token ≡ a → nat_lt token e ≡ b → (a && b) ≡ true → (f ≤ token) × (token < e)
-          both true true p q h = ((let P : f ≤ token = grind (arith, nat_tests) in P), (let P : token < e = grind (arith, nat_tests) in P))
-          both true false p q h = absurd (cc)
-          both false b p q h = absurd (cc)
-
-      go : (o : Option (Option ℕ)) → slice_get T.places token ≡ o → joined o ≡ Some k → (r : Option BlockOf) → slice_get T.blocks j ≡ r → inside_block token r ≡ true → Around s.tables k j
-      go None e f r g h = absurd (cc)
-      go (Some None) e f r g h = absurd (cc)
-      go (Some (Some m)) e f None g h = absurd (cc)
-      go (Some (Some m)) e f (Some row) g h =
-          let d = (program_deep s.program plain order).1 in
-          let q = low_high row.first row.end h in
-          chain_around (d.deep token k j row (e ∙ ap Some f) g q.0 (inr q.1))

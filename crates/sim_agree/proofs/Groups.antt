@@ -1,13 +1,15 @@
 -- The marks of a plain program, with the texts that they open: the walk over the syntax, once for all that is said of its tables.
-use Rattle.std.proofs.Common.{◌≡◌, ℕ, List, [], ◌∷◌, ◌++◌, length, Option, Some, None, refl, sym, ap, ◌∙◌, subst, append-nil, append_assoc}
+use Rattle.std.proofs.Common.{◌≡◌, ◌⊎◌, inl, inr, ℕ, Bool, true, false, List, [], ◌∷◌, ◌++◌, length, Option, Some, None, refl, sym, ap, ◌∙◌, subst, append-nil, append_assoc}
 use Rattle.sim_tree.specs.declared.expr.Identifier.{Identifier}
 use Rattle.sim_tree.specs.declared.stmt.Mode.{Mode as Word}
 use Rattle.sim_tree.specs.declared.stmt.Mode.TheVariants as word
 use Rattle.sim_tree.specs.declared.stmt.TypeName.{TypeName}
 use Rattle.sim_tree.specs.declared.stmt.TypeName.TheVariants as type_name
 use Rattle.sim_tree.specs.declared.stmt.Variable.{Variable}
-use Rattle.sim_tree.specs.Syntax.{Also, Arrayed, Arrays, Begin, Block, Declaration, Declarations, DeclareClass, DeclareProcedure, Heading, Moded as ModePart, NoDeclaration, NoStatement, Prefix, Program, Specification, Specified as Specifier, Statement, Statements, Variables, With}
+use Rattle.sim_tree.specs.Syntax.{Also, Arms, Arrayed, Arrays, Begin, Block, Compound, Declarations, DeclareClass, DeclareProcedure, Heading, Interface, Moded as ModePart, NoArm, NoDeclaration, NoStatement, Prefix, Program, Specification, Specified as Specifier, Statement, Statements, Variables, When, With}
 use Rattle.sim_tree.specs.Syntax as syntax
+use Rattle.sim_base.specs.declared.rule.Rule.{Rule}
+use Rattle.sim_base.specs.declared.rule.Rule.TheVariants as r
 use Rattle.sim_scope.specs.declared.types.BlockKind.{BlockKind}
 use Rattle.sim_scope.specs.declared.types.BlockKind.TheVariants as kind
 use Rattle.sim_scope.specs.declared.types.Entry.{Entry}
@@ -15,17 +17,19 @@ use Rattle.sim_scope.specs.declared.types.Entry.TheVariants as entry
 use Rattle.sim_scope.specs.declared.types.FormalKind.{FormalKind}
 use Rattle.sim_scope.specs.declared.types.FormalKind.TheVariants as shape
 use Rattle.sim_scope.specs.declared.types.Mode.TheVariants as mode
-use Rattle.sim_scope.specs.declared.types.Position.TheVariants.{Inside}
+use Rattle.sim_scope.specs.declared.types.Position.{Position}
+use Rattle.sim_scope.specs.declared.types.Position.TheVariants.{ClassBody, ClassStatement, Inside}
 use Rattle.sim_scope.specs.declared.types.SimType.{SimType}
 use Rattle.sim_scope.specs.declared.types.SimType.TheVariants as t
-use Rattle.sim_scope.specs.Building.{Closes, Declares, DeclaresProcedure, Headed, Mark, Moded, Opens, Parameter, Specified}
-use Rattle.sim_scope.specs.Declare.{array_marks, declaring, first_of_procedure, headed_marks, heading_marks, mode_named, mode_part_marks, moded_marks, parameter_marks, procedure_marks, program_marks, qualified_marks, qualified_result, result_named, segment_marks, specification_marks, specified_marks, type_named, variable_marks}
+use Rattle.sim_scope.specs.Bodies.{body_declarations, body_statements}
+use Rattle.sim_scope.specs.Building.{Breaks, Closes, Declares, DeclaresClass, DeclaresProcedure, Headed, Inner, Mark, Moded, Opens, Parameter, Qualifies, Specified}
+use Rattle.sim_scope.specs.Declare.{array_marks, class_marks, class_prefix_marks, declaring, first_of_class, first_of_procedure, headed_marks, heading_marks, inner_marks, interface_marks, mode_named, mode_part_marks, moded_marks, parameter_marks, procedure_marks, program_marks, protection_marks, qualified_marks, qualified_result, result_named, segment_marks, specification_marks, specified_marks, type_named, variable_marks, virtual_marks}
 use Rattle.sim_scope.specs.Runs.{each}
-use Rattle.sim_scope.specs.Walk.{begin_of, block_events, declaration_events, declarations_events, program_events, statement_events, statements_events, whole_events}
-use Rattle.sim_meaning.specs.Texts.{BlockText, ProcedureText, Text, block_texts, declaration_texts, declarations_texts, program_texts, statement_texts, statements_texts}
-use Rattle.sim_agree.specs.Plain.{Each, Plain, PlainBlock, PlainDeclarations, PlainHeading, PlainMode, PlainResult, PlainSpecification, PlainStatement, PlainStatements, PlainType, PlainWord}
+use Rattle.sim_scope.specs.Walk.{arms_events, begin_of, block_events, declaration_events, declarations_events, program_events, statement_events, statements_events, whole_events}
+use Rattle.sim_meaning.specs.Texts.{BlockText, ClassText, ConnectionText, ProcedureText, Text, arms_texts, block_texts, declaration_texts, declarations_texts, program_texts, statement_texts, statements_texts}
+use Rattle.sim_agree.specs.Plain.{Each, Plain, PlainArms, PlainBlock, PlainDeclarations, PlainHeading, PlainInterface, PlainMode, PlainSpecification, PlainStatement, PlainStatements, PlainWord}
 
--- what a block declares itself, but for its procedures
+-- what a block or a class declares itself, but for its parameters, procedures and classes
 unfoldable pub own_variable : TypeName → Variable → List Mark
 own_variable type v = (elim v.value [ None ↦ Declares v.name (entry.Variable (type_named type)) ∷ [] | Some c ↦ Declares v.name (entry.Constant (type_named type)) ∷ [] ])
 
@@ -42,7 +46,7 @@ own_marks (With (Arrays type i segments) ds) = each (own_segment type) segments 
 own_marks (With (DeclareProcedure result i h a end) ds) = own_marks ds
 own_marks (With (DeclareClass prefix i h interface a end) ds) = own_marks ds
 
--- a text that is open, with the marks that are still to come in it: of a block its own declarations, of a procedure the ends of its heading
+-- a text that is open, with the marks that are still to come in it: the ends of its heading, then its own declarations
 pub record Open : Type 0 where
   pub text : Text
   pub owed : List Mark
@@ -50,23 +54,34 @@ pub record Open : Type 0 where
 abbrev pub item : Text → List Mark → Open
 item x owed = record { text = x; owed = owed }
 
--- what is declared in a block is a variable, a constant or an array of a plain type
-abbrev pub PlainSimType : SimType → Type 0
-PlainSimType t.Integer = Unit {0}
-PlainSimType t.Boolean = Unit {0}
-PlainSimType t.Character = Unit {0}
-PlainSimType t.Text = Unit {0}
-PlainSimType _ = ⊥
+-- what a text declares, but for its parameters
+abbrev pub declared_in_text : Text → Declarations
+declared_in_text (BlockText i ds ss) = ds
+declared_in_text (ClassText prefix h ds ss) = ds
+declared_in_text _ = NoDeclaration
 
+-- a block or a class
+abbrev pub Declaring : Text → Type 0
+Declaring (BlockText i ds ss) = Unit {0}
+Declaring (ClassText prefix h ds ss) = Unit {0}
+Declaring _ = ⊥
+
+-- a procedure or a class
+abbrev pub Taking : Text → Type 0
+Taking (ProcedureText result h a) = Unit {0}
+Taking (ClassText prefix h ds ss) = Unit {0}
+Taking _ = ⊥
+
+-- a variable, a constant or an array
 abbrev pub OwnEntry : Entry → Type 0
-OwnEntry (entry.Variable ty) = PlainSimType ty
-OwnEntry (entry.Constant ty) = PlainSimType ty
-OwnEntry (entry.Array ty n) = PlainSimType ty
+OwnEntry (entry.Variable ty) = Unit {0}
+OwnEntry (entry.Constant ty) = Unit {0}
+OwnEntry (entry.Array ty n) = Unit {0}
 OwnEntry _ = ⊥
 
 abbrev pub PlainFormal : FormalKind → Option SimType → Type 0
-PlainFormal shape.Simple (Some ty) = PlainSimType ty
-PlainFormal shape.Array (Some ty) = PlainSimType ty
+PlainFormal shape.Simple (Some ty) = Unit {0}
+PlainFormal shape.Array (Some ty) = Unit {0}
 PlainFormal _ _ = ⊥
 
 abbrev pub PlainKind : BlockKind → Type 0
@@ -74,28 +89,89 @@ PlainKind kind.Program = Unit {0}
 PlainKind kind.SubBlock = Unit {0}
 PlainKind _ = ⊥
 
+-- what is of references
+abbrev pub IsReference : SimType → Type 0
+IsReference t.NoneType = Unit {0}
+IsReference (t.Ref class) = Unit {0}
+IsReference _ = ⊥
+
+abbrev pub AreReferences : Option SimType → Type 0
+AreReferences None = ⊥
+AreReferences (Some ty) = IsReference ty
+
+abbrev pub OfReferences : Entry → Type 0
+OfReferences (entry.Variable ty) = IsReference ty
+OfReferences (entry.Constant ty) = IsReference ty
+OfReferences (entry.Array ty n) = IsReference ty
+OfReferences (entry.Procedure result k) = AreReferences result
+OfReferences (entry.Formal f) = AreReferences f.ty
+OfReferences _ = ⊥
+
+-- behind what is of references stands the class that is written for them
+pub data Quals (References : Type 0) : List Mark → Type 0 where
+  unqualified : (References → ⊥) → Quals References []
+  qualifies : (class : Identifier) → References → Quals References (Qualifies class ∷ [])
+
+-- an identifier is one of these
+abbrev pub NamedAmong : Identifier → List Identifier → Type 0
+NamedAmong y [] = ⊥
+NamedAmong y (x ∷ xs) = (y ≡ x) ⊎ NamedAmong y xs
+
+abbrev pub NamedIn : Identifier → List Arrayed → Type 0
+NamedIn y [] = ⊥
+NamedIn y (a ∷ more) = NamedAmong y a.names ⊎ NamedIn y more
+
+-- an array is declared here, by a type behind which these marks stand
+abbrev pub ArrayWritten : Identifier → List Mark → Declarations → Type 0
+ArrayWritten y quals NoDeclaration = ⊥
+ArrayWritten y quals (With (Arrays type i segments) ds) = (NamedIn y segments × (qualified_marks type ≡ quals)) ⊎ ArrayWritten y quals ds
+ArrayWritten y quals (With (Variables type vs) ds) = ArrayWritten y quals ds
+ArrayWritten y quals (With (DeclareProcedure result i h a end) ds) = ArrayWritten y quals ds
+ArrayWritten y quals (With (DeclareClass prefix i h interface a end) ds) = ArrayWritten y quals ds
+
+-- of what is no array nothing is said
+abbrev pub Written : Entry → Identifier → List Mark → Declarations → Type 0
+Written (entry.Array ty n) y quals ds = ArrayWritten y quals ds
+Written _ y quals ds = Unit {0}
+
+-- no rule is broken whatever the tables are
+abbrev pub NoBreaks : List Mark → Type 0
+NoBreaks [] = Unit {0}
+NoBreaks (Breaks token rule ∷ ms) = ⊥
+NoBreaks (_ ∷ ms) = NoBreaks ms
+
 pub data Has (m : Mark) : List Mark → Type 0 where
   here : {ms : List Mark} → Has m (m ∷ ms)
   there : {n : Mark} {ms : List Mark} → Has m ms → Has m (n ∷ ms)
+
+-- the heading has come to its end
+abbrev pub NoHeaded : List Mark → Type 0
+NoHeaded owed = (y : Identifier) → Has (Headed y) owed → ⊥
 
 -- Marks that lead from open texts to none, and the texts that they open.
 pub data Grouped : List Open → List Mark → List Text → Type 0 where
   nothing : {os : List Open} → os ≡ [] → Grouped os [] []
   block : {os : List Open} {ms : List Mark} {xs : List Text} (k : BlockKind) (text first i : ℕ) (ds : Declarations) (ss : Statements) → PlainKind k
       → Grouped (item (BlockText i ds ss) (own_marks ds) ∷ os) ms xs → Grouped os (Opens k text first ∷ ms) (BlockText i ds ss ∷ xs)
-  procedure : {os : List Open} {ms : List Mark} {xs : List Text} (text first i : ℕ) (ds : Declarations) (ss : Statements) (owed : List Mark) (result : Option TypeName) (h : Heading) (a : Statement) → PlainResult result
-      → Grouped (item (ProcedureText result h a) (each headed_marks h.formals) ∷ item (BlockText i ds ss) owed ∷ os) ms xs
-      → Grouped (item (BlockText i ds ss) owed ∷ os) (DeclaresProcedure h.name (result_named result) ∷ Opens kind.Procedure text first ∷ ms) (ProcedureText result h a ∷ xs)
-  declares : {os : List Open} {ms : List Mark} {xs : List Text} (i : ℕ) (ds : Declarations) (ss : Statements) (owed : List Mark) (x : Identifier) (e : Entry) → OwnEntry e
-      → Grouped (item (BlockText i ds ss) owed ∷ os) ms xs → Grouped (item (BlockText i ds ss) (Declares x e ∷ owed) ∷ os) (Declares x e ∷ ms) xs
-  parameter : {os : List Open} {ms : List Mark} {xs : List Text} (result : Option TypeName) (h : Heading) (a : Statement) (owed : List Mark) (x : Identifier) → Has (Headed x) owed
-      → Grouped (item (ProcedureText result h a) owed ∷ os) ms xs → Grouped (item (ProcedureText result h a) owed ∷ os) (Parameter x ∷ ms) xs
-  moded : {os : List Open} {ms : List Mark} {xs : List Text} (result : Option TypeName) (h : Heading) (a : Statement) (owed : List Mark) (x : Identifier)
-      → Grouped (item (ProcedureText result h a) owed ∷ os) ms xs → Grouped (item (ProcedureText result h a) owed ∷ os) (Moded x mode.ByValue ∷ ms) xs
-  specified : {os : List Open} {ms : List Mark} {xs : List Text} (result : Option TypeName) (h : Heading) (a : Statement) (owed : List Mark) (x : Identifier) (k : FormalKind) (ty : Option SimType) → PlainFormal k ty
-      → Grouped (item (ProcedureText result h a) owed ∷ os) ms xs → Grouped (item (ProcedureText result h a) owed ∷ os) (Specified x k ty ∷ ms) xs
-  headed : {os : List Open} {ms : List Mark} {xs : List Text} (result : Option TypeName) (h : Heading) (a : Statement) (owed : List Mark) (x : Identifier)
-      → Grouped (item (ProcedureText result h a) owed ∷ os) ms xs → Grouped (item (ProcedureText result h a) (Headed x ∷ owed) ∷ os) (Headed x ∷ ms) xs
+  connects : {os : List Open} {ms : List Mark} {xs : List Text} (text first : ℕ)
+      → Grouped (item ConnectionText [] ∷ os) ms xs → Grouped os (Opens kind.Connection text first ∷ ms) (ConnectionText ∷ xs)
+  procedure : {os : List Open} {ms : List Mark} {xs : List Text} (text first : ℕ) (x : Text) (owed quals : List Mark) (result : Option TypeName) (h : Heading) (a : Statement) → Declaring x → NoHeaded owed → Quals (AreReferences (result_named result)) quals
+      → Grouped (item (ProcedureText result h a) (each headed_marks h.formals ++ []) ∷ item x owed ∷ os) ms xs
+      → Grouped (item x owed ∷ os) (DeclaresProcedure h.name (result_named result) ∷ (quals ++ Opens kind.Procedure text first ∷ ms)) (ProcedureText result h a ∷ xs)
+  declares_class : {os : List Open} {ms : List Mark} {xs : List Text} (text first : ℕ) (x : Text) (owed : List Mark) (h : Heading) (ds : Declarations) (ss : Statements) → Declaring x → NoHeaded owed
+      → Grouped (item (ClassText None h ds ss) (each headed_marks h.formals ++ own_marks ds) ∷ item x owed ∷ os) ms xs
+      → Grouped (item x owed ∷ os) (DeclaresClass h.name ∷ Opens kind.Class text first ∷ ms) (ClassText None h ds ss ∷ xs)
+  declares : {os : List Open} {ms : List Mark} {xs : List Text} (x : Text) (owed quals : List Mark) (y : Identifier) (e : Entry) → Declaring x → NoHeaded owed → OwnEntry e → Quals (OfReferences e) quals → Written e y quals (declared_in_text x)
+      → Grouped (item x owed ∷ os) ms xs → Grouped (item x (Declares y e ∷ owed) ∷ os) (Declares y e ∷ (quals ++ ms)) xs
+  parameter : {os : List Open} {ms : List Mark} {xs : List Text} (x : Text) (owed : List Mark) (y : Identifier) → Taking x → Has (Headed y) owed
+      → Grouped (item x owed ∷ os) ms xs → Grouped (item x owed ∷ os) (Parameter y ∷ ms) xs
+  moded : {os : List Open} {ms : List Mark} {xs : List Text} (y : Identifier) → Grouped os ms xs → Grouped os (Moded y mode.ByValue ∷ ms) xs
+  specified : {os : List Open} {ms : List Mark} {xs : List Text} (quals : List Mark) (y : Identifier) (k : FormalKind) (ty : Option SimType) → PlainFormal k ty → Quals (AreReferences ty) quals
+      → Grouped os ms xs → Grouped os (Specified y k ty ∷ (quals ++ ms)) xs
+  headed : {os : List Open} {ms : List Mark} {xs : List Text} (x : Text) (owed : List Mark) (y : Identifier)
+      → Grouped (item x owed ∷ os) ms xs → Grouped (item x (Headed y ∷ owed) ∷ os) (Headed y ∷ ms) xs
+  inner_mark : {os : List Open} {ms : List Mark} {xs : List Text} (token : ℕ) → Grouped os ms xs → Grouped os (Inner token ∷ ms) xs
+  breaks_rule : {os : List Open} {ms : List Mark} {xs : List Text} (token : ℕ) (rule : Rule) → Grouped os ms xs → Grouped os (Breaks token rule ∷ ms) xs
   closes : {os : List Open} {ms : List Mark} {xs : List Text} (x : Text) (end : ℕ) → Grouped os ms xs → Grouped (item x [] ∷ os) (Closes end ∷ ms) xs
 
 -- What stands in front leads from some open texts to others.
@@ -110,139 +186,186 @@ both {os = os} {es = es} {fs = fs} {ns = ns} {ks = ks} a b = record {
 pub none : {os : List Open} → Adds os [] [] os
 none = record { before = λ ms xs g. g }
 
--- ---- types without references have no qualification
+-- ---- references are qualified
 
-pub unqualified : (type : TypeName) → PlainType type → qualified_marks type ≡ []
-unfolding qualified_marks
-unqualified (type_name.Integer i) p = refl
-unqualified (type_name.Boolean i) p = refl
-unqualified (type_name.Character i) p = refl
-unqualified (type_name.Text i) p = refl
-unqualified (type_name.Reference i class) p = absurd p
+pub quals_of_type : (type : TypeName) → Quals (IsReference (type_named type)) (qualified_marks type)
+unfolding qualified_marks type_named
+quals_of_type (type_name.Integer i) = unqualified (λ r. r)
+quals_of_type (type_name.Boolean i) = unqualified (λ r. r)
+quals_of_type (type_name.Character i) = unqualified (λ r. r)
+quals_of_type (type_name.Text i) = unqualified (λ r. r)
+quals_of_type (type_name.Reference i class) = qualifies class tt
 
-pub unqualified_result : (result : Option TypeName) → PlainResult result → qualified_result result ≡ []
-unfolding qualified_result
-unqualified_result None p = refl
-unqualified_result (Some type) p = unqualified type p
+pub quals_of_result : (result : Option TypeName) → Quals (AreReferences (result_named result)) (qualified_result result)
+unfolding qualified_result result_named
+quals_of_result None = unqualified (λ r. r)
+quals_of_result (Some type) = quals_of_type type
 
--- ---- declarations of a block
+-- ---- what is owed behind a heading
 
-module _ (i : ℕ) (all : Declarations) (ss : Statements) (os : List Open) where
+pub has_split : {m : Mark} (xs ys : List Mark) → Has m (xs ++ ys) → Has m xs ⊎ Has m ys
+has_split [] ys h = inr h
+has_split (x ∷ xs) ys here = inl here
+has_split {m = m} (x ∷ xs) ys (there h) = go (has_split xs ys h)
+  where
+    go : Has m xs ⊎ Has m ys → Has m (x ∷ xs) ⊎ Has m ys
+    go (inl q) = inl (there q)
+    go (inr q) = inr q
+
+pub has_cases : {m k : Mark} {ms : List Mark} → Has m (k ∷ ms) → (m ≡ k) ⊎ Has m ms
+has_cases here = inl refl
+has_cases (there q) = inr q
+
+no_headed_both : (xs ys : List Mark) → NoHeaded xs → NoHeaded ys → NoHeaded (xs ++ ys)
+no_headed_both xs ys a b y h = go (has_split xs ys h)
+  where
+    go : Has (Headed y) xs ⊎ Has (Headed y) ys → ⊥
+    go (inl q) = a y q
+    go (inr q) = b y q
+
+no_headed_one : (z : Identifier) (e : Entry) → NoHeaded (Declares z e ∷ [])
+no_headed_one z e y h = go (has_cases h)
+  where
+    go : (Headed y ≡ Declares z e) ⊎ Has (Headed y) [] → ⊥
+    go (inl q) = cc
+    go (inr q) = elim q [ ]
+
+no_headed_more : (z : Identifier) (e : Entry) (owed : List Mark) → NoHeaded owed → NoHeaded (Declares z e ∷ owed)
+no_headed_more z e owed n = no_headed_both (Declares z e ∷ []) owed (no_headed_one z e) n
+
+no_headed_none : NoHeaded []
+no_headed_none y h = elim h [ ]
+
+no_headed_variable : (type : TypeName) (v : Variable) → NoHeaded (own_variable type v)
+unfolding own_variable
+no_headed_variable type v = elim v.value as (λ o. NoHeaded (elim o [ None ↦ Declares v.name (entry.Variable (type_named type)) ∷ [] | Some c ↦ Declares v.name (entry.Constant (type_named type)) ∷ [] ]))
+    [ None ↦ no_headed_one v.name (entry.Variable (type_named type)) | Some c ↦ no_headed_one v.name (entry.Constant (type_named type)) ]
+
+no_headed_variables : (type : TypeName) (vs : List Variable) → NoHeaded (each (own_variable type) vs)
+no_headed_variables type [] = no_headed_none
+no_headed_variables type (v ∷ vs) = no_headed_both (own_variable type v) (each (own_variable type) vs) (no_headed_variable type v) (no_headed_variables type vs)
+
+no_headed_array : (type : TypeName) (n : ℕ) (xs : List Identifier) → NoHeaded (each (own_array type n) xs)
+unfolding own_array
+no_headed_array type n [] = no_headed_none
+no_headed_array type n (x ∷ xs) = no_headed_more x (entry.Array (type_named type) n) (each (own_array type n) xs) (no_headed_array type n xs)
+
+no_headed_segments : (type : TypeName) (as_ : List Arrayed) → NoHeaded (each (own_segment type) as_)
+no_headed_segments type [] = no_headed_none
+no_headed_segments type (a ∷ as_) = no_headed_both (own_segment type a) (each (own_segment type) as_) (no_headed_array type (length a.bounds) a.names) (no_headed_segments type as_)
+
+pub no_headed_own : (ds : Declarations) → NoHeaded (own_marks ds)
+no_headed_own NoDeclaration = no_headed_none
+no_headed_own (With (Variables type vs) ds) = no_headed_both (each (own_variable type) vs) (own_marks ds) (no_headed_variables type vs) (no_headed_own ds)
+no_headed_own (With (Arrays type i segments) ds) = no_headed_both (each (own_segment type) segments) (own_marks ds) (no_headed_segments type segments) (no_headed_own ds)
+no_headed_own (With (DeclareProcedure result i h a end) ds) = no_headed_own ds
+no_headed_own (With (DeclareClass prefix i h interface a end) ds) = no_headed_own ds
+
+-- ---- declarations of a block or a class
+
+module _ (x : Text) (declares_some : Declaring x) (os : List Open) where
   abbrev In : List Mark → List Open
-  In owed = item (BlockText i all ss) owed ∷ os
+  In owed = item x owed ∷ os
 
-  pub plain_named : (type : TypeName) → PlainType type → PlainSimType (type_named type)
-  unfolding type_named
-  plain_named (type_name.Integer j) p = tt
-  plain_named (type_name.Boolean j) p = tt
-  plain_named (type_name.Character j) p = tt
-  plain_named (type_name.Text j) p = tt
-  plain_named (type_name.Reference j class) p = absurd p
+  one_typed : (type : TypeName) (y : Identifier) (e : Entry) (owed : List Mark) → NoHeaded owed → OwnEntry e → Quals (OfReferences e) (qualified_marks type) → Written e y (qualified_marks type) (declared_in_text x) → Adds (In (Declares y e ∷ owed)) (Declares y e ∷ qualified_marks type) [] (In owed)
+  one_typed type y e owed n own q w = record { before = λ ms xs g. declares x owed (qualified_marks type) y e declares_some n own q w g }
 
-  one : (x : Identifier) (e : Entry) (owed : List Mark) → OwnEntry e → Adds (In (Declares x e ∷ owed)) (Declares x e ∷ []) [] (In owed)
-  one x e owed own = record { before = λ ms xs g. declares i all ss owed x e own g }
-
-  one_typed : (type : TypeName) → PlainType type → (x : Identifier) (e : Entry) (owed : List Mark) → OwnEntry e → Adds (In (Declares x e ∷ owed)) (Declares x e ∷ qualified_marks type) [] (In owed)
-  one_typed type p x e owed own = subst (λ z. Adds (In (Declares x e ∷ owed)) (Declares x e ∷ z) [] (In owed)) (sym (unqualified type p)) (one x e owed own)
-
-  variable_adds : (type : TypeName) → PlainType type → (v : Variable) (owed : List Mark) → Adds (In (own_variable type v ++ owed)) (variable_marks type v) [] (In owed)
+  variable_adds : (type : TypeName) (v : Variable) (owed : List Mark) → NoHeaded owed → Adds (In (own_variable type v ++ owed)) (variable_marks type v) [] (In owed)
   unfolding own_variable variable_marks
-  variable_adds type p v owed = elim v.value as (λ o. Adds (In ((elim o [ None ↦ Declares v.name (entry.Variable (type_named type)) ∷ [] | Some c ↦ Declares v.name (entry.Constant (type_named type)) ∷ [] ]) ++ owed)) (elim o [ None ↦ Declares v.name (entry.Variable (type_named type)) ∷ qualified_marks type | Some c ↦ Declares v.name (entry.Constant (type_named type)) ∷ qualified_marks type ]) [] (In owed))
-      [ None ↦ one_typed type p v.name (entry.Variable (type_named type)) owed (plain_named type p) | Some c ↦ one_typed type p v.name (entry.Constant (type_named type)) owed (plain_named type p) ]
+  variable_adds type v owed n = elim v.value as (λ o. Adds (In ((elim o [ None ↦ Declares v.name (entry.Variable (type_named type)) ∷ [] | Some c ↦ Declares v.name (entry.Constant (type_named type)) ∷ [] ]) ++ owed)) (elim o [ None ↦ Declares v.name (entry.Variable (type_named type)) ∷ qualified_marks type | Some c ↦ Declares v.name (entry.Constant (type_named type)) ∷ qualified_marks type ]) [] (In owed))
+      [ None ↦ one_typed type v.name (entry.Variable (type_named type)) owed n tt (quals_of_type type) tt | Some c ↦ one_typed type v.name (entry.Constant (type_named type)) owed n tt (quals_of_type type) tt ]
 
-  variables_add : (type : TypeName) → PlainType type → (vs : List Variable) (owed : List Mark) → Adds (In (each (own_variable type) vs ++ owed)) (each (variable_marks type) vs) [] (In owed)
-  variables_add type p [] owed = none
-  variables_add type p (v ∷ vs) owed =
+  variables_add : (type : TypeName) (vs : List Variable) (owed : List Mark) → NoHeaded owed → Adds (In (each (own_variable type) vs ++ owed)) (each (variable_marks type) vs) [] (In owed)
+  variables_add type [] owed n = none
+  variables_add type (v ∷ vs) owed n =
       subst (λ z. Adds (In z) (variable_marks type v ++ each (variable_marks type) vs) [] (In owed)) (sym (append_assoc (own_variable type v) (each (own_variable type) vs) owed))
-      (both (variable_adds type p v (each (own_variable type) vs ++ owed)) (variables_add type p vs owed))
+      (both (variable_adds type v (each (own_variable type) vs ++ owed) (no_headed_both (each (own_variable type) vs) owed (no_headed_variables type vs) n)) (variables_add type vs owed n))
 
-  array_adds : (type : TypeName) → PlainType type → (n : ℕ) (xs : List Identifier) (owed : List Mark) → Adds (In (each (own_array type n) xs ++ owed)) (each (array_marks type n) xs) [] (In owed)
+  array_adds : (type : TypeName) (n : ℕ) (xs : List Identifier) (owed : List Mark) → NoHeaded owed → ((y : Identifier) → NamedAmong y xs → ArrayWritten y (qualified_marks type) (declared_in_text x)) → Adds (In (each (own_array type n) xs ++ owed)) (each (array_marks type n) xs) [] (In owed)
   unfolding own_array array_marks
-  array_adds type p n [] owed = none
-  array_adds type p n (x ∷ xs) owed = both (one_typed type p x (entry.Array (type_named type) n) (each (own_array type n) xs ++ owed) (plain_named type p)) (array_adds type p n xs owed)
+  array_adds type n [] owed free w = none
+  array_adds type n (y ∷ ys) owed free w =
+      both (one_typed type y (entry.Array (type_named type) n) (each (own_array type n) ys ++ owed) (no_headed_both (each (own_array type n) ys) owed (no_headed_array type n ys) free) tt (quals_of_type type) (w y (inl refl))) (array_adds type n ys owed free (λ z p. w z (inr p)))
 
-  segments_add : (type : TypeName) → PlainType type → (xs : List Arrayed) (owed : List Mark) → Adds (In (each (own_segment type) xs ++ owed)) (each (segment_marks type) xs) [] (In owed)
-  segments_add type p [] owed = none
-  segments_add type p (x ∷ xs) owed =
-      subst (λ z. Adds (In z) (segment_marks type x ++ each (segment_marks type) xs) [] (In owed)) (sym (append_assoc (own_segment type x) (each (own_segment type) xs) owed))
-      (both (array_adds type p (length x.bounds) x.names (each (own_segment type) xs ++ owed)) (segments_add type p xs owed))
+  segments_add : (type : TypeName) (ys : List Arrayed) (owed : List Mark) → NoHeaded owed → ((y : Identifier) → NamedIn y ys → ArrayWritten y (qualified_marks type) (declared_in_text x)) → Adds (In (each (own_segment type) ys ++ owed)) (each (segment_marks type) ys) [] (In owed)
+  segments_add type [] owed n w = none
+  segments_add type (y ∷ ys) owed n w =
+      subst (λ z. Adds (In z) (segment_marks type y ++ each (segment_marks type) ys) [] (In owed)) (sym (append_assoc (own_segment type y) (each (own_segment type) ys) owed))
+      (both (array_adds type (length y.bounds) y.names (each (own_segment type) ys ++ owed) (no_headed_both (each (own_segment type) ys) owed (no_headed_segments type ys) n) (λ z p. w z (inl p))) (segments_add type ys owed n (λ z p. w z (inr p))))
 
 -- ---- headings
 
-module _ (result : Option TypeName) (h : Heading) (a : Statement) (os : List Open) where
+module _ (x : Text) (takes : Taking x) (rest : List Mark) (os : List Open) where
   abbrev Of : List Mark → List Open
-  Of owed = item (ProcedureText result h a) owed ∷ os
+  Of owed = item x owed ∷ os
 
   abbrev AllHeaded : List Identifier → List Mark → Type 0
   AllHeaded [] owed = Unit {0}
-  AllHeaded (x ∷ xs) owed = Has (Headed x) owed × AllHeaded xs owed
+  AllHeaded (y ∷ ys) owed = Has (Headed y) owed × AllHeaded ys owed
 
-  headed_more : (m : Mark) (xs : List Identifier) (owed : List Mark) → AllHeaded xs owed → AllHeaded xs (m ∷ owed)
+  headed_more : (m : Mark) (ys : List Identifier) (owed : List Mark) → AllHeaded ys owed → AllHeaded ys (m ∷ owed)
   headed_more m [] owed q = tt
-  headed_more m (x ∷ xs) owed q = (there q.0, headed_more m xs owed q.1)
+  headed_more m (y ∷ ys) owed q = (there q.0, headed_more m ys owed q.1)
 
-  all_headed : (xs : List Identifier) → AllHeaded xs (each headed_marks xs)
+  all_headed : (ys : List Identifier) → AllHeaded ys (each headed_marks ys ++ rest)
   unfolding headed_marks
   all_headed [] = tt
-  all_headed (x ∷ xs) = (here, headed_more (Headed x) xs (each headed_marks xs) (all_headed xs))
+  all_headed (y ∷ ys) = (here, headed_more (Headed y) ys (each headed_marks ys ++ rest) (all_headed ys))
 
-  parameter_one : (owed : List Mark) (x : Identifier) → Has (Headed x) owed → Adds (Of owed) (Parameter x ∷ []) [] (Of owed)
-  parameter_one owed x q = record { before = λ ms ts g. parameter result h a owed x q g }
+  parameter_one : (owed : List Mark) (y : Identifier) → Has (Headed y) owed → Adds (Of owed) (Parameter y ∷ []) [] (Of owed)
+  parameter_one owed y q = record { before = λ ms ts g. parameter x owed y takes q g }
 
-  moded_one : (owed : List Mark) (x : Identifier) → Adds (Of owed) (Moded x mode.ByValue ∷ []) [] (Of owed)
-  moded_one owed x = record { before = λ ms ts g. moded result h a owed x g }
+  moded_one : (owed : List Mark) (y : Identifier) → Adds (Of owed) (Moded y mode.ByValue ∷ []) [] (Of owed)
+  moded_one owed y = record { before = λ ms ts g. moded y g }
 
-  specified_one : (owed : List Mark) (x : Identifier) (k : FormalKind) (ty : Option SimType) → PlainFormal k ty → Adds (Of owed) (Specified x k ty ∷ []) [] (Of owed)
-  specified_one owed x k ty p = record { before = λ ms ts g. specified result h a owed x k ty p g }
+  headed_one : (owed : List Mark) (y : Identifier) → Adds (Of (Headed y ∷ owed)) (Headed y ∷ []) [] (Of owed)
+  headed_one owed y = record { before = λ ms ts g. headed x owed y g }
 
-  specified_typed : (type : TypeName) → PlainType type → (owed : List Mark) (x : Identifier) (k : FormalKind) → PlainFormal k (Some (type_named type)) → Adds (Of owed) (Specified x k (Some (type_named type)) ∷ qualified_marks type) [] (Of owed)
-  specified_typed type q owed x k p = subst (λ z. Adds (Of owed) (Specified x k (Some (type_named type)) ∷ z) [] (Of owed)) (sym (unqualified type q)) (specified_one owed x k (Some (type_named type)) p)
-
-  headed_one : (owed : List Mark) (x : Identifier) → Adds (Of (Headed x ∷ owed)) (Headed x ∷ []) [] (Of owed)
-  headed_one owed x = record { before = λ ms ts g. headed result h a owed x g }
-
-  parameters_add : (xs : List Identifier) (owed : List Mark) → AllHeaded xs owed → Adds (Of owed) (each parameter_marks xs) [] (Of owed)
+  parameters_add : (ys : List Identifier) (owed : List Mark) → AllHeaded ys owed → Adds (Of owed) (each parameter_marks ys) [] (Of owed)
   unfolding parameter_marks
   parameters_add [] owed q = none
-  parameters_add (x ∷ xs) owed q = both (parameter_one owed x q.0) (parameters_add xs owed q.1)
+  parameters_add (y ∷ ys) owed q = both (parameter_one owed y q.0) (parameters_add ys owed q.1)
 
-  moded_add : (m : Word) → PlainWord m → (xs : List Identifier) (owed : List Mark) → Adds (Of owed) (each (moded_marks m) xs) [] (Of owed)
+  moded_add : (m : Word) → PlainWord m → (ys : List Identifier) (owed : List Mark) → Adds (Of owed) (each (moded_marks m) ys) [] (Of owed)
   unfolding moded_marks mode_named
   moded_add word.Value p [] owed = none
-  moded_add word.Value p (x ∷ xs) owed = both (moded_one owed x) (moded_add word.Value p xs owed)
-  moded_add word.Name p xs owed = absurd p
+  moded_add word.Value p (y ∷ ys) owed = both (moded_one owed y) (moded_add word.Value p ys owed)
+  moded_add word.Name p ys owed = absurd p
 
-  modes_add : (xs : List ModePart) → Each PlainMode xs → (owed : List Mark) → Adds (Of owed) (each mode_part_marks xs) [] (Of owed)
+  modes_add : (parts : List ModePart) → Each PlainMode parts → (owed : List Mark) → Adds (Of owed) (each mode_part_marks parts) [] (Of owed)
   modes_add [] p owed = none
-  modes_add (x ∷ xs) p owed = both (moded_add x.mode p.0 x.names owed) (modes_add xs p.1 owed)
+  modes_add (m ∷ parts) p owed = both (moded_add m.mode p.0 m.names owed) (modes_add parts p.1 owed)
 
-  simple_add : (type : TypeName) → PlainType type → (xs : List Identifier) (owed : List Mark) → Adds (Of owed) (each (specified_marks (syntax.Simple type)) xs) [] (Of owed)
+  specified_typed : (type : TypeName) (owed : List Mark) (y : Identifier) (k : FormalKind) → PlainFormal k (Some (type_named type)) → Adds (Of owed) (Specified y k (Some (type_named type)) ∷ qualified_marks type) [] (Of owed)
+  specified_typed type owed y k p = record { before = λ ms ts g. specified (qualified_marks type) y k (Some (type_named type)) p (quals_of_type type) g }
+
+  simple_add : (type : TypeName) (ys : List Identifier) (owed : List Mark) → Adds (Of owed) (each (specified_marks (syntax.Simple type)) ys) [] (Of owed)
   unfolding specified_marks
-  simple_add type p [] owed = none
-  simple_add type p (x ∷ xs) owed = both (specified_typed type p owed x shape.Simple (plain_named 0 NoDeclaration NoStatement os type p)) (simple_add type p xs owed)
+  simple_add type [] owed = none
+  simple_add type (y ∷ ys) owed = both (specified_typed type owed y shape.Simple tt) (simple_add type ys owed)
 
-  arrays_add : (type : TypeName) (i : ℕ) → PlainType type → (xs : List Identifier) (owed : List Mark) → Adds (Of owed) (each (specified_marks (syntax.Array type i)) xs) [] (Of owed)
+  arrays_add : (type : TypeName) (i : ℕ) (ys : List Identifier) (owed : List Mark) → Adds (Of owed) (each (specified_marks (syntax.Array type i)) ys) [] (Of owed)
   unfolding specified_marks
-  arrays_add type i p [] owed = none
-  arrays_add type i p (x ∷ xs) owed = both (specified_typed type p owed x shape.Array (plain_named 0 NoDeclaration NoStatement os type p)) (arrays_add type i p xs owed)
+  arrays_add type i [] owed = none
+  arrays_add type i (y ∷ ys) owed = both (specified_typed type owed y shape.Array tt) (arrays_add type i ys owed)
 
-  specified_add : (k : Specifier) (xs : List Identifier) (owed : List Mark) → PlainSpecification (record { kind = k; names = xs }) → Adds (Of owed) (each (specified_marks k) xs) [] (Of owed)
-  specified_add (syntax.Simple type) xs owed p = simple_add type p xs owed
-  specified_add (syntax.Array type i) xs owed p = arrays_add type i p xs owed
-  specified_add (syntax.Procedure type i) xs owed p = absurd p
+  specified_add : (k : Specifier) (ys : List Identifier) (owed : List Mark) → PlainSpecification (record { kind = k; names = ys }) → Adds (Of owed) (each (specified_marks k) ys) [] (Of owed)
+  specified_add (syntax.Simple type) ys owed p = simple_add type ys owed
+  specified_add (syntax.Array type i) ys owed p = arrays_add type i ys owed
+  specified_add (syntax.Procedure type i) ys owed p = absurd p
 
-  specifications_add : (xs : List Specification) → Each PlainSpecification xs → (owed : List Mark) → Adds (Of owed) (each specification_marks xs) [] (Of owed)
+  specifications_add : (ys : List Specification) → Each PlainSpecification ys → (owed : List Mark) → Adds (Of owed) (each specification_marks ys) [] (Of owed)
   specifications_add [] p owed = none
-  specifications_add (x ∷ xs) p owed = both (specified_add x.kind x.names owed p.0) (specifications_add xs p.1 owed)
+  specifications_add (y ∷ ys) p owed = both (specified_add y.kind y.names owed p.0) (specifications_add ys p.1 owed)
 
-  headed_add : (xs : List Identifier) → Adds (Of (each headed_marks xs)) (each headed_marks xs) [] (Of [])
+  headed_add : (ys : List Identifier) → Adds (Of (each headed_marks ys ++ rest)) (each headed_marks ys) [] (Of rest)
   unfolding headed_marks
   headed_add [] = none
-  headed_add (x ∷ xs) = both (headed_one (each headed_marks xs) x) (headed_add xs)
+  headed_add (y ∷ ys) = both (headed_one (each headed_marks ys ++ rest) y) (headed_add ys)
 
-  heading_adds : PlainHeading h → Adds (Of (each headed_marks h.formals)) (heading_marks h) [] (Of [])
-  heading_adds p =
-      let owed : List Mark = each headed_marks h.formals in
+  heading_adds : (h : Heading) → PlainHeading h → Adds (Of (each headed_marks h.formals ++ rest)) (heading_marks h) [] (Of rest)
+  heading_adds h p =
+      let owed : List Mark = each headed_marks h.formals ++ rest in
       both (parameters_add h.formals owed (all_headed h.formals)) (both (modes_add h.modes p.0 owed) (both (specifications_add h.specifications p.1 owed) (headed_add h.formals)))
 
 -- ---- statements and declarations
@@ -251,12 +374,22 @@ begins_block : (k : BlockKind) (text first i : ℕ) (ds : Declarations) (ss : St
     → Adds os (Opens k text first ∷ []) (BlockText i ds ss ∷ []) (item (BlockText i ds ss) (own_marks ds) ∷ os)
 begins_block k text first i ds ss os p = record { before = λ ms xs g. block k text first i ds ss p g }
 
-begins_procedure : (i : ℕ) (ds : Declarations) (ss : Statements) (owed : List Mark) (os : List Open) (result : Option TypeName) (token : ℕ) (h : Heading) (a : Statement) → PlainResult result
-    → Adds (item (BlockText i ds ss) owed ∷ os) (procedure_marks result token h.name) (ProcedureText result h a ∷ []) (item (ProcedureText result h a) (each headed_marks h.formals) ∷ item (BlockText i ds ss) owed ∷ os)
+begins_connection : (text first : ℕ) (os : List Open) → Adds os (Opens kind.Connection text first ∷ []) (ConnectionText ∷ []) (item ConnectionText [] ∷ os)
+begins_connection text first os = record { before = λ ms xs g. connects text first g }
+
+begins_procedure : (x : Text) → Declaring x → (owed : List Mark) → NoHeaded owed → (os : List Open) (result : Option TypeName) (token : ℕ) (h : Heading) (a : Statement)
+    → Adds (item x owed ∷ os) (procedure_marks result token h.name) (ProcedureText result h a ∷ []) (item (ProcedureText result h a) (each headed_marks h.formals ++ []) ∷ item x owed ∷ os)
 unfolding procedure_marks
-begins_procedure i ds ss owed os result token h a p =
-    subst (λ z. Adds (item (BlockText i ds ss) owed ∷ os) (DeclaresProcedure h.name (result_named result) ∷ (z ++ Opens kind.Procedure (first_of_procedure result token) h.name.token.0 ∷ [])) (ProcedureText result h a ∷ []) (item (ProcedureText result h a) (each headed_marks h.formals) ∷ item (BlockText i ds ss) owed ∷ os))
-    (sym (unqualified_result result p)) (record { before = λ ms xs g. procedure (first_of_procedure result token) h.name.token.0 i ds ss owed result h a p g })
+begins_procedure x d owed n os result token h a = record {
+  before = λ ms xs g.
+      subst (λ z. Grouped (item x owed ∷ os) (DeclaresProcedure h.name (result_named result) ∷ z) (ProcedureText result h a ∷ xs)) (sym (append_assoc (qualified_result result) (Opens kind.Procedure (first_of_procedure result token) h.name.token.0 ∷ []) ms))
+      (procedure (first_of_procedure result token) h.name.token.0 x owed (qualified_result result) result h a d n (quals_of_result result) g);
+}
+
+begins_class : (x : Text) → Declaring x → (owed : List Mark) → NoHeaded owed → (os : List Open) (token : ℕ) (h : Heading) (ds : Declarations) (ss : Statements)
+    → Adds (item x owed ∷ os) (class_marks None token h.name) (ClassText None h ds ss ∷ []) (item (ClassText None h ds ss) (each headed_marks h.formals ++ own_marks ds) ∷ item x owed ∷ os)
+unfolding class_marks class_prefix_marks
+begins_class x d owed n os token h ds ss = record { before = λ ms xs g. declares_class (first_of_class None token) h.name.token.0 x owed h ds ss d n g }
 
 ends : (x : Text) (end : ℕ) (os : List Open) → Adds (item x [] ∷ os) (Closes end ∷ []) [] os
 ends x end os = record { before = λ ms xs g. closes x end g }
@@ -264,59 +397,131 @@ ends x end os = record { before = λ ms xs g. closes x end g }
 as_texts : {os ps : List Open} {es : List Mark} (ns ks : List Text) → ns ≡ ks → Adds os es ns ps → Adds os es ks ps
 as_texts {os = os} {ps = ps} {es = es} ns ks e a = subst (λ z. Adds os es z ps) e a
 
+as_marks : {os ps : List Open} {ns : List Text} (es fs : List Mark) → es ≡ fs → Adds os es ns ps → Adds os fs ns ps
+as_marks {os = os} {ps = ps} {ns = ns} es fs e a = subst (λ z. Adds os z ns ps) e a
+
 -- what is inside a block
 inside_block : (os : List Open) (x : Text) (d ds : List Mark) (ss : List Mark) (dt st : List Text) (end : ℕ)
     → Adds (item x d ∷ os) ds dt (item x [] ∷ os) → Adds (item x [] ∷ os) ss st (item x [] ∷ os) → Adds (item x d ∷ os) ((ds ++ ss) ++ Closes end ∷ []) (dt ++ st) os
 inside_block os x d ds ss dt st end a b = as_texts ((dt ++ st) ++ []) (dt ++ st) (append-nil (dt ++ st)) (both (both a b) (ends x end os))
 
-procedure_adds : (i : ℕ) (all : Declarations) (ss : Statements) (os : List Open) (owed : List Mark) (result : Option TypeName) (j : ℕ) (h : Heading) (a : Statement) (e : ℕ) → PlainResult result → PlainHeading h
-    → Adds (item (ProcedureText result h a) [] ∷ item (BlockText i all ss) owed ∷ os) (statement_events declaring Inside a) (statement_texts a) (item (ProcedureText result h a) [] ∷ item (BlockText i all ss) owed ∷ os)
-    → Adds (item (BlockText i all ss) owed ∷ os) (declaration_events declaring (DeclareProcedure result j h a e)) (declaration_texts (DeclareProcedure result j h a e)) (item (BlockText i all ss) owed ∷ os)
+-- a class without protection and virtual parts
+pub no_interface : (i : Interface) → PlainInterface i → interface_marks i ≡ []
+no_interface i p = ap (λ z. each protection_marks z ++ each virtual_marks i.virtuals) p.0 ∙ ap (λ z. each virtual_marks z) p.1
+
+-- the texts of a class, whose body is `begin .. end` or one statement
+pub class_texts : (j : ℕ) (h : Heading) (i : Interface) (a : Statement) (e : ℕ)
+    → declaration_texts (DeclareClass None j h i a e) ≡ ClassText None h (body_declarations a) (body_statements a) ∷ (declarations_texts (body_declarations a) ++ statements_texts (body_statements a))
+class_texts j h i (syntax.Compound (Begin n ds ss m)) e = refl
+class_texts j h i (syntax.Empty n) e = ap (λ z. ClassText None h NoDeclaration (Also (syntax.Empty n) NoStatement) ∷ z) (sym (append-nil (statement_texts (syntax.Empty n))))
+class_texts j h i (syntax.Prefixed x args b) e = ap (λ z. ClassText None h NoDeclaration (Also (syntax.Prefixed x args b) NoStatement) ∷ z) (sym (append-nil (statement_texts (syntax.Prefixed x args b))))
+class_texts j h i (syntax.Inner n) e = ap (λ z. ClassText None h NoDeclaration (Also (syntax.Inner n) NoStatement) ∷ z) (sym (append-nil (statement_texts (syntax.Inner n))))
+class_texts j h i (syntax.Call x) e = ap (λ z. ClassText None h NoDeclaration (Also (syntax.Call x) NoStatement) ∷ z) (sym (append-nil (statement_texts (syntax.Call x))))
+class_texts j h i (syntax.Assign x sides) e = ap (λ z. ClassText None h NoDeclaration (Also (syntax.Assign x sides) NoStatement) ∷ z) (sym (append-nil (statement_texts (syntax.Assign x sides))))
+class_texts j h i (syntax.Choose n c x rest) e = ap (λ z. ClassText None h NoDeclaration (Also (syntax.Choose n c x rest) NoStatement) ∷ z) (sym (append-nil (statement_texts (syntax.Choose n c x rest))))
+class_texts j h i (syntax.Repeat n c x) e = ap (λ z. ClassText None h NoDeclaration (Also (syntax.Repeat n c x) NoStatement) ∷ z) (sym (append-nil (statement_texts (syntax.Repeat n c x))))
+class_texts j h i (syntax.For n y sign m es x) e = ap (λ z. ClassText None h NoDeclaration (Also (syntax.For n y sign m es x) NoStatement) ∷ z) (sym (append-nil (statement_texts (syntax.For n y sign m es x))))
+class_texts j h i (syntax.Inspect n object d x m rest) e = ap (λ z. ClassText None h NoDeclaration (Also (syntax.Inspect n object d x m rest) NoStatement) ∷ z) (sym (append-nil (statement_texts (syntax.Inspect n object d x m rest))))
+class_texts j h i (syntax.InspectWhen n object arms rest) e = ap (λ z. ClassText None h NoDeclaration (Also (syntax.InspectWhen n object arms rest) NoStatement) ∷ z) (sym (append-nil (statement_texts (syntax.InspectWhen n object arms rest))))
+class_texts j h i (syntax.Activate n w process schedule) e = ap (λ z. ClassText None h NoDeclaration (Also (syntax.Activate n w process schedule) NoStatement) ∷ z) (sym (append-nil (statement_texts (syntax.Activate n w process schedule))))
+
+procedure_adds : (x : Text) → Declaring x → (os : List Open) (owed : List Mark) → NoHeaded owed → (result : Option TypeName) (j : ℕ) (h : Heading) (a : Statement) (e : ℕ) → PlainHeading h
+    → Adds (item (ProcedureText result h a) [] ∷ item x owed ∷ os) (statement_events declaring Inside a) (statement_texts a) (item (ProcedureText result h a) [] ∷ item x owed ∷ os)
+    → Adds (item x owed ∷ os) (declaration_events declaring (DeclareProcedure result j h a e)) (declaration_texts (DeclareProcedure result j h a e)) (item x owed ∷ os)
 unfolding declaring
-procedure_adds i all ss os owed result j h a e pr p body =
-    let x : Text = ProcedureText result h a in
-    let ps : List Open = item (BlockText i all ss) owed ∷ os in
-    as_texts (x ∷ (statement_texts a ++ [])) (x ∷ statement_texts a) (ap (λ z. x ∷ z) (append-nil (statement_texts a)))
-    (both (both (begins_procedure i all ss owed os result j h a pr) (heading_adds result h a ps p)) (both body (ends x e ps)))
+procedure_adds x d os owed n result j h a e p body =
+    let y : Text = ProcedureText result h a in
+    let ps : List Open = item x owed ∷ os in
+    as_texts (y ∷ (statement_texts a ++ [])) (y ∷ statement_texts a) (ap (λ z. y ∷ z) (append-nil (statement_texts a)))
+    (both (both (begins_procedure x d owed n os result j h a) (heading_adds y tt [] ps h p)) (both body (ends y e ps)))
+
+class_adds : (x : Text) → Declaring x → (os : List Open) (owed : List Mark) → NoHeaded owed → (j : ℕ) (h : Heading) (i : Interface) (a : Statement) (e : ℕ) → PlainHeading h → PlainInterface i
+    → Adds (item (ClassText None h (body_declarations a) (body_statements a)) (own_marks (body_declarations a)) ∷ item x owed ∷ os) (statement_events declaring ClassBody a) (declarations_texts (body_declarations a) ++ statements_texts (body_statements a))
+    (item (ClassText None h (body_declarations a) (body_statements a)) [] ∷ item x owed ∷ os)
+    → Adds (item x owed ∷ os) (declaration_events declaring (DeclareClass None j h i a e)) (declaration_texts (DeclareClass None j h i a e)) (item x owed ∷ os)
+unfolding declaring
+class_adds x d os owed n j h i a e p q body =
+    let y : Text = ClassText None h (body_declarations a) (body_statements a) in
+    let ps : List Open = item x owed ∷ os in
+    let inside : List Text = declarations_texts (body_declarations a) ++ statements_texts (body_statements a) in
+    let own : List Mark = own_marks (body_declarations a) in
+    as_texts (y ∷ (inside ++ [])) (declaration_texts (DeclareClass None j h i a e)) (ap (λ z. y ∷ z) (append-nil inside) ∙ sym (class_texts j h i a e))
+    (both (both (begins_class x d owed n os j h (body_declarations a) (body_statements a))
+    (as_marks (heading_marks h) (heading_marks h ++ interface_marks i) (sym (append-nil (heading_marks h)) ∙ ap (λ z. heading_marks h ++ z) (sym (no_interface i q))) (heading_adds y tt own ps h p))) (both body (ends y e ps)))
+
+-- a statement stands in the body of a class, or elsewhere
+abbrev place : (in_class : Bool) → Position
+place true = ClassStatement
+place false = Inside
 
 mutual
-  unfolding declaring
+  unfolding declaring inner_marks
 
-  statement_adds : (st : Statement) (os : List Open) → PlainStatement st → Adds os (statement_events declaring Inside st) (statement_texts st) os
-  statement_adds (syntax.Empty i) os p = none
-  statement_adds (syntax.Compound b) os p = block_adds b os p
-  statement_adds (syntax.Prefixed x args b) os p = absurd p
-  statement_adds (syntax.Inner i) os p = absurd p
-  statement_adds (syntax.Call e) os p = none
-  statement_adds (syntax.Assign left rest) os p = none
-  statement_adds (syntax.Choose i c a rest) os p = both (statement_adds a os p.1) (statements_add rest os p.2)
-  statement_adds (syntax.Repeat i c a) os p = statement_adds a os p.1
-  statement_adds (syntax.For i x sign j es a) os p = statement_adds a os p.1
-  statement_adds (syntax.Inspect i object d a e rest) os p = absurd p
-  statement_adds (syntax.InspectWhen i object whens rest) os p = absurd p
-  statement_adds (syntax.Activate i word process schedule) os p = absurd p
+  statement_adds : (c : Bool) (st : Statement) (os : List Open) → PlainStatement st → Adds os (statement_events declaring (place c) st) (statement_texts st) os
+  statement_adds c (syntax.Empty i) os p = none
+  statement_adds true (syntax.Compound b) os p = block_adds b os p
+  statement_adds false (syntax.Compound b) os p = block_adds b os p
+  statement_adds c (syntax.Prefixed x args b) os p = absurd p
+  statement_adds true (syntax.Inner i) os p = record { before = λ ms xs g. inner_mark i g }
+  statement_adds false (syntax.Inner i) os p = record { before = λ ms xs g. breaks_rule i r.InnerOutOfPlace g }
+  statement_adds c (syntax.Call e) os p = none
+  statement_adds c (syntax.Assign left rest) os p = none
+  statement_adds c (syntax.Choose i e a rest) os p = both (statement_adds false a os p.1) (statements_add false rest os p.2)
+  statement_adds c (syntax.Repeat i e a) os p = statement_adds false a os p.1
+  statement_adds c (syntax.For i x sign j es a) os p = statement_adds false a os p.1
+  statement_adds c (syntax.Inspect i object d a e rest) os p =
+      as_texts ((ConnectionText ∷ []) ++ (statement_texts a ++ ([] ++ statements_texts rest))) (ConnectionText ∷ (statement_texts a ++ statements_texts rest)) refl
+      (both (begins_connection d d os) (both (statement_adds false a (item ConnectionText [] ∷ os) p.1) (both (ends ConnectionText e os) (statements_add false rest os p.2))))
+  statement_adds c (syntax.InspectWhen i object whens rest) os p = both (arms_add whens os p.1) (statements_add false rest os p.2)
+  statement_adds c (syntax.Activate i word process schedule) os p = absurd p
 
-  statements_add : (ss : Statements) (os : List Open) → PlainStatements ss → Adds os (statements_events declaring Inside ss) (statements_texts ss) os
-  statements_add NoStatement os p = none
-  statements_add (Also a more) os p = both (statement_adds a os p.0) (statements_add more os p.1)
+  statements_add : (c : Bool) (ss : Statements) (os : List Open) → PlainStatements ss → Adds os (statements_events declaring (place c) ss) (statements_texts ss) os
+  statements_add c NoStatement os p = none
+  statements_add c (Also a more) os p = both (statement_adds c a os p.0) (statements_add c more os p.1)
+
+  arms_add : (arms : Arms) (os : List Open) → PlainArms arms → Adds os (arms_events declaring arms) (arms_texts arms) os
+  arms_add NoArm os p = none
+  arms_add (When i x d a e more) os p =
+      as_texts (((ConnectionText ∷ []) ++ (statement_texts a ++ [])) ++ arms_texts more) (ConnectionText ∷ (statement_texts a ++ arms_texts more)) (ap (λ z. ConnectionText ∷ (z ++ arms_texts more)) (append-nil (statement_texts a)))
+      (both (both (begins_connection d d os) (both (statement_adds false a (item ConnectionText [] ∷ os) p.1) (ends ConnectionText e os))) (arms_add more os p.2))
+
+  -- the body of a class, which is its `begin .. end` or one statement
+  class_body_adds : (a : Statement) (h : Heading) (os : List Open) → PlainStatement a → ((ps : List Open) → Adds ps (statement_events declaring Inside a) (statement_texts a) ps)
+      → Adds (item (ClassText None h (body_declarations a) (body_statements a)) (own_marks (body_declarations a)) ∷ os) (statement_events declaring ClassBody a) (declarations_texts (body_declarations a) ++ statements_texts (body_statements a))
+      (item (ClassText None h (body_declarations a) (body_statements a)) [] ∷ os)
+  class_body_adds (syntax.Compound (Begin i ds ss e)) h os p one =
+      both (declarations_add (ClassText None h ds ss) tt os ds (λ y quals w. w) p.0) (statements_add true ss (item (ClassText None h ds ss) [] ∷ os) p.1)
+  class_body_adds (syntax.Empty i) h os p one = none
+  class_body_adds (syntax.Prefixed x args b) h os p one = absurd p
+  class_body_adds (syntax.Inner i) h os p one = as_texts (statement_texts (syntax.Inner i)) (statement_texts (syntax.Inner i) ++ []) (sym (append-nil (statement_texts (syntax.Inner i)))) (one (item (ClassText None h NoDeclaration (Also (syntax.Inner i) NoStatement)) [] ∷ os))
+  class_body_adds (syntax.Call e) h os p one = as_texts (statement_texts (syntax.Call e)) (statement_texts (syntax.Call e) ++ []) (sym (append-nil (statement_texts (syntax.Call e)))) (one (item (ClassText None h NoDeclaration (Also (syntax.Call e) NoStatement)) [] ∷ os))
+  class_body_adds (syntax.Assign left rest) h os p one = as_texts (statement_texts (syntax.Assign left rest)) (statement_texts (syntax.Assign left rest) ++ []) (sym (append-nil (statement_texts (syntax.Assign left rest)))) (one (item (ClassText None h NoDeclaration (Also (syntax.Assign left rest) NoStatement)) [] ∷ os))
+  class_body_adds (syntax.Choose i c a rest) h os p one = as_texts (statement_texts (syntax.Choose i c a rest)) (statement_texts (syntax.Choose i c a rest) ++ []) (sym (append-nil (statement_texts (syntax.Choose i c a rest)))) (one (item (ClassText None h NoDeclaration (Also (syntax.Choose i c a rest) NoStatement)) [] ∷ os))
+  class_body_adds (syntax.Repeat i c a) h os p one = as_texts (statement_texts (syntax.Repeat i c a)) (statement_texts (syntax.Repeat i c a) ++ []) (sym (append-nil (statement_texts (syntax.Repeat i c a)))) (one (item (ClassText None h NoDeclaration (Also (syntax.Repeat i c a) NoStatement)) [] ∷ os))
+  class_body_adds (syntax.For i x sign j es a) h os p one = as_texts (statement_texts (syntax.For i x sign j es a)) (statement_texts (syntax.For i x sign j es a) ++ []) (sym (append-nil (statement_texts (syntax.For i x sign j es a)))) (one (item (ClassText None h NoDeclaration (Also (syntax.For i x sign j es a) NoStatement)) [] ∷ os))
+  class_body_adds (syntax.Inspect i object d a e rest) h os p one = as_texts (statement_texts (syntax.Inspect i object d a e rest)) (statement_texts (syntax.Inspect i object d a e rest) ++ []) (sym (append-nil (statement_texts (syntax.Inspect i object d a e rest)))) (one (item (ClassText None h NoDeclaration (Also (syntax.Inspect i object d a e rest) NoStatement)) [] ∷ os))
+  class_body_adds (syntax.InspectWhen i object whens rest) h os p one = as_texts (statement_texts (syntax.InspectWhen i object whens rest)) (statement_texts (syntax.InspectWhen i object whens rest) ++ []) (sym (append-nil (statement_texts (syntax.InspectWhen i object whens rest)))) (one (item (ClassText None h NoDeclaration (Also (syntax.InspectWhen i object whens rest) NoStatement)) [] ∷ os))
+  class_body_adds (syntax.Activate i word process schedule) h os p one = absurd p
 
   block_adds : (b : Block) (os : List Open) → PlainBlock b → Adds os (block_events declaring b) (block_texts b) os
-  block_adds (Begin i NoDeclaration ss e) os p = statements_add ss os p.1
+  block_adds (Begin i NoDeclaration ss e) os p = statements_add false ss os p.1
   block_adds (Begin i (With d ds) ss e) os p =
       let x : Text = BlockText i (With d ds) ss in
       as_texts (x ∷ (declarations_texts (With d ds) ++ statements_texts ss)) (block_texts (Begin i (With d ds) ss e)) (ap (λ z. x ∷ z) (append_assoc (declaration_texts d) (declarations_texts ds) (statements_texts ss)))
       (both (begins_block kind.SubBlock i i i (With d ds) ss os tt)
       (inside_block os x (own_marks (With d ds)) (declarations_events declaring (With d ds)) (statements_events declaring Inside ss) (declarations_texts (With d ds)) (statements_texts ss) e
-      (declarations_add i (With d ds) ss os (With d ds) p.0) (statements_add ss (item x [] ∷ os) p.1)))
+      (declarations_add x tt os (With d ds) (λ y quals w. w) p.0) (statements_add false ss (item x [] ∷ os) p.1)))
 
-  declarations_add : (i : ℕ) (all : Declarations) (ss : Statements) (os : List Open) (ds : Declarations) → PlainDeclarations ds
-      → Adds (item (BlockText i all ss) (own_marks ds) ∷ os) (declarations_events declaring ds) (declarations_texts ds) (item (BlockText i all ss) [] ∷ os)
-  declarations_add i all ss os NoDeclaration p = none
-  declarations_add i all ss os (With (Variables type vs) ds) p = both (variables_add i all ss os type p.0 vs (own_marks ds)) (declarations_add i all ss os ds p.1)
-  declarations_add i all ss os (With (Arrays type j segments) ds) p = both (segments_add i all ss os type p.0.0 segments (own_marks ds)) (declarations_add i all ss os ds p.1)
-  declarations_add i all ss os (With (DeclareProcedure result j h a e) ds) p =
-      both (procedure_adds i all ss os (own_marks ds) result j h a e p.0.0 p.0.1 (statement_adds a (item (ProcedureText result h a) [] ∷ item (BlockText i all ss) (own_marks ds) ∷ os) p.0.2)) (declarations_add i all ss os ds p.1)
-  declarations_add i all ss os (With (DeclareClass prefix j h interface a e) ds) p = absurd p.0
+  declarations_add : (x : Text) → Declaring x → (os : List Open) (ds : Declarations) → ((y : Identifier) (quals : List Mark) → ArrayWritten y quals ds → ArrayWritten y quals (declared_in_text x)) → PlainDeclarations ds → Adds (item x (own_marks ds) ∷ os) (declarations_events declaring ds) (declarations_texts ds) (item x [] ∷ os)
+  declarations_add x d os NoDeclaration w p = none
+  declarations_add x d os (With (Variables type vs) ds) w p = both (variables_add x d os type vs (own_marks ds) (no_headed_own ds)) (declarations_add x d os ds w p.1)
+  declarations_add x d os (With (Arrays type j segments) ds) w p =
+      both (segments_add x d os type segments (own_marks ds) (no_headed_own ds) (λ y q. w y (qualified_marks type) (inl (q, refl)))) (declarations_add x d os ds (λ y quals q. w y quals (inr q)) p.1)
+  declarations_add x d os (With (DeclareProcedure result j h a e) ds) w p =
+      both (procedure_adds x d os (own_marks ds) (no_headed_own ds) result j h a e p.0.1 (statement_adds false a (item (ProcedureText result h a) [] ∷ item x (own_marks ds) ∷ os) p.0.2)) (declarations_add x d os ds w p.1)
+  declarations_add x d os (With (DeclareClass None j h i a e) ds) w p =
+      both (class_adds x d os (own_marks ds) (no_headed_own ds) j h i a e p.0.1 p.0.2 (class_body_adds a h (item x (own_marks ds) ∷ os) p.0.3 (λ ps. statement_adds false a ps p.0.3))) (declarations_add x d os ds w p.1)
+  declarations_add x d os (With (DeclareClass (Some y) j h i a e) ds) w p = absurd (let q : Some y ≡ None = p.0.0 in cc)
 
 -- a plain program
 pub program_grouped : (p : Program) → Plain p → Grouped [] (program_events declaring p) (program_texts p.prefix p.block)
@@ -330,7 +535,7 @@ program_grouped p q = go p.prefix p.block q.prefix q.block
         let all : Adds [] ((Opens kind.Program i i ∷ []) ++ ((declarations_events declaring ds ++ statements_events declaring Inside ss) ++ Closes end ∷ [])) ((x ∷ []) ++ (declarations_texts ds ++ statements_texts ss)) [] =
         both (begins_block kind.Program i i i ds ss [] tt)
         (inside_block [] x (own_marks ds) (declarations_events declaring ds) (statements_events declaring Inside ss) (declarations_texts ds) (statements_texts ss) end
-        (declarations_add i ds ss [] ds r.0) (statements_add ss (item x [] ∷ []) r.1)) in
+        (declarations_add x tt [] ds (λ y quals w. w) r.0) (statements_add false ss (item x [] ∷ []) r.1)) in
         subst (λ z. Grouped [] z (x ∷ (declarations_texts ds ++ statements_texts ss)))
         (append-nil _ ∙ ap (λ z. Opens kind.Program i i ∷ z) (append_assoc (declarations_events declaring ds) (statements_events declaring Inside ss) (Closes end ∷ [])))
         (subst (λ z. Grouped [] (((Opens kind.Program i i ∷ []) ++ ((declarations_events declaring ds ++ statements_events declaring Inside ss) ++ Closes end ∷ [])) ++ []) z) (append-nil _) (all.before [] [] (nothing refl)))

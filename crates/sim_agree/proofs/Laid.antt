@@ -1,35 +1,41 @@
 -- The marks of a plain program beside the tokens of its text, with what each text uses.
-use Rattle.std.proofs.Common.{◌≡◌, ℕ, List, [], ◌∷◌, ◌++◌, length, Option, Some, None, refl, sym, ap, ◌∙◌, subst, append-nil, append_assoc}
+use Rattle.std.proofs.Common.{◌≡◌, ℕ, Bool, true, false, List, [], ◌∷◌, ◌++◌, length, map, Option, Some, None, refl, sym, ap, ◌∙◌, subst, append-nil, append_assoc}
 use Rattle.sim_tree.specs.declared.expr.Identifier.{Identifier}
 use Rattle.sim_tree.specs.declared.stmt.Mode.{Mode as Word}
 use Rattle.sim_tree.specs.declared.stmt.Mode.TheVariants as word
 use Rattle.sim_tree.specs.declared.stmt.TypeName.{TypeName}
+use Rattle.sim_tree.specs.declared.stmt.TypeName.TheVariants as type_name
 use Rattle.sim_tree.specs.declared.stmt.Variable.{Variable}
 use Rattle.sim_tree.specs.Named.{named}
-use Rattle.sim_tree.specs.Syntax.{Also, Arrayed, Arrays, Begin, Block, BoundPair, Declaration, Declarations, DeclareClass, DeclareProcedure, Element, Expression, Heading, Moded as ModePart, NoDeclaration, NoStatement, Prefix, Program, RightSide, Specification, Specified as Specifier, Statement, Statements, Variables, With}
+use Rattle.sim_tree.specs.Syntax.{Also, Arms, Arrayed, Arrays, Begin, Block, BoundPair, Compound, Declaration, Declarations, DeclareClass, DeclareProcedure, Element, Expression, Heading, Interface, Moded as ModePart, NoArm, NoDeclaration, NoStatement, Prefix, Program, RightSide, Specification, Specified as Specifier, Statement, Statements, Variables, When, With}
 use Rattle.sim_tree.specs.Syntax as syntax
+use Rattle.sim_base.specs.declared.rule.Rule.{Rule}
+use Rattle.sim_base.specs.declared.rule.Rule.TheVariants as r
 use Rattle.sim_scope.specs.declared.types.BlockKind.TheVariants as kind
 use Rattle.sim_scope.specs.declared.types.Entry.{Entry}
 use Rattle.sim_scope.specs.declared.types.Entry.TheVariants as entry
 use Rattle.sim_scope.specs.declared.types.FormalKind.{FormalKind}
 use Rattle.sim_scope.specs.declared.types.FormalKind.TheVariants as shape
 use Rattle.sim_scope.specs.declared.types.Mode.TheVariants as mode
-use Rattle.sim_scope.specs.declared.types.Position.TheVariants.{Inside}
+use Rattle.sim_scope.specs.declared.types.Position.{Position}
+use Rattle.sim_scope.specs.declared.types.Position.TheVariants.{ClassBody, ClassStatement, Inside}
 use Rattle.sim_scope.specs.declared.types.SimType.{SimType}
-use Rattle.sim_scope.specs.Building.{Closes, Declares, DeclaresProcedure, Headed, Mark, Moded, Opens, Parameter, Specified}
-use Rattle.sim_scope.specs.Declare.{array_marks, declaring, first_of_procedure, headed_marks, heading_marks, mode_named, mode_part_marks, moded_marks, parameter_marks, procedure_marks, program_marks, qualified_marks, qualified_result, result_named, segment_marks, specification_marks, specified_marks, type_named, variable_marks}
+use Rattle.sim_scope.specs.Bodies.{body_declarations, body_statements}
+use Rattle.sim_scope.specs.Building.{Breaks, Closes, Declares, DeclaresClass, DeclaresProcedure, Headed, Inner, Mark, Moded, Opens, Parameter, Specified}
+use Rattle.sim_scope.specs.Declare.{array_marks, class_marks, class_prefix_marks, declaring, first_of_class, first_of_procedure, headed_marks, heading_marks, inner_marks, interface_marks, mode_named, mode_part_marks, moded_marks, parameter_marks, procedure_marks, program_marks, qualified_marks, qualified_result, result_named, segment_marks, specification_marks, specified_marks, type_named, variable_marks}
 use Rattle.sim_scope.specs.Runs.{each}
-use Rattle.sim_scope.specs.Walk.{begin_of, block_events, declaration_events, declarations_events, program_events, statement_events, statements_events, whole_events}
-use Rattle.sim_meaning.specs.Texts.{BlockText, ProcedureText, Text, block_texts, declaration_texts, declarations_texts, program_texts, statement_texts, statements_texts}
-use Rattle.sim_tree.specs.Order.{Behind, Spot, Token, in_block, in_bounds, in_declaration, in_declarations, in_each, in_element, in_expression, in_name, in_segment, in_side, in_statement, in_statements, in_variable, tokens}
-use Rattle.sim_agree.specs.Plain.{Each, Plain, PlainBlock, PlainDeclarations, PlainHeading, PlainMode, PlainResult, PlainSpecification, PlainStatement, PlainStatements, PlainType, PlainWord}
-use Rattle.sim_agree.proofs.Groups.{OwnEntry, PlainFormal, plain_named, unqualified, unqualified_result}
+use Rattle.sim_scope.specs.Walk.{arms_events, begin_of, block_events, declaration_events, declarations_events, program_events, statement_events, statements_events, whole_events}
+use Rattle.sim_meaning.specs.Texts.{BlockText, ClassText, ConnectionText, ProcedureText, Text, arms_texts, block_texts, declaration_texts, declarations_texts, program_texts, statement_texts, statements_texts}
+use Rattle.sim_tree.specs.Order.{Behind, Spot, Token, in_arms, in_block, in_bounds, in_declaration, in_declarations, in_each, in_element, in_expression, in_name, in_result, in_segment, in_side, in_statement, in_statements, in_type, in_variable, tokens}
+use Rattle.sim_agree.specs.Plain.{Each, Plain, PlainArms, PlainBlock, PlainDeclarations, PlainHeading, PlainInterface, PlainMode, PlainSpecification, PlainStatement, PlainStatements, PlainWord}
+use Rattle.sim_agree.proofs.Groups.{AreReferences, OfReferences, OwnEntry, PlainFormal, Quals, no_interface, quals_of_result, quals_of_type}
 
--- ---- what a text uses itself: tokens, and sub-blocks by their first token
+-- ---- what a text uses itself: tokens, sub-blocks by their first token, and connections by theirs, with what stands in them
 
 pub data Part : Type 0 where
   Use : ℕ → Part
   Sub : ℕ → Part
+  Con : ℕ → Statement → Part
 
 abbrev pub used : List ℕ → List Part → List Part
 used [] u = u
@@ -58,17 +64,26 @@ segment_used a u = each_used bounds_used a.bounds u
 
 abbrev mutual
   pub statement_used : Statement → List Part → List Part
+  statement_used (syntax.Empty i) u = u
   statement_used (syntax.Compound b) u = block_used b u
+  statement_used (syntax.Prefixed class es b) u = u
+  statement_used (syntax.Inner i) u = Use i ∷ u
   statement_used (syntax.Call e) u = expression_used e u
   statement_used (syntax.Assign e sides) u = expression_used e (each_used side_used sides u)
   statement_used (syntax.Choose i e x y) u = expression_used e (statement_used x (statements_used y u))
   statement_used (syntax.Repeat i e x) u = expression_used e (statement_used x u)
   statement_used (syntax.For i name sign j elements x) u = Use name.token.0 ∷ each_used element_used elements (statement_used x u)
-  statement_used _ u = u
+  statement_used (syntax.Inspect i e opening x end y) u = expression_used e (Con opening x ∷ statements_used y u)
+  statement_used (syntax.InspectWhen i e arms y) u = expression_used e (arms_used arms (statements_used y u))
+  statement_used (syntax.Activate i word e schedule) u = u
 
   pub statements_used : Statements → List Part → List Part
   statements_used NoStatement u = u
   statements_used (Also x xs) u = statement_used x (statements_used xs u)
+
+  pub arms_used : Arms → List Part → List Part
+  arms_used NoArm u = u
+  arms_used (When i class opening x end more) u = Use class.token.0 ∷ Con opening x ∷ arms_used more u
 
   pub block_used : Block → List Part → List Part
   block_used (Begin i NoDeclaration ss e) u = statements_used ss u
@@ -77,12 +92,136 @@ abbrev mutual
 abbrev pub declarations_used : Declarations → List Part → List Part
 declarations_used NoDeclaration u = u
 declarations_used (With (Arrays type i segments) ds) u = each_used segment_used segments (declarations_used ds u)
-declarations_used (With _ ds) u = declarations_used ds u
+declarations_used (With (Variables type vs) ds) u = declarations_used ds u
+declarations_used (With (DeclareProcedure result i h a e) ds) u = declarations_used ds u
+declarations_used (With (DeclareClass prefix i h interface a e) ds) u = declarations_used ds u
 
 abbrev pub text_used : Text → List Part
 text_used (BlockText i ds ss) = declarations_used ds (statements_used ss [])
 text_used (ProcedureText result h a) = statement_used a []
+text_used (ClassText prefix h ds ss) = declarations_used ds (statements_used ss [])
 text_used _ = []
+
+-- ---- the texts of a program, each with what it uses
+
+pub data Held : Type 0 where
+  Whole : Text → Held
+  Joined : (opening : ℕ) → Statement → Held
+
+abbrev pub text_held : Held → Text
+text_held (Whole x) = x
+text_held (Joined i a) = ConnectionText
+
+abbrev pub used_held : Held → List Part
+used_held (Whole x) = text_used x
+used_held (Joined i a) = statement_used a []
+
+abbrev mutual
+  pub statement_held : Statement → List Held
+  statement_held (syntax.Empty i) = []
+  statement_held (syntax.Compound b) = block_held b
+  statement_held (syntax.Prefixed class es b) = []
+  statement_held (syntax.Inner i) = []
+  statement_held (syntax.Call e) = []
+  statement_held (syntax.Assign e sides) = []
+  statement_held (syntax.Choose i e x y) = statement_held x ++ statements_held y
+  statement_held (syntax.Repeat i e x) = statement_held x
+  statement_held (syntax.For i name sign j elements x) = statement_held x
+  statement_held (syntax.Inspect i e opening x end y) = Joined opening x ∷ (statement_held x ++ statements_held y)
+  statement_held (syntax.InspectWhen i e arms y) = arms_held arms ++ statements_held y
+  statement_held (syntax.Activate i word e schedule) = []
+
+  pub statements_held : Statements → List Held
+  statements_held NoStatement = []
+  statements_held (Also x xs) = statement_held x ++ statements_held xs
+
+  pub arms_held : Arms → List Held
+  arms_held NoArm = []
+  arms_held (When i class opening x end more) = Joined opening x ∷ (statement_held x ++ arms_held more)
+
+  pub block_held : Block → List Held
+  block_held (Begin i NoDeclaration ss e) = statements_held ss
+  block_held (Begin i (With d ds) ss e) = Whole (BlockText i (With d ds) ss) ∷ (declaration_held d ++ (declarations_held ds ++ statements_held ss))
+
+  pub declarations_held : Declarations → List Held
+  declarations_held NoDeclaration = []
+  declarations_held (With d ds) = declaration_held d ++ declarations_held ds
+
+  pub declaration_held : Declaration → List Held
+  declaration_held (Variables type vs) = []
+  declaration_held (Arrays type i segments) = []
+  declaration_held (DeclareProcedure result i h a e) = Whole (ProcedureText result h a) ∷ statement_held a
+  declaration_held (DeclareClass prefix i h interface (Compound (Begin j ds ss e)) end) = Whole (ClassText prefix h ds ss) ∷ (declarations_held ds ++ statements_held ss)
+  declaration_held (DeclareClass prefix i h interface a end) = Whole (ClassText prefix h NoDeclaration (Also a NoStatement)) ∷ statement_held a
+
+abbrev pub program_held : Block → List Held
+program_held (Begin i ds ss end) = Whole (BlockText i ds ss) ∷ (declarations_held ds ++ statements_held ss)
+
+-- ---- these are its texts
+
+map_both : (xs ys : List Held) (ns ks : List Text) → map text_held xs ≡ ns → map text_held ys ≡ ks → map text_held (xs ++ ys) ≡ ns ++ ks
+map_both [] ys ns ks e f = f ∙ ap (λ z. z ++ ks) e
+map_both (x ∷ xs) ys ns ks e f = ap (λ z. text_held x ∷ z) (map_both xs ys (map text_held xs) ks refl f) ∙ ap (λ z. z ++ ks) e
+
+mutual
+  held_statement : (a : Statement) → PlainStatement a → map text_held (statement_held a) ≡ statement_texts a
+  held_statement (syntax.Empty i) p = refl
+  held_statement (syntax.Compound b) p = held_block b p
+  held_statement (syntax.Prefixed class es b) p = absurd p
+  held_statement (syntax.Inner i) p = refl
+  held_statement (syntax.Call e) p = refl
+  held_statement (syntax.Assign e sides) p = refl
+  held_statement (syntax.Choose i e x y) p = map_both (statement_held x) (statements_held y) (statement_texts x) (statements_texts y) (held_statement x p.1) (held_statements y p.2)
+  held_statement (syntax.Repeat i e x) p = held_statement x p.1
+  held_statement (syntax.For i name sign j elements x) p = held_statement x p.1
+  held_statement (syntax.Inspect i e opening x end y) p = ap (λ z. ConnectionText ∷ z) (map_both (statement_held x) (statements_held y) (statement_texts x) (statements_texts y) (held_statement x p.1) (held_statements y p.2))
+  held_statement (syntax.InspectWhen i e arms y) p = map_both (arms_held arms) (statements_held y) (arms_texts arms) (statements_texts y) (held_arms arms p.1) (held_statements y p.2)
+  held_statement (syntax.Activate i word e schedule) p = absurd p
+
+  held_statements : (ss : Statements) → PlainStatements ss → map text_held (statements_held ss) ≡ statements_texts ss
+  held_statements NoStatement p = refl
+  held_statements (Also a more) p = map_both (statement_held a) (statements_held more) (statement_texts a) (statements_texts more) (held_statement a p.0) (held_statements more p.1)
+
+  held_arms : (arms : Arms) → PlainArms arms → map text_held (arms_held arms) ≡ arms_texts arms
+  held_arms NoArm p = refl
+  held_arms (When i class opening x end more) p = ap (λ z. ConnectionText ∷ z) (map_both (statement_held x) (arms_held more) (statement_texts x) (arms_texts more) (held_statement x p.1) (held_arms more p.2))
+
+  held_block : (b : Block) → PlainBlock b → map text_held (block_held b) ≡ block_texts b
+  held_block (Begin i NoDeclaration ss e) p = held_statements ss p.1
+  held_block (Begin i (With d ds) ss e) p =
+      ap (λ z. BlockText i (With d ds) ss ∷ z)
+      (map_both (declaration_held d) (declarations_held ds ++ statements_held ss) (declaration_texts d) (declarations_texts ds ++ statements_texts ss) (held_declaration d p.0.0)
+      (map_both (declarations_held ds) (statements_held ss) (declarations_texts ds) (statements_texts ss) (held_declarations ds p.0.1) (held_statements ss p.1)))
+
+  held_declarations : (ds : Declarations) → PlainDeclarations ds → map text_held (declarations_held ds) ≡ declarations_texts ds
+  held_declarations NoDeclaration p = refl
+  held_declarations (With d ds) p = map_both (declaration_held d) (declarations_held ds) (declaration_texts d) (declarations_texts ds) (held_declaration d p.0) (held_declarations ds p.1)
+
+  held_declaration : (d : Declaration) → Rattle.sim_agree.specs.Plain.PlainDeclaration d → map text_held (declaration_held d) ≡ declaration_texts d
+  held_declaration (Variables type vs) p = refl
+  held_declaration (Arrays type i segments) p = refl
+  held_declaration (DeclareProcedure result i h a e) p = ap (λ z. ProcedureText result h a ∷ z) (held_statement a p.2)
+  held_declaration (DeclareClass None i h interface a end) p = held_class i h interface a end p.3 (held_statement a p.3)
+  held_declaration (DeclareClass (Some x) i h interface a end) p = absurd (let q : Some x ≡ None = p.0 in cc)
+
+  held_class : (i : ℕ) (h : Heading) (interface : Interface) (a : Statement) (end : ℕ) → PlainStatement a → map text_held (statement_held a) ≡ statement_texts a → map text_held (declaration_held (DeclareClass None i h interface a end)) ≡ declaration_texts (DeclareClass None i h interface a end)
+  held_class i h interface (syntax.Compound (Begin j ds ss e)) end p one =
+      ap (λ z. ClassText None h ds ss ∷ z) (map_both (declarations_held ds) (statements_held ss) (declarations_texts ds) (statements_texts ss) (held_declarations ds p.0) (held_statements ss p.1))
+  held_class i h interface (syntax.Empty n) end p one = refl
+  held_class i h interface (syntax.Prefixed x args b) end p one = absurd p
+  held_class i h interface (syntax.Inner n) end p one = ap (λ z. ClassText None h NoDeclaration (Also (syntax.Inner n) NoStatement) ∷ z) one
+  held_class i h interface (syntax.Call x) end p one = ap (λ z. ClassText None h NoDeclaration (Also (syntax.Call x) NoStatement) ∷ z) one
+  held_class i h interface (syntax.Assign x sides) end p one = ap (λ z. ClassText None h NoDeclaration (Also (syntax.Assign x sides) NoStatement) ∷ z) one
+  held_class i h interface (syntax.Choose n c x rest) end p one = ap (λ z. ClassText None h NoDeclaration (Also (syntax.Choose n c x rest) NoStatement) ∷ z) one
+  held_class i h interface (syntax.Repeat n c x) end p one = ap (λ z. ClassText None h NoDeclaration (Also (syntax.Repeat n c x) NoStatement) ∷ z) one
+  held_class i h interface (syntax.For n y sign m es x) end p one = ap (λ z. ClassText None h NoDeclaration (Also (syntax.For n y sign m es x) NoStatement) ∷ z) one
+  held_class i h interface (syntax.Inspect n object d x m rest) end p one = ap (λ z. ClassText None h NoDeclaration (Also (syntax.Inspect n object d x m rest) NoStatement) ∷ z) one
+  held_class i h interface (syntax.InspectWhen n object arms rest) end p one = ap (λ z. ClassText None h NoDeclaration (Also (syntax.InspectWhen n object arms rest) NoStatement) ∷ z) one
+  held_class i h interface (syntax.Activate n w process schedule) end p one = absurd p
+
+pub held_program : (prefix : Option Prefix) (b : Block) → prefix ≡ None → PlainBlock b → map text_held (program_held b) ≡ program_texts prefix b
+held_program (Some x) b e p = absurd (cc)
+held_program None (Begin i ds ss end) e p = ap (λ z. BlockText i ds ss ∷ z) (map_both (declarations_held ds) (statements_held ss) (declarations_texts ds) (statements_texts ss) (held_declarations ds p.0) (held_statements ss p.1))
 
 -- ---- a text that is open, with what is still to come of it
 
@@ -93,51 +232,79 @@ pub record Frame : Type 0 where
 abbrev pub frame : Text → List Part → Frame
 frame x u = record { text = x; left = u }
 
-pub data Laid : List Frame → List Mark → List Spot → List Text → Type 0 where
+pub data Laid : List Frame → List Mark → List Spot → List Held → Type 0 where
   nothing : {os : List Frame} → os ≡ [] → Laid os [] [] []
-  uses : {os : List Frame} {ms : List Mark} {l : List Spot} {xs : List Text} (x : Text) (u : List Part) (i : ℕ) → Laid (frame x u ∷ os) ms l xs → Laid (frame x (Use i ∷ u) ∷ os) ms (Token i ∷ l) xs
+  uses : {os : List Frame} {ms : List Mark} {l : List Spot} {hs : List Held} (x : Text) (u : List Part) (i : ℕ) → Laid (frame x u ∷ os) ms l hs → Laid (frame x (Use i ∷ u) ∷ os) ms (Token i ∷ l) hs
   -- a token that is no use, and the end of what is no block
-  passes : {os : List Frame} {ms : List Mark} {l : List Spot} {xs : List Text} (i : ℕ) → Laid os ms l xs → Laid os ms (Token i ∷ l) xs
-  leaves : {os : List Frame} {ms : List Mark} {l : List Spot} {xs : List Text} (i : ℕ) → Laid os ms l xs → Laid os ms (Behind i ∷ l) xs
-  declares : {o : Frame} {os : List Frame} {ms : List Mark} {l : List Spot} {xs : List Text} (x : Identifier) (e : Entry) → OwnEntry e → Laid (o ∷ os) ms l xs → Laid (o ∷ os) (Declares x e ∷ ms) (Token x.token.0 ∷ l) xs
-  parameter : {o : Frame} {os : List Frame} {ms : List Mark} {l : List Spot} {xs : List Text} (x : Identifier) → Laid (o ∷ os) ms l xs → Laid (o ∷ os) (Parameter x ∷ ms) (Token x.token.0 ∷ l) xs
-  moded : {os : List Frame} {ms : List Mark} {l : List Spot} {xs : List Text} (x : Identifier) → Laid os ms l xs → Laid os (Moded x mode.ByValue ∷ ms) l xs
-  specified : {os : List Frame} {ms : List Mark} {l : List Spot} {xs : List Text} (x : Identifier) (k : FormalKind) (ty : Option SimType) → PlainFormal k ty → Laid os ms l xs → Laid os (Specified x k ty ∷ ms) l xs
-  headed : {os : List Frame} {ms : List Mark} {l : List Spot} {xs : List Text} (x : Identifier) → Laid os ms l xs → Laid os (Headed x ∷ ms) l xs
-  program : {ms : List Mark} {l : List Spot} {xs : List Text} (text i : ℕ) (ds : Declarations) (ss : Statements) → Laid (frame (BlockText i ds ss) (text_used (BlockText i ds ss)) ∷ []) ms l xs
-      → Laid [] (Opens kind.Program text i ∷ ms) (Token i ∷ l) (BlockText i ds ss ∷ xs)
-  block : {os : List Frame} {ms : List Mark} {l : List Spot} {xs : List Text} (text i : ℕ) (ds : Declarations) (ss : Statements) (x : Text) (u : List Part)
-      → Laid (frame (BlockText i ds ss) (text_used (BlockText i ds ss)) ∷ frame x u ∷ os) ms l xs → Laid (frame x (Sub i ∷ u) ∷ os) (Opens kind.SubBlock text i ∷ ms) (Token i ∷ l) (BlockText i ds ss ∷ xs)
-  procedure : {o : Frame} {os : List Frame} {ms : List Mark} {l : List Spot} {xs : List Text} (text : ℕ) (result : Option TypeName) (h : Heading) (a : Statement)
-      → Laid (frame (ProcedureText result h a) (text_used (ProcedureText result h a)) ∷ o ∷ os) ms l xs
-      → Laid (o ∷ os) (DeclaresProcedure h.name (result_named result) ∷ Opens kind.Procedure text h.name.token.0 ∷ ms) (Token h.name.token.0 ∷ l) (ProcedureText result h a ∷ xs)
-  closes : {os : List Frame} {ms : List Mark} {l : List Spot} {xs : List Text} (x : Text) (end : ℕ) → Laid os ms l xs → Laid (frame x [] ∷ os) (Closes end ∷ ms) (Behind end ∷ l) xs
+  passes : {os : List Frame} {ms : List Mark} {l : List Spot} {hs : List Held} (i : ℕ) → Laid os ms l hs → Laid os ms (Token i ∷ l) hs
+  leaves : {os : List Frame} {ms : List Mark} {l : List Spot} {hs : List Held} (i : ℕ) → Laid os ms l hs → Laid os ms (Behind i ∷ l) hs
+  declares : {o : Frame} {os : List Frame} {ms : List Mark} {l : List Spot} {hs : List Held} (quals : List Mark) (x : Identifier) (e : Entry) → OwnEntry e → Quals (OfReferences e) quals → Laid (o ∷ os) ms l hs → Laid (o ∷ os) (Declares x e ∷ (quals ++ ms)) (Token x.token.0 ∷ l) hs
+  parameter : {o : Frame} {os : List Frame} {ms : List Mark} {l : List Spot} {hs : List Held} (x : Identifier) → Laid (o ∷ os) ms l hs → Laid (o ∷ os) (Parameter x ∷ ms) (Token x.token.0 ∷ l) hs
+  moded : {os : List Frame} {ms : List Mark} {l : List Spot} {hs : List Held} (x : Identifier) → Laid os ms l hs → Laid os (Moded x mode.ByValue ∷ ms) l hs
+  specified : {os : List Frame} {ms : List Mark} {l : List Spot} {hs : List Held} (quals : List Mark) (x : Identifier) (k : FormalKind) (ty : Option SimType) → PlainFormal k ty → Quals (AreReferences ty) quals → Laid os ms l hs → Laid os (Specified x k ty ∷ (quals ++ ms)) l hs
+  headed : {os : List Frame} {ms : List Mark} {l : List Spot} {hs : List Held} (x : Identifier) → Laid os ms l hs → Laid os (Headed x ∷ ms) l hs
+  inner_mark : {os : List Frame} {ms : List Mark} {l : List Spot} {hs : List Held} (token : ℕ) → Laid os ms l hs → Laid os (Inner token ∷ ms) l hs
+  breaks_rule : {os : List Frame} {ms : List Mark} {l : List Spot} {hs : List Held} (token : ℕ) (rule : Rule) → Laid os ms l hs → Laid os (Breaks token rule ∷ ms) l hs
+  program : {ms : List Mark} {l : List Spot} {hs : List Held} (text i : ℕ) (ds : Declarations) (ss : Statements) → Laid (frame (BlockText i ds ss) (text_used (BlockText i ds ss)) ∷ []) ms l hs
+      → Laid [] (Opens kind.Program text i ∷ ms) (Token i ∷ l) (Whole (BlockText i ds ss) ∷ hs)
+  block : {os : List Frame} {ms : List Mark} {l : List Spot} {hs : List Held} (text i : ℕ) (ds : Declarations) (ss : Statements) (x : Text) (u : List Part)
+      → Laid (frame (BlockText i ds ss) (text_used (BlockText i ds ss)) ∷ frame x u ∷ os) ms l hs → Laid (frame x (Sub i ∷ u) ∷ os) (Opens kind.SubBlock text i ∷ ms) (Token i ∷ l) (Whole (BlockText i ds ss) ∷ hs)
+  connects : {os : List Frame} {ms : List Mark} {l : List Spot} {hs : List Held} (text i : ℕ) (a : Statement) (x : Text) (u : List Part)
+      → Laid (frame ConnectionText (statement_used a []) ∷ frame x u ∷ os) ms l hs → Laid (frame x (Con i a ∷ u) ∷ os) (Opens kind.Connection text i ∷ ms) (Token i ∷ l) (Joined i a ∷ hs)
+  procedure : {o : Frame} {os : List Frame} {ms : List Mark} {l : List Spot} {hs : List Held} (text : ℕ) (quals : List Mark) (result : Option TypeName) (h : Heading) (a : Statement) → Quals (AreReferences (result_named result)) quals
+      → Laid (frame (ProcedureText result h a) (text_used (ProcedureText result h a)) ∷ o ∷ os) ms l hs
+      → Laid (o ∷ os) (DeclaresProcedure h.name (result_named result) ∷ (quals ++ Opens kind.Procedure text h.name.token.0 ∷ ms)) (Token h.name.token.0 ∷ l) (Whole (ProcedureText result h a) ∷ hs)
+  declares_class : {o : Frame} {os : List Frame} {ms : List Mark} {l : List Spot} {hs : List Held} (text : ℕ) (h : Heading) (ds : Declarations) (ss : Statements)
+      → Laid (frame (ClassText None h ds ss) (text_used (ClassText None h ds ss)) ∷ o ∷ os) ms l hs
+      → Laid (o ∷ os) (DeclaresClass h.name ∷ Opens kind.Class text h.name.token.0 ∷ ms) (Token h.name.token.0 ∷ l) (Whole (ClassText None h ds ss) ∷ hs)
+  closes : {os : List Frame} {ms : List Mark} {l : List Spot} {hs : List Held} (x : Text) (end : ℕ) → Laid os ms l hs → Laid (frame x [] ∷ os) (Closes end ∷ ms) (Behind end ∷ l) hs
 
 -- ---- one part after the other
 
 abbrev pub Put : Type 0
 Put = List Spot → List Spot
 
-pub record Lays (os : List Frame) (es : List Mark) (f : Put) (ns : List Text) (ps : List Frame) : Type 0 where
-  pub before : (ms : List Mark) (l : List Spot) (xs : List Text) → Laid ps ms l xs → Laid os (es ++ ms) (f l) (ns ++ xs)
+pub record Lays (os : List Frame) (es : List Mark) (f : Put) (ns : List Held) (ps : List Frame) : Type 0 where
+  pub before : (ms : List Mark) (l : List Spot) (hs : List Held) → Laid ps ms l hs → Laid os (es ++ ms) (f l) (ns ++ hs)
 
-both : {os ps qs : List Frame} {es fs : List Mark} {ns ks : List Text} (f g : Put) → Lays os es f ns ps → Lays ps fs g ks qs → Lays os (es ++ fs) (λ l. f (g l)) (ns ++ ks) qs
+both : {os ps qs : List Frame} {es fs : List Mark} {ns ks : List Held} (f g : Put) → Lays os es f ns ps → Lays ps fs g ks qs → Lays os (es ++ fs) (λ l. f (g l)) (ns ++ ks) qs
 both {os = os} {es = es} {fs = fs} {ns = ns} {ks = ks} f g a b = record {
-  before = λ ms l xs h. subst (λ z. Laid os z (f (g l)) ((ns ++ ks) ++ xs)) (sym (append_assoc es fs ms)) (subst (λ z. Laid os (es ++ (fs ++ ms)) (f (g l)) z) (sym (append_assoc ns ks xs)) (a.before (fs ++ ms) (g l) (ks ++ xs) (b.before ms l xs h)));
+  before = λ ms l hs h. subst (λ z. Laid os z (f (g l)) ((ns ++ ks) ++ hs)) (sym (append_assoc es fs ms)) (subst (λ z. Laid os (es ++ (fs ++ ms)) (f (g l)) z) (sym (append_assoc ns ks hs)) (a.before (fs ++ ms) (g l) (ks ++ hs) (b.before ms l hs h)));
 }
 
 -- parts without marks and texts
-lead : {os ps qs : List Frame} {es : List Mark} {ns : List Text} (f g : Put) → Lays os [] f [] ps → Lays ps es g ns qs → Lays os es (λ l. f (g l)) ns qs
-lead f g a b = record { before = λ ms l xs h. a.before _ (g l) _ (b.before ms l xs h) }
+lead : {os ps qs : List Frame} {es : List Mark} {ns : List Held} (f g : Put) → Lays os [] f [] ps → Lays ps es g ns qs → Lays os es (λ l. f (g l)) ns qs
+lead f g a b = record { before = λ ms l hs h. a.before _ (g l) _ (b.before ms l hs h) }
 
-follow : {os ps qs : List Frame} {es : List Mark} {ns : List Text} (f g : Put) → Lays os es f ns ps → Lays ps [] g [] qs → Lays os es (λ l. f (g l)) ns qs
-follow f g a b = record { before = λ ms l xs h. a.before ms (g l) xs (b.before ms l xs h) }
+follow : {os ps qs : List Frame} {es : List Mark} {ns : List Held} (f g : Put) → Lays os es f ns ps → Lays ps [] g [] qs → Lays os es (λ l. f (g l)) ns qs
+follow f g a b = record { before = λ ms l hs h. a.before ms (g l) hs (b.before ms l hs h) }
 
 none : {os : List Frame} → Lays os [] (λ l. l) [] os
-none = record { before = λ ms l xs h. h }
+none = record { before = λ ms l hs h. h }
 
-as_texts : {os ps : List Frame} {es : List Mark} (f : Put) (ns ks : List Text) → ns ≡ ks → Lays os es f ns ps → Lays os es f ks ps
-as_texts {os = os} {ps = ps} {es = es} f ns ks e a = subst (λ z. Lays os es f z ps) e a
+as_held : {os ps : List Frame} {es : List Mark} (f : Put) (ns ks : List Held) → ns ≡ ks → Lays os es f ns ps → Lays os es f ks ps
+as_held {os = os} {ps = ps} {es = es} f ns ks e a = subst (λ z. Lays os es f z ps) e a
+
+as_marks : {os ps : List Frame} {ns : List Held} (f : Put) (es fs : List Mark) → es ≡ fs → Lays os es f ns ps → Lays os fs f ns ps
+as_marks {os = os} {ps = ps} {ns = ns} f es fs e a = subst (λ z. Lays os z f ns ps) e a
+
+leaves_one : (i : ℕ) (os : List Frame) → Lays os [] (λ l. Behind i ∷ l) [] os
+leaves_one i os = record { before = λ ms l hs h. leaves i h }
+
+passes_one : (i : ℕ) (os : List Frame) → Lays os [] (λ l. Token i ∷ l) [] os
+passes_one i os = record { before = λ ms l hs h. passes i h }
+
+-- the class that is written for references
+type_lays : (type : TypeName) (os : List Frame) → Lays os [] (in_type type) [] os
+type_lays (type_name.Integer i) os = none
+type_lays (type_name.Boolean i) os = none
+type_lays (type_name.Character i) os = none
+type_lays (type_name.Text i) os = none
+type_lays (type_name.Reference i class) os = passes_one class.token.0 os
+
+result_lays : (result : Option TypeName) (os : List Frame) → Lays os [] (in_result result) [] os
+result_lays None os = none
+result_lays (Some type) os = type_lays type os
 
 -- ---- expressions
 
@@ -147,7 +314,7 @@ module _ (x : Text) (os : List Frame) where
 
   list_lays : (is : List ℕ) (u : List Part) → Lays (At (used is u)) [] (tokens is) [] (At u)
   list_lays [] u = none
-  list_lays (i ∷ is) u = record { before = λ ms l xs h. uses x (used is u) i ((list_lays is u).before ms l xs h) }
+  list_lays (i ∷ is) u = record { before = λ ms l hs h. uses x (used is u) i ((list_lays is u).before ms l hs h) }
 
   expression_lays : (e : Expression) (u : List Part) → Lays (At (expression_used e u)) [] (in_expression e) [] (At u)
   expression_lays e u = list_lays (named e []) u
@@ -169,54 +336,45 @@ module _ (x : Text) (os : List Frame) where
   bounds_lay b u = lead (in_expression b.lower) (in_expression b.upper) (expression_lays b.lower (expression_used b.upper u)) (expression_lays b.upper u)
 
   name_lays : (i : ℕ) (u : List Part) → Lays (At (Use i ∷ u)) [] (λ l. Token i ∷ l) [] (At u)
-  name_lays i u = record { before = λ ms l xs h. uses x u i h }
+  name_lays i u = record { before = λ ms l hs h. uses x u i h }
 
-  -- ---- declarations of a block
+  -- ---- declarations of a block or a class
 
-  declared_lays : (y : Identifier) (e : Entry) (u : List Part) → OwnEntry e → Lays (At u) (Declares y e ∷ []) (in_name y) [] (At u)
-  declared_lays y e u own = record { before = λ ms l xs h. declares y e own h }
+  typed_lays : (type : TypeName) (y : Identifier) (e : Entry) (u : List Part) → OwnEntry e → Quals (OfReferences e) (qualified_marks type) → Lays (At u) (Declares y e ∷ qualified_marks type) (in_name y) [] (At u)
+  typed_lays type y e u own q = record { before = λ ms l hs h. declares (qualified_marks type) y e own q h }
 
-  typed_lays : (type : TypeName) → PlainType type → (y : Identifier) (e : Entry) (u : List Part) → OwnEntry e → Lays (At u) (Declares y e ∷ qualified_marks type) (in_name y) [] (At u)
-  typed_lays type p y e u own = subst (λ z. Lays (At u) (Declares y e ∷ z) (in_name y) [] (At u)) (sym (unqualified type p)) (declared_lays y e u own)
-
-  variable_lays : (type : TypeName) → PlainType type → (v : Variable) (u : List Part) → Lays (At u) (variable_marks type v) (in_variable v) [] (At u)
+  variable_lays : (type : TypeName) (v : Variable) (u : List Part) → Lays (At u) (variable_marks type v) (in_variable v) [] (At u)
   unfolding variable_marks
-  variable_lays type p v u = elim v.value as (λ o. Lays (At u) (elim o [ None ↦ Declares v.name (entry.Variable (type_named type)) ∷ qualified_marks type | Some c ↦ Declares v.name (entry.Constant (type_named type)) ∷ qualified_marks type ]) (in_variable v) [] (At u))
-      [ None ↦ typed_lays type p v.name (entry.Variable (type_named type)) u (plain_named 0 NoDeclaration NoStatement [] type p) | Some c ↦ typed_lays type p v.name (entry.Constant (type_named type)) u (plain_named 0 NoDeclaration NoStatement [] type p) ]
+  variable_lays type v u = elim v.value as (λ o. Lays (At u) (elim o [ None ↦ Declares v.name (entry.Variable (type_named type)) ∷ qualified_marks type | Some c ↦ Declares v.name (entry.Constant (type_named type)) ∷ qualified_marks type ]) (in_variable v) [] (At u))
+      [ None ↦ typed_lays type v.name (entry.Variable (type_named type)) u tt (quals_of_type type) | Some c ↦ typed_lays type v.name (entry.Constant (type_named type)) u tt (quals_of_type type) ]
 
-  variables_lay : (type : TypeName) → PlainType type → (vs : List Variable) (u : List Part) → Lays (At u) (each (variable_marks type) vs) (in_each in_variable vs) [] (At u)
-  variables_lay type p [] u = none
-  variables_lay type p (v ∷ vs) u = both (in_variable v) (in_each in_variable vs) (variable_lays type p v u) (variables_lay type p vs u)
+  variables_lay : (type : TypeName) (vs : List Variable) (u : List Part) → Lays (At u) (each (variable_marks type) vs) (in_each in_variable vs) [] (At u)
+  variables_lay type [] u = none
+  variables_lay type (v ∷ vs) u = both (in_variable v) (in_each in_variable vs) (variable_lays type v u) (variables_lay type vs u)
 
-  array_lays : (type : TypeName) → PlainType type → (n : ℕ) (xs : List Identifier) (u : List Part) → Lays (At u) (each (array_marks type n) xs) (in_each in_name xs) [] (At u)
+  array_lays : (type : TypeName) (n : ℕ) (xs : List Identifier) (u : List Part) → Lays (At u) (each (array_marks type n) xs) (in_each in_name xs) [] (At u)
   unfolding array_marks
-  array_lays type p n [] u = none
-  array_lays type p n (y ∷ ys) u = both (in_name y) (in_each in_name ys) (typed_lays type p y (entry.Array (type_named type) n) u (plain_named 0 NoDeclaration NoStatement [] type p)) (array_lays type p n ys u)
+  array_lays type n [] u = none
+  array_lays type n (y ∷ ys) u = both (in_name y) (in_each in_name ys) (typed_lays type y (entry.Array (type_named type) n) u tt (quals_of_type type)) (array_lays type n ys u)
 
-  segments_lay : (type : TypeName) → PlainType type → (ys : List Arrayed) (u : List Part) → Lays (At (each_used segment_used ys u)) (each (segment_marks type) ys) (in_each in_segment ys) [] (At u)
-  segments_lay type p [] u = none
-  segments_lay type p (y ∷ ys) u =
+  segments_lay : (type : TypeName) (ys : List Arrayed) (u : List Part) → Lays (At (each_used segment_used ys u)) (each (segment_marks type) ys) (in_each in_segment ys) [] (At u)
+  segments_lay type [] u = none
+  segments_lay type (y ∷ ys) u =
       both (in_segment y) (in_each in_segment ys)
-      (follow (in_each in_name y.names) (in_each in_bounds y.bounds) (array_lays type p (length y.bounds) y.names (segment_used y (each_used segment_used ys u))) (each_lays bounds_used in_bounds bounds_lay y.bounds (each_used segment_used ys u)))
-      (segments_lay type p ys u)
+      (follow (in_each in_name y.names) (in_each in_bounds y.bounds) (array_lays type (length y.bounds) y.names (segment_used y (each_used segment_used ys u))) (each_lays bounds_used in_bounds bounds_lay y.bounds (each_used segment_used ys u)))
+      (segments_lay type ys u)
 
 -- ---- headings
 
 module _ (o : Frame) (os : List Frame) where
   parameter_one : (x : Identifier) → Lays (o ∷ os) (Parameter x ∷ []) (in_name x) [] (o ∷ os)
-  parameter_one x = record { before = λ ms l xs h. parameter x h }
+  parameter_one x = record { before = λ ms l hs h. parameter x h }
 
   moded_one : (x : Identifier) → Lays (o ∷ os) (Moded x mode.ByValue ∷ []) (λ l. l) [] (o ∷ os)
-  moded_one x = record { before = λ ms l xs h. moded x h }
-
-  specified_one : (x : Identifier) (k : FormalKind) (ty : Option SimType) → PlainFormal k ty → Lays (o ∷ os) (Specified x k ty ∷ []) (λ l. l) [] (o ∷ os)
-  specified_one x k ty p = record { before = λ ms l xs h. specified x k ty p h }
-
-  specified_typed : (type : TypeName) → PlainType type → (x : Identifier) (k : FormalKind) → PlainFormal k (Some (type_named type)) → Lays (o ∷ os) (Specified x k (Some (type_named type)) ∷ qualified_marks type) (λ l. l) [] (o ∷ os)
-  specified_typed type q x k p = subst (λ z. Lays (o ∷ os) (Specified x k (Some (type_named type)) ∷ z) (λ l. l) [] (o ∷ os)) (sym (unqualified type q)) (specified_one x k (Some (type_named type)) p)
+  moded_one x = record { before = λ ms l hs h. moded x h }
 
   headed_one : (x : Identifier) → Lays (o ∷ os) (Headed x ∷ []) (λ l. l) [] (o ∷ os)
-  headed_one x = record { before = λ ms l xs h. headed x h }
+  headed_one x = record { before = λ ms l hs h. headed x h }
 
   parameters_lay : (xs : List Identifier) → Lays (o ∷ os) (each parameter_marks xs) (in_each in_name xs) [] (o ∷ os)
   unfolding parameter_marks
@@ -233,19 +391,22 @@ module _ (o : Frame) (os : List Frame) where
   modes_lay [] p = none
   modes_lay (x ∷ xs) p = both (λ l. l) (λ l. l) (moded_lay x.mode p.0 x.names) (modes_lay xs p.1)
 
-  simple_lay : (type : TypeName) → PlainType type → (xs : List Identifier) → Lays (o ∷ os) (each (specified_marks (syntax.Simple type)) xs) (λ l. l) [] (o ∷ os)
-  unfolding specified_marks
-  simple_lay type p [] = none
-  simple_lay type p (x ∷ xs) = both (λ l. l) (λ l. l) (specified_typed type p x shape.Simple (plain_named 0 NoDeclaration NoStatement [] type p)) (simple_lay type p xs)
+  specified_typed : (type : TypeName) (x : Identifier) (k : FormalKind) → PlainFormal k (Some (type_named type)) → Lays (o ∷ os) (Specified x k (Some (type_named type)) ∷ qualified_marks type) (λ l. l) [] (o ∷ os)
+  specified_typed type x k p = record { before = λ ms l hs h. specified (qualified_marks type) x k (Some (type_named type)) p (quals_of_type type) h }
 
-  arrays_lay : (type : TypeName) (i : ℕ) → PlainType type → (xs : List Identifier) → Lays (o ∷ os) (each (specified_marks (syntax.Array type i)) xs) (λ l. l) [] (o ∷ os)
+  simple_lay : (type : TypeName) (xs : List Identifier) → Lays (o ∷ os) (each (specified_marks (syntax.Simple type)) xs) (λ l. l) [] (o ∷ os)
   unfolding specified_marks
-  arrays_lay type i p [] = none
-  arrays_lay type i p (x ∷ xs) = both (λ l. l) (λ l. l) (specified_typed type p x shape.Array (plain_named 0 NoDeclaration NoStatement [] type p)) (arrays_lay type i p xs)
+  simple_lay type [] = none
+  simple_lay type (x ∷ xs) = both (λ l. l) (λ l. l) (specified_typed type x shape.Simple tt) (simple_lay type xs)
+
+  arrays_lay : (type : TypeName) (i : ℕ) (xs : List Identifier) → Lays (o ∷ os) (each (specified_marks (syntax.Array type i)) xs) (λ l. l) [] (o ∷ os)
+  unfolding specified_marks
+  arrays_lay type i [] = none
+  arrays_lay type i (x ∷ xs) = both (λ l. l) (λ l. l) (specified_typed type x shape.Array tt) (arrays_lay type i xs)
 
   specified_lay : (k : Specifier) (xs : List Identifier) → PlainSpecification (record { kind = k; names = xs }) → Lays (o ∷ os) (each (specified_marks k) xs) (λ l. l) [] (o ∷ os)
-  specified_lay (syntax.Simple type) xs p = simple_lay type p xs
-  specified_lay (syntax.Array type i) xs p = arrays_lay type i p xs
+  specified_lay (syntax.Simple type) xs p = simple_lay type xs
+  specified_lay (syntax.Array type i) xs p = arrays_lay type i xs
   specified_lay (syntax.Procedure type i) xs p = absurd p
 
   specifications_lay : (xs : List Specification) → Each PlainSpecification xs → Lays (o ∷ os) (each specification_marks xs) (λ l. l) [] (o ∷ os)
@@ -264,101 +425,193 @@ module _ (o : Frame) (os : List Frame) where
 -- ---- statements and declarations
 
 begins_block : (i : ℕ) (ds : Declarations) (ss : Statements) (x : Text) (u : List Part) (os : List Frame)
-    → Lays (frame x (Sub i ∷ u) ∷ os) (Opens kind.SubBlock i i ∷ []) (λ l. Token i ∷ l) (BlockText i ds ss ∷ []) (frame (BlockText i ds ss) (text_used (BlockText i ds ss)) ∷ frame x u ∷ os)
-begins_block i ds ss x u os = record { before = λ ms l xs h. block i i ds ss x u h }
+    → Lays (frame x (Sub i ∷ u) ∷ os) (Opens kind.SubBlock i i ∷ []) (λ l. Token i ∷ l) (Whole (BlockText i ds ss) ∷ []) (frame (BlockText i ds ss) (text_used (BlockText i ds ss)) ∷ frame x u ∷ os)
+begins_block i ds ss x u os = record { before = λ ms l hs h. block i i ds ss x u h }
 
-begins_program : (i : ℕ) (ds : Declarations) (ss : Statements) → Lays [] (Opens kind.Program i i ∷ []) (λ l. Token i ∷ l) (BlockText i ds ss ∷ []) (frame (BlockText i ds ss) (text_used (BlockText i ds ss)) ∷ [])
-begins_program i ds ss = record { before = λ ms l xs h. program i i ds ss h }
+begins_connection : (i : ℕ) (a : Statement) (x : Text) (u : List Part) (os : List Frame) → Lays (frame x (Con i a ∷ u) ∷ os) (Opens kind.Connection i i ∷ []) (λ l. Token i ∷ l) (Joined i a ∷ []) (frame ConnectionText (statement_used a []) ∷ frame x u ∷ os)
+begins_connection i a x u os = record { before = λ ms l hs h. connects i i a x u h }
 
-begins_procedure : (result : Option TypeName) → PlainResult result → (token : ℕ) (h : Heading) (a : Statement) (o : Frame) (os : List Frame)
-    → Lays (o ∷ os) (procedure_marks result token h.name) (in_name h.name) (ProcedureText result h a ∷ []) (frame (ProcedureText result h a) (text_used (ProcedureText result h a)) ∷ o ∷ os)
+begins_program : (i : ℕ) (ds : Declarations) (ss : Statements) → Lays [] (Opens kind.Program i i ∷ []) (λ l. Token i ∷ l) (Whole (BlockText i ds ss) ∷ []) (frame (BlockText i ds ss) (text_used (BlockText i ds ss)) ∷ [])
+begins_program i ds ss = record { before = λ ms l hs h. program i i ds ss h }
+
+begins_procedure : (result : Option TypeName) (token : ℕ) (h : Heading) (a : Statement) (o : Frame) (os : List Frame)
+    → Lays (o ∷ os) (procedure_marks result token h.name) (in_name h.name) (Whole (ProcedureText result h a) ∷ []) (frame (ProcedureText result h a) (text_used (ProcedureText result h a)) ∷ o ∷ os)
 unfolding procedure_marks
-begins_procedure result p token h a o os =
-    subst (λ z. Lays (o ∷ os) (DeclaresProcedure h.name (result_named result) ∷ (z ++ Opens kind.Procedure (first_of_procedure result token) h.name.token.0 ∷ [])) (in_name h.name) (ProcedureText result h a ∷ []) (frame (ProcedureText result h a) (text_used (ProcedureText result h a)) ∷ o ∷ os))
-    (sym (unqualified_result result p)) (record { before = λ ms l xs k. procedure (first_of_procedure result token) result h a k })
+begins_procedure result token h a o os = record {
+  before = λ ms l hs k.
+      subst (λ z. Laid (o ∷ os) (DeclaresProcedure h.name (result_named result) ∷ z) (Token h.name.token.0 ∷ l) (Whole (ProcedureText result h a) ∷ hs)) (sym (append_assoc (qualified_result result) (Opens kind.Procedure (first_of_procedure result token) h.name.token.0 ∷ []) ms))
+      (procedure (first_of_procedure result token) (qualified_result result) result h a (quals_of_result result) k);
+}
+
+begins_class : (token : ℕ) (h : Heading) (ds : Declarations) (ss : Statements) (o : Frame) (os : List Frame)
+    → Lays (o ∷ os) (class_marks None token h.name) (in_name h.name) (Whole (ClassText None h ds ss) ∷ []) (frame (ClassText None h ds ss) (text_used (ClassText None h ds ss)) ∷ o ∷ os)
+unfolding class_marks class_prefix_marks
+begins_class token h ds ss o os = record { before = λ ms l hs k. declares_class (first_of_class None token) h ds ss k }
 
 ends : (x : Text) (end : ℕ) (os : List Frame) → Lays (frame x [] ∷ os) (Closes end ∷ []) (λ l. Behind end ∷ l) [] os
-ends x end os = record { before = λ ms l xs h. closes x end h }
+ends x end os = record { before = λ ms l hs h. closes x end h }
 
-leaves_one : (i : ℕ) (os : List Frame) → Lays os [] (λ l. Behind i ∷ l) [] os
-leaves_one i os = record { before = λ ms l xs h. leaves i h }
-
-passes_one : (i : ℕ) (os : List Frame) → Lays os [] (λ l. Token i ∷ l) [] os
-passes_one i os = record { before = λ ms l xs h. passes i h }
-
-inside_block : (os : List Frame) (x : Text) (u v : List Part) (ds ss : List Mark) (f g : Put) (dt st : List Text) (end : ℕ) → Lays (frame x u ∷ os) ds f dt (frame x v ∷ os) → Lays (frame x v ∷ os) ss g st (frame x [] ∷ os)
+inside_block : (os : List Frame) (x : Text) (u v : List Part) (ds ss : List Mark) (f g : Put) (dt st : List Held) (end : ℕ) → Lays (frame x u ∷ os) ds f dt (frame x v ∷ os) → Lays (frame x v ∷ os) ss g st (frame x [] ∷ os)
     → Lays (frame x u ∷ os) ((ds ++ ss) ++ Closes end ∷ []) (λ l. f (g (Behind end ∷ l))) (dt ++ st) os
-inside_block os x u v ds ss f g dt st end a b = as_texts (λ l. f (g (Behind end ∷ l))) ((dt ++ st) ++ []) (dt ++ st) (append-nil (dt ++ st)) (both (λ l. f (g l)) (λ l. Behind end ∷ l) (both f g a b) (ends x end os))
+inside_block os x u v ds ss f g dt st end a b = as_held (λ l. f (g (Behind end ∷ l))) ((dt ++ st) ++ []) (dt ++ st) (append-nil (dt ++ st)) (both (λ l. f (g l)) (λ l. Behind end ∷ l) (both f g a b) (ends x end os))
 
-procedure_lays : (result : Option TypeName) (j : ℕ) (h : Heading) (a : Statement) (e : ℕ) (o : Frame) (os : List Frame) → PlainResult result → PlainHeading h
-    → Lays (frame (ProcedureText result h a) (statement_used a []) ∷ o ∷ os) (statement_events declaring Inside a) (in_statement a) (statement_texts a) (frame (ProcedureText result h a) [] ∷ o ∷ os)
-    → Lays (o ∷ os) (declaration_events declaring (DeclareProcedure result j h a e)) (in_declaration (DeclareProcedure result j h a e)) (declaration_texts (DeclareProcedure result j h a e)) (o ∷ os)
+-- a connection, and what stands in it
+connection_lays : (opening end : ℕ) (a : Statement) (x : Text) (u : List Part) (os : List Frame)
+    → Lays (frame ConnectionText (statement_used a []) ∷ frame x u ∷ os) (statement_events declaring Inside a) (in_statement a) (statement_held a) (frame ConnectionText [] ∷ frame x u ∷ os)
+    → Lays (frame x (Con opening a ∷ u) ∷ os) ((Opens kind.Connection opening opening ∷ []) ++ (statement_events declaring Inside a ++ Closes end ∷ [])) (λ l. Token opening ∷ in_statement a (Behind end ∷ l)) (Joined opening a ∷ statement_held a) (frame x u ∷ os)
+connection_lays opening end a x u os body =
+    as_held (λ l. Token opening ∷ in_statement a (Behind end ∷ l)) (Joined opening a ∷ (statement_held a ++ [])) (Joined opening a ∷ statement_held a) (ap (λ z. Joined opening a ∷ z) (append-nil (statement_held a)))
+    (both (λ l. Token opening ∷ l) (λ l. in_statement a (Behind end ∷ l)) (begins_connection opening a x u os) (both (in_statement a) (λ l. Behind end ∷ l) body (ends ConnectionText end (frame x u ∷ os))))
+
+procedure_lays : (result : Option TypeName) (j : ℕ) (h : Heading) (a : Statement) (e : ℕ) (o : Frame) (os : List Frame) → PlainHeading h
+    → Lays (frame (ProcedureText result h a) (statement_used a []) ∷ o ∷ os) (statement_events declaring Inside a) (in_statement a) (statement_held a) (frame (ProcedureText result h a) [] ∷ o ∷ os)
+    → Lays (o ∷ os) (declaration_events declaring (DeclareProcedure result j h a e)) (in_declaration (DeclareProcedure result j h a e)) (declaration_held (DeclareProcedure result j h a e)) (o ∷ os)
 unfolding declaring
-procedure_lays result j h a e o os r p body =
+procedure_lays result j h a e o os p body =
     let x : Text = ProcedureText result h a in
-    as_texts (in_declaration (DeclareProcedure result j h a e)) (x ∷ (statement_texts a ++ [])) (x ∷ statement_texts a) (ap (λ z. x ∷ z) (append-nil (statement_texts a)))
+    as_held (in_declaration (DeclareProcedure result j h a e)) (Whole x ∷ (statement_held a ++ [])) (Whole x ∷ statement_held a) (ap (λ z. Whole x ∷ z) (append-nil (statement_held a)))
+    (lead (in_result result) (λ l. in_name h.name (in_each in_name h.formals (in_statement a (Behind e ∷ l)))) (result_lays result (o ∷ os))
     (both (λ l. in_name h.name (in_each in_name h.formals l)) (λ l. in_statement a (Behind e ∷ l))
-    (both (in_name h.name) (in_each in_name h.formals) (begins_procedure result r j h a o os) (heading_lays (frame x (statement_used a [])) (o ∷ os) h p))
+    (both (in_name h.name) (in_each in_name h.formals) (begins_procedure result j h a o os) (heading_lays (frame x (statement_used a [])) (o ∷ os) h p))
+    (both (in_statement a) (λ l. Behind e ∷ l) body (ends x e (o ∷ os)))))
+
+-- what is held of a class
+class_held : (j : ℕ) (h : Heading) (i : Interface) (a : Statement) (e : ℕ)
+    → declaration_held (DeclareClass None j h i a e) ≡ Whole (ClassText None h (body_declarations a) (body_statements a)) ∷ (declarations_held (body_declarations a) ++ statements_held (body_statements a))
+class_held j h i (syntax.Compound (Begin n ds ss m)) e = refl
+class_held j h i (syntax.Empty n) e = refl
+class_held j h i (syntax.Prefixed x args b) e = refl
+class_held j h i (syntax.Inner n) e = refl
+class_held j h i (syntax.Call x) e = refl
+class_held j h i (syntax.Assign x sides) e = refl
+class_held j h i (syntax.Choose n c x rest) e = ap (λ z. Whole (ClassText None h NoDeclaration (Also (syntax.Choose n c x rest) NoStatement)) ∷ z) (sym (append-nil (statement_held (syntax.Choose n c x rest))))
+class_held j h i (syntax.Repeat n c x) e = ap (λ z. Whole (ClassText None h NoDeclaration (Also (syntax.Repeat n c x) NoStatement)) ∷ z) (sym (append-nil (statement_held (syntax.Repeat n c x))))
+class_held j h i (syntax.For n y sign m es x) e = ap (λ z. Whole (ClassText None h NoDeclaration (Also (syntax.For n y sign m es x) NoStatement)) ∷ z) (sym (append-nil (statement_held (syntax.For n y sign m es x))))
+class_held j h i (syntax.Inspect n object d x m rest) e = ap (λ z. Whole (ClassText None h NoDeclaration (Also (syntax.Inspect n object d x m rest) NoStatement)) ∷ z) (sym (append-nil (statement_held (syntax.Inspect n object d x m rest))))
+class_held j h i (syntax.InspectWhen n object arms rest) e = ap (λ z. Whole (ClassText None h NoDeclaration (Also (syntax.InspectWhen n object arms rest) NoStatement)) ∷ z) (sym (append-nil (statement_held (syntax.InspectWhen n object arms rest))))
+class_held j h i (syntax.Activate n w process schedule) e = refl
+
+class_lays : (j : ℕ) (h : Heading) (i : Interface) (a : Statement) (e : ℕ) (o : Frame) (os : List Frame) → PlainHeading h → PlainInterface i
+    → Lays (frame (ClassText None h (body_declarations a) (body_statements a)) (text_used (ClassText None h (body_declarations a) (body_statements a))) ∷ o ∷ os) (statement_events declaring ClassBody a) (in_statement a) (declarations_held (body_declarations a) ++ statements_held (body_statements a))
+    (frame (ClassText None h (body_declarations a) (body_statements a)) [] ∷ o ∷ os)
+    → Lays (o ∷ os) (declaration_events declaring (DeclareClass None j h i a e)) (in_declaration (DeclareClass None j h i a e)) (declaration_held (DeclareClass None j h i a e)) (o ∷ os)
+unfolding declaring
+class_lays j h i a e o os p q body =
+    let x : Text = ClassText None h (body_declarations a) (body_statements a) in
+    let inside : List Held = declarations_held (body_declarations a) ++ statements_held (body_statements a) in
+    as_held (in_declaration (DeclareClass None j h i a e)) (Whole x ∷ (inside ++ [])) (declaration_held (DeclareClass None j h i a e)) (ap (λ z. Whole x ∷ z) (append-nil inside) ∙ sym (class_held j h i a e))
+    (both (λ l. in_name h.name (in_each in_name h.formals l)) (λ l. in_statement a (Behind e ∷ l))
+    (both (in_name h.name) (in_each in_name h.formals) (begins_class j h (body_declarations a) (body_statements a) o os)
+    (as_marks (in_each in_name h.formals) (heading_marks h) (heading_marks h ++ interface_marks i) (sym (append-nil (heading_marks h)) ∙ ap (λ z. heading_marks h ++ z) (sym (no_interface i q))) (heading_lays (frame x (text_used x)) (o ∷ os) h p)))
     (both (in_statement a) (λ l. Behind e ∷ l) body (ends x e (o ∷ os))))
 
+-- a statement stands in the body of a class, or elsewhere
+abbrev place_of : (in_class : Bool) → Position
+place_of true = ClassStatement
+place_of false = Inside
+
 mutual
-  unfolding declaring
+  unfolding declaring inner_marks
 
-  statement_lays : (st : Statement) (x : Text) (u : List Part) (os : List Frame) → PlainStatement st → Lays (frame x (statement_used st u) ∷ os) (statement_events declaring Inside st) (in_statement st) (statement_texts st) (frame x u ∷ os)
-  statement_lays (syntax.Empty i) x u os p = none
-  statement_lays (syntax.Compound b) x u os p = block_lays b x u os p
-  statement_lays (syntax.Prefixed y args b) x u os p = absurd p
-  statement_lays (syntax.Inner i) x u os p = absurd p
-  statement_lays (syntax.Call e) x u os p = expression_lays x os e u
-  statement_lays (syntax.Assign e sides) x u os p = lead (in_expression e) (in_each in_side sides) (expression_lays x os e (each_used side_used sides u)) (each_lays x os side_used in_side (side_lays x os) sides u)
-  statement_lays (syntax.Choose i c a rest) x u os p =
+  statement_lays : (b : Bool) (st : Statement) (x : Text) (u : List Part) (os : List Frame) → PlainStatement st → Lays (frame x (statement_used st u) ∷ os) (statement_events declaring (place_of b) st) (in_statement st) (statement_held st) (frame x u ∷ os)
+  statement_lays b (syntax.Empty i) x u os p = none
+  statement_lays true (syntax.Compound k) x u os p = block_lays k x u os p
+  statement_lays false (syntax.Compound k) x u os p = block_lays k x u os p
+  statement_lays b (syntax.Prefixed y args k) x u os p = absurd p
+  statement_lays true (syntax.Inner i) x u os p = record { before = λ ms l hs h. uses x u i (inner_mark i h) }
+  statement_lays false (syntax.Inner i) x u os p = record { before = λ ms l hs h. uses x u i (breaks_rule i r.InnerOutOfPlace h) }
+  statement_lays b (syntax.Call e) x u os p = expression_lays x os e u
+  statement_lays b (syntax.Assign e sides) x u os p = lead (in_expression e) (in_each in_side sides) (expression_lays x os e (each_used side_used sides u)) (each_lays x os side_used in_side (side_lays x os) sides u)
+  statement_lays b (syntax.Choose i c a rest) x u os p =
       lead (in_expression c) (λ l. in_statement a (in_statements rest l)) (expression_lays x os c (statement_used a (statements_used rest u)))
-      (both (in_statement a) (in_statements rest) (statement_lays a x (statements_used rest u) os p.1) (statements_lay rest x u os p.2))
-  statement_lays (syntax.Repeat i c a) x u os p = lead (in_expression c) (in_statement a) (expression_lays x os c (statement_used a u)) (statement_lays a x u os p.1)
-  statement_lays (syntax.For i y sign j es a) x u os p =
+      (both (in_statement a) (in_statements rest) (statement_lays false a x (statements_used rest u) os p.1) (statements_lay false rest x u os p.2))
+  statement_lays b (syntax.Repeat i c a) x u os p = lead (in_expression c) (in_statement a) (expression_lays x os c (statement_used a u)) (statement_lays false a x u os p.1)
+  statement_lays b (syntax.For i y sign j es a) x u os p =
       lead (λ l. Token y.token.0 ∷ l) (λ l. in_each in_element es (in_statement a l)) (name_lays x os y.token.0 (each_used element_used es (statement_used a u)))
-      (lead (in_each in_element es) (in_statement a) (each_lays x os element_used in_element (element_lays x os) es (statement_used a u)) (statement_lays a x u os p.1))
-  statement_lays (syntax.Inspect i object d a e rest) x u os p = absurd p
-  statement_lays (syntax.InspectWhen i object whens rest) x u os p = absurd p
-  statement_lays (syntax.Activate i word process schedule) x u os p = absurd p
+      (lead (in_each in_element es) (in_statement a) (each_lays x os element_used in_element (element_lays x os) es (statement_used a u)) (statement_lays false a x u os p.1))
+  statement_lays b (syntax.Inspect i object d a e rest) x u os p =
+      let v : List Part = statements_used rest u in
+      lead (in_expression object) (λ l. Token d ∷ in_statement a (Behind e ∷ in_statements rest l)) (expression_lays x os object (Con d a ∷ v))
+      (as_marks (λ l. Token d ∷ in_statement a (Behind e ∷ in_statements rest l)) (((Opens kind.Connection d d ∷ []) ++ (statement_events declaring Inside a ++ Closes e ∷ [])) ++ statements_events declaring Inside rest)
+      (statement_events declaring Inside (syntax.Inspect i object d a e rest)) (ap (λ z. Opens kind.Connection d d ∷ z) (append_assoc (statement_events declaring Inside a) (Closes e ∷ []) (statements_events declaring Inside rest)))
+      (both (λ l. Token d ∷ in_statement a (Behind e ∷ l)) (in_statements rest) (connection_lays d e a x v os (statement_lays false a ConnectionText [] (frame x v ∷ os) p.1)) (statements_lay false rest x u os p.2)))
+  statement_lays b (syntax.InspectWhen i object whens rest) x u os p =
+      lead (in_expression object) (λ l. in_arms whens (in_statements rest l)) (expression_lays x os object (arms_used whens (statements_used rest u)))
+      (both (in_arms whens) (in_statements rest) (arms_lay whens x (statements_used rest u) os p.1) (statements_lay false rest x u os p.2))
+  statement_lays b (syntax.Activate i word process schedule) x u os p = absurd p
 
-  statements_lay : (ss : Statements) (x : Text) (u : List Part) (os : List Frame) → PlainStatements ss → Lays (frame x (statements_used ss u) ∷ os) (statements_events declaring Inside ss) (in_statements ss) (statements_texts ss) (frame x u ∷ os)
-  statements_lay NoStatement x u os p = none
-  statements_lay (Also a more) x u os p = both (in_statement a) (in_statements more) (statement_lays a x (statements_used more u) os p.0) (statements_lay more x u os p.1)
+  statements_lay : (b : Bool) (ss : Statements) (x : Text) (u : List Part) (os : List Frame) → PlainStatements ss → Lays (frame x (statements_used ss u) ∷ os) (statements_events declaring (place_of b) ss) (in_statements ss) (statements_held ss) (frame x u ∷ os)
+  statements_lay b NoStatement x u os p = none
+  statements_lay b (Also a more) x u os p = both (in_statement a) (in_statements more) (statement_lays b a x (statements_used more u) os p.0) (statements_lay b more x u os p.1)
 
-  block_lays : (b : Block) (x : Text) (u : List Part) (os : List Frame) → PlainBlock b → Lays (frame x (block_used b u) ∷ os) (block_events declaring b) (in_block b) (block_texts b) (frame x u ∷ os)
+  arms_lay : (arms : Arms) (x : Text) (u : List Part) (os : List Frame) → PlainArms arms → Lays (frame x (arms_used arms u) ∷ os) (arms_events declaring arms) (in_arms arms) (arms_held arms) (frame x u ∷ os)
+  arms_lay NoArm x u os p = none
+  arms_lay (When i class d a e more) x u os p =
+      let v : List Part = arms_used more u in
+      lead (λ l. Token class.token.0 ∷ l) (λ l. Token d ∷ in_statement a (Behind e ∷ in_arms more l)) (name_lays x os class.token.0 (Con d a ∷ v))
+      (both (λ l. Token d ∷ in_statement a (Behind e ∷ l)) (in_arms more) (connection_lays d e a x v os (statement_lays false a ConnectionText [] (frame x v ∷ os) p.1)) (arms_lay more x u os p.2))
+
+  -- the body of a class
+  class_body_lays : (a : Statement) (h : Heading) (os : List Frame) → PlainStatement a
+      → ((x : Text) → Lays (frame x (statement_used a []) ∷ os) (statement_events declaring Inside a) (in_statement a) (statement_held a) (frame x [] ∷ os))
+      → Lays (frame (ClassText None h (body_declarations a) (body_statements a)) (text_used (ClassText None h (body_declarations a) (body_statements a))) ∷ os) (statement_events declaring ClassBody a) (in_statement a) (declarations_held (body_declarations a) ++ statements_held (body_statements a))
+      (frame (ClassText None h (body_declarations a) (body_statements a)) [] ∷ os)
+  class_body_lays (syntax.Compound (Begin i ds ss e)) h os p one =
+      let x : Text = ClassText None h ds ss in
+      lead (λ l. Token i ∷ l) (λ l. in_declarations ds (in_statements ss (Behind e ∷ l))) (passes_one i (frame x (text_used x) ∷ os))
+      (follow (λ l. in_declarations ds (in_statements ss l)) (λ l. Behind e ∷ l)
+      (both (in_declarations ds) (in_statements ss) (declarations_lay ds x (statements_used ss []) os p.0) (statements_lay true ss x [] os p.1)) (leaves_one e (frame x [] ∷ os)))
+  class_body_lays (syntax.Empty i) h os p one = none
+  class_body_lays (syntax.Prefixed y args b) h os p one = absurd p
+  class_body_lays (syntax.Inner i) h os p one = as_held (in_statement (syntax.Inner i)) (statement_held (syntax.Inner i)) (statement_held (syntax.Inner i) ++ []) (sym (append-nil (statement_held (syntax.Inner i)))) (one (ClassText None h NoDeclaration (Also (syntax.Inner i) NoStatement)))
+  class_body_lays (syntax.Call e) h os p one = as_held (in_statement (syntax.Call e)) (statement_held (syntax.Call e)) (statement_held (syntax.Call e) ++ []) (sym (append-nil (statement_held (syntax.Call e)))) (one (ClassText None h NoDeclaration (Also (syntax.Call e) NoStatement)))
+  class_body_lays (syntax.Assign e sides) h os p one = as_held (in_statement (syntax.Assign e sides)) (statement_held (syntax.Assign e sides)) (statement_held (syntax.Assign e sides) ++ []) (sym (append-nil (statement_held (syntax.Assign e sides)))) (one (ClassText None h NoDeclaration (Also (syntax.Assign e sides) NoStatement)))
+  class_body_lays (syntax.Choose i c a rest) h os p one = as_held (in_statement (syntax.Choose i c a rest)) (statement_held (syntax.Choose i c a rest)) (statement_held (syntax.Choose i c a rest) ++ []) (sym (append-nil (statement_held (syntax.Choose i c a rest)))) (one (ClassText None h NoDeclaration (Also (syntax.Choose i c a rest) NoStatement)))
+  class_body_lays (syntax.Repeat i c a) h os p one = as_held (in_statement (syntax.Repeat i c a)) (statement_held (syntax.Repeat i c a)) (statement_held (syntax.Repeat i c a) ++ []) (sym (append-nil (statement_held (syntax.Repeat i c a)))) (one (ClassText None h NoDeclaration (Also (syntax.Repeat i c a) NoStatement)))
+  class_body_lays (syntax.For i y sign j es a) h os p one = as_held (in_statement (syntax.For i y sign j es a)) (statement_held (syntax.For i y sign j es a)) (statement_held (syntax.For i y sign j es a) ++ []) (sym (append-nil (statement_held (syntax.For i y sign j es a)))) (one (ClassText None h NoDeclaration (Also (syntax.For i y sign j es a) NoStatement)))
+  class_body_lays (syntax.Inspect i object d a e rest) h os p one = as_held (in_statement (syntax.Inspect i object d a e rest)) (statement_held (syntax.Inspect i object d a e rest)) (statement_held (syntax.Inspect i object d a e rest) ++ []) (sym (append-nil (statement_held (syntax.Inspect i object d a e rest)))) (one (ClassText None h NoDeclaration (Also (syntax.Inspect i object d a e rest) NoStatement)))
+  class_body_lays (syntax.InspectWhen i object whens rest) h os p one = as_held (in_statement (syntax.InspectWhen i object whens rest)) (statement_held (syntax.InspectWhen i object whens rest)) (statement_held (syntax.InspectWhen i object whens rest) ++ []) (sym (append-nil (statement_held (syntax.InspectWhen i object whens rest)))) (one (ClassText None h NoDeclaration (Also (syntax.InspectWhen i object whens rest) NoStatement)))
+  class_body_lays (syntax.Activate i word process schedule) h os p one = absurd p
+
+  block_lays : (b : Block) (x : Text) (u : List Part) (os : List Frame) → PlainBlock b → Lays (frame x (block_used b u) ∷ os) (block_events declaring b) (in_block b) (block_held b) (frame x u ∷ os)
   block_lays (Begin i NoDeclaration ss e) x u os p =
-      lead (λ l. Token i ∷ l) (λ l. in_statements ss (Behind e ∷ l)) (passes_one i (frame x (statements_used ss u) ∷ os)) (follow (in_statements ss) (λ l. Behind e ∷ l) (statements_lay ss x u os p.1) (leaves_one e (frame x u ∷ os)))
+      lead (λ l. Token i ∷ l) (λ l. in_statements ss (Behind e ∷ l)) (passes_one i (frame x (statements_used ss u) ∷ os)) (follow (in_statements ss) (λ l. Behind e ∷ l) (statements_lay false ss x u os p.1) (leaves_one e (frame x u ∷ os)))
   block_lays (Begin i (With d ds) ss e) x u os p =
       let y : Text = BlockText i (With d ds) ss in
       let ps : List Frame = frame x u ∷ os in
-      as_texts (in_block (Begin i (With d ds) ss e)) (y ∷ (declarations_texts (With d ds) ++ statements_texts ss)) (block_texts (Begin i (With d ds) ss e)) (ap (λ z. y ∷ z) (append_assoc (declaration_texts d) (declarations_texts ds) (statements_texts ss)))
+      as_held (in_block (Begin i (With d ds) ss e)) (Whole y ∷ (declarations_held (With d ds) ++ statements_held ss)) (block_held (Begin i (With d ds) ss e)) (ap (λ z. Whole y ∷ z) (append_assoc (declaration_held d) (declarations_held ds) (statements_held ss)))
       (both (λ l. Token i ∷ l) (λ l. in_declarations (With d ds) (in_statements ss (Behind e ∷ l))) (begins_block i (With d ds) ss x u os)
-      (inside_block ps y (text_used y) (statements_used ss []) (declarations_events declaring (With d ds)) (statements_events declaring Inside ss) (in_declarations (With d ds)) (in_statements ss) (declarations_texts (With d ds)) (statements_texts ss) e
-      (declarations_lay (With d ds) y (statements_used ss []) ps p.0) (statements_lay ss y [] ps p.1)))
+      (inside_block ps y (text_used y) (statements_used ss []) (declarations_events declaring (With d ds)) (statements_events declaring Inside ss) (in_declarations (With d ds)) (in_statements ss) (declarations_held (With d ds)) (statements_held ss) e
+      (declarations_lay (With d ds) y (statements_used ss []) ps p.0) (statements_lay false ss y [] ps p.1)))
 
-  declarations_lay : (ds : Declarations) (x : Text) (u : List Part) (os : List Frame) → PlainDeclarations ds → Lays (frame x (declarations_used ds u) ∷ os) (declarations_events declaring ds) (in_declarations ds) (declarations_texts ds) (frame x u ∷ os)
+  declarations_lay : (ds : Declarations) (x : Text) (u : List Part) (os : List Frame) → PlainDeclarations ds → Lays (frame x (declarations_used ds u) ∷ os) (declarations_events declaring ds) (in_declarations ds) (declarations_held ds) (frame x u ∷ os)
   declarations_lay NoDeclaration x u os p = none
-  declarations_lay (With (Variables type vs) ds) x u os p = both (in_each in_variable vs) (in_declarations ds) (variables_lay x os type p.0 vs (declarations_used ds u)) (declarations_lay ds x u os p.1)
-  declarations_lay (With (Arrays type j segments) ds) x u os p = both (in_each in_segment segments) (in_declarations ds) (segments_lay x os type p.0.0 segments (declarations_used ds u)) (declarations_lay ds x u os p.1)
+  declarations_lay (With (Variables type vs) ds) x u os p =
+      let ps : List Frame = frame x (declarations_used ds u) ∷ os in
+      both (in_declaration (Variables type vs)) (in_declarations ds) (lead (in_type type) (in_each in_variable vs) (type_lays type ps) (variables_lay x os type vs (declarations_used ds u))) (declarations_lay ds x u os p.1)
+  declarations_lay (With (Arrays type j segments) ds) x u os p =
+      both (in_declaration (Arrays type j segments)) (in_declarations ds) (lead (in_type type) (in_each in_segment segments) (type_lays type (frame x (each_used segment_used segments (declarations_used ds u)) ∷ os)) (segments_lay x os type segments (declarations_used ds u))) (declarations_lay ds x u os p.1)
   declarations_lay (With (DeclareProcedure result j h a e) ds) x u os p =
       both (in_declaration (DeclareProcedure result j h a e)) (in_declarations ds)
-      (procedure_lays result j h a e (frame x (declarations_used ds u)) os p.0.0 p.0.1 (statement_lays a (ProcedureText result h a) [] (frame x (declarations_used ds u) ∷ os) p.0.2)) (declarations_lay ds x u os p.1)
-  declarations_lay (With (DeclareClass prefix j h interface a e) ds) x u os p = absurd p.0
+      (procedure_lays result j h a e (frame x (declarations_used ds u)) os p.0.1 (statement_lays false a (ProcedureText result h a) [] (frame x (declarations_used ds u) ∷ os) p.0.2)) (declarations_lay ds x u os p.1)
+  declarations_lay (With (DeclareClass None j h i a e) ds) x u os p =
+      both (in_declaration (DeclareClass None j h i a e)) (in_declarations ds)
+      (class_lays j h i a e (frame x (declarations_used ds u)) os p.0.1 p.0.2 (class_body_lays a h (frame x (declarations_used ds u) ∷ os) p.0.3 (λ y. statement_lays false a y [] (frame x (declarations_used ds u) ∷ os) p.0.3))) (declarations_lay ds x u os p.1)
+  declarations_lay (With (DeclareClass (Some y) j h i a e) ds) x u os p = absurd (let q : Some y ≡ None = p.0.0 in cc)
 
 -- a plain program
-pub program_laid : (p : Program) → Plain p → Laid [] (program_events declaring p) (in_block p.block []) (program_texts p.prefix p.block)
+pub program_laid : (p : Program) → Plain p → Laid [] (program_events declaring p) (in_block p.block []) (program_held p.block)
 unfolding program_events declaring program_marks
 program_laid p q = go p.prefix p.block q.prefix q.block
   where
-    go : (prefix : Option Prefix) (b : Block) → prefix ≡ None → PlainBlock b → Laid [] (declaring.program prefix (begin_of b) ++ whole_events declaring b) (in_block b []) (program_texts prefix b)
+    go : (prefix : Option Prefix) (b : Block) → prefix ≡ None → PlainBlock b → Laid [] (declaring.program prefix (begin_of b) ++ whole_events declaring b) (in_block b []) (program_held b)
     go (Some x) b e r = absurd (cc)
     go None (Begin i ds ss end) e r =
         let x : Text = BlockText i ds ss in
         let D : List Mark = declarations_events declaring ds in
         let S : List Mark = statements_events declaring Inside ss in
-        let all : Lays [] ((Opens kind.Program i i ∷ []) ++ ((D ++ S) ++ Closes end ∷ [])) (in_block (Begin i ds ss end)) ((x ∷ []) ++ (declarations_texts ds ++ statements_texts ss)) [] =
+        let all : Lays [] ((Opens kind.Program i i ∷ []) ++ ((D ++ S) ++ Closes end ∷ [])) (in_block (Begin i ds ss end)) ((Whole x ∷ []) ++ (declarations_held ds ++ statements_held ss)) [] =
         both (λ l. Token i ∷ l) (λ l. in_declarations ds (in_statements ss (Behind end ∷ l))) (begins_program i ds ss)
-        (inside_block [] x (text_used x) (statements_used ss []) D S (in_declarations ds) (in_statements ss) (declarations_texts ds) (statements_texts ss) end (declarations_lay ds x (statements_used ss []) [] r.0) (statements_lay ss x [] [] r.1)) in
-        subst (λ z. Laid [] z (in_block (Begin i ds ss end) []) (x ∷ (declarations_texts ds ++ statements_texts ss))) (append-nil _ ∙ ap (λ z. Opens kind.Program i i ∷ z) (append_assoc D S (Closes end ∷ [])))
+        (inside_block [] x (text_used x) (statements_used ss []) D S (in_declarations ds) (in_statements ss) (declarations_held ds) (statements_held ss) end (declarations_lay ds x (statements_used ss []) [] r.0) (statements_lay false ss x [] [] r.1)) in
+        subst (λ z. Laid [] z (in_block (Begin i ds ss end) []) (Whole x ∷ (declarations_held ds ++ statements_held ss))) (append-nil _ ∙ ap (λ z. Opens kind.Program i i ∷ z) (append_assoc D S (Closes end ∷ [])))
         (subst (λ z. Laid [] (((Opens kind.Program i i ∷ []) ++ ((D ++ S) ++ Closes end ∷ [])) ++ []) (in_block (Begin i ds ss end) []) z) (append-nil _) (all.before [] [] [] (nothing refl)))

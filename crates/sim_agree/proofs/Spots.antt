@@ -1,5 +1,5 @@
 -- Where the tokens of a plain program are in order, the innermost block around each that is used in a text is the block of that text, each sub-block
--- stands in its text, and declarations stand at tokens of their own.
+-- and each connection stands in its text, blocks begin at tokens of their own, and declarations stand at tokens of their own.
 use Rattle.std.proofs.Common.{◌≡◌, ◌<◌, ◌≤◌, ◌+◌, ◌-◌, ◌⊎◌, inl, inr, ℕ, zero, suc, Bool, true, false, List, [], ◌∷◌, ◌++◌, length, Option, Some, None, refl, sym, ap, ◌∙◌, subst, arith, append-nil, append_assoc}
 use Rattle.std.specs.Prelude.{nat_eq, nat_lt, replicate, slice_get, slice_set}
 use Rattle.std.proofs.lemmas.List.{length-append, length-replicate, length-set}
@@ -9,42 +9,56 @@ use Rattle.sim_base.specs.declared.numbering.TokenNo.{TokenNo}
 use Rattle.sim_base.specs.declared.rule.Rule.{Rule}
 use Rattle.sim_base.specs.declared.rule.Rule.TheVariants as r
 use Rattle.sim_tree.specs.declared.expr.Identifier.{Identifier}
-use Rattle.sim_tree.specs.Syntax.{Declarations, Statements}
+use Rattle.sim_tree.specs.Syntax.{Declarations, Statement, Statements}
 use Rattle.sim_scope.specs.declared.scopes.Declaration.{Declaration}
 use Rattle.sim_scope.specs.declared.types.BlockKind.{BlockKind}
 use Rattle.sim_scope.specs.declared.types.BlockKind.TheVariants as kind
 use Rattle.sim_scope.specs.declared.types.Entry.{Entry}
 use Rattle.sim_scope.specs.declared.types.Entry.TheVariants as entry
-use Rattle.sim_scope.specs.Building.{BuildingOf, Mark, block_around, broken_if, closed, closed_at, declared, found_in, level_in, marked, most_levels, opened, owner_of, parameter as parameter_of, placed, unspecified_at}
+use Rattle.sim_scope.specs.Building.{BuildingOf, Mark, Opens, block_around, broken_if, changed, closed, closed_at, declared, found_in, holding_class, level_in, marked, most_levels, opened, owner_of, parameter as parameter_of, placed, specified as specified_of, unspecified_at}
 use Rattle.sim_scope.specs.Declare.{result_named}
 use Rattle.sim_scope.specs.Runs.{run}
 use Rattle.sim_scope.specs.Access.{around}
-use Rattle.sim_scope.specs.Scopes.{declared_in, has_detach}
+use Rattle.sim_scope.specs.Scopes.{declared_in}
+use Rattle.sim_meaning.specs.Attributes.{first_in}
 use Rattle.sim_meaning.specs.Entries.{numbers_in}
-use Rattle.sim_sound.specs.Typed.{Among}
+use Rattle.sim_sound.specs.Held.{Among}
 use Rattle.sim_scope.specs.Tables.{BlockOf}
-use Rattle.sim_scope.proofs.Kept.{kept_more, kept_set, more_here, more_other}
-use Rattle.sim_meaning.specs.Texts.{BlockText, ProcedureText, Text}
+use Rattle.sim_scope.proofs.Kept.{kept_more, kept_set, more_here, more_other, set_here, set_other}
+use Rattle.sim_meaning.specs.Texts.{BlockText, ClassText, ProcedureText, Text}
 use Rattle.sim_tree.specs.Order.{Ascends, Spot}
-use Rattle.sim_agree.proofs.Laid.{Frame, Laid, Part, Sub, Use, block, closes, declares, frame, headed, leaves, moded, nothing, parameter, passes, procedure, program, specified, text_used, uses}
-use Rattle.sim_agree.proofs.Steps.{AllEven, Changed, Declared, Nothing, Step, Unmatched, declared_step, headed_step, moded_step, own_unmatched, parameter_step, procedure_unmatched, specified_met}
-use Rattle.sim_agree.proofs.WithoutClasses.{WithoutClasses, extras_in, no_extras}
+use Rattle.sim_agree.proofs.Laid.{Con, Frame, Held, Joined, Laid, Part, Sub, Use, Whole, block, breaks_rule, closes, connects, declares, declares_class, frame, headed, inner_mark, leaves, moded, nothing, parameter, passes, procedure, program, specified, text_held, used_held, uses}
+use Rattle.sim_agree.proofs.Steps.{AllEven, Changed, Declared, Fixed, Nothing, Step, class_step, declared_step, fixed, headed_step, inner_step, last_cases, met, moded_step, own_unmatched, parameter_step, procedure_unmatched, quals_step, rule_step, specified_met}
+use Rattle.sim_agree.proofs.Unprefixed.{Unprefixed, extras_in, no_extras}
 use Rattle.sim_agree.proofs.Fine.{same_around}
+use Rattle.sim_agree.proofs.FineRuns.{run_both}
+use Rattle.sim_agree.proofs.Groups.{AreReferences, OfReferences}
 
 -- ---- the open texts
 
-abbrev pub Stack : List BlockOf → List Text → (current : Option ℕ) → List Frame → Type 0
-Stack bs ts current [] = current ≡ None
-Stack bs ts current (o ∷ os) = (n : ℕ) × (current ≡ Some n) × (slice_get ts n ≡ Some o.text) × Stack bs ts (around (slice_get bs n)) os
+abbrev first_of_fixed : Fixed → ℕ
+first_of_fixed None = 0
+first_of_fixed (Some x) = x.first
 
-abbrev Keeps : List BlockOf → List BlockOf → List Text → List Text → Type 0
-Keeps bs cs ts us = (n : ℕ) (x : Text) → slice_get ts n ≡ Some x → (around (slice_get cs n) ≡ around (slice_get bs n)) × (slice_get us n ≡ Some x)
+first_is_fixed : (o : Option BlockOf) → first_of_fixed (fixed o) ≡ first_in o
+first_is_fixed None = refl
+first_is_fixed (Some row) = refl
 
-stack_kept : (bs cs : List BlockOf) (ts us : List Text) → Keeps bs cs ts us → (os : List Frame) (current : Option ℕ) → Stack bs ts current os → Stack cs us current os
-stack_kept bs cs ts us keep [] current h = h
-stack_kept bs cs ts us keep (o ∷ os) current h =
-    let k = keep h.0 o.text h.2 in
-    (h.0, h.1, k.1, subst (λ z. Stack cs us z os) (sym k.0) (stack_kept bs cs ts us keep os (around (slice_get bs h.0)) h.3))
+same_first : (o p : Option BlockOf) → fixed o ≡ fixed p → first_in o ≡ first_in p
+same_first o p e = sym (first_is_fixed o) ∙ ap first_of_fixed e ∙ first_is_fixed p
+
+abbrev pub Stack : List BlockOf → List Held → (current : Option ℕ) → List Frame → Type 0
+Stack bs hs current [] = current ≡ None
+Stack bs hs current (o ∷ os) = (n : ℕ) × (current ≡ Some n) × ((h : Held) × (slice_get hs n ≡ Some h) × (text_held h ≡ o.text)) × Stack bs hs (around (slice_get bs n)) os
+
+abbrev Keeps : List BlockOf → List BlockOf → List Held → List Held → Type 0
+Keeps bs cs hs us = (n : ℕ) (x : Held) → slice_get hs n ≡ Some x → (around (slice_get cs n) ≡ around (slice_get bs n)) × (slice_get us n ≡ Some x) × (first_in (slice_get cs n) ≡ first_in (slice_get bs n))
+
+stack_kept : (bs cs : List BlockOf) (hs us : List Held) → Keeps bs cs hs us → (os : List Frame) (current : Option ℕ) → Stack bs hs current os → Stack cs us current os
+stack_kept bs cs hs us keep [] current h = h
+stack_kept bs cs hs us keep (o ∷ os) current h =
+    let k = keep h.0 h.2.0 h.2.1 in
+    (h.0, h.1, (h.2.0, k.1, h.2.2), subst (λ z. Stack cs us z os) (sym k.0) (stack_kept bs cs hs us keep os (around (slice_get bs h.0)) h.3))
 
 pub data Has (p : Part) : List Part → Type 0 where
   here : {ps : List Part} → Has p (p ∷ ps)
@@ -62,12 +76,12 @@ abbrev pub LeftAt : List BlockOf → (current : Option ℕ) → List Frame → (
 LeftAt bs current [] n p = ⊥
 LeftAt bs current (o ∷ os) n p = ((current ≡ Some n) × Has p o.left) ⊎ LeftAt bs (out bs current) os n p
 
-left_kept : (bs cs : List BlockOf) (ts us : List Text) → Keeps bs cs ts us → (os : List Frame) (current : Option ℕ) (n : ℕ) (p : Part) → Stack bs ts current os → LeftAt bs current os n p → LeftAt cs current os n p
+left_kept : (bs cs : List BlockOf) (ts us : List Held) → Keeps bs cs ts us → (os : List Frame) (current : Option ℕ) (n : ℕ) (p : Part) → Stack bs ts current os → LeftAt bs current os n p → LeftAt cs current os n p
 left_kept bs cs ts us keep [] current n p s q = absurd q
 left_kept bs cs ts us keep (o ∷ os) current n p s (inl q) = inl q
 left_kept bs cs ts us keep (o ∷ os) current n p s (inr q) =
     let e : out bs current ≡ around (slice_get bs s.0) = ap (out bs) s.1 in
-    let f : out cs current ≡ around (slice_get bs s.0) = ap (out cs) s.1 ∙ (keep s.0 o.text s.2).0 in
+    let f : out cs current ≡ around (slice_get bs s.0) = ap (out cs) s.1 ∙ (keep s.0 s.2.0 s.2.1).0 in
     inr (subst (λ z. LeftAt cs z os n p) (sym f) (left_kept bs cs ts us keep os (around (slice_get bs s.0)) n p s.3 (subst (λ z. LeftAt bs z os n p) e q)))
 
 -- ---- what is known of a token
@@ -76,50 +90,67 @@ left_kept bs cs ts us keep (o ∷ os) current n p s (inr q) =
 abbrev pub Here : BuildingOf → (from block token : ℕ) → Type 0
 Here b from n i = (slice_get b.tables.places i ≡ Some (Some n)) ⊎ ((length b.tables.places ≤ i) × (i < from) × (b.current ≡ Some n))
 
--- a sub-block stands in the block
-pub record Inner (b : BuildingOf) (ts : List Text) (from n i : ℕ) : Type 0 where
+-- a sub-block or a connection stands in the block
+pub record Inner (b : BuildingOf) (hs : List Held) (from n i : ℕ) (x : Held) : Type 0 where
   pub number : ℕ
-  pub declarations : Declarations
-  pub statements : Statements
-  pub text : slice_get ts number ≡ Some (BlockText i declarations statements)
+  pub text : slice_get hs number ≡ Some x
   pub around : around (slice_get b.tables.blocks number) ≡ Some n
   pub there : Here b from number i
+  pub begins : first_in (slice_get b.tables.blocks number) ≡ i
 
-abbrev pub Fact : BuildingOf → List Text → (from block : ℕ) → Part → Type 0
-Fact b ts from n (Use i) = Here b from n i
-Fact b ts from n (Sub i) = Inner b ts from n i
+abbrev pub Fact : BuildingOf → List Held → (from block : ℕ) → Part → Type 0
+Fact b hs from n (Use i) = Here b from n i
+Fact b hs from n (Sub i) = (ds : Declarations) × (ss : Statements) × Inner b hs from n i (Whole (BlockText i ds ss))
+Fact b hs from n (Con i a) = Inner b hs from n i (Joined i a)
+
+-- a block begins at its first token
+abbrev pub Firsts : BuildingOf → (from : ℕ) → Type 0
+Firsts b from = (k : ℕ) (row : BlockOf) → slice_get b.tables.blocks k ≡ Some row → Here b from k row.first
+
+-- a connection begins at its first token, and stands in a text
+abbrev pub JoinsAt : List BlockOf → List Held → Type 0
+JoinsAt bs hs = (n i : ℕ) (a : Statement) → slice_get hs n ≡ Some (Joined i a) → (first_in (slice_get bs n) ≡ i) × ((u : ℕ) × (around (slice_get bs n) ≡ Some u))
+
+joins_kept : (bs cs : List BlockOf) (hs us : List Held) → Keeps bs cs hs us → JoinsAt bs hs → (n i : ℕ) (a : Statement) → slice_get hs n ≡ Some (Joined i a) → (first_in (slice_get cs n) ≡ i) × ((u : ℕ) × (around (slice_get cs n) ≡ Some u))
+joins_kept bs cs hs us keep j n i a is = let k = keep n (Joined i a) is in let q = j n i a is in (k.2 ∙ q.0, (q.1.0, k.0 ∙ q.1.1))
 
 -- The places reach to the one number, the tokens of declarations to the other.
-pub record Lays (b : BuildingOf) (ts : List Text) (os : List Frame) (from high : ℕ) : Type 0 where
-  pub size : length b.tables.blocks ≡ length ts
-  pub stack : Stack b.tables.blocks ts b.current os
+pub record Lays (b : BuildingOf) (hs : List Held) (os : List Frame) (from high : ℕ) : Type 0 where
+  pub size : length b.tables.blocks ≡ length hs
+  pub stack : Stack b.tables.blocks hs b.current os
   pub reach : length b.tables.places ≤ from
-  pub done : (n : ℕ) (x : Text) (p : Part) → slice_get ts n ≡ Some x → Has p (text_used x) → Fact b ts from n p ⊎ LeftAt b.tables.blocks b.current os n p
+  pub done : (n : ℕ) (x : Held) (p : Part) → slice_get hs n ≡ Some x → Has p (used_held x) → Fact b hs from n p ⊎ LeftAt b.tables.blocks b.current os n p
+  pub firsts : Firsts b from
+  pub joins : JoinsAt b.tables.blocks hs
   pub below : (d : ℕ) (row : Declaration) → slice_get b.tables.declarations d ≡ Some row → row.token.0 < high
   pub rising : (d e : ℕ) (row other : Declaration) → slice_get b.tables.declarations d ≡ Some row → slice_get b.tables.declarations e ≡ Some other → d < e → row.token.0 < other.token.0
-  pub bare : WithoutClasses b.tables
+  pub bare : Unprefixed b.tables
 
-abbrev pub Lay : BuildingOf → List Text → List Frame → ℕ → Type 0
-Lay b ts os from = Lays b ts os from from
+abbrev pub Lay : BuildingOf → List Held → List Frame → ℕ → Type 0
+Lay b hs os from = Lays b hs os from from
 
 -- from one state to a later one
 abbrev Moves : BuildingOf → BuildingOf → (from to : ℕ) → Type 0
 Moves b c from to = (n i : ℕ) → Here b from n i → Here c to n i
 
-fact_moves : (b c : BuildingOf) (ts us : List Text) (from to : ℕ) → Keeps b.tables.blocks c.tables.blocks ts us → Moves b c from to → (n : ℕ) (p : Part) → Fact b ts from n p → Fact c us to n p
+inner_moves : (b c : BuildingOf) (ts us : List Held) (from to : ℕ) → Keeps b.tables.blocks c.tables.blocks ts us → Moves b c from to → (n i : ℕ) (x : Held) → Inner b ts from n i x → Inner c us to n i x
+inner_moves b c ts us from to keep m n i x f = let k = keep f.number x f.text in record { number = f.number; text = k.1; around = k.0 ∙ f.around; there = m f.number i f.there; begins = k.2 ∙ f.begins }
+
+fact_moves : (b c : BuildingOf) (ts us : List Held) (from to : ℕ) → Keeps b.tables.blocks c.tables.blocks ts us → Moves b c from to → (n : ℕ) (p : Part) → Fact b ts from n p → Fact c us to n p
 fact_moves b c ts us from to keep m n (Use i) f = m n i f
-fact_moves b c ts us from to keep m n (Sub i) f =
-    let k = keep f.number (BlockText i f.declarations f.statements) f.text in
-    record { number = f.number; declarations = f.declarations; statements = f.statements; text = k.1; around = k.0 ∙ f.around; there = m f.number i f.there }
+fact_moves b c ts us from to keep m n (Sub i) f = (f.0, f.1, inner_moves b c ts us from to keep m n i (Whole (BlockText i f.0 f.1)) f.2)
+fact_moves b c ts us from to keep m n (Con i v) f = inner_moves b c ts us from to keep m n i (Joined i v) f
 
 -- ---- a use
 
-use_laid : (b : BuildingOf) (ts : List Text) (x : Text) (u : List Part) (i : ℕ) (os : List Frame) (from : ℕ) → from ≤ i → Lay b ts (frame x (Use i ∷ u) ∷ os) from → Lay b ts (frame x u ∷ os) (i + 1)
+use_laid : (b : BuildingOf) (ts : List Held) (x : Text) (u : List Part) (i : ℕ) (os : List Frame) (from : ℕ) → from ≤ i → Lay b ts (frame x (Use i ∷ u) ∷ os) from → Lay b ts (frame x u ∷ os) (i + 1)
 use_laid b ts x u i os from le l = record {
   size = l.size;
   stack = l.stack;
   reach = (let q : length b.tables.places ≤ from = l.reach in omega arith);
   done = λ n y p at has. done n p (l.done n y p at has);
+  firsts = λ k row at. later k row.first (l.firsts k row at);
+  joins = l.joins;
   below = λ d row at. (let lt : row.token.0 < from = l.below d row at in omega arith);
   rising = l.rising;
   bare = l.bare;
@@ -130,7 +161,7 @@ use_laid b ts x u i os from le l = record {
     later n j (inr q) = inr (q.0, (let lt : j < from = q.1 in omega arith), q.2)
 
     done : (n : ℕ) (p : Part) → Fact b ts from n p ⊎ LeftAt b.tables.blocks b.current (frame x (Use i ∷ u) ∷ os) n p → Fact b ts (i + 1) n p ⊎ LeftAt b.tables.blocks b.current (frame x u ∷ os) n p
-    done n p (inl f) = inl (fact_moves b b ts ts from (i + 1) (λ m y is. (refl, is)) later n p f)
+    done n p (inl f) = inl (fact_moves b b ts ts from (i + 1) (λ m y is. (refl, is, refl)) later n p f)
     done n p (inr (inr q)) = inr (inr q)
     done n p (inr (inl q)) = go (has_cases q.1)
       where
@@ -139,12 +170,14 @@ use_laid b ts x u i os from le l = record {
         go (inl e) = inl (subst (Fact b ts (i + 1) n) (sym e) (inr ((let le' : length b.tables.places ≤ from = l.reach in omega arith), (let z : i < i + 1 = omega arith in z), q.0)))
 
 -- a token that is no use
-later_laid : (b : BuildingOf) (ts : List Text) (os : List Frame) (from high to : ℕ) → from ≤ to → high ≤ to → Lays b ts os from high → Lay b ts os to
+later_laid : (b : BuildingOf) (ts : List Held) (os : List Frame) (from high to : ℕ) → from ≤ to → high ≤ to → Lays b ts os from high → Lay b ts os to
 later_laid b ts os from high to le up l = record {
   size = l.size;
   stack = l.stack;
   reach = (let q : length b.tables.places ≤ from = l.reach in omega arith);
   done = λ n y p at has. done n p (l.done n y p at has);
+  firsts = λ k row at. later k row.first (l.firsts k row at);
+  joins = l.joins;
   below = λ d row at. (let lt : row.token.0 < high = l.below d row at in omega arith);
   rising = l.rising;
   bare = l.bare;
@@ -155,7 +188,7 @@ later_laid b ts os from high to le up l = record {
     later n j (inr q) = inr (q.0, (let lt : j < from = q.1 in omega arith), q.2)
 
     done : (n : ℕ) (p : Part) → Fact b ts from n p ⊎ LeftAt b.tables.blocks b.current os n p → Fact b ts to n p ⊎ LeftAt b.tables.blocks b.current os n p
-    done n p (inl f) = inl (fact_moves b b ts ts from to (λ m y is. (refl, is)) later n p f)
+    done n p (inl f) = inl (fact_moves b b ts ts from to (λ m y is. (refl, is, refl)) later n p f)
     done n p (inr q) = inr q
 
 -- ---- marks that begin and end no block
@@ -172,20 +205,22 @@ row_is b c New s from to new d row at = go (s.rows d row at)
     go (inl q) = inl (q.0, q.1, q.2.token)
     go (inr q) = inr (new d row q.0)
 
-step_laid : (b c : BuildingOf) (New : ℕ → Declaration → Type 0) (s : Step b c New) (ts : List Text) (os : List Frame) (from to : ℕ) → from ≤ to
+step_laid : (b c : BuildingOf) (New : ℕ → Declaration → Type 0) (s : Step b c New) (ts : List Held) (os : List Frame) (from to : ℕ) → from ≤ to
     → ((d : ℕ) (row : Declaration) → New d row → (d ≡ length b.tables.declarations) × (from ≤ row.token.0) × (row.token.0 < to)) → Lay b ts os from → Lays c ts os from to
 step_laid b c New s ts os from to le new l = record {
   size = s.size ∙ l.size;
   stack = subst (λ z. Stack c.tables.blocks ts z os) (sym s.current) (stack_kept b.tables.blocks c.tables.blocks ts ts keep os b.current l.stack);
   reach = (let q : length b.tables.places ≤ from = l.reach in let e : length c.tables.places ≡ length b.tables.places = ap length s.places in omega arith);
   done = λ n y p at has. done n p (l.done n y p at has);
+  firsts = λ k row at. first_stays k row (slice_get b.tables.blocks k) refl at;
+  joins = λ n i a is. joins_kept b.tables.blocks c.tables.blocks ts ts keep l.joins n i a is;
   below = λ d row at. below row (row_of d row at);
   rising = λ d e row other at at' lt. rising d e row other lt (row_of d row at) (row_of e other at');
   bare = s.bare l.bare;
 }
   where
-    keep : (n : ℕ) (x : Text) → slice_get ts n ≡ Some x → (around (slice_get c.tables.blocks n) ≡ around (slice_get b.tables.blocks n)) × (slice_get ts n ≡ Some x)
-    keep n x is = (same_around (slice_get c.tables.blocks n) (slice_get b.tables.blocks n) (s.fixes n), is)
+    keep : Keeps b.tables.blocks c.tables.blocks ts ts
+    keep n x is = (same_around (slice_get c.tables.blocks n) (slice_get b.tables.blocks n) (s.fixes n), is, same_first (slice_get c.tables.blocks n) (slice_get b.tables.blocks n) (s.fixes n))
 
     later : (n j : ℕ) → Here b from n j → Here c from n j
     later n j (inl q) = inl (ap (λ z. slice_get z j) s.places ∙ q)
@@ -194,6 +229,16 @@ step_laid b c New s ts os from to le new l = record {
     done : (n : ℕ) (p : Part) → Fact b ts from n p ⊎ LeftAt b.tables.blocks b.current os n p → Fact c ts from n p ⊎ LeftAt c.tables.blocks c.current os n p
     done n p (inl f) = inl (fact_moves b c ts ts from from keep later n p f)
     done n p (inr q) = inr (subst (λ z. LeftAt c.tables.blocks z os n p) (sym s.current) (left_kept b.tables.blocks c.tables.blocks ts ts keep os b.current n p l.stack q))
+
+    first_stays : (k : ℕ) (row : BlockOf) (o : Option BlockOf) → slice_get b.tables.blocks k ≡ o → slice_get c.tables.blocks k ≡ Some row → Here c from k row.first
+    first_stays k row None is at = absurd (let e : fixed (Some row) ≡ None = sym (ap fixed at) ∙ s.fixes k ∙ ap fixed is in cc)
+    first_stays k row (Some old) is at =
+        let e : first_of (fixed (Some row)) ≡ first_of (fixed (Some old)) = ap first_of (sym (ap fixed at) ∙ s.fixes k ∙ ap fixed is) in
+        subst (λ z. Here c from k z) (sym e) (later k old.first (l.firsts k old is))
+      where
+        first_of : Fixed → ℕ
+        first_of None = 0
+        first_of (Some x) = x.first
 
     row_of : (d : ℕ) (row : Declaration) → slice_get c.tables.declarations d ≡ Some row → RowIs b from to d row
     row_of d row at = row_is b c New s from to new d row at
@@ -236,19 +281,9 @@ more_at (y ∷ xs) ys (suc i) x is = more_at xs ys i x is
 some_same : {A : Type 0} (a b : A) → Some a ≡ Some b → a ≡ b
 some_same a b e = cc
 
-text_cases : (ts : List Text) (x : Text) (n : ℕ) (y : Text) → slice_get (ts ++ x ∷ []) n ≡ Some y → (slice_get ts n ≡ Some y) ⊎ ((n ≡ length ts) × (x ≡ y))
-text_cases [] x zero y is = inr (refl, some_same x y is)
-text_cases [] x (suc n) y is = absurd (cc)
-text_cases (t ∷ ts) x zero y is = inl is
-text_cases (t ∷ ts) x (suc n) y is = go (text_cases ts x n y is)
-  where
-    go : (slice_get ts n ≡ Some y) ⊎ ((n ≡ length ts) × (x ≡ y)) → (slice_get (t ∷ ts) (suc n) ≡ Some y) ⊎ ((suc n ≡ length (t ∷ ts)) × (x ≡ y))
-    go (inl q) = inl q
-    go (inr q) = inr ((let e : n ≡ length ts = q.0 in let f : length (t ∷ ts) ≡ suc (length ts) = omega arith in omega arith), q.1)
-
-last_text : (ts : List Text) (x : Text) → slice_get (ts ++ x ∷ []) (length ts) ≡ Some x
-last_text [] x = refl
-last_text (t ∷ ts) x = let e : length (t ∷ ts) ≡ suc (length ts) = omega arith in ap (slice_get ((t ∷ ts) ++ x ∷ [])) e ∙ last_text ts x
+last_held : (ts : List Held) (x : Held) → slice_get (ts ++ x ∷ []) (length ts) ≡ Some x
+last_held [] x = refl
+last_held (t ∷ ts) x = let e : length (t ∷ ts) ≡ suc (length ts) = omega arith in ap (slice_get ((t ∷ ts) ++ x ∷ [])) e ∙ last_held ts x
 
 pub reached : (xs : List (Option ℕ)) (o : Option ℕ) (to : ℕ) → length xs ≤ to → length (xs ++ replicate (to - length xs) o) ≡ to
 reached xs o to le =
@@ -262,18 +297,33 @@ filled_here b from to n i le reach (inr q) =
     let lt : i < from = q.1 in
     filled_at b.tables.places b.current (to - length b.tables.places) i low (omega arith) ∙ ap Some q.2
 
-begun_laid : (b : BuildingOf) (new : BlockOf) (first : ℕ) (ts : List Text) (x : Text) (os ps : List Frame) (from high : ℕ) → from ≤ first → high ≤ first + 1 → new.encloser ≡ b.current → extras_in (Some new) ≡ no_extras
-    → Lays b ts os from high → Stack b.tables.blocks ts b.current ps
-    → ((n : ℕ) (p : Part) → LeftAt b.tables.blocks b.current os n p → LeftAt b.tables.blocks b.current ps n p ⊎ ((b.current ≡ Some n) × (i : ℕ) × (ds : Declarations) × (ss : Statements) × (p ≡ Sub i) × (x ≡ BlockText i ds ss) × (i ≡ first)))
-    → Lay (record b { tables = record b.tables { blocks = b.tables.blocks ++ new ∷ []; places = (placed b.tables b.current first).places }; current = Some (length b.tables.blocks) }) (ts ++ x ∷ []) (frame x (text_used x) ∷ ps) (first + 1)
-begun_laid b new first ts x os ps from high le up around_is without l stack pop = record {
+-- what begins with this text is what the text around has at that token
+abbrev Begun : (first : ℕ) → Held → Part → Type 0
+Begun first x (Use i) = ⊥
+Begun first x (Sub i) = (i ≡ first) × ((ds : Declarations) × (ss : Statements) × (x ≡ Whole (BlockText i ds ss)))
+Begun first x (Con i v) = (i ≡ first) × (x ≡ Joined i v)
+
+abbrev Pops : BuildingOf → Held → (first : ℕ) → (os ps : List Frame) → Type 0
+Pops b x first os ps = (n : ℕ) (p : Part) → LeftAt b.tables.blocks b.current os n p → LeftAt b.tables.blocks b.current ps n p ⊎ ((b.current ≡ Some n) × Begun first x p)
+
+-- what is joined begins with its own token, in a text
+abbrev BeginsWith : Held → (first : ℕ) → (current : Option ℕ) → Type 0
+BeginsWith (Whole x) first current = Unit {0}
+BeginsWith (Joined i a) first current = (i ≡ first) × ((u : ℕ) × (current ≡ Some u))
+
+begun_laid : (b : BuildingOf) (new : BlockOf) (first : ℕ) (ts : List Held) (x : Held) (os ps : List Frame) (from high : ℕ) → BeginsWith x first b.current → from ≤ first → high ≤ first + 1 → new.encloser ≡ b.current → new.first ≡ first → extras_in (Some new) ≡ no_extras
+    → Lays b ts os from high → Stack b.tables.blocks ts b.current ps → Pops b x first os ps
+    → Lay (record b { tables = record b.tables { blocks = b.tables.blocks ++ new ∷ []; places = (placed b.tables b.current first).places }; current = Some (length b.tables.blocks) }) (ts ++ x ∷ []) (frame (text_held x) (used_held x) ∷ ps) (first + 1)
+begun_laid b new first ts x os ps from high own le up around_is first_is without l stack pop = record {
   size = length-append bs (new ∷ []) ∙ (let e : length bs ≡ length ts = l.size in ap (λ z. z + 1) e) ∙ sym (length-append ts (x ∷ []));
-  stack = (length bs, refl, at, subst (λ z. Stack cs us z ps) (sym under) (stack_kept bs cs ts us keep ps b.current stack));
+  stack = (length bs, refl, (x, at, refl), subst (λ z. Stack cs us z ps) (sym under) (stack_kept bs cs ts us keep ps b.current stack));
   reach = (let e : length (placed b.tables b.current first).places ≡ first = long in omega arith);
-  done = λ n y p is has. done n y p has (text_cases ts x n y is);
+  done = λ n y p is has. done n y p has (last_cases ts x n y is);
+  firsts = λ k row is. firsts k row (last_cases bs new k row is);
+  joins = λ n i a is. joins n i a (last_cases ts x n (Joined i a) is);
   below = λ d row is. (let lt : row.token.0 < high = l.below d row is in omega arith);
   rising = l.rising;
-  bare = record { blocks = λ k. kept_more extras_in bs new without k ∙ l.bare.blocks k; virtuals = l.bare.virtuals; qualified = l.bare.qualified };
+  bare = record { blocks = λ k. kept_more extras_in bs new without k ∙ l.bare.blocks k; virtuals = l.bare.virtuals };
 }
   where
     bs : List BlockOf
@@ -282,7 +332,7 @@ begun_laid b new first ts x os ps from high le up around_is without l stack pop 
     cs : List BlockOf
     cs = b.tables.blocks ++ new ∷ []
 
-    us : List Text
+    us : List Held
     us = ts ++ x ∷ []
 
     c : BuildingOf
@@ -292,88 +342,103 @@ begun_laid b new first ts x os ps from high le up around_is without l stack pop 
     long = reached b.tables.places b.current first (let q : length b.tables.places ≤ from = l.reach in omega arith)
 
     at : slice_get (ts ++ x ∷ []) (length b.tables.blocks) ≡ Some x
-    at = ap (slice_get (ts ++ x ∷ [])) l.size ∙ last_text ts x
+    at = ap (slice_get (ts ++ x ∷ [])) l.size ∙ last_held ts x
 
     under : around (slice_get (b.tables.blocks ++ new ∷ []) (length b.tables.blocks)) ≡ b.current
     under = ap around (more_here bs new) ∙ around_is
 
-    keep : (n : ℕ) (y : Text) → slice_get ts n ≡ Some y → (around (slice_get (b.tables.blocks ++ new ∷ []) n) ≡ around (slice_get b.tables.blocks n)) × (slice_get (ts ++ x ∷ []) n ≡ Some y)
+    begins_there : first_in (slice_get (b.tables.blocks ++ new ∷ []) (length b.tables.blocks)) ≡ first
+    begins_there = ap first_in (more_here bs new) ∙ first_is
+
+    keep : Keeps b.tables.blocks (b.tables.blocks ++ new ∷ []) ts (ts ++ x ∷ [])
     keep n y is =
         let lt : n < length ts = slice_get_within ts n y is in
         let same : length b.tables.blocks ≡ length ts = l.size in
-        (ap around (more_other bs new n (let P : nat_eq n (length b.tables.blocks) ≡ false = grind (arith, nat_tests) in P)), more_at ts (x ∷ []) n y is)
+        let other : slice_get (b.tables.blocks ++ new ∷ []) n ≡ slice_get b.tables.blocks n = more_other bs new n (let P : nat_eq n (length b.tables.blocks) ≡ false = grind (arith, nat_tests) in P) in
+        (ap around other, more_at ts (x ∷ []) n y is, ap first_in other)
 
     later : (n j : ℕ) → Here b from n j → Here c (first + 1) n j
     later n j h = inl (filled_here b from first n j le l.reach h)
 
-    moved : (n : ℕ) (p : Part) → LeftAt bs b.current ps n p → LeftAt cs (Some (length bs)) (frame x (text_used x) ∷ ps) n p
+    -- the new block is where its first token stands
+    new_here : Here c (first + 1) (length bs) first
+    new_here = inr ((let z : length (placed b.tables b.current first).places ≡ first = long in omega arith), (let z : first < first + 1 = omega arith in z), refl)
+
+    firsts : (k : ℕ) (row : BlockOf) → (slice_get bs k ≡ Some row) ⊎ ((k ≡ length bs) × (new ≡ row)) → Here c (first + 1) k row.first
+    firsts k row (inl q) = later k row.first (l.firsts k row q)
+    firsts k row (inr q) = subst (λ z. Here c (first + 1) z row.first) (sym q.0) (subst (λ z. Here c (first + 1) (length bs) z) (sym first_is ∙ ap (λ (z : BlockOf). z.first) q.1) new_here)
+
+    joins : (n i : ℕ) (a : Statement) → (slice_get ts n ≡ Some (Joined i a)) ⊎ ((n ≡ length ts) × (x ≡ Joined i a)) → (first_in (slice_get (b.tables.blocks ++ new ∷ []) n) ≡ i) × ((u : ℕ) × (around (slice_get (b.tables.blocks ++ new ∷ []) n) ≡ Some u))
+    joins n i a (inl q) = joins_kept b.tables.blocks (b.tables.blocks ++ new ∷ []) ts (ts ++ x ∷ []) keep l.joins n i a q
+    joins n i a (inr q) =
+        let begins : (i ≡ first) × ((u : ℕ) × (b.current ≡ Some u)) = subst (λ z. BeginsWith z first b.current) q.1 own in
+        let e : n ≡ length b.tables.blocks = q.0 ∙ sym l.size in
+        (ap (λ z. first_in (slice_get (b.tables.blocks ++ new ∷ []) z)) e ∙ begins_there ∙ sym begins.0, (begins.1.0, ap (λ z. around (slice_get (b.tables.blocks ++ new ∷ []) z)) e ∙ under ∙ begins.1.1))
+
+    moved : (n : ℕ) (p : Part) → LeftAt bs b.current ps n p → LeftAt cs (Some (length bs)) (frame (text_held x) (used_held x) ∷ ps) n p
     moved n p q = inr (subst (λ z. LeftAt cs z ps n p) (sym under) (left_kept bs cs ts us keep ps b.current n p stack q))
 
-    done : (n : ℕ) (y : Text) (p : Part) → Has p (text_used y) → (slice_get ts n ≡ Some y) ⊎ ((n ≡ length ts) × (x ≡ y)) → Fact c us (first + 1) n p ⊎ LeftAt cs (Some (length bs)) (frame x (text_used x) ∷ ps) n p
+    -- it stands in the block around
+    starts : (n : ℕ) (p : Part) → b.current ≡ Some n → Begun first x p → Fact c us (first + 1) n p
+    starts n (Use i) cur q = absurd q
+    starts n (Sub i) cur q =
+        (q.1.0, q.1.1, record { number = length bs; text = at ∙ ap Some q.1.2; around = under ∙ cur; there = subst (λ z. Here c (first + 1) (length bs) z) (sym q.0) new_here; begins = begins_there ∙ sym q.0 })
+    starts n (Con i v) cur q = record { number = length bs; text = at ∙ ap Some q.1; around = under ∙ cur; there = subst (λ z. Here c (first + 1) (length bs) z) (sym q.0) new_here; begins = begins_there ∙ sym q.0 }
+
+    done : (n : ℕ) (y : Held) (p : Part) → Has p (used_held y) → (slice_get ts n ≡ Some y) ⊎ ((n ≡ length ts) × (x ≡ y)) → Fact c us (first + 1) n p ⊎ LeftAt cs (Some (length bs)) (frame (text_held x) (used_held x) ∷ ps) n p
     done n y p has (inr q) =
-        let here_now : length bs ≡ n = l.size ∙ sym q.0 in inr (inl (ap Some here_now, subst (λ z. Has p (text_used z)) (sym q.1) has))
+        let here_now : length bs ≡ n = l.size ∙ sym q.0 in inr (inl (ap Some here_now, subst (λ z. Has p (used_held z)) (sym q.1) has))
     done n y p has (inl q) = go (l.done n y p q has)
       where
-        sub : (b.current ≡ Some n) × (i : ℕ) × (ds : Declarations) × (ss : Statements) × (p ≡ Sub i) × (x ≡ BlockText i ds ss) × (i ≡ first) → Fact c us (first + 1) n p
-        sub (cur, i, ds, ss, e, f, g) = subst (Fact c us (first + 1) n) (sym e) (record {
-          number = length bs;
-          declarations = ds;
-          statements = ss;
-          text = at ∙ ap Some f;
-          around = under ∙ cur;
-          there = inr ((let z : length (placed b.tables b.current first).places ≡ first = long in omega (arith, g)), (omega (arith, g)), refl);
-        })
-
-        go : Fact b ts from n p ⊎ LeftAt bs b.current os n p → Fact c us (first + 1) n p ⊎ LeftAt cs (Some (length bs)) (frame x (text_used x) ∷ ps) n p
+        go : Fact b ts from n p ⊎ LeftAt bs b.current os n p → Fact c us (first + 1) n p ⊎ LeftAt cs (Some (length bs)) (frame (text_held x) (used_held x) ∷ ps) n p
         go (inl f) = inl (fact_moves b c ts us from (first + 1) keep later n p f)
         go (inr h) = pick (pop n p h)
           where
-            pick : LeftAt bs b.current ps n p ⊎ ((b.current ≡ Some n) × (i : ℕ) × (ds : Declarations) × (ss : Statements) × (p ≡ Sub i) × (x ≡ BlockText i ds ss) × (i ≡ first)) → Fact c us (first + 1) n p ⊎ LeftAt cs (Some (length bs)) (frame x (text_used x) ∷ ps) n p
+            pick : LeftAt bs b.current ps n p ⊎ ((b.current ≡ Some n) × Begun first x p) → Fact c us (first + 1) n p ⊎ LeftAt cs (Some (length bs)) (frame (text_held x) (used_held x) ∷ ps) n p
             pick (inl k) = inr (moved n p k)
-            pick (inr k) = inl (sub k)
+            pick (inr k) = inl (starts n p k.0 k.1)
 
 -- ---- a broken rule changes no table
 
-if_laid : (a : Bool) (b : BuildingOf) (token : ℕ) (rule : Rule) (ts : List Text) (os : List Frame) (from : ℕ) → Lay b ts os from → Lay (broken_if a b token rule) ts os from
+if_laid : (a : Bool) (b : BuildingOf) (token : ℕ) (rule : Rule) (ts : List Held) (os : List Frame) (from : ℕ) → Lay b ts os from → Lay (broken_if a b token rule) ts os from
 if_laid false b token rule ts os from l = l
 if_laid true b token rule ts os from l = record {
   size = l.size;
   stack = l.stack;
   reach = l.reach;
   done = λ n x p at has. done n p (l.done n x p at has);
+  firsts = l.firsts;
+  joins = l.joins;
   below = l.below;
   rising = l.rising;
   bare = l.bare;
 }
   where
     done : (n : ℕ) (p : Part) → Fact b ts from n p ⊎ LeftAt b.tables.blocks b.current os n p → Fact (broken_if true b token rule) ts from n p ⊎ LeftAt b.tables.blocks b.current os n p
-    done n p (inl f) = inl (fact_moves b (broken_if true b token rule) ts ts from from (λ m y is. (refl, is)) (λ m i h. h) n p f)
+    done n p (inl f) = inl (fact_moves b (broken_if true b token rule) ts ts from from (λ m y is. (refl, is, refl)) (λ m i h. h) n p f)
     done n p (inr q) = inr q
 
-abbrev Pops : BuildingOf → Text → (first : ℕ) → (os ps : List Frame) → Type 0
-Pops b x first os ps = (n : ℕ) (p : Part) → LeftAt b.tables.blocks b.current os n p → LeftAt b.tables.blocks b.current ps n p ⊎ ((b.current ≡ Some n) × (i : ℕ) × (ds : Declarations) × (ss : Statements) × (p ≡ Sub i) × (x ≡ BlockText i ds ss) × (i ≡ first))
+opened_laid : (b : BuildingOf) (k : BlockKind) (text first : ℕ) (ts : List Held) (x : Held) (os ps : List Frame) (from high : ℕ) → BeginsWith x first b.current → from ≤ first → high ≤ first + 1 → Lays b ts os from high → Stack b.tables.blocks ts b.current ps → Pops b x first os ps
+    → Lay (opened b k text first) (ts ++ x ∷ []) (frame (text_held x) (used_held x) ∷ ps) (first + 1)
+opened_laid b k text first ts x os ps from high own le up l stack pop =
+    if_laid (nat_lt most_levels (level_in k (block_around b.tables b.current))) _ text r.TooManyLevels (ts ++ x ∷ []) (frame (text_held x) (used_held x) ∷ ps) (first + 1)
+    (begun_laid b (record { kind = k; first = first; end = first; encloser = b.current; level = level_in k (block_around b.tables b.current); owner = owner_of k b.latest; formals = 0; inner = None; prefix = None; base = None; standard = None; names = []; numbers = []; has_class = false; brought_names = []; brought = []; protected = []; hidden = [] }) first ts x os ps from high own le up refl refl refl l stack pop)
 
-opened_laid : (b : BuildingOf) (k : BlockKind) (text first : ℕ) (ts : List Text) (x : Text) (os ps : List Frame) (from high : ℕ) → from ≤ first → high ≤ first + 1 → has_detach k ≡ false → Lays b ts os from high → Stack b.tables.blocks ts b.current ps → Pops b x first os ps
-    → Lay (opened b k text first) (ts ++ x ∷ []) (frame x (text_used x) ∷ ps) (first + 1)
-opened_laid b k text first ts x os ps from high le up plain l stack pop =
-    if_laid (nat_lt most_levels (level_in k (block_around b.tables b.current))) _ text r.TooManyLevels (ts ++ x ∷ []) (frame x (text_used x) ∷ ps) (first + 1)
-    (begun_laid b (record { kind = k; first = first; end = first; encloser = b.current; level = level_in k (block_around b.tables b.current); owner = owner_of k b.latest; formals = 0; inner = None; prefix = None; base = None; standard = None; names = []; numbers = []; has_class = false; brought_names = []; brought = []; protected = []; hidden = [] }) first ts x os ps from high le up refl (ap (λ z. record { detach = z; prefix = None; base = None; standard = None; protected = [] }) plain) l stack pop)
-
--- a sub-block stands among the parts of the text around it
-pop_sub : (b : BuildingOf) (i : ℕ) (ds : Declarations) (ss : Statements) (x : Text) (u : List Part) (os : List Frame) → Pops b (BlockText i ds ss) i (frame x (Sub i ∷ u) ∷ os) (frame x u ∷ os)
-pop_sub b i ds ss x u os n p (inr q) = inl (inr q)
-pop_sub b i ds ss x u os n p (inl q) = go (has_cases q.1)
+-- a sub-block and a connection stand among the parts of the text around
+pop_part : (b : BuildingOf) (z : Held) (first : ℕ) (q : Part) → Begun first z q → (x : Text) (u : List Part) (os : List Frame) → Pops b z first (frame x (q ∷ u) ∷ os) (frame x u ∷ os)
+pop_part b z first q begun x u os n p (inr h) = inl (inr h)
+pop_part b z first q begun x u os n p (inl h) = go (has_cases h.1)
   where
-    go : (p ≡ Sub i) ⊎ Has p u → LeftAt b.tables.blocks b.current (frame x u ∷ os) n p ⊎ ((b.current ≡ Some n) × (j : ℕ) × (es : Declarations) × (sss : Statements) × (p ≡ Sub j) × (BlockText i ds ss ≡ BlockText j es sss) × (j ≡ i))
-    go (inr h) = inl (inl (q.0, h))
-    go (inl e) = inr (q.0, i, ds, ss, e, refl, refl)
+    go : (p ≡ q) ⊎ Has p u → LeftAt b.tables.blocks b.current (frame x u ∷ os) n p ⊎ ((b.current ≡ Some n) × Begun first z p)
+    go (inr k) = inl (inl (h.0, k))
+    go (inl e) = inr (h.0, subst (Begun first z) (sym e) begun)
 
-pop_none : (b : BuildingOf) (x : Text) (first : ℕ) (os : List Frame) → Pops b x first os os
+pop_none : (b : BuildingOf) (x : Held) (first : ℕ) (os : List Frame) → Pops b x first os os
 pop_none b x first os n p q = inl q
 
 -- ---- a block ends
 
-closed_row : (b : BuildingOf) (end n : ℕ) (o : Option BlockOf) (ts : List Text) (x : Text) (os : List Frame) (from : ℕ) → from ≤ end → b.current ≡ Some n → slice_get b.tables.blocks n ≡ o → (row : BlockOf) → o ≡ Some row
+closed_row : (b : BuildingOf) (end n : ℕ) (o : Option BlockOf) (ts : List Held) (x : Text) (os : List Frame) (from : ℕ) → from ≤ end → b.current ≡ Some n → slice_get b.tables.blocks n ≡ o → (row : BlockOf) → o ≡ Some row
     → Lay b ts (frame x [] ∷ os) from → Lay (closed_at b end n o) ts os end
 closed_row b end n None ts x os from le cur at found is l = absurd (cc)
 closed_row b end n (Some row) ts x os from le cur at found is l = record {
@@ -381,9 +446,11 @@ closed_row b end n (Some row) ts x os from le cur at found is l = record {
   stack = subst (λ z. Stack cs ts z os) (ap around at) (stack_kept bs cs ts ts keep os (around (slice_get bs n)) (subst (λ z. Stack bs ts (around (slice_get bs z)) os) (some_same l.stack.0 n (sym l.stack.1 ∙ cur)) l.stack.3));
   reach = (let e : length (placed b.tables b.current end).places ≡ end = reached b.tables.places b.current end (let q : length b.tables.places ≤ from = l.reach in omega arith) in omega arith);
   done = λ m y p is has. done m p (l.done m y p is has);
+  firsts = λ k found is. first_stays k found (nat_eq n k) refl is;
+  joins = λ m i a is. joins_kept bs cs ts ts keep l.joins m i a is;
   below = λ d r is. (let lt : r.token.0 < from = l.below d r is in omega arith);
   rising = l.rising;
-  bare = record { blocks = λ j. kept_set extras_in bs n row new at refl j ∙ l.bare.blocks j; virtuals = l.bare.virtuals; qualified = l.bare.qualified };
+  bare = record { blocks = λ j. kept_set extras_in bs n row new at refl j ∙ l.bare.blocks j; virtuals = l.bare.virtuals };
 }
   where
     bs : List BlockOf
@@ -398,11 +465,18 @@ closed_row b end n (Some row) ts x os from le cur at found is l = record {
     c : BuildingOf
     c = closed_at b end n (Some row)
 
-    keep : (j : ℕ) (y : Text) → slice_get ts j ≡ Some y → (around (slice_get (slice_set b.tables.blocks n (record row { end = end })) j) ≡ around (slice_get b.tables.blocks j)) × (slice_get ts j ≡ Some y)
-    keep j y is = (kept_set around bs n row new at refl j, is)
+    keep : Keeps b.tables.blocks (slice_set b.tables.blocks n (record row { end = end })) ts ts
+    keep j y is = (kept_set around bs n row new at refl j, is, kept_set first_in bs n row new at refl j)
 
     later : (m j : ℕ) → Here b from m j → Here c end m j
     later m j h = inl (filled_here b from end m j le l.reach h)
+
+    first_stays : (k : ℕ) (found : BlockOf) (z : Bool) → nat_eq n k ≡ z → slice_get (slice_set b.tables.blocks n (record row { end = end })) k ≡ Some found → Here c end k found.first
+    first_stays k found true e is =
+        let same : n ≡ k = grind (arith, nat_tests) in
+        let one : new ≡ found = some_same new found (sym (set_here bs n row new at) ∙ subst (λ z. slice_get cs z ≡ Some found) (sym same) is) in
+        later k found.first (subst (λ z. Here b from z found.first) same (subst (λ z. Here b from n z) (ap (λ (z : BlockOf). z.first) one) (l.firsts n row at)))
+    first_stays k found false e is = later k found.first (l.firsts k found (sym (set_other bs n k new e) ∙ is))
 
     under : Stack b.tables.blocks ts (around (slice_get b.tables.blocks n)) os
     under = subst (λ z. Stack bs ts (around (slice_get bs z)) os) (some_same l.stack.0 n (sym l.stack.1 ∙ cur)) l.stack.3
@@ -414,13 +488,13 @@ closed_row b end n (Some row) ts x os from le cur at found is l = record {
         let e : out bs b.current ≡ around (slice_get bs n) = ap (out bs) cur in
         inr (subst (λ z. LeftAt cs z os m p) (ap around at) (left_kept bs cs ts ts keep os (around (slice_get bs n)) m p under (subst (λ z. LeftAt bs z os m p) e q)))
 
-closed_laid : (b : BuildingOf) (end : ℕ) (ts : List Text) (x : Text) (os : List Frame) (from : ℕ) → from ≤ end → (l : Lay b ts (frame x [] ∷ os) from) → (row : BlockOf) → slice_get b.tables.blocks l.stack.0 ≡ Some row → Lay (closed b end b.current) ts os end
+closed_laid : (b : BuildingOf) (end : ℕ) (ts : List Held) (x : Text) (os : List Frame) (from : ℕ) → from ≤ end → (l : Lay b ts (frame x [] ∷ os) from) → (row : BlockOf) → slice_get b.tables.blocks l.stack.0 ≡ Some row → Lay (closed b end b.current) ts os end
 closed_laid b end ts x os from le l row at = subst (λ o. Lay (closed b end o) ts os end) (sym l.stack.1) (closed_row b end l.stack.0 (slice_get b.tables.blocks l.stack.0) ts x os from le l.stack.1 refl row at l)
 
 -- ---- the whole
 
 -- a text has a row
-row_of_text : (b : BuildingOf) (ts : List Text) (os : List Frame) (from : ℕ) → Lay b ts os from → (n : ℕ) (x : Text) → slice_get ts n ≡ Some x → (row : BlockOf) × (slice_get b.tables.blocks n ≡ Some row)
+row_of_text : (b : BuildingOf) (ts : List Held) (os : List Frame) (from : ℕ) → Lay b ts os from → (n : ℕ) (x : Held) → slice_get ts n ≡ Some x → (row : BlockOf) × (slice_get b.tables.blocks n ≡ Some row)
 row_of_text b ts os from l n x is =
     let lt : n < length ts = slice_get_within ts n x is in
     let e : length b.tables.blocks ≡ length ts = l.size in go b.tables.blocks n (omega arith)
@@ -431,56 +505,80 @@ row_of_text b ts os from l n x is =
     go (c ∷ bs) (suc n) lt = let e : length (c ∷ bs) ≡ suc (length bs) = omega arith in go bs n (omega arith)
 
 -- where the marks lead, and how far the tokens reach
-pub record Final (b : BuildingOf) (ts : List Text) : Type 0 where
+pub record Final (b : BuildingOf) (ts : List Held) : Type 0 where
   pub to : ℕ
   pub laid : Lay b ts [] to
 
 -- an identifier is declared
-named_laid : (b : BuildingOf) (x : Identifier) (e : Entry) (n : ℕ) (ts : List Text) (o : Frame) (os : List Frame) (from : ℕ) → Unmatched b.tables e → from ≤ x.token.0 → b.current ≡ Some n → Lay b ts (o ∷ os) from → Lays (declared b x e) ts (o ∷ os) from (x.token.0 + 1)
-named_laid b x e n ts o os from alone le cur f =
-    step_laid b (declared b x e) (Declared (length b.tables.declarations) x e n) (declared_step b x e n alone cur) ts (o ∷ os) from (x.token.0 + 1) (omega arith)
+named_laid : (b c : BuildingOf) (x : Identifier) (e : Entry) (n : ℕ) (ts : List Held) (o : Frame) (os : List Frame) (from : ℕ) → Step b c (Declared (length b.tables.declarations) x e n) → from ≤ x.token.0 → Lay b ts (o ∷ os) from → Lays c ts (o ∷ os) from (x.token.0 + 1)
+named_laid b c x e n ts o os from s le f =
+    step_laid b c (Declared (length b.tables.declarations) x e n) s ts (o ∷ os) from (x.token.0 + 1) (omega arith)
     (λ d row q. (q.0, (let t : row.token.0 ≡ x.token.0 = ap (λ (z : TokenNo). z.0) q.1.1 in omega arith), (let t : row.token.0 ≡ x.token.0 = ap (λ (z : TokenNo). z.0) q.1.1 in omega arith))) f
 
-pub run_laid : {os : List Frame} {ms : List Mark} {l : List Spot} {xs : List Text} (b : BuildingOf) (ts : List Text) (from : ℕ) → Laid os ms l xs → Ascends from l → Lay b ts os from → Final (run marked b ms) (ts ++ xs)
+quiet_laid : (b c : BuildingOf) (ts : List Held) (os : List Frame) (from : ℕ) → Step b c Nothing → Lay b ts os from → Lay c ts os from
+quiet_laid b c ts os from s f = step_laid b c Nothing s ts os from from (let z : from ≤ from = omega arith in z) (λ d row q. absurd q) f
+
+pub run_laid : {os : List Frame} {ms : List Mark} {l : List Spot} {xs : List Held} (b : BuildingOf) (ts : List Held) (from : ℕ) → Laid os ms l xs → Ascends from l → Lay b ts os from → Final (run marked b ms) (ts ++ xs)
 unfolding run marked
 run_laid {os = os} b ts from (nothing e) a f = record { to = from; laid = subst (λ z. Lay b z [] from) (sym (append-nil ts)) (subst (λ z. Lay b ts z from) e f) }
 run_laid b ts from (uses {os = os} x u i g) a f = run_laid b ts (i + 1) g a.1 (use_laid b ts x u i os from a.0 f)
 run_laid {os = os} b ts from (passes i g) a f = run_laid b ts (i + 1) g a.1 (later_laid b ts os from from (i + 1) (let le : from ≤ i = a.0 in omega arith) (let le : from ≤ i = a.0 in omega arith) f)
 run_laid {os = os} b ts from (leaves i g) a f = run_laid b ts i g a.1 (later_laid b ts os from from i a.0 a.0 f)
-run_laid b ts from (declares {o = o} {os = os} x e own g) a f =
+run_laid b ts from (declares {o = o} {os = os} {ms = ms} {hs = xs} quals x e own q g) a f =
     let n : ℕ = f.stack.0 in
-    run_laid (declared b x e) ts (x.token.0 + 1) g a.1
-    (later_laid (declared b x e) ts (o ∷ os) from (x.token.0 + 1) (x.token.0 + 1) (let le : from ≤ x.token.0 = a.0 in omega arith) (let z : x.token.0 + 1 ≤ x.token.0 + 1 = omega arith in z)
-    (named_laid b x e n ts o os from (own_unmatched b.tables e own) a.0 f.stack.1 f))
+    let c : BuildingOf = run marked (declared b x e) quals in
+    let s : Step b c (Declared (length b.tables.declarations) x e n) = quals_step b (declared b x e) (Declared (length b.tables.declarations) x e n) (OfReferences e) quals q (declared_step b x e n (own_unmatched b.tables e own) f.stack.1) in
+    subst (λ z. Final z (ts ++ xs)) (sym (run_both (declared b x e) quals ms))
+    (run_laid c ts (x.token.0 + 1) g a.1
+    (later_laid c ts (o ∷ os) from (x.token.0 + 1) (x.token.0 + 1) (let le : from ≤ x.token.0 = a.0 in omega arith) (let z : x.token.0 + 1 ≤ x.token.0 + 1 = omega arith in z)
+    (named_laid b c x e n ts o os from s a.0 f)))
 run_laid b ts from (parameter {o = o} {os = os} x g) a f =
     let n : ℕ = f.stack.0 in
     run_laid (parameter_of b x) ts (x.token.0 + 1) g a.1
     (later_laid (parameter_of b x) ts (o ∷ os) from (x.token.0 + 1) (x.token.0 + 1) (let le : from ≤ x.token.0 = a.0 in omega arith) (let z : x.token.0 + 1 ≤ x.token.0 + 1 = omega arith in z)
-    (step_laid b (parameter_of b x) (Declared (length b.tables.declarations) x (entry.Unspecified None) n) (parameter_step b x n f.stack.1) ts (o ∷ os) from (x.token.0 + 1) (let le : from ≤ x.token.0 = a.0 in omega arith)
-    (λ d row q. (q.0, (let t : row.token.0 ≡ x.token.0 = ap (λ (z : TokenNo). z.0) q.1.1 in let le : from ≤ x.token.0 = a.0 in omega arith), (let t : row.token.0 ≡ x.token.0 = ap (λ (z : TokenNo). z.0) q.1.1 in omega arith))) f))
-run_laid {os = os} b ts from (moded x g) a f =
-    run_laid _ ts from g a (step_laid b _ Nothing (moded_step b x.token (found_in b.tables b.current x.name)) ts os from from (let z : from ≤ from = omega arith in z) (λ d row q. absurd q) f)
-run_laid {os = os} b ts from (specified x k ty p g) a f =
-    run_laid _ ts from g a (step_laid b _ Nothing (specified_met b x.token k ty (found_in b.tables b.current x.name) p) ts os from from (let z : from ≤ from = omega arith in z) (λ d row q. absurd q) f)
-run_laid {os = os} b ts from (headed x g) a f =
-    run_laid _ ts from g a (step_laid b _ Nothing (headed_step b x.token (unspecified_at b.tables (found_in b.tables b.current x.name))) ts os from from (let z : from ≤ from = omega arith in z) (λ d row q. absurd q) f)
-run_laid b ts from (program {ms = ms} {xs = xs} text i ds ss g) a f =
-    let x : Text = BlockText i ds ss in
-    let q = run_laid (opened b kind.Program text i) (ts ++ x ∷ []) (i + 1) g a.1 (opened_laid b kind.Program text i ts x [] [] from from a.0 (let le : from ≤ i = a.0 in omega arith) refl f f.stack (pop_none b x i [])) in
+    (named_laid b (parameter_of b x) x (entry.Unspecified None) n ts o os from (parameter_step b x n f.stack.1) a.0 f))
+run_laid {os = os} b ts from (moded x g) a f = run_laid _ ts from g a (quiet_laid b _ ts os from (moded_step b x.token (found_in b.tables b.current x.name)) f)
+run_laid {os = os} b ts from (specified {ms = ms} {hs = xs} quals x k ty p q g) a f =
+    let c : BuildingOf = specified_of (met b (found_in b.tables b.current x.name)) x.token k ty (found_in b.tables b.current x.name) in
+    subst (λ z. Final z (ts ++ xs)) (sym (run_both c quals ms))
+    (run_laid (run marked c quals) ts from g a (quiet_laid b (run marked c quals) ts os from (quals_step b c Nothing (AreReferences ty) quals q (specified_met b x.token k ty (found_in b.tables b.current x.name) p)) f))
+run_laid {os = os} b ts from (headed x g) a f = run_laid _ ts from g a (quiet_laid b _ ts os from (headed_step b x.token (unspecified_at b.tables (found_in b.tables b.current x.name))) f)
+run_laid {os = os} b ts from (inner_mark token g) a f = run_laid _ ts from g a (quiet_laid b _ ts os from (inner_step b token b.current refl) f)
+run_laid {os = os} b ts from (breaks_rule token rule g) a f = run_laid _ ts from g a (quiet_laid b _ ts os from (rule_step b token rule) f)
+run_laid b ts from (program {ms = ms} {hs = xs} text i ds ss g) a f =
+    let x : Held = Whole (BlockText i ds ss) in
+    let q = run_laid (opened b kind.Program text i) (ts ++ x ∷ []) (i + 1) g a.1 (opened_laid b kind.Program text i ts x [] [] from from tt a.0 (let le : from ≤ i = a.0 in omega arith) f f.stack (pop_none b x i [])) in
     record { to = q.to; laid = subst (λ z. Lay (run marked (opened b kind.Program text i) ms) z [] q.to) (append_assoc ts (x ∷ []) xs) q.laid }
-run_laid b ts from (block {os = os} {ms = ms} {xs = xs} text i ds ss y u g) a f =
-    let x : Text = BlockText i ds ss in
-    let q = run_laid (opened b kind.SubBlock text i) (ts ++ x ∷ []) (i + 1) g a.1 (opened_laid b kind.SubBlock text i ts x (frame y (Sub i ∷ u) ∷ os) (frame y u ∷ os) from from a.0 (let le : from ≤ i = a.0 in omega arith) refl f f.stack (pop_sub b i ds ss y u os)) in
+run_laid b ts from (block {os = os} {ms = ms} {hs = xs} text i ds ss y u g) a f =
+    let x : Held = Whole (BlockText i ds ss) in
+    let q = run_laid (opened b kind.SubBlock text i) (ts ++ x ∷ []) (i + 1) g a.1 (opened_laid b kind.SubBlock text i ts x (frame y (Sub i ∷ u) ∷ os) (frame y u ∷ os) from from tt a.0 (let le : from ≤ i = a.0 in omega arith) f f.stack (pop_part b x i (Sub i) (refl, (ds, ss, refl)) y u os)) in
     record { to = q.to; laid = subst (λ z. Lay (run marked (opened b kind.SubBlock text i) ms) z [] q.to) (append_assoc ts (x ∷ []) xs) q.laid }
-run_laid b ts from (procedure {o = o} {os = os} {ms = ms} {xs = xs} text result h body g) a f =
-    let x : Text = ProcedureText result h body in
+run_laid b ts from (connects {os = os} {ms = ms} {hs = xs} text i v y u g) a f =
+    let x : Held = Joined i v in
+    let q = run_laid (opened b kind.Connection text i) (ts ++ x ∷ []) (i + 1) g a.1 (opened_laid b kind.Connection text i ts x (frame y (Con i v ∷ u) ∷ os) (frame y u ∷ os) from from (refl, (f.stack.0, f.stack.1)) a.0 (let le : from ≤ i = a.0 in omega arith) f f.stack (pop_part b x i (Con i v) (refl, refl) y u os)) in
+    record { to = q.to; laid = subst (λ z. Lay (run marked (opened b kind.Connection text i) ms) z [] q.to) (append_assoc ts (x ∷ []) xs) q.laid }
+run_laid b ts from (procedure {o = o} {os = os} {ms = ms} {hs = xs} text quals result h body q g) a f =
+    let x : Held = Whole (ProcedureText result h body) in
     let n : ℕ = f.stack.0 in
     let i : ℕ = h.name.token.0 in
     let e : Entry = entry.Procedure (result_named result) (length b.tables.blocks) in
-    let c : BuildingOf = declared b h.name (entry.Procedure (result_named result) (length b.tables.blocks)) in
-    let k = named_laid b h.name e n ts o os from (procedure_unmatched b.tables (result_named result) (length b.tables.blocks) f.bare.virtuals) a.0 f.stack.1 f in
-    let q = run_laid (opened c kind.Procedure text i) (ts ++ x ∷ []) (i + 1) g a.1
-    (opened_laid c kind.Procedure text i ts x (o ∷ os) (o ∷ os) from (i + 1) a.0 (let z : i + 1 ≤ i + 1 = omega arith in z) refl k k.stack (pop_none c x i (o ∷ os))) in
-    record { to = q.to; laid = subst (λ z. Lay (run marked (opened c kind.Procedure text i) ms) z [] q.to) (append_assoc ts (x ∷ []) xs) q.laid }
+    let c0 : BuildingOf = declared b h.name (entry.Procedure (result_named result) (length b.tables.blocks)) in
+    let c : BuildingOf = run marked c0 quals in
+    let s : Step b c (Declared (length b.tables.declarations) h.name e n) = quals_step b c0 (Declared (length b.tables.declarations) h.name e n) (AreReferences (result_named result)) quals q (declared_step b h.name e n (procedure_unmatched b.tables (result_named result) (length b.tables.blocks) f.bare.virtuals) f.stack.1) in
+    let k = named_laid b c h.name e n ts o os from s a.0 f in
+    let p = run_laid (opened c kind.Procedure text i) (ts ++ x ∷ []) (i + 1) g a.1
+    (opened_laid c kind.Procedure text i ts x (o ∷ os) (o ∷ os) from (i + 1) tt a.0 (let z : i + 1 ≤ i + 1 = omega arith in z) k k.stack (pop_none c x i (o ∷ os))) in
+    subst (λ z. Final z (ts ++ (x ∷ xs))) (sym (run_both c0 quals (Opens kind.Procedure text i ∷ ms)))
+    (record { to = p.to; laid = subst (λ z. Lay (run marked (opened c kind.Procedure text i) ms) z [] p.to) (append_assoc ts (x ∷ []) xs) p.laid })
+run_laid b ts from (declares_class {o = o} {os = os} {ms = ms} {hs = xs} text h ds ss g) a f =
+    let x : Held = Whole (ClassText None h ds ss) in
+    let n : ℕ = f.stack.0 in
+    let i : ℕ = h.name.token.0 in
+    let e : Entry = entry.Class (length b.tables.blocks) in
+    let c : BuildingOf = changed (declared b h.name (entry.Class (length b.tables.blocks))) holding_class b.current in
+    let k = named_laid b c h.name e n ts o os from (class_step b h.name (length b.tables.blocks) n f.stack.1) a.0 f in
+    let p = run_laid (opened c kind.Class text i) (ts ++ x ∷ []) (i + 1) g a.1
+    (opened_laid c kind.Class text i ts x (o ∷ os) (o ∷ os) from (i + 1) tt a.0 (let z : i + 1 ≤ i + 1 = omega arith in z) k k.stack (pop_none c x i (o ∷ os))) in
+    record { to = p.to; laid = subst (λ z. Lay (run marked (opened c kind.Class text i) ms) z [] p.to) (append_assoc ts (x ∷ []) xs) p.laid }
 run_laid b ts from (closes {os = os} x end g) a f =
-    let row = row_of_text b ts (frame x [] ∷ os) from f f.stack.0 x f.stack.2 in run_laid (closed b end b.current) ts end g a.1 (closed_laid b end ts x os from a.0 f row.0 row.1)
+    let row = row_of_text b ts (frame x [] ∷ os) from f f.stack.0 f.stack.2.0 f.stack.2.1 in run_laid (closed b end b.current) ts end g a.1 (closed_laid b end ts x os from a.0 f row.0 row.1)

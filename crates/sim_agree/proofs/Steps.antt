@@ -22,14 +22,15 @@ use Rattle.sim_scope.specs.declared.types.Mode.{Mode}
 use Rattle.sim_scope.specs.declared.types.Mode.TheVariants as mode
 use Rattle.sim_scope.specs.declared.types.SimType.{SimType}
 use Rattle.sim_scope.specs.declared.types.WrittenMode.{WrittenMode}
-use Rattle.sim_scope.specs.Building.{BuildingOf, broken, broken_if, counted, counted_in, declared, declared_again, declared_at, declared_inside, declared_new, declared_twice, default_mode, entered, formal, headed, in_class, is_match, is_procedure, is_simple, matched, mode_allowed, moded, moded_as, parameter, row_of, specified, specified_as, token_in, unspecified_in, with_entry, with_mode, with_name}
+use Rattle.sim_scope.specs.Building.{BuildingOf, Mark, broken, broken_if, changed, changed_row, counted, counted_in, declared, declared_again, declared_at, declared_inside, declared_new, declared_twice, default_mode, entered, formal, headed, holding_class, in_class, inner, inner_at, inner_in, is_match, is_procedure, is_simple, matched, marked, mode_allowed, moded, moded_as, parameter, qualified, row_of, specified, specified_as, token_in, unspecified_in, with_entry, with_mode, with_name}
+use Rattle.sim_scope.specs.Runs.{run}
 use Rattle.sim_scope.specs.Scopes.{declared_in, entry_in, entry_of, is_virtual, numbered}
 use Rattle.sim_scope.specs.Tables.{BlockOf, Tables}
 use Rattle.sim_scope.proofs.Kept.{kept_set, more_here, more_other, set_here, set_other}
 use Rattle.sim_meaning.specs.Entries.{numbers_in}
-use Rattle.sim_sound.specs.Typed.{Among, first, later}
-use Rattle.sim_agree.proofs.Groups.{OwnEntry, PlainFormal}
-use Rattle.sim_agree.proofs.WithoutClasses.{NoVirtuals, WithoutClasses, extras_in}
+use Rattle.sim_sound.specs.Held.{Among, first, later}
+use Rattle.sim_agree.proofs.Groups.{OwnEntry, PlainFormal, Quals, qualifies, unqualified}
+use Rattle.sim_agree.proofs.Unprefixed.{NoVirtuals, Unprefixed, extras_in}
 
 -- ---- lists of numbers
 
@@ -52,15 +53,28 @@ among_before d e (x ∷ xs) (later a) = go (among_before d e xs a)
     go (inl b) = inl (later b)
     go (inr b) = inr b
 
+pub among_at : (ns : List DeclNo) (n : ℕ) (d : DeclNo) → slice_get ns n ≡ Some d → Among d ns
+among_at [] n d e = absurd (cc)
+among_at (m ∷ ns) zero d e = subst (λ z. Among d (z ∷ ns)) (let f : d ≡ m = cc in f) first
+among_at (m ∷ ns) (suc n) d e = later (among_at ns n d e)
+
 -- ---- rows
 
--- what no mark changes of a block
+-- what no mark changes of a block, but that a block which ends gets its end
+pub record FixedPart : Type 0 where
+  pub kind : BlockKind
+  pub encloser : Option ℕ
+  pub level : ℕ
+  pub owner : Option DeclNo
+  pub first : ℕ
+  pub base : Option ℕ
+
 abbrev pub Fixed : Type 0
-Fixed = Option (BlockKind × Option ℕ × ℕ)
+Fixed = Option FixedPart
 
 abbrev pub fixed : Option BlockOf → Fixed
 fixed None = None
-fixed (Some row) = Some (row.kind, row.encloser, row.level)
+fixed (Some row) = Some (record { kind = row.kind; encloser = row.encloser; level = row.level; owner = row.owner; first = row.first; base = row.base })
 
 -- a parameter that no mode part names, or one by value; and one that is specified as something plain
 abbrev pub WrittenPlain : Option WrittenMode → Type 0
@@ -153,15 +167,29 @@ looked_new row name number even none =
     last_number [] = refl
     last_number (x ∷ xs) = let m : length (x ∷ xs) ≡ suc (length xs) = omega arith in ap (slice_get ((x ∷ xs) ++ number ∷ [])) m ∙ last_number xs
 
+-- a formal parameter, specified or not
+abbrev pub IsParameter : Entry → Type 0
+IsParameter (entry.Unspecified w) = Unit {0}
+IsParameter (entry.Formal f) = Unit {0}
+IsParameter _ = ⊥
+
+-- what may become of an entry: a parameter is specified
+abbrev pub Becomes : (old new : Entry) → Type 0
+Becomes old new = (new ≡ old) ⊎ ((w : Option WrittenMode) × (old ≡ entry.Unspecified w) × (WrittenPlain w → Parametric new) × IsParameter new)
+
 -- what may become of a row
 pub record Changed (old new : Declaration) : Type 0 where
   pub name : new.name ≡ old.name
   pub token : new.token ≡ old.token
   pub block : new.block ≡ old.block
-  pub entry : (new.entry ≡ old.entry) ⊎ ((w : Option WrittenMode) × (old.entry ≡ entry.Unspecified w) × (WrittenPlain w → Parametric new.entry))
+  pub entry : Becomes old.entry new.entry
 
 pub unchanged : (row : Declaration) → Changed row row
 unchanged row = record { name = refl; token = refl; block = refl; entry = inl refl }
+
+-- the declarations of a block: as before, or with the next one
+abbrev pub Listed : (next : ℕ) → List DeclNo → List DeclNo → Type 0
+Listed next old new = (new ≡ old) ⊎ (new ≡ old ++ record { 0 = next } ∷ [])
 
 -- what a mark does to the tables; of the blocks it changes the innermost one alone
 pub record Step (b c : BuildingOf) (New : ℕ → Declaration → Type 0) : Type 0 where
@@ -171,13 +199,14 @@ pub record Step (b c : BuildingOf) (New : ℕ → Declaration → Type 0) : Type
   pub others : (j : ℕ) → (b.current ≡ Some j → ⊥) → slice_get c.tables.blocks j ≡ slice_get b.tables.blocks j
   pub more : (j : ℕ) (d : DeclNo) → Among d (numbers_in (slice_get b.tables.blocks j)) → Among d (numbers_in (slice_get c.tables.blocks j))
   pub fewer : (j : ℕ) (d : DeclNo) → Among d (numbers_in (slice_get c.tables.blocks j)) → Among d (numbers_in (slice_get b.tables.blocks j)) ⊎ ((row : Declaration) × (slice_get c.tables.declarations d.0 ≡ Some row) × (row.block ≡ j))
+  pub lists : (j : ℕ) → Listed (length b.tables.declarations) (numbers_in (slice_get b.tables.blocks j)) (numbers_in (slice_get c.tables.blocks j))
   pub rows : (d : ℕ) (row : Declaration) → slice_get c.tables.declarations d ≡ Some row
       → ((old : Declaration) × (slice_get b.tables.declarations d ≡ Some old) × Changed old row) ⊎ (New d row × Among (record { 0 = d }) (numbers_in (slice_get c.tables.blocks row.block)) × (AllEven b.tables.blocks → declared_in (slice_get c.tables.blocks row.block) row.name ≡ Some (record { 0 = d })))
   pub places : c.tables.places ≡ b.tables.places
   pub evens : AllEven b.tables.blocks → AllEven c.tables.blocks
   pub looks : (j : ℕ) (name : List ℕ) (d : DeclNo) → declared_in (slice_get b.tables.blocks j) name ≡ Some d → declared_in (slice_get c.tables.blocks j) name ≡ Some d
   pub stays : (d : ℕ) (old : Declaration) → slice_get b.tables.declarations d ≡ Some old → (row : Declaration) × (slice_get c.tables.declarations d ≡ Some row) × Changed old row
-  pub bare : WithoutClasses b.tables → WithoutClasses c.tables
+  pub bare : Unprefixed b.tables → Unprefixed c.tables
 
 -- nothing new
 abbrev pub Nothing : ℕ → Declaration → Type 0
@@ -196,17 +225,18 @@ same_step b c New t k = record {
   others = λ j e. ap (λ (s : Tables). slice_get s.blocks j) t;
   more = λ j d a. subst (λ (s : Tables). Among d (numbers_in (slice_get s.blocks j))) (sym t) a;
   fewer = λ j d a. inl (subst (λ (s : Tables). Among d (numbers_in (slice_get s.blocks j))) t a);
+  lists = λ j. inl (ap (λ (s : Tables). numbers_in (slice_get s.blocks j)) t);
   rows = λ d row e. inl (row, sym (ap (λ (s : Tables). slice_get s.declarations d) t) ∙ e, unchanged row);
   places = ap (λ (s : Tables). s.places) t;
   evens = λ a j. subst (λ (s : Tables). Even (slice_get s.blocks j)) (sym t) (a j);
   looks = λ j name d e. subst (λ (s : Tables). declared_in (slice_get s.blocks j) name ≡ Some d) (sym t) e;
   stays = λ d old e. (old, ap (λ (s : Tables). slice_get s.declarations d) t ∙ e, unchanged old);
-  bare = λ w. subst WithoutClasses (sym t) w;
+  bare = λ w. subst Unprefixed (sym t) w;
 }
 
 -- a broken rule changes no table
 pub broken_step : (a : Bool) (b c : BuildingOf) (token : ℕ) (rule : Rule) (New : ℕ → Declaration → Type 0) → Step b c New → Step b (broken_if a c token rule) New
-broken_step true b c token rule New h = record { current = h.current; size = h.size; fixes = h.fixes; others = h.others; more = h.more; fewer = h.fewer; rows = h.rows; places = h.places; evens = h.evens; looks = h.looks; stays = h.stays; bare = h.bare }
+broken_step true b c token rule New h = record { current = h.current; size = h.size; fixes = h.fixes; others = h.others; more = h.more; fewer = h.fewer; lists = h.lists; rows = h.rows; places = h.places; evens = h.evens; looks = h.looks; stays = h.stays; bare = h.bare }
 broken_step false b c token rule New h = h
 
 -- ---- a declaration
@@ -227,12 +257,13 @@ new_step b x e n row plain cur at fresh_name = record {
   others = λ j q. set_other bs n j new (differ j q (nat_eq n j) refl);
   more = λ j d a. more j d (nat_eq n j) refl a;
   fewer = λ j d a. fewer j d (nat_eq n j) refl a;
+  lists = λ j. lists j (nat_eq n j) refl;
   rows = λ d found is. rows d found (nat_eq d (length ds)) refl is;
   places = refl;
   evens = λ a j. evens j (nat_eq n j) refl (a j);
   looks = λ j name d is. looks j name d (nat_eq n j) refl is;
   stays = λ d old is. (old, more_other ds fresh d (within d old is) ∙ is, unchanged old);
-  bare = λ w. record { blocks = λ j. kept_set extras_in bs n row new at refl j ∙ w.blocks j; virtuals = λ d found is. plainly d found w.virtuals (nat_eq d (length ds)) refl is; qualified = w.qualified };
+  bare = λ w. record { blocks = λ j. kept_set extras_in bs n row new at refl j ∙ w.blocks j; virtuals = λ d found is. plainly d found w.virtuals (nat_eq d (length ds)) refl is };
 }
   where
     bs : List BlockOf
@@ -279,6 +310,10 @@ new_step b x e n row plain cur at fresh_name = record {
         pick (inl q) = inl (subst (λ z. Among d (numbers_in z)) (sym (old_here j is)) q)
         pick (inr q) = inr (fresh, ap (slice_get (ds ++ fresh ∷ [])) (number_same d (length ds) q) ∙ more_here ds fresh, (let P : n ≡ j = grind (arith, nat_tests) in P))
     fewer j d false is a = inl (subst (λ z. Among d (numbers_in z)) (set_other bs n j new is) a)
+
+    lists : (j : ℕ) (c : Bool) → nat_eq n j ≡ c → Listed (length ds) (numbers_in (slice_get bs j)) (numbers_in (slice_get (slice_set bs n new) j))
+    lists j true is = inr (ap numbers_in (here j is) ∙ ap (λ z. z ++ number ∷ []) (sym (ap numbers_in (old_here j is))))
+    lists j false is = inl (ap numbers_in (set_other bs n j new is))
 
     evens : (j : ℕ) (c : Bool) → nat_eq n j ≡ c → Even (slice_get bs j) → Even (slice_get (slice_set bs n new) j)
     evens j true is a = subst Even (sym (here j is)) (length-append row.names (x.name ∷ []) ∙ (let e : length row.names ≡ length row.numbers = subst Even (old_here j is) a in ap (λ z. z + 1) e) ∙ sym (length-append row.numbers (number ∷ [])))
@@ -338,6 +373,34 @@ declared_row b x e n (Some row) alone cur at = go (list_any (bytes_eq x.name) ro
 pub declared_step : (b : BuildingOf) (x : Identifier) (e : Entry) (n : ℕ) → Unmatched b.tables e → b.current ≡ Some n → Step b (declared b x e) (Declared (length b.tables.declarations) x e n)
 declared_step b x e n alone cur = subst (λ o. Step b (declared_inside b x e o) (Declared (length b.tables.declarations) x e n)) (sym cur) (declared_row b x e n (slice_get b.tables.blocks n) alone cur refl)
 
+-- a new row is that of the declaration met last
+within_not : (ds : List Declaration) (row : Declaration) → slice_get ds (length ds) ≡ Some row → ⊥
+within_not ds row at = let lt : length ds < length ds = slice_get_within ds (length ds) row at in omega arith
+
+if_latest : (a : Bool) (b : BuildingOf) (token : ℕ) (rule : Rule) → (broken_if a b token rule).latest ≡ b.latest
+if_latest true b token rule = refl
+if_latest false b token rule = refl
+
+latest_row : (b : BuildingOf) (x : Identifier) (e : Entry) (n : ℕ) (o : Option BlockOf) (row : Declaration) → Unmatched b.tables e → slice_get (declared_at b x e n o).tables.declarations (length b.tables.declarations) ≡ Some row
+    → (declared_at b x e n o).latest ≡ Some (record { 0 = length b.tables.declarations })
+latest_row b x e n None row alone at = absurd (within_not b.tables.declarations row at)
+latest_row b x e n (Some found) row alone at = go (list_any (bytes_eq x.name) found.names) at
+  where
+    again : (o : Option DeclNo) → slice_get (declared_again b x e n o).tables.declarations (length b.tables.declarations) ≡ Some row → ⊥
+    again None at = within_not b.tables.declarations row at
+    again (Some d) at = within_not b.tables.declarations row (subst (λ c. slice_get (if c then matched b x e n d else declared_twice b x (Some d)).tables.declarations (length b.tables.declarations) ≡ Some row) (alone.1 d) at)
+
+    go : (c : Bool) → slice_get (if c then declared_again b x e n (declared_in (Some found) x.name) else declared_new b x e n found).tables.declarations (length b.tables.declarations) ≡ Some row
+        → (if c then declared_again b x e n (declared_in (Some found) x.name) else declared_new b x e n found).latest ≡ Some (record { 0 = length b.tables.declarations })
+    go true at = absurd (again (declared_in (Some found) x.name) at)
+    go false at = if_latest (nat_eq b.own 65535) _ x.token.0 r.TooManyDeclarations
+
+pub declared_latest : (b : BuildingOf) (x : Identifier) (e : Entry) (n : ℕ) (row : Declaration) → Unmatched b.tables e → b.current ≡ Some n → slice_get (declared b x e).tables.declarations (length b.tables.declarations) ≡ Some row
+    → (declared b x e).latest ≡ Some (record { 0 = length b.tables.declarations })
+declared_latest b x e n row alone cur at =
+    subst (λ o. (declared_inside b x e o).latest ≡ Some (record { 0 = length b.tables.declarations })) (sym cur)
+    (latest_row b x e n (slice_get b.tables.blocks n) row alone (subst (λ o. slice_get (declared_inside b x e o).tables.declarations (length b.tables.declarations) ≡ Some row) cur at))
+
 -- what a block declares itself but for its procedures, what is not specified yet, and a procedure in tables without virtuals
 pub own_unmatched : (t : Tables) (e : Entry) → OwnEntry e → Unmatched t e
 own_unmatched t (entry.Variable ty) own = (refl, λ d. refl)
@@ -372,6 +435,9 @@ procedure_unmatched t result k none = (refl, λ d. go d (slice_get t.declaration
     go d None at = refl
     go d (Some row) at = no_match row.entry (none d.0 row at)
 
+pub class_unmatched : (t : Tables) (k : ℕ) → Unmatched t (entry.Class k)
+class_unmatched t k = (refl, λ d. refl)
+
 -- ---- parameters
 
 -- the formal parameters of the innermost block are counted
@@ -384,12 +450,13 @@ counted_step b c n (Some row) New cur at h = record {
   others = λ j q. set_other bs n j new (differ j q (nat_eq n j) refl) ∙ h.others j q;
   more = λ j d a. subst (λ z. Among d z) (sym (kept_set numbers_in bs n row new at refl j)) (h.more j d a);
   fewer = λ j d a. h.fewer j d (subst (λ z. Among d z) (kept_set numbers_in bs n row new at refl j) a);
+  lists = λ j. subst (Listed (length b.tables.declarations) (numbers_in (slice_get b.tables.blocks j))) (sym (kept_set numbers_in bs n row new at refl j)) (h.lists j);
   rows = λ d found is. listed d found (h.rows d found is);
   places = h.places;
   evens = λ a j. even j (nat_eq n j) refl (h.evens a j);
   looks = λ j name d is. kept_set (λ o. declared_in o name) bs n row new at refl j ∙ h.looks j name d is;
   stays = h.stays;
-  bare = λ w. let v = h.bare w in record { blocks = λ j. kept_set extras_in bs n row new at refl j ∙ v.blocks j; virtuals = v.virtuals; qualified = v.qualified };
+  bare = λ w. let v = h.bare w in record { blocks = λ j. kept_set extras_in bs n row new at refl j ∙ v.blocks j; virtuals = v.virtuals };
 }
   where
     bs : List BlockOf
@@ -421,21 +488,22 @@ parameter_step b x n cur =
 
 -- ---- what becomes known of a parameter
 
-entry_step : (b : BuildingOf) (d : DeclNo) (w : Option WrittenMode) (e : Entry) (o : Option Declaration) → is_virtual e ≡ false → slice_get b.tables.declarations d.0 ≡ o → entry_in o ≡ Some (entry.Unspecified w) → (WrittenPlain w → Parametric e) → Step b (entered b d e o) Nothing
-entry_step b d w e None plain at is fine = absurd (cc)
-entry_step b d w e (Some row) plain at is fine = record {
+entry_step : (b : BuildingOf) (d : DeclNo) (w : Option WrittenMode) (e : Entry) (o : Option Declaration) → is_virtual e ≡ false → slice_get b.tables.declarations d.0 ≡ o → entry_in o ≡ Some (entry.Unspecified w) → (WrittenPlain w → Parametric e) → IsParameter e → Step b (entered b d e o) Nothing
+entry_step b d w e None plain at is fine param = absurd (cc)
+entry_step b d w e (Some row) plain at is fine param = record {
   current = refl;
   size = refl;
   fixes = λ j. refl;
   others = λ j q. refl;
   more = λ j f a. a;
   fewer = λ j f a. inl a;
+  lists = λ j. inl refl;
   rows = λ f found p. inl (rows f found (nat_eq d.0 f) refl p);
   places = refl;
   evens = λ a. a;
   looks = λ j name f p. p;
   stays = λ f old p. stays f old (nat_eq d.0 f) refl p;
-  bare = λ v. record { blocks = v.blocks; virtuals = λ f found p. plainly f found v.virtuals (nat_eq d.0 f) refl p; qualified = v.qualified };
+  bare = λ v. record { blocks = v.blocks; virtuals = λ f found p. plainly f found v.virtuals (nat_eq d.0 f) refl p };
 }
   where
     ds : List Declaration
@@ -445,7 +513,7 @@ entry_step b d w e (Some row) plain at is fine = record {
     new = record row { entry = e }
 
     change : Changed row new
-    change = record { name = refl; token = refl; block = refl; entry = inr (w, some_same row.entry (entry.Unspecified w) is, fine) }
+    change = record { name = refl; token = refl; block = refl; entry = inr (w, some_same row.entry (entry.Unspecified w) is, fine, param) }
 
     here : (f : ℕ) → nat_eq d.0 f ≡ true → slice_get (slice_set ds d.0 new) f ≡ Some new
     here f is = let same : d.0 ≡ f = grind (arith, nat_tests) in subst (λ z. slice_get (slice_set ds d.0 new) z ≡ Some new) same (set_here ds d.0 row new at)
@@ -477,14 +545,14 @@ is_unspecified (Some (entry.Class n)) w e = absurd (cc)
 is_unspecified (Some (entry.Virtual ty n)) w e = absurd (cc)
 is_unspecified (Some (entry.Formal f)) w e = absurd (cc)
 
-with_entry_step : (b : BuildingOf) (d : DeclNo) (w : Option WrittenMode) (e : Entry) → is_virtual e ≡ false → unspecified_in (entry_of b.tables d) ≡ Some w → (WrittenPlain w → Parametric e) → Step b (with_entry b d e) Nothing
+with_entry_step : (b : BuildingOf) (d : DeclNo) (w : Option WrittenMode) (e : Entry) → is_virtual e ≡ false → unspecified_in (entry_of b.tables d) ≡ Some w → (WrittenPlain w → Parametric e) → IsParameter e → Step b (with_entry b d e) Nothing
 unfolding entry_of
-with_entry_step b d w e plain is fine = entry_step b d w e (slice_get b.tables.declarations d.0) plain refl (is_unspecified (entry_in (slice_get b.tables.declarations d.0)) w is) fine
+with_entry_step b d w e plain is fine param = entry_step b d w e (slice_get b.tables.declarations d.0) plain refl (is_unspecified (entry_in (slice_get b.tables.declarations d.0)) w is) fine param
 
 moded_row : (b : BuildingOf) (token : TokenNo) (d : DeclNo) (o : Option (Option WrittenMode)) → unspecified_in (entry_of b.tables d) ≡ o → Step b (moded_as b token mode.ByValue d o) Nothing
 moded_row b token d None is = same_step b _ _ refl refl
 moded_row b token d (Some (Some w)) is = same_step b _ _ refl refl
-moded_row b token d (Some None) is = with_entry_step b d None (entry.Unspecified (Some (record { token = token; mode = mode.ByValue }))) refl is (λ q. refl)
+moded_row b token d (Some None) is = with_entry_step b d None (entry.Unspecified (Some (record { token = token; mode = mode.ByValue }))) refl is (λ q. refl) tt
 
 pub moded_step : (b : BuildingOf) (token : TokenNo) (o : Option DeclNo) → Step b (moded b token mode.ByValue o) Nothing
 moded_step b token None = same_step b _ _ refl refl
@@ -501,8 +569,8 @@ no_default_name shape.Array ty = tt
 no_default_name shape.Procedure ty = tt
 
 specified_mode : (b : BuildingOf) (d : DeclNo) (k : FormalKind) (ty : Option SimType) (w : Option WrittenMode) → unspecified_in (entry_of b.tables d) ≡ Some w → PlainFormal k ty → Step b (with_mode b d k ty w) Nothing
-specified_mode b d k ty None is p = with_entry_step b d None (formal (default_mode k ty) k ty) refl is (λ q. (no_default_name k ty, p))
-specified_mode b d k ty (Some w) is p = broken_step (not (mode_allowed w.mode k ty)) b _ w.token.0 r.ModeNotAllowed Nothing (with_entry_step b d (Some w) (formal w.mode k ty) refl is (λ q. (subst NoName (sym q) tt, p)))
+specified_mode b d k ty None is p = with_entry_step b d None (formal (default_mode k ty) k ty) refl is (λ q. (no_default_name k ty, p)) tt
+specified_mode b d k ty (Some w) is p = broken_step (not (mode_allowed w.mode k ty)) b _ w.token.0 r.ModeNotAllowed Nothing (with_entry_step b d (Some w) (formal w.mode k ty) refl is (λ q. (subst NoName (sym q) tt, p)) tt)
 
 specified_row : (b : BuildingOf) (token : TokenNo) (k : FormalKind) (ty : Option SimType) (d : DeclNo) (o : Option (Option WrittenMode)) → unspecified_in (entry_of b.tables d) ≡ o → PlainFormal k ty → Step b (specified_as b token k ty d o) Nothing
 specified_row b token k ty d None is p = same_step b _ _ refl refl
@@ -517,7 +585,7 @@ abbrev pub met : BuildingOf → Option DeclNo → BuildingOf
 met b o = record b { latest = o }
 
 met_step : (b c : BuildingOf) (o : Option DeclNo) → Step (met b o) c Nothing → Step b c Nothing
-met_step b c o h = record { current = h.current; size = h.size; fixes = h.fixes; others = h.others; more = h.more; fewer = h.fewer; rows = h.rows; places = h.places; evens = h.evens; looks = h.looks; stays = h.stays; bare = h.bare }
+met_step b c o h = record { current = h.current; size = h.size; fixes = h.fixes; others = h.others; more = h.more; fewer = h.fewer; lists = h.lists; rows = h.rows; places = h.places; evens = h.evens; looks = h.looks; stays = h.stays; bare = h.bare }
 
 pub specified_met : (b : BuildingOf) (token : TokenNo) (k : FormalKind) (ty : Option SimType) (o : Option DeclNo) → PlainFormal k ty → Step b (specified (met b o) token k ty o) Nothing
 specified_met b token k ty o p = met_step b (specified (met b o) token k ty o) o (specified_step (met b o) token k ty o p)
@@ -525,3 +593,118 @@ specified_met b token k ty o p = met_step b (specified (met b o) token k ty o) o
 pub headed_step : (b : BuildingOf) (token : TokenNo) (o : Option (Option WrittenMode)) → Step b (headed b token o) Nothing
 headed_step b token None = same_step b _ _ refl refl
 headed_step b token (Some w) = same_step b _ _ refl refl
+
+-- ---- what tables have beside
+
+-- the class that is written for what was declared last
+qualified_step : (b c : BuildingOf) (New : ℕ → Declaration → Type 0) (x : Identifier) (o : Option DeclNo) → Step b c New → Step b (qualified c x o) New
+qualified_step b c New x None h = h
+qualified_step b c New x (Some d) h = record {
+  current = h.current;
+  size = h.size;
+  fixes = h.fixes;
+  others = h.others;
+  more = h.more;
+  fewer = h.fewer;
+  lists = h.lists;
+  rows = h.rows;
+  places = h.places;
+  evens = h.evens;
+  looks = h.looks;
+  stays = h.stays;
+  bare = λ w. let v = h.bare w in record { blocks = v.blocks; virtuals = v.virtuals };
+}
+
+pub quals_step : (b c : BuildingOf) (New : ℕ → Declaration → Type 0) (R : Type 0) (quals : List Mark) → Quals R quals → Step b c New → Step b (run marked c quals) New
+unfolding run marked
+quals_step b c New R quals (unqualified free) h = h
+quals_step b c New R quals (qualifies x r) h = qualified_step b c New x c.latest h
+
+-- a row of a block is replaced by one that declares the same
+pub row_step : (b c : BuildingOf) (New : ℕ → Declaration → Type 0) (n : ℕ) (row new : BlockOf) → b.current ≡ Some n → slice_get c.tables.blocks n ≡ Some row → fixed (Some new) ≡ fixed (Some row) → new.numbers ≡ row.numbers → new.names ≡ row.names → extras_in (Some new) ≡ extras_in (Some row)
+    → Step b c New → Step b (record c { tables = record c.tables { blocks = slice_set c.tables.blocks n new } }) New
+row_step b c New n row new cur at alike numbers names extras h = record {
+  current = h.current;
+  size = length-set bs n new ∙ h.size;
+  fixes = λ j. kept_set fixed bs n row new at alike j ∙ h.fixes j;
+  others = λ j q. set_other bs n j new (differ j q (nat_eq n j) refl) ∙ h.others j q;
+  more = λ j d a. subst (λ z. Among d z) (sym (kept_set numbers_in bs n row new at numbers j)) (h.more j d a);
+  fewer = λ j d a. h.fewer j d (subst (λ z. Among d z) (kept_set numbers_in bs n row new at numbers j) a);
+  lists = λ j. subst (Listed (length b.tables.declarations) (numbers_in (slice_get b.tables.blocks j))) (sym (kept_set numbers_in bs n row new at numbers j)) (h.lists j);
+  rows = λ d found is. listed d found (h.rows d found is);
+  places = h.places;
+  evens = λ a j. even j (nat_eq n j) refl (h.evens a j);
+  looks = λ j name d is. kept_set (λ o. declared_in o name) bs n row new at (named name) j ∙ h.looks j name d is;
+  stays = h.stays;
+  bare = λ w. let v = h.bare w in record { blocks = λ j. kept_set extras_in bs n row new at extras j ∙ v.blocks j; virtuals = v.virtuals };
+}
+  where
+    bs : List BlockOf
+    bs = c.tables.blocks
+
+    differ : (j : ℕ) → (b.current ≡ Some j → ⊥) → (a : Bool) → nat_eq n j ≡ a → nat_eq n j ≡ false
+    differ j q true is = absurd (q (cur ∙ ap Some (let P : n ≡ j = grind (arith, nat_tests) in P)))
+    differ j q false is = is
+
+    named : (name : List ℕ) → declared_in (Some new) name ≡ declared_in (Some row) name
+    named name = ap (λ z. numbered z (position (bytes_eq name) new.names)) numbers ∙ ap (λ z. numbered row.numbers (position (bytes_eq name) z)) names
+
+    even : (j : ℕ) (c : Bool) → nat_eq n j ≡ c → Even (slice_get bs j) → Even (slice_get (slice_set bs n new) j)
+    even j true is a =
+        let same : n ≡ j = grind (arith, nat_tests) in
+        subst (λ z. Even (slice_get (slice_set bs n new) z)) same
+        (subst Even (sym (set_here bs n row new at)) (ap length names ∙ (let e : length row.names ≡ length row.numbers = subst Even at (subst (λ z. Even (slice_get bs z)) (sym same) a) in e) ∙ sym (ap length numbers)))
+    even j false is a = subst Even (sym (set_other bs n j new is)) a
+
+    listed : (d : ℕ) (found : Declaration) → ((old : Declaration) × (slice_get b.tables.declarations d ≡ Some old) × Changed old found) ⊎ (New d found × Among (record { 0 = d }) (numbers_in (slice_get bs found.block)) × (AllEven b.tables.blocks → declared_in (slice_get bs found.block) found.name ≡ Some (record { 0 = d })))
+        → ((old : Declaration) × (slice_get b.tables.declarations d ≡ Some old) × Changed old found) ⊎ (New d found × Among (record { 0 = d }) (numbers_in (slice_get (slice_set bs n new) found.block)) × (AllEven b.tables.blocks → declared_in (slice_get (slice_set bs n new) found.block) found.name ≡ Some (record { 0 = d })))
+    listed d found (inl q) = inl q
+    listed d found (inr q) = inr (q.0, subst (λ z. Among (record { 0 = d }) z) (sym (kept_set numbers_in bs n row new at numbers found.block)) q.1, λ a. kept_set (λ o. declared_in o found.name) bs n row new at (named found.name) found.block ∙ q.2 a)
+
+changed_at : (b c : BuildingOf) (New : ℕ → Declaration → Type 0) (change : BlockOf → BlockOf) (n : ℕ) (o : Option BlockOf) → ((row : BlockOf) → (fixed (Some (change row)) ≡ fixed (Some row)) × ((change row).numbers ≡ row.numbers) × ((change row).names ≡ row.names) × (extras_in (Some (change row)) ≡ extras_in (Some row)))
+    → b.current ≡ Some n → slice_get c.tables.blocks n ≡ o → Step b c New → Step b (changed_row c change n o) New
+changed_at b c New change n None alike cur at h = h
+changed_at b c New change n (Some row) alike cur at h = let q = alike row in row_step b c New n row (change row) cur at q.0 q.1 q.2 q.3 h
+
+-- the innermost block has a class
+pub class_step : (b : BuildingOf) (x : Identifier) (k n : ℕ) → b.current ≡ Some n → Step b (changed (declared b x (entry.Class k)) holding_class b.current) (Declared (length b.tables.declarations) x (entry.Class k) n)
+class_step b x k n cur =
+    let c : BuildingOf = declared b x (entry.Class k) in
+    let h : Step b c (Declared (length b.tables.declarations) x (entry.Class k) n) = declared_step b x (entry.Class k) n (class_unmatched b.tables k) cur in
+    subst (λ o. Step b (changed c holding_class o) (Declared (length b.tables.declarations) x (entry.Class k) n)) (sym cur)
+    (changed_at b c (Declared (length b.tables.declarations) x (entry.Class k) n) holding_class n (slice_get c.tables.blocks n) (λ row. (refl, refl, refl, refl)) cur refl h)
+
+-- `inner` in the innermost block
+inner_row : (b : BuildingOf) (token n : ℕ) (row : BlockOf) (o : Option ℕ) → b.current ≡ Some n → slice_get b.tables.blocks n ≡ Some row → Step b (inner_in b token n row o) Nothing
+inner_row b token n row None cur at = row_step b b Nothing n row (record row { inner = Some token }) cur at refl refl refl refl (same_step b b Nothing refl refl)
+inner_row b token n row (Some other) cur at = same_step b _ Nothing refl refl
+
+inner_found : (b : BuildingOf) (token n : ℕ) (o : Option BlockOf) → b.current ≡ Some n → slice_get b.tables.blocks n ≡ o → Step b (inner_at b token n o) Nothing
+inner_found b token n None cur at = same_step b b Nothing refl refl
+inner_found b token n (Some row) cur at = inner_row b token n row row.inner cur at
+
+pub inner_step : (b : BuildingOf) (token : ℕ) (o : Option ℕ) → b.current ≡ o → Step b (inner b token o) Nothing
+inner_step b token None cur = same_step b b Nothing refl refl
+inner_step b token (Some n) cur = inner_found b token n (slice_get b.tables.blocks n) cur refl
+
+pub rule_step : (b : BuildingOf) (token : ℕ) (rule : Rule) → Step b (broken b token rule) Nothing
+rule_step b token rule = same_step b _ Nothing refl refl
+
+pub quals_latest : (b : BuildingOf) (R : Type 0) (quals : List Mark) → Quals R quals → (run marked b quals).latest ≡ b.latest
+unfolding run marked
+quals_latest b R quals (unqualified free) = refl
+quals_latest b R quals (qualifies x r) = go b.latest
+  where
+    go : (o : Option DeclNo) → (qualified b x o).latest ≡ b.latest
+    go None = refl
+    go (Some d) = refl
+
+pub last_cases : {A : Type 0} (xs : List A) (x : A) (n : ℕ) (y : A) → slice_get (xs ++ x ∷ []) n ≡ Some y → (slice_get xs n ≡ Some y) ⊎ ((n ≡ length xs) × (x ≡ y))
+last_cases [] x zero y is = inr (refl, some_same x y is)
+last_cases [] x (suc n) y is = absurd (cc)
+last_cases (t ∷ xs) x zero y is = inl is
+last_cases (t ∷ xs) x (suc n) y is = go (last_cases xs x n y is)
+  where
+    go : (slice_get xs n ≡ Some y) ⊎ ((n ≡ length xs) × (x ≡ y)) → (slice_get (t ∷ xs) (suc n) ≡ Some y) ⊎ ((suc n ≡ length (t ∷ xs)) × (x ≡ y))
+    go (inl q) = inl q
+    go (inr q) = inr ((let e : n ≡ length xs = q.0 in let f : length (t ∷ xs) ≡ suc (length xs) = omega arith in omega arith), q.1)

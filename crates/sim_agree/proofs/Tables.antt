@@ -1,46 +1,50 @@
 -- What the tables of an allowed plain program are.
-use Rattle.std.proofs.Common.{◌≡◌, ◌<◌, ◌⊎◌, inl, inr, ℕ, zero, suc, Bool, true, false, List, [], ◌∷◌, length, take, Option, Some, None, refl, sym, ap, ◌∙◌, subst, arith}
-use Rattle.std.specs.Prelude.{◌&&◌, ◌||◌, nat_le, nat_lt, not, slice_get}
-use Rattle.std.specs.List.{list_any}
+use Rattle.std.proofs.Common.{◌≡◌, ◌<◌, ◌≤◌, ◌+◌, ◌⊎◌, inl, inr, ℕ, suc, true, false, List, [], ◌∷◌, length, Option, Some, None, refl, sym, ap, ◌∙◌, subst, arith}
+use Rattle.std.specs.Prelude.{slice_get}
+use Rattle.std.proofs.lemmas.Option.{slice_get_within}
 use Rattle.sim_base.specs.declared.numbering.DeclNo.{DeclNo}
-use Rattle.sim_tree.specs.declared.stmt.TypeName.{TypeName}
-use Rattle.sim_tree.specs.declared.stmt.TypeName.TheVariants as type_name
-use Rattle.sim_tree.specs.Syntax.{Begin, Block, Declarations, Heading, Prefix, Program, Statement, Statements}
+use Rattle.sim_tree.specs.Order.{InOrder}
+use Rattle.sim_tree.specs.Syntax.{Begin, Block, Declarations, Heading, Prefix, Program, Statements}
 use Rattle.sim_scope.specs.declared.scopes.Declaration.{Declaration}
-use Rattle.sim_scope.specs.declared.scopes.Denotation.TheVariants as denotation
-use Rattle.sim_scope.specs.declared.standard.StandardName.{StandardName}
+use Rattle.sim_scope.specs.declared.scopes.Qualification.{Qualification}
 use Rattle.sim_scope.specs.declared.types.BlockKind.{BlockKind}
 use Rattle.sim_scope.specs.declared.types.BlockKind.TheVariants as kind
 use Rattle.sim_scope.specs.declared.types.Entry.{Entry}
 use Rattle.sim_scope.specs.declared.types.Entry.TheVariants as entry
-use Rattle.sim_scope.specs.declared.types.Formal.{Formal}
 use Rattle.sim_scope.specs.declared.types.FormalKind.{FormalKind}
 use Rattle.sim_scope.specs.declared.types.FormalKind.TheVariants as shape
-use Rattle.sim_scope.specs.declared.types.Mode.{Mode}
-use Rattle.sim_scope.specs.declared.types.Mode.TheVariants as mode
 use Rattle.sim_scope.specs.declared.types.SimType.{SimType}
 use Rattle.sim_scope.specs.declared.types.SimType.TheVariants as t
 use Rattle.sim_scope.specs.declared.types.WrittenMode.{WrittenMode}
-use Rattle.sim_scope.specs.Declare.{declared_by, empty, result_named, type_named}
-use Rattle.sim_scope.specs.Laws.{Innermost, further as innermost_further, here as innermost_here}
-use Rattle.sim_scope.specs.Access.{around, block_at, encloser}
-use Rattle.sim_scope.specs.Scopes.{binding, declaration_from, declared_in, declared_or_standard, entry_in, entry_of, lookup, numbered, shown}
+use Rattle.sim_scope.specs.Access.{around, encloser, joined}
+use Rattle.sim_scope.specs.Declare.{declared_by, declaring, empty, result_named}
+use Rattle.sim_scope.specs.Levels.{base, base_in}
+use Rattle.sim_scope.specs.Scopes.{declared_in, entry_in, entry_of, is_virtual}
 use Rattle.sim_scope.specs.Source.{Source, block_of, block_of_row, level_in, level_of}
-use Rattle.sim_scope.specs.Standard.{standard_name}
-use Rattle.sim_scope.specs.Tables.{BlockOf, Tables}
-use Rattle.sim_scope.proofs.Searches.{found_innermost}
-use Rattle.sim_meaning.specs.Entries.{formals_from, formals_of, numbers_in, numbers_of}
-use Rattle.sim_meaning.specs.Texts.{BlockText, ProcedureText, Text, has_class_in, is_class_free, is_class_kind, program_texts, text}
-use Rattle.sim_sound.specs.Typed.{Among, Around, FormalsAre, Holds, NoFormal, NoFormals, ProcedureThere, first, formal_holds, further, itself, later, named_kind, result_kind}
-use Rattle.sim_agree.specs.Facts.{ProperEntry, ProperFormal, ProperResult, ProperType}
-use Rattle.sim_agree.specs.Plain.{Plain, PlainResult, PlainType}
-use Rattle.sim_agree.proofs.WithoutClasses.{WithoutClasses, declared_is, goes_outward, nothing_bare, shown_here}
-use Rattle.sim_agree.proofs.Groups.{OwnEntry, PlainFormal, PlainKind, PlainSimType, program_grouped}
-use Rattle.sim_agree.proofs.Steps.{NoName, Parametric}
-use Rattle.sim_agree.proofs.Fine.{Agree, KindIs, OfProcedure, RowOf, run_agrees}
-use Rattle.sim_agree.proofs.Clean.{Clean, run_clean}
+use Rattle.sim_scope.specs.Tables.{BlockOf, Tables, deeper}
+use Rattle.sim_scope.specs.Walk.{program_events}
+use Rattle.virtual_match.specs.Qualifying.{entry_to, type_to}
+use Rattle.sim_meaning.specs.Attributes.{first_in, is_connection}
+use Rattle.sim_meaning.specs.Entries.{numbers_in, numbers_of}
+use Rattle.sim_meaning.specs.Texts.{BlockText, ClassText, ConnectionText, PrefixedText, ProcedureText, StandardText, Text, program_texts, text}
+use Rattle.sim_sound.specs.Held.{Among}
+use Rattle.sim_agree.specs.Plain.{Plain}
+use Rattle.sim_agree.specs.TablesOf.{TablesOf}
+use Rattle.sim_agree.proofs.Clean.{Clean, Counts}
+use Rattle.sim_agree.proofs.Covered.{Covered}
+use Rattle.sim_agree.proofs.Owned.{Owned}
+use Rattle.sim_agree.proofs.CleanRuns.{run_clean}
+use Rattle.sim_agree.proofs.Completing.{AllReferences, Completes, Retyped, bare_row, complete}
+use Rattle.sim_agree.proofs.Fine.{Agree, Alike, AlikeResults, AlikeTypes, KindIs, Rising, RowIn, RowOf, class_row, deeper_in, formal_row, own_row, owner_in, procedure_row}
+use Rattle.sim_agree.proofs.FineRuns.{run_agrees}
+use Rattle.sim_agree.proofs.Groups.{AreReferences, IsReference, NoBreaks, OfReferences, OwnEntry, PlainFormal, PlainKind, program_grouped}
+use Rattle.sim_agree.proofs.Laid.{program_held, program_laid}
+use Rattle.sim_agree.proofs.Openings.{Opened, program_opened}
+use Rattle.sim_agree.proofs.Spots.{Final, Here, Lay, run_laid}
+use Rattle.sim_agree.proofs.Steps.{IsParameter, Parametric}
+use Rattle.sim_agree.proofs.Unprefixed.{Unprefixed, extras_in, nothing_bare, nothing_baseless}
 
--- ---- the whole program
+-- ---- the whole program, as it is declared
 
 nothing_agrees : Agree empty [] []
 nothing_agrees = record {
@@ -54,6 +58,8 @@ nothing_agrees = record {
     evens = λ j. tt;
     finds = λ d row is. absurd (cc);
     own = λ k d a. absurd (elim a [ ]);
+    rising = λ k n m d e at to lt. absurd (cc);
+    baseless = nothing_baseless;
     bare = nothing_bare;
   };
   rows = λ d row is. absurd (cc);
@@ -61,9 +67,25 @@ nothing_agrees = record {
 
 nothing_clean : Clean empty [] []
 nothing_clean = record {
-  complete = λ n i ds ss is x e has. absurd (cc);
+  complete = λ n x is y e has. absurd (cc);
   heads = λ d row w is e. absurd (cc);
-  counts = λ k result h a row is at. absurd (cc);
+  early = λ n y q. absurd q;
+  counts = λ k row at. absurd (cc);
+  refs = λ q x at. absurd (cc);
+  origins = λ q x row ty n at is e. absurd (cc);
+}
+
+nothing_laid : Lay empty [] [] 0
+nothing_laid = record {
+  size = refl;
+  stack = refl;
+  reach = omega arith;
+  done = λ n x p is has. absurd (cc);
+  firsts = λ k row is. absurd (cc);
+  joins = λ n i a is. absurd (cc);
+  below = λ d row is. absurd (cc);
+  rising = λ d e row other is at lt. absurd (cc);
+  bare = nothing_bare;
 }
 
 pub program_agrees : (p : Program) → Plain p → Agree (declared_by p) (program_texts p.prefix p.block) []
@@ -74,26 +96,352 @@ pub program_clean : (p : Program) → Plain p → (declared_by p).least ≡ None
 unfolding declared_by
 program_clean p q clean = (run_clean empty [] (program_grouped p q) tt nothing_agrees clean).1 nothing_clean
 
+pub program_unbroken : (p : Program) → Plain p → (declared_by p).least ≡ None → NoBreaks (program_events declaring p)
+unfolding declared_by
+program_unbroken p q clean = (run_clean empty [] (program_grouped p q) tt nothing_agrees clean).2
+
+nothing_owned : Owned empty []
+nothing_owned n result h a is = absurd (cc)
+
+-- the block of each procedure is that of a declaration
+pub program_owned : (p : Program) → Plain p → (declared_by p).least ≡ None → Owned (declared_by p) (program_texts p.prefix p.block)
+unfolding declared_by
+program_owned p q clean = (run_clean empty [] (program_grouped p q) tt nothing_agrees clean).4 nothing_owned
+
+nothing_covered : Covered empty
+nothing_covered d row at refs = absurd (cc)
+
+-- each declaration of references has a qualification
+pub program_covered : (p : Program) → Plain p → (declared_by p).least ≡ None → Covered (declared_by p)
+unfolding declared_by
+program_covered p q clean = (run_clean empty [] (program_grouped p q) tt nothing_agrees clean).3 nothing_covered
+
+pub program_final : (p : Program) → Plain p → InOrder p → Final (declared_by p) (program_held p.block)
+unfolding declared_by
+program_final p q order = run_laid empty [] 0 (program_laid p q) order nothing_laid
+
+-- a block begins at its first token
+pub first_place : (p : Program) → Plain p → InOrder p → (k : ℕ) (row : BlockOf) → slice_get (declared_by p).tables.blocks k ≡ Some row → slice_get (declared_by p).tables.places row.first ≡ Some (Some k)
+first_place p q order k row at = go (f.laid.firsts k row at)
+  where
+    f : Final (declared_by p) (program_held p.block)
+    f = program_final p q order
+
+    go : Here (declared_by p) f.to k row.first → slice_get (declared_by p).tables.places row.first ≡ Some (Some k)
+    go (inl h) = h
+    go (inr h) = absurd (let e : None ≡ Some k = sym f.laid.stack ∙ h.2 in cc)
+
+-- ---- and complete
+
+-- a text is a class
+abbrev pub IsClassText : Program → ℕ → Type 0
+IsClassText p n = (h : Heading) × (ds : Declarations) × (ss : Statements) × (slice_get (program_texts p.prefix p.block) n ≡ Some (ClassText None h ds ss))
+
+pub all_references : (D : Tables) (qs : List Qualification) → ((i : ℕ) (x : Qualification) → slice_get qs i ≡ Some x → (row : Declaration) × (slice_get D.declarations x.declaration.0 ≡ Some row) × OfReferences row.entry) → AllReferences D qs
+all_references D [] h = tt
+all_references D (q ∷ qs) h = (h 0 q refl, all_references D qs (λ i x at. h (suc i) x at))
+
+class_entry : (x : Text) (bs : List BlockOf) (ts : List Text) (d : ℕ) (row : Declaration) (n : ℕ) → row.entry ≡ entry.Class n → RowIn bs ts x d row → (h : Heading) × (ds : Declarations) × (ss : Statements) × (slice_get ts n ≡ Some (ClassText None h ds ss))
+class_entry x bs ts d row n e (own_row y p) = absurd (go p.entry p.fits (subst (Alike p.entry) e p.alike))
+  where
+    go : (e : Entry) → OwnEntry e → Alike e (entry.Class n) → ⊥
+    go (entry.Variable ty) own a = a
+    go (entry.Constant ty) own a = a
+    go (entry.Array ty m) own a = a
+    go (entry.Procedure result m) own a = own
+    go (entry.Class m) own a = own
+    go (entry.Virtual result m) own a = own
+    go (entry.Formal f) own a = own
+    go (entry.Unspecified w) own a = own
+    go (entry.Attribute name given result) own a = own
+class_entry x bs ts d row n e (procedure_row y p) = absurd (subst (Alike (entry.Procedure (result_named p.result) p.number)) e p.entry)
+class_entry x bs ts d row n e (class_row y p) = (p.heading, p.declarations, p.statements, subst (λ z. slice_get ts z ≡ Some (ClassText None p.heading p.declarations p.statements)) (number p.number (sym p.entry ∙ e)) p.text)
+  where
+    number : (m : ℕ) → entry.Class m ≡ entry.Class n → m ≡ n
+    number m q = cc
+class_entry x bs ts d row n e (formal_row y p) = absurd (subst Parametric e p)
+
+pub completes : (s : Source) → TablesOf s → Plain s.program → InOrder s.program → Completes (declared_by s.program).tables s.tables (IsClassText s.program)
+completes s of plain order =
+    subst (λ z. Completes D z (IsClassText s.program)) (sym of.tables)
+    (complete D s.program (IsClassText s.program) agree.fine.bare agree.fine.baseless (all_references D D.qualifications (program_clean s.program plain of.unbroken).refs) classes conn (program_opened s.program plain))
+  where
+    D : Tables
+    D = (declared_by s.program).tables
+
+    agree : Agree (declared_by s.program) (program_texts s.program.prefix s.program.block) []
+    agree = program_agrees s.program plain
+
+    classes : (d n : ℕ) (row : Declaration) → slice_get D.declarations d ≡ Some row → row.entry ≡ entry.Class n → IsClassText s.program n
+    classes d n row at e = go (slice_get (program_texts s.program.prefix s.program.block) row.block) (agree.rows d row at)
+      where
+        go : (o : Option Text) → RowOf D.blocks (program_texts s.program.prefix s.program.block) o d row → IsClassText s.program n
+        go None q = absurd q
+        go (Some x) q = class_entry x D.blocks (program_texts s.program.prefix s.program.block) d row n e q
+
+    conn : (i k : ℕ) → Opened D.blocks i → joined (slice_get D.places i) ≡ Some k → (row : BlockOf) × (slice_get D.blocks k ≡ Some row) × (row.kind ≡ kind.Connection)
+    conn i k o at =
+        let e : slice_get D.places i ≡ Some (Some o.number) = ap (slice_get D.places) (sym o.begins) ∙ first_place s.program plain order o.number o.row o.at in
+        let same : o.number ≡ k = some_number o.number k (sym (ap joined e) ∙ at) in
+        (o.row, subst (λ z. slice_get D.blocks z ≡ Some o.row) same o.at, o.is)
+      where
+        some_number : (m n : ℕ) → Some m ≡ Some n → m ≡ n
+        some_number m n q = cc
+
 -- ---- of a source
 
--- whatever rules the declarations break
-module _ (s : Source) (is : s.tables ≡ (declared_by s.program).tables) (plain : Plain s.program) where
+-- what is the same of a block without the class that it connects
+bare_around : (o : Option BlockOf) → around (bare_row o) ≡ around o
+bare_around None = refl
+bare_around (Some row) = refl
+
+bare_first : (o : Option BlockOf) → first_in (bare_row o) ≡ first_in o
+bare_first None = refl
+bare_first (Some row) = refl
+
+bare_numbers : (o : Option BlockOf) → numbers_in (bare_row o) ≡ numbers_in o
+bare_numbers None = refl
+bare_numbers (Some row) = refl
+
+bare_level : (o : Option BlockOf) → level_in (bare_row o) ≡ level_in o
+bare_level None = refl
+bare_level (Some row) = refl
+
+bare_owner : (o : Option BlockOf) → owner_in (bare_row o) ≡ owner_in o
+bare_owner None = refl
+bare_owner (Some row) = refl
+
+bare_extras : (o : Option BlockOf) → extras_in (bare_row o) ≡ extras_in o
+bare_extras None = refl
+bare_extras (Some row) = refl
+
+bare_deeper : (n : ℕ) (o : Option BlockOf) → deeper_in (bare_row o) n ≡ deeper_in o n
+bare_deeper n None = refl
+bare_deeper n (Some row) = refl
+
+bare_found : (name : List ℕ) (o : Option BlockOf) → declared_in (bare_row o) name ≡ declared_in o name
+bare_found name None = refl
+bare_found name (Some row) = refl
+
+bare_kind : (x : Option Text) (o : Option BlockOf) → KindIs (bare_row o) x → KindIs o x
+bare_kind x None k = k
+bare_kind None (Some row) k = absurd k
+bare_kind (Some x) (Some row) k = k
+
+kind_bare : (x : Option Text) (o : Option BlockOf) → KindIs o x → KindIs (bare_row o) x
+kind_bare x None k = k
+kind_bare None (Some row) k = absurd k
+kind_bare (Some x) (Some row) k = k
+
+-- entries with the classes of references
+alike_reference : (a b : SimType) (class : DeclNo) → IsReference b → AlikeTypes a b → AlikeTypes a (t.Ref class)
+alike_reference a t.NoneType class r e = e
+alike_reference a (t.Ref d) class r e = e
+alike_reference a t.Integer class r e = absurd r
+alike_reference a t.Boolean class r e = absurd r
+alike_reference a t.Character class r e = absurd r
+alike_reference a t.Text class r e = absurd r
+
+alike_to : (e old : Entry) (class : DeclNo) → OfReferences old → Alike e old → Alike e (entry_to class old)
+unfolding entry_to
+alike_to (entry.Variable a) (entry.Variable b) class r e = alike_reference a b class r e
+alike_to (entry.Constant a) (entry.Constant b) class r e = alike_reference a b class r e
+alike_to (entry.Array a n) (entry.Array b m) class r e = (alike_reference a b class r e.0, e.1)
+alike_to (entry.Procedure (Some a) k) (entry.Procedure (Some b) j) class r e = (alike_reference a b class r e.0, e.1)
+alike_to (entry.Procedure None k) (entry.Procedure (Some b) j) class r e = absurd e.0
+alike_to (entry.Procedure a k) (entry.Procedure None j) class r e = absurd r
+alike_to (entry.Class k) (entry.Class j) class r e = absurd r
+alike_to (entry.Formal f) (entry.Formal g) class r e = (e.0, e.1, of_type f.ty g.ty r e.2)
+  where
+    of_type : (a b : Option SimType) → AreReferences b → AlikeResults a b → AlikeResults a (type_to class b)
+    of_type (Some a) (Some b) r e = alike_reference a b class r e
+    of_type None (Some b) r e = absurd e
+    of_type a None r e = absurd r
+alike_to e (entry.Unspecified w) class r a = absurd r
+alike_to e (entry.Virtual result own) class r a = absurd r
+alike_to e (entry.Attribute name given result) class r a = absurd r
+alike_to _ _ class r a = absurd a
+
+parametric_to : (old : Entry) (class : DeclNo) → Parametric old → Parametric (entry_to class old)
+unfolding entry_to
+parametric_to (entry.Formal f) class p = (p.0, of_kind f.kind f.ty p.1)
+  where
+    of_kind : (k : FormalKind) (ty : Option SimType) → PlainFormal k ty → PlainFormal k (type_to class ty)
+    of_kind shape.Simple (Some ty) q = tt
+    of_kind shape.Array (Some ty) q = tt
+    of_kind shape.Simple None q = q
+    of_kind shape.Array None q = q
+    of_kind shape.Procedure ty q = absurd q
+parametric_to (entry.Unspecified w) class p = p
+parametric_to (entry.Variable ty) class p = absurd p
+parametric_to (entry.Constant ty) class p = absurd p
+parametric_to (entry.Array ty n) class p = absurd p
+parametric_to (entry.Procedure result n) class p = absurd p
+parametric_to (entry.Class n) class p = absurd p
+parametric_to (entry.Virtual result n) class p = absurd p
+parametric_to (entry.Attribute name given result) class p = absurd p
+
+module _ (old new : Entry) (e : (new ≡ old) ⊎ (OfReferences old × ((class : DeclNo) × (new ≡ entry_to class old)))) where
+  pub alike_new : (x : Entry) → Alike x old → Alike x new
+  alike_new x a = go e
+    where
+      go : (new ≡ old) ⊎ (OfReferences old × ((class : DeclNo) × (new ≡ entry_to class old))) → Alike x new
+      go (inl q) = subst (Alike x) (sym q) a
+      go (inr q) = subst (Alike x) (sym q.1.1) (alike_to x old q.1.0 q.0 a)
+
+  parametric_new : Parametric old → Parametric new
+  parametric_new p = go e
+    where
+      go : (new ≡ old) ⊎ (OfReferences old × ((class : DeclNo) × (new ≡ entry_to class old))) → Parametric new
+      go (inl q) = subst Parametric (sym q) p
+      go (inr q) = subst Parametric (sym q.1.1) (parametric_to old q.1.0 p)
+
+  pub class_new : (n : ℕ) → old ≡ entry.Class n → new ≡ entry.Class n
+  class_new n is = go e
+    where
+      go : (new ≡ old) ⊎ (OfReferences old × ((class : DeclNo) × (new ≡ entry_to class old))) → new ≡ entry.Class n
+      go (inl q) = q ∙ is
+      go (inr q) = absurd (subst OfReferences is q.0)
+
+  param_was : IsParameter new → IsParameter old
+  unfolding entry_to
+  param_was p = go e
+    where
+      back : (old : Entry) (class : DeclNo) → IsParameter (entry_to class old) → IsParameter old
+      back (entry.Formal f) class q = tt
+      back (entry.Unspecified w) class q = tt
+      back (entry.Variable ty) class q = q
+      back (entry.Constant ty) class q = q
+      back (entry.Array ty n) class q = q
+      back (entry.Procedure result n) class q = q
+      back (entry.Class n) class q = q
+      back (entry.Virtual result n) class q = q
+      back (entry.Attribute name given result) class q = q
+
+      go : (new ≡ old) ⊎ (OfReferences old × ((class : DeclNo) × (new ≡ entry_to class old))) → IsParameter old
+      go (inl q) = subst IsParameter q p
+      go (inr q) = back old q.1.0 (subst IsParameter q.1.1 p)
+
+  param_now : IsParameter old → IsParameter new
+  unfolding entry_to
+  param_now p = go e
+    where
+      forth : (old : Entry) (class : DeclNo) → IsParameter old → IsParameter (entry_to class old)
+      forth (entry.Formal f) class q = tt
+      forth (entry.Unspecified w) class q = tt
+      forth (entry.Variable ty) class q = q
+      forth (entry.Constant ty) class q = q
+      forth (entry.Array ty n) class q = q
+      forth (entry.Procedure result n) class q = q
+      forth (entry.Class n) class q = q
+      forth (entry.Virtual result n) class q = q
+      forth (entry.Attribute name given result) class q = q
+
+      go : (new ≡ old) ⊎ (OfReferences old × ((class : DeclNo) × (new ≡ entry_to class old))) → IsParameter new
+      go (inl q) = subst IsParameter (sym q) p
+      go (inr q) = subst IsParameter (sym q.1.1) (forth old q.1.0 p)
+
+  unspecified_was : (w : Option WrittenMode) → new ≡ entry.Unspecified w → old ≡ entry.Unspecified w
+  unfolding entry_to
+  unspecified_was w is = go e
+    where
+      back : (old : Entry) (class : DeclNo) → OfReferences old → entry_to class old ≡ entry.Unspecified w → ⊥
+      back (entry.Variable ty) class r q = cc
+      back (entry.Constant ty) class r q = cc
+      back (entry.Array ty n) class r q = cc
+      back (entry.Procedure result n) class r q = cc
+      back (entry.Formal f) class r q = cc
+      back (entry.Class n) class r q = r
+      back (entry.Unspecified v) class r q = r
+      back (entry.Virtual result n) class r q = r
+      back (entry.Attribute name given result) class r q = r
+
+      go : (new ≡ old) ⊎ (OfReferences old × ((class : DeclNo) × (new ≡ entry_to class old))) → old ≡ entry.Unspecified w
+      go (inl q) = sym q ∙ is
+      go (inr q) = absurd (back old q.1.0 q.0 (sym q.1.1 ∙ is))
+
+  pub virtual_new : is_virtual old ≡ false → is_virtual new ≡ false
+  unfolding entry_to
+  virtual_new v = go e
+    where
+      kept : (old : Entry) (class : DeclNo) → OfReferences old → is_virtual (entry_to class old) ≡ false
+      kept (entry.Variable ty) class r = refl
+      kept (entry.Constant ty) class r = refl
+      kept (entry.Array ty n) class r = refl
+      kept (entry.Procedure result n) class r = refl
+      kept (entry.Formal f) class r = refl
+      kept (entry.Class n) class r = absurd r
+      kept (entry.Unspecified w) class r = absurd r
+      kept (entry.Virtual result n) class r = absurd r
+      kept (entry.Attribute name given result) class r = absurd r
+
+      go : (new ≡ old) ⊎ (OfReferences old × ((class : DeclNo) × (new ≡ entry_to class old))) → is_virtual new ≡ false
+      go (inl q) = ap is_virtual q ∙ v
+      go (inr q) = ap is_virtual q.1.1 ∙ kept old q.1.0 q.0
+
+module _ (s : Source) (of : TablesOf s) (plain : Plain s.program) (order : InOrder s.program) where
   abbrev pub Bs : List BlockOf
   Bs = s.tables.blocks
 
   abbrev pub Ts : List Text
   Ts = program_texts s.program.prefix s.program.block
 
+  D : Tables
+  D = (declared_by s.program).tables
+
   agree : Agree (declared_by s.program) (program_texts s.program.prefix s.program.block) []
   agree = program_agrees s.program plain
 
-  -- nothing of classes is in them
-  pub without_classes : WithoutClasses s.tables
-  without_classes = subst WithoutClasses (sym is) agree.fine.bare
+  pub clean : Clean (declared_by s.program) (program_texts s.program.prefix s.program.block) []
+  clean = program_clean s.program plain of.unbroken
+
+  pub completed_tables : Completes (declared_by s.program).tables s.tables (IsClassText s.program)
+  completed_tables = completes s of plain order
+
+  C : Completes (declared_by s.program).tables s.tables (IsClassText s.program)
+  C = completes s of plain order
+
+  -- what is the same of a block
+  pub same_around : (k : ℕ) → around (slice_get s.tables.blocks k) ≡ around (slice_get (declared_by s.program).tables.blocks k)
+  same_around k = sym (bare_around (slice_get s.tables.blocks k)) ∙ ap around (C.blocks k) ∙ bare_around (slice_get (declared_by s.program).tables.blocks k)
+
+  pub same_first : (k : ℕ) → first_in (slice_get s.tables.blocks k) ≡ first_in (slice_get (declared_by s.program).tables.blocks k)
+  same_first k = sym (bare_first (slice_get s.tables.blocks k)) ∙ ap first_in (C.blocks k) ∙ bare_first (slice_get (declared_by s.program).tables.blocks k)
+
+  same_numbers : (k : ℕ) → numbers_in (slice_get s.tables.blocks k) ≡ numbers_in (slice_get (declared_by s.program).tables.blocks k)
+  same_numbers k = sym (bare_numbers (slice_get s.tables.blocks k)) ∙ ap numbers_in (C.blocks k) ∙ bare_numbers (slice_get (declared_by s.program).tables.blocks k)
+
+  same_level : (k : ℕ) → level_in (slice_get s.tables.blocks k) ≡ level_in (slice_get (declared_by s.program).tables.blocks k)
+  same_level k = sym (bare_level (slice_get s.tables.blocks k)) ∙ ap level_in (C.blocks k) ∙ bare_level (slice_get (declared_by s.program).tables.blocks k)
+
+  pub same_owner : (k : ℕ) → owner_in (slice_get s.tables.blocks k) ≡ owner_in (slice_get (declared_by s.program).tables.blocks k)
+  same_owner k = sym (bare_owner (slice_get s.tables.blocks k)) ∙ ap owner_in (C.blocks k) ∙ bare_owner (slice_get (declared_by s.program).tables.blocks k)
+
+  same_deeper : (k n : ℕ) → deeper_in (slice_get s.tables.blocks k) n ≡ deeper_in (slice_get (declared_by s.program).tables.blocks k) n
+  same_deeper k n = sym (bare_deeper n (slice_get s.tables.blocks k)) ∙ ap (λ o. deeper_in o n) (C.blocks k) ∙ bare_deeper n (slice_get (declared_by s.program).tables.blocks k)
+
+  -- the block of the declared tables
+  pub row_was : (k : ℕ) (row : BlockOf) → slice_get s.tables.blocks k ≡ Some row → (old : BlockOf) × (slice_get (declared_by s.program).tables.blocks k ≡ Some old) × (record row { base = None } ≡ record old { base = None })
+  row_was k row at = go (slice_get (declared_by s.program).tables.blocks k) refl (sym (ap bare_row at) ∙ C.blocks k)
+    where
+      go : (o : Option BlockOf) → slice_get (declared_by s.program).tables.blocks k ≡ o → Some (record row { base = None }) ≡ bare_row (slice_get (declared_by s.program).tables.blocks k)
+          → (old : BlockOf) × (o ≡ Some old) × (record row { base = None } ≡ record old { base = None })
+      go None is e = absurd (let f : Some (record row { base = None }) ≡ None = e ∙ ap bare_row is in cc)
+      go (Some old) is e = (old, refl, some_row (record row { base = None }) (record old { base = None }) (e ∙ ap bare_row is))
+        where
+          some_row : (a b : BlockOf) → Some a ≡ Some b → a ≡ b
+          some_row a b q = cc
+
+  -- nothing of prefixes is in them
+  pub unprefixed : Unprefixed s.tables
+  unprefixed = record {
+    blocks = λ k. sym (bare_extras (slice_get s.tables.blocks k)) ∙ ap extras_in (C.blocks k) ∙ bare_extras (slice_get (declared_by s.program).tables.blocks k) ∙ agree.fine.bare.blocks k;
+    virtuals = λ d row at. (let w = C.rows.was d row at in virtual_new w.0.entry row.entry w.2.entry (agree.fine.bare.virtuals d w.0 w.1));
+  }
 
   pub nesting : (t u : ℕ) → encloser s.tables t ≡ Some u → u < t
   unfolding encloser
-  nesting t u e = agree.fine.nested t u (sym (ap (λ (z : Tables). around (slice_get z.blocks t)) is) ∙ e)
+  nesting t u e = agree.fine.nested t u (sym (same_around t) ∙ e)
 
   pub outermost : encloser s.tables 0 ≡ None
   outermost = go (encloser s.tables 0) refl
@@ -103,87 +451,108 @@ module _ (s : Source) (is : s.tables ≡ (declared_by s.program).tables) (plain 
       go (Some u) e = absurd (let lt : u < 0 = nesting 0 u e in omega arith)
 
   pub as_many : length s.tables.blocks ≡ length (program_texts s.program.prefix s.program.block)
-  as_many = ap (λ (z : Tables). length z.blocks) is ∙ agree.fine.size
+  as_many = C.size ∙ agree.fine.size
 
-  pub levels : (t u : ℕ) → encloser s.tables t ≡ Some u → level_of s t ≡ suc (level_of s u)
+  pub kind_at : (t : ℕ) → KindIs (slice_get Bs t) (slice_get Ts t)
+  kind_at t = bare_kind (slice_get Ts t) (slice_get Bs t) (subst (λ o. KindIs o (slice_get Ts t)) (sym (C.blocks t)) (kind_bare (slice_get Ts t) (slice_get (declared_by s.program).tables.blocks t) (agree.fine.kinds t)))
+
+  pub depths : (t u : ℕ) → encloser s.tables t ≡ Some u → level_of s t ≡ deeper_in (slice_get s.tables.blocks t) (level_of s u)
   unfolding encloser level_of
-  levels t u e =
-      ap (λ (z : Tables). level_in (slice_get z.blocks t)) is ∙ agree.fine.levels t u (sym (ap (λ (z : Tables). around (slice_get z.blocks t)) is) ∙ e) ∙ ap suc (sym (ap (λ (z : Tables). level_in (slice_get z.blocks u)) is))
+  depths t u e =
+      same_level t ∙ agree.fine.levels t u (sym (same_around t) ∙ e) ∙ ap (deeper_in (slice_get (declared_by s.program).tables.blocks t)) (sym (same_level u)) ∙ sym (same_deeper t (level_in (slice_get s.tables.blocks u)))
 
-  pub listed : (d : DeclNo) (row : Declaration) → slice_get s.tables.declarations d.0 ≡ Some row → Among d (numbers_of s row.block)
-  listed d row e = subst (λ (z : Tables). Among d (numbers_in (slice_get z.blocks row.block))) (sym is) (agree.fine.listed d.0 row (sym (ap (λ (z : Tables). slice_get z.declarations d.0) is) ∙ e))
-
-  pub row_at : (d : ℕ) (row : Declaration) → slice_get s.tables.declarations d ≡ Some row → RowOf Bs Ts (slice_get Ts row.block) row
-  row_at d row e = subst (λ (z : Tables). RowOf z.blocks Ts (slice_get Ts row.block) row) (sym is) (agree.rows d row (sym (ap (λ (z : Tables). slice_get z.declarations d) is) ∙ e))
-
-  pub owned : (k : ℕ) (d : DeclNo) → Among d (numbers_of s k) → (row : Declaration) × (slice_get s.tables.declarations d.0 ≡ Some row) × (row.block ≡ k)
-  owned k d a =
-      let q = agree.fine.own k d (subst (λ (z : Tables). Among d (numbers_in (slice_get z.blocks k))) is a) in
-      (q.0, ap (λ (z : Tables). slice_get z.declarations d.0) is ∙ q.1, q.2)
-
-  pub owned_block : (k : ℕ) (d : DeclNo) → Among d (numbers_of s k) → block_of s d ≡ k
-  unfolding block_of
-  owned_block k d a = let r = owned k d a in ap block_of_row r.1 ∙ r.2
-
-  kind_at : (t : ℕ) → KindIs (slice_get Bs t) (slice_get Ts t)
-  kind_at t = subst (λ (z : Tables). KindIs (slice_get z.blocks t) (slice_get Ts t)) (sym is) (agree.fine.kinds t)
-
-  -- ---- no block is that of a class
-
-  abbrev PlainRow : Option BlockOf → Type 0
-  PlainRow None = Unit {0}
-  PlainRow (Some row) = (is_class_kind row.kind ≡ false)
-
-  not_class : (o : Option BlockOf) (t : Option Text) → KindIs o t → PlainRow o
-  not_class None t k = tt
-  not_class (Some row) (Some (BlockText i ds ss)) k = go row.kind k
+  -- what the kind of a block says of its text
+  connection_of : (o : Option BlockOf) (x : Option Text) → KindIs o x → (n : ℕ) → (is_connection x ≡ false → (row : BlockOf) → o ≡ Some row → deeper row.kind n ≡ suc n) × (is_connection x ≡ true → deeper_in o n ≡ n)
+  connection_of None None k n = (λ e row is. absurd (cc), λ e. refl)
+  connection_of None (Some x) k n = absurd k
+  connection_of (Some row) None k n = absurd k
+  connection_of (Some row) (Some (BlockText i ds ss)) k n = (λ e found is. subst (λ (z : BlockOf). deeper z.kind n ≡ suc n) (some_row is) (go row.kind k), λ e. absurd (cc))
     where
-      go : (k : BlockKind) → PlainKind k → is_class_kind k ≡ false
-      go kind.Program p = refl
-      go kind.SubBlock p = refl
+      some_row : {a b : BlockOf} → Some a ≡ Some b → a ≡ b
+      some_row q = cc
+
+      go : (k : BlockKind) → PlainKind k → deeper k n ≡ suc n
+      go kind.Program p = omega arith
+      go kind.SubBlock p = omega arith
       go kind.Procedure p = absurd p
       go kind.Class p = absurd p
       go kind.Prefixed p = absurd p
       go kind.Connection p = absurd p
       go (kind.StandardClass which) p = absurd p
-  not_class (Some row) (Some (ProcedureText result h a)) k = ap is_class_kind k
-  not_class (Some row) None k = absurd k
-  not_class (Some row) (Some _) k = absurd k
-
-  pub none_any : (f : BlockOf → Bool) (bs : List BlockOf) → ((t : ℕ) (row : BlockOf) → slice_get bs t ≡ Some row → f row ≡ false) → list_any f bs ≡ false
-  none_any f [] h = refl
-  none_any f (b ∷ bs) h = ap (λ z. z || list_any f bs) (h 0 b refl) ∙ none_any f bs (λ t row e. h (suc t) row e)
-
-  -- the kind of each block
-  pub kinds : (t : ℕ) (row : BlockOf) → slice_get s.tables.blocks t ≡ Some row → PlainKind row.kind ⊎ (row.kind ≡ kind.Procedure)
-  kinds t row e = go (slice_get Ts t) (subst (λ z. KindIs z (slice_get Ts t)) e (kind_at t))
+  connection_of (Some row) (Some (ProcedureText result h a)) k n = (λ e found is. ap (λ (z : BlockOf). deeper z.kind n) (sym (some_row is)) ∙ ap (λ z. deeper z n) k ∙ (let q : n + 1 ≡ suc n = omega arith in q), λ e. absurd (cc))
     where
-      go : (o : Option Text) → KindIs (Some row) o → PlainKind row.kind ⊎ (row.kind ≡ kind.Procedure)
-      go (Some (BlockText i ds ss)) k = inl k
-      go (Some (ProcedureText result h a)) k = inr k
-      go None k = absurd k
-      go (Some _) k = absurd k
-
-  pub class_free : (k : ℕ) → is_class_free s k ≡ true
-  unfolding is_class_free
-  class_free k = go (slice_get Bs k)
+      some_row : {a b : BlockOf} → Some a ≡ Some b → a ≡ b
+      some_row q = cc
+  connection_of (Some row) (Some (ClassText prefix h ds ss)) k n = (λ e found is. ap (λ (z : BlockOf). deeper z.kind n) (sym (some_row is)) ∙ ap (λ z. deeper z n) k.0 ∙ (let q : n + 1 ≡ suc n = omega arith in q), λ e. absurd (cc))
     where
-      go : (o : Option BlockOf) → not (has_class_in o Bs) ≡ true
-      go None = refl
-      go (Some b) =
-          ap not (none_any (λ c. is_class_kind c.kind && nat_le b.first c.first && nat_lt c.first b.end) Bs
-          (λ t row e. ap (λ z. z && nat_le b.first row.first && nat_lt row.first b.end) (subst PlainRow e (not_class (slice_get Bs t) (slice_get Ts t) (kind_at t)))))
+      some_row : {a b : BlockOf} → Some a ≡ Some b → a ≡ b
+      some_row q = cc
+  connection_of (Some row) (Some ConnectionText) k n = (λ e found is. absurd (cc), λ e. ap (λ z. deeper z n) k)
+  connection_of (Some row) (Some (PrefixedText class es ds ss)) k n = absurd k
+  connection_of (Some row) (Some (StandardText which)) k n = absurd k
 
-  -- the program's block comes first
-  pub starts : (begin : ℕ) × (ds : Declarations) × (ss : Statements) × (text s 0 ≡ Some (BlockText begin ds ss))
+  pub levels : (t u : ℕ) → is_connection (text s t) ≡ false → encloser s.tables t ≡ Some u → level_of s t ≡ suc (level_of s u)
+  unfolding encloser text
+  levels t u other e = depths t u e ∙ go (slice_get s.tables.blocks t) refl e
+    where
+      go : (o : Option BlockOf) → slice_get s.tables.blocks t ≡ o → around o ≡ Some u → deeper_in o (level_of s u) ≡ suc (level_of s u)
+      go None at f = absurd (cc)
+      go (Some row) at f = (connection_of (slice_get s.tables.blocks t) (slice_get Ts t) (kind_at t) (level_of s u)).0 other row at
+
+  pub levels_of_connections : (t u : ℕ) → is_connection (text s t) ≡ true → encloser s.tables t ≡ Some u → level_of s t ≡ level_of s u
   unfolding text
-  starts = go s.program.prefix s.program.block plain.prefix
-    where
-      go : (prefix : Option Prefix) (b : Block) → prefix ≡ None → (begin : ℕ) × (ds : Declarations) × (ss : Statements) × (slice_get (program_texts prefix b) 0 ≡ Some (BlockText begin ds ss))
-      go None (Begin i ds ss end) e = (i, ds, ss, refl)
-      go (Some p) b e = absurd (cc)
+  levels_of_connections t u is e = depths t u e ∙ (connection_of (slice_get s.tables.blocks t) (slice_get Ts t) (kind_at t) (level_of s u)).1 is
 
-  -- ---- procedures
+  pub listed : (d : DeclNo) (row : Declaration) → slice_get s.tables.declarations d.0 ≡ Some row → Among d (numbers_of s row.block)
+  listed d row at =
+      let w = C.rows.was d.0 row at in
+      subst (λ z. Among d (numbers_of s z)) (sym w.2.block) (subst (λ ns. Among d ns) (sym (same_numbers w.0.block)) (agree.fine.listed d.0 w.0 w.1))
+
+  pub owned : (k : ℕ) (d : DeclNo) → Among d (numbers_of s k) → (row : Declaration) × (slice_get s.tables.declarations d.0 ≡ Some row) × (row.block ≡ k)
+  owned k d a =
+      let q = agree.fine.own k d (subst (λ ns. Among d ns) (same_numbers k) a) in
+      let n = C.rows.stays d.0 q.0 q.1 in (n.0, n.1, n.2.block ∙ q.2)
+
+  pub owned_block : (k : ℕ) (d : DeclNo) → Among d (numbers_of s k) → block_of s d ≡ k
+  unfolding block_of
+  owned_block k d a = let r = owned k d a in ap block_of_row r.1 ∙ r.2
+
+  pub rising : (k : ℕ) → Rising (numbers_of s k)
+  rising k = subst Rising (sym (same_numbers k)) (agree.fine.rising k)
+
+  row_in : (x : Text) (d : ℕ) (old new : Declaration) → Retyped old new → RowIn (declared_by s.program).tables.blocks Ts x d old → RowIn Bs Ts x d new
+  row_in x d old new r (own_row y p) = own_row y (record { entry = p.entry; fits = p.fits; alike = alike_new old.entry new.entry r.entry p.entry p.alike; name = p.name; named = p.named ∙ sym r.name; token = p.token ∙ sym r.token; mark = p.mark })
+  row_in x d old new r (procedure_row y p) =
+      procedure_row y (record {
+        result = p.result;
+        heading = p.heading;
+        body = p.body;
+        number = p.number;
+        entry = alike_new old.entry new.entry r.entry (entry.Procedure (result_named p.result) p.number) p.entry;
+        text = p.text;
+        around = same_around p.number ∙ p.around ∙ ap Some (sym r.block);
+        owner = same_owner p.number ∙ p.owner;
+      })
+  row_in x d old new r (class_row y p) =
+      class_row y (record { heading = p.heading; declarations = p.declarations; statements = p.statements; number = p.number; entry = class_new old.entry new.entry r.entry p.number p.entry; text = p.text; around = same_around p.number ∙ p.around ∙ ap Some (sym r.block); owner = same_owner p.number ∙ p.owner })
+  row_in x d old new r (formal_row y p) = formal_row y (parametric_new old.entry new.entry r.entry p)
+
+  pub row_at : (d : ℕ) (row : Declaration) → slice_get s.tables.declarations d ≡ Some row → RowOf Bs Ts (slice_get Ts row.block) d row
+  row_at d row at =
+      let w = C.rows.was d row at in
+      subst (λ z. RowOf Bs Ts (slice_get Ts z) d row) (sym w.2.block) (go (slice_get Ts w.0.block) w.0 w.2 (agree.rows d w.0 w.1))
+    where
+      go : (o : Option Text) (old : Declaration) → Retyped old row → RowOf (declared_by s.program).tables.blocks Ts o d old → RowOf Bs Ts o d row
+      go None old r q = absurd q
+      go (Some x) old r q = row_in x d old row r q
+
+  -- the text in which a declaration stands
+  pub text_of_row : (d : ℕ) (row : Declaration) → slice_get s.tables.declarations d ≡ Some row → (x : Text) × (slice_get Ts row.block ≡ Some x) × RowIn Bs Ts x d row
+  text_of_row d row at = go (slice_get Ts row.block) refl (row_at d row at)
+    where
+      go : (o : Option Text) → slice_get Ts row.block ≡ o → RowOf Bs Ts o d row → (x : Text) × (o ≡ Some x) × RowIn Bs Ts x d row
+      go None e q = absurd q
+      go (Some x) e q = (x, refl, q)
 
   pub entry_row : (d : DeclNo) (e : Entry) → entry_of s.tables d ≡ Some e → (row : Declaration) × (slice_get s.tables.declarations d.0 ≡ Some row) × (row.entry ≡ e)
   unfolding entry_of
@@ -201,232 +570,103 @@ module _ (s : Source) (is : s.tables ≡ (declared_by s.program).tables) (plain 
   unfolding block_of
   block_is d row e = ap block_of_row e
 
-  same_kinds : (given : Option TypeName) → named_kind given ≡ result_kind (result_named given)
-  unfolding result_named type_named
-  same_kinds None = refl
-  same_kinds (Some (type_name.Integer i)) = refl
-  same_kinds (Some (type_name.Boolean i)) = refl
-  same_kinds (Some (type_name.Character i)) = refl
-  same_kinds (Some (type_name.Text i)) = refl
-  same_kinds (Some (type_name.Reference i class)) = refl
+  -- the program's block comes first
+  pub starts : (begin : ℕ) × (ds : Declarations) × (ss : Statements) × (text s 0 ≡ Some (BlockText begin ds ss))
+  unfolding text
+  starts = go s.program.prefix s.program.block plain.prefix
+    where
+      go : (prefix : Option Prefix) (b : Block) → prefix ≡ None → (begin : ℕ) × (ds : Declarations) × (ss : Statements) × (slice_get (program_texts prefix b) 0 ≡ Some (BlockText begin ds ss))
+      go None (Begin i ds ss end) e = (i, ds, ss, refl)
+      go (Some p) b e = absurd (cc)
 
-  procedure_of : (row : Declaration) (result : Option SimType) (k : ℕ) (o : Option Text) → row.entry ≡ entry.Procedure result k → RowOf Bs Ts o row → OfProcedure Bs Ts row
-  procedure_of row result k (Some (BlockText i ds ss)) e (inr p) = p
-  procedure_of row result k (Some (BlockText i ds ss)) e (inl p) = absurd (subst OwnEntry e p.fits)
-  procedure_of row result k (Some (ProcedureText res h a)) e p = absurd (subst Parametric e p)
-  procedure_of row result k None e p = absurd p
-  procedure_of row result k (Some _) e p = absurd p
+  pub some_block : 0 < length s.tables.blocks
+  unfolding text
+  some_block = go (slice_get s.tables.blocks 0) refl (subst (λ o. KindIs (slice_get s.tables.blocks 0) o) starts.3 (kind_at 0))
+    where
+      go : (o : Option BlockOf) → slice_get s.tables.blocks 0 ≡ o → KindIs o (Some (BlockText starts.0 starts.1 starts.2)) → 0 < length s.tables.blocks
+      go None at q = absurd q
+      go (Some row) at q = slice_get_within s.tables.blocks 0 row at
 
-  pub procedures : (d : DeclNo) (result : Option SimType) (k : ℕ) → entry_of s.tables d ≡ Some (entry.Procedure result k) → ProcedureThere s d result k
-  unfolding text encloser
-  procedures d result k e =
-      let r = entry_row d (entry.Procedure result k) e in
-      let p : OfProcedure Bs Ts r.0 = procedure_of r.0 result k (slice_get Ts r.0.block) r.2 (row_at d.0 r.0 r.1) in
-      let q : entry.Procedure (result_named p.result) p.number ≡ entry.Procedure result k = sym p.entry ∙ r.2 in
-      let same_result : result_named p.result ≡ result = of_result (result_named p.result) result p.number k q in
-      let same_number : p.number ≡ k = of_number (result_named p.result) result p.number k q in record {
-        given = p.result;
-        heading = p.heading;
-        body = p.body;
-        is = subst (λ z. slice_get Ts z ≡ Some (ProcedureText p.result p.heading p.body)) same_number p.text;
-        around = subst (λ z. around (slice_get Bs z) ≡ Some (block_of s d)) same_number (p.around ∙ ap Some (sym (block_is d r.0 r.1)));
-        same = same_kinds p.result ∙ ap result_kind same_result;
+  -- ---- what is connected
+
+  -- what has a next level is a connection, and that is a class
+  pub connects : (k c : ℕ) → base s.tables k ≡ Some c → (is_connection (text s k) ≡ true) × ((h : Heading) × (ds : Declarations) × (ss : Statements) × (text s c ≡ Some (ClassText None h ds ss)))
+  unfolding base text
+  connects k c e = let q = C.bases k c e in (conn q.0.0 q.0.1 q.0.2, q.1)
+    where
+      conn : (row : BlockOf) → slice_get (declared_by s.program).tables.blocks k ≡ Some row → row.kind ≡ kind.Connection → is_connection (slice_get Ts k) ≡ true
+      conn row at is = go (slice_get Ts k) (subst (λ o. KindIs o (slice_get Ts k)) at (agree.fine.kinds k))
+        where
+          program_kind : (b : BlockKind) → PlainKind b → b ≡ kind.Connection → ⊥
+          program_kind kind.Program p e = cc
+          program_kind kind.SubBlock p e = cc
+          program_kind kind.Procedure p e = p
+          program_kind kind.Class p e = p
+          program_kind kind.Prefixed p e = p
+          program_kind kind.Connection p e = p
+          program_kind (kind.StandardClass which) p e = p
+
+          go : (o : Option Text) → KindIs (Some row) o → is_connection o ≡ true
+          go None q = absurd q
+          go (Some (BlockText i ds ss)) q = absurd (program_kind row.kind q is)
+          go (Some (ProcedureText result h a)) q = absurd (let f : kind.Procedure ≡ kind.Connection = sym q ∙ is in cc)
+          go (Some (ClassText prefix h ds ss)) q = absurd (let f : kind.Class ≡ kind.Connection = sym q.0 ∙ is in cc)
+          go (Some ConnectionText) q = refl
+          go (Some (PrefixedText class es ds ss)) q = absurd q
+          go (Some (StandardText which)) q = absurd q
+
+  pub based_there : (k c : ℕ) → base s.tables k ≡ Some c → k < length s.tables.blocks
+  unfolding base
+  based_there k c e = go (slice_get s.tables.blocks k) refl e
+    where
+      go : (o : Option BlockOf) → slice_get s.tables.blocks k ≡ o → base_in o ≡ Some c → k < length s.tables.blocks
+      go None at f = absurd (cc)
+      go (Some row) at f = slice_get_within s.tables.blocks k row at
+
+  pub no_base : (k : ℕ) → is_connection (text s k) ≡ false → base s.tables k ≡ None
+  no_base k other = go (base s.tables k) refl
+    where
+      go : (o : Option ℕ) → base s.tables k ≡ o → base s.tables k ≡ None
+      go None e = e
+      go (Some c) e = absurd (let q : false ≡ true = sym other ∙ (connects k c e).0 in cc)
+
+  -- a connection declares nothing
+  pub nothing_in_connections : (k : ℕ) → is_connection (text s k) ≡ true → (d : DeclNo) → Among d (numbers_of s k) → ⊥
+  unfolding text
+  nothing_in_connections k is d a =
+      let r = owned k d a in
+      let w = text_of_row d.0 r.0 r.1 in none w.0 (ap is_connection (sym w.1) ∙ ap (λ z. is_connection (slice_get Ts z)) r.2 ∙ is) w.2
+    where
+      none : (x : Text) → is_connection (Some x) ≡ true → RowIn Bs Ts x d.0 (owned k d a).0 → ⊥
+      none ConnectionText e (own_row y p) = y
+      none ConnectionText e (procedure_row y p) = y
+      none ConnectionText e (class_row y p) = y
+      none ConnectionText e (formal_row y p) = y
+      none (BlockText i ds ss) e q = cc
+      none (ProcedureText result h b) e q = cc
+      none (ClassText prefix h ds ss) e q = cc
+      none (PrefixedText class es ds ss) e q = cc
+      none (StandardText which) e q = cc
+
+  -- ---- places
+
+  pub begun : (k : ℕ) (row : BlockOf) → slice_get s.tables.blocks k ≡ Some row → slice_get s.tables.places row.first ≡ Some (Some k)
+  begun k row at =
+      let w = row_was k row at in
+      ap (λ z. slice_get z row.first) C.places ∙ ap (λ (z : BlockOf). slice_get (declared_by s.program).tables.places z.first) w.2 ∙ first_place s.program plain order k w.0 w.1
+
+  -- what is known of parameters: the first declarations of a block, as many as it has
+  pub counts : (k : ℕ) (row : BlockOf) → slice_get s.tables.blocks k ≡ Some row → Counts s.tables.declarations row
+  counts k row at =
+      let w = row_was k row at in
+      let c = clean.counts k w.0 w.1 in
+      let formals : row.formals ≡ w.0.formals = ap (λ (z : BlockOf). z.formals) w.2 in
+      let numbers : row.numbers ≡ w.0.numbers = ap (λ (z : BlockOf). z.numbers) w.2 in record {
+        fits = (let le : w.0.formals ≤ length w.0.numbers = c.fits in let l : length row.numbers ≡ length w.0.numbers = ap length numbers in omega arith);
+        front = λ n d r p t lt. (let o = C.rows.was d.0 r t in param_now o.0.entry r.entry o.2.entry (c.front n d o.0 (ap (λ z. slice_get z n) (sym numbers) ∙ p) o.1 (omega (arith, formals, lt))));
+        back = λ n d r p t param. (let o = C.rows.was d.0 r t in let lt : n < w.0.formals = c.back n d o.0 (ap (λ z. slice_get z n) (sym numbers) ∙ p) o.1 (param_was o.0.entry r.entry o.2.entry param) in omega (arith, formals));
       }
-    where
-      of_result : (a b : Option SimType) (m n : ℕ) → entry.Procedure a m ≡ entry.Procedure b n → a ≡ b
-      of_result a b m n e = cc
 
-      of_number : (a b : Option SimType) (m n : ℕ) → entry.Procedure a m ≡ entry.Procedure b n → m ≡ n
-      of_number a b m n e = cc
-
-  -- ---- blocks have no formal parameters
-
-  no_formal : (row : Declaration) (i : ℕ) (ds : Declarations) (ss : Statements) → RowOf Bs Ts (Some (BlockText i ds ss)) row → NoFormal (Some row.entry)
-  no_formal row i ds ss (inl p) = go row.entry p.fits
-    where
-      go : (e : Entry) → OwnEntry e → NoFormal (Some e)
-      go (entry.Variable ty) q = tt
-      go (entry.Constant ty) q = tt
-      go (entry.Array ty n) q = tt
-      go (entry.Procedure r n) q = absurd q
-      go (entry.Class n) q = absurd q
-      go (entry.Virtual r n) q = absurd q
-      go (entry.Formal f) q = absurd q
-      go (entry.Unspecified w) q = absurd q
-      go (entry.Attribute name parameter result) q = absurd q
-  no_formal row i ds ss (inr p) = subst (λ z. NoFormal (Some z)) (sym p.entry) tt
-
-  pub no_formals : (k i : ℕ) (ds : Declarations) (ss : Statements) → text s k ≡ Some (BlockText i ds ss) → NoFormals s (numbers_of s k)
-  unfolding text
-  no_formals k i ds ss at = go (numbers_of s k) (λ d a. a)
-    where
-      one : (d : DeclNo) → Among d (numbers_of s k) → NoFormal (entry_of s.tables d)
-      one d a =
-          let r = owned k d a in
-          subst NoFormal (sym (row_entry d r.0 r.1)) (no_formal r.0 i ds ss (subst (λ z. RowOf Bs Ts z r.0) (ap (slice_get Ts) r.2 ∙ at) (row_at d.0 r.0 r.1)))
-
-      go : (ns : List DeclNo) → ((d : DeclNo) → Among d ns → Among d (numbers_of s k)) → NoFormals s ns
-      go [] h = tt
-      go (d ∷ ns) h = (one d (h d first), go ns (λ e a. h e (later a)))
-
-  -- ---- what an identifier denotes
-
-  shown_row : (name : List ℕ) (k : ℕ) (d : DeclNo) → lookup s.tables k name ≡ Some d → Among d (numbers_of s k)
-  unfolding lookup
-  shown_row name k d e = go (slice_get Bs k) e
-    where
-      at_place : (ns : List DeclNo) (n : ℕ) → slice_get ns n ≡ Some d → Among d ns
-      at_place [] n e = absurd (cc)
-      at_place (m ∷ ns) zero e = subst (λ z. Among d (z ∷ ns)) (let f : d ≡ m = cc in f) first
-      at_place (m ∷ ns) (suc n) e = later (at_place ns n e)
-
-      placed : (ns : List DeclNo) (o : Option ℕ) → numbered ns o ≡ Some d → Among d ns
-      placed ns None e = absurd (cc)
-      placed ns (Some n) e = at_place ns n e
-
-      go : (o : Option BlockOf) → declared_in o name ≡ Some d → Among d (numbers_in o)
-      go None e = absurd (cc)
-      go (Some row) e = placed row.numbers _ e
-
-  innermost_around : (from : Option ℕ) (name : List ℕ) (k : ℕ) (d : DeclNo) → Innermost s.tables from name k d → Around s.tables k (block_of s d) × ((row : Declaration) × (slice_get s.tables.declarations d.0 ≡ Some row))
-  innermost_around from name k d (innermost_here e) =
-      let r = owned k d (shown_row name k d (sym (shown_here s.tables without_classes from k name) ∙ e)) in (subst (λ z. Around s.tables k z) (sym (block_is d r.0 r.1 ∙ r.2)) itself, (r.0, r.1))
-  innermost_around from name k d (innermost_further none out rest) =
-      let r = innermost_around from name _ d rest in (further (sym (goes_outward s.tables without_classes k name) ∙ out) r.0, r.1)
-
-  declared_around : (token k : ℕ) (name : List ℕ) (d : DeclNo) → block_at s.tables token ≡ Some k → binding s.tables token name ≡ Some (denotation.Declared d)
-      → Around s.tables k (block_of s d) × ((row : Declaration) × (slice_get s.tables.declarations d.0 ≡ Some row))
-  unfolding declaration_from
-  declared_around token k name d at e =
-      innermost_around (Some token) name k d (found_innermost s.tables (Some token) (length s.tables.blocks) k name d
-      (ap (λ o. declaration_from s.tables (Some token) o name) (sym at) ∙ declared_is s.tables without_classes token name d e))
-
-  pub there : (token : ℕ) (name : List ℕ) (d : DeclNo) → binding s.tables token name ≡ Some (denotation.Declared d) → (e : Entry) × (entry_of s.tables d ≡ Some e)
-  unfolding declaration_from
-  there token name d e = go (block_at s.tables token) refl
-    where
-      go : (o : Option ℕ) → block_at s.tables token ≡ o → (f : Entry) × (entry_of s.tables d ≡ Some f)
-      go (Some k) at = let r = (declared_around token k name d at e).1 in (r.0.entry, row_entry d r.0 r.1)
-      go None at = absurd (let none : None ≡ Some d = ap (λ o. declaration_from s.tables (Some token) o name) (sym at) ∙ declared_is s.tables without_classes token name d e in cc)
-
-  pub enclosed : (token k : ℕ) (name : List ℕ) (d : DeclNo) → block_at s.tables token ≡ Some k → binding s.tables token name ≡ Some (denotation.Declared d) → Around s.tables k (block_of s d)
-  enclosed token k name d at e = (declared_around token k name d at e).0
-
--- where they break none
-module _ (s : Source) (is : s.tables ≡ (declared_by s.program).tables) (plain : Plain s.program) (unbroken : (declared_by s.program).least ≡ None) where
-  pub clean : Clean (declared_by s.program) (program_texts s.program.prefix s.program.block) []
-  clean = program_clean s.program plain unbroken
-
-  -- a row of a procedure's block is a formal parameter
-  abbrev IsFormal : Entry → Type 0
-  IsFormal e = (f : Formal) × (e ≡ entry.Formal f) × NoName f.mode × PlainFormal f.kind f.ty
-
-  parametric_formal : (e : Entry) → Parametric e → ((w : Option WrittenMode) → e ≡ entry.Unspecified w → ⊥) → IsFormal e
-  parametric_formal (entry.Formal f) p h = (f, refl, p.0, p.1)
-  parametric_formal (entry.Unspecified w) p h = absurd (h w refl)
-  parametric_formal (entry.Attribute name parameter result) p h = absurd p
-  parametric_formal (entry.Variable ty) p h = absurd p
-  parametric_formal (entry.Constant ty) p h = absurd p
-  parametric_formal (entry.Array ty n) p h = absurd p
-  parametric_formal (entry.Procedure r n) p h = absurd p
-  parametric_formal (entry.Class n) p h = absurd p
-  parametric_formal (entry.Virtual r n) p h = absurd p
-
-  specified_row : (d : ℕ) (row : Declaration) → slice_get s.tables.declarations d ≡ Some row → (w : Option WrittenMode) → row.entry ≡ entry.Unspecified w → ⊥
-  specified_row d row e w f = (clean.heads d row w (sym (ap (λ (z : Tables). slice_get z.declarations d) is) ∙ e) f).2
-
-  -- the formal parameters of a procedure
-  pub formal_at : (k : ℕ) (result : Option TypeName) (h : Heading) (a : Statement) → text s k ≡ Some (ProcedureText result h a) → (d : DeclNo) → Among d (numbers_of s k)
-      → (f : Formal) × (entry_of s.tables d ≡ Some (entry.Formal f)) × NoName f.mode × PlainFormal f.kind f.ty
-  unfolding text
-  formal_at k result h a at d among =
-      let r = owned s is plain k d among in
-      let p : Parametric r.0.entry = subst (λ z. RowOf (Bs s is plain) (Ts s is plain) z r.0) (ap (slice_get (Ts s is plain)) r.2 ∙ at) (row_at s is plain d.0 r.0 r.1) in
-      let f = parametric_formal r.0.entry p (specified_row d.0 r.0 r.1) in
-      (f.0, row_entry s is plain d r.0 r.1 ∙ ap Some f.1, f.2, f.3)
-
-  pub counted : (k : ℕ) (result : Option TypeName) (h : Heading) (a : Statement) (row : BlockOf) → text s k ≡ Some (ProcedureText result h a) → slice_get s.tables.blocks k ≡ Some row → row.formals ≡ length row.numbers
-  unfolding text
-  counted k result h a row at e = clean.counts k result h a row at (sym (ap (λ (z : Tables). slice_get z.blocks k) is) ∙ e)
-
-  taken : (ns : List DeclNo) → take (length ns) ns ≡ ns
-  taken [] = refl
-  taken (n ∷ ns) = let e : length (n ∷ ns) ≡ suc (length ns) = omega arith in ap (λ m. take m (n ∷ ns)) e ∙ ap (λ z. n ∷ z) (taken ns)
-
-  formals_are : ((m : Mode) (k : FormalKind) (ty : Option SimType) → NoName m → PlainFormal k ty → (h : Holds) × (formal_holds m k ty ≡ Some h)) → (ns : List DeclNo)
-      → ((d : DeclNo) → Among d ns → (f : Formal) × (entry_of s.tables d ≡ Some (entry.Formal f)) × NoName f.mode × PlainFormal f.kind f.ty) → FormalsAre s ns (formals_from s ns)
-  formals_are holds [] h = tt
-  formals_are holds (d ∷ ns) h =
-      let q = h d first in
-      let r = holds q.0.mode q.0.kind q.0.ty q.2 q.3 in
-      rw q.1 (r.0, q.1, r.1, formals_are holds ns (λ e a. h e (later a)))
-
-  -- the heading of a procedure: each of its declarations is a formal parameter
-  pub headings : ((m : Mode) (k : FormalKind) (ty : Option SimType) → NoName m → PlainFormal k ty → (h : Holds) × (formal_holds m k ty ≡ Some h)) → (k : ℕ) (result : Option TypeName) (h : Heading) (a : Statement)
-      → text s k ≡ Some (ProcedureText result h a) → FormalsAre s (numbers_of s k) (formals_of s k)
-  headings holds k result h a at = go (slice_get s.tables.blocks k) refl
-    where
-      go : (o : Option BlockOf) → slice_get s.tables.blocks k ≡ o → FormalsAre s (numbers_of s k) (formals_of s k)
-      go None e = rw e tt
-      go (Some row) e =
-          let n : row.formals ≡ length row.numbers = counted k result h a row at e in
-          let all : take row.formals row.numbers ≡ row.numbers = ap (λ m. take m row.numbers) n ∙ taken row.numbers in
-          let these : numbers_of s k ≡ row.numbers = ap numbers_in e in
-          let body : FormalsAre s row.numbers (formals_from s row.numbers) = formals_are holds row.numbers (λ d among. formal_at k result h a at d (subst (λ z. Among d z) (sym these) among)) in
-          rw (e, all) body
-
-  -- ---- what a declaration may be
-
-  of_type : (t : TypeName) → PlainType t → ProperType (type_named t)
-  unfolding type_named
-  of_type (type_name.Integer i) p = tt
-  of_type (type_name.Boolean i) p = tt
-  of_type (type_name.Character i) p = tt
-  of_type (type_name.Text i) p = tt
-  of_type (type_name.Reference i class) p = absurd p
-
-  of_result : (result : Option TypeName) → PlainResult result → ProperResult (result_named result)
-  unfolding result_named
-  of_result None p = tt
-  of_result (Some t) p = of_type t p
-
-  proper_type : (ty : SimType) → PlainSimType ty → ProperType ty
-  proper_type t.Integer p = tt
-  proper_type t.Boolean p = tt
-  proper_type t.Character p = tt
-  proper_type t.Text p = tt
-  proper_type (t.Ref class) p = absurd p
-  proper_type t.NoneType p = absurd p
-
-  proper_own : (e : Entry) → OwnEntry e → ProperEntry e
-  proper_own (entry.Variable ty) p = proper_type ty p
-  proper_own (entry.Constant ty) p = proper_type ty p
-  proper_own (entry.Array ty n) p = proper_type ty p
-  proper_own (entry.Procedure r n) p = absurd p
-  proper_own (entry.Class n) p = absurd p
-  proper_own (entry.Virtual r n) p = absurd p
-  proper_own (entry.Formal f) p = absurd p
-  proper_own (entry.Unspecified w) p = absurd p
-  proper_own (entry.Attribute name parameter result) p = absurd p
-
-  proper_formal : (m : Mode) (k : FormalKind) (ty : Option SimType) → NoName m → PlainFormal k ty → ProperFormal m k ty
-  proper_formal mode.ByName k ty n p = absurd n
-  proper_formal mode.ByValue shape.Simple (Some ty) n p = proper_type ty p
-  proper_formal mode.ByValue shape.Array (Some ty) n p = proper_type ty p
-  proper_formal mode.ByReference shape.Simple (Some ty) n p = proper_type ty p
-  proper_formal mode.ByReference shape.Array (Some ty) n p = proper_type ty p
-  proper_formal m shape.Procedure ty n p = absurd p
-  proper_formal m shape.Simple None n p = absurd p
-  proper_formal m shape.Array None n p = absurd p
-
-  pub proper : (d : DeclNo) (e : Entry) → entry_of s.tables d ≡ Some e → ProperEntry e
-  proper d e at =
-      let r = entry_row s is plain d e at in
-      subst ProperEntry r.2 (go r.0 r.1 (slice_get (Ts s is plain) r.0.block) (row_at s is plain d.0 r.0 r.1))
-    where
-      go : (row : Declaration) → slice_get s.tables.declarations d.0 ≡ Some row → (o : Option Text) → RowOf (Bs s is plain) (Ts s is plain) o row → ProperEntry row.entry
-      go row f (Some (BlockText i ds ss)) (inl p) = proper_own row.entry p.fits
-      go row f (Some (BlockText i ds ss)) (inr p) = subst ProperEntry (sym p.entry) (of_result p.result p.plain)
-      go row f (Some (ProcedureText result h a)) p = let q = parametric_formal row.entry p (specified_row d.0 row f) in subst ProperEntry (sym q.1) (proper_formal q.0.mode q.0.kind q.0.ty q.2 q.3)
-      go row f None p = absurd p
-      go row f (Some _) p = absurd p
+  -- each parameter is specified
+  pub specified_row : (d : ℕ) (row : Declaration) → slice_get s.tables.declarations d ≡ Some row → (w : Option WrittenMode) → row.entry ≡ entry.Unspecified w → ⊥
+  specified_row d row at w e = let o = C.rows.was d row at in (clean.heads d o.0 w o.1 (unspecified_was o.0.entry row.entry o.2.entry w e)).2

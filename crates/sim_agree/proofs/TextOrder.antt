@@ -4,16 +4,19 @@ use Rattle.std.specs.Prelude.{◌==◌, if◌then◌else◌, slice_get}
 use Rattle.std.proofs.lemmas.Bool.Decides.{nat_tests}
 use Rattle.sim_base.specs.declared.numbering.DeclNo.{DeclNo}
 use Rattle.sim_tree.specs.declared.expr.Identifier.{Identifier}
+use Rattle.sim_tree.specs.declared.stmt.TypeName.{TypeName}
+use Rattle.sim_tree.specs.declared.stmt.TypeName.TheVariants as type_name
 use Rattle.sim_tree.specs.declared.stmt.Variable.{Variable}
 use Rattle.sim_tree.specs.Named.{named}
-use Rattle.sim_tree.specs.Syntax.{Also, Arrayed, Arrays, Begin, Block, BoundPair, Declarations, DeclareClass, DeclareProcedure, Element, Expression, NoDeclaration, NoStatement, Prefix, Program, RightSide, Statement, Statements, Variables, With}
+use Rattle.sim_tree.specs.Syntax.{Also, Arms, Arrayed, Arrays, Begin, Block, BoundPair, Declarations, DeclareClass, DeclareProcedure, Element, Expression, Heading, Interface, NoArm, NoDeclaration, NoStatement, Prefix, Statement, Statements, Variables, When, With}
 use Rattle.sim_tree.specs.Syntax as syntax
 use Rattle.sim_scope.specs.declared.scopes.Declaration.{Declaration}
 use Rattle.sim_scope.specs.Source.{Source}
-use Rattle.sim_meaning.specs.Texts.{BlockText, Text, block_texts, declaration_texts, declarations_texts, declared_at, number_from, program_texts, statement_texts, statements_texts, text}
-use Rattle.sim_sound.specs.Typed.{Among, Distinct, arrays_in_segments, arrays_named, arrays_of_block, first, later, of_option}
-use Rattle.sim_tree.specs.Order.{Ascends, Behind, InOrder, Spot, in_block, in_bounds, in_declarations, in_each, in_element, in_expression, in_name, in_segment, in_side, in_statement, in_statements, in_variable, tokens}
-use Rattle.sim_agree.specs.Plain.{Plain, PlainBlock, PlainDeclarations, PlainStatement, PlainStatements}
+use Rattle.sim_meaning.specs.Texts.{BlockText, ClassText, Text, arms_texts, block_texts, declaration_texts, declarations_texts, declared_at, number_from, program_texts, statement_texts, statements_texts, text}
+use Rattle.sim_sound.specs.Held.{Among, first, later}
+use Rattle.sim_sound.specs.Typed.{Distinct, arrays_in_segments, arrays_named, arrays_of_block, of_option}
+use Rattle.sim_tree.specs.Order.{Ascends, Behind, InOrder, Spot, Token, in_arms, in_block, in_bounds, in_declarations, in_each, in_element, in_expression, in_name, in_result, in_segment, in_side, in_statement, in_statements, in_type, in_variable, tokens}
+use Rattle.sim_agree.specs.Plain.{Plain, PlainArms, PlainBlock, PlainDeclarations, PlainStatement, PlainStatements}
 
 -- ---- tokens between two
 
@@ -60,6 +63,7 @@ own_tokens (With (DeclareClass prefix i h interface a e) ds) = own_tokens ds
 
 abbrev pub TextInOrder : Text → Type 0
 TextInOrder (BlockText i ds ss) = (a : ℕ) × (b : ℕ) × Between a (own_tokens ds) b
+TextInOrder (ClassText prefix h ds ss) = (a : ℕ) × (b : ℕ) × Between a (own_tokens ds) b
 TextInOrder _ = Unit {0}
 
 abbrev AllInOrder : List Text → Type 0
@@ -100,6 +104,19 @@ element_past (syntax.While a n b) i l h = two_past (in_expression a) (in_express
 
 bounds_past : (b : BoundPair) → Past (in_bounds b)
 bounds_past b = two_past (in_expression b.lower) (in_expression b.upper) (expression_past b.lower) (expression_past b.upper)
+
+type_past : (type : TypeName) → Past (in_type type)
+unfolding Past
+type_past (type_name.Reference n class) i l a = (class.token.0 + 1, (let lo : i ≤ class.token.0 = a.0 in omega arith), a.1)
+type_past (type_name.Integer n) i l a = (i, (let z : i ≤ i = omega arith in z), a)
+type_past (type_name.Boolean n) i l a = (i, (let z : i ≤ i = omega arith in z), a)
+type_past (type_name.Character n) i l a = (i, (let z : i ≤ i = omega arith in z), a)
+type_past (type_name.Text n) i l a = (i, (let z : i ≤ i = omega arith in z), a)
+
+result_past : (result : Option TypeName) → Past (in_result result)
+unfolding Past
+result_past None i l a = (i, (let z : i ≤ i = omega arith in z), a)
+result_past (Some type) i l a = type_past type i l a
 
 names_between : (xs : List Identifier) (i : ℕ) (l : List Spot) → Ascends i (in_each in_name xs l) → (j : ℕ) × Between i (name_tokens xs) j × Ascends j l
 names_between [] i l a = (i, (let z : i ≤ i = omega arith in z), a)
@@ -144,10 +161,28 @@ mutual
       let r = statement_past x p.1 q.0 l q.2 in
       let zero_ : i ≤ y.token.0 = a.0 in let one : y.token.0 + 1 ≤ q.0 = q.1 in let two : q.0 ≤ r.0 = r.1 in (r.0, omega arith, r.2, r.3)
   statement_past (syntax.Prefixed y args b) p i l a = absurd p
-  statement_past (syntax.Inner n) p i l a = absurd p
-  statement_past (syntax.Inspect n object d x e rest) p i l a = absurd p
-  statement_past (syntax.InspectWhen n object whens rest) p i l a = absurd p
+  statement_past (syntax.Inner n) p i l a = (n + 1, (let le : i ≤ n = a.0 in omega arith), a.1, tt)
+  statement_past (syntax.Inspect n object d x e rest) p i l a =
+      let q = expression_past object i (Token d ∷ in_statement x (Behind e ∷ in_statements rest l)) a in
+      let r = statement_past x p.1 (d + 1) (Behind e ∷ in_statements rest l) q.2.1 in
+      let t = statements_past rest p.2 e l r.2.1 in
+      let one : i ≤ q.0 = q.1 in let two : q.0 ≤ d = q.2.0 in let three : d + 1 ≤ r.0 = r.1 in let four : r.0 ≤ e = r.2.0 in let five : e ≤ t.0 = t.1 in
+      (t.0, omega arith, t.2, (tt, all_both (statement_texts x) (statements_texts rest) r.3 t.3))
+  statement_past (syntax.InspectWhen n object whens rest) p i l a =
+      let q = expression_past object i (in_arms whens (in_statements rest l)) a in
+      let r = arms_past whens p.1 q.0 (in_statements rest l) q.2 in
+      let t = statements_past rest p.2 r.0 l r.2 in
+      let one : i ≤ q.0 = q.1 in let two : q.0 ≤ r.0 = r.1 in let three : r.0 ≤ t.0 = t.1 in
+      (t.0, omega arith, t.2, all_both (arms_texts whens) (statements_texts rest) r.3 t.3)
   statement_past (syntax.Activate n word process schedule) p i l a = absurd p
+
+  arms_past : (arms : Arms) → PlainArms arms → (i : ℕ) (l : List Spot) → Ascends i (in_arms arms l) → (j : ℕ) × (i ≤ j) × Ascends j l × AllInOrder (arms_texts arms)
+  arms_past NoArm p i l a = (i, (let z : i ≤ i = omega arith in z), a, tt)
+  arms_past (When n class d x e more) p i l a =
+      let r = statement_past x p.1 (d + 1) (Behind e ∷ in_arms more l) a.1.1 in
+      let t = arms_past more p.2 e l r.2.1 in
+      let one : i ≤ class.token.0 = a.0 in let two : class.token.0 + 1 ≤ d = a.1.0 in let three : d + 1 ≤ r.0 = r.1 in let four : r.0 ≤ e = r.2.0 in let five : e ≤ t.0 = t.1 in
+      (t.0, omega arith, t.2, (tt, all_both (statement_texts x) (arms_texts more) r.3 t.3))
 
   statements_past : (ss : Statements) → PlainStatements ss → (i : ℕ) (l : List Spot) → Ascends i (in_statements ss l) → (j : ℕ) × (i ≤ j) × Ascends j l × AllInOrder (statements_texts ss)
   statements_past NoStatement p i l a = (i, (let z : i ≤ i = omega arith in z), a, tt)
@@ -171,21 +206,59 @@ mutual
   declarations_past : (ds : Declarations) → PlainDeclarations ds → (i : ℕ) (l : List Spot) → Ascends i (in_declarations ds l) → (j : ℕ) × Between i (own_tokens ds) j × Ascends j l × AllInOrder (declarations_texts ds)
   declarations_past NoDeclaration p i l a = (i, (let z : i ≤ i = omega arith in z), a, tt)
   declarations_past (With (Variables type vs) ds) p i l a =
-      let q = variables_between vs i (in_declarations ds l) a in
-      let r = declarations_past ds p.1 q.0 l q.2 in (r.0, between_both (variable_tokens vs) (own_tokens ds) i q.0 r.0 q.1 r.1, r.2, r.3)
+      let t = type_past type i (in_each in_variable vs (in_declarations ds l)) a in
+      let q = variables_between vs t.0 (in_declarations ds l) t.2 in
+      let r = declarations_past ds p.1 q.0 l q.2 in
+      (r.0, between_both (variable_tokens vs) (own_tokens ds) i q.0 r.0 (between_lower (variable_tokens vs) i t.0 q.0 t.1 q.1) r.1, r.2, r.3)
   declarations_past (With (Arrays type n segments) ds) p i l a =
-      let q = segments_between segments i (in_declarations ds l) a in
-      let r = declarations_past ds p.1 q.0 l q.2 in (r.0, between_both (segment_tokens segments) (own_tokens ds) i q.0 r.0 q.1 r.1, r.2, r.3)
+      let t = type_past type i (in_each in_segment segments (in_declarations ds l)) a in
+      let q = segments_between segments t.0 (in_declarations ds l) t.2 in
+      let r = declarations_past ds p.1 q.0 l q.2 in
+      (r.0, between_both (segment_tokens segments) (own_tokens ds) i q.0 r.0 (between_lower (segment_tokens segments) i t.0 q.0 t.1 q.1) r.1, r.2, r.3)
   declarations_past (With (DeclareProcedure result n h x e) ds) p i l a =
-      let q = names_between h.formals (h.name.token.0 + 1) (in_statement x (Behind e ∷ in_declarations ds l)) a.1 in
+      let u = result_past result i (Token h.name.token.0 ∷ in_each in_name h.formals (in_statement x (Behind e ∷ in_declarations ds l))) a in
+      let q = names_between h.formals (h.name.token.0 + 1) (in_statement x (Behind e ∷ in_declarations ds l)) u.2.1 in
       let r = statement_past x p.0.2 q.0 (Behind e ∷ in_declarations ds l) q.2 in
+      let t = declarations_past ds p.1 e l r.2.1 in
+      let first_ : i ≤ u.0 = u.1 in
+      let zero_ : u.0 ≤ h.name.token.0 = u.2.0 in
+      let one : h.name.token.0 + 1 ≤ q.0 = between_le (name_tokens h.formals) (h.name.token.0 + 1) q.0 q.1 in
+      let two : q.0 ≤ r.0 = r.1 in
+      let three : r.0 ≤ e = r.2.0 in
+      (t.0, between_lower (own_tokens ds) i e t.0 (omega arith) t.1, t.2, (tt, all_both (statement_texts x) (declarations_texts ds) r.3 t.3))
+  declarations_past (With (DeclareClass (Some prefix) n h interface x e) ds) p i l a = absurd (let q : Some prefix ≡ None = p.0.0 in cc)
+  declarations_past (With (DeclareClass None n h interface x e) ds) p i l a =
+      let q = names_between h.formals (h.name.token.0 + 1) (in_statement x (Behind e ∷ in_declarations ds l)) a.1 in
+      let r = class_past n h interface x e p.0.3 q.0 (Behind e ∷ in_declarations ds l) q.2 (λ j m b. statement_past x p.0.3 j m b) in
       let t = declarations_past ds p.1 e l r.2.1 in
       let zero_ : i ≤ h.name.token.0 = a.0 in
       let one : h.name.token.0 + 1 ≤ q.0 = between_le (name_tokens h.formals) (h.name.token.0 + 1) q.0 q.1 in
       let two : q.0 ≤ r.0 = r.1 in
       let three : r.0 ≤ e = r.2.0 in
-      (t.0, between_lower (own_tokens ds) i e t.0 (omega arith) t.1, t.2, (tt, all_both (statement_texts x) (declarations_texts ds) r.3 t.3))
-  declarations_past (With (DeclareClass prefix n h interface x e) ds) p i l a = absurd p.0
+      (t.0, between_lower (own_tokens ds) i e t.0 (omega arith) t.1, t.2, all_both (declaration_texts (DeclareClass None n h interface x e)) (declarations_texts ds) r.3 t.3)
+
+  -- the body of a class
+  class_past : (n : ℕ) (h : Heading) (interface : Interface) (x : Statement) (e : ℕ) → PlainStatement x → (i : ℕ) (l : List Spot) → Ascends i (in_statement x l)
+      → ((i : ℕ) (l : List Spot) → Ascends i (in_statement x l) → (j : ℕ) × (i ≤ j) × Ascends j l × AllInOrder (statement_texts x)) → (j : ℕ) × (i ≤ j) × Ascends j l × AllInOrder (declaration_texts (DeclareClass None n h interface x e))
+  class_past n h interface (syntax.Compound (Begin m ds ss k)) e p i l a one =
+      let q = declarations_past ds p.0 (m + 1) (in_statements ss (Behind k ∷ l)) a.1 in
+      let r = statements_past ss p.1 q.0 (Behind k ∷ l) q.2 in
+      let zero_ : i ≤ m = a.0 in
+      let first_ : m + 1 ≤ q.0 = between_le (own_tokens ds) (m + 1) q.0 q.1 in
+      let two : q.0 ≤ r.0 = r.1 in
+      let three : r.0 ≤ k = r.2.0 in
+      (k, omega arith, r.2.1, ((m + 1, q.0, q.1), all_both (declarations_texts ds) (statements_texts ss) q.3 r.3))
+  class_past n h interface (syntax.Empty m) e p i l a one = let q = one i l a in (q.0, q.1, q.2, ((0, 0, (let z : 0 ≤ 0 = omega arith in z)), q.3))
+  class_past n h interface (syntax.Inner m) e p i l a one = let q = one i l a in (q.0, q.1, q.2, ((0, 0, (let z : 0 ≤ 0 = omega arith in z)), q.3))
+  class_past n h interface (syntax.Call c) e p i l a one = let q = one i l a in (q.0, q.1, q.2, ((0, 0, (let z : 0 ≤ 0 = omega arith in z)), q.3))
+  class_past n h interface (syntax.Assign c sides) e p i l a one = let q = one i l a in (q.0, q.1, q.2, ((0, 0, (let z : 0 ≤ 0 = omega arith in z)), q.3))
+  class_past n h interface (syntax.Choose m c y rest) e p i l a one = let q = one i l a in (q.0, q.1, q.2, ((0, 0, (let z : 0 ≤ 0 = omega arith in z)), q.3))
+  class_past n h interface (syntax.Repeat m c y) e p i l a one = let q = one i l a in (q.0, q.1, q.2, ((0, 0, (let z : 0 ≤ 0 = omega arith in z)), q.3))
+  class_past n h interface (syntax.For m y sign o es z) e p i l a one = let q = one i l a in (q.0, q.1, q.2, ((0, 0, (let z : 0 ≤ 0 = omega arith in z)), q.3))
+  class_past n h interface (syntax.Inspect m object d y k rest) e p i l a one = let q = one i l a in (q.0, q.1, q.2, ((0, 0, (let z : 0 ≤ 0 = omega arith in z)), q.3))
+  class_past n h interface (syntax.InspectWhen m object arms rest) e p i l a one = let q = one i l a in (q.0, q.1, q.2, ((0, 0, (let z : 0 ≤ 0 = omega arith in z)), q.3))
+  class_past n h interface (syntax.Prefixed y args b) e p i l a one = absurd p
+  class_past n h interface (syntax.Activate m word process schedule) e p i l a one = absurd p
 
 -- each text of a program
 pub text_in_order : (s : Source) → Plain s.program → InOrder s.program → (k : ℕ) (x : Text) → text s k ≡ Some x → TextInOrder x
@@ -281,3 +354,6 @@ module _ (s : Source) where
 
   pub distinct : Plain s.program → InOrder s.program → (k i : ℕ) (ds : Declarations) (ss : Statements) → text s k ≡ Some (BlockText i ds ss) → Distinct (arrays_of_block s ds)
   distinct plain order k i ds ss at = let q = text_in_order s plain order k (BlockText i ds ss) at in (block_apart ds q.0 q.1 q.2).0
+
+  pub distinct_class : Plain s.program → InOrder s.program → (k : ℕ) (prefix : Option Identifier) (h : Heading) (ds : Declarations) (ss : Statements) → text s k ≡ Some (ClassText prefix h ds ss) → Distinct (arrays_of_block s ds)
+  distinct_class plain order k prefix h ds ss at = let q = text_in_order s plain order k (ClassText prefix h ds ss) at in (block_apart ds q.0 q.1 q.2).0

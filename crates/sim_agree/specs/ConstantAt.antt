@@ -1,14 +1,15 @@
 -- Where a constant is declared, and its value.
-use Rattle.std.specs.Prelude.{◌≡◌, ℕ, List, ◌∷◌, Some}
+use Rattle.std.specs.Prelude.{◌≡◌, ◌⊎◌, ℕ, List, ◌∷◌, Option, Some}
 use Rattle.sim_base.specs.declared.numbering.DeclNo.{DeclNo}
+use Rattle.sim_tree.specs.declared.expr.Identifier.{Identifier}
 use Rattle.sim_tree.specs.declared.stmt.Constant.{Constant}
 use Rattle.sim_tree.specs.declared.stmt.TypeName.{TypeName}
 use Rattle.sim_tree.specs.declared.stmt.Variable.{Variable}
-use Rattle.sim_tree.specs.Syntax.{Declaration as Declared, Declarations, Statements, Variables, With}
+use Rattle.sim_tree.specs.Syntax.{Declaration as Declared, Declarations, Heading, Statements, Variables, With}
 use Rattle.sim_scope.specs.declared.types.SimType.{SimType}
 use Rattle.sim_scope.specs.Declare.{type_named}
 use Rattle.sim_scope.specs.Source.{Source}
-use Rattle.sim_meaning.specs.Texts.{BlockText, constant_of, constant_value, text}
+use Rattle.sim_meaning.specs.Texts.{BlockText, ClassText, constant_of, constant_value, kind_of_type, text}
 
 -- a declaration of variables among those of a block, and a variable among those of a declaration
 pub data Lists (type : TypeName) (vs : List Variable) : Declarations → Type 0 where
@@ -19,15 +20,25 @@ pub data OneOf (v : Variable) : List Variable → Type 0 where
   head : {vs : List Variable} → OneOf v (v ∷ vs)
   tail : {w : Variable} {vs : List Variable} → OneOf v vs → OneOf v (w ∷ vs)
 
+-- a block with these declarations, and a class
+pub record InBlock (s : Source) (k : ℕ) (ds : Declarations) : Type 0 where
+  pub begin : ℕ
+  pub statements : Statements
+  pub is : text s k ≡ Some (BlockText begin ds statements)
+
+pub record InClass (s : Source) (k : ℕ) (ds : Declarations) : Type 0 where
+  pub prefix : Option Identifier
+  pub heading : Heading
+  pub statements : Statements
+  pub is : text s k ≡ Some (ClassText prefix heading ds statements)
+
 -- where a constant is declared, and what is written there
 pub record ConstantAt (s : Source) (d : DeclNo) (ty : SimType) : Type 0 where
   pub block : ℕ
-  pub begin : ℕ
   pub declarations : Declarations
-  pub statements : Statements
-  pub is : text s block ≡ Some (BlockText begin declarations statements)
+  pub is : InBlock s block declarations ⊎ InClass s block declarations
   pub type : TypeName
-  pub named : type_named type ≡ ty
+  pub named : kind_of_type (type_named type) ≡ kind_of_type ty
   pub variables : List Variable
   pub declared : Lists type variables declarations
   pub variable : Variable

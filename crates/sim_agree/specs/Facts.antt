@@ -1,5 +1,5 @@
--- What is known of the tables of an allowed program without classes, parameters by name and formal procedures.
-use Rattle.std.specs.Prelude.{◌≡◌, ◌<◌, ℕ, true, false, List, length, Option, Some, None}
+-- What is known of the tables of an allowed program without prefixes, parameters by name and formal procedures.
+use Rattle.std.specs.Prelude.{◌≡◌, ◌<◌, ℕ, Bool, true, false, List, length, Option, Some, None}
 use Rattle.sim_base.specs.declared.numbering.DeclNo.{DeclNo}
 use Rattle.sim_scope.specs.declared.scopes.Denotation.TheVariants as denotation
 use Rattle.sim_scope.specs.declared.types.Entry.{Entry}
@@ -10,59 +10,102 @@ use Rattle.sim_scope.specs.declared.types.Mode.{Mode}
 use Rattle.sim_scope.specs.declared.types.Mode.TheVariants as mode
 use Rattle.sim_scope.specs.declared.types.SimType.{SimType}
 use Rattle.sim_scope.specs.declared.types.SimType.TheVariants as t
-use Rattle.sim_scope.specs.Calls.{is_inside}
-use Rattle.sim_scope.specs.Access.{block_at, is_connection, is_kind}
-use Rattle.sim_scope.specs.Scopes.{binding, entry_of}
+use Rattle.sim_scope.specs.Calls.{attribute_in, is_inside}
+use Rattle.sim_scope.specs.Access.{block_at, is_connection as is_connection_kind, is_kind}
+use Rattle.sim_scope.specs.Levels.{base, has_level, owner_of_level}
+use Rattle.sim_scope.specs.Scopes.{binding, class_formals, entry_of, found_in}
 use Rattle.sim_scope.specs.Source.{Source, block_of}
 use Rattle.sim_values.specs.Plain.{Plain, kind_of}
+use Rattle.sim_meaning.specs.Attributes.{is_connection}
+use Rattle.sim_meaning.specs.Closing.{class_parameters}
 use Rattle.sim_meaning.specs.Entries.{formals_of, numbers_of}
-use Rattle.sim_meaning.specs.Texts.{constant_of, kind_of_type}
-use Rattle.sim_sound.specs.Typed.{Around, FormalsAre}
+use Rattle.sim_meaning.specs.Levels.{is_class}
+use Rattle.sim_meaning.specs.Texts.{constant_of, kind_of_type, text}
+use Rattle.sim_sound.specs.Held.{Around}
+use Rattle.sim_sound.specs.Typed.{FormalsAre}
+
+-- a declared class: its block is the text of a class, and belongs to it
+pub record IsClass (s : Source) (d : DeclNo) : Type 0 where
+  pub block : ℕ
+  pub declares : entry_of s.tables d ≡ Some (entry.Class block)
+  pub is : is_class (text s block) ≡ true
+  pub owned : owner_of_level s.tables (Some block) ≡ Some d
 
 -- the types of values that are no references
-abbrev pub ProperType : SimType → Type 0
-ProperType t.Integer = Unit {0}
-ProperType t.Boolean = Unit {0}
-ProperType t.Character = Unit {0}
-ProperType t.Text = Unit {0}
-ProperType _ = ⊥
+abbrev pub PlainType : SimType → Type 0
+PlainType t.Integer = Unit {0}
+PlainType t.Boolean = Unit {0}
+PlainType t.Character = Unit {0}
+PlainType t.Text = Unit {0}
+PlainType _ = ⊥
 
-abbrev pub ProperResult : Option SimType → Type 0
-ProperResult None = Unit {0}
-ProperResult (Some ty) = ProperType ty
+-- what a standard name gives that is seen alone or behind a text
+abbrev pub PlainGiven : Option SimType → Type 0
+PlainGiven None = Unit {0}
+PlainGiven (Some type) = PlainType type
 
-abbrev pub ProperFormal : Mode → FormalKind → Option SimType → Type 0
-ProperFormal mode.ByName k ty = ⊥
-ProperFormal m shape.Procedure ty = ⊥
-ProperFormal m k None = ⊥
-ProperFormal m k (Some ty) = ProperType ty
+-- the types of variables
+abbrev pub ProperType : Source → SimType → Type 0
+ProperType s (t.Ref d) = IsClass s d
+ProperType s type = PlainType type
+
+abbrev pub ProperResult : Source → Option SimType → Type 0
+ProperResult s None = Unit {0}
+ProperResult s (Some type) = ProperType s type
+
+abbrev pub ProperFormal : Source → Mode → FormalKind → Option SimType → Type 0
+ProperFormal s mode.ByName k type = ⊥
+ProperFormal s m shape.Procedure type = ⊥
+ProperFormal s m k None = ⊥
+ProperFormal s m k (Some type) = ProperType s type
 
 -- what a declaration may be
-abbrev pub ProperEntry : Entry → Type 0
-ProperEntry (entry.Variable ty) = ProperType ty
-ProperEntry (entry.Constant ty) = ProperType ty
-ProperEntry (entry.Array element dimensions) = ProperType element
-ProperEntry (entry.Procedure result k) = ProperResult result
-ProperEntry (entry.Formal f) = ProperFormal f.mode f.kind f.ty
-ProperEntry _ = ⊥
+abbrev pub ProperEntry : Source → Entry → Type 0
+ProperEntry s (entry.Variable type) = ProperType s type
+ProperEntry s (entry.Constant type) = PlainType type
+ProperEntry s (entry.Array element dimensions) = ProperType s element
+ProperEntry s (entry.Procedure result k) = ProperResult s result
+ProperEntry s (entry.Class k) = Unit {0}
+ProperEntry s (entry.Formal f) = ProperFormal s f.mode f.kind f.ty
+ProperEntry s _ = ⊥
 
 -- a constant has a value, of its type
-pub record ConstantIs (s : Source) (d : DeclNo) (ty : SimType) : Type 0 where
+pub record ConstantIs (s : Source) (d : DeclNo) (type : SimType) : Type 0 where
   pub value : Plain
   pub is : constant_of s d ≡ Some value
-  pub of_type : kind_of value ≡ kind_of_type ty
+  pub of_type : kind_of value ≡ kind_of_type type
+
+-- A declaration is found in a block: among its levels, or among those of the class that it connects.
+abbrev pub FoundThrough : Source → (connection : Bool) → (found declared : ℕ) → Type 0
+FoundThrough s false found declared = has_level s.tables found declared ≡ true
+FoundThrough s true found declared = (class : ℕ) × (base s.tables found ≡ Some class) × (has_level s.tables class declared ≡ true)
+
+pub record Found (s : Source) (token block : ℕ) (name : List ℕ) (d : DeclNo) : Type 0 where
+  pub found : ℕ
+  pub at : found_in s.tables token name ≡ Some found
+  pub around : Around s.tables block found
+  pub through : FoundThrough s (is_connection (text s found)) found (block_of s d)
 
 pub record Tabled (s : Source) : Type 0 where
   -- there is a block
   pub some_block : 0 < length s.tables.blocks
-  -- what an identifier denotes is in the tables
+  -- what an identifier denotes is in the tables, also behind a dot
   pub there : (token : ℕ) (name : List ℕ) (d : DeclNo) → binding s.tables token name ≡ Some (denotation.Declared d) → (e : Entry) × (entry_of s.tables d ≡ Some e)
-  pub proper : (d : DeclNo) (e : Entry) → entry_of s.tables d ≡ Some e → ProperEntry e
+  pub attributes : (token block : ℕ) (name : List ℕ) (d : DeclNo) → attribute_in s.tables token block name ≡ Some (denotation.Declared d) → (e : Entry) × (entry_of s.tables d ≡ Some e) × (has_level s.tables block (block_of s d) ≡ true)
+  pub proper : (d : DeclNo) (e : Entry) → entry_of s.tables d ≡ Some e → ProperEntry s e
   pub headings : (d : DeclNo) (result : Option SimType) (k : ℕ) → entry_of s.tables d ≡ Some (entry.Procedure result k) → FormalsAre s (numbers_of s k) (formals_of s k)
-  pub constants : (d : DeclNo) (ty : SimType) → entry_of s.tables d ≡ Some (entry.Constant ty) → ConstantIs s d ty
-  -- it is declared in a block around
-  pub around : (token k : ℕ) (name : List ℕ) (d : DeclNo) → block_at s.tables token ≡ Some k → binding s.tables token name ≡ Some (denotation.Declared d) → Around s.tables k (block_of s d)
+  pub owned : (d : DeclNo) (result : Option SimType) (k : ℕ) → entry_of s.tables d ≡ Some (entry.Procedure result k) → owner_of_level s.tables (Some k) ≡ Some d
+  pub class_headings : (d : DeclNo) (k : ℕ) → entry_of s.tables d ≡ Some (entry.Class k) → FormalsAre s (class_formals s.tables k) (class_parameters s (Some k))
+  pub classes : (d : DeclNo) (k : ℕ) → entry_of s.tables d ≡ Some (entry.Class k) → (is_class (text s k) ≡ true) × (owner_of_level s.tables (Some k) ≡ Some d)
+  pub constants : (d : DeclNo) (type : SimType) → entry_of s.tables d ≡ Some (entry.Constant type) → ConstantIs s d type
+  -- it is found in a block around
+  pub around : (token k : ℕ) (name : List ℕ) (d : DeclNo) → block_at s.tables token ≡ Some k → binding s.tables token name ≡ Some (denotation.Declared d) → Found s token k name d
   -- a token inside the text of a block
   pub inside : (token k j : ℕ) → block_at s.tables token ≡ Some k → is_inside s.tables token j ≡ true → Around s.tables k j
-  -- no block is a connection
-  pub no_connection : (k : ℕ) → is_kind is_connection s.tables k ≡ false
+  -- no class is found through a connection
+  pub outside : (token found : ℕ) (name : List ℕ) (d : DeclNo) (k : ℕ) → binding s.tables token name ≡ Some (denotation.Declared d) → entry_of s.tables d ≡ Some (entry.Class k) → found_in s.tables token name ≡ Some found → is_connection (text s found) ≡ false
+  -- a connection connects a class
+  pub connects : (k c : ℕ) → base s.tables k ≡ Some c → is_class (text s c) ≡ true
+  -- the blocks that are connections; no other block has a next level
+  pub connections : (k : ℕ) → is_kind is_connection_kind s.tables k ≡ is_connection (text s k)
+  pub unprefixed : (k : ℕ) → is_connection (text s k) ≡ false → base s.tables k ≡ None

@@ -1,6 +1,7 @@
 pub mod Plain
 pub mod Places
 pub mod Facts
+pub mod Inners
 pub mod TablesOf
 pub mod TablesAgree
 pub mod ConstantAt

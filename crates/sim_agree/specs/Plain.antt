@@ -1,4 +1,6 @@
--- Programs without classes, parameters by name and formal procedures.
+-- Programs that have no form that is not built: no class and no block has a prefix, no class has virtual procedures or attributes that are hidden or
+-- protected, no parameter is called by name or is a procedure, there are no activations, and what is used is not spelt as a standard name of
+-- coroutines, of sets or of simulation.
 use Rattle.std.specs.Prelude.{◌≡◌, false, List, [], ◌∷◌, Option, Some, None}
 use Rattle.sim_tree.specs.declared.expr.Identifier.{Identifier}
 use Rattle.sim_tree.specs.declared.stmt.Mode.{Mode as Word}
@@ -6,16 +8,17 @@ use Rattle.sim_tree.specs.declared.stmt.Mode.TheVariants as word
 use Rattle.sim_tree.specs.declared.stmt.TypeName.{TypeName}
 use Rattle.sim_tree.specs.declared.stmt.TypeName.TheVariants as type_name
 use Rattle.sim_scope.specs.ClassNames.{is_name_of_classes}
+use Rattle.sim_scope.specs.Scopes.{is_detach}
 use Rattle.sim_tree.specs.Syntax as s
-use Rattle.sim_tree.specs.Syntax.{Expression, Expressions, Literal, Statement, Statements, Arms, Block, Declarations, Declaration, RightSide, Element, BoundPair, Arrayed, Heading, Moded, Specification, Specified, Prefix, Program}
+use Rattle.sim_tree.specs.Syntax.{Expression, Expressions, Statement, Statements, Arms, Block, Declarations, Declaration, RightSide, Element, BoundPair, Arrayed, Heading, Interface, Moded, Specification, Specified, Program}
 
-abbrev pub PlainLiteral : Literal → Type 0
-PlainLiteral s.NoObject = ⊥
-PlainLiteral _ = Unit {0}
-
--- an identifier that is not spelt as a standard name of classes
+-- an identifier that is not spelt as a standard name of coroutines, of sets or of simulation
 abbrev pub PlainName : Identifier → Type 0
 PlainName x = is_name_of_classes x.name ≡ false
+
+-- an attribute: of the names of the objects of a class without a prefix `detach` is the only one of these
+abbrev pub PlainAttribute : Identifier → Type 0
+PlainAttribute x = is_detach x.name ≡ false
 
 abbrev mutual
   pub PlainExpression : Expression → Type 0
@@ -23,11 +26,14 @@ abbrev mutual
   PlainExpression (s.Binary operator i a b) = PlainExpression a × PlainExpression b
   PlainExpression (s.Not i a) = PlainExpression a
   PlainExpression (s.Signed sign i a) = PlainExpression a
-  PlainExpression (s.Dot i a name es) = PlainExpression a × PlainExpressions es
-  PlainExpression (s.Constant literal i) = PlainLiteral literal
+  PlainExpression (s.Member m i a class) = PlainExpression a × PlainName class
+  PlainExpression (s.Dot i a name es) = PlainExpression a × PlainAttribute name × PlainExpressions es
+  PlainExpression (s.Qua i a class) = PlainExpression a × PlainName class
+  PlainExpression (s.Constant literal i) = Unit {0}
   PlainExpression (s.Named name es) = PlainName name × PlainExpressions es
+  PlainExpression (s.This i class) = PlainName class
+  PlainExpression (s.New i class es) = PlainName class × PlainExpressions es
   PlainExpression (s.Parentheses i a) = PlainExpression a
-  PlainExpression _ = ⊥
 
   pub PlainExpressions : Expressions → Type 0
   PlainExpressions s.NoMore = Unit {0}
@@ -47,7 +53,7 @@ PlainElement (s.Step a i b c) = PlainExpression a × PlainExpression b × PlainE
 PlainElement (s.While a i b) = PlainExpression a × PlainExpression b
 
 abbrev pub PlainType : TypeName → Type 0
-PlainType (type_name.Reference i class) = ⊥
+PlainType (type_name.Reference i class) = PlainName class
 PlainType _ = Unit {0}
 
 abbrev pub PlainResult : Option TypeName → Type 0
@@ -80,20 +86,32 @@ PlainSpecification x = PlainSpecified x.kind
 abbrev pub PlainHeading : Heading → Type 0
 PlainHeading h = Each PlainMode h.modes × Each PlainSpecification h.specifications
 
+-- without protection parts and virtual parts
+abbrev pub PlainInterface : Interface → Type 0
+PlainInterface x = (x.protections ≡ []) × (x.virtuals ≡ [])
+
 abbrev mutual
   pub PlainStatement : Statement → Type 0
   PlainStatement (s.Empty i) = Unit {0}
   PlainStatement (s.Compound b) = PlainBlock b
+  PlainStatement (s.Prefixed class es b) = ⊥
+  PlainStatement (s.Inner i) = Unit {0}
   PlainStatement (s.Call e) = PlainExpression e
   PlainStatement (s.Assign e sides) = PlainExpression e × Each PlainSide sides
   PlainStatement (s.Choose i e x y) = PlainExpression e × PlainStatement x × PlainStatements y
   PlainStatement (s.Repeat i e x) = PlainExpression e × PlainStatement x
   PlainStatement (s.For i name sign j elements x) = Each PlainElement elements × PlainStatement x
-  PlainStatement _ = ⊥
+  PlainStatement (s.Inspect i e opening x end y) = PlainExpression e × PlainStatement x × PlainStatements y
+  PlainStatement (s.InspectWhen i e arms y) = PlainExpression e × PlainArms arms × PlainStatements y
+  PlainStatement (s.Activate i word process schedule) = ⊥
 
   pub PlainStatements : Statements → Type 0
   PlainStatements s.NoStatement = Unit {0}
   PlainStatements (s.Also x xs) = PlainStatement x × PlainStatements xs
+
+  pub PlainArms : Arms → Type 0
+  PlainArms s.NoArm = Unit {0}
+  PlainArms (s.When i class opening x end arms) = PlainName class × PlainStatement x × PlainArms arms
 
   pub PlainBlock : Block → Type 0
   PlainBlock (s.Begin i ds xs end) = PlainDeclarations ds × PlainStatements xs
@@ -106,9 +124,8 @@ abbrev mutual
   PlainDeclaration (s.Variables t vs) = PlainType t
   PlainDeclaration (s.Arrays t i segments) = PlainType t × Each PlainSegment segments
   PlainDeclaration (s.DeclareProcedure result i heading x end) = PlainResult result × PlainHeading heading × PlainStatement x
-  PlainDeclaration (s.DeclareClass prefix i heading interface x end) = ⊥
+  PlainDeclaration (s.DeclareClass prefix i heading interface x end) = (prefix ≡ None) × PlainHeading heading × PlainInterface interface × PlainStatement x
 
--- a program without classes, prefixed blocks, connections, references, standard names of classes, parameters by name and formal procedures
 pub record Plain (p : Program) : Type 0 where
   pub prefix : p.prefix ≡ None
   pub block : PlainBlock p.block

@@ -1,47 +1,54 @@
 -- That the tables of a program agree with its texts: what the static rules give, as far as a run rests on tables.
-use Rattle.std.specs.Prelude.{◌≡◌, ◌<◌, ℕ, suc, true, List, length, slice_get, Option, Some, None}
+use Rattle.std.specs.Prelude.{◌≡◌, ◌<◌, ℕ, suc, true, false, List, length, slice_get, Option, Some, None}
 use Rattle.sim_base.specs.declared.numbering.DeclNo.{DeclNo}
 use Rattle.sim_scope.specs.declared.scopes.Declaration.{Declaration}
 use Rattle.sim_scope.specs.declared.scopes.Denotation.TheVariants as denotation
-use Rattle.sim_scope.specs.declared.types.BlockKind.{BlockKind}
-use Rattle.sim_scope.specs.declared.types.BlockKind.TheVariants as kind
 use Rattle.sim_scope.specs.declared.types.Entry.{Entry}
 use Rattle.sim_scope.specs.declared.types.Entry.TheVariants as entry
+use Rattle.sim_scope.specs.declared.types.Formal.{Formal}
 use Rattle.sim_scope.specs.declared.types.SimType.{SimType}
-use Rattle.sim_scope.specs.Calls.{is_inside}
-use Rattle.sim_scope.specs.Access.{block_at, encloser}
-use Rattle.sim_scope.specs.Scopes.{binding, entry_of}
+use Rattle.sim_scope.specs.Calls.{attribute_in, is_inside}
+use Rattle.sim_scope.specs.Access.{block_at, encloser, is_connection as is_connection_kind, is_kind}
+use Rattle.sim_scope.specs.Levels.{base, has_level, has_standard, owner_of_level}
+use Rattle.sim_scope.specs.Scopes.{binding, class_formals, entry_of, formals_in}
 use Rattle.sim_scope.specs.Source.{Source, block_of, level_of}
 use Rattle.sim_scope.specs.Tables.{BlockOf}
+use Rattle.sim_tree.specs.declared.expr.Identifier.{Identifier}
 use Rattle.sim_tree.specs.declared.stmt.TypeName.{TypeName}
 use Rattle.sim_tree.specs.Syntax.{Declarations, Heading, Statement, Statements}
-use Rattle.sim_values.specs.declared.kind.Kind.{Kind}
+use Rattle.sim_meaning.specs.Attributes.{is_connection}
+use Rattle.sim_meaning.specs.Closing.{class_parameters}
 use Rattle.sim_meaning.specs.Entries.{formals_of, numbers_of}
-use Rattle.sim_meaning.specs.Texts.{BlockText, ProcedureText, declared_at, is_class_free, program_texts, text}
-use Rattle.sim_sound.specs.Typed.{Among, Around, ArrayOf, Distinct, FormalsAre, NoFormals, ProcedureThere, arrays_of_block, entry_holds}
-use Rattle.sim_agree.specs.Facts.{ProperEntry}
-use Rattle.sim_agree.specs.Places.{PlacedArrays, PlacedStatement, PlacedStatements}
+use Rattle.sim_meaning.specs.Texts.{BlockText, ClassText, ProcedureText, declared_at, is_class_free, program_texts, text}
+use Rattle.sim_sound.specs.Held.{Among, Around, IsFormal}
+use Rattle.sim_sound.specs.Typed.{ClassThere, Distinct, FormalsAre, NoFormals, ProcedureThere, arrays_of_block}
+use Rattle.sim_agree.specs.Facts.{Found}
 
--- the kinds of blocks that are left without classes
-abbrev pub PlainBlockKind : BlockKind → Type 0
-PlainBlockKind kind.Program = Unit {0}
-PlainBlockKind kind.SubBlock = Unit {0}
-PlainBlockKind kind.Procedure = Unit {0}
-PlainBlockKind _ = ⊥
+-- What is connected is a class without a prefix.
+pub record Connects (s : Source) (k c : ℕ) : Type 0 where
+  pub connection : is_connection (text s k) ≡ true
+  pub heading : Heading
+  pub declarations : Declarations
+  pub statements : Statements
+  pub class : text s c ≡ Some (ClassText None heading declarations statements)
 
--- A block has no formal parameters; its arrays are those that its table has, each once; what is written in it stands in it.
-pub record BlockAgrees (s : Source) (k : ℕ) (ds : Declarations) (ss : Statements) : Type 0 where
-  pub no_formals : NoFormals s (numbers_of s k)
+-- The arrays of a block or a class are those that its table has, each once.
+pub record ArraysAgree (s : Source) (k : ℕ) (ds : Declarations) : Type 0 where
   pub distinct : Distinct (arrays_of_block s ds)
-  pub made : (d : DeclNo) (kind : Kind) → Among d (numbers_of s k) → entry_holds (entry_of s.tables d) ≡ Some (ArrayOf kind) → Among d (arrays_of_block s ds)
+  pub made : (d : DeclNo) (element : SimType) (dimensions : ℕ) → Among d (numbers_of s k) → entry_of s.tables d ≡ Some (entry.Array element dimensions) → Among d (arrays_of_block s ds)
   pub own : (d : DeclNo) → Among d (arrays_of_block s ds) → Among d (numbers_of s k)
-  pub arrays : PlacedArrays s.tables k ds
-  pub statements : PlacedStatements s k ss
 
--- Each declaration of a procedure's block is one of its formal parameters.
-pub record ProcedureAgrees (s : Source) (k : ℕ) (a : Statement) : Type 0 where
-  pub formals : FormalsAre s (numbers_of s k) (formals_of s k)
-  pub body : PlacedStatement s k a
+-- A block has no parameters.
+pub record BlockAgrees (s : Source) (k : ℕ) (ds : Declarations) : Type 0 where
+  pub no_formals : NoFormals s (numbers_of s k)
+  pub arrays : ArraysAgree s k ds
+
+-- The parameters of a class, which come first among its declarations; it lasts.
+pub record ClassAgrees (s : Source) (k : ℕ) (ds : Declarations) : Type 0 where
+  pub formals : FormalsAre s (class_formals s.tables k) (class_parameters s (Some k))
+  pub parameters : (d : DeclNo) → Among d (numbers_of s k) → IsFormal (entry_of s.tables d) → Among d (class_formals s.tables k)
+  pub arrays : ArraysAgree s k ds
+  pub stays : is_class_free s k ≡ false
 
 pub record TablesAgree (s : Source) : Type 0 where
   -- the program's block comes first, and nothing is around it
@@ -50,22 +57,38 @@ pub record TablesAgree (s : Source) : Type 0 where
   pub statements : Statements
   pub starts : text s 0 ≡ Some (BlockText begin declarations statements)
   pub outermost : encloser s.tables 0 ≡ None
-  -- block k is text k; each has a greater number than the one around it, and is one level deeper
+  -- Block k is text k. Each has a greater number than the one around it, and is one level deeper, but for connections.
   pub as_many : length s.tables.blocks ≡ length (program_texts s.program.prefix s.program.block)
-  pub kinds : (k : ℕ) (row : BlockOf) → slice_get s.tables.blocks k ≡ Some row → PlainBlockKind row.kind
-  pub class_free : (k : ℕ) → is_class_free s k ≡ true
+  pub some_block : 0 < length s.tables.blocks
   pub nesting : (t u : ℕ) → encloser s.tables t ≡ Some u → u < t
-  pub levels : (t u : ℕ) → encloser s.tables t ≡ Some u → level_of s t ≡ suc (level_of s u)
-  -- a block lists what is declared in it, at tokens of their own
+  pub levels : (t u : ℕ) → is_connection (text s t) ≡ false → encloser s.tables t ≡ Some u → level_of s t ≡ suc (level_of s u)
+  pub levels_of_connections : (t u : ℕ) → is_connection (text s t) ≡ true → encloser s.tables t ≡ Some u → level_of s t ≡ level_of s u
+  -- a block is the text around its first token; one whose text has a token is around the token's block
+  pub begins : (k : ℕ) (row : BlockOf) → slice_get s.tables.blocks k ≡ Some row → block_at s.tables row.first ≡ Some k
+  pub inside : (token k j : ℕ) → block_at s.tables token ≡ Some k → is_inside s.tables token j ≡ true → Around s.tables k j
+  -- no block has a prefix; a connection has the class that it connects for its next level, and declares nothing
+  pub connections : (k : ℕ) → is_kind is_connection_kind s.tables k ≡ is_connection (text s k)
+  pub unprefixed : (k : ℕ) → is_connection (text s k) ≡ false → base s.tables k ≡ None
+  pub not_standard : (k : ℕ) → has_standard s.tables k ≡ false
+  pub connects : (k c : ℕ) → base s.tables k ≡ Some c → Connects s k c
+  pub nothing_in_connections : (k : ℕ) → is_connection (text s k) ≡ true → (d : DeclNo) → Among d (numbers_of s k) → ⊥
+  -- what is around a text that lasts lasts too
+  pub outward : (t u : ℕ) → encloser s.tables t ≡ Some u → is_class_free s t ≡ false → is_class_free s u ≡ false
+  -- a block lists what is declared in it, each once, at tokens of their own
   pub listed : (d : DeclNo) (row : Declaration) → slice_get s.tables.declarations d.0 ≡ Some row → Among d (numbers_of s row.block)
   pub owned : (k : ℕ) (d : DeclNo) → Among d (numbers_of s k) → block_of s d ≡ k
   pub tokens : (d : DeclNo) (row : Declaration) → slice_get s.tables.declarations d.0 ≡ Some row → declared_at s row.token.0 ≡ Some d
-  pub proper : (d : DeclNo) (e : Entry) → entry_of s.tables d ≡ Some e → ProperEntry e
-  pub procedures : (d : DeclNo) (result : Option SimType) (k : ℕ) → entry_of s.tables d ≡ Some (entry.Procedure result k) → ProcedureThere s d result k
+  pub different : (k : ℕ) → Distinct (numbers_of s k)
+  -- the first of these are its formal parameters, as many as it has
+  pub parameters : (k n : ℕ) (d : DeclNo) → slice_get (formals_in (slice_get s.tables.blocks k)) n ≡ Some d → (f : Formal) × (entry_of s.tables d ≡ Some (entry.Formal f))
+  -- the text of a procedure and of a class stands in that of its declaration, and belongs to it
+  pub procedures : (d : DeclNo) (result : Option SimType) (k : ℕ) → entry_of s.tables d ≡ Some (entry.Procedure result k) → ProcedureThere s d k
+  pub classes : (d : DeclNo) (k : ℕ) → entry_of s.tables d ≡ Some (entry.Class k) → ClassThere s d k × (owner_of_level s.tables (Some k) ≡ Some d)
   -- texts
-  pub blocks : (k i : ℕ) (ds : Declarations) (ss : Statements) → text s k ≡ Some (BlockText i ds ss) → BlockAgrees s k ds ss
-  pub bodies : (k : ℕ) (result : Option TypeName) (h : Heading) (a : Statement) → text s k ≡ Some (ProcedureText result h a) → ProcedureAgrees s k a
-  -- what an identifier denotes is declared in a block around it; a block whose text has a token is around the token's block
+  pub blocks : (k i : ℕ) (ds : Declarations) (ss : Statements) → text s k ≡ Some (BlockText i ds ss) → BlockAgrees s k ds
+  pub bodies : (k : ℕ) (result : Option TypeName) (h : Heading) (a : Statement) → text s k ≡ Some (ProcedureText result h a) → FormalsAre s (numbers_of s k) (formals_of s k)
+  pub class_texts : (k : ℕ) (prefix : Option Identifier) (h : Heading) (ds : Declarations) (ss : Statements) → text s k ≡ Some (ClassText prefix h ds ss) → ClassAgrees s k ds
+  -- What an identifier denotes is declared in a block around it, or in a class that is connected there; what it denotes behind a dot, in the class.
   pub there : (token : ℕ) (name : List ℕ) (d : DeclNo) → binding s.tables token name ≡ Some (denotation.Declared d) → (e : Entry) × (entry_of s.tables d ≡ Some e)
-  pub around : (token k : ℕ) (name : List ℕ) (d : DeclNo) → block_at s.tables token ≡ Some k → binding s.tables token name ≡ Some (denotation.Declared d) → Around s.tables k (block_of s d)
-  pub inside : (token k j : ℕ) → block_at s.tables token ≡ Some k → is_inside s.tables token j ≡ true → Around s.tables k j
+  pub around : (token k : ℕ) (name : List ℕ) (d : DeclNo) → block_at s.tables token ≡ Some k → binding s.tables token name ≡ Some (denotation.Declared d) → Found s token k name d
+  pub attributes : (token block : ℕ) (name : List ℕ) (d : DeclNo) → attribute_in s.tables token block name ≡ Some (denotation.Declared d) → (e : Entry) × (entry_of s.tables d ≡ Some e) × (has_level s.tables block (block_of s d) ≡ true)

@@ -37,31 +37,34 @@ use Rattle.sim_scope.specs.Source.{Source}
 use Rattle.sim_scope.specs.Standard.{signature}
 use Rattle.sim_tree.specs.Syntax.{Expression, Expressions, NoMore, Then, first_of}
 use Rattle.sim_values.specs.declared.kind.Kind.TheVariants as kind
+use Rattle.sim_meaning.specs.Levels.{qualification}
 use Rattle.sim_meaning.specs.Texts.{kind_of_type}
-use Rattle.sim_sound.specs.Typed.{ActualFits, ActualsFit, AreIntegers, AreOf, ArrayOf, ExprIs, Simply}
-use Rattle.sim_agree.specs.Facts.{ProperFormal, ProperType, Tabled}
+use Rattle.sim_sound.specs.Held.{ArrayOf, Place, Simply, held_by, reference_to}
+use Rattle.sim_sound.specs.Expressions.{ActualFits, ActualsFit, AreIntegers, AreOf, ExprIs, passed}
+use Rattle.sim_agree.specs.Facts.{ProperFormal, Tabled}
 use Rattle.sim_allowed.proofs.Calls.{valued_means}
+use Rattle.sim_allowed.proofs.Classes.{simply}
 use Rattle.sim_allowed.proofs.Headings.{AllProper}
 use Rattle.sim_allowed.proofs.Meant.{Means, ValueIs}
 use Rattle.sim_allowed.proofs.Names.{kinds_of, parameter_kinds}
-use Rattle.sim_allowed.proofs.Operators.{no_misfit, same_type}
+use Rattle.sim_allowed.proofs.Operators.{no_misfit, same_types}
 use Rattle.sim_allowed.proofs.Said.{AllSay, next_says}
 
 -- ---- one actual
 
 -- how an actual fits a formal parameter, whatever its mode is
-abbrev pub FitsFormal : Source → Option ℕ → Expression → FormalKind → Option SimType → Type 0
-FitsFormal s from e shape.Simple (Some ty) = ExprIs s from e (Simply (kind_of_type ty))
-FitsFormal s from e shape.Array (Some ty) = ExprIs s from e (ArrayOf (kind_of_type ty))
+abbrev pub FitsFormal : Source → Place → Expression → FormalKind → Option SimType → Type 0
+FitsFormal s from e shape.Simple (Some ty) = ExprIs s from e (passed (held_by s ty))
+FitsFormal s from e shape.Array (Some ty) = ExprIs s from e (ArrayOf (held_by s ty))
 FitsFormal s from e _ _ = Unit {0}
 
-abbrev pub FitsAs : Source → Option ℕ → Expression → Parameter → Type 0
+abbrev pub FitsAs : Source → Place → Expression → Parameter → Type 0
 FitsAs s from e parameter.Subscript = ExprIs s from e (Simply kind.Integer)
 FitsAs s from e (parameter.Formal f) = FitsFormal s from e f.kind f.ty
 FitsAs s from e _ = Unit {0}
 
 -- it is something, and where it is no misfit it fits
-pub record ActualIs (s : Source) (from : Option ℕ) (e : Expression) (p : Parameter) (x : Actual) : Type 0 where
+pub record ActualIs (s : Source) (from : Place) (e : Expression) (p : Parameter) (x : Actual) : Type 0 where
   pub typed : x.typed ≡ true
   pub fits : x.misfit ≡ None → FitsAs s from e p
 
@@ -82,16 +85,27 @@ matched wanted first b e = go (type_matches wanted b) refl e
     go true is e = is
     go false is e = absurd (no_fault (fault first r.WrongType) e)
 
--- what is wanted, where it is the type that is there
-wanted_simply : (s : Source) (from : Option ℕ) (e : Expression) (wanted : Option SimType) (b : SimType) → ProperType b → ExprIs s from e (Simply (kind_of_type b)) → type_matches wanted b ≡ true → FitsFormal s from e shape.Simple wanted
-wanted_simply s from e None b p v m = tt
-wanted_simply s from e (Some a) b p v m = subst (λ z. ExprIs s from e (Simply (kind_of_type z))) (sym (same_type a b p m)) v
+-- a value is passed as one of the kind of its parameter
+passed_reference : (o : Option ℕ) → passed (reference_to o) ≡ Simply kind.Reference
+passed_reference None = refl
+passed_reference (Some k) = refl
 
-wanted_array : (s : Source) (from : Option ℕ) (e : Expression) (wanted : Option SimType) (b : SimType) → ProperType b → ExprIs s from e (ArrayOf (kind_of_type b)) → type_matches wanted b ≡ true → FitsFormal s from e shape.Array wanted
-wanted_array s from e None b p v m = tt
-wanted_array s from e (Some a) b p v m = subst (λ z. ExprIs s from e (ArrayOf (kind_of_type z))) (sym (same_type a b p m)) v
+pub passed_kind : (s : Source) (type : SimType) → passed (held_by s type) ≡ Simply (kind_of_type type)
+passed_kind s t.Integer = refl
+passed_kind s t.Boolean = refl
+passed_kind s t.Character = refl
+passed_kind s t.Text = refl
+passed_kind s (t.Ref d) = passed_reference (qualification s (Some (t.Ref d)))
+passed_kind s t.NoneType = refl
 
-module _ (s : Source) (known : Tabled s) (from : Option ℕ) (e : Expression) (first : ℕ) where
+wanted_integer : (s : Source) (from : Place) (e : Expression) (b : SimType) → ExprIs s from e (Simply (kind_of_type b)) → type_matches (Some t.Integer) b ≡ true → ExprIs s from e (Simply kind.Integer)
+wanted_integer s from e b v m = subst (λ z. ExprIs s from e (Simply (kind_of_type z))) (sym (same_types t.Integer b m)) v
+
+wanted_array : (s : Source) (from : Place) (e : Expression) (wanted : Option SimType) (b : SimType) → ExprIs s from e (ArrayOf (held_by s b)) → type_matches wanted b ≡ true → FitsFormal s from e shape.Array wanted
+wanted_array s from e None b v m = tt
+wanted_array s from e (Some a) b v m = subst (λ z. ExprIs s from e (ArrayOf (held_by s z))) (sym (same_types a b m)) v
+
+module _ (s : Source) (known : Tabled s) (from : Place) (e : Expression) (first : ℕ) where
   abbrev Is : Actual → Type 0 → Type 0
   Is x P = (x.typed ≡ true) × (x.misfit ≡ None → P)
 
@@ -106,7 +120,7 @@ module _ (s : Source) (known : Tabled s) (from : Option ℕ) (e : Expression) (f
   value_is parameter.Unknown b v = is_actual parameter.Unknown fitting (refl, λ e. tt)
   value_is parameter.Unspecified b v = is_actual parameter.Unspecified fitting (refl, λ e. tt)
   value_is parameter.Subscript b v =
-      is_actual parameter.Subscript (same_or_misfit first (Some t.Integer) b) (same_typed (Some t.Integer) first b, λ h. wanted_simply s from e (Some t.Integer) b v.proper v.value (matched (Some t.Integer) first b h))
+      is_actual parameter.Subscript (same_or_misfit first (Some t.Integer) b) (same_typed (Some t.Integer) first b, λ h. wanted_integer s from e b (simply s from e b v) (matched (Some t.Integer) first b h))
   value_is (parameter.Formal f) b v = is_actual (parameter.Formal f) (value_fits s.tables first (parameter.Formal f) (Some b)) (go f.kind f.ty)
     where
       held : (o : Option Rule) → (fitting_unless first o).typed ≡ true
@@ -117,15 +131,15 @@ module _ (s : Source) (known : Tabled s) (from : Option ℕ) (e : Expression) (f
       none None h = refl
       none (Some rule) h = absurd (no_fault (fault first rule) h)
 
-      simply : (wanted : Option SimType) → Is (conforming s.tables first wanted b) (FitsFormal s from e shape.Simple wanted)
-      simply None = (refl, λ h. tt)
-      simply (Some a) = (
+      simple : (wanted : Option SimType) → Is (conforming s.tables first wanted b) (FitsFormal s from e shape.Simple wanted)
+      simple None = (refl, λ h. tt)
+      simple (Some a) = (
         held (misfit_of s.tables a b),
-        λ h. subst (λ z. ExprIs s from e (Simply (kind_of_type z))) (sym (no_misfit s.tables a b v.proper (none (misfit_of s.tables a b) h))) v.value,
+        λ h. subst (λ z. ExprIs s from e z) (ap Simply (no_misfit s.tables a b (none (misfit_of s.tables a b) h)) ∙ sym (passed_kind s a)) (simply s from e b v),
       )
 
       go : (k : FormalKind) (wanted : Option SimType) → Is (elim k as (λ z. Actual) [ shape.Simple ↦ conforming s.tables first wanted b | _ ↦ misfitting first r.WrongType ]) (FitsFormal s from e k wanted)
-      go shape.Simple wanted = simply wanted
+      go shape.Simple wanted = simple wanted
       go shape.Array wanted = misfit_is r.WrongType (FitsFormal s from e shape.Array wanted)
       go shape.Procedure wanted = misfit_is r.WrongType (FitsFormal s from e shape.Procedure wanted)
 
@@ -144,7 +158,7 @@ module _ (s : Source) (known : Tabled s) (from : Option ℕ) (e : Expression) (f
   array_is (parameter.Formal f) b m said = is_actual (parameter.Formal f) (array_fits first f b) (go f.kind f.ty)
     where
       go : (k : FormalKind) (wanted : Option SimType) → Is (elim k as (λ z. Actual) [ shape.Array ↦ same_or_misfit first wanted b | _ ↦ misfitting first r.WrongType ]) (FitsFormal s from e k wanted)
-      go shape.Array wanted = (same_typed wanted first b, λ h. wanted_array s from e wanted b m.0 m.1 (matched wanted first b h))
+      go shape.Array wanted = (same_typed wanted first b, λ h. wanted_array s from e wanted b m.1 (matched wanted first b h))
       go shape.Simple wanted = misfit_is r.WrongType (FitsFormal s from e shape.Simple wanted)
       go shape.Procedure wanted = misfit_is r.WrongType (FitsFormal s from e shape.Procedure wanted)
 
@@ -234,21 +248,21 @@ module _ (s : Source) (known : Tabled s) (from : Option ℕ) (e : Expression) (f
   actual_is p (is.Called b) m said = value_actual p (is.Called b) m said
   actual_is p (is.Variable b) m said = value_actual p (is.Variable b) m said
   actual_is p (is.Constant b) m said = value_actual p (is.Constant b) m said
-  actual_is p is.Class m said = absurd m
+  actual_is p is.Class m said = value_actual p is.Class m said
   actual_is p (is.Barred b) m said = absurd m
 
 -- ---- all of them
 
 -- what an expression is is known
-abbrev pub Known : Source → Option ℕ → Extent → Expression → Type 0
+abbrev pub Known : Source → Place → Extent → Expression → Type 0
 Known s from x e = AllSay s (judge s.tables x e).events → Means true s from e (judge s.tables x e).value
 
-abbrev pub AllKnown : Source → Option ℕ → Extent → Expressions → Type 0
+abbrev pub AllKnown : Source → Place → Extent → Expressions → Type 0
 AllKnown s from x NoMore = Unit {0}
 AllKnown s from x (Then e es) = Known s from x e × AllKnown s from x es
 
 -- each fits the parameter at its place
-abbrev pub AllFit : Source → Option ℕ → Option Denotation → (place : ℕ) → Expressions → Type 0
+abbrev pub AllFit : Source → Place → Option Denotation → (place : ℕ) → Expressions → Type 0
 AllFit s from d n NoMore = Unit {0}
 AllFit s from d n (Then e es) = FitsAs s from e (parameter_at s.tables d n) × AllFit s from d (n + 1) es
 
@@ -256,7 +270,7 @@ abbrev pub size : Expressions → ℕ
 size NoMore = 0
 size (Then e es) = suc (size es)
 
-pub record AllActuals (s : Source) (from : Option ℕ) (d : Option Denotation) (es : Expressions) (a b : Actuals) : Type 0 where
+pub record AllActuals (s : Source) (from : Place) (d : Option Denotation) (es : Expressions) (a b : Actuals) : Type 0 where
   pub count : b.count ≡ a.count + size es
   pub typed : a.typed ≡ true → b.typed ≡ true
   pub fits : b.misfit ≡ None → (a.misfit ≡ None) × AllFit s from d a.count es
@@ -276,7 +290,7 @@ neither a (Some f) e = absurd (no_lesser a f e)
 pub both_true : (a b : Bool) → a ≡ true → b ≡ true → (a && b) ≡ true
 both_true a b e f = subst (λ z. (z && b) ≡ true) (sym e) f
 
-pub actuals_are : (s : Source) → Tabled s → (from : Option ℕ) (x : Extent) (d : Option Denotation) (es : Expressions) → AllKnown s from x es → (a : Actuals) → AllSay s (actuals s.tables x d a es).events
+pub actuals_are : (s : Source) → Tabled s → (from : Place) (x : Extent) (d : Option Denotation) (es : Expressions) → AllKnown s from x es → (a : Actuals) → AllSay s (actuals s.tables x d a es).events
     → AllActuals s from d es a (actuals s.tables x d a es).value
 unfolding actuals next gives more with_actual
 actuals_are s known from x d NoMore all a said = record { count = omega arith; typed = λ e. e; fits = λ e. (e, tt) }
@@ -299,11 +313,11 @@ actuals_are s known from x d (Then e es) all a said =
 
 -- ---- what they are held against
 
-pub all_integers : (s : Source) (from : Option ℕ) (d : Option Denotation) → ((i : ℕ) → parameter_at s.tables d i ≡ parameter.Subscript) → (n : ℕ) (es : Expressions) → AllFit s from d n es → AreIntegers s from es
+pub all_integers : (s : Source) (from : Place) (d : Option Denotation) → ((i : ℕ) → parameter_at s.tables d i ≡ parameter.Subscript) → (n : ℕ) (es : Expressions) → AllFit s from d n es → AreIntegers s from es
 all_integers s from d subscripts n NoMore fit = tt
 all_integers s from d subscripts n (Then e es) fit = (subst (λ p. FitsAs s from e p) (subscripts n) fit.0, all_integers s from d subscripts (n + 1) es fit.1)
 
-actual_fits : (s : Source) (from : Option ℕ) (e : Expression) (m : Mode) (k : FormalKind) (ty : Option SimType) → ProperFormal m k ty → FitsFormal s from e k ty → ActualFits m k ty (ExprIs s from e)
+actual_fits : (s : Source) (from : Place) (e : Expression) (m : Mode) (k : FormalKind) (ty : Option SimType) → ProperFormal s m k ty → FitsFormal s from e k ty → ActualFits s m k ty (ExprIs s from e)
 actual_fits s from e mode.ByName k ty p a = absurd p
 actual_fits s from e mode.ByValue shape.Procedure ty p a = absurd p
 actual_fits s from e mode.ByReference shape.Procedure ty p a = absurd p
@@ -316,7 +330,7 @@ actual_fits s from e mode.ByValue shape.Array (Some ty) p a = a
 actual_fits s from e mode.ByReference shape.Simple (Some ty) p a = a
 actual_fits s from e mode.ByReference shape.Array (Some ty) p a = a
 
-pub all_formals : (s : Source) (from : Option ℕ) (d : Option Denotation) (n : ℕ) (es : Expressions) (fs : List Formal) → ((i : ℕ) → parameter_at s.tables d (n + i) ≡ formal_or_none (slice_get fs i)) → AllProper fs
+pub all_formals : (s : Source) (from : Place) (d : Option Denotation) (n : ℕ) (es : Expressions) (fs : List Formal) → ((i : ℕ) → parameter_at s.tables d (n + i) ≡ formal_or_none (slice_get fs i)) → AllProper s fs
     → size es ≡ length fs → AllFit s from d n es → ActualsFit s from es fs
 all_formals s from d n NoMore [] at proper same fit = tt
 all_formals s from d n NoMore (f ∷ fs) at proper same fit = absurd (omega (arith, same))
@@ -328,7 +342,7 @@ all_formals s from d n (Then e es) (f ∷ fs) at proper same fit =
     )
 
 -- of a standard name
-abbrev AllHeld : Source → Option ℕ → (first second : Option SimType) → (place : ℕ) → Expressions → Type 0
+abbrev AllHeld : Source → Place → (first second : Option SimType) → (place : ℕ) → Expressions → Type 0
 AllHeld s from first second n NoMore = Unit {0}
 AllHeld s from first second n (Then e es) = FitsAs s from e (typed_or_none (parameter_type (record { first = first; second = second; result = None }) n)) × AllHeld s from first second (n + 1) es
 
@@ -337,12 +351,12 @@ same_type_at g zero = refl
 same_type_at g (suc zero) = refl
 same_type_at g (suc (suc n)) = refl
 
-held : (s : Source) (from : Option ℕ) (name : StandardName) (n : ℕ) (es : Expressions) → AllFit s from (Some (denotation.Standard name)) n es → AllHeld s from (signature name).first (signature name).second n es
+held : (s : Source) (from : Place) (name : StandardName) (n : ℕ) (es : Expressions) → AllFit s from (Some (denotation.Standard name)) n es → AllHeld s from (signature name).first (signature name).second n es
 unfolding parameter_at
 held s from name n NoMore fit = tt
 held s from name n (Then e es) fit = (subst (λ p. FitsAs s from e (typed_or_none p)) (same_type_at (signature name) n) fit.0, held s from name (n + 1) es fit.1)
 
-pub all_operands : (s : Source) (from : Option ℕ) (name : StandardName) (es : Expressions) → parameter_count (signature name) ≡ size es → AllFit s from (Some (denotation.Standard name)) 0 es → AreOf s from es (kinds_of (signature name))
+pub all_operands : (s : Source) (from : Place) (name : StandardName) (es : Expressions) → parameter_count (signature name) ≡ size es → AllFit s from (Some (denotation.Standard name)) 0 es → AreOf s from es (kinds_of (signature name))
 all_operands s from name es same fit = go (signature name).first (signature name).second es same (held s from name 0 es fit)
   where
     go : (first second : Option SimType) (es : Expressions) → (elim first as (λ z. ℕ) [ None ↦ 0 | Some a ↦ elim second as (λ z. ℕ) [ None ↦ 1 | Some b ↦ 2 ] ]) ≡ size es
@@ -350,9 +364,9 @@ all_operands s from name es same fit = go (signature name).first (signature name
     go None second NoMore same fit = tt
     go None second (Then e es) same fit = absurd (omega (arith, same))
     go (Some a) None NoMore same fit = absurd (omega (arith, same))
-    go (Some a) None (Then e NoMore) same fit = (fit.0, tt)
+    go (Some a) None (Then e NoMore) same fit = (subst (λ z. ExprIs s from e z) (passed_kind s a) fit.0, tt)
     go (Some a) None (Then e (Then f es)) same fit = absurd (omega (arith, same))
     go (Some a) (Some b) NoMore same fit = absurd (omega (arith, same))
     go (Some a) (Some b) (Then e NoMore) same fit = absurd (omega (arith, same))
-    go (Some a) (Some b) (Then e (Then f NoMore)) same fit = (fit.0, (fit.1.0, tt))
+    go (Some a) (Some b) (Then e (Then f NoMore)) same fit = (subst (λ z. ExprIs s from e z) (passed_kind s a) fit.0, (subst (λ z. ExprIs s from f z) (passed_kind s b) fit.1.0, tt))
     go (Some a) (Some b) (Then e (Then f (Then g es))) same fit = absurd (omega (arith, same))

@@ -3,14 +3,11 @@ use Rattle.std.proofs.Common.{◌≡◌, ◌≤◌, ◌<◌, ◌+◌, ℕ, Bool,
 use Rattle.std.proofs.lemmas.Bool.Decides.{nat_tests}
 use Rattle.std.proofs.lemmas.List.{length-map}
 use Rattle.std.specs.Prelude.{nat_eq}
-use Rattle.sim_base.specs.declared.limits.Limits.{Limits}
 use Rattle.sim_base.specs.declared.token.Token.{Token as Word}
-use Rattle.prefix_bind.specs.Prefixes.{least_of, prefix_faults, prefixed}
 use Rattle.sim_scope.specs.declared.found.Fault.{Fault}
 use Rattle.sim_scope.specs.declared.scopes.Denotation.{Denotation}
 use Rattle.sim_scope.specs.declared.types.SimType.{SimType}
 use Rattle.sim_scope.specs.Declare.{declared_by}
-use Rattle.sim_scope.specs.Found.{Findings}
 use Rattle.sim_scope.specs.Source.{Source}
 use Rattle.sim_scope.specs.Statements.{judging}
 use Rattle.sim_scope.specs.Tables.{Tables}
@@ -24,59 +21,58 @@ use Rattle.sim_tree.specs.Tree.{IsTree, line}
 use Rattle.sim_tree.proofs.Filled.{filled as program_filled}
 use Rattle.sim_tree.proofs.Order.{in_order, in_text}
 use Rattle.sim_static.specs.Check.{Allowed, answer, check_of, completed, first_answer, first_least, judged, last_answer, second_answer, second_least}
-use Rattle.sim_code.specs.Outcome.{Ended, NoRule, World}
-use Rattle.sim_meaning.specs.Meaning.{run}
 use Rattle.sim_sound.specs.Typed.{Typed}
-use Rattle.sim_sound.proofs.Main.{never_no_rule}
 use Rattle.sim_agree.specs.Plain.{Plain}
-use Rattle.sim_agree.proofs.Tables.{program_agrees}
-use Rattle.sim_allowed.proofs.Actuals.{neither}
-use Rattle.sim_allowed.proofs.Completed.{complete}
-use Rattle.sim_allowed.proofs.Counts.{told}
+use Rattle.sim_allowed.proofs.Counts.{About, told}
 use Rattle.sim_allowed.proofs.LastRound.{round_says}
 use Rattle.sim_allowed.proofs.ToldProgram.{Fills, among}
 use Rattle.sim_allowed.proofs.ToldStatements.{program_fills, told_once}
-use Rattle.sim_allowed.proofs.Whole.{said_typed}
+use Rattle.sim_allowed.proofs.Said.{AllSay}
+use Rattle.sim_allowed.proofs.Whole.{Agreed, said_typed}
 
--- what an allowed program's check says
-pub record Passed (tables : Tables) (uses : List (Option Denotation)) (types : List (Option SimType)) (n : ℕ) (p : Program) : Type 0 where
-  pub tables_are : tables ≡ (declared_by p).tables
-  pub unbroken : (declared_by p).least ≡ None
-  pub clean : (judged n (declared_by p).tables p).least ≡ None
-  pub uses_are : uses ≡ (judged n (declared_by p).tables p).uses
-  pub types_are : types ≡ (judged n (declared_by p).tables p).types
+-- what an allowed program's check says: no round finds a broken rule, and what the last one tells is the source's
+pub record Passed (s : Source) (n : ℕ) (p : Program) : Type 0 where
+  pub tables_are : s.tables ≡ completed (declared_by p).tables p
+  pub first : first_least (declared_by p) ≡ None
+  pub second : second_least s.tables ≡ None
+  pub clean : (judged n s.tables p).least ≡ None
+  pub uses_are : s.uses ≡ (judged n s.tables p).uses
+  pub places_are : s.found_in ≡ (judged n s.tables p).found_in
+  pub types_are : s.types ≡ (judged n s.tables p).types
 
--- in tables that are complete as they are declared
-abbrev AsDeclared : (n : ℕ) → Program → Tables → Type 0
-AsDeclared n p t = (judged n t p).least ≡ None
+-- in these tables
+record PassedIn (t : Tables) (n : ℕ) (p : Program) (uses : List (Option Denotation)) (found_in : List (Option ℕ)) (types : List (Option SimType)) : Type 0 where
+  first : first_least (declared_by p) ≡ None
+  second : second_least t ≡ None
+  clean : (judged n t p).least ≡ None
+  uses_are : uses ≡ (judged n t p).uses
+  places_are : found_in ≡ (judged n t p).found_in
+  types_are : types ≡ (judged n t p).types
 
-pub passed : (n : ℕ) (p : Program) → Plain p → (tables : Tables) (uses : List (Option Denotation)) (found_in : List (Option ℕ)) (types : List (Option SimType)) → answer n p ≡ Allowed tables uses found_in types → Passed tables uses types n p
+pub passed : (n : ℕ) (p : Program) (s : Source) → answer n p ≡ Allowed s.tables s.uses s.found_in s.types → Passed s n p
 unfolding answer
-passed n p plain tables uses found_in types e = first (first_least (declared_by p)) refl e
+passed n p s e = first (first_least (declared_by p)) refl e
   where
     t : Tables
     t = completed (declared_by p).tables p
 
-    same : completed (declared_by p).tables p ≡ (declared_by p).tables
-    same = complete (declared_by p).tables p (program_agrees p plain).fine.bare plain
+    last : first_least (declared_by p) ≡ None → second_least t ≡ None → (o : Option Fault) → (judged n t p).least ≡ o → last_answer t (judged n t p) o ≡ Allowed s.tables s.uses s.found_in s.types → Passed s n p
+    last one two None clean e =
+        let is : s.tables ≡ t = cc in
+        let uses : s.uses ≡ (judged n t p).uses = cc in
+        let places : s.found_in ≡ (judged n t p).found_in = cc in
+        let types : s.types ≡ (judged n t p).types = cc in
+        let all = subst (λ z. PassedIn z n p s.uses s.found_in s.types) (sym is) (record { first = one; second = two; clean = clean; uses_are = uses; places_are = places; types_are = types }) in
+        record { tables_are = is; first = all.first; second = all.second; clean = all.clean; uses_are = all.uses_are; places_are = all.places_are; types_are = all.types_are }
+    last one two (Some f) clean e = absurd (cc)
 
-    last : (o : Option Fault) → (judged n t p).least ≡ o → first_least (declared_by p) ≡ None → last_answer t (judged n t p) o ≡ Allowed tables uses found_in types → Passed tables uses types n p
-    last None clean none e = record {
-      tables_are = (let is : tables ≡ t = cc in is ∙ same);
-      unbroken = (neither (declared_by p).least (least_of (prefix_faults (prefixed (declared_by p).tables))) none).0;
-      clean = subst (AsDeclared n p) same clean;
-      uses_are = (let is : uses ≡ (judged n t p).uses = cc in is ∙ ap (λ (z : Tables). (judged n z p).uses) same);
-      types_are = (let is : types ≡ (judged n t p).types = cc in is ∙ ap (λ (z : Tables). (judged n z p).types) same);
-    }
-    last (Some f) clean none e = absurd (cc)
+    second : first_least (declared_by p) ≡ None → (o : Option Fault) → second_least t ≡ o → second_answer n p t o ≡ Allowed s.tables s.uses s.found_in s.types → Passed s n p
+    second one None two e = last one two (judged n t p).least refl e
+    second one (Some f) two e = absurd (cc)
 
-    second : (o : Option Fault) → first_least (declared_by p) ≡ None → second_answer n p t o ≡ Allowed tables uses found_in types → Passed tables uses types n p
-    second None none e = last (judged n t p).least refl none e
-    second (Some f) none e = absurd (cc)
-
-    first : (o : Option Fault) → first_least (declared_by p) ≡ o → first_answer n p (declared_by p).tables o ≡ Allowed tables uses found_in types → Passed tables uses types n p
-    first None none e = second (second_least t) none e
-    first (Some f) none e = absurd (cc)
+    first : (o : Option Fault) → first_least (declared_by p) ≡ o → first_answer n p (declared_by p).tables o ≡ Allowed s.tables s.uses s.found_in s.types → Passed s n p
+    first None one e = second one (second_least t) refl e
+    first (Some f) one e = absurd (cc)
 
 -- a token of which something is told is one of the text
 below : (n t : ℕ) (l : List Spot) → AllBelow n l → 1 ≤ among t l → t < n
@@ -88,25 +84,36 @@ below n t (Token x ∷ l) a le = go (λ le. below n t l a.1 le) (nat_eq t x) ref
     go deep false e le = deep (omega (arith, le))
 below n t (Behind x ∷ l) a le = below n t l a le
 
-within_text : (s : Tables) (p : Program) (n : ℕ) → Plain p → AllBelow n (in_block p.block []) → (k : Bool) (i : ℕ) → 1 ≤ told k i (program_events (judging s) p) → i < n
+within_text : (s : Tables) (p : Program) (n : ℕ) → Plain p → AllBelow n (in_block p.block []) → (k : About) (i : ℕ) → 1 ≤ told k i (program_events (judging s) p) → i < n
 unfolding Fills
 within_text s p n plain all k i le = let most = program_fills s p plain k i in below n i (in_block p.block []) all (omega (arith, most, le))
 
-pub allowed_typed : (ws : List Word) (tree : Tree) (s : Source) → IsTree ws tree → s.program ≡ program_syntax tree → check_of tree ≡ Allowed s.tables s.uses s.found_in s.types → Plain s.program → Typed s
+-- What is known of an allowed program, beside what its tables say.
+pub record AllowedIs (s : Source) : Type 0 where
+  pub tables : s.tables ≡ completed (declared_by s.program).tables s.program
+  pub first : first_least (declared_by s.program) ≡ None
+  pub second : second_least s.tables ≡ None
+  pub order : InOrder s.program
+  pub filled : Filled s.program
+  pub says : AllSay s (program_events (judging s.tables) s.program)
+
+pub allowed_says : (ws : List Word) (tree : Tree) (s : Source) → IsTree ws tree → s.program ≡ program_syntax tree → check_of tree ≡ Allowed s.tables s.uses s.found_in s.types → Plain s.program → AllowedIs s
 unfolding judged
-allowed_typed ws tree s is same allowed plain =
+allowed_says ws tree s is same allowed plain =
     let n = length tree.lines.items in
-    let x = subst (λ z. Passed s.tables s.uses s.types n z) (sym same) (passed n (program_syntax tree) (subst Plain same plain) s.tables s.uses s.found_in s.types allowed) in
+    let x = subst (λ z. Passed s n z) (sym same) (passed n (program_syntax tree) s allowed) in
     let order = subst InOrder (sym same) (in_order ws tree is) in
-    let filled = subst Filled (sym same) (program_filled ws tree is) in
     let lines : n ≡ length ws = ap length is.lines ∙ length-map ws line in
     let inside = subst (λ z. AllBelow z (in_block s.program.block [])) (sym lines) (subst (λ (z : Program). AllBelow (length ws) (in_block z.block [])) (sym same) (in_text ws tree is)) in
-    let events = program_events (judging s.tables) s.program in
-    let round : judged n s.tables s.program ≡ judged n (declared_by s.program).tables s.program = ap (λ z. judged n z s.program) x.tables_are in
-    let said = round_says s n events (ap (λ (f : Findings). f.least) round ∙ x.clean) (x.uses_are ∙ ap (λ (f : Findings). f.uses) (sym round)) (x.types_are ∙ ap (λ (f : Findings). f.types) (sym round))
-    (told_once s.tables s.program plain order) (within_text s.tables s.program n plain inside) in
-    said_typed s (record { tables = x.tables_are; unbroken = x.unbroken }) plain filled order said
+    record {
+      tables = x.tables_are;
+      first = x.first;
+      second = x.second;
+      order = order;
+      filled = subst Filled (sym same) (program_filled ws tree is);
+      says = round_says s n (program_events (judging s.tables) s.program) x.clean x.uses_are x.places_are x.types_are (told_once s.tables s.program plain order) (within_text s.tables s.program n plain inside);
+    }
 
-pub allowed_never_no_rule : (ws : List Word) (tree : Tree) (s : Source) → IsTree ws tree → s.program ≡ program_syntax tree → check_of tree ≡ Allowed s.tables s.uses s.found_in s.types → Plain s.program
-    → (l : Limits) (input : List ℕ) (n : ℕ) (o : World) → run s l input n ≡ Ended o NoRule → ⊥
-allowed_never_no_rule ws tree s is same allowed plain = never_no_rule s (allowed_typed ws tree s is same allowed plain)
+-- an allowed program is typed where its tables agree with its texts
+pub allowed_typed_where : (s : Source) → AllowedIs s → Plain s.program → Agreed s → Typed s
+allowed_typed_where s a plain agreed = said_typed s agreed plain a.filled a.says

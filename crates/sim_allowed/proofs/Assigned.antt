@@ -17,62 +17,87 @@ use Rattle.sim_scope.specs.declared.types.SimType.{SimType}
 use Rattle.sim_scope.specs.declared.types.SimType.TheVariants as t
 use Rattle.sim_scope.specs.Actuals.{result_in}
 use Rattle.sim_scope.specs.Assignments.{LeftSide, assigned_to, call_assigned, fault_unless, is_text_copied, is_typed, left_side, lefts, no_target, own_result as own_result_assigned, procedure_assigned, result_assigned, side_unless, sign_agrees, standard_assigned, takes, target, targets, types_assigned, value_assigned, with_left}
-use Rattle.sim_scope.specs.Calls.{if_own, is_inside}
+use Rattle.sim_scope.specs.declared.scopes.Denotation.{Denotation}
+use Rattle.sim_scope.specs.declared.scopes.Denotation.TheVariants as denotation
 use Rattle.sim_scope.specs.Expressions.{judge}
 use Rattle.sim_scope.specs.Found.{fault}
 use Rattle.sim_scope.specs.Judged.{Judged, bars, gives, next, telling}
 use Rattle.sim_scope.specs.Operators.{misfit_of}
 use Rattle.sim_scope.specs.Outcomes.{called, is_stream, side_of}
 use Rattle.sim_scope.specs.Scopes.{entry_of}
-use Rattle.sim_scope.specs.Source.{Source}
+use Rattle.sim_scope.specs.Source.{Source, denoted, type_at}
 use Rattle.sim_scope.specs.Standard.{signature}
 use Rattle.sim_scope.specs.Tables.{Tables}
 use Rattle.sim_tree.specs.declared.stmt.Assignment.{Assignment}
 use Rattle.sim_tree.specs.declared.stmt.Assignment.TheVariants as assignment
-use Rattle.sim_tree.specs.Syntax.{Expression, NoMore, first_of}
+use Rattle.sim_tree.specs.Syntax.{Expression, Expressions, first_of}
 use Rattle.sim_tree.specs.Syntax as syntax
-use Rattle.sim_meaning.specs.Closing.{block_if, is_text, is_text_type, own_block, own_block_denoted, own_result}
+use Rattle.sim_meaning.specs.Attributes.{connection_at}
+use Rattle.sim_meaning.specs.Closing.{is_text, is_text_type, result_meant, typed_token}
+use Rattle.sim_meaning.specs.Levels.{qualification}
 use Rattle.sim_meaning.specs.Texts.{kind_of_type}
-use Rattle.sim_sound.specs.Typed.{AreIntegers, Around, ExprIs, LeftDeclared, LeftDenoted, LeftIs, LeftOf, LeftsAre, Simply, TextLeft}
+use Rattle.sim_sound.specs.Held.{Holds, In, Refers, Simply, held_by}
+use Rattle.sim_sound.specs.Expressions.{AreIntegers, ExprIs, KnownAt}
+use Rattle.sim_sound.specs.Statements.{LeftIs, LeftNamed, LeftOf, LeftsAre, OwnText, PlaceIs, PlaceNamed, ReferenceAt, ResultIs, TextLeft}
 use Rattle.sim_agree.specs.Facts.{ProperType, Tabled}
-use Rattle.sim_agree.specs.Places.{PlacedExpression}
 use Rattle.sim_allowed.proofs.Actuals.{Known, both_true, neither}
 use Rattle.sim_allowed.proofs.Calls.{called_means}
+use Rattle.sim_allowed.proofs.Classes.{class_held, class_qualifies, simply}
 use Rattle.sim_allowed.proofs.Meant.{Means, ProcedureIs, StandardIs, TypeThere, ValueIs}
-use Rattle.sim_allowed.proofs.Operators.{no_misfit_of}
+use Rattle.sim_allowed.proofs.Operators.{no_misfit}
 use Rattle.sim_allowed.proofs.Said.{AllSay, next_says}
+use Rattle.sim_allowed.proofs.Uses.{left_there}
 
 -- ---- a left side
-
-own_inside : (b : Bool) (q d : DeclNo) → Some q ≡ if_own b (Some d) → (b ≡ true) × (q ≡ d)
-own_inside true q d e = (let h : q ≡ d = cc in (refl, h))
-own_inside false q d e = absurd (cc)
-
-own_outside : (b : Bool) (d : DeclNo) → None ≡ if_own b (Some d) → b ≡ false
-own_outside true d e = absurd (cc)
-own_outside false d e = refl
 
 -- a left side of a type, which its sign takes
 pub record TargetIs (s : Source) (k : ℕ) (sign : Assignment) (e : Expression) (x : Side) : Type 0 where
   pub ty : SimType
   pub is : x.ty ≡ Some ty
-  pub proper : ProperType ty
   pub texts : is_text s e ≡ is_text_type (Some ty)
   pub left : LeftOf (is_text_type (Some ty)) sign s k e (kind_of_type ty)
 
+-- a place is a left side
+left_denoted : (s : Source) (t : ℕ) (c : Option ℕ) (o : Option Denotation) (es : Expressions) (h : Holds) → PlaceNamed s t c o es (AreIntegers s (In t) es) h → LeftNamed s t c o es (AreIntegers s (In t) es) h
+left_denoted s t c None es h a = absurd a
+left_denoted s t c (Some (denotation.Standard name)) es h a = absurd a
+left_denoted s t c (Some (denotation.Declared d)) es h a = left_there s (KnownAt s (In t) c d) (AreIntegers s (In t) es) (OwnText s t c) es (entry_of s.tables d) h a
+
+pub place_is_left : (s : Source) (t : ℕ) (e : Expression) (h : Holds) → PlaceIs s t e h → LeftIs s t e h
+place_is_left s t (syntax.Named x es) h a = left_denoted s t (connection_at s x.token.0) (denoted s x.token.0) es h a
+place_is_left s t (syntax.Dot i b x es) h a = a
+place_is_left s t (syntax.If i a b c) h f = absurd f
+place_is_left s t (syntax.Binary o i a b) h f = absurd f
+place_is_left s t (syntax.Not i a) h f = absurd f
+place_is_left s t (syntax.Signed o i a) h f = absurd f
+place_is_left s t (syntax.Member m i a class) h f = absurd f
+place_is_left s t (syntax.Qua i a class) h f = absurd f
+place_is_left s t (syntax.Constant l i) h f = absurd f
+place_is_left s t (syntax.This i class) h f = absurd f
+place_is_left s t (syntax.New i class es) h f = absurd f
+place_is_left s t (syntax.Parentheses i a) h f = absurd f
+
 -- a variable, or the result of a procedure
-left_of : (s : Source) (k : ℕ) (sign : Assignment) (e : Expression) (ty : SimType) → ProperType ty → LeftIs s k e (kind_of_type ty) → ((ty ≡ t.Text) → TextLeft s k e (own_result s e)) → takes sign ty ≡ true
-    → LeftOf (is_text_type (Some ty)) sign s k e (kind_of_type ty)
-left_of s k assignment.Value e t.Integer p l texts h = l
-left_of s k assignment.Value e t.Boolean p l texts h = l
-left_of s k assignment.Value e t.Character p l texts h = l
-left_of s k assignment.Value e t.Text p l texts h = (refl, texts refl)
-left_of s k assignment.Reference e t.Text p l texts h = l
-left_of s k assignment.Reference e t.Integer p l texts h = absurd (false≢true h)
-left_of s k assignment.Reference e t.Boolean p l texts h = absurd (false≢true h)
-left_of s k assignment.Reference e t.Character p l texts h = absurd (false≢true h)
-left_of s k sign e (t.Ref d) p l texts h = absurd p
-left_of s k sign e t.NoneType p l texts h = absurd p
+pub record Assignable (s : Source) (k : ℕ) (e : Expression) (ty : SimType) : Type 0 where
+  pub proper : ProperType s ty
+  pub typed : type_at s (typed_token e) ≡ Some ty
+  pub left : LeftIs s k e (held_by s ty)
+  pub text : ty ≡ t.Text → TextLeft s k e (result_meant s e)
+  pub reference : (d : DeclNo) → ty ≡ t.Ref d → (class : ℕ) → held_by s (t.Ref d) ≡ Refers class → ReferenceAt s k e (result_meant s e) class
+
+left_of : (s : Source) (k : ℕ) (sign : Assignment) (e : Expression) (ty : SimType) → Assignable s k e ty → takes sign ty ≡ true → LeftOf (is_text_type (Some ty)) sign s k e (kind_of_type ty)
+left_of s k assignment.Value e t.Integer l h = l.left
+left_of s k assignment.Value e t.Boolean l h = l.left
+left_of s k assignment.Value e t.Character l h = l.left
+left_of s k assignment.Value e t.Text l h = (refl, l.text refl)
+left_of s k assignment.Reference e t.Text l h = l.left
+left_of s k assignment.Reference e (t.Ref d) l h =
+    let c = l.proper in (refl, record { class = c.block; qualified = ap (qualification s) l.typed ∙ class_qualifies s d c; at = l.reference d refl c.block (class_held s d c) })
+left_of s k assignment.Reference e t.Integer l h = absurd (false≢true h)
+left_of s k assignment.Reference e t.Boolean l h = absurd (false≢true h)
+left_of s k assignment.Reference e t.Character l h = absurd (false≢true h)
+left_of s k assignment.Value e (t.Ref d) l h = absurd (false≢true h)
+left_of s k sign e t.NoneType l h = absurd l.proper
 
 -- where no rule is broken, the sign takes the type, and the left side is a variable
 record Targeted (sign : Assignment) (first : ℕ) (variable : Bool) (ty : SimType) : Type 0 where
@@ -95,42 +120,44 @@ targeted s sign first variable ty said = go (takes sign ty) variable refl refl s
     go false v taken same said = absurd said.0
 
 module _ (s : Source) (known : Tabled s) (k : ℕ) (e : Expression) (sign : Assignment) (first : ℕ) where
-  -- a variable
-  text_left : (ty : SimType) → LeftIs s k e (kind_of_type ty) → ExprIs s (Some k) e (Simply (kind_of_type ty)) → ty ≡ t.Text → (own : Option ℕ) → TextLeft s k e own
-  text_left ty l v is None = subst (λ z. ExprIs s (Some k) e (Simply (kind_of_type z))) is v
-  text_left ty l v is (Some block) = subst (λ z. LeftIs s k e (kind_of_type z)) is l
-
   -- a left side that is judged by itself
-  target_of : (variable : Bool) (ty : SimType) → ProperType ty → is_text s e ≡ is_text_type (Some ty) → (takes sign ty ≡ true → variable ≡ true → LeftOf (is_text_type (Some ty)) sign s k e (kind_of_type ty))
+  target_of : (variable : Bool) (ty : SimType) → is_text s e ≡ is_text_type (Some ty) → (takes sign ty ≡ true → variable ≡ true → LeftOf (is_text_type (Some ty)) sign s k e (kind_of_type ty))
       → AllSay s (targets sign first variable ty).events → TargetIs s k sign e (targets sign first variable ty).value
-  target_of variable ty proper texts left said =
+  target_of variable ty texts left said =
       let h = targeted s sign first variable ty said in
-      record { ty = ty; is = ap (λ (z : Side). z.ty) h.is; proper = proper; texts = texts; left = left h.taken h.same }
+      record { ty = ty; is = ap (λ (z : Side). z.ty) h.is; texts = texts; left = left h.taken h.same }
 
   -- a text that is assigned to, and is no result
-  text_value : (ty : SimType) → ValueIs s (Some k) e ty → own_result s e ≡ None → AllSay s (value_assigned sign first ty).events → TargetIs s k sign e (value_assigned sign first ty).value
-  text_value ty v own said = target_of (is_text_copied sign ty) ty v.proper v.texts (copied sign ty refl refl v) said
+  text_value : (ty : SimType) → ValueIs s (In k) e ty → result_meant s e ≡ None → AllSay s (value_assigned sign first ty).events → TargetIs s k sign e (value_assigned sign first ty).value
+  text_value ty v own said = target_of (is_text_copied sign ty) ty v.texts (copied sign ty v) said
     where
-      copied : (g : Assignment) (b : SimType) → g ≡ sign → b ≡ ty → ValueIs s (Some k) e b → takes g b ≡ true → is_text_copied g b ≡ true → LeftOf (is_text_type (Some b)) g s k e (kind_of_type b)
-      copied assignment.Value t.Text signs types v taken copy = (refl, subst (λ z. TextLeft s k e z) (sym own) v.value)
-      copied assignment.Value t.Integer signs types v taken copy = absurd (false≢true copy)
-      copied assignment.Value t.Boolean signs types v taken copy = absurd (false≢true copy)
-      copied assignment.Value t.Character signs types v taken copy = absurd (false≢true copy)
-      copied assignment.Value (t.Ref d) signs types v taken copy = absurd (false≢true copy)
-      copied assignment.Value t.NoneType signs types v taken copy = absurd (false≢true copy)
-      copied assignment.Reference b signs types v taken copy = absurd (false≢true copy)
+      copied : (g : Assignment) (b : SimType) → ValueIs s (In k) e b → takes g b ≡ true → is_text_copied g b ≡ true → LeftOf (is_text_type (Some b)) g s k e (kind_of_type b)
+      copied assignment.Value t.Text v taken copy = (refl, subst (λ z. TextLeft s k e z) (sym own) (simply s (In k) e t.Text v))
+      copied assignment.Value t.Integer v taken copy = absurd (false≢true copy)
+      copied assignment.Value t.Boolean v taken copy = absurd (false≢true copy)
+      copied assignment.Value t.Character v taken copy = absurd (false≢true copy)
+      copied assignment.Value (t.Ref d) v taken copy = absurd (false≢true copy)
+      copied assignment.Value t.NoneType v taken copy = absurd (false≢true copy)
+      copied assignment.Reference b v taken copy = absurd (false≢true copy)
 
   -- what is assigned to, where no procedure is
-  variable_left : (ty : SimType) → ValueIs s (Some k) e ty → LeftIs s k e (kind_of_type ty) → AllSay s (targets sign first true ty).events → TargetIs s k sign e (targets sign first true ty).value
-  variable_left ty v l said = target_of true ty v.proper v.texts (λ taken is. left_of s k sign e ty v.proper l (λ is. text_left ty l v.value is (own_result s e)) taken) said
+  variable_left : (ty : SimType) → ValueIs s (In k) e ty → ProperType s ty → PlaceIs s k e (held_by s ty) → result_meant s e ≡ None → AllSay s (targets sign first true ty).events → TargetIs s k sign e (targets sign first true ty).value
+  variable_left ty v proper place own said =
+      target_of true ty v.texts (λ taken is. left_of s k sign e ty (record {
+        proper = proper;
+        typed = v.typed;
+        left = place_is_left s k e (held_by s ty) place;
+        text = λ is. subst (λ z. TextLeft s k e z) (sym own) (subst (λ z. ExprIs s (In k) e (Simply (kind_of_type z))) is (simply s (In k) e ty v));
+        reference = λ d is class held. subst (λ z. ReferenceAt s k e z class) (sym own) (subst (λ z. PlaceIs s k e z) (ap (held_by s) is ∙ held) place);
+      }) taken) said
 
   -- no declared constant
   no_variable : (ty : SimType) → AllSay s (targets sign first false ty).events → ⊥
   no_variable ty said = false≢true (targeted s sign first false ty said).same
 
-  assigned_is : (o : Outcome) → Means false s (Some k) e o → (own_result s e ≡ None) → AllSay s (assigned_to sign first o).events → TargetIs s k sign e (assigned_to sign first o).value
+  assigned_is : (o : Outcome) → Means false s (In k) e o → (result_meant s e ≡ None) → AllSay s (assigned_to sign first o).events → TargetIs s k sign e (assigned_to sign first o).value
   unfolding assigned_to no_target gives telling
-  assigned_is (is.Variable ty) m own said = variable_left ty m.0 m.1 said
+  assigned_is (is.Variable ty) m own said = variable_left ty m.0 m.1 m.2 own said
   assigned_is (is.Value ty) m own said = text_value ty m.0 own said
   assigned_is (is.Called ty) m own said = text_value ty m.0 own said
   assigned_is (is.Constant ty) m own said = absurd (no_variable ty said)
@@ -144,13 +171,13 @@ module _ (s : Source) (known : Tabled s) (k : ℕ) (e : Expression) (sign : Assi
   assigned_is (is.Standard name token) m own said = absurd m
 
   -- the value of a call
-  call_is : (o : Outcome) → Means true s (Some k) e o → own_result s e ≡ None → AllSay s (call_assigned s.tables sign first o).events → TargetIs s k sign e (call_assigned s.tables sign first o).value
+  call_is : (o : Outcome) → Means true s (In k) e o → result_meant s e ≡ None → AllSay s (call_assigned s.tables sign first o).events → TargetIs s k sign e (call_assigned s.tables sign first o).value
   unfolding call_assigned next
   call_is o m own said =
       let parts = next_says s (called s.tables o) (assigned_to sign first) said in
-      assigned_is (called s.tables o).value (called_means s known (Some k) e o m parts.0) own parts.1
+      assigned_is (called s.tables o).value (called_means s known (In k) e o m parts.0) own parts.1
 
-  result_is : (o : Outcome) → Means true s (Some k) e o → own_result s e ≡ None → (w : Option SimType) → AllSay s (result_assigned s.tables sign first o w).events → TargetIs s k sign e (result_assigned s.tables sign first o w).value
+  result_is : (o : Outcome) → Means true s (In k) e o → result_meant s e ≡ None → (w : Option SimType) → AllSay s (result_assigned s.tables sign first o w).events → TargetIs s k sign e (result_assigned s.tables sign first o w).value
   unfolding no_target telling
   result_is o m own None said = absurd said.0
   result_is o m own (Some ty) said = go (is_text_copied sign ty) said
@@ -159,7 +186,7 @@ module _ (s : Source) (known : Tabled s) (k : ℕ) (e : Expression) (sign : Assi
       go true said = call_is o m own said
       go false said = absurd (no_variable ty said)
 
-  standard_is : (name : StandardName) (token : TokenNo) → StandardIs s (Some k) e name → AllSay s (standard_assigned s.tables sign first (is.Standard name token) name).events → TargetIs s k sign e (standard_assigned s.tables sign first (is.Standard name token) name).value
+  standard_is : (name : StandardName) (token : TokenNo) → StandardIs s (In k) e name → AllSay s (standard_assigned s.tables sign first (is.Standard name token) name).events → TargetIs s k sign e (standard_assigned s.tables sign first (is.Standard name token) name).value
   standard_is name token m said = go (is_stream name) said
     where
       go : (b : Bool) → AllSay s (if b then call_assigned s.tables sign first (is.Standard name token) else result_assigned s.tables sign first (is.Standard name token) (signature name).result).events
@@ -168,76 +195,66 @@ module _ (s : Source) (known : Tabled s) (k : ℕ) (e : Expression) (sign : Assi
       go false said = result_is (is.Standard name token) m m.unowned (signature name).result said
 
   -- the result of a procedure is that of its identifier, inside its text
-  owner_of : (d : DeclNo) (token : TokenNo) (own : Option DeclNo) (p : ProcedureIs s (Some k) e d token own) (b : Bool) → is_inside s.tables p.name.token.0 p.block ≡ b → own_result s e ≡ block_if b p.block
-  unfolding own_result
-  owner_of d token own p b inside =
-      ap (own_result s) p.is ∙ ap (own_block_denoted s p.name.token.0) p.says ∙ ap (own_block s p.name.token.0) p.declared ∙ ap (λ z. block_if z p.block) inside
-
-  result_left : (d : DeclNo) (token : TokenNo) (own : Option DeclNo) (p : ProcedureIs s (Some k) e d token own) → is_inside s.tables p.name.token.0 p.block ≡ true → PlacedExpression s.tables k e → (w : Option SimType) → p.result ≡ w
-      → AllSay s (own_result_assigned sign first w).events → TargetIs s k sign e (own_result_assigned sign first w).value
+  result_left : (d q : DeclNo) (p : ProcedureIs s (In k) e d (Some q)) (w : Option SimType) → p.result ≡ w → AllSay s (own_result_assigned sign first w).events → TargetIs s k sign e (own_result_assigned sign first w).value
   unfolding no_target telling
-  result_left d token own p inside placed None same said = absurd said.0
-  result_left d token own p inside placed (Some ty) same said =
-      target_of true ty there.0 (ap (is_text s) p.is ∙ there.1)
-      (λ taken is. left_of s k sign e ty there.0 left (λ is. subst (λ z. TextLeft s k e z) (sym (owner_of d token own p true inside)) (subst (λ z. LeftIs s k e (kind_of_type z)) is left)) taken) said
+  result_left d q p None same said = absurd said.0
+  result_left d q p (Some ty) same said =
+      let own = p.inside in
+      let both = own.2 ty same in
+      target_of true ty there.1 (λ taken is. left_of s k sign e ty (record {
+        proper = there.0;
+        typed = there.3;
+        left = both.0;
+        text = λ is. subst (λ z. TextLeft s k e z) (sym own.1) (subst (λ z. ResultIs s k p.block (held_by s z)) is both.1);
+        reference = λ c is class held. subst (λ z. ReferenceAt s k e z class) (sym own.1) (subst (λ z. ResultIs s k p.block z) (ap (held_by s) is ∙ held) both.1);
+      }) taken) said
     where
-      there : TypeThere s (syntax.Named p.name NoMore) (Some ty)
-      there = subst (λ z. TypeThere s (syntax.Named p.name NoMore) z) same p.typed
+      there : TypeThere s e (Some ty)
+      there = subst (λ z. TypeThere s e z) same p.typed
 
-      around : Around s.tables k p.block
-      around = known.inside p.name.token.0 k p.block (subst (λ z. PlacedExpression s.tables k z) p.is placed).0 inside
-
-      left : LeftIs s k e (kind_of_type ty)
-      left =
-          subst (λ z. LeftIs s k z (kind_of_type ty)) (sym p.is)
-          (subst (λ z. LeftDenoted s k z NoMore (AreIntegers s (Some k) NoMore) (kind_of_type ty)) (sym p.says)
-          (subst (λ z. LeftDeclared s k d NoMore (AreIntegers s (Some k) NoMore) z (kind_of_type ty)) (sym p.declared)
-          (subst (λ z. LeftDeclared s k d NoMore (AreIntegers s (Some k) NoMore) (Some (entry.Procedure z p.block)) (kind_of_type ty)) (sym same) (refl, around))))
-
-  procedure_is : (d : DeclNo) (token : TokenNo) (own : Option DeclNo) → ProcedureIs s (Some k) e d token own → PlacedExpression s.tables k e
+  procedure_is : (d : DeclNo) (token : TokenNo) (own : Option DeclNo) → ProcedureIs s (In k) e d own
       → AllSay s (procedure_assigned s.tables sign first (is.Procedure d token own) d own).events → TargetIs s k sign e (procedure_assigned s.tables sign first (is.Procedure d token own) d own).value
-  procedure_is d token (Some q) p placed said =
+  procedure_is d token (Some q) p said =
       subst (λ z. TargetIs s k sign e (own_result_assigned sign first (result_in z)).value) (sym there)
-      (result_left d token (Some q) p h.0 placed p.result refl (subst (λ z. AllSay s (own_result_assigned sign first (result_in z)).events) there said))
+      (result_left d q p p.result refl (subst (λ z. AllSay s (own_result_assigned sign first (result_in z)).events) there said))
     where
-      h : (is_inside s.tables p.name.token.0 p.block ≡ true) × (q ≡ d)
-      h = own_inside (is_inside s.tables p.name.token.0 p.block) q d p.inside
+      same : q ≡ d
+      same = let own = p.inside in own.0
 
       there : entry_of s.tables q ≡ Some (entry.Procedure p.result p.block)
-      there = ap (entry_of s.tables) h.1 ∙ p.declared
-  procedure_is d token None p placed said =
-      result_is (is.Procedure d token None) p (owner_of d token None p false (own_outside (is_inside s.tables p.name.token.0 p.block) d p.inside)) (result_in (entry_of s.tables d)) said
+      there = ap (entry_of s.tables) same ∙ p.declared
+  procedure_is d token None p said = result_is (is.Procedure d token None) p p.inside (result_in (entry_of s.tables d)) said
 
-  pub target_is : (o : Outcome) → Means true s (Some k) e o → PlacedExpression s.tables k e → AllSay s (target s.tables sign first o).events → TargetIs s k sign e (target s.tables sign first o).value
+  pub target_is : (o : Outcome) → Means true s (In k) e o → AllSay s (target s.tables sign first o).events → TargetIs s k sign e (target s.tables sign first o).value
   unfolding target assigned_to no_target gives telling
-  target_is (is.Procedure d token own) m placed said = procedure_is d token own m placed said
-  target_is (is.Standard name token) m placed said = standard_is name token m said
-  target_is (is.Variable ty) m placed said = variable_left ty m.0 m.1 said
-  target_is (is.Value ty) m placed said = text_value ty m.0 m.1 said
-  target_is (is.Called ty) m placed said = text_value ty m.0 m.2 said
-  target_is (is.Constant ty) m placed said = absurd (no_variable ty said)
-  target_is (is.Array ty) m placed said = absurd said.0
-  target_is is.Class m placed said = absurd m
-  target_is (is.Barred b) m placed said = absurd m
-  target_is is.NoValue m placed said = absurd said.0
-  target_is is.NoValueInParentheses m placed said = absurd said.0
-  target_is is.Refused m placed said = absurd m
+  target_is (is.Procedure d token own) m said = procedure_is d token own m said
+  target_is (is.Standard name token) m said = standard_is name token m said
+  target_is (is.Variable ty) m said = variable_left ty m.0 m.1 m.2 m.3 said
+  target_is (is.Value ty) m said = text_value ty m.0 m.1 said
+  target_is (is.Called ty) m said = text_value ty m.0 m.2 said
+  target_is (is.Constant ty) m said = absurd (no_variable ty said)
+  target_is (is.Array ty) m said = absurd said.0
+  target_is is.Class m said = absurd said.0
+  target_is (is.Barred b) m said = absurd m
+  target_is is.NoValue m said = absurd said.0
+  target_is is.NoValueInParentheses m said = absurd said.0
+  target_is is.Refused m said = absurd m
 
 -- ---- all of them
 
 abbrev pub TargetsKnown : Source → (block : ℕ) → List LeftSide → Type 0
 TargetsKnown s k [] = Unit {0}
-TargetsKnown s k (l ∷ ls) = Known s (Some k) Statement l.target × PlacedExpression s.tables k l.target × TargetsKnown s k ls
+TargetsKnown s k (l ∷ ls) = Known s (In k) Statement l.target × TargetsKnown s k ls
 
 no_fault : (f : Fault) → Some f ≡ None → ⊥
 no_fault f e = cc
 
--- where no type is a misfit
-fits_left : (s : Tables) (v : Side) (a b : SimType) → ProperType a → types_assigned s v (Some a) (Some b) ≡ None → b ≡ a
-fits_left s v a b p e = go (misfit_of s a b) refl e
+-- where no type is a misfit, the value has the kind of the left side
+fits_left : (s : Tables) (v : Side) (a b : SimType) → types_assigned s v (Some a) (Some b) ≡ None → kind_of_type b ≡ kind_of_type a
+fits_left s v a b e = go (misfit_of s a b) refl e
   where
-    go : (n : Option Rule) → misfit_of s a b ≡ n → fault_unless v.first.0 n ≡ None → b ≡ a
-    go None n e = no_misfit_of s a b p n
+    go : (n : Option Rule) → misfit_of s a b ≡ n → fault_unless v.first.0 n ≡ None → kind_of_type b ≡ kind_of_type a
+    go None n e = no_misfit s a b n
     go (Some rule) n e = absurd (no_fault (fault v.first.0 rule) e)
 
 pub record AllLefts (s : Source) (k : ℕ) (ls : List LeftSide) (ty : SimType) (a b : LeftSides) : Type 0 where
@@ -253,13 +270,13 @@ lefts_are s known k first v ty is (l ∷ ls) all a said =
     let inner = next_says s (sign_agrees first l.sign l.token) (λ n. next (judge s.tables Statement l.target) (target s.tables l.sign (first_of l.target))) parts.0 in
     let own = next_says s (judge s.tables Statement l.target) (target s.tables l.sign (first_of l.target)) inner.1 in
     let o = (judge s.tables Statement l.target).value in
-    let y = target_is s known k l.target l.sign (first_of l.target) o (all.0 own.0) all.1 own.1 in
+    let y = target_is s known k l.target l.sign (first_of l.target) o (all.0 own.0) own.1 in
     let x = (target s.tables l.sign (first_of l.target) o).value in
     let b = with_left s.tables v a x in
-    let rest = lefts_are s known k first v ty is ls all.2 b parts.1 in
+    let rest = lefts_are s known k first v ty is ls all.1 b parts.1 in
     record {
       typed = λ h. rest.typed (both_true a.typed (is_typed x.ty) h (subst (λ z. is_typed z ≡ true) (sym y.is) refl));
       lefts = λ h. (let r = rest.lefts h in let m = neither a.misfit (types_assigned s.tables v x.ty v.ty) r.0 in
-          let f = fits_left s.tables v y.ty ty y.proper (subst (λ z. types_assigned s.tables v (Some y.ty) z ≡ None) is (subst (λ z. types_assigned s.tables v z v.ty ≡ None) y.is m.1)) in
-          (m.0, (subst (λ z. LeftOf z l.sign s k l.target (kind_of_type ty)) (sym y.texts) (subst (λ z. LeftOf (is_text_type (Some y.ty)) l.sign s k l.target (kind_of_type z)) (sym f) y.left), r.1)));
+          let f = fits_left s.tables v y.ty ty (subst (λ z. types_assigned s.tables v (Some y.ty) z ≡ None) is (subst (λ z. types_assigned s.tables v z v.ty ≡ None) y.is m.1)) in
+          (m.0, (subst (λ z. LeftOf z l.sign s k l.target (kind_of_type ty)) (sym y.texts) (subst (λ z. LeftOf (is_text_type (Some y.ty)) l.sign s k l.target z) (sym f) y.left), r.1)));
     }

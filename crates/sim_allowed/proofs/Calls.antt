@@ -1,5 +1,5 @@
 -- Calls without actuals, values and operands.
-use Rattle.std.proofs.Common.{◌≡◌, ℕ, Bool, true, false, List, [], ◌∷◌, length, Option, Some, None, refl, sym, ap, ◌∙◌, subst, arith, if◌then◌else◌}
+use Rattle.std.proofs.Common.{◌≡◌, ℕ, Bool, true, false, List, [], ◌∷◌, length, Option, Some, None, refl, sym, ap, subst, arith, if◌then◌else◌}
 use Rattle.std.proofs.lemmas.Bool.Decides.{nat_tests}
 use Rattle.std.specs.Prelude.{nat_eq}
 use Rattle.sim_base.specs.declared.rule.Rule.TheVariants as r
@@ -8,74 +8,47 @@ use Rattle.sim_base.specs.declared.numbering.TokenNo.{TokenNo}
 use Rattle.sim_scope.specs.declared.outcome.Outcome.{Outcome}
 use Rattle.sim_scope.specs.declared.outcome.Outcome.TheVariants as is
 use Rattle.sim_scope.specs.declared.outcome.Side.{Side}
-use Rattle.sim_scope.specs.declared.scopes.Denotation.TheVariants as denotation
 use Rattle.sim_scope.specs.declared.standard.StandardName.{StandardName}
-use Rattle.sim_scope.specs.declared.types.Entry.{Entry}
-use Rattle.sim_scope.specs.declared.types.Entry.TheVariants as entry
 use Rattle.sim_scope.specs.declared.types.Formal.{Formal}
 use Rattle.sim_scope.specs.declared.types.SimType.{SimType}
 use Rattle.sim_scope.specs.Judged.{Judged, gives, next, telling}
 use Rattle.sim_scope.specs.Outcomes.{breaks, call_of, called, is_stream, procedure_called, side, side_of, in_parentheses, parenthesized, signature_called, type_in, value_of, valued}
-use Rattle.sim_scope.specs.Scopes.{entry_of, formals_of, result_in, result_of}
-use Rattle.sim_scope.specs.Source.{Source, block_of, denoted}
+use Rattle.sim_scope.specs.Scopes.{formals_of}
+use Rattle.sim_scope.specs.Source.{Source}
 use Rattle.sim_scope.specs.Standard.{signature}
-use Rattle.sim_tree.specs.declared.expr.Identifier.{Identifier}
-use Rattle.sim_tree.specs.Syntax.{Expression, Expressions, NoMore}
+use Rattle.sim_tree.specs.Syntax.{Expression, NoMore}
 use Rattle.sim_tree.specs.Syntax as syntax
-use Rattle.sim_meaning.specs.Closing.{has_type, is_text, own_result, stream_of}
+use Rattle.sim_meaning.specs.Closing.{is_text, result_meant, stream_of}
 use Rattle.sim_meaning.specs.Entries.{formals_of as meant_formals}
-use Rattle.sim_meaning.specs.Statements.{denoted_leaves}
-use Rattle.sim_meaning.specs.Texts.{kind_of_type}
-use Rattle.sim_sound.specs.Typed.{ActualsFit, AreIntegers, AreOf, CallGives, DeclaredGives, ExprIs, Holds, NamedGives, Sees, Simply, is_given}
+use Rattle.sim_sound.specs.Held.{Holds, Place}
+use Rattle.sim_sound.specs.Expressions.{ActualsFit, ExprIs}
 use Rattle.sim_agree.specs.Facts.{Tabled}
 use Rattle.sim_allowed.proofs.Headings.{HeadingIs, heading}
-use Rattle.sim_allowed.proofs.Meant.{CallsFor, Means, ProcedureIs, StandardIs, TypeThere, Unowned, ValueIs}
-use Rattle.sim_allowed.proofs.Names.{IsProcedure, given_by, kinds_of, standard_gives, standard_left}
+use Rattle.sim_allowed.proofs.Classes.{proper_value}
+use Rattle.sim_allowed.proofs.Meant.{CallsFor, Means, ProcedureIs, StandardIs, Takes, TypeThere, Unowned, ValueIs}
 use Rattle.sim_allowed.proofs.Said.{AllSay, next_says}
 
 -- ---- calls
 
--- of a declared procedure
-pub call_gives : (s : Source) (from : Option ℕ) (d : DeclNo) (result : Option SimType) (k : ℕ) (Actuals : List Formal → Type 0) → Sees s.tables from (block_of s d) → Actuals (meant_formals s k) → CallGives s from d result k Actuals (given_by result)
-call_gives s from d None k Actuals sees a = (refl, sees, a)
-call_gives s from d (Some ty) k Actuals sees a = (refl, sees, a)
-
-pub leaves_result : (s : Source) (d : DeclNo) (result : Option SimType) (k : ℕ) → entry_of s.tables d ≡ Some (entry.Procedure result k) → denoted_leaves s (Some (denotation.Declared d)) ≡ is_given (given_by result)
-unfolding result_of
-leaves_result s d result k e = go result (entry_of s.tables d) e
-  where
-    go : (r : Option SimType) (o : Option Entry) → o ≡ Some (entry.Procedure r k) → has_type (result_in o) ≡ is_given (given_by r)
-    go None o e = ap (λ z. has_type (result_in z)) e
-    go (Some ty) o e = ap (λ z. has_type (result_in z)) e
-
--- an expression that names a declared procedure, with its actuals
-pub declared_call : (s : Source) (from : Option ℕ) (x : Identifier) (es : Expressions) (d : DeclNo) (result : Option SimType) (k : ℕ) → denoted s x.token.0 ≡ Some (denotation.Declared d)
-    → entry_of s.tables d ≡ Some (entry.Procedure result k) → Sees s.tables from (block_of s d) → ActualsFit s from es (meant_formals s k) → CallsFor s from (syntax.Named x es) (given_by result)
-declared_call s from x es d result k says e sees fit = (
-  subst (λ z. NamedGives s from z es (AreIntegers s from es) (λ ks. AreOf s from es ks) (λ fs. ActualsFit s from es fs) (given_by result)) (sym says)
-      (subst (λ z. DeclaredGives s from d es (AreIntegers s from es) (λ fs. ActualsFit s from es fs) z (given_by result)) (sym e) (call_gives s from d result k (λ fs. ActualsFit s from es fs) sees fit)),
-  ap (denoted_leaves s) says ∙ leaves_result s d result k e,
-)
-
--- an expression that names a standard procedure, with its operands
-pub standard_call : (s : Source) (from : Option ℕ) (x : Identifier) (es : Expressions) (name : StandardName) → denoted s x.token.0 ≡ Some (denotation.Standard name)
-    → IsProcedure name → AreOf s from es (kinds_of (signature name)) → CallsFor s from (syntax.Named x es) (given_by (signature name).result)
-standard_call s from x es name says p are = (
-  subst (λ z. NamedGives s from z es (AreIntegers s from es) (λ ks. AreOf s from es ks) (λ fs. ActualsFit s from es fs) (given_by (signature name).result)) (sym says)
-      (standard_gives name p (λ ks. AreOf s from es ks) are),
-  ap (denoted_leaves s) says ∙ sym (standard_left name),
-)
-
 -- what a call is
-call_value : (s : Source) (from : Option ℕ) (e : Expression) (h : Holds) → CallsFor s from e (Some h) → ExprIs s from e h
-call_value s from (syntax.Named x es) h a = a.0
-call_value s from (syntax.Dot i a x es) h b = b.0
-call_value s from _ h a = absurd a
+call_value : (s : Source) (from : Place) (e : Expression) (type : SimType) → CallsFor s from e (Some type) → (h : Holds) → Takes s type h → ExprIs s from e h
+call_value s from (syntax.Named x es) type a h f = (a h f).0
+call_value s from (syntax.Dot i a x es) type b h f = (b h f).0
+call_value s from (syntax.New i class es) type a h f = a h f
+call_value s from (syntax.If i a b c) type g h f = absurd (g h f)
+call_value s from (syntax.Binary o i a b) type g h f = absurd (g h f)
+call_value s from (syntax.Not i a) type g h f = absurd (g h f)
+call_value s from (syntax.Signed o i a) type g h f = absurd (g h f)
+call_value s from (syntax.Member m i a class) type g h f = absurd (g h f)
+call_value s from (syntax.Qua i a class) type g h f = absurd (g h f)
+call_value s from (syntax.Constant l i) type g h f = absurd (g h f)
+call_value s from (syntax.This i class) type g h f = absurd (g h f)
+call_value s from (syntax.Parentheses i a) type g h f = absurd (g h f)
 
-pub call_means : (s : Source) (from : Option ℕ) (e : Expression) (result : Option SimType) → TypeThere s e result → CallsFor s from e (given_by result) → (alone : Bool) → Unowned alone s e
-    → Means alone s from e (call_of result)
+pub call_means : (s : Source) (from : Place) (e : Expression) (result : Option SimType) → TypeThere s e result → CallsFor s from e result → (alone : Bool) → Unowned alone s e → Means alone s from e (call_of result)
 call_means s from e None there call alone own = call
-call_means s from e (Some ty) there call alone own = (record { proper = there.0; texts = there.1; stream = there.2; value = call_value s from e (Simply (kind_of_type ty)) call }, call, own)
+call_means s from e (Some type) there call alone own =
+    (record { proper = proper_value s type there.0; texts = there.1; stream = there.2; typed = there.3; value = call_value s from e type call }, call, own)
 
 -- ---- calls without actuals
 
@@ -83,13 +56,12 @@ no_formals : (n : ℕ) (fs : List Formal) → n ≡ 0 → n ≡ length fs → fs
 no_formals n [] a b = refl
 no_formals n (f ∷ fs) a b = absurd (omega (arith, a, b))
 
-procedure_means : (s : Source) → Tabled s → (from : Option ℕ) (e : Expression) (d : DeclNo) (token : TokenNo) (own : Option DeclNo) (alone : Bool) (p : ProcedureIs s from e d token own) → Unowned alone s (syntax.Named p.name NoMore)
+procedure_means : (s : Source) → Tabled s → (from : Place) (e : Expression) (d : DeclNo) (token : TokenNo) (own : Option DeclNo) (alone : Bool) (p : ProcedureIs s from e d own) → Unowned alone s e
     → AllSay s (called s.tables (is.Procedure d token own)).events → Means alone s from e (called s.tables (is.Procedure d token own)).value
 unfolding called breaks gives telling
 procedure_means s known from e d token own alone p none said =
-    subst (λ z. Means alone s from z (procedure_called token.0 (length (formals_of s.tables d)) (entry_of s.tables d)).value) (sym p.is)
-    (subst (λ z. Means alone s from (syntax.Named p.name NoMore) (procedure_called token.0 (length (formals_of s.tables d)) z).value) (sym p.declared)
-    (go (nat_eq (length (formals_of s.tables d)) 0) refl (subst (λ z. AllSay s (procedure_called token.0 (length (formals_of s.tables d)) z).events) p.declared said)))
+    subst (λ z. Means alone s from e (procedure_called token.0 (length (formals_of s.tables d)) z).value) (sym p.declared)
+    (go (nat_eq (length (formals_of s.tables d)) 0) refl (subst (λ z. AllSay s (procedure_called token.0 (length (formals_of s.tables d)) z).events) p.declared said))
   where
     head : HeadingIs s d p.block
     head = heading s known d p.result p.block p.declared
@@ -98,18 +70,18 @@ procedure_means s known from e d token own alone p none said =
     fit zero = subst (λ fs. ActualsFit s from NoMore fs) (sym (no_formals (length (formals_of s.tables d)) (meant_formals s p.block) zero head.count)) tt
 
     go : (b : Bool) → nat_eq (length (formals_of s.tables d)) 0 ≡ b → AllSay s (if b then gives (call_of p.result) else breaks token.0 r.WrongNumber).events
-        → Means alone s from (syntax.Named p.name NoMore) (if b then gives (call_of p.result) else breaks token.0 r.WrongNumber).value
-    go true zero said = call_means s from (syntax.Named p.name NoMore) p.result p.typed (declared_call s from p.name NoMore d p.result p.block p.says p.declared p.sees (fit (grind (arith, nat_tests)))) alone none
+        → Means alone s from e (if b then gives (call_of p.result) else breaks token.0 r.WrongNumber).value
+    go true zero said = call_means s from e p.result p.typed (p.calls (fit (grind (arith, nat_tests)))) alone none
     go false other said = absurd said.0
 
-standard_means : (s : Source) (from : Option ℕ) (e : Expression) (name : StandardName) (token : TokenNo) (alone : Bool) → StandardIs s from e name → Unowned alone s e
+standard_means : (s : Source) (from : Place) (e : Expression) (name : StandardName) (token : TokenNo) (alone : Bool) → StandardIs s from e name → Unowned alone s e
     → AllSay s (called s.tables (is.Standard name token)).events → Means alone s from e (called s.tables (is.Standard name token)).value
 unfolding called breaks gives telling
 standard_means s from e name token alone p none said = go (is_stream name) refl said
   where
     second : (first : Option SimType) → (signature name).first ≡ first → AllSay s (elim first as (λ z. Judged Outcome) [ None ↦ gives (call_of (signature name).result) | Some a ↦ breaks token.0 r.WrongNumber ]).events
         → is_stream name ≡ false → Means alone s from e (elim first as (λ z. Judged Outcome) [ None ↦ gives (call_of (signature name).result) | Some a ↦ breaks token.0 r.WrongNumber ]).value
-    second None is said other = call_means s from e (signature name).result p.typed (p.calls other is) alone none
+    second None is said other = call_means s from e (signature name).result (p.typed other) (p.calls other is) alone none
     second (Some a) is said other = absurd said.0
 
     go : (b : Bool) → is_stream name ≡ b → AllSay s (if b then breaks token.0 r.StandardNameLeftOut else signature_called token.0 (signature name)).events
@@ -118,30 +90,30 @@ standard_means s from e name token alone p none said = go (is_stream name) refl 
     go false other said = second (signature name).first refl said other
 
 -- what an expression is after calls are made
-pub called_means : (s : Source) → Tabled s → (from : Option ℕ) (e : Expression) (o : Outcome) → Means true s from e o → AllSay s (called s.tables o).events → Means false s from e (called s.tables o).value
+pub called_means : (s : Source) → Tabled s → (from : Place) (e : Expression) (o : Outcome) → Means true s from e o → AllSay s (called s.tables o).events → Means false s from e (called s.tables o).value
 unfolding called gives
 called_means s known from e is.Refused m said = absurd m
 called_means s known from e is.NoValue m said = m
 called_means s known from e is.NoValueInParentheses m said = tt
 called_means s known from e (is.Value ty) m said = (m.0, tt)
 called_means s known from e (is.Called ty) m said = (m.0, m.1, tt)
-called_means s known from e (is.Variable ty) m said = m
+called_means s known from e (is.Variable ty) m said = (m.0, m.1, m.2, tt)
 called_means s known from e (is.Constant ty) m said = m
 called_means s known from e (is.Array ty) m said = m
 called_means s known from e (is.Procedure d token own) m said = procedure_means s known from e d token own false m tt said
 called_means s known from e (is.Standard name token) m said = standard_means s from e name token false m tt said
-called_means s known from e is.Class m said = absurd m
+called_means s known from e is.Class m said = tt
 called_means s known from e (is.Barred b) m said = absurd m
 
 -- ---- values
 
 -- a value of a type, found so
-pub record Valued (s : Source) (from : Option ℕ) (e : Expression) (o : Outcome) : Type 0 where
+pub record Valued (s : Source) (from : Place) (e : Expression) (o : Outcome) : Type 0 where
   pub ty : SimType
   pub is : o ≡ is.Value ty
   pub value : ValueIs s from e ty
 
-value_means : (s : Source) (from : Option ℕ) (e : Expression) (first : ℕ) (o : Outcome) → Means false s from e o → AllSay s (value_of first o).events → Valued s from e (value_of first o).value
+value_means : (s : Source) (from : Place) (e : Expression) (first : ℕ) (o : Outcome) → Means false s from e o → AllSay s (value_of first o).events → Valued s from e (value_of first o).value
 unfolding value_of gives breaks telling
 value_means s from e first is.Refused m said = absurd m
 value_means s from e first is.NoValue m said = absurd said.0
@@ -153,37 +125,37 @@ value_means s from e first (is.Constant ty) m said = record { ty = ty; is = refl
 value_means s from e first (is.Array ty) m said = absurd said.0
 value_means s from e first (is.Procedure d token own) m said = absurd m
 value_means s from e first (is.Standard name token) m said = absurd m
-value_means s from e first is.Class m said = absurd m
+value_means s from e first is.Class m said = absurd said.0
 value_means s from e first (is.Barred b) m said = absurd m
 
-pub valued_means : (s : Source) → Tabled s → (from : Option ℕ) (e : Expression) (first : ℕ) (o : Outcome) → Means true s from e o → AllSay s (valued s.tables first o).events → Valued s from e (valued s.tables first o).value
+pub valued_means : (s : Source) → Tabled s → (from : Place) (e : Expression) (first : ℕ) (o : Outcome) → Means true s from e o → AllSay s (valued s.tables first o).events → Valued s from e (valued s.tables first o).value
 unfolding valued next
 valued_means s known from e first o m said =
     let parts = next_says s (called s.tables o) (value_of first) said in
     value_means s from e first (called s.tables o).value (called_means s known from e o m parts.0) parts.1
 
 -- an operand
-pub record OperandIs (s : Source) (from : Option ℕ) (e : Expression) (x : Side) : Type 0 where
+pub record OperandIs (s : Source) (from : Place) (e : Expression) (x : Side) : Type 0 where
   pub ty : SimType
   pub is : x.ty ≡ Some ty
   pub value : ValueIs s from e ty
 
-pub side_means : (s : Source) → Tabled s → (from : Option ℕ) (e : Expression) (first : ℕ) (o : Outcome) → Means true s from e o → AllSay s (side s.tables first o).events → OperandIs s from e (side s.tables first o).value
+pub side_means : (s : Source) → Tabled s → (from : Place) (e : Expression) (first : ℕ) (o : Outcome) → Means true s from e o → AllSay s (side s.tables first o).events → OperandIs s from e (side s.tables first o).value
 unfolding side next gives
 side_means s known from e first o m said =
     let v = valued_means s known from e first o m (next_says s (valued s.tables first o) (λ v. gives (side_of first (type_in v))) said).0 in
     record { ty = v.ty; is = ap type_in v.is; value = v.value }
 
 -- an expression in parentheses
-pub parentheses_mean : (s : Source) → Tabled s → (from : Option ℕ) (e : Expression) (token first : ℕ) (o : Outcome) → Means true s from e o → AllSay s (in_parentheses s.tables first o).events
+pub parentheses_mean : (s : Source) → Tabled s → (from : Place) (e : Expression) (token first : ℕ) (o : Outcome) → Means true s from e o → AllSay s (in_parentheses s.tables first o).events
     → Means true s from (syntax.Parentheses token e) (in_parentheses s.tables first o).value
-unfolding in_parentheses next is_text own_result stream_of parenthesized gives value_of breaks telling
+unfolding in_parentheses next is_text result_meant stream_of parenthesized gives value_of breaks telling
 parentheses_mean s known from e token first o m said =
     let parts = next_says s (called s.tables o) (parenthesized first) said in
     go (called s.tables o).value (called_means s known from e o m parts.0) parts.1
   where
     inside : (o : Outcome) → Valued s from e o → Means true s from (syntax.Parentheses token e) o
-    inside o v = subst (λ z. Means true s from (syntax.Parentheses token e) z) (sym v.is) (record { proper = v.value.proper; texts = v.value.texts; stream = refl; value = v.value.value }, refl)
+    inside o v = subst (λ z. Means true s from (syntax.Parentheses token e) z) (sym v.is) (record { proper = v.value.proper; texts = v.value.texts; stream = refl; typed = v.value.typed; value = v.value.value }, refl)
 
     go : (o : Outcome) → Means false s from e o → AllSay s (parenthesized first o).events → Means true s from (syntax.Parentheses token e) (parenthesized first o).value
     go is.NoValue m said = tt
@@ -196,5 +168,5 @@ parentheses_mean s known from e token first o m said =
     go (is.Array ty) m said = absurd said.0
     go (is.Procedure d t own) m said = absurd m
     go (is.Standard name t) m said = absurd m
-    go is.Class m said = absurd m
+    go is.Class m said = absurd said.0
     go (is.Barred b) m said = absurd m

@@ -1,5 +1,5 @@
 -- How often a round tells what is at a token: at most once for each time that the token stands in the text.
-use Rattle.std.proofs.Common.{◌≡◌, ◌≤◌, ◌+◌, ℕ, Bool, true, false, List, [], ◌∷◌, ◌++◌, Option, Some, None, refl, sym, subst, append-nil, arith, if◌then◌else◌}
+use Rattle.std.proofs.Common.{◌≡◌, ◌≤◌, ◌+◌, ◌||◌, ℕ, Bool, true, false, List, [], ◌∷◌, ◌++◌, Option, Some, None, refl, sym, subst, append-nil, arith, if◌then◌else◌}
 use Rattle.std.specs.Prelude.{length, nat_eq}
 use Rattle.sim_base.specs.declared.rule.Rule.{Rule}
 use Rattle.sim_base.specs.declared.rule.Rule.TheVariants as r
@@ -30,55 +30,75 @@ use Rattle.sim_scope.specs.declared.types.FormalKind.TheVariants as shape
 use Rattle.sim_scope.specs.declared.types.SimType.{SimType}
 use Rattle.sim_scope.specs.declared.types.SimType.TheVariants as t
 use Rattle.sim_scope.specs.Actuals.{actual, array_actual, as_value, attribute_alone, barred_actual, barred_alone, fitting, has_value_alone, left_out, misfitting, more, parameter_at, passed_procedure, procedure_actual, standard_actual, unspecified_procedure, untyped, value_fits, with_actual}
-use Rattle.sim_scope.specs.Calls.{alone, applied, applied_untyped, attribute, attribute_by_value, attribute_count, attribute_found, attribute_in, attribute_missing, attribute_of_type, attribute_of_value, bound, declared_alone, declared_applied, element_of, formal_alone, formal_applied, found_as, is_barred, is_undotted, located, match_seen, misfitting_or, missing, own_undotted, parameter_count, procedure_alone, remote, remote_as, remote_at, remote_in, resulting, standard_applied, typed_if, used, used_as, used_in, used_or_barred, used_there}
+use Rattle.sim_scope.specs.Calls.{alone, applied, applied_untyped, attribute, attribute_by_value, attribute_count, attribute_found, attribute_in, attribute_missing, attribute_of_type, attribute_of_value, bound, declared_alone, declared_applied, element_of, formal_alone, formal_applied, found_as, is_barred, is_undotted, located, match_seen, misfitting_or, missing, occurs, own_undotted, parameter_count, procedure_alone, remote, remote_as, remote_at, remote_in, resulting, standard_applied, typed_if, used, used_as, used_in, used_or_barred, used_there}
 use Rattle.sim_scope.specs.Found.{Event, Broken, FoundIn, Typed, Uses}
 use Rattle.sim_scope.specs.Judged.{Judged, bars, gives, next, telling}
 use Rattle.sim_scope.specs.Levels.{class_block, has_classes}
 use Rattle.sim_scope.specs.Operators.{common_type, is_same, operands_fit}
 use Rattle.sim_scope.specs.Outcomes.{arms_fit, barred_called, breaks, call_of, called, fitted, has, in_common, in_parentheses, is_stream, one, parenthesized, procedure_called, side, side_of, signature_called, standard_called, three, two, type_in, type_wanted, types_fit, value_of, valued, varies, without_type}
+use Rattle.sim_scope.specs.References.{as_class, class_barred, class_compared, class_denoted, class_fits, class_named, class_type, class_value, declared_class, generated, generates, is_no_reference, is_nowhere as this_nowhere, is_only_prefix, member, new_object, new_of_class, no_class, only_prefix, other_chain, qualified, this_barred, this_block, this_fits, this_object, this_of_class, this_value, truth_of, wrong_number}
 use Rattle.sim_scope.specs.Scopes.{binding, entry_of, formals_of, found_in, is_passed_over}
 use Rattle.sim_scope.specs.Standard.{is_standard_class, signature, sysin_attribute, sysout_attribute, text_attribute, undeclared}
 use Rattle.sim_scope.specs.Tables.{Tables}
 use Rattle.sim_tree.specs.declared.expr.Identifier.{Identifier}
 use Rattle.sim_tree.specs.declared.operator.Operator.{Operator}
+use Rattle.sim_allowed.proofs.Nowhere.{is_nowhere, nowhere}
 
 abbrev pub here : ℕ → ℕ → ℕ
 here t i = if nat_eq t i then 1 else 0
 
--- of uses, or of types
-abbrev pub uses_at : (uses : Bool) → ℕ → ℕ → ℕ
-uses_at true t i = here t i
-uses_at false t i = 0
+-- what is told of a token: what it denotes, in which block that is found, or its type
+pub data About : Type 0 where
+  Use : About
+  Place : About
+  Kind : About
 
-abbrev pub types_at : (uses : Bool) → ℕ → ℕ → ℕ
-types_at true t i = 0
-types_at false t i = here t i
+abbrev pub uses_at : About → ℕ → ℕ → ℕ
+uses_at Use t i = here t i
+uses_at _ t i = 0
 
-abbrev pub tells : Bool → ℕ → Event → ℕ
+abbrev pub finds_at : About → ℕ → ℕ → ℕ
+finds_at Place t i = here t i
+finds_at _ t i = 0
+
+abbrev pub types_at : About → ℕ → ℕ → ℕ
+types_at Kind t i = here t i
+types_at _ t i = 0
+
+-- A use of what is found in no block tells that too.
+abbrev pub use_tells : About → (nowhere : Bool) → (t token : ℕ) → ℕ
+use_tells Use nowhere t token = here t token
+use_tells Place nowhere t token = if nowhere then here t token else 0
+use_tells Kind nowhere t token = 0
+
+abbrev pub tells : About → ℕ → Event → ℕ
 tells k t (Broken token rule) = 0
-tells k t (Uses token d) = uses_at k t token
-tells k t (FoundIn token block) = 0
+tells k t (Uses token d) = use_tells k (is_nowhere d) t token
+tells k t (FoundIn token block) = finds_at k t token
 tells k t (Typed token ty) = types_at k t token
 
 -- how often a list of events tells of a token
-unfoldable pub told : Bool → ℕ → List Event → ℕ
+unfoldable pub told : About → ℕ → List Event → ℕ
 told k t [] = 0
 told k t (e ∷ es) = tells k t e + told k t es
 
-pub told_both : (k : Bool) (t : ℕ) (xs ys : List Event) → told k t (xs ++ ys) ≡ told k t xs + told k t ys
+pub told_both : (k : About) (t : ℕ) (xs ys : List Event) → told k t (xs ++ ys) ≡ told k t xs + told k t ys
 unfolding told
 told_both k t [] ys = omega arith
 told_both k t (x ∷ xs) ys = let d = told_both k t xs ys in omega (arith, d)
 
--- nothing is told; the type at a token at most; the use at a token at most
+-- nothing is told; the type at a token at most; the use at a token and where it is found; where it is found and its type
 unfoldable pub Silent : List Event → Type 0
-Silent es = (k : Bool) (t : ℕ) → told k t es ≡ 0
+Silent es = (k : About) (t : ℕ) → told k t es ≡ 0
 
 unfoldable pub Typing : ℕ → List Event → Type 0
-Typing i es = (k : Bool) (t : ℕ) → told k t es ≤ types_at k t i
+Typing i es = (k : About) (t : ℕ) → told k t es ≤ types_at k t i
 
-unfoldable pub Using : ℕ → List Event → Type 0
-Using i es = (k : Bool) (t : ℕ) → told k t es ≤ uses_at k t i
+unfoldable pub Binding : ℕ → List Event → Type 0
+Binding i es = (k : About) (t : ℕ) → told k t es ≤ uses_at k t i + finds_at k t i
+
+unfoldable pub Meaning : ℕ → List Event → Type 0
+Meaning i es = (k : About) (t : ℕ) → told k t es ≤ finds_at k t i + types_at k t i
 
 pub silent_none : Silent []
 unfolding Silent told
@@ -109,13 +129,25 @@ pub typing_one : (i : ℕ) (ty : SimType) → Typing i (Typed i ty ∷ [])
 unfolding Typing told
 typing_one i ty k t = omega arith
 
-pub using_silent : (i : ℕ) (es : List Event) → Silent es → Using i es
-unfolding Silent Using
-using_silent i es h k t = let a = h k t in omega (arith, a)
+pub binding_silent : (i : ℕ) (es : List Event) → Silent es → Binding i es
+unfolding Silent Binding
+binding_silent i es h k t = let a = h k t in omega (arith, a)
 
-pub using_one : (i : ℕ) (d : Denotation) → Using i (Uses i d ∷ [])
-unfolding Using told
-using_one i d k t = omega arith
+use_binds : (k : About) (b : Bool) (t i : ℕ) → use_tells k b t i ≤ uses_at k t i + finds_at k t i
+use_binds Use b t i = omega arith
+use_binds Place true t i = omega arith
+use_binds Place false t i = omega arith
+use_binds Kind b t i = omega arith
+
+-- of what may be found in a block
+use_alone : (k : About) (t i : ℕ) → use_tells k false t i ≤ uses_at k t i
+use_alone Use t i = omega arith
+use_alone Place t i = omega arith
+use_alone Kind t i = omega arith
+
+pub binding_one : (i : ℕ) (d : Denotation) → Binding i (Uses i d ∷ [])
+unfolding Binding told
+binding_one i d k t = let a = use_binds k (is_nowhere d) t i in omega (arith, a)
 
 -- ---- values
 
@@ -268,80 +300,90 @@ three_types s i x y z = go x.ty y.ty z.ty
 
 -- ---- identifiers
 
-located_silent : (token : ℕ) (block : Option ℕ) → Silent (located token block).events
-unfolding located gives telling Silent told
-located_silent token None k t = refl
-located_silent token (Some block) k t = refl
+-- where an identifier is found
+found_once : (token : ℕ) (block : Option ℕ) (k : About) (t : ℕ) → told k t (located token block).events ≤ finds_at k t token
+unfolding located gives telling told
+found_once token None k t = omega arith
+found_once token (Some block) k t = omega arith
 
-after_silent : (i : ℕ) (xs ys : List Event) → Silent xs → Using i ys → Using i (xs ++ ys)
-unfolding Silent Using
-after_silent i xs ys h j k t = let a = told_both k t xs ys in let b = h k t in let c = j k t in omega (arith, a, b, c)
+found_and_used : (i block : ℕ) (d : Denotation) → is_nowhere d ≡ false → Binding i (FoundIn i block ∷ (Uses i d ∷ []))
+unfolding Binding told
+found_and_used i block d found k t = let a = subst (λ z. use_tells k z t i ≤ uses_at k t i) (sym found) (use_alone k t i) in omega (arith, a)
 
-pub bound_uses : (s : Tables) (x : Extent) (name : Identifier) → Using name.token.0 (bound s x name).events
-unfolding bound used_in next telling
-bound_uses s x name = go (binding s name.token.0 name.name)
-  where
-    barred : (d : Denotation) (b : Bool) → Using name.token.0 (used_or_barred name.token.0 d b).events
-    barred d true = using_silent name.token.0 (Broken name.token.0 r.BoundDependsOnItsBlock ∷ []) (silent_break name.token.0 r.BoundDependsOnItsBlock)
-    barred d false = using_one name.token.0 d
-
-    go : (o : Option Denotation) → Using name.token.0 (found_as s x name.token.0 name.name o).events
-    go None = using_silent name.token.0 (Broken name.token.0 (missing (is_passed_over s name.token.0 name.name) name.name) ∷ []) (silent_break name.token.0 (missing (is_passed_over s name.token.0 name.name) name.name))
-    go (Some d) =
-        after_silent name.token.0 (located name.token.0 (found_in s name.token.0 name.name)).events (used_or_barred name.token.0 d (is_barred s x name.token.0 d)).events
-        (located_silent name.token.0 (found_in s name.token.0 name.name)) (barred d (is_barred s x name.token.0 d))
-
-attribute_uses_found : (x : Identifier) (o : Option StandardName) → Using x.token.0 (attribute_found x o).events
+used_or_barred_binds : (token : ℕ) (d : Denotation) (b : Bool) → Binding token (used_or_barred token d b).events
 unfolding telling
-attribute_uses_found x None = using_silent x.token.0 (Broken x.token.0 (undeclared x.name) ∷ []) (silent_break x.token.0 (undeclared x.name))
-attribute_uses_found x (Some name) = using_one x.token.0 (denotation.Standard name)
+used_or_barred_binds token d true = binding_silent token (Broken token r.BoundDependsOnItsBlock ∷ []) (silent_break token r.BoundDependsOnItsBlock)
+used_or_barred_binds token d false = binding_one token d
 
-silent_then_using : (i : ℕ) (xs ys : List Event) → Silent xs → Using i ys → Using i (xs ++ ys)
-unfolding Silent Using
-silent_then_using i xs ys h j k t = let a = told_both k t xs ys in let b = h k t in let c = j k t in omega (arith, a, b, c)
+found_only : (i block : ℕ) (rule : Rule) → Binding i (FoundIn i block ∷ (Broken i rule ∷ []))
+unfolding Binding told
+found_only i block rule k t = omega arith
 
-using_then_silent : (i : ℕ) (xs ys : List Event) → Using i xs → Silent ys → Using i (xs ++ ys)
-unfolding Silent Using
-using_then_silent i xs ys h j k t = let a = told_both k t xs ys in let b = h k t in let c = j k t in omega (arith, a, b, c)
+pub used_in_binds : (token : ℕ) (block : Option ℕ) (d : Denotation) (b : Bool) → (is_nowhere d ≡ true → block ≡ None) → Binding token (used_in token block d b).events
+unfolding used_in next located gives telling
+used_in_binds token None d b nowhere = used_or_barred_binds token d b
+used_in_binds token (Some block) d true nowhere = found_only token block r.BoundDependsOnItsBlock
+used_in_binds token (Some block) d false nowhere = go (is_nowhere d) refl
+  where
+    go : (g : Bool) → is_nowhere d ≡ g → Binding token (FoundIn token block ∷ (Uses token d ∷ []))
+    go true is = let none : Some block ≡ None = nowhere is in absurd (cc)
+    go false is = found_and_used token block d is
 
-remote_uses : (s : Tables) (e : Extent) (x : Identifier) (class : _) → Using x.token.0 (remote s e x class).events
+pub bound_binds : (s : Tables) (x : Extent) (name : Identifier) → Binding name.token.0 (bound s x name).events
+unfolding bound telling
+bound_binds s x name = go (binding s name.token.0 name.name) refl
+  where
+    go : (o : Option Denotation) → binding s name.token.0 name.name ≡ o → Binding name.token.0 (found_as s x name.token.0 name.name o).events
+    go None e = binding_silent name.token.0 (Broken name.token.0 (missing (is_passed_over s name.token.0 name.name) name.name) ∷ []) (silent_break name.token.0 (missing (is_passed_over s name.token.0 name.name) name.name))
+    go (Some d) e = used_in_binds name.token.0 (found_in s name.token.0 name.name) d (is_barred s x name.token.0 d) (λ is. nowhere s name.token.0 name.name d e is)
+
+attribute_uses_found : (x : Identifier) (o : Option StandardName) → Binding x.token.0 (attribute_found x o).events
+unfolding telling
+attribute_uses_found x None = binding_silent x.token.0 (Broken x.token.0 (undeclared x.name) ∷ []) (silent_break x.token.0 (undeclared x.name))
+attribute_uses_found x (Some name) = binding_one x.token.0 (denotation.Standard name)
+
+silent_then_binding : (i : ℕ) (xs ys : List Event) → Silent xs → Binding i ys → Binding i (xs ++ ys)
+unfolding Silent Binding
+silent_then_binding i xs ys h j k t = let a = told_both k t xs ys in let b = h k t in let c = j k t in omega (arith, a, b, c)
+
+pub binding_then_silent : (i : ℕ) (xs ys : List Event) → Binding i xs → Silent ys → Binding i (xs ++ ys)
+unfolding Silent Binding
+binding_then_silent i xs ys h j k t = let a = told_both k t xs ys in let b = h k t in let c = j k t in omega (arith, a, b, c)
+
+remote_uses : (s : Tables) (e : Extent) (x : Identifier) (class : _) → Binding x.token.0 (remote s e x class).events
 unfolding remote telling gives next
 remote_uses s e x class = go (class_block s class)
   where
-    barred : (d : Denotation) (b : Bool) → Using x.token.0 (used_or_barred x.token.0 d b).events
-    barred d true = using_silent x.token.0 (Broken x.token.0 r.BoundDependsOnItsBlock ∷ []) (silent_break x.token.0 r.BoundDependsOnItsBlock)
-    barred d false = using_one x.token.0 d
+    found_in : (block : ℕ) (o : Option Denotation) → Binding x.token.0 (remote_as s e x block o).events
+    found_in block None = binding_silent x.token.0 (Broken x.token.0 (attribute_missing s block x) ∷ []) (silent_break x.token.0 (attribute_missing s block x))
+    found_in block (Some d) = used_or_barred_binds x.token.0 d (is_barred s e x.token.0 d)
 
-    found_in : (block : ℕ) (o : Option Denotation) → Using x.token.0 (remote_as s e x block o).events
-    found_in block None = using_silent x.token.0 (Broken x.token.0 (attribute_missing s block x) ∷ []) (silent_break x.token.0 (attribute_missing s block x))
-    found_in block (Some d) = barred d (is_barred s e x.token.0 d)
-
-    there : (block : ℕ) (b : Bool) → Using x.token.0 (remote_at s e x block b).events
+    there : (block : ℕ) (b : Bool) → Binding x.token.0 (remote_at s e x block b).events
     there block b =
-        using_then_silent x.token.0 (remote_as s e x block (attribute_in s x.token.0 block x.name)).events [] (found_in block (attribute_in s x.token.0 block x.name)) silent_none
+        binding_then_silent x.token.0 (remote_as s e x block (attribute_in s x.token.0 block x.name)).events [] (found_in block (attribute_in s x.token.0 block x.name)) silent_none
 
-    go : (o : Option ℕ) → Using x.token.0 (remote_in s e x o).events
-    go None = using_silent x.token.0 [] silent_none
+    go : (o : Option ℕ) → Binding x.token.0 (remote_in s e x o).events
+    go None = binding_silent x.token.0 [] silent_none
     go (Some block) =
         let class = bars (has_classes s block) x.token.0 r.ClassWithClasses in
-        silent_then_using x.token.0 class.events (remote_at s e x block class.value).events (bars_silent (has_classes s block) x.token.0 r.ClassWithClasses) (there block class.value)
+        silent_then_binding x.token.0 class.events (remote_at s e x block class.value).events (bars_silent (has_classes s block) x.token.0 r.ClassWithClasses) (there block class.value)
 
-attribute_uses_type : (s : Tables) (e : Extent) (x : Identifier) (first : ℕ) (ty : Option SimType) → Using x.token.0 (attribute_of_type s e x first ty).events
+attribute_uses_type : (s : Tables) (e : Extent) (x : Identifier) (first : ℕ) (ty : Option SimType) → Binding x.token.0 (attribute_of_type s e x first ty).events
 unfolding telling gives
 attribute_uses_type s e x first (Some t.Text) = attribute_uses_found x (text_attribute x.name)
-attribute_uses_type s e x first None = using_silent x.token.0 [] silent_none
+attribute_uses_type s e x first None = binding_silent x.token.0 [] silent_none
 attribute_uses_type s e x first (Some (t.Ref class)) = remote_uses s e x class
 attribute_uses_type s e x first (Some t.NoneType) = attribute_uses_found x None
-attribute_uses_type s e x first (Some t.Integer) = using_silent x.token.0 (Broken first r.WrongType ∷ []) (silent_break first r.WrongType)
-attribute_uses_type s e x first (Some t.Boolean) = using_silent x.token.0 (Broken first r.WrongType ∷ []) (silent_break first r.WrongType)
-attribute_uses_type s e x first (Some t.Character) = using_silent x.token.0 (Broken first r.WrongType ∷ []) (silent_break first r.WrongType)
+attribute_uses_type s e x first (Some t.Integer) = binding_silent x.token.0 (Broken first r.WrongType ∷ []) (silent_break first r.WrongType)
+attribute_uses_type s e x first (Some t.Boolean) = binding_silent x.token.0 (Broken first r.WrongType ∷ []) (silent_break first r.WrongType)
+attribute_uses_type s e x first (Some t.Character) = binding_silent x.token.0 (Broken first r.WrongType ∷ []) (silent_break first r.WrongType)
 
-attribute_uses_value : (s : Tables) (e : Extent) (x : Identifier) (first : ℕ) (o : Outcome) → Using x.token.0 (attribute_by_value s e x first o).events
+attribute_uses_value : (s : Tables) (e : Extent) (x : Identifier) (first : ℕ) (o : Outcome) → Binding x.token.0 (attribute_by_value s e x first o).events
 unfolding attribute_by_value next attribute_of_value
 attribute_uses_value s e x first o =
-    silent_then_using x.token.0 (side s first o).events (attribute_of_value s e x (side s first o).value).events (side_silent s first o) (attribute_uses_type s e x (side s first o).value.first.0 (side s first o).value.ty)
+    silent_then_binding x.token.0 (side s first o).events (attribute_of_value s e x (side s first o).value).events (side_silent s first o) (attribute_uses_type s e x (side s first o).value.first.0 (side s first o).value.ty)
 
-pub attribute_uses : (s : Tables) (e : Extent) (x : Identifier) (first : ℕ) (o : Outcome) → Using x.token.0 (attribute s e x first o).events
+pub attribute_uses : (s : Tables) (e : Extent) (x : Identifier) (first : ℕ) (o : Outcome) → Binding x.token.0 (attribute s e x first o).events
 unfolding attribute
 attribute_uses s e x first (is.Standard found.Sysin token) = attribute_uses_found x (sysin_attribute x.name)
 attribute_uses s e x first (is.Standard found.Sysout token) = attribute_uses_found x (sysout_attribute x.name)
@@ -485,6 +527,131 @@ module _ (s : Tables) (naming : ℕ) (x : Identifier) where
       go None b = no_types
       go (Some d) false = used_as_types d a
       go (Some d) true = typing_more (used_as s naming x d a).events (used_as_types d a)
+
+-- ---- classes
+
+silent_then_typing : (i : ℕ) (xs ys : List Event) → Silent xs → Typing i ys → Typing i (xs ++ ys)
+unfolding Silent Typing
+silent_then_typing i xs ys h j k t = let a = told_both k t xs ys in let b = h k t in let c = j k t in omega (arith, a, b, c)
+
+no_class_silent : (token : ℕ) → Silent (no_class token).events
+unfolding telling
+no_class_silent token = silent_break token r.WrongKind
+
+as_class_silent : (s : Tables) (token : ℕ) (o : Occurrence) → Silent (as_class s token o).events
+unfolding as_class gives
+as_class_silent s token o = go o.denotes
+  where
+    declared : (d : _) (o' : Option ℕ) → Silent (declared_class token d o.barred o').events
+    declared d None = no_class_silent token
+    declared d (Some block) = silent_none
+
+    standard : (name : StandardName) (b : Bool) → Silent (if b then gives (occurs (Some (denotation.Standard name)) o.barred) else no_class token).events
+    standard name true = silent_none
+    standard name false = no_class_silent token
+
+    go : (d : Option Denotation) → Silent (class_denoted s token d o.barred).events
+    go None = silent_none
+    go (Some (denotation.Declared d)) = declared d (class_block s d)
+    go (Some (denotation.Standard name)) = standard name (is_standard_class name)
+
+pub class_binds : (s : Tables) (x : Extent) (class : Identifier) → Binding class.token.0 (class_named s x class).events
+unfolding class_named next
+class_binds s x class =
+    binding_then_silent class.token.0 (bound s x class).events (as_class s class.token.0 (bound s x class).value).events (bound_binds s x class) (as_class_silent s class.token.0 (bound s x class).value)
+
+pub class_fits_silent : (s : Tables) (token : ℕ) (class : Option Denotation) (ty : Option SimType) → Silent (class_fits s token class ty).events
+unfolding class_fits gives
+class_fits_silent s token class ty =
+    let one = bars (other_chain s class ty) token r.DifferentChains in
+    let two = bars (only_prefix s class) token r.OnlyForPrefixing in
+    silent_next one (λ a. next two (λ b. gives (a || b))) (bars_silent (other_chain s class ty) token r.DifferentChains)
+    (silent_next two (λ b. gives (one.value || b)) (bars_silent (only_prefix s class) token r.OnlyForPrefixing) silent_none)
+
+-- `is`, `in` and `qua`
+compared_types : (s : Tables) (naming : ℕ) (x : Side) (token : ℕ) (o : Occurrence) (type : Denotation → SimType) → Typing naming (class_compared s naming x token o type).events
+unfolding gives next has telling
+compared_types s naming x token o type =
+    silent_then_typing naming (class_barred s x token o).events (class_value naming (class_barred s x token o).value x.ty o.denotes type).events
+    (silent_next (bars (is_no_reference x.ty) x.first.0 r.WrongType) (λ a. next (class_fits s token o.denotes x.ty) (λ b. gives (a || b || o.barred))) (bars_silent (is_no_reference x.ty) x.first.0 r.WrongType)
+    (silent_next (class_fits s token o.denotes x.ty) (λ b. gives ((bars (is_no_reference x.ty) x.first.0 r.WrongType).value || b || o.barred)) (class_fits_silent s token o.denotes x.ty) silent_none))
+    (value (class_barred s x token o).value x.ty o.denotes)
+  where
+    value : (b : Bool) (ty : Option SimType) (d : Option Denotation) → Typing naming (class_value naming b ty d type).events
+    value false (Some ty) (Some d) = typing_one naming (type d)
+    value false None d = typing_silent naming [] silent_none
+    value false (Some ty) None = typing_silent naming [] silent_none
+    value true ty d = typing_silent naming [] silent_none
+
+pub member_types : (s : Tables) (naming : ℕ) (x : Side) (class : Identifier) (o : Occurrence) → Typing naming (member s naming x class o).events
+unfolding member
+member_types s naming x class o = compared_types s naming x class.token.0 o truth_of
+
+pub qualified_types : (s : Tables) (naming : ℕ) (x : Side) (class : Identifier) (o : Occurrence) → Typing naming (qualified s naming x class o).events
+unfolding qualified
+qualified_types s naming x class o = compared_types s naming x class.token.0 o class_type
+
+-- `this`
+found_and_typed : (i : ℕ) (block : Option ℕ) (ys : List Event) → Typing i ys → Meaning i ((located i block).events ++ ys)
+unfolding Typing Meaning
+found_and_typed i block ys j k t =
+    let a = told_both k t (located i block).events ys in let b = found_once i block k t in let c = j k t in omega (arith, a, b, c)
+
+pub this_means : (s : Tables) (x : Extent) (naming : ℕ) (class : Identifier) (o : Occurrence) → Meaning naming (this_object s x naming class o).events
+unfolding this_object this_fits gives next has telling Meaning Silent
+this_means s x naming class o = go o.denotes
+  where
+    token : ℕ
+    token = class.token.0
+
+    fits : (d : Denotation) (block : Option ℕ) → Silent (this_fits s x token d block).events
+    fits d block =
+        let one = bars (this_nowhere block) token r.ThisOutsideItsClass in
+        let two = bars (is_only_prefix s d) token r.OnlyForPrefixing in
+        let three = bars (this_barred s x token block) token r.BoundDependsOnItsBlock in
+        silent_next one (λ a. next two (λ b. next three (λ c. gives (a || b || c)))) (bars_silent (this_nowhere block) token r.ThisOutsideItsClass)
+        (silent_next two (λ b. next three (λ c. gives (one.value || b || c))) (bars_silent (is_only_prefix s d) token r.OnlyForPrefixing)
+        (silent_next three (λ c. gives (one.value || two.value || c)) (bars_silent (this_barred s x token block) token r.BoundDependsOnItsBlock) silent_none))
+
+    value : (d : Denotation) (b : Bool) → Typing naming (this_value naming d b).events
+    value d true = typing_silent naming [] silent_none
+    value d false = typing_one naming (class_type d)
+
+    go : (d : Option Denotation) → Meaning naming (this_of_class s x naming token d o.barred).events
+    go None k t = let a = silent_none k t in omega (arith, a)
+    go (Some d) k t =
+        let block = this_block s token d in
+        found_and_typed naming block ((this_fits s x token d block).events ++ (this_value naming d ((this_fits s x token d block).value || o.barred)).events)
+        (silent_then_typing naming (this_fits s x token d block).events (this_value naming d ((this_fits s x token d block).value || o.barred)).events (fits d block) (value d ((this_fits s x token d block).value || o.barred))) k t
+
+-- `new`
+pub new_types : (s : Tables) (naming : ℕ) (class : Identifier) (o : Occurrence) (a : Actuals) → Typing naming (new_object s naming class o a).events
+unfolding new_object gives next telling breaks
+new_types s naming class o a = go o.denotes
+  where
+    token : ℕ
+    token = class.token.0
+
+    misfit : (m : Option Fault) (ty : SimType) → Typing naming (misfitting_or m (generates naming ty)).events
+    misfit None ty = typing_one naming ty
+    misfit (Some f) ty = typing_silent naming (Broken f.token.0 f.rule ∷ []) (silent_break f.token.0 f.rule)
+
+    made : (d : Denotation) (b c : Bool) → Typing naming (if b then gives is.Refused else (if c then misfitting_or a.misfit (generates naming (class_type d)) else gives is.Refused)).events
+    made d true c = typing_silent naming [] silent_none
+    made d false true = misfit a.misfit (class_type d)
+    made d false false = typing_silent naming [] silent_none
+
+    generated_types : (d : Denotation) (b : Bool) → Typing naming (generated naming d a b).events
+    generated_types d true = made d true true
+    generated_types d false = made d false a.typed
+
+    go : (d : Option Denotation) → Typing naming (new_of_class s naming token d o.barred a).events
+    go None = typing_silent naming [] silent_none
+    go (Some d) =
+        let one = bars (wrong_number s d a) token r.WrongNumber in
+        let two = bars (is_only_prefix s d) token r.OnlyForPrefixing in
+        silent_then_typing naming one.events (two.events ++ (generated naming d a (one.value || two.value || o.barred)).events) (bars_silent (wrong_number s d a) token r.WrongNumber)
+        (silent_then_typing naming two.events (generated naming d a (one.value || two.value || o.barred)).events (bars_silent (is_only_prefix s d) token r.OnlyForPrefixing) (generated_types d (one.value || two.value || o.barred)))
 
 -- ---- actuals
 

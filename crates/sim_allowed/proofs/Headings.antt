@@ -1,4 +1,4 @@
--- The formal parameters of a procedure, as the rules and as the meaning count them.
+-- The formal parameters of a procedure or a class, as the rules and as the meaning count them.
 use Rattle.std.proofs.Common.{◌≡◌, ℕ, zero, suc, List, [], ◌∷◌, length, Option, Some, None, refl, sym, ap, ◌∙◌, subst}
 use Rattle.std.specs.Prelude.{slice_get, take}
 use Rattle.sim_base.specs.declared.numbering.DeclNo.{DeclNo}
@@ -6,9 +6,10 @@ use Rattle.sim_scope.specs.declared.types.Entry.{Entry}
 use Rattle.sim_scope.specs.declared.types.Entry.TheVariants as entry
 use Rattle.sim_scope.specs.declared.types.Formal.{Formal}
 use Rattle.sim_scope.specs.declared.types.SimType.{SimType}
-use Rattle.sim_scope.specs.Scopes.{block_in, entry_of, formal_declared, formal_in, formal_of, formals_at, formals_in, formals_of}
+use Rattle.sim_scope.specs.Scopes.{block_in, class_formal, class_formals, entry_of, formal_declared, formal_in, formal_of, formals_at, formals_in, formals_of}
 use Rattle.sim_scope.specs.Source.{Source}
 use Rattle.sim_scope.specs.Tables.{BlockOf}
+use Rattle.sim_meaning.specs.Closing.{class_parameters}
 use Rattle.sim_meaning.specs.Entries.{formal_before, formals_from, numbers_in}
 use Rattle.sim_meaning.specs.Entries.{formals_of as meant_formals}
 use Rattle.sim_sound.specs.Typed.{FormalsAre}
@@ -50,11 +51,11 @@ same_place s (d ∷ ds) (f ∷ fs) zero a = go (entry_of s.tables d) a.0
     go o e = subst (λ z. formal_in z ≡ Some f) (sym e) refl
 same_place s (d ∷ ds) (f ∷ fs) (suc place) a = same_place s ds fs place a.1
 
-abbrev pub AllProper : List Formal → Type 0
-AllProper [] = Unit {0}
-AllProper (f ∷ fs) = ProperFormal f.mode f.kind f.ty × AllProper fs
+abbrev pub AllProper : Source → List Formal → Type 0
+AllProper s [] = Unit {0}
+AllProper s (f ∷ fs) = ProperFormal s f.mode f.kind f.ty × AllProper s fs
 
-all_proper : (s : Source) → Tabled s → (ds : List DeclNo) (fs : List Formal) → Listed s ds fs → AllProper fs
+all_proper : (s : Source) → Tabled s → (ds : List DeclNo) (fs : List Formal) → Listed s ds fs → AllProper s fs
 all_proper s known [] [] a = tt
 all_proper s known [] (f ∷ fs) a = absurd a
 all_proper s known (d ∷ ds) [] a = absurd a
@@ -64,7 +65,7 @@ all_proper s known (d ∷ ds) (f ∷ fs) a = (known.proper d (entry.Formal f) a.
 pub record HeadingIs (s : Source) (d : DeclNo) (k : ℕ) : Type 0 where
   pub count : length (formals_of s.tables d) ≡ length (meant_formals s k)
   pub places : (place : ℕ) → formal_of s.tables d place ≡ slice_get (meant_formals s k) place
-  pub proper : AllProper (meant_formals s k)
+  pub proper : AllProper s (meant_formals s k)
 
 in_block : (s : Source) (k : ℕ) (row : Option BlockOf) → slice_get s.tables.blocks k ≡ row → meant_formals s k ≡ formals_from s (formals_in row)
 in_block s k None e = rw e refl
@@ -86,5 +87,27 @@ heading s known d result k e =
     record {
       count = ap length at ∙ same_length s ds fs both ∙ ap length (sym meant);
       places = λ place. ap (λ z. formal_declared s.tables (slice_get z place)) at ∙ same_place s ds fs place both ∙ ap (λ z. slice_get z place) (sym meant);
-      proper = subst AllProper (sym meant) (all_proper s known ds fs both);
+      proper = subst (AllProper s) (sym meant) (all_proper s known ds fs both);
     }
+
+-- ---- those of a class
+
+all_listed : (s : Source) (ds : List DeclNo) (fs : List Formal) → FormalsAre s ds fs → Listed s ds fs
+all_listed s [] [] a = tt
+all_listed s [] (f ∷ fs) a = absurd a
+all_listed s (d ∷ ds) [] a = absurd a
+all_listed s (d ∷ ds) (f ∷ fs) a = (a.1, all_listed s ds fs a.3)
+
+-- the heading of a class
+pub record ClassHeading (s : Source) (k : ℕ) : Type 0 where
+  pub count : length (class_formals s.tables k) ≡ length (class_parameters s (Some k))
+  pub places : (place : ℕ) → class_formal s.tables k place ≡ slice_get (class_parameters s (Some k)) place
+  pub proper : AllProper s (class_parameters s (Some k))
+
+pub class_heading : (s : Source) → Tabled s → (d : DeclNo) (k : ℕ) → entry_of s.tables d ≡ Some (entry.Class k) → ClassHeading s k
+unfolding class_formal
+class_heading s known d k e =
+    let ds = class_formals s.tables k in
+    let fs = class_parameters s (Some k) in
+    let both = all_listed s ds fs (known.class_headings d k e) in
+    record { count = same_length s ds fs both; places = λ place. same_place s ds fs place both; proper = all_proper s known ds fs both }

@@ -1,80 +1,100 @@
 -- What the outcome of an expression says of it.
 use Rattle.std.proofs.Common.{◌≡◌, ℕ, Bool, true, false, Option, Some, None}
 use Rattle.sim_base.specs.declared.numbering.DeclNo.{DeclNo}
-use Rattle.sim_base.specs.declared.numbering.TokenNo.{TokenNo}
 use Rattle.sim_scope.specs.declared.outcome.Outcome.{Outcome}
 use Rattle.sim_scope.specs.declared.outcome.Outcome.TheVariants as is
-use Rattle.sim_scope.specs.declared.scopes.Denotation.TheVariants as denotation
 use Rattle.sim_scope.specs.declared.standard.StandardName.{StandardName}
 use Rattle.sim_scope.specs.declared.types.Entry.TheVariants as entry
 use Rattle.sim_scope.specs.declared.types.SimType.{SimType}
-use Rattle.sim_scope.specs.Calls.{if_own, is_inside}
+use Rattle.sim_scope.specs.declared.types.SimType.TheVariants as t
 use Rattle.sim_scope.specs.Outcomes.{is_stream}
 use Rattle.sim_scope.specs.Scopes.{entry_of}
-use Rattle.sim_scope.specs.Source.{Source, block_of, denoted}
+use Rattle.sim_scope.specs.Source.{Source, denoted, type_at}
 use Rattle.sim_scope.specs.Standard.{signature}
-use Rattle.sim_tree.specs.declared.expr.Identifier.{Identifier}
 use Rattle.sim_tree.specs.Syntax.{Expression, NoMore}
 use Rattle.sim_tree.specs.Syntax as syntax
-use Rattle.sim_values.specs.declared.kind.Kind.TheVariants as kind
-use Rattle.sim_meaning.specs.Closing.{is_text, is_text_type, own_result, stream_of}
+use Rattle.sim_meaning.specs.Attributes.{connection_at}
+use Rattle.sim_meaning.specs.Closing.{is_text, is_text_type, result_meant, stream_of, typed_token}
+use Rattle.sim_meaning.specs.Entries.{formals_of}
 use Rattle.sim_meaning.specs.Names.{stream_named}
 use Rattle.sim_meaning.specs.Statements.{leaves}
-use Rattle.sim_meaning.specs.Texts.{kind_of_type}
-use Rattle.sim_sound.specs.Typed.{ActualsFit, AreIntegers, AreOf, ArrayOf, DotGives, ExprIs, Holds, LeftIs, NamedGives, Sees, Simply, is_given}
+use Rattle.sim_sound.specs.Held.{ArrayOf, Fits, Holds, In, InBound, Place, Refers, Simply, held_by}
+use Rattle.sim_sound.specs.Expressions.{ActualsFit, AreIntegers, AreOf, DotGives, ExprIs, IsReference, NamedGives}
+use Rattle.sim_sound.specs.Statements.{LeftIs, PlaceIs, ResultIs, is_given}
 use Rattle.sim_agree.specs.Facts.{ProperType}
-use Rattle.sim_allowed.proofs.Names.{given_by}
+use Rattle.sim_values.specs.declared.kind.Kind.TheVariants as kind
+
+-- the types of values: those of variables, and that of `none`
+abbrev pub ValueType : Source → SimType → Type 0
+ValueType s t.NoneType = Unit {0}
+ValueType s type = ProperType s type
+
+-- what may stand where a value of a type does: `none` is a reference with each qualification
+abbrev pub Takes : Source → SimType → Holds → Type 0
+Takes s t.NoneType h = IsReference h
+Takes s type h = Fits s (held_by s type) h
 
 -- a value of a type
-pub record ValueIs (s : Source) (from : Option ℕ) (e : Expression) (ty : SimType) : Type 0 where
-  pub proper : ProperType ty
-  pub texts : is_text s e ≡ is_text_type (Some ty)
+pub record ValueIs (s : Source) (from : Place) (e : Expression) (type : SimType) : Type 0 where
+  pub proper : ValueType s type
+  pub texts : is_text s e ≡ is_text_type (Some type)
   pub stream : stream_of s e ≡ None
-  pub value : ExprIs s from e (Simply (kind_of_type ty))
+  pub typed : type_at s (typed_token e) ≡ Some type
+  pub value : (h : Holds) → Takes s type h → ExprIs s from e h
 
--- a call, which gives this
-abbrev pub CallsFor : Source → Option ℕ → Expression → Option Holds → Type 0
-CallsFor s from (syntax.Named name es) h =
-    NamedGives s from (denoted s name.token.0) es (AreIntegers s from es) (λ ks. AreOf s from es ks) (λ fs. ActualsFit s from es fs) h × (leaves s (syntax.Named name es) ≡ is_given h)
-CallsFor s from (syntax.Dot token a name es) h =
-    DotGives (denoted s name.token.0) (stream_of s a) (ExprIs s from a (Simply kind.Text)) (λ ks. AreOf s from es ks) h × (leaves s (syntax.Dot token a name es) ≡ is_given h)
-CallsFor s from _ h = ⊥
+-- what a call gives
+abbrev pub CallGiven : Source → Place → Expression → Option Holds → Type 0
+CallGiven s from (syntax.Named name es) h =
+    NamedGives s from (connection_at s name.token.0) (denoted s name.token.0) es (AreIntegers s from es) (λ ks. AreOf s from es ks) (λ fs. ActualsFit s from es fs) h × (leaves s (syntax.Named name es) ≡ is_given h)
+CallGiven s from (syntax.Dot token a name es) h =
+    DotGives s (denoted s name.token.0) (stream_of s a) (ExprIs s from a (Simply kind.Text)) (λ c. ExprIs s from a (Refers c)) es (AreIntegers s from es) (λ ks. AreOf s from es ks) (λ fs. ActualsFit s from es fs) h
+    × (leaves s (syntax.Dot token a name es) ≡ is_given h)
+CallGiven s from _ h = ⊥
+
+-- a call with a result of this type, or without one
+abbrev pub CallsFor : Source → Place → Expression → Option SimType → Type 0
+CallsFor s from (syntax.New token class es) (Some type) = (h : Holds) → Takes s type h → ExprIs s from (syntax.New token class es) h
+CallsFor s from e None = CallGiven s from e None
+CallsFor s from e (Some type) = (h : Holds) → Takes s type h → CallGiven s from e (Some h)
 
 -- a variable, which may be a left side
-abbrev pub Varies : Source → Option ℕ → Expression → SimType → Type 0
-Varies s None e ty = Unit {0}
-Varies s (Some t) e ty = LeftIs s t e (kind_of_type ty)
+abbrev pub Varies : Source → Place → Expression → SimType → Type 0
+Varies s (InBound t) e type = Unit {0}
+Varies s (In t) e type = PlaceIs s t e (held_by s type)
 
 -- it is not the result of the procedure in whose text it stands
 abbrev pub Unowned : (alone : Bool) → Source → Expression → Type 0
-Unowned true s e = own_result s e ≡ None
+Unowned true s e = result_meant s e ≡ None
 Unowned false s e = Unit {0}
 
 -- what is known of a type that an expression may have
 abbrev pub TypeThere : Source → Expression → Option SimType → Type 0
 TypeThere s e None = Unit {0}
-TypeThere s e (Some ty) = ProperType ty × (is_text s e ≡ is_text_type (Some ty)) × (stream_of s e ≡ None)
+TypeThere s e (Some type) = ProperType s type × (is_text s e ≡ is_text_type (Some type)) × (stream_of s e ≡ None) × (type_at s (typed_token e) ≡ Some type)
+
+-- an expression from the inside of the text of a procedure, as a left side
+abbrev pub OwnResult : Source → Place → Expression → (own : Option DeclNo) → DeclNo → (result : Option SimType) → (block : ℕ) → Type 0
+OwnResult s from e None d result block = result_meant s e ≡ None
+OwnResult s (InBound t) e (Some q) d result block = q ≡ d
+OwnResult s (In t) e (Some q) d result block = (q ≡ d) × (result_meant s e ≡ Some block) × ((type : SimType) → result ≡ Some type → LeftIs s t e (held_by s type) × ResultIs s t block (held_by s type))
 
 -- the identifier of a procedure alone
-pub record ProcedureIs (s : Source) (from : Option ℕ) (e : Expression) (d : DeclNo) (token : TokenNo) (own : Option DeclNo) : Type 0 where
-  pub name : Identifier
-  pub is : e ≡ syntax.Named name NoMore
-  pub at : name.token ≡ token
-  pub says : denoted s name.token.0 ≡ Some (denotation.Declared d)
+pub record ProcedureIs (s : Source) (from : Place) (e : Expression) (d : DeclNo) (own : Option DeclNo) : Type 0 where
   pub result : Option SimType
   pub block : ℕ
   pub declared : entry_of s.tables d ≡ Some (entry.Procedure result block)
-  pub typed : TypeThere s (syntax.Named name NoMore) result
+  pub typed : TypeThere s e result
+  -- where it has no parameters it is a call
+  pub calls : ActualsFit s from NoMore (formals_of s block) → CallsFor s from e result
   -- as a left side it is the result inside the text of the procedure
-  pub inside : own ≡ if_own (is_inside s.tables name.token.0 block) (Some d)
-  pub sees : Sees s.tables from (block_of s d)
+  pub inside : OwnResult s from e own d result block
 
 -- a standard name alone
-pub record StandardIs (s : Source) (from : Option ℕ) (e : Expression) (standard : StandardName) : Type 0 where
-  pub calls : is_stream standard ≡ false → (signature standard).first ≡ None → CallsFor s from e (given_by (signature standard).result)
-  pub typed : TypeThere s e (signature standard).result
+pub record StandardIs (s : Source) (from : Place) (e : Expression) (standard : StandardName) : Type 0 where
+  pub calls : is_stream standard ≡ false → (signature standard).first ≡ None → CallsFor s from e (signature standard).result
+  pub typed : is_stream standard ≡ false → TypeThere s e (signature standard).result
   pub stream : stream_of s e ≡ stream_named standard
-  pub unowned : own_result s e ≡ None
+  pub unowned : result_meant s e ≡ None
 
 -- what is so only before calls are made
 abbrev pub Only : (alone : Bool) → Type 0 → Type 0
@@ -82,16 +102,16 @@ Only true P = P
 Only false P = ⊥
 
 -- An outcome before calls are made, where nothing is the result of a procedure but the identifier of one; and after.
-abbrev pub Means : (alone : Bool) → Source → Option ℕ → Expression → Outcome → Type 0
+abbrev pub Means : (alone : Bool) → Source → Place → Expression → Outcome → Type 0
 Means alone s from e is.Refused = ⊥
 Means alone s from e is.NoValue = CallsFor s from e None
 Means alone s from e is.NoValueInParentheses = Unit {0}
-Means alone s from e (is.Value ty) = ValueIs s from e ty × Unowned alone s e
-Means alone s from e (is.Called ty) = ValueIs s from e ty × CallsFor s from e (Some (Simply (kind_of_type ty))) × Unowned alone s e
-Means alone s from e (is.Variable ty) = ValueIs s from e ty × Varies s from e ty
-Means alone s from e (is.Constant ty) = ValueIs s from e ty
-Means alone s from e (is.Array ty) = ProperType ty × ExprIs s from e (ArrayOf (kind_of_type ty))
-Means alone s from e (is.Procedure d token own) = Only alone (ProcedureIs s from e d token own)
+Means alone s from e (is.Value type) = ValueIs s from e type × Unowned alone s e
+Means alone s from e (is.Called type) = ValueIs s from e type × CallsFor s from e (Some type) × Unowned alone s e
+Means alone s from e (is.Variable type) = ValueIs s from e type × ProperType s type × Varies s from e type × Unowned alone s e
+Means alone s from e (is.Constant type) = ValueIs s from e type
+Means alone s from e (is.Array type) = ProperType s type × ExprIs s from e (ArrayOf (held_by s type))
+Means alone s from e (is.Procedure d token own) = Only alone (ProcedureIs s from e d own)
 Means alone s from e (is.Standard name token) = Only alone (StandardIs s from e name)
-Means alone s from e is.Class = ⊥
+Means alone s from e is.Class = Unit {0}
 Means alone s from e (is.Barred b) = ⊥

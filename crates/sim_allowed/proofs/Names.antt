@@ -1,5 +1,5 @@
 -- The standard names, as the rules and as the meaning have them.
-use Rattle.std.proofs.Common.{◌≡◌, ℕ, Bool, true, false, List, [], ◌∷◌, Option, Some, None, refl, sym, ◌∙◌, ap, subst, if◌then◌else◌}
+use Rattle.std.proofs.Common.{◌≡◌, ℕ, Bool, true, false, List, [], ◌∷◌, Option, Some, None, refl, sym, ◌∙◌, subst, if◌then◌else◌}
 use Rattle.std.proofs.lemmas.Bool.{false≢true}
 use Rattle.std.proofs.lemmas.Slice.Eq.{bytes_eq-Decides}
 use Rattle.std.specs.Prelude.{◌||◌, ◌&&◌, codes}
@@ -24,8 +24,10 @@ use Rattle.sim_values.specs.Standard.{row_of}
 use Rattle.sim_meaning.specs.Names.{procedure_named}
 use Rattle.sim_meaning.specs.Statements.{has_value, standard_leaves}
 use Rattle.sim_meaning.specs.Texts.{kind_of_type}
-use Rattle.sim_sound.specs.Typed.{AttributeGives, Holds, Simply, StandardGives, is_given}
-use Rattle.sim_agree.specs.Facts.{ProperResult}
+use Rattle.sim_sound.specs.Held.{Holds, Simply}
+use Rattle.sim_sound.specs.Expressions.{AttributeGives, StandardGives}
+use Rattle.sim_sound.specs.Statements.{is_given}
+use Rattle.sim_agree.specs.Facts.{PlainGiven}
 
 -- the kinds of the parameters of a name, and what it gives
 abbrev pub second_kind : Option SimType → List Kind
@@ -249,7 +251,7 @@ standard_left (found.Procedure x) = leaves_given (row_of x).result
 standard_left _ = refl
 
 -- what is seen alone or behind a text gives no reference
-row_proper : (x : Standard) → (is_seen place.Alone (row_of x).owner || is_seen place.Text (row_of x).owner) ≡ true → ProperResult (plain_or_none (row_of x).result)
+row_proper : (x : Standard) → (is_seen place.Alone (row_of x).owner || is_seen place.Text (row_of x).owner) ≡ true → PlainGiven (plain_or_none (row_of x).result)
 unfolding row_of
 row_proper name.Suc seen = absurd (false≢true seen)
 row_proper name.Pred seen = absurd (false≢true seen)
@@ -269,19 +271,19 @@ seen_second : (a b : Bool) → b ≡ true → (a || b) ≡ true
 seen_second true b e = refl
 seen_second false b e = e
 
-pub alone_proper : (k : StandardName) → NoAttribute k → ProperResult (signature k).result
+pub alone_proper : (k : StandardName) → NoAttribute k → PlainGiven (signature k).result
 unfolding signature
 alone_proper (found.Procedure x) p = row_proper x (seen_first _ _ p.0)
 alone_proper found.Sysin p = tt
 alone_proper found.Sysout p = tt
 alone_proper (found.Prefix which) p = tt
 
-pub procedure_proper : (k : StandardName) → IsProcedure k → ProperResult (signature k).result
+pub procedure_proper : (k : StandardName) → IsProcedure k → PlainGiven (signature k).result
 unfolding signature
 procedure_proper (found.Procedure x) p = row_proper x (seen_first _ _ p.0)
 procedure_proper _ p = absurd p
 
-pub attribute_proper : (k : StandardName) → OfTexts k → ProperResult (signature k).result
+pub attribute_proper : (k : StandardName) → OfTexts k → PlainGiven (signature k).result
 unfolding signature
 attribute_proper (found.Procedure x) p = row_proper x (seen_second _ _ p)
 attribute_proper _ p = absurd p

@@ -1,14 +1,16 @@
--- What the events of the last round say, as the source has it: no rule is broken, and each use and each type is the one at its token.
-use Rattle.std.proofs.Common.{◌≡◌, List, [], ◌∷◌, ◌++◌, Some, refl}
+-- What the events of the last round say, as the source has it: no rule is broken, and each use, each block in which something is found and each
+-- type is the one at its token; a standard name is found in no block.
+use Rattle.std.proofs.Common.{◌≡◌, List, [], ◌∷◌, ◌++◌, Some, None, true, refl}
 use Rattle.sim_scope.specs.Found.{Event, Broken, FoundIn, Typed, Uses}
 use Rattle.sim_scope.specs.Judged.{Judged, next}
 use Rattle.sim_scope.specs.Runs.{each}
-use Rattle.sim_scope.specs.Source.{Source, denoted, type_at}
+use Rattle.sim_scope.specs.Source.{Source, denoted, found_at, type_at}
+use Rattle.sim_allowed.proofs.Nowhere.{is_nowhere}
 
 abbrev pub Says : Source → Event → Type 0
 Says s (Broken token rule) = ⊥
-Says s (Uses token d) = denoted s token ≡ Some d
-Says s (FoundIn token block) = Unit {0}
+Says s (Uses token d) = (denoted s token ≡ Some d) × (is_nowhere d ≡ true → found_at s token ≡ None)
+Says s (FoundIn token block) = found_at s token ≡ Some block
 Says s (Typed token ty) = type_at s token ≡ Some ty
 
 abbrev pub AllSay : Source → List Event → Type 0

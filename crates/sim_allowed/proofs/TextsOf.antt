@@ -1,34 +1,40 @@
 -- The texts of a program, with what the last round says of them.
-use Rattle.std.proofs.Common.{◌≡◌, ℕ, zero, suc, Bool, true, false, List, [], ◌∷◌, ◌++◌, ◌⊎◌, inl, inr, Some, None, refl, subst, arith, if◌then◌else◌}
+use Rattle.std.proofs.Common.{◌≡◌, ℕ, zero, suc, Bool, true, false, List, [], ◌∷◌, ◌++◌, ◌⊎◌, inl, inr, Option, Some, None, refl, sym, subst, arith, if◌then◌else◌}
 use Rattle.std.proofs.lemmas.Bool.Decides.{nat_tests}
 use Rattle.std.specs.Prelude.{◌==◌, slice_get}
-use Rattle.sim_scope.specs.declared.types.Position.TheVariants.{Inside}
+use Rattle.sim_scope.specs.declared.types.Position.{Position}
+use Rattle.sim_scope.specs.declared.types.Position.TheVariants.{ClassBody, ClassStatement, Inside}
+use Rattle.sim_scope.specs.Found.{Event}
 use Rattle.sim_scope.specs.Source.{Source}
 use Rattle.sim_scope.specs.Statements.{judging}
-use Rattle.sim_scope.specs.Walk.{block_events, declaration_events, declarations_events, begin_of, program_events, statement_events, statements_events, whole_events}
-use Rattle.sim_tree.specs.Filled.{Filled, FilledBlock, FilledDeclaration, FilledDeclarations, FilledStatement, FilledStatements}
-use Rattle.sim_tree.specs.Syntax.{Also, Arrays, Begin, Block, Declaration, Declarations, DeclareClass, DeclareProcedure, Heading, NoDeclaration, NoStatement, Prefix, Program, Statement, Statements, Variables, With}
+use Rattle.sim_scope.specs.Walk.{arm_classes, arms_events, begin_of, block_events, class_events, declaration_events, declarations_events, program_events, statement_events, statements_events, whole_events}
+use Rattle.sim_tree.specs.declared.expr.Identifier.{Identifier}
+use Rattle.sim_tree.specs.Filled.{Filled, FilledArms, FilledBlock, FilledDeclaration, FilledDeclarations, FilledStatement, FilledStatements}
+use Rattle.sim_tree.specs.Syntax.{Also, Arms, Arrays, Begin, Block, Declaration, Declarations, DeclareClass, DeclareProcedure, Heading, Interface, NoArm, NoDeclaration, NoStatement, Statement, Statements, Variables, When, With}
 use Rattle.sim_tree.specs.Syntax as syntax
 use Rattle.sim_values.specs.declared.kind.Kind.TheVariants as kind
 use Rattle.sim_values.specs.Plain.{Plain as Value, kind_of}
 use Rattle.sim_code.specs.Rows.{text_value}
-use Rattle.sim_meaning.specs.Constants.{block_constants, declaration_constants, declarations_constants, elements_constants, expression_constants, statement_constants, statements_constants, prefix_constants, text_constant, text_constants, TextConstant, constant_from}
-use Rattle.sim_meaning.specs.Texts.{BlockText, ProcedureText, Text, block_texts, declaration_texts, declarations_texts, program_texts, statement_texts, statements_texts, text}
-use Rattle.sim_agree.specs.Plain.{Plain, PlainBlock, PlainDeclaration, PlainDeclarations, PlainStatement, PlainStatements}
+use Rattle.sim_meaning.specs.Constants.{TextConstant, arms_constants, block_constants, constant_from, declaration_constants, declarations_constants, elements_constants, expression_constants, prefix_constants, statement_constants, statements_constants, text_constant, text_constants}
+use Rattle.sim_meaning.specs.Texts.{BlockText, ClassText, ConnectionText, ProcedureText, Text, arms_texts, block_texts, declaration_texts, declarations_texts, program_texts, statement_texts, statements_texts, text}
+use Rattle.sim_agree.specs.Plain.{Plain, PlainArms, PlainBlock, PlainDeclaration, PlainDeclarations, PlainStatement, PlainStatements}
 use Rattle.sim_allowed.proofs.Expressions.{AllThere, IsThere, both_there}
 use Rattle.sim_allowed.proofs.Said.{AllSay, both_say}
+use Rattle.sim_allowed.proofs.Statements.{InClass, NoBody, in_class}
 
 -- what is known of a text: it is plain, its text constants are there, and its events are as the source says
 abbrev pub StatementFine : Source → Statement → Type 0
 StatementFine s a = PlainStatement a × AllThere s (statement_constants a) × AllSay s (statement_events (judging s.tables) Inside a)
 
-abbrev pub BlockFine : Source → Declarations → Statements → Type 0
-BlockFine s ds ss = (PlainDeclarations ds × AllThere s (declarations_constants ds) × AllSay s (declarations_events (judging s.tables) ds))
-    × (PlainStatements ss × AllThere s (statements_constants ss) × AllSay s (statements_events (judging s.tables) Inside ss)) × FilledDeclarations ds
+abbrev pub BlockFine : Source → Position → Declarations → Statements → Type 0
+BlockFine s q ds ss = (PlainDeclarations ds × AllThere s (declarations_constants ds) × AllSay s (declarations_events (judging s.tables) ds))
+    × (PlainStatements ss × AllThere s (statements_constants ss) × AllSay s (statements_events (judging s.tables) q ss)) × FilledDeclarations ds
 
 abbrev pub TextFine : Source → Text → Type 0
-TextFine s (BlockText i ds ss) = BlockFine s ds ss
+TextFine s (BlockText i ds ss) = BlockFine s Inside ds ss
 TextFine s (ProcedureText result h a) = StatementFine s a
+TextFine s (ClassText prefix h ds ss) = BlockFine s ClassStatement ds ss
+TextFine s ConnectionText = Unit {0}
 TextFine s _ = ⊥
 
 abbrev AllFine : Source → List Text → Type 0
@@ -39,43 +45,124 @@ both_fine : (s : Source) (xs ys : List Text) → AllFine s xs → AllFine s ys �
 both_fine s [] ys a b = b
 both_fine s (x ∷ xs) ys a b = (a.0, both_fine s xs ys a.1 b)
 
+-- where a statement stands makes no difference to what is told of it, but for the body of a class
+body_events : (s : Source) (a : Statement) → InClass ClassBody a → statement_events (judging s.tables) ClassBody a ≡ statement_events (judging s.tables) ClassStatement a
+unfolding judging
+body_events s (syntax.Compound b) c = absurd c
+body_events s (syntax.Empty i) c = refl
+body_events s (syntax.Prefixed class es b) c = refl
+body_events s (syntax.Inner i) c = refl
+body_events s (syntax.Call e) c = refl
+body_events s (syntax.Assign e parts) c = refl
+body_events s (syntax.Choose i e a b) c = refl
+body_events s (syntax.Repeat i e a) c = refl
+body_events s (syntax.For i x sign j es a) c = refl
+body_events s (syntax.Inspect i e j a end b) c = refl
+body_events s (syntax.InspectWhen i e arms b) c = refl
+body_events s (syntax.Activate i word e schedule) c = refl
+
+all_none : (s : Source) (xs : List TextConstant) → AllThere s xs → AllThere s (xs ++ [])
+all_none s [] a = tt
+all_none s (x ∷ xs) a = (a.0, all_none s xs a.1)
+
+all_say_none : (s : Source) (xs : List Event) → AllSay s xs → AllSay s (xs ++ [])
+all_say_none s [] a = tt
+all_say_none s (x ∷ xs) a = (a.0, all_say_none s xs a.1)
+
+-- a class whose body is no block
+alone_fine : (s : Source) (h : Heading) (a : Statement) → InClass ClassBody a → PlainStatement a → FilledStatement a → AllThere s (statement_constants a) → AllSay s (statement_events (judging s.tables) ClassBody a) → AllFine s (statement_texts a)
+    → AllFine s (ClassText None h NoDeclaration (Also a NoStatement) ∷ statement_texts a)
+alone_fine s h a c p q there said all =
+    (((tt, tt, tt), ((p, tt), all_none s (statement_constants a) there, all_say_none s (statement_events (judging s.tables) ClassStatement a) (subst (λ z. AllSay s z) (body_events s a c) said)), tt), all)
+
+alone_texts : (a : Statement) → InClass ClassBody a → (i : ℕ) (h : Heading) (interface : Interface) (end : ℕ) → declaration_texts (DeclareClass None i h interface a end) ≡ ClassText None h NoDeclaration (Also a NoStatement) ∷ statement_texts a
+alone_texts (syntax.Compound b) c i h interface end = absurd c
+alone_texts (syntax.Empty j) c i h interface end = refl
+alone_texts (syntax.Prefixed class es b) c i h interface end = refl
+alone_texts (syntax.Inner j) c i h interface end = refl
+alone_texts (syntax.Call e) c i h interface end = refl
+alone_texts (syntax.Assign e parts) c i h interface end = refl
+alone_texts (syntax.Choose j e a b) c i h interface end = refl
+alone_texts (syntax.Repeat j e a) c i h interface end = refl
+alone_texts (syntax.For j x sign k es a) c i h interface end = refl
+alone_texts (syntax.Inspect j e k a m b) c i h interface end = refl
+alone_texts (syntax.InspectWhen j e arms b) c i h interface end = refl
+alone_texts (syntax.Activate j word e schedule) c i h interface end = refl
+
+class_alone_fine : (s : Source) (prefix : Option Identifier) (i : ℕ) (h : Heading) (interface : Interface) (a : Statement) (end : ℕ) → InClass ClassBody a → PlainDeclaration (DeclareClass prefix i h interface a end) → FilledStatement a → AllThere s (statement_constants a)
+    → AllSay s (declaration_events (judging s.tables) (DeclareClass prefix i h interface a end))
+    → (PlainStatement a → FilledStatement a → AllThere s (statement_constants a) → AllSay s (statement_events (judging s.tables) ClassBody a) → AllFine s (statement_texts a)) → AllFine s (declaration_texts (DeclareClass prefix i h interface a end))
+unfolding judging
+class_alone_fine s prefix i h interface a end c p q there said deep =
+    let v = judging s.tables in
+    let x = both_say s (v.class prefix i h interface) (statement_events v ClassBody a ++ v.leave end) said in
+    let y = both_say s (statement_events v ClassBody a) (v.leave end) x.1 in
+    subst (λ z. AllFine s (declaration_texts (DeclareClass z i h interface a end))) (sym p.0) (subst (λ z. AllFine s z) (sym (alone_texts a c i h interface end)) (alone_fine s h a c p.3 q there y.0 (deep p.3 q there y.0)))
+
 mutual
   unfolding judging
 
-  statement_fine : (s : Source) (a : Statement) → PlainStatement a → FilledStatement a → AllThere s (statement_constants a) → AllSay s (statement_events (judging s.tables) Inside a) → AllFine s (statement_texts a)
-  statement_fine s (syntax.Empty i) p q there said = tt
-  statement_fine s (syntax.Compound b) p q there said = block_fine s b p q there said
-  statement_fine s (syntax.Call e) p q there said = tt
-  statement_fine s (syntax.Assign left parts) p q there said = tt
-  statement_fine s (syntax.Choose i c a b) p q there said =
+  statement_fine : (s : Source) (q : Position) (a : Statement) → InClass q a → PlainStatement a → FilledStatement a → AllThere s (statement_constants a) → AllSay s (statement_events (judging s.tables) q a) → AllFine s (statement_texts a)
+  statement_fine s q (syntax.Empty i) c p f there said = tt
+  statement_fine s ClassBody (syntax.Compound b) c p f there said = absurd c
+  statement_fine s ClassStatement (syntax.Compound b) c p f there said = block_fine s b p f there said
+  statement_fine s Inside (syntax.Compound b) c p f there said = block_fine s b p f there said
+  statement_fine s q (syntax.Inner i) c p f there said = tt
+  statement_fine s q (syntax.Call e) c p f there said = tt
+  statement_fine s q (syntax.Assign left parts) c p f there said = tt
+  statement_fine s q (syntax.Choose i e a b) c p f there said =
       let v = judging s.tables in
-      let h = both_there s (expression_constants c) (statement_constants a ++ statements_constants b) there in
+      let h = both_there s (expression_constants e) (statement_constants a ++ statements_constants b) there in
       let j = both_there s (statement_constants a) (statements_constants b) h.1 in
-      let x = both_say s (v.condition c) (statement_events v Inside a ++ statements_events v Inside b) said in
+      let x = both_say s (v.condition e) (statement_events v Inside a ++ statements_events v Inside b) said in
       let y = both_say s (statement_events v Inside a) (statements_events v Inside b) x.1 in
-      both_fine s (statement_texts a) (statements_texts b) (statement_fine s a p.1 q.0 j.0 y.0) (statements_fine s b p.2 q.1 j.1 y.1)
-  statement_fine s (syntax.Repeat i c a) p q there said =
+      both_fine s (statement_texts a) (statements_texts b) (statement_fine s Inside a tt p.1 f.0 j.0 y.0) (statements_fine s Inside b tt p.2 f.1 j.1 y.1)
+  statement_fine s q (syntax.Repeat i e a) c p f there said =
       let v = judging s.tables in
-      let h = both_there s (expression_constants c) (statement_constants a) there in
-      let x = both_say s (v.condition c) (statement_events v Inside a) said in
-      statement_fine s a p.1 q h.1 x.1
-  statement_fine s (syntax.For i x sign j es a) p q there said =
+      let h = both_there s (expression_constants e) (statement_constants a) there in
+      let x = both_say s (v.condition e) (statement_events v Inside a) said in
+      statement_fine s Inside a tt p.1 f h.1 x.1
+  statement_fine s q (syntax.For i x sign j es a) c p f there said =
       let v = judging s.tables in
       let h = both_there s (elements_constants es) (statement_constants a) there in
       let y = both_say s (v.control x sign j es) (statement_events v Inside a) said in
-      statement_fine s a p.1 q.1 h.1 y.1
-  statement_fine s _ p q there said = absurd p
+      statement_fine s Inside a tt p.1 f.1 h.1 y.1
+  statement_fine s q (syntax.Inspect i e opening a end other) c p f there said =
+      let v = judging s.tables in
+      let h = both_there s (expression_constants e) (statement_constants a ++ statements_constants other) there in
+      let j = both_there s (statement_constants a) (statements_constants other) h.1 in
+      let x = both_say s (v.inspect i e) (statement_events v Inside a ++ statements_events v Inside other) said in
+      let y = both_say s (statement_events v Inside a) (statements_events v Inside other) x.1 in
+      (tt, both_fine s (statement_texts a) (statements_texts other) (statement_fine s Inside a tt p.1 f.0 j.0 y.0) (statements_fine s Inside other tt p.2 f.1 j.1 y.1))
+  statement_fine s q (syntax.InspectWhen i e arms other) c p f there said =
+      let v = judging s.tables in
+      let h = both_there s (expression_constants e) (arms_constants arms ++ statements_constants other) there in
+      let j = both_there s (arms_constants arms) (statements_constants other) h.1 in
+      let x = both_say s (v.inspect_when i e (arm_classes arms)) (arms_events v arms ++ statements_events v Inside other) said in
+      let y = both_say s (arms_events v arms) (statements_events v Inside other) x.1 in
+      both_fine s (arms_texts arms) (statements_texts other) (arms_fine s arms p.1 f.0 j.0 y.0) (statements_fine s Inside other tt p.2 f.1 j.1 y.1)
+  statement_fine s q (syntax.Prefixed class es b) c p f there said = absurd p
+  statement_fine s q (syntax.Activate i word e schedule) c p f there said = absurd p
 
-  statements_fine : (s : Source) (ss : Statements) → PlainStatements ss → FilledStatements ss → AllThere s (statements_constants ss) → AllSay s (statements_events (judging s.tables) Inside ss) → AllFine s (statements_texts ss)
-  statements_fine s NoStatement p q there said = tt
-  statements_fine s (Also a more) p q there said =
+  arms_fine : (s : Source) (arms : Arms) → PlainArms arms → FilledArms arms → AllThere s (arms_constants arms) → AllSay s (arms_events (judging s.tables) arms) → AllFine s (arms_texts arms)
+  arms_fine s NoArm p f there said = tt
+  arms_fine s (When i class opening a end more) p f there said =
+      let v = judging s.tables in
+      let h = both_there s (statement_constants a) (arms_constants more) there in
+      let x = both_say s (statement_events v Inside a ++ []) (arms_events v more) said in
+      let y = both_say s (statement_events v Inside a) [] x.0 in
+      (tt, both_fine s (statement_texts a) (arms_texts more) (statement_fine s Inside a tt p.1 f.0 h.0 y.0) (arms_fine s more p.2 f.1 h.1 x.1))
+
+  statements_fine : (s : Source) (q : Position) (ss : Statements) → NoBody q → PlainStatements ss → FilledStatements ss → AllThere s (statements_constants ss) → AllSay s (statements_events (judging s.tables) q ss) → AllFine s (statements_texts ss)
+  statements_fine s q NoStatement c p f there said = tt
+  statements_fine s q (Also a more) c p f there said =
       let v = judging s.tables in
       let h = both_there s (statement_constants a) (statements_constants more) there in
-      let x = both_say s (statement_events v Inside a) (statements_events v Inside more) said in
-      both_fine s (statement_texts a) (statements_texts more) (statement_fine s a p.0 q.0 h.0 x.0) (statements_fine s more p.1 q.1 h.1 x.1)
+      let x = both_say s (statement_events v q a) (statements_events v q more) said in
+      both_fine s (statement_texts a) (statements_texts more) (statement_fine s q a (in_class q a c) p.0 f.0 h.0 x.0) (statements_fine s q more c p.1 f.1 h.1 x.1)
 
   block_fine : (s : Source) (b : Block) → PlainBlock b → FilledBlock b → AllThere s (block_constants b) → AllSay s (block_events (judging s.tables) b) → AllFine s (block_texts b)
-  block_fine s (Begin i NoDeclaration ss end) p q there said = statements_fine s ss p.1 q.1 there said
+  block_fine s (Begin i NoDeclaration ss end) p q there said = statements_fine s Inside ss tt p.1 q.1 there said
   block_fine s (Begin i (With d ds) ss end) p q there said =
       let v = judging s.tables in
       let h = both_there s (declarations_constants (With d ds)) (statements_constants ss) there in
@@ -86,7 +173,7 @@ mutual
       let w = both_say s (declaration_events v d) (declarations_events v ds) z.0 in (
         ((p.0, h.0, z.0), (p.1, h.1, z.1), q.0),
         both_fine s (declaration_texts d) (declarations_texts ds ++ statements_texts ss) (declaration_fine s d p.0.0 q.0.0 g.0 w.0)
-            (both_fine s (declarations_texts ds) (statements_texts ss) (declarations_fine s ds p.0.1 q.0.1 g.1 w.1) (statements_fine s ss p.1 q.1 h.1 z.1)),
+            (both_fine s (declarations_texts ds) (statements_texts ss) (declarations_fine s ds p.0.1 q.0.1 g.1 w.1) (statements_fine s Inside ss tt p.1 q.1 h.1 z.1)),
       )
 
   declarations_fine : (s : Source) (ds : Declarations) → PlainDeclarations ds → FilledDeclarations ds → AllThere s (declarations_constants ds) → AllSay s (declarations_events (judging s.tables) ds) → AllFine s (declarations_texts ds)
@@ -104,8 +191,24 @@ mutual
       let v = judging s.tables in
       let x = both_say s (v.procedure result i h) (statement_events v Inside a ++ v.leave end) said in
       let y = both_say s (statement_events v Inside a) (v.leave end) x.1 in
-      ((p.2, there, y.0), statement_fine s a p.2 q there y.0)
-  declaration_fine s (DeclareClass prefix i h interface a end) p q there said = absurd p
+      ((p.2, there, y.0), statement_fine s Inside a tt p.2 q there y.0)
+  declaration_fine s (DeclareClass prefix i h interface (syntax.Compound b) end) p q there said =
+      let v = judging s.tables in
+      let x = both_say s (v.class prefix i h interface) (class_events v b ++ v.leave end) said in
+      let y = both_say s (class_events v b) (v.leave end) x.1 in
+      subst (λ z. AllFine s (declaration_texts (DeclareClass z i h interface (syntax.Compound b) end))) (sym p.0) (class_fine s i h interface b end p.3 q there y.0)
+  declaration_fine s (DeclareClass prefix i h interface a end) p q there said = class_alone_fine s prefix i h interface a end tt p q there said (λ c d t say. statement_fine s ClassBody a tt c d t say)
+
+  -- a class without a prefix, whose body is a block
+  class_fine : (s : Source) (i : ℕ) (h : Heading) (interface : Interface) (b : Block) (end : ℕ) → PlainBlock b → FilledBlock b → AllThere s (block_constants b) → AllSay s (class_events (judging s.tables) b)
+      → AllFine s (declaration_texts (DeclareClass None i h interface (syntax.Compound b) end))
+  class_fine s i h interface (Begin j ds ss e) end p q there said =
+      let v = judging s.tables in
+      let c = both_there s (declarations_constants ds) (statements_constants ss) there in
+      let x = both_say s (declarations_events v ds) (statements_events v ClassStatement ss) said in (
+        ((p.0, c.0, x.0), (p.1, c.1, x.1), q.0),
+        both_fine s (declarations_texts ds) (statements_texts ss) (declarations_fine s ds p.0 q.0 c.0 x.0) (statements_fine s ClassStatement ss tt p.1 q.1 c.1 x.1),
+      )
 
 program_fine : (s : Source) (b : Block) → PlainBlock b → FilledBlock b → AllThere s (block_constants b) → AllSay s (whole_events (judging s.tables) b) → AllFine s (program_texts None b)
 program_fine s (Begin i ds ss end) p q there said =
@@ -113,7 +216,7 @@ program_fine s (Begin i ds ss end) p q there said =
     let h = both_there s (declarations_constants ds) (statements_constants ss) there in
     let x = both_say s (declarations_events v ds) (statements_events v Inside ss ++ v.leave end) said in
     let y = both_say s (statements_events v Inside ss) (v.leave end) x.1 in
-    (((p.0, h.0, x.0), (p.1, h.1, y.0), q.0), both_fine s (declarations_texts ds) (statements_texts ss) (declarations_fine s ds p.0 q.0 h.0 x.0) (statements_fine s ss p.1 q.1 h.1 y.0))
+    (((p.0, h.0, x.0), (p.1, h.1, y.0), q.0), both_fine s (declarations_texts ds) (statements_texts ss) (declarations_fine s ds p.0 q.0 h.0 x.0) (statements_fine s Inside ss tt p.1 q.1 h.1 y.0))
 
 fine_at : (s : Source) (xs : List Text) (k : ℕ) (x : Text) → AllFine s xs → slice_get xs k ≡ Some x → TextFine s x
 fine_at s [] k x a e = absurd (cc)

@@ -1,5 +1,5 @@
 -- What the last round tells of a token is told once.
-use Rattle.std.proofs.Common.{◌≡◌, ◌≤◌, ◌+◌, ℕ, Bool, true, false, List, [], ◌∷◌, ◌++◌, Option, arith}
+use Rattle.std.proofs.Common.{◌≡◌, ◌≤◌, ◌+◌, ℕ, List, [], ◌∷◌, ◌++◌, Option, arith}
 use Rattle.sim_scope.specs.declared.outcome.Actuals.{Actuals}
 use Rattle.sim_scope.specs.declared.outcome.Extent.{Extent}
 use Rattle.sim_scope.specs.declared.scopes.Denotation.{Denotation}
@@ -11,13 +11,13 @@ use Rattle.sim_scope.specs.Found.{Event}
 use Rattle.sim_scope.specs.Judged.{gives, next}
 use Rattle.sim_scope.specs.Operators.{literal_type}
 use Rattle.sim_scope.specs.Outcomes.{has, in_parentheses, one, side, three, two}
+use Rattle.sim_scope.specs.References.{class_named, member, new_object, qualified, this_object}
 use Rattle.sim_scope.specs.Tables.{Tables}
 use Rattle.sim_tree.specs.declared.expr.Identifier.{Identifier}
 use Rattle.sim_tree.specs.Named.{all_named, named}
 use Rattle.sim_tree.specs.Syntax.{Expression, Expressions, NoMore, Then, first_of}
 use Rattle.sim_tree.specs.Syntax as syntax
-use Rattle.sim_agree.specs.Plain.{PlainExpression, PlainExpressions}
-use Rattle.sim_allowed.proofs.Counts.{Silent, Typing, Using, attribute_uses, bound_uses, has_types, here, in_parentheses_silent, more_silent, one_types, side_silent, silent_none, three_types, told, told_both, two_types, types_at, used_types, uses_at}
+use Rattle.sim_allowed.proofs.Counts.{About, Binding, Kind, Meaning, Place, Silent, Typing, Use, attribute_uses, bound_binds, class_binds, finds_at, has_types, here, in_parentheses_silent, member_types, more_silent, new_types, one_types, qualified_types, side_silent, silent_none, this_means, three_types, told, told_both, two_types, types_at, used_types, uses_at}
 
 -- how often a number is in a list
 abbrev pub occurs : ℕ → List ℕ → ℕ
@@ -26,14 +26,15 @@ occurs t (i ∷ is) = here t i + occurs t is
 
 -- What events tell, and what else is in a list, is in another list.
 unfoldable pub Covers : List Event → List ℕ → List ℕ → Type 0
-Covers es l m = (k : Bool) (t : ℕ) → told k t es + occurs t l ≤ occurs t m
+Covers es l m = (k : About) (t : ℕ) → told k t es + occurs t l ≤ occurs t m
 
-pub either : (k : Bool) (t i : ℕ) → uses_at k t i + types_at k t i ≡ here t i
-either true t i = omega arith
-either false t i = omega arith
+pub any_of : (k : About) (t i : ℕ) → (uses_at k t i + finds_at k t i) + types_at k t i ≡ here t i
+any_of Use t i = omega arith
+any_of Place t i = omega arith
+any_of Kind t i = omega arith
 
-types_below : (k : Bool) (t i : ℕ) → types_at k t i ≤ here t i
-types_below k t i = let e = either k t i in omega (arith, e)
+types_below : (k : About) (t i : ℕ) → types_at k t i ≤ here t i
+types_below k t i = let e = any_of k t i in omega (arith, e)
 
 covers_both : (xs ys : List Event) (l m n : List ℕ) → Covers xs m n → Covers ys l m → Covers (xs ++ ys) l n
 unfolding Covers
@@ -70,19 +71,40 @@ unfolding Covers Typing
 covers_ahead i xs ys l m h typing k t = let a = told_both k t xs ys in let b = h k t in let c = typing k t in let d = types_below k t i in omega (arith, a, b, c, d)
 
 -- a use and a type at one token in front
-covers_named : (i : ℕ) (us xs ts : List Event) (l m : List ℕ) → Using i us → Covers xs l m → Typing i ts → Covers (us ++ (xs ++ ts)) l (i ∷ m)
-unfolding Covers Using Typing
+covers_named : (i : ℕ) (us xs ts : List Event) (l m : List ℕ) → Binding i us → Covers xs l m → Typing i ts → Covers (us ++ (xs ++ ts)) l (i ∷ m)
+unfolding Covers Binding Typing
 covers_named i us xs ts l m using h typing k t =
-    let a = told_both k t us (xs ++ ts) in let b = told_both k t xs ts in let c = using k t in let d = h k t in let e = typing k t in let f = either k t i in
+    let a = told_both k t us (xs ++ ts) in let b = told_both k t xs ts in let c = using k t in let d = h k t in let e = typing k t in let f = any_of k t i in
     omega (arith, a, b, c, d, e, f)
 
 -- behind a dot: the object, the use of the attribute, the actuals, the type at the dot
-covers_dot : (i j : ℕ) (xs us ys ts : List Event) (l m n : List ℕ) → Covers xs (i ∷ j ∷ m) n → Using j us → Covers ys l m → Typing i ts → Covers ((xs ++ us) ++ (ys ++ ts)) l n
-unfolding Covers Using Typing
+covers_dot : (i j : ℕ) (xs us ys ts : List Event) (l m n : List ℕ) → Covers xs (i ∷ j ∷ m) n → Binding j us → Covers ys l m → Typing i ts → Covers ((xs ++ us) ++ (ys ++ ts)) l n
+unfolding Covers Binding Typing
 covers_dot i j xs us ys ts l m n h using g typing k t =
     let a = told_both k t (xs ++ us) (ys ++ ts) in let b = told_both k t xs us in let c = told_both k t ys ts in
-    let d = h k t in let e = using k t in let f = g k t in let o = typing k t in let p = types_below k t i in let q = either k t j in
+    let d = h k t in let e = using k t in let f = g k t in let o = typing k t in let p = types_below k t i in let q = any_of k t j in
     omega (arith, a, b, c, d, e, f, o, p, q)
+
+-- behind an object: the use of a class, the type at the word in front of it
+covers_cast : (i j : ℕ) (xs us ts : List Event) (l n : List ℕ) → Covers xs (i ∷ j ∷ l) n → Binding j us → Typing i ts → Covers (xs ++ (us ++ ts)) l n
+unfolding Covers Binding Typing
+covers_cast i j xs us ts l n h using typing k t =
+    let a = told_both k t xs (us ++ ts) in let b = told_both k t us ts in
+    let d = h k t in let e = using k t in let o = typing k t in let p = types_below k t i in let q = any_of k t j in
+    omega (arith, a, b, d, e, o, p, q)
+
+-- the use of a class; what is told of the word in front of it
+covers_this : (i j : ℕ) (us ts : List Event) (l : List ℕ) → Binding j us → Meaning i ts → Covers (us ++ ts) l (i ∷ j ∷ l)
+unfolding Covers Binding Meaning
+covers_this i j us ts l using meaning k t =
+    let a = told_both k t us ts in let e = using k t in let o = meaning k t in let p = any_of k t i in let q = any_of k t j in omega (arith, a, e, o, p, q)
+
+-- the use of a class, the actuals, the type at the word in front
+covers_new : (i j : ℕ) (us xs ts : List Event) (l m : List ℕ) → Binding j us → Covers xs l m → Typing i ts → Covers (us ++ (xs ++ ts)) l (i ∷ j ∷ m)
+unfolding Covers Binding Typing
+covers_new i j us xs ts l m using h typing k t =
+    let a = told_both k t us (xs ++ ts) in let b = told_both k t xs ts in let c = h k t in
+    let e = using k t in let o = typing k t in let p = types_below k t i in let q = any_of k t j in omega (arith, a, b, c, e, o, p, q)
 
 -- a condition and two arms
 if_covers : (i : ℕ) (xs ys zs ts : List Event) (l m n o : List ℕ) → Covers xs n o → Covers ys m n → Covers zs l m → Typing i ts → Covers (xs ++ (ys ++ (zs ++ ts))) l (i ∷ o)
@@ -136,7 +158,7 @@ module _ (s : Tables) (x : Extent) where
   unfolding judge next
   named_tells name es h l =
       let d = (bound s x name).value in let a = (actuals s x d.denotes no_actuals es).value in
-      covers_named name.token.0 (bound s x name).events (actuals s x d.denotes no_actuals es).events (used s name.token.0 name d a).events l (all_named es l) (bound_uses s x name) (h d.denotes no_actuals l) (used_types s name.token.0 name d a)
+      covers_named name.token.0 (bound s x name).events (actuals s x d.denotes no_actuals es).events (used s name.token.0 name d a).events l (all_named es l) (bound_binds s x name) (h d.denotes no_actuals l) (used_types s name.token.0 name d a)
 
   dot_tells : (i : ℕ) (b : Expression) (name : Identifier) (es : Expressions) → Tells b → TellsAll es → Tells (syntax.Dot i b name es)
   unfolding judge next
@@ -144,6 +166,30 @@ module _ (s : Tables) (x : Extent) where
       let o = (judge s x b).value in let d = (attribute s x name (first_of b) o).value in let a = (actuals s x d.denotes no_actuals es).value in
       covers_dot i name.token.0 (judge s x b).events (attribute s x name (first_of b) o).events (actuals s x d.denotes no_actuals es).events (used s i name d a).events l (all_named es l) (named b (i ∷ name.token.0 ∷ all_named es l))
       (g (i ∷ name.token.0 ∷ all_named es l)) (attribute_uses s x name (first_of b) o) (h d.denotes no_actuals l) (used_types s i name d a)
+
+  member_tells : (m : _) (i : ℕ) (b : Expression) (class : Identifier) → Tells b → Tells (syntax.Member m i b class)
+  unfolding judge next
+  member_tells m i b class g l =
+      let y = (judge_side s x b).value in let o = (class_named s x class).value in
+      covers_cast i class.token.0 (judge_side s x b).events (class_named s x class).events (member s i y class o).events l (named b (i ∷ class.token.0 ∷ l)) (side_tells b g (i ∷ class.token.0 ∷ l)) (class_binds s x class) (member_types s i y class o)
+
+  qua_tells : (i : ℕ) (b : Expression) (class : Identifier) → Tells b → Tells (syntax.Qua i b class)
+  unfolding judge next
+  qua_tells i b class g l =
+      let y = (judge_side s x b).value in let o = (class_named s x class).value in
+      covers_cast i class.token.0 (judge_side s x b).events (class_named s x class).events (qualified s i y class o).events l (named b (i ∷ class.token.0 ∷ l)) (side_tells b g (i ∷ class.token.0 ∷ l)) (class_binds s x class) (qualified_types s i y class o)
+
+  this_tells : (i : ℕ) (class : Identifier) → Tells (syntax.This i class)
+  unfolding judge next
+  this_tells i class l =
+      let o = (class_named s x class).value in
+      covers_this i class.token.0 (class_named s x class).events (this_object s x i class o).events l (class_binds s x class) (this_means s x i class o)
+
+  new_tells : (i : ℕ) (class : Identifier) (es : Expressions) → TellsAll es → Tells (syntax.New i class es)
+  unfolding judge next
+  new_tells i class es h l =
+      let o = (class_named s x class).value in let a = (actuals s x o.denotes no_actuals es).value in
+      covers_new i class.token.0 (class_named s x class).events (actuals s x o.denotes no_actuals es).events (new_object s i class o a).events l (all_named es l) (class_binds s x class) (h o.denotes no_actuals l) (new_types s i class o a)
 
   all_tell : (e : Expression) (es : Expressions) → Tells e → TellsAll es → TellsAll (Then e es)
   unfolding actuals next
@@ -155,20 +201,20 @@ module _ (s : Tables) (x : Extent) where
   mutual
     unfolding judge actuals gives
 
-    pub expression_tells : (e : Expression) → PlainExpression e → Tells e
-    expression_tells (syntax.If i c a b) p = if_tells i c a b (expression_tells c p.0) (expression_tells a p.1) (expression_tells b p.2)
-    expression_tells (syntax.Binary o i a b) p = binary_tells o i a b (expression_tells a p.0) (expression_tells b p.1)
-    expression_tells (syntax.Not i a) p = not_tells i a (expression_tells a p)
-    expression_tells (syntax.Signed g i a) p = signed_tells g i a (expression_tells a p)
-    expression_tells (syntax.Dot i a name es) p = dot_tells i a name es (expression_tells a p.0) (expressions_tell es p.1)
-    expression_tells (syntax.Constant literal i) p = λ l. covers_typing i (has i (literal_type literal)).events l (has_types i (literal_type literal))
-    expression_tells (syntax.Named name es) p = named_tells name es (expressions_tell es p.1)
-    expression_tells (syntax.Parentheses i a) p = parentheses_tell i a (expression_tells a p)
-    expression_tells (syntax.Member m i a class) p = absurd p
-    expression_tells (syntax.Qua i a class) p = absurd p
-    expression_tells (syntax.This i class) p = absurd p
-    expression_tells (syntax.New i class es) p = absurd p
+    pub expression_tells : (e : Expression) → Tells e
+    expression_tells (syntax.If i c a b) = if_tells i c a b (expression_tells c) (expression_tells a) (expression_tells b)
+    expression_tells (syntax.Binary o i a b) = binary_tells o i a b (expression_tells a) (expression_tells b)
+    expression_tells (syntax.Not i a) = not_tells i a (expression_tells a)
+    expression_tells (syntax.Signed g i a) = signed_tells g i a (expression_tells a)
+    expression_tells (syntax.Dot i a name es) = dot_tells i a name es (expression_tells a) (expressions_tell es)
+    expression_tells (syntax.Constant literal i) = λ l. covers_typing i (has i (literal_type literal)).events l (has_types i (literal_type literal))
+    expression_tells (syntax.Named name es) = named_tells name es (expressions_tell es)
+    expression_tells (syntax.Parentheses i a) = parentheses_tell i a (expression_tells a)
+    expression_tells (syntax.Member m i a class) = member_tells m i a class (expression_tells a)
+    expression_tells (syntax.Qua i a class) = qua_tells i a class (expression_tells a)
+    expression_tells (syntax.This i class) = this_tells i class
+    expression_tells (syntax.New i class es) = new_tells i class es (expressions_tell es)
 
-    expressions_tell : (es : Expressions) → PlainExpressions es → TellsAll es
-    expressions_tell NoMore p = λ d a l. covers_silent [] l silent_none
-    expressions_tell (Then e es) p = all_tell e es (expression_tells e p.0) (expressions_tell es p.1)
+    expressions_tell : (es : Expressions) → TellsAll es
+    expressions_tell NoMore = λ d a l. covers_silent [] l silent_none
+    expressions_tell (Then e es) = all_tell e es (expression_tells e) (expressions_tell es)

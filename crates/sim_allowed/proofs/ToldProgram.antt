@@ -26,8 +26,7 @@ use Rattle.sim_tree.specs.declared.stmt.Assignment.{Assignment}
 use Rattle.sim_tree.specs.Named.{named}
 use Rattle.sim_tree.specs.Order.{Behind, Spot, Token, in_each, in_expression, in_name, in_side, tokens}
 use Rattle.sim_tree.specs.Syntax.{Expression, RightSide, first_of}
-use Rattle.sim_agree.specs.Plain.{Each, PlainExpression, PlainSide}
-use Rattle.sim_allowed.proofs.Counts.{Silent, bars_silent, called_silent, here, silent_both, silent_break, silent_next, silent_none, told, told_both}
+use Rattle.sim_allowed.proofs.Counts.{About, Silent, bars_silent, called_silent, here, silent_both, silent_break, silent_next, silent_none, told, told_both}
 use Rattle.sim_allowed.proofs.Told.{Covers, expression_tells, occurs, side_tells}
 
 -- how often a token is among spots
@@ -37,7 +36,7 @@ among t (Token i ∷ l) = here t i + among t l
 among t (Behind i ∷ l) = among t l
 
 unfoldable pub Fills : List Event → List Spot → List Spot → Type 0
-Fills es l m = (k : Bool) (t : ℕ) → told k t es + among t l ≤ among t m
+Fills es l m = (k : About) (t : ℕ) → told k t es + among t l ≤ among t m
 
 pub fills_both : (xs ys : List Event) (l m n : List Spot) → Fills xs m n → Fills ys l m → Fills (xs ++ ys) l n
 unfolding Fills
@@ -70,11 +69,11 @@ in_list : (es : List Event) (is : List ℕ) (l : List Spot) → Covers es [] is 
 unfolding Covers Fills
 in_list es is l h k t = let a = h k t in let b = among_tokens t is l in omega (arith, a, b)
 
-pub side_fills : (s : Tables) (x : Extent) (e : Expression) → PlainExpression e → (l : List Spot) → Fills (judge_side s x e).events l (in_expression e l)
-side_fills s x e p l = in_list (judge_side s x e).events (named e []) l (side_tells s x e (expression_tells s x e p) [])
+pub side_fills : (s : Tables) (x : Extent) (e : Expression) → (l : List Spot) → Fills (judge_side s x e).events l (in_expression e l)
+side_fills s x e l = in_list (judge_side s x e).events (named e []) l (side_tells s x e (expression_tells s x e) [])
 
-judged_fills : (s : Tables) (x : Extent) (e : Expression) → PlainExpression e → (l : List Spot) → Fills (judge s x e).events l (in_expression e l)
-judged_fills s x e p l = in_list (judge s x e).events (named e []) l (expression_tells s x e p [])
+judged_fills : (s : Tables) (x : Extent) (e : Expression) → (l : List Spot) → Fills (judge s x e).events l (in_expression e l)
+judged_fills s x e l = in_list (judge s x e).events (named e []) l (expression_tells s x e [])
 
 -- an expression, and what tells nothing
 pub fills_then : (xs ys : List Event) (l m : List Spot) → Fills xs l m → Silent ys → Fills (xs ++ ys) l m
@@ -92,9 +91,9 @@ needs_silent wanted x = go x.ty
     go None = silent_none
     go (Some a) = same (is_same a wanted)
 
-pub required_fills : (s : Tables) (x : Extent) (wanted : SimType) (e : Expression) → PlainExpression e → (l : List Spot) → Fills (required s x wanted e) l (in_expression e l)
+pub required_fills : (s : Tables) (x : Extent) (wanted : SimType) (e : Expression) → (l : List Spot) → Fills (required s x wanted e) l (in_expression e l)
 unfolding required next
-required_fills s x wanted e p l = fills_then (judge_side s x e).events (needs wanted (judge_side s x e).value).events l (in_expression e l) (side_fills s x e p l) (needs_silent wanted (judge_side s x e).value)
+required_fills s x wanted e l = fills_then (judge_side s x e).events (needs wanted (judge_side s x e).value).events l (in_expression e l) (side_fills s x e l) (needs_silent wanted (judge_side s x e).value)
 
 -- ---- calls
 
@@ -107,11 +106,11 @@ alone_silent first (is.Barred (bar.Procedure d token)) = silent_none
 alone_silent first (is.Barred (bar.Standard name token)) = silent_none
 alone_silent first _ = silent_break first r.WrongKind
 
-pub call_fills : (s : Tables) (e : Expression) → PlainExpression e → (l : List Spot) → Fills (call_events s e) l (in_expression e l)
+pub call_fills : (s : Tables) (e : Expression) → (l : List Spot) → Fills (call_events s e) l (in_expression e l)
 unfolding call_events stands next
-call_fills s e p l =
+call_fills s e l =
     let o = (judge s extent.Statement e).value in
-    fills_then (judge s extent.Statement e).events ((called s o).events ++ (call_alone (first_of e) (called s o).value).events) l (in_expression e l) (judged_fills s extent.Statement e p l)
+    fills_then (judge s extent.Statement e).events ((called s o).events ++ (call_alone (first_of e) (called s o).value).events) l (in_expression e l) (judged_fills s extent.Statement e l)
     (silent_both (called s o).events (call_alone (first_of e) (called s o).value).events (called_silent s o) (alone_silent (first_of e) (called s o).value))
 
 -- ---- assignments
@@ -214,13 +213,13 @@ compared_silent a = go a.typed
     go true = misfit a.misfit
     go false = silent_none
 
-left_fills : (s : Tables) (first : Assignment) (l : LeftSide) → PlainExpression l.target → (u : List Spot) → Fills (left_side s first l).events u (in_expression l.target u)
+left_fills : (s : Tables) (first : Assignment) (l : LeftSide) → (u : List Spot) → Fills (left_side s first l).events u (in_expression l.target u)
 unfolding next
-left_fills s first l p u =
+left_fills s first l u =
     let o = (judge s extent.Statement l.target).value in
     fills_both (sign_agrees first l.sign l.token).events ((judge s extent.Statement l.target).events ++ (target s l.sign (first_of l.target) o).events) u (in_expression l.target u) (in_expression l.target u)
     (fills_silent (sign_agrees first l.sign l.token).events (in_expression l.target u) (sign_silent first l.sign l.token))
-    (fills_then (judge s extent.Statement l.target).events (target s l.sign (first_of l.target) o).events u (in_expression l.target u) (judged_fills s extent.Statement l.target p u) (target_silent s l.sign (first_of l.target) o))
+    (fills_then (judge s extent.Statement l.target).events (target s l.sign (first_of l.target) o).events u (in_expression l.target u) (judged_fills s extent.Statement l.target u) (target_silent s l.sign (first_of l.target) o))
 
 fills_last : (xs ys zs : List Event) (l m : List Spot) → Fills (xs ++ ys) l m → Silent zs → Fills (xs ++ (ys ++ zs)) l m
 unfolding Fills Silent
@@ -232,19 +231,19 @@ unfolding Fills
 fills_apart xs ys zs l m n h j k t =
     let a = told_both k t xs (ys ++ zs) in let b = told_both k t ys zs in let c = told_both k t xs zs in let d = h k t in let e = j k t in omega (arith, a, b, c, d, e)
 
-sides_fill : (s : Tables) (first : Assignment) (v : Side) (e : Expression) (parts : List RightSide) → PlainExpression e → Each PlainSide parts → (a : LeftSides) (l : List Spot)
+sides_fill : (s : Tables) (first : Assignment) (v : Side) (e : Expression) (parts : List RightSide) → (a : LeftSides) (l : List Spot)
     → Fills ((judge_side s extent.Statement (last_value e parts)).events ++ (lefts s first v a (left_sides e parts)).events) l (in_expression e (in_each in_side parts l))
 unfolding lefts gives next
-sides_fill s first v e [] p q a l = fills_then (judge_side s extent.Statement e).events [] l (in_expression e l) (side_fills s extent.Statement e p l) silent_none
-sides_fill s first v e (x ∷ xs) p q a l =
+sides_fill s first v e [] a l = fills_then (judge_side s extent.Statement e).events [] l (in_expression e l) (side_fills s extent.Statement e l) silent_none
+sides_fill s first v e (x ∷ xs) a l =
     let this : LeftSide = record { sign = x.sign; token = x.token; target = e } in
     let b = with_left s v a (left_side s first this).value in
     fills_apart (judge_side s extent.Statement (last_value x.value xs)).events (left_side s first this).events (lefts s first v b (left_sides x.value xs)).events l (in_expression x.value (in_each in_side xs l)) (in_expression e (in_expression x.value (in_each in_side xs l)))
-    (left_fills s first this p (in_expression x.value (in_each in_side xs l))) (sides_fill s first v x.value xs q.0 q.1 b l)
+    (left_fills s first this (in_expression x.value (in_each in_side xs l))) (sides_fill s first v x.value xs b l)
 
-pub assign_fills : (s : Tables) (e : Expression) (parts : List RightSide) → PlainExpression e → Each PlainSide parts → (l : List Spot) → Fills (assignment_events s e parts) l (in_expression e (in_each in_side parts l))
+pub assign_fills : (s : Tables) (e : Expression) (parts : List RightSide) → (l : List Spot) → Fills (assignment_events s e parts) l (in_expression e (in_each in_side parts l))
 unfolding assignment_events assigned next
-assign_fills s e parts p q l =
+assign_fills s e parts l =
     let v = (judge_side s extent.Statement (last_value e parts)).value in
     let ls = lefts s (first_sign parts) v no_lefts (left_sides e parts) in
-    fills_last (judge_side s extent.Statement (last_value e parts)).events ls.events (compared ls.value).events l (in_expression e (in_each in_side parts l)) (sides_fill s (first_sign parts) v e parts p q no_lefts l) (compared_silent ls.value)
+    fills_last (judge_side s extent.Statement (last_value e parts)).events ls.events (compared ls.value).events l (in_expression e (in_each in_side parts l)) (sides_fill s (first_sign parts) v e parts no_lefts l) (compared_silent ls.value)

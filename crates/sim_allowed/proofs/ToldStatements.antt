@@ -14,32 +14,36 @@ use Rattle.sim_scope.specs.declared.types.FormalKind.{FormalKind}
 use Rattle.sim_scope.specs.declared.types.FormalKind.TheVariants as shape
 use Rattle.sim_scope.specs.declared.types.Mode.{Mode}
 use Rattle.sim_scope.specs.declared.types.Mode.TheVariants as mode
-use Rattle.sim_scope.specs.declared.types.Position.TheVariants.{Inside}
+use Rattle.sim_scope.specs.declared.types.Position.{Position}
+use Rattle.sim_scope.specs.declared.types.Position.TheVariants.{ClassBody, ClassStatement, Inside}
 use Rattle.sim_scope.specs.declared.types.SimType.{SimType}
 use Rattle.sim_scope.specs.declared.types.SimType.TheVariants as t
 use Rattle.sim_scope.specs.Assignments.{fine, takes, wrong}
-use Rattle.sim_scope.specs.Calls.{bound}
+use Rattle.sim_scope.specs.Calls.{bound, used_in}
 use Rattle.sim_scope.specs.Expressions.{judge_side}
 use Rattle.sim_scope.specs.Found.{Broken, Event, Typed}
 use Rattle.sim_scope.specs.Judged.{gives, next, telling}
-use Rattle.sim_scope.specs.Operators.{is_same, misfit_of}
+use Rattle.sim_scope.specs.Operators.{is_reference, is_same, misfit_of}
 use Rattle.sim_scope.specs.Runs.{each}
-use Rattle.sim_scope.specs.Scopes.{entry_of}
-use Rattle.sim_scope.specs.Statements.{array_events, constant_token, constant_type, control_events, controlled, element_events, entry_controlled, first_step, first_value, formal_controlled, has_type, integer_from, judging, moded_controlled, not_simple, pair_events, program_prefix_events, required, result_events, simple, starts, taken_by, told_unless, type_events, type_taken, value_fits, value_type, variable_controlled, variable_events}
+use Rattle.sim_scope.specs.Levels.{class_block, has_classes}
+use Rattle.sim_scope.specs.References.{block_of_class, class_fits, class_named}
+use Rattle.sim_scope.specs.Scopes.{binding, entry_of, found_in}
+use Rattle.sim_scope.specs.Statements.{arm_connected, arm_events, arm_fits, array_events, class_connected, class_events, class_prefix_events, class_used, connected_by, constant_token, constant_type, control_events, controlled, element_events, entry_controlled, first_step, first_value, formal_controlled, has_type, inspect_events, inspect_when_events, integer_from, judging, moded_controlled, needs_reference, not_simple, pair_events, program_prefix_events, reference_needed, required, result_events, simple, starts, taken_by, told_unless, type_connected, type_events, type_taken, value_fits, value_type, variable_controlled, variable_events}
 use Rattle.sim_scope.specs.Tables.{Tables}
-use Rattle.sim_scope.specs.Walk.{begin_of, block_events, declaration_events, declarations_events, program_events, statement_events, statements_events, whole_events}
+use Rattle.sim_scope.specs.Walk.{begin_of, arm_classes, arms_events, block_events, class_events as class_body_events, declaration_events, declarations_events, program_events, statement_events, statements_events, whole_events}
 use Rattle.sim_tree.specs.declared.expr.Identifier.{Identifier}
 use Rattle.sim_tree.specs.declared.stmt.Assignment.{Assignment}
 use Rattle.sim_tree.specs.declared.stmt.Constant.{Constant}
 use Rattle.sim_tree.specs.declared.stmt.TypeName.{TypeName}
 use Rattle.sim_tree.specs.declared.stmt.TypeName.TheVariants as type_name
 use Rattle.sim_tree.specs.declared.stmt.Variable.{Variable}
-use Rattle.sim_tree.specs.Order.{Ascends, Behind, InOrder, Spot, Token, in_block, in_bounds, in_declaration, in_declarations, in_each, in_element, in_expression, in_name, in_segment, in_statement, in_statements, in_variable}
-use Rattle.sim_tree.specs.Syntax.{Also, Arrayed, Arrays, Begin, Block, BoundPair, Declaration, Declarations, DeclareClass, DeclareProcedure, Element, Expression, NoDeclaration, NoStatement, Program, RightSide, Statement, Statements, Variables, With, first_of}
+use Rattle.sim_tree.specs.Order.{Ascends, Behind, InOrder, Spot, Token, in_block, in_arms, in_bounds, in_declaration, in_declarations, in_each, in_element, in_expression, in_name, in_result, in_segment, in_statement, in_statements, in_type, in_variable}
+use Rattle.sim_tree.specs.Syntax.{Also, Arms, Arrayed, Arrays, Begin, Block, BoundPair, Declaration, Declarations, DeclareClass, DeclareProcedure, Element, Expression, Heading, NoArm, NoDeclaration, NoStatement, Program, Statement, Statements, Variables, When, With}
 use Rattle.sim_tree.specs.Syntax as syntax
-use Rattle.sim_agree.specs.Plain.{Each, Plain, PlainBlock, PlainBounds, PlainDeclaration, PlainDeclarations, PlainElement, PlainExpression, PlainResult, PlainSegment, PlainStatement, PlainStatements, PlainType}
-use Rattle.sim_allowed.proofs.Counts.{Silent, Typing, Using, bound_uses, silent_break, silent_none, told, told_both, typing_one, typing_silent}
-use Rattle.sim_allowed.proofs.Told.{either}
+use Rattle.sim_agree.specs.Plain.{Plain, PlainArms, PlainBlock, PlainDeclaration, PlainDeclarations, PlainStatement, PlainStatements}
+use Rattle.sim_allowed.proofs.Counts.{About, Binding, Silent, Typing, binding_then_silent, bound_binds, class_binds, class_fits_silent, here, silent_break, silent_next, silent_none, told, told_both, typing_one, typing_silent, used_in_binds}
+use Rattle.sim_allowed.proofs.Nowhere.{nowhere}
+use Rattle.sim_allowed.proofs.Told.{any_of}
 use Rattle.sim_allowed.proofs.ToldProgram.{Fills, among, assign_fills, call_fills, fills_both, fills_end, fills_more, fills_names, fills_silent, fills_then, required_fills, side_fills}
 
 -- ---- for statements
@@ -87,15 +91,15 @@ simple_types s sign token None = typing_silent token [] silent_none
 simple_types s sign token (Some (denotation.Standard name)) = not_simple_types token
 simple_types s sign token (Some (denotation.Declared d)) = entry_types sign token (entry_of s d)
 
-using_and_typing : (i : ℕ) (us ts : List Event) (l : List Spot) → Using i us → Typing i ts → Fills (us ++ ts) l (Token i ∷ l)
-unfolding Fills Using Typing
-using_and_typing i us ts l h j k t = let a = told_both k t us ts in let b = h k t in let c = j k t in let d = either k t i in omega (arith, a, b, c, d)
+binding_and_typing : (i : ℕ) (us ts : List Event) (l : List Spot) → Binding i us → Typing i ts → Fills (us ++ ts) l (Token i ∷ l)
+unfolding Fills Binding Typing
+binding_and_typing i us ts l h j k t = let a = told_both k t us ts in let b = h k t in let c = j k t in let d = any_of k t i in omega (arith, a, b, c, d)
 
 controlled_fills : (s : Tables) (sign : Assignment) (x : Identifier) (l : List Spot) → Fills (controlled s sign x).events l (in_name x l)
 unfolding controlled next
 controlled_fills s sign x l =
     let o = (bound s extent.Statement x).value.denotes in
-    using_and_typing x.token.0 (bound s extent.Statement x).events (simple s sign x.token.0 o).events l (bound_uses s extent.Statement x) (simple_types s sign x.token.0 o)
+    binding_and_typing x.token.0 (bound s extent.Statement x).events (simple s sign x.token.0 o).events l (bound_binds s extent.Statement x) (simple_types s sign x.token.0 o)
 
 taken_silent : (s : Tables) (a : Option SimType) (x : Side) → Silent (taken_by s a x).events
 unfolding taken_by fine wrong telling gives
@@ -124,34 +128,34 @@ started_silent a x = go a x.ty
     go (Some a) None = silent_none
     go (Some a) (Some b) = same (is_same a t.Integer) (is_same b t.Integer)
 
-value_fills : (s : Tables) (a : Option SimType) (e : Expression) → PlainExpression e → (l : List Spot) → Fills (first_value s a e) l (in_expression e l)
+value_fills : (s : Tables) (a : Option SimType) (e : Expression) (l : List Spot) → Fills (first_value s a e) l (in_expression e l)
 unfolding first_value next
-value_fills s a e p l = fills_then (judge_side s extent.Statement e).events (taken_by s a (judge_side s extent.Statement e).value).events l (in_expression e l) (side_fills s extent.Statement e p l) (taken_silent s a (judge_side s extent.Statement e).value)
+value_fills s a e l = fills_then (judge_side s extent.Statement e).events (taken_by s a (judge_side s extent.Statement e).value).events l (in_expression e l) (side_fills s extent.Statement e l) (taken_silent s a (judge_side s extent.Statement e).value)
 
-step_fills : (s : Tables) (a : Option SimType) (e : Expression) → PlainExpression e → (l : List Spot) → Fills (first_step s a e) l (in_expression e l)
+step_fills : (s : Tables) (a : Option SimType) (e : Expression) (l : List Spot) → Fills (first_step s a e) l (in_expression e l)
 unfolding first_step next
-step_fills s a e p l = fills_then (judge_side s extent.Statement e).events (starts a (judge_side s extent.Statement e).value).events l (in_expression e l) (side_fills s extent.Statement e p l) (started_silent a (judge_side s extent.Statement e).value)
+step_fills s a e l = fills_then (judge_side s extent.Statement e).events (starts a (judge_side s extent.Statement e).value).events l (in_expression e l) (side_fills s extent.Statement e l) (started_silent a (judge_side s extent.Statement e).value)
 
-element_fills : (s : Tables) (a : Option SimType) (e : Element) → PlainElement e → (l : List Spot) → Fills (element_events s a e) l (in_element e l)
-element_fills s a (syntax.Once e) p l = value_fills s a e p l
-element_fills s a (syntax.While e i c) p l =
-    fills_both (first_value s a e) (required s extent.Statement t.Boolean c) l (in_expression c l) (in_expression e (in_expression c l)) (value_fills s a e p.0 (in_expression c l)) (required_fills s extent.Statement t.Boolean c p.1 l)
-element_fills s a (syntax.Step e i b c) p l =
+element_fills : (s : Tables) (a : Option SimType) (e : Element) (l : List Spot) → Fills (element_events s a e) l (in_element e l)
+element_fills s a (syntax.Once e) l = value_fills s a e l
+element_fills s a (syntax.While e i c) l =
+    fills_both (first_value s a e) (required s extent.Statement t.Boolean c) l (in_expression c l) (in_expression e (in_expression c l)) (value_fills s a e (in_expression c l)) (required_fills s extent.Statement t.Boolean c l)
+element_fills s a (syntax.Step e i b c) l =
     fills_both (first_step s a e) (required s extent.Statement t.Integer b ++ required s extent.Statement t.Integer c) l (in_expression b (in_expression c l)) (in_expression e (in_expression b (in_expression c l)))
-    (step_fills s a e p.0 (in_expression b (in_expression c l)))
+    (step_fills s a e (in_expression b (in_expression c l)))
     (fills_both (required s extent.Statement t.Integer b) (required s extent.Statement t.Integer c) l (in_expression c l) (in_expression b (in_expression c l))
-    (required_fills s extent.Statement t.Integer b p.1 (in_expression c l)) (required_fills s extent.Statement t.Integer c p.2 l))
+    (required_fills s extent.Statement t.Integer b (in_expression c l)) (required_fills s extent.Statement t.Integer c l))
 
 -- each of a list
-each_fills : {A : Type 0} (P : A → Type 0) (f : A → List Event) (g : A → List Spot → List Spot) → ((x : A) → P x → (l : List Spot) → Fills (f x) l (g x l)) → (xs : List A) → Each P xs → (l : List Spot) → Fills (each f xs) l (in_each g xs l)
-each_fills P f g one [] p l = fills_silent [] l silent_none
-each_fills P f g one (x ∷ xs) p l = fills_both (f x) (each f xs) l (in_each g xs l) (g x (in_each g xs l)) (one x p.0 (in_each g xs l)) (each_fills P f g one xs p.1 l)
+each_fills : {A : Type 0} (f : A → List Event) (g : A → List Spot → List Spot) → ((x : A) (l : List Spot) → Fills (f x) l (g x l)) → (xs : List A) (l : List Spot) → Fills (each f xs) l (in_each g xs l)
+each_fills f g one [] l = fills_silent [] l silent_none
+each_fills f g one (x ∷ xs) l = fills_both (f x) (each f xs) l (in_each g xs l) (g x (in_each g xs l)) (one x (in_each g xs l)) (each_fills f g one xs l)
 
-control_fills : (s : Tables) (x : Identifier) (sign : Assignment) (es : List Element) → Each PlainElement es → (l : List Spot) → Fills (control_events s x sign es) l (in_name x (in_each in_element es l))
+control_fills : (s : Tables) (x : Identifier) (sign : Assignment) (es : List Element) (l : List Spot) → Fills (control_events s x sign es) l (in_name x (in_each in_element es l))
 unfolding control_events
-control_fills s x sign es p l =
+control_fills s x sign es l =
     let a = (controlled s sign x).value in
-    fills_both (controlled s sign x).events (each (element_events s a) es) l (in_each in_element es l) (in_name x (in_each in_element es l)) (controlled_fills s sign x (in_each in_element es l)) (each_fills PlainElement (element_events s a) in_element (element_fills s a) es p l)
+    fills_both (controlled s sign x).events (each (element_events s a) es) l (in_each in_element es l) (in_name x (in_each in_element es l)) (controlled_fills s sign x (in_each in_element es l)) (each_fills (element_events s a) in_element (element_fills s a) es l)
 
 -- ---- declarations
 
@@ -174,60 +178,175 @@ variables_fill : (type : TypeName) (vs : List Variable) (l : List Spot) → Fill
 variables_fill type [] l = fills_silent [] l silent_none
 variables_fill type (v ∷ vs) l = fills_both (variable_events type v) (each (variable_events type) vs) l (in_each in_variable vs l) (in_variable v (in_each in_variable vs l)) (variable_fills type v (in_each in_variable vs l)) (variables_fill type vs l)
 
--- a plain type names no class
-type_silent : (s : Tables) (type : TypeName) → PlainType type → Silent (type_events s type)
-type_silent s (type_name.Integer i) p = silent_none
-type_silent s (type_name.Boolean i) p = silent_none
-type_silent s (type_name.Character i) p = silent_none
-type_silent s (type_name.Text i) p = silent_none
-type_silent s (type_name.Reference i class) p = absurd p
+-- a type uses its class
+binding_fills : (i : ℕ) (es : List Event) (l : List Spot) → Binding i es → Fills es l (Token i ∷ l)
+unfolding Fills Binding
+binding_fills i es l h k t = let a = h k t in let d = any_of k t i in omega (arith, a, d)
 
-result_silent : (s : Tables) (result : Option TypeName) → PlainResult result → Silent (result_events s result)
-result_silent s None p = silent_none
-result_silent s (Some type) p = type_silent s type p
+class_fills_name : (s : Tables) (class : Identifier) (l : List Spot) → Fills (class_events s class) l (in_name class l)
+unfolding class_events
+class_fills_name s class l = go (binding s class.token.0 class.name) refl
+  where
+    go : (d : Option Denotation) → binding s class.token.0 class.name ≡ d → Fills (class_used s class d) l (in_name class l)
+    go None e = fills_more [] class.token.0 l l (fills_silent [] l silent_none)
+    go (Some d) e =
+        binding_fills class.token.0 (used_in class.token.0 (found_in s class.token.0 class.name) d false).events l (used_in_binds class.token.0 (found_in s class.token.0 class.name) d false (λ is. nowhere s class.token.0 class.name d e is))
 
-pair_fills : (s : Tables) (b : BoundPair) → PlainBounds b → (l : List Spot) → Fills (pair_events s b) l (in_bounds b l)
-pair_fills s b p l =
+type_fills : (s : Tables) (type : TypeName) (l : List Spot) → Fills (type_events s type) l (in_type type l)
+type_fills s (type_name.Integer i) l = fills_silent [] l silent_none
+type_fills s (type_name.Boolean i) l = fills_silent [] l silent_none
+type_fills s (type_name.Character i) l = fills_silent [] l silent_none
+type_fills s (type_name.Text i) l = fills_silent [] l silent_none
+type_fills s (type_name.Reference i class) l = class_fills_name s class l
+
+result_fills : (s : Tables) (result : Option TypeName) (l : List Spot) → Fills (result_events s result) l (in_result result l)
+result_fills s None l = fills_silent [] l silent_none
+result_fills s (Some type) l = type_fills s type l
+
+pair_fills : (s : Tables) (b : BoundPair) (l : List Spot) → Fills (pair_events s b) l (in_bounds b l)
+pair_fills s b l =
     fills_both (required s extent.Bound t.Integer b.lower) (required s extent.Bound t.Integer b.upper) l (in_expression b.upper l) (in_expression b.lower (in_expression b.upper l))
-    (required_fills s extent.Bound t.Integer b.lower p.0 (in_expression b.upper l)) (required_fills s extent.Bound t.Integer b.upper p.1 l)
+    (required_fills s extent.Bound t.Integer b.lower (in_expression b.upper l)) (required_fills s extent.Bound t.Integer b.upper l)
 
-segment_fills : (s : Tables) (a : Arrayed) → PlainSegment a → (l : List Spot) → Fills (array_events s a) l (in_segment a l)
-segment_fills s a p l = fills_names a.names (each (pair_events s) a.bounds) l (in_each in_bounds a.bounds l) (each_fills PlainBounds (pair_events s) in_bounds (pair_fills s) a.bounds p l)
+segment_fills : (s : Tables) (a : Arrayed) (l : List Spot) → Fills (array_events s a) l (in_segment a l)
+segment_fills s a l = fills_names a.names (each (pair_events s) a.bounds) l (in_each in_bounds a.bounds l) (each_fills (pair_events s) in_bounds (pair_fills s) a.bounds l)
+
+-- ---- connections
+
+connected_silent : (s : Tables) (token : ℕ) (o : Option ℕ) → Silent (class_connected s token o).events
+unfolding fine wrong telling gives
+connected_silent s token None = silent_none
+connected_silent s token (Some block) = go (has_classes s block)
+  where
+    go : (b : Bool) → Silent (if b then wrong token r.ClassWithClasses else fine).events
+    go true = silent_break token r.ClassWithClasses
+    go false = silent_none
+
+object_silent : (s : Tables) (token : ℕ) (x : Side) → Silent (connected_by s token x).events
+unfolding connected_by fine wrong telling gives
+object_silent s token x = go x.ty
+  where
+    go : (a : Option SimType) → Silent (type_connected s token x a).events
+    go None = silent_none
+    go (Some (t.Ref class)) = connected_silent s token (class_block s class)
+    go (Some t.NoneType) = silent_none
+    go (Some t.Integer) = silent_break x.first.0 r.WrongType
+    go (Some t.Boolean) = silent_break x.first.0 r.WrongType
+    go (Some t.Character) = silent_break x.first.0 r.WrongType
+    go (Some t.Text) = silent_break x.first.0 r.WrongType
+
+reference_silent : (x : Side) → Silent (needs_reference x).events
+unfolding needs_reference fine wrong telling gives
+reference_silent x = go x.ty
+  where
+    same : (b : Bool) → Silent (if b then fine else wrong x.first.0 r.WrongType).events
+    same true = silent_none
+    same false = silent_break x.first.0 r.WrongType
+
+    go : (a : Option SimType) → Silent (reference_needed x a).events
+    go None = silent_none
+    go (Some ty) = same (is_reference ty)
+
+arm_silent : (s : Tables) (token : ℕ) (o : Option Denotation) → Silent (arm_connected s token o).events
+unfolding fine gives
+arm_silent s token None = silent_none
+arm_silent s token (Some class) = connected_silent s token (block_of_class s class)
+
+arm_binds : (s : Tables) (token : ℕ) (x : Side) (class : Identifier) → Binding class.token.0 (arm_events s token x class)
+unfolding arm_events arm_fits next
+arm_binds s token x class =
+    let o = (class_named s extent.Statement class).value in
+    let fits = class_fits s class.token.0 o.denotes x.ty in
+    binding_then_silent class.token.0 (class_named s extent.Statement class).events (fits.events ++ (arm_connected s token o.denotes).events) (class_binds s extent.Statement class)
+    (silent_next fits (λ b. arm_connected s token o.denotes) (class_fits_silent s class.token.0 o.denotes x.ty) (arm_silent s token o.denotes))
+
+inspect_fills : (s : Tables) (token : ℕ) (e : Expression) (l : List Spot) → Fills (inspect_events s token e) l (in_expression e l)
+unfolding inspect_events next
+inspect_fills s token e l = fills_then (judge_side s extent.Statement e).events (connected_by s token (judge_side s extent.Statement e).value).events l (in_expression e l) (side_fills s extent.Statement e l) (object_silent s token (judge_side s extent.Statement e).value)
+
+-- the classes of arms, and then what is in them
+beside_arm : (c j : ℕ) (names body first : List Event) (others : List Event) (l m n : List Spot) → Binding c first → Fills body (Behind j ∷ m) n → ((k : About) (t : ℕ) → (told k t names + told k t others) + among t l ≤ among t m)
+    → (k : About) (t : ℕ) → (told k t (first ++ names) + told k t ((body ++ []) ++ others)) + among t l ≤ here t c + among t n
+unfolding Binding Fills told
+beside_arm c j names body first others l m n using fills rest k t =
+    let a = told_both k t first names in let b = told_both k t (body ++ []) others in let d = told_both k t body [] in
+    let e = using k t in let f = fills k t in let g = rest k t in let p = any_of k t c in omega (arith, a, b, d, e, f, g, p)
+
+-- an object, the classes of arms with what is in them, and the rest
+when_fills : (xs names arms rest : List Event) (l m n o : List Spot) → Fills xs n o → ((k : About) (t : ℕ) → (told k t names + told k t arms) + among t m ≤ among t n) → Fills rest l m → Fills ((xs ++ names) ++ (arms ++ rest)) l o
+unfolding Fills
+when_fills xs names arms rest l m n o f g h k t =
+    let a = told_both k t (xs ++ names) (arms ++ rest) in let b = told_both k t xs names in let c = told_both k t arms rest in
+    let d = f k t in let e = g k t in let p = h k t in omega (arith, a, b, c, d, e, p)
+
+object_fills : (s : Tables) (i : ℕ) (e : Expression) (classes : List Identifier) (arms rest : List Event) (l m n : List Spot)
+    → ((k : About) (t : ℕ) → (told k t (each (arm_events s i (judge_side s extent.Statement e).value) classes) + told k t arms) + among t m ≤ among t n) → Fills rest l m → Fills (inspect_when_events s i e classes ++ (arms ++ rest)) l (in_expression e n)
+unfolding inspect_when_events next
+object_fills s i e classes arms rest l m n inside last =
+    let x = (judge_side s extent.Statement e).value in
+    when_fills ((judge_side s extent.Statement e).events ++ (needs_reference x).events) (each (arm_events s i x) classes) arms rest l m n (in_expression e n)
+    (fills_then (judge_side s extent.Statement e).events (needs_reference x).events n (in_expression e n) (side_fills s extent.Statement e n) (reference_silent x)) inside last
+
+-- a name with formal parameters, and a body
+headed_fills : (h : Heading) (end : ℕ) (es : List Event) (l m : List Spot) → Fills es (Behind end ∷ l) m → Fills (es ++ []) l (Token h.name.token.0 ∷ in_each in_name h.formals m)
+headed_fills h end es l m body =
+    fills_more (es ++ []) h.name.token.0 l (in_each in_name h.formals m) (fills_names h.formals (es ++ []) l m (fills_end (es ++ []) end l m (fills_then es [] (Behind end ∷ l) m body silent_none)))
 
 -- ---- statements
 
 module _ (s : Tables) where
   mutual
-    unfolding judging
+    unfolding judging told class_prefix_events
 
-    statement_fills : (a : Statement) → PlainStatement a → (l : List Spot) → Fills (statement_events (judging s) Inside a) l (in_statement a l)
-    statement_fills (syntax.Empty i) p l = fills_silent [] l silent_none
-    statement_fills (syntax.Compound b) p l = block_fills b p l
-    statement_fills (syntax.Call e) p l = call_fills s e p l
-    statement_fills (syntax.Assign e parts) p l = assign_fills s e parts p.0 p.1 l
-    statement_fills (syntax.Choose i c a b) p l =
+    statement_fills : (q : Position) (a : Statement) → PlainStatement a → (l : List Spot) → Fills (statement_events (judging s) q a) l (in_statement a l)
+    statement_fills q (syntax.Empty i) p l = fills_silent [] l silent_none
+    statement_fills ClassBody (syntax.Compound b) p l = class_fills b p l
+    statement_fills ClassStatement (syntax.Compound b) p l = block_fills b p l
+    statement_fills Inside (syntax.Compound b) p l = block_fills b p l
+    statement_fills q (syntax.Inner i) p l = fills_more [] i l l (fills_silent [] l silent_none)
+    statement_fills q (syntax.Call e) p l = call_fills s e l
+    statement_fills q (syntax.Assign e parts) p l = assign_fills s e parts l
+    statement_fills q (syntax.Choose i c a b) p l =
         let v = judging s in
         fills_both (required s extent.Statement t.Boolean c) (statement_events v Inside a ++ statements_events v Inside b) l (in_statement a (in_statements b l)) (in_expression c (in_statement a (in_statements b l)))
-        (required_fills s extent.Statement t.Boolean c p.0 (in_statement a (in_statements b l)))
-        (fills_both (statement_events v Inside a) (statements_events v Inside b) l (in_statements b l) (in_statement a (in_statements b l)) (statement_fills a p.1 (in_statements b l)) (statements_fill b p.2 l))
-    statement_fills (syntax.Repeat i c a) p l =
+        (required_fills s extent.Statement t.Boolean c (in_statement a (in_statements b l)))
+        (fills_both (statement_events v Inside a) (statements_events v Inside b) l (in_statements b l) (in_statement a (in_statements b l)) (statement_fills Inside a p.1 (in_statements b l)) (statements_fill Inside b p.2 l))
+    statement_fills q (syntax.Repeat i c a) p l =
         let v = judging s in
-        fills_both (required s extent.Statement t.Boolean c) (statement_events v Inside a) l (in_statement a l) (in_expression c (in_statement a l)) (required_fills s extent.Statement t.Boolean c p.0 (in_statement a l)) (statement_fills a p.1 l)
-    statement_fills (syntax.For i x sign j es a) p l =
+        fills_both (required s extent.Statement t.Boolean c) (statement_events v Inside a) l (in_statement a l) (in_expression c (in_statement a l)) (required_fills s extent.Statement t.Boolean c (in_statement a l)) (statement_fills Inside a p.1 l)
+    statement_fills q (syntax.For i x sign j es a) p l =
         let v = judging s in
-        fills_both (control_events s x sign es) (statement_events v Inside a) l (in_statement a l) (in_name x (in_each in_element es (in_statement a l))) (control_fills s x sign es p.0 (in_statement a l)) (statement_fills a p.1 l)
-    statement_fills _ p l = absurd p
+        fills_both (control_events s x sign es) (statement_events v Inside a) l (in_statement a l) (in_name x (in_each in_element es (in_statement a l))) (control_fills s x sign es (in_statement a l)) (statement_fills Inside a p.1 l)
+    statement_fills q (syntax.Inspect i e j a end b) p l =
+        let v = judging s in
+        let u = Behind end ∷ in_statements b l in
+        fills_both (inspect_events s i e) (statement_events v Inside a ++ statements_events v Inside b) l (Token j ∷ in_statement a u) (in_expression e (Token j ∷ in_statement a u)) (inspect_fills s i e (Token j ∷ in_statement a u))
+        (fills_more (statement_events v Inside a ++ statements_events v Inside b) j l (in_statement a u)
+        (fills_both (statement_events v Inside a) (statements_events v Inside b) l (in_statements b l) (in_statement a u) (fills_end (statement_events v Inside a) end (in_statements b l) (in_statement a u) (statement_fills Inside a p.1 u)) (statements_fill Inside b p.2 l)))
+    statement_fills q (syntax.InspectWhen i e whens b) p l =
+        let v = judging s in
+        let m = in_statements b l in
+        object_fills s i e (arm_classes whens) (arms_events v whens) (statements_events v Inside b) l m (in_arms whens m) (arms_fill i (judge_side s extent.Statement e).value whens p.1 m) (statements_fill Inside b p.2 l)
+    statement_fills q (syntax.Prefixed class es b) p l = absurd p
+    statement_fills q (syntax.Activate i word e schedule) p l = absurd p
 
-    statements_fill : (ss : Statements) → PlainStatements ss → (l : List Spot) → Fills (statements_events (judging s) Inside ss) l (in_statements ss l)
-    statements_fill NoStatement p l = fills_silent [] l silent_none
-    statements_fill (Also a more) p l =
+    arms_fill : (i : ℕ) (x : Side) (whens : Arms) → PlainArms whens → (l : List Spot) (k : About) (t : ℕ) → (told k t (each (arm_events s i x) (arm_classes whens)) + told k t (arms_events (judging s) whens)) + among t l ≤ among t (in_arms whens l)
+    arms_fill i x NoArm p l k t = omega arith
+    arms_fill i x (When n class j a end more) p l k t =
+        let u = in_arms more l in
+        beside_arm class.token.0 end (each (arm_events s i x) (arm_classes more)) (statement_events (judging s) Inside a) (arm_events s i x class) (arms_events (judging s) more) l u (Token j ∷ in_statement a (Behind end ∷ u))
+        (arm_binds s i x class) (fills_more (statement_events (judging s) Inside a) j (Behind end ∷ u) (in_statement a (Behind end ∷ u)) (statement_fills Inside a p.1 (Behind end ∷ u))) (arms_fill i x more p.2 l) k t
+
+    statements_fill : (q : Position) (ss : Statements) → PlainStatements ss → (l : List Spot) → Fills (statements_events (judging s) q ss) l (in_statements ss l)
+    statements_fill q NoStatement p l = fills_silent [] l silent_none
+    statements_fill q (Also a more) p l =
         let v = judging s in
-        fills_both (statement_events v Inside a) (statements_events v Inside more) l (in_statements more l) (in_statement a (in_statements more l)) (statement_fills a p.0 (in_statements more l)) (statements_fill more p.1 l)
+        fills_both (statement_events v q a) (statements_events v q more) l (in_statements more l) (in_statement a (in_statements more l)) (statement_fills q a p.0 (in_statements more l)) (statements_fill q more p.1 l)
 
     block_fills : (b : Block) → PlainBlock b → (l : List Spot) → Fills (block_events (judging s) b) l (in_block b l)
     block_fills (Begin i NoDeclaration ss end) p l =
         let v = judging s in
-        fills_more (statements_events v Inside ss) i l (in_statements ss (Behind end ∷ l)) (fills_end (statements_events v Inside ss) end l (in_statements ss (Behind end ∷ l)) (statements_fill ss p.1 (Behind end ∷ l)))
+        fills_more (statements_events v Inside ss) i l (in_statements ss (Behind end ∷ l)) (fills_end (statements_events v Inside ss) end l (in_statements ss (Behind end ∷ l)) (statements_fill Inside ss p.1 (Behind end ∷ l)))
     block_fills (Begin i (With d ds) ss end) p l =
         let v = judging s in
         let u = Behind end ∷ l in
@@ -236,7 +355,17 @@ module _ (s : Tables) where
         (fills_then (declarations_events v (With d ds) ++ statements_events v Inside ss) [] u (in_declarations (With d ds) (in_statements ss u))
         (fills_both (declarations_events v (With d ds)) (statements_events v Inside ss) u (in_statements ss u) (in_declarations (With d ds) (in_statements ss u))
         (fills_both (declaration_events v d) (declarations_events v ds) (in_statements ss u) (in_declarations ds (in_statements ss u)) (in_declaration d (in_declarations ds (in_statements ss u))) (declaration_fills d p.0.0 (in_declarations ds (in_statements ss u))) (declarations_fill ds p.0.1 (in_statements ss u)))
-        (statements_fill ss p.1 u)) silent_none))
+        (statements_fill Inside ss p.1 u)) silent_none))
+
+    -- the body of a class
+    class_fills : (b : Block) → PlainBlock b → (l : List Spot) → Fills (class_body_events (judging s) b) l (in_block b l)
+    class_fills (Begin i ds ss end) p l =
+        let v = judging s in
+        let u = Behind end ∷ l in
+        let es = declarations_events v ds ++ statements_events v ClassStatement ss in
+        fills_more es i l (in_declarations ds (in_statements ss u))
+        (fills_end es end l (in_declarations ds (in_statements ss u))
+        (fills_both (declarations_events v ds) (statements_events v ClassStatement ss) u (in_statements ss u) (in_declarations ds (in_statements ss u)) (declarations_fill ds p.0 (in_statements ss u)) (statements_fill ClassStatement ss p.1 u)))
 
     declarations_fill : (ds : Declarations) → PlainDeclarations ds → (l : List Spot) → Fills (declarations_events (judging s) ds) l (in_declarations ds l)
     declarations_fill NoDeclaration p l = fills_silent [] l silent_none
@@ -247,21 +376,19 @@ module _ (s : Tables) where
     declaration_fills : (d : Declaration) → PlainDeclaration d → (l : List Spot) → Fills (declaration_events (judging s) d) l (in_declaration d l)
     declaration_fills (Variables type vs) p l =
         let u = in_each in_variable vs l in
-        fills_both (type_events s type) (each (variable_events type) vs) l u u (fills_silent (type_events s type) u (type_silent s type p)) (variables_fill type vs l)
+        fills_both (type_events s type) (each (variable_events type) vs) l u (in_type type u) (type_fills s type u) (variables_fill type vs l)
     declaration_fills (Arrays type i segments) p l =
         let u = in_each in_segment segments l in
-        fills_both (type_events s type) (each (array_events s) segments) l u u (fills_silent (type_events s type) u (type_silent s type p.0)) (each_fills PlainSegment (array_events s) in_segment (segment_fills s) segments p.1 l)
+        fills_both (type_events s type) (each (array_events s) segments) l u (in_type type u) (type_fills s type u) (each_fills (array_events s) in_segment (segment_fills s) segments l)
     declaration_fills (DeclareProcedure result i h a end) p l =
         let v = judging s in
         let u = Behind end ∷ l in
         let m = in_each in_name h.formals (in_statement a u) in
-        fills_both (result_events s result) (statement_events v Inside a ++ []) l (Token h.name.token.0 ∷ m) (Token h.name.token.0 ∷ m)
-        (fills_silent (result_events s result) (Token h.name.token.0 ∷ m) (result_silent s result p.0))
-        (fills_more (statement_events v Inside a ++ []) h.name.token.0 l m
-        (fills_names h.formals (statement_events v Inside a ++ []) l (in_statement a u)
-        (fills_end (statement_events v Inside a ++ []) end l (in_statement a u)
-        (fills_then (statement_events v Inside a) [] u (in_statement a u) (statement_fills a p.2 u) silent_none))))
-    declaration_fills (DeclareClass prefix i h interface a end) p l = absurd p
+        fills_both (result_events s result) (statement_events v Inside a ++ []) l (Token h.name.token.0 ∷ m) (in_result result (Token h.name.token.0 ∷ m)) (result_fills s result (Token h.name.token.0 ∷ m)) (headed_fills h end (statement_events v Inside a) l (in_statement a u) (statement_fills Inside a p.2 u))
+    declaration_fills (DeclareClass prefix i h interface a end) p l =
+        let v = judging s in
+        let u = Behind end ∷ l in
+        subst (λ z. Fills (class_prefix_events s z h.name.token.0 ++ (statement_events v ClassBody a ++ [])) l (in_declaration (DeclareClass z i h interface a end) l)) (sym p.0) (headed_fills h end (statement_events v ClassBody a) l (in_statement a u) (statement_fills ClassBody a p.3 u))
 
   whole_fills : (b : Block) → PlainBlock b → (l : List Spot) → Fills (whole_events (judging s) b) l (in_block b l)
   unfolding judging
@@ -272,7 +399,7 @@ module _ (s : Tables) where
       fills_more events i l (in_declarations ds (in_statements ss u))
       (fills_end events end l (in_declarations ds (in_statements ss u))
       (fills_both (declarations_events v ds) (statements_events v Inside ss ++ []) u (in_statements ss u) (in_declarations ds (in_statements ss u)) (declarations_fill ds p.0 (in_statements ss u))
-      (fills_then (statements_events v Inside ss) [] u (in_statements ss u) (statements_fill ss p.1 u) silent_none)))
+      (fills_then (statements_events v Inside ss) [] u (in_statements ss u) (statements_fill Inside ss p.1 u) silent_none)))
 
   pub program_fills : (p : Program) → Plain p → Fills (program_events (judging s) p) [] (in_block p.block [])
   unfolding judging program_events program_prefix_events
@@ -294,6 +421,6 @@ few i t (Token x ∷ l) a = go (few (x + 1) t l a.1) (nat_eq t x) refl
         (omega (arith, one), λ h. (let none = rest.1 (omega (arith, h, low)) in omega (arith, none)))
 few i t (Behind x ∷ l) a = let rest = few x t l a.1 in let low = a.0 in (rest.0, λ h. rest.1 (omega (arith, low, h)))
 
-pub told_once : (s : Tables) (p : Program) → Plain p → InOrder p → (k : Bool) (t : ℕ) → told k t (program_events (judging s) p) ≤ 1
+pub told_once : (s : Tables) (p : Program) → Plain p → InOrder p → (k : About) (t : ℕ) → told k t (program_events (judging s) p) ≤ 1
 unfolding Fills
 told_once s p plain order k t = let a = program_fills s p plain k t in let b = few 0 t (in_block p.block []) order in let c = b.0 in omega (arith, a, c)

@@ -1,10 +1,14 @@
--- What is seen has a cell in a text around.
-use Rattle.std.proofs.Common.{◌≡◌, ◌<◌, ◌⊎◌, inl, inr, ⊎_elim, ℕ, zero, suc, Bool, true, false, List, [], ◌∷◌, length, map, Option, Some, None, refl, sym, ◌∙◌, subst, arith}
-use Rattle.std.proofs.lemmas.Bool.{cases_eq}
-use Rattle.std.specs.Prelude.{◌==◌, slice_get, if◌then◌else◌}
+-- What is seen has a cell in a text around, and a connection has one where it stands.
+use Rattle.std.proofs.Common.{◌≡◌, ◌<◌, ◌+◌, ◌⊎◌, inl, inr, ⊎_elim, ℕ, zero, suc, Bool, true, false, List, [], ◌∷◌, ◌++◌, length, map, Option, Some, None, refl, sym, ap, ◌∙◌, subst, arith}
+use Rattle.std.proofs.lemmas.Bool.{cases_eq, eq-eqb}
+use Rattle.std.specs.Prelude.{◌==◌, ◌&&◌, slice_get, if◌then◌else◌}
 use Rattle.sim_base.specs.declared.numbering.DeclNo.{DeclNo}
 use Rattle.sim_scope.specs.declared.scopes.Declaration.{Declaration as Row}
+use Rattle.sim_scope.specs.declared.types.Entry.{Entry}
+use Rattle.sim_scope.specs.declared.types.Entry.TheVariants as entry
+use Rattle.sim_scope.specs.declared.types.SimType.{SimType}
 use Rattle.sim_scope.specs.Access.{encloser}
+use Rattle.sim_scope.specs.Levels.{base, base_in, has_level}
 use Rattle.sim_scope.specs.Scopes.{entry_of}
 use Rattle.sim_scope.specs.Source.{Source, block_of}
 use Rattle.sim_scope.specs.Tables.{BlockOf, Tables}
@@ -14,18 +18,24 @@ use Rattle.sim_tree.specs.declared.stmt.TypeName.{TypeName}
 use Rattle.sim_tree.specs.declared.stmt.Variable.{Variable}
 use Rattle.sim_tree.specs.Syntax.{Arrays, Declarations, DeclareClass, DeclareProcedure, Heading, NoDeclaration, Statement, Variables, With}
 use Rattle.sim_values.specs.Plain.{Character, Integer, Plain, Truth}
+use Rattle.sim_meaning.specs.Attributes.{cell_of_connection, first_in, is_connection}
 use Rattle.sim_meaning.specs.Constants.{TextConstant, constant_from, text_constant, text_constants}
-use Rattle.sim_meaning.specs.Entries.{first_cells, numbers_in, numbers_of}
-use Rattle.sim_meaning.specs.Pending.{Declared, Held, Key, Result, same_key}
-use Rattle.sim_meaning.specs.Texts.{BlockText, ClassText, PrefixedText, ProcedureText, among_declarations, among_variables, constant_in, constant_of, constant_value, program_texts, row_constant, text, value_in}
+use Rattle.sim_meaning.specs.Entries.{cells_from, first_cells, numbers_in, numbers_of, with_cell, with_result}
+use Rattle.sim_meaning.specs.Levels.{is_class}
+use Rattle.sim_meaning.specs.Pending.{Connection, Declared, Held, Key, Result, same_key}
+use Rattle.sim_meaning.specs.Texts.{BlockText, ClassText, ConnectionText, PrefixedText, ProcedureText, among_declarations, among_variables, constant_in, constant_of, constant_value, program_texts, row_constant, text, value_in}
 use Rattle.sim_meaning.specs.Texts as texts
-use Rattle.sim_sound.specs.Typed.{Among, Around, Holds, TextTyped, Typed, entry_holds, further, itself}
+use Rattle.sim_sound.specs.Held.{Among, Around, Holds, entry_holds, first, further, held_by, itself, later, result_holds}
+use Rattle.sim_sound.specs.Typed.{ResultWritten, TextTyped, Typed}
+use Rattle.sim_sound.proofs.Attributes.{holds_result}
 use Rattle.sim_sound.proofs.Changes.{equal_same}
+use Rattle.sim_sound.proofs.Fitting.{one_level}
 use Rattle.sim_sound.proofs.Lists.{there_get, there_is}
-use Rattle.sim_sound.proofs.Reach.{among_block, key_among}
+use Rattle.sim_sound.proofs.Reach.{among_block}
 use Rattle.sim_sound.proofs.Sound.{KeyAmong, first_key, key_of, later_key}
-use Rattle.codegen_expr.specs.Built.{CellBuilt, PlainBuilt, StandsIn, is_around, is_there, place_from, slot_in}
-use Rattle.codegen_expr.specs.Sites.{cells_in}
+use Rattle.codegen_expr.specs.Built.{HasBuilt, PlainBuilt, StandsIn, is_around, is_there, place_from, slot_in, unless_prefixed}
+use Rattle.codegen_expr.specs.Sites.{cells_in, connects, frame_text, hidden_before, hidden_from, hidden_in, in_front, is_connected, own_cells, own_part, prefix_of}
+use Rattle.codegen_expr.specs.Sites as sites
 use Rattle.codegen_expr.proofs.Around.{found_here, found_outside}
 use Rattle.sim_built.specs.Laid.{Laid}
 
@@ -108,46 +118,169 @@ pub constant_built : (s : Source) (d : DeclNo) (v : Plain) → constant_of s d �
 unfolding constant_of
 constant_built s d v e = row_plain s (slice_get s.tables.declarations d.0) v e
 
+-- ---- lists of cells
+
+among_front : (key : Key) (xs ys : List Held) → KeyAmong key (map key_of xs) → KeyAmong key (map key_of (xs ++ ys))
+among_front key [] ys a = elim a [ ]
+among_front key (x ∷ xs) ys a =
+    ⊎_elim (λ same. subst (λ k. KeyAmong k (x.key ∷ map key_of (xs ++ ys))) same first_key) (λ b. later_key (among_front key xs ys b)) (key_split key x.key (map key_of xs) a)
+
+among_back : (key : Key) (xs ys : List Held) → KeyAmong key (map key_of ys) → KeyAmong key (map key_of (xs ++ ys))
+among_back key [] ys a = a
+among_back key (x ∷ xs) ys a = later_key (among_back key xs ys a)
+
+-- what holds something has a cell
+has_cell : (s : Source) (c : Bool) (d : DeclNo) (e : Option Entry) (hs : List Held) (h : Holds) → entry_holds s c e ≡ Some h → KeyAmong (Declared d.0) (map key_of (with_cell d e hs))
+has_cell s c d (Some (entry.Variable type)) hs h e = first_key
+has_cell s c d (Some (entry.Constant type)) hs h e = first_key
+has_cell s c d (Some (entry.Array element dimensions)) hs h e = first_key
+has_cell s c d (Some (entry.Formal f)) hs h e = first_key
+has_cell s c d (Some _) hs h e = absurd (cc)
+has_cell s c d None hs h e = absurd (cc)
+
+cell_later : (d e : DeclNo) (x : Option Entry) (hs : List Held) → KeyAmong (Declared d.0) (map key_of hs) → KeyAmong (Declared d.0) (map key_of (with_cell e x hs))
+cell_later d e (Some (entry.Variable type)) hs a = later_key a
+cell_later d e (Some (entry.Constant type)) hs a = later_key a
+cell_later d e (Some (entry.Array element dimensions)) hs a = later_key a
+cell_later d e (Some (entry.Formal f)) hs a = later_key a
+cell_later d e (Some _) hs a = a
+cell_later d e None hs a = a
+
+listed_key : (s : Source) (ds : List DeclNo) (d : DeclNo) (c : Bool) (h : Holds) → entry_holds s c (entry_of s.tables d) ≡ Some h → Among d ds → KeyAmong (Declared d.0) (map key_of (cells_from s ds))
+listed_key s [] d c h e a = elim a [ ]
+listed_key s (x ∷ ds) d c h e first = has_cell s c d (entry_of s.tables d) (cells_from s ds) h e
+listed_key s (x ∷ ds) d c h e (later a) = cell_later d x (entry_of s.tables x) (cells_from s ds) (listed_key s ds d c h e a)
+
+behind_result : (result : Option TypeName) (key : Key) (hs : List Held) → KeyAmong key (map key_of hs) → KeyAmong key (map key_of (with_result result hs))
+behind_result None key hs a = a
+behind_result (Some type) key hs a = later_key a
+
+-- the cells of connections
+hidden_more : (x : Bool) (b : BlockOf) (hs : List Held) (key : Key) → KeyAmong key (map key_of hs) → KeyAmong key (map key_of (hidden_before x b hs))
+hidden_more true b hs key a = later_key a
+hidden_more false b hs key a = a
+
+hidden_here : (x : Bool) (b : BlockOf) (hs : List Held) → x ≡ true → KeyAmong (Connection b.first) (map key_of (hidden_before x b hs))
+hidden_here true b hs e = first_key
+hidden_here false b hs e = absurd (cc)
+
+both_true : (a b : Bool) → a ≡ true → b ≡ true → (a && b) ≡ true
+both_true true true e f = refl
+both_true true false e f = absurd (cc)
+both_true false b e f = absurd (cc)
+
+hidden_there : (s : Source) (k n : ℕ) (bs : List BlockOf) (i : ℕ) (b : BlockOf) → slice_get bs i ≡ Some b → sites.is_connection b.kind ≡ true → frame_text s (n + i) ≡ k → KeyAmong (Connection b.first) (map key_of (hidden_from s k n bs))
+hidden_there s k n [] i b at c f = absurd (cc)
+hidden_there s k n (x ∷ bs) zero b at c f =
+    let same : x ≡ b = cc in
+    let number : n ≡ n + 0 = omega arith in
+    let kind : sites.is_connection x.kind ≡ true = ap (λ (z : BlockOf). sites.is_connection z.kind) same ∙ c in
+    let frame : frame_text s n ≡ k = ap (frame_text s) number ∙ f in
+    subst (λ (z : BlockOf). KeyAmong (Connection z.first) (map key_of (hidden_from s k n (x ∷ bs)))) same
+    (hidden_here (sites.is_connection x.kind && frame_text s n == k) x (hidden_from s k (suc n) bs) (both_true (sites.is_connection x.kind) (frame_text s n == k) kind (eq-eqb (frame_text s n) k frame)))
+hidden_there s k n (x ∷ bs) (suc i) b at c f =
+    let number : suc n + i ≡ n + suc i = omega arith in
+    hidden_more (sites.is_connection x.kind && frame_text s n == k) x (hidden_from s k (suc n) bs) (Connection b.first) (hidden_there s k (suc n) bs i b at c (ap (frame_text s) number ∙ f))
+
 -- ---- texts and their cells
+
+pub class_is_solid : (x : Option texts.Text) → is_class x ≡ true → is_connection x ≡ false
+class_is_solid None e = absurd (cc)
+class_is_solid (Some (ClassText prefix h ds ss)) e = refl
+class_is_solid (Some (texts.StandardText which)) e = refl
+class_is_solid (Some (BlockText begin ds ss)) e = absurd (cc)
+class_is_solid (Some (ProcedureText result h a)) e = absurd (cc)
+class_is_solid (Some (PrefixedText class arguments ds ss)) e = absurd (cc)
+class_is_solid (Some ConnectionText) e = absurd (cc)
 
 module _ (s : Source) (ok : Typed s) (laid : Laid s) where
   pub text_before : (k : ℕ) (x : texts.Text) → text s k ≡ Some x → k < length s.tables.blocks
   unfolding text
-  text_before k x e = subst (λ n. k < n) (sym (laid.agrees).as_many) (there_is (program_texts s.program.prefix s.program.block) k x e)
+  text_before k x e = subst (λ n. k < n) (sym laid.as_many) (there_is (program_texts s.program.prefix s.program.block) k x e)
 
   text_at : (k : ℕ) → k < length s.tables.blocks → (x : texts.Text) × (text s k ≡ Some x)
   unfolding text
-  text_at k lt = there_get (program_texts s.program.prefix s.program.block) k (subst (λ n. k < n) (laid.agrees).as_many lt)
+  text_at k lt = there_get (program_texts s.program.prefix s.program.block) k (subst (λ n. k < n) laid.as_many lt)
 
   -- a text around is found
   pub stands : (t k : ℕ) (x : texts.Text) → text s t ≡ Some x → Around s.tables t k → StandsIn s t k
   stands t k x e a = record { found = around_found s.tables laid.falls (length s.tables.blocks) t k (text_before t x e) a }
 
+  -- no class is in front of a text
+  pub unprefixed : (k : ℕ) → prefix_of s.tables k ≡ None
+  unfolding prefix_of is_connected base
+  unprefixed k = by_row (slice_get s.tables.blocks k) (laid.connected k) (λ e. ok.unprefixed k e)
+    where
+      by_row : (b : Option BlockOf) → connects b ≡ is_connection (text s k) → (is_connection (text s k) ≡ false → base_in b ≡ None) → in_front b ≡ None
+      by_row None c f = refl
+      by_row (Some b) c f = by_kind (sites.is_connection b.kind) c
+        where
+          by_kind : (x : Bool) → x ≡ is_connection (text s k) → (if x then None else b.base) ≡ None
+          by_kind true c = refl
+          by_kind false c = f (sym c)
+
+  slot_if : (u : ℕ) (key : Key) → KeyAmong key (map key_of (own_part s u)) → is_there (slot_in s u key) ≡ true
+  unfolding slot_in
+  slot_if u key a = subst (λ z. is_there (unless_prefixed z (place_from 0 key (own_part s u))) ≡ true) (sym (unprefixed u)) (place_there 0 key (own_part s u) a)
+
+  slot_of_text : (u : ℕ) (key : Key) (x : texts.Text) → text s u ≡ Some x → KeyAmong key (map key_of (own_cells s u x)) → is_there (slot_in s u key) ≡ true
+  slot_of_text u key x e a = slot_if u key (among_front key (cells_in s u (text s u)) (hidden_in s u) (subst (λ z. KeyAmong key (map key_of (cells_in s u z))) (sym e) a))
+
+  -- a connection has a cell where it stands
+  pub connection_has : (k : ℕ) → is_connection (text s k) ≡ true → is_there (slot_in s (frame_text s k) (cell_of_connection s k)) ≡ true
+  unfolding is_connected hidden_in
+  connection_has k is = by_row (slice_get s.tables.blocks k) refl (laid.connected k ∙ is)
+    where
+      by_row : (b : Option BlockOf) → slice_get s.tables.blocks k ≡ b → connects b ≡ true → is_there (slot_in s (frame_text s k) (Connection (first_in b))) ≡ true
+      by_row None at c = absurd (cc)
+      by_row (Some b) at c =
+          let number : 0 + k ≡ k = omega arith in
+          slot_if (frame_text s k) (Connection b.first) (among_back (Connection b.first) (cells_in s (frame_text s k) (text s (frame_text s k))) (hidden_in s (frame_text s k)) (hidden_there s (frame_text s k) 0 s.tables.blocks k b at c (ap (frame_text s) number)))
+
   numbers_there : (k : ℕ) (d : DeclNo) (b : Option BlockOf) → slice_get s.tables.blocks k ≡ b → Among d (numbers_in b) → k < length s.tables.blocks
   numbers_there k d None e a = elim a [ ]
   numbers_there k d (Some b) e a = there_is s.tables.blocks k b e
 
-  key_in_text : (u : ℕ) (d : DeclNo) (h : Holds) (x : texts.Text) → TextTyped s u x → entry_holds (entry_of s.tables d) ≡ Some h → Among d (numbers_of s u) → KeyAmong (Declared d.0) (map key_of (first_cells s u x))
+  key_in_text : (u : ℕ) (d : DeclNo) (h : Holds) (c : Bool) (x : texts.Text) → is_connection (Some x) ≡ false → TextTyped s u x → entry_holds s c (entry_of s.tables d) ≡ Some h → Among d (numbers_of s u) → KeyAmong (Declared d.0) (map key_of (own_cells s u x))
   unfolding first_cells
-  key_in_text u d h (BlockText begin ds ss) typed e a = key_among s d h (numbers_of s u) e a
-  key_in_text u d h (ProcedureText None g b) typed e a = key_among s d h (numbers_of s u) e a
-  key_in_text u d h (ProcedureText (Some type) g b) typed e a = later_key (key_among s d h (numbers_of s u) e a)
-  key_in_text u d h _ typed e a = absurd typed
-
-  slot_if : (u : ℕ) (key : Key) (x : texts.Text) → text s u ≡ Some x → KeyAmong key (map key_of (first_cells s u x)) → is_there (slot_in s u key) ≡ true
-  unfolding slot_in
-  slot_if u key x e a = subst (λ z. is_there (place_from 0 key (cells_in s u z)) ≡ true) (sym e) (place_there 0 key (first_cells s u x) a)
+  key_in_text u d h c (BlockText begin ds ss) solid typed e a = listed_key s (numbers_of s u) d c h e a
+  key_in_text u d h c (ProcedureText result g b) solid typed e a = behind_result result (Declared d.0) (cells_from s (numbers_of s u)) (listed_key s (numbers_of s u) d c h e a)
+  key_in_text u d h c (ClassText prefix g ds ss) solid typed e a = listed_key s (numbers_of s u) d c h e a
+  key_in_text u d h c ConnectionText solid typed e a = absurd (cc)
+  key_in_text u d h c _ solid typed e a = absurd typed
 
   -- what is declared in a text has a cell in it
-  pub slot_listed : (u : ℕ) (d : DeclNo) (h : Holds) → entry_holds (entry_of s.tables d) ≡ Some h → Among d (numbers_of s u) → is_there (slot_in s u (Declared d.0)) ≡ true
-  slot_listed u d h e a =
+  pub slot_listed : (u : ℕ) (d : DeclNo) (h : Holds) (c : Bool) → is_connection (text s u) ≡ false → entry_holds s c (entry_of s.tables d) ≡ Some h → Among d (numbers_of s u) → is_there (slot_in s u (Declared d.0)) ≡ true
+  slot_listed u d h c solid e a =
       let x = text_at u (numbers_there u d (slice_get s.tables.blocks u) refl a) in
-      slot_if u (Declared d.0) x.0 x.1 (key_in_text u d h x.0 (ok.texts u x.0 x.1) e a)
+      slot_of_text u (Declared d.0) x.0 x.1 (key_in_text u d h c x.0 (ap is_connection (sym x.1) ∙ solid) (ok.texts u x.0 x.1) e a)
 
-  pub slot_of_result : (u : ℕ) (type : TypeName) (g : Heading) (b : Statement) → text s u ≡ Some (ProcedureText (Some type) g b) → is_there (slot_in s u Result) ≡ true
+  slot_of_result : (u : ℕ) (type : TypeName) (g : Heading) (b : Statement) → text s u ≡ Some (ProcedureText (Some type) g b) → is_there (slot_in s u Result) ≡ true
   unfolding first_cells
-  slot_of_result u type g b e = slot_if u Result (ProcedureText (Some type) g b) e first_key
+  slot_of_result u type g b e = slot_of_text u Result (ProcedureText (Some type) g b) e first_key
 
-  -- a cell that is seen
-  pub cell_built : (t : ℕ) (d : DeclNo) (h : Holds) → entry_holds (entry_of s.tables d) ≡ Some h → StandsIn s t (block_of s d) → CellBuilt s t d
-  cell_built t d h e inside = record { has = slot_listed (block_of s d) d h e (among_block s ok d h e); inside = inside }
+  -- the result of a declared procedure has a cell
+  pub result_has : (d : DeclNo) (result : Option SimType) (k : ℕ) (h : Holds) → entry_of s.tables d ≡ Some (entry.Procedure result k) → result_holds s k ≡ Some h → is_there (slot_in s k Result) ≡ true
+  result_has d result k h e holds = let y = ok.procedures d result k e in by_given y.given y.heading y.body y.is (subst (ResultWritten y.given) holds (ok.texts k (ProcedureText y.given y.heading y.body) y.is).result)
+    where
+      by_given : (given : Option TypeName) (g : Heading) (b : Statement) → text s k ≡ Some (ProcedureText given g b) → ResultWritten given (Some h) → is_there (slot_in s k Result) ≡ true
+      by_given None g b is w = absurd w
+      by_given (Some type) g b is w = slot_of_result k type g b is
+
+  pub result_typed : (d : DeclNo) (type : SimType) (k : ℕ) → entry_of s.tables d ≡ Some (entry.Procedure (Some type) k) → is_there (slot_in s k Result) ≡ true
+  result_typed d type k e = result_has d (Some type) k (held_by s type) e (holds_result s ok d (Some type) k e)
+
+  among_held : (d : DeclNo) (h : Holds) (c : Bool) → entry_holds s c (entry_of s.tables d) ≡ Some h → Among d (numbers_of s (block_of s d))
+  among_held d h c e = by_entry (entry_of s.tables d) refl e
+    where
+      by_entry : (y : Option Entry) → entry_of s.tables d ≡ y → entry_holds s c y ≡ Some h → Among d (numbers_of s (block_of s d))
+      by_entry None is f = absurd (cc)
+      by_entry (Some y) is f = among_block s ok d y is
+
+  -- what holds something has a cell where it is declared
+  pub declared_has : (d : DeclNo) (h : Holds) (c : Bool) → is_connection (text s (block_of s d)) ≡ false → entry_holds s c (entry_of s.tables d) ≡ Some h → HasBuilt s (block_of s d) (Declared d.0)
+  declared_has d h c solid e = slot_listed (block_of s d) d h c solid e (among_held d h c e)
+
+  -- where a level is that of a text itself
+  pub level_solid : (t u : ℕ) → is_connection (text s t) ≡ false → has_level s.tables t u ≡ true → is_connection (text s u) ≡ false
+  level_solid t u solid e = subst (λ z. is_connection (text s z) ≡ false) (one_level s ok t u solid e) solid

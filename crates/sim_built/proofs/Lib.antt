@@ -1,7 +1,13 @@
-mod Cells
-mod Names
-mod Expressions
-mod Statements
-mod Programs
-pub mod Lying
+pub mod Agreeing
 pub mod Allowed
+pub mod Attributes
+pub mod Cells
+pub mod Expressions
+pub mod Held
+pub mod LeftSides
+pub mod Lists
+pub mod Lying
+pub mod Names
+pub mod Programs
+pub mod Standing
+pub mod Statements

@@ -1,48 +1,50 @@
 -- Typed programs are built.
-use Rattle.std.proofs.Common.{◌≡◌, ℕ, suc, ◌+◌, List, [], ◌∷◌, ◌++◌, Option, Some, None, refl, sym, ap, ◌∙◌, subst, arith}
+use Rattle.std.proofs.Common.{◌≡◌, ℕ, zero, suc, ◌+◌, Bool, true, false, List, [], ◌∷◌, ◌++◌, Option, Some, None, refl, sym, ap, ◌∙◌, subst, arith}
 use Rattle.std.specs.Prelude.{slice_get}
 use Rattle.sim_base.specs.declared.numbering.DeclNo.{DeclNo}
-use Rattle.sim_scope.specs.Access.{encloser}
 use Rattle.sim_scope.specs.Source.{Source}
 use Rattle.sim_tree.specs.declared.expr.Identifier.{Identifier}
-use Rattle.sim_tree.specs.Syntax.{Also, Arms, Arrayed, Arrays, Begin, Block, BoundPair, Declaration, Declarations, DeclareClass, DeclareProcedure, NoDeclaration, NoStatement, Prefix, Program, Statement, Statements, Variables, With}
+use Rattle.sim_tree.specs.Filled.{Filled, FilledArms, FilledBlock, FilledDeclaration, FilledDeclarations, FilledStatement, FilledStatements}
+use Rattle.sim_tree.specs.Syntax.{Also, Arms, Arrayed, Arrays, Begin, Block, BoundPair, Declaration, Declarations, DeclareClass, DeclareProcedure, Heading, NoArm, NoDeclaration, NoStatement, Prefix, Statement, Statements, Variables, When, With}
 use Rattle.sim_tree.specs.Syntax as syntax
-use Rattle.sim_values.specs.declared.kind.Kind.{Kind}
 use Rattle.sim_values.specs.declared.kind.Kind.TheVariants as kind
+use Rattle.sim_meaning.specs.Attributes.{is_connection}
 use Rattle.sim_meaning.specs.Entries.{numbers_of}
-use Rattle.sim_meaning.specs.Texts.{BlockText, ProcedureText, Text, block_texts, declaration_texts, declarations_texts, declared_at, kind_named, program_texts, statement_texts, statements_texts, text}
-use Rattle.sim_agree.specs.Plain.{Each, Plain, PlainBlock, PlainBounds, PlainDeclaration, PlainDeclarations, PlainSegment, PlainStatement, PlainStatements}
-use Rattle.sim_sound.specs.Typed.{Among, ArrayOf, ArraysAre, ArraysTyped, BoundsAre, Sees, SegmentsAre, Simply, SomeName, TextTyped, Typed, arrays_in_segments, arrays_named, arrays_of_block, first, further, later, of_option}
-use Rattle.codegen_expr.specs.Built.{StandsIn}
-use Rattle.codegen.specs.BuiltProgram.{ArraysBuilt, BoundsBuilt, KeptBuilt, MadeBuilt, NamesBuilt, ProgramBuilt, SegmentsBuilt, TextBuilt, TextsBuilt, texts_of}
-use Rattle.sim_tree.specs.Filled.{Filled, FilledBlock, FilledDeclaration, FilledDeclarations, FilledStatement, FilledStatements}
+use Rattle.sim_meaning.specs.Levels.{writes_inner}
+use Rattle.sim_meaning.specs.Texts.{BlockText, ClassText, ConnectionText, ProcedureText, Text, arms_texts, block_texts, declaration_texts, declarations_texts, declared_at, program_texts, statement_texts, statements_texts, text}
+use Rattle.sim_agree.specs.Inners.{InnersIn}
+use Rattle.sim_agree.specs.Plain.{Each, Plain, PlainArms, PlainBlock, PlainDeclaration, PlainDeclarations, PlainStatement, PlainStatements}
+use Rattle.sim_sound.specs.Held.{Among, ArrayOf, Holds, InBound, Simply, entry_holds, first, held_by, later}
+use Rattle.sim_sound.specs.Statements.{StatementsAre}
+use Rattle.sim_sound.specs.Typed.{ArraysAre, ArraysTyped, BoundsAre, SegmentsAre, SomeName, TextTyped, Typed, arrays_in_segments, arrays_named, arrays_of_block, of_option}
+use Rattle.codegen_expr.specs.Sites.{is_constant}
+use Rattle.codegen.specs.BuiltProgram.{ArraysBuilt, BoundsBuilt, ClassTextBuilt, KeptBuilt, LevelBuilt, MadeBuilt, NamesBuilt, ProgramBuilt, SegmentsBuilt, TextBuilt, TextsBuilt, texts_of}
 use Rattle.sim_built.specs.Laid.{Laid}
-use Rattle.sim_built.proofs.Cells.{slot_listed, stands}
-use Rattle.sim_built.proofs.Expressions.{is_built}
-use Rattle.sim_built.proofs.Statements.{statement_built, statements_built}
+use Rattle.sim_built.proofs.Agreeing.{agrees, no_prefixes}
+use Rattle.sim_built.proofs.Cells.{slot_listed}
+use Rattle.sim_built.proofs.Expressions.{Stands, is_built}
+use Rattle.sim_built.proofs.Standing.{stands_in_bound}
+use Rattle.sim_built.proofs.Statements.{statement_built, statements_built, with_inner}
 
 -- ---- arrays
 
-module _ (s : Source) (ok : Typed s) (laid : Laid s) (t : ℕ) (x : Text) (there : text s t ≡ Some x) where
-  -- bounds see what is around the block
-  seen_outside : (from : Option ℕ) → encloser s.tables t ≡ from → (u : ℕ) → Sees s.tables from u → StandsIn s t u
-  seen_outside None e u a = absurd a
-  seen_outside (Some v) e u a = stands s ok laid t u x there (further e a)
+module _ (s : Source) (ok : Typed s) (laid : Laid s) (t : ℕ) (x : Text) (there : text s t ≡ Some x) (whole : is_connection (text s t) ≡ false) where
+  standing : Stands s t (InBound t)
+  standing = stands_in_bound s ok laid t x there whole
 
-  bounds_built : (bs : List BoundPair) → Each PlainBounds bs → BoundsAre s (encloser s.tables t) bs → BoundsBuilt s t bs
-  bounds_built [] p a = tt
-  bounds_built (b ∷ bs) p a =
-      let seen = seen_outside (encloser s.tables t) refl in
-      (is_built s ok laid t (encloser s.tables t) seen b.lower (Simply kind.Integer) (p.0).0 a.0, is_built s ok laid t (encloser s.tables t) seen b.upper (Simply kind.Integer) (p.0).1 a.1, bounds_built bs p.1 a.2)
+  bounds_built : (bs : List BoundPair) → BoundsAre s (InBound t) bs → BoundsBuilt s t bs
+  bounds_built [] a = tt
+  bounds_built (b ∷ bs) a =
+      (is_built s ok laid t (InBound t) standing b.lower (Simply kind.Integer) a.0, is_built s ok laid t (InBound t) standing b.upper (Simply kind.Integer) a.1, bounds_built bs a.2)
 
-  names_built : (k : Kind) (xs : List Identifier) (more : List DeclNo) → ((d : DeclNo) → Among d (arrays_named s xs more) → Among d (numbers_of s t)) → ArraysAre s k xs → NamesBuilt s t xs
-  names_built k [] more listed a = tt
-  names_built k (y ∷ ys) more listed a =
+  names_built : (h : Holds) (xs : List Identifier) (more : List DeclNo) → ((d : DeclNo) → Among d (arrays_named s xs more) → Among d (numbers_of s t)) → ArraysAre s h xs → NamesBuilt s t xs
+  names_built h [] more listed a = tt
+  names_built h (y ∷ ys) more listed a =
       let d = (a.0).declaration in
       let at = (a.0).at in
       let own = listed d (subst (λ z. Among d (of_option z (arrays_named s ys more))) (sym at) first) in (
-        subst (KeptBuilt s t) (sym at) (laid.owned t d own, slot_listed s ok laid t d (ArrayOf k) (a.0).holds own),
-        names_built k ys more (λ e b. listed e (subst (λ z. Among e (of_option z (arrays_named s ys more))) (sym at) (later b))) a.1,
+        subst (KeptBuilt s t) (sym at) (laid.owned t d own, ap is_constant (a.0).is, slot_listed s ok laid t d (ArrayOf (held_by s (a.0).element)) false whole (ap (entry_holds s false) (a.0).is) own),
+        names_built h ys more (λ e b. listed e (subst (λ z. Among e (of_option z (arrays_named s ys more))) (sym at) (later b))) a.1,
       )
 
   behind_option : (d : DeclNo) (o : Option DeclNo) (ds : List DeclNo) → Among d ds → Among d (of_option o ds)
@@ -61,27 +63,29 @@ module _ (s : Source) (ok : Typed s) (laid : Laid s) (t : ℕ) (x : Text) (there
   made_built [] some a = absurd some
   made_built (y ∷ ys) some a = a
 
-  segments_built : (k : Kind) (gs : List Arrayed) (more : List DeclNo) → ((d : DeclNo) → Among d (arrays_in_segments s gs more) → Among d (numbers_of s t)) → Each PlainSegment gs → SegmentsAre s (encloser s.tables t) k gs → SegmentsBuilt s t gs
-  segments_built k [] more listed p a = tt
-  segments_built k (g ∷ gs) more listed p a = (
-    bounds_built g.bounds p.0 a.0,
-    made_built g.names a.1 (names_built k g.names (arrays_in_segments s gs more) listed a.2),
-    segments_built k gs more (λ d b. listed d (behind_names d g.names (arrays_in_segments s gs more) b)) p.1 a.3,
+  segments_built : (h : Holds) (gs : List Arrayed) (more : List DeclNo) → ((d : DeclNo) → Among d (arrays_in_segments s gs more) → Among d (numbers_of s t)) → SegmentsAre s (InBound t) h gs → SegmentsBuilt s t gs
+  segments_built h [] more listed a = tt
+  segments_built h (g ∷ gs) more listed a = (
+    bounds_built g.bounds a.0,
+    made_built g.names a.1 (names_built h g.names (arrays_in_segments s gs more) listed a.2),
+    segments_built h gs more (λ d b. listed d (behind_names d g.names (arrays_in_segments s gs more) b)) a.3,
   )
 
-  pub arrays_built : (ds : Declarations) → ((d : DeclNo) → Among d (arrays_of_block s ds) → Among d (numbers_of s t)) → Rattle.sim_agree.specs.Plain.PlainDeclarations ds → ArraysTyped s (encloser s.tables t) ds → ArraysBuilt s t ds
-  arrays_built NoDeclaration listed p a = tt
-  arrays_built (With (Variables type vs) ds) listed p a = arrays_built ds listed p.1 a
-  arrays_built (With (Arrays type i gs) ds) listed p a =
-      (segments_built (kind_named type) gs (arrays_of_block s ds) listed (p.0).1 a.0, arrays_built ds (λ d b. listed d (behind_segments d gs (arrays_of_block s ds) b)) p.1 a.1)
-  arrays_built (With (DeclareProcedure result i h b end) ds) listed p a = arrays_built ds listed p.1 a
-  arrays_built (With (DeclareClass prefix i h interface b end) ds) listed p a = arrays_built ds listed p.1 a
+  pub arrays_built : (ds : Declarations) → ((d : DeclNo) → Among d (arrays_of_block s ds) → Among d (numbers_of s t)) → ArraysTyped s (InBound t) ds → ArraysBuilt s t ds
+  arrays_built NoDeclaration listed a = tt
+  arrays_built (With (Variables type vs) ds) listed a = arrays_built ds listed a
+  arrays_built (With (Arrays type i gs) ds) listed a =
+      (segments_built a.0 gs (arrays_of_block s ds) listed a.2, arrays_built ds (λ d b. listed d (behind_segments d gs (arrays_of_block s ds) b)) a.3)
+  arrays_built (With (DeclareProcedure result i h b end) ds) listed a = arrays_built ds listed a
+  arrays_built (With (DeclareClass prefix i h interface b end) ds) listed a = arrays_built ds listed a
 
 -- ---- texts
 
 abbrev Fit : Text → Type 0
-Fit (BlockText begin ds ss) = PlainDeclarations ds × PlainStatements ss × FilledStatements ss
-Fit (ProcedureText result h a) = PlainStatement a × FilledStatement a
+Fit (BlockText begin ds ss) = FilledStatements ss
+Fit (ProcedureText result h a) = FilledStatement a
+Fit (ClassText prefix h ds ss) = (prefix ≡ None) × FilledStatements ss
+Fit ConnectionText = Unit {0}
 Fit _ = ⊥
 
 both_each : (xs ys : List Text) → Each Fit xs → Each Fit ys → Each Fit (xs ++ ys)
@@ -97,11 +101,15 @@ mutual
   statement_fit (syntax.Choose i c x y) p f = both_each (statement_texts x) (statements_texts y) (statement_fit x p.1 f.0) (statements_fit y p.2 f.1)
   statement_fit (syntax.Repeat i c x) p f = statement_fit x p.1 f
   statement_fit (syntax.For i name sign assign es x) p f = statement_fit x p.1 f.1
+  statement_fit (syntax.Inner i) p f = tt
+  statement_fit (syntax.Inspect i e opening x end other) p f = (tt, both_each (statement_texts x) (statements_texts other) (statement_fit x p.1 f.0) (statements_fit other p.2 f.1))
+  statement_fit (syntax.InspectWhen i e arms other) p f = both_each (arms_texts arms) (statements_texts other) (arms_fit arms p.1 f.0) (statements_fit other p.2 f.1)
   statement_fit (syntax.Prefixed class arguments b) p f = absurd p
-  statement_fit (syntax.Inner i) p f = absurd p
-  statement_fit (syntax.Inspect i e opening x end other) p f = absurd p
-  statement_fit (syntax.InspectWhen i e arms other) p f = absurd p
   statement_fit (syntax.Activate i word e schedule) p f = absurd p
+
+  arms_fit : (arms : Arms) → PlainArms arms → FilledArms arms → Each Fit (arms_texts arms)
+  arms_fit NoArm p f = tt
+  arms_fit (When i class opening x end more) p f = (tt, both_each (statement_texts x) (arms_texts more) (statement_fit x p.1 f.0) (arms_fit more p.2 f.1))
 
   statements_fit : (ss : Statements) → PlainStatements ss → FilledStatements ss → Each Fit (statements_texts ss)
   statements_fit NoStatement p f = tt
@@ -110,7 +118,7 @@ mutual
   block_fit : (b : Block) → PlainBlock b → FilledBlock b → Each Fit (block_texts b)
   block_fit (Begin i NoDeclaration ss end) p f = statements_fit ss p.1 f.1
   block_fit (Begin i (With d ds) ss end) p f =
-      ((p.0, p.1, f.1), both_each (declaration_texts d) (declarations_texts ds ++ statements_texts ss) (declaration_fit d (p.0).0 (f.0).0) (both_each (declarations_texts ds) (statements_texts ss) (declarations_fit ds (p.0).1 (f.0).1) (statements_fit ss p.1 f.1)))
+      (f.1, both_each (declaration_texts d) (declarations_texts ds ++ statements_texts ss) (declaration_fit d (p.0).0 (f.0).0) (both_each (declarations_texts ds) (statements_texts ss) (declarations_fit ds (p.0).1 (f.0).1) (statements_fit ss p.1 f.1)))
 
   declarations_fit : (ds : Declarations) → PlainDeclarations ds → FilledDeclarations ds → Each Fit (declarations_texts ds)
   declarations_fit NoDeclaration p f = tt
@@ -119,18 +127,47 @@ mutual
   declaration_fit : (d : Declaration) → PlainDeclaration d → FilledDeclaration d → Each Fit (declaration_texts d)
   declaration_fit (Variables type vs) p f = tt
   declaration_fit (Arrays type i gs) p f = tt
-  declaration_fit (DeclareProcedure result i h a end) p f = ((p.2, f), statement_fit a p.2 f)
-  declaration_fit (DeclareClass prefix i h interface a end) p f = absurd p
+  declaration_fit (DeclareProcedure result i h a end) p f = (f, statement_fit a p.2 f)
+  declaration_fit (DeclareClass None i h interface (syntax.Compound (Begin j ds ss e)) end) p f =
+      ((refl, f.1), both_each (declarations_texts ds) (statements_texts ss) (declarations_fit ds (p.3).0 f.0) (statements_fit ss (p.3).1 f.1))
+  declaration_fit (DeclareClass None i h interface (syntax.Empty j) end) p f = ((refl, (f, tt)), statement_fit (syntax.Empty j) p.3 f)
+  declaration_fit (DeclareClass None i h interface (syntax.Call e) end) p f = ((refl, (f, tt)), statement_fit (syntax.Call e) p.3 f)
+  declaration_fit (DeclareClass None i h interface (syntax.Assign e rs) end) p f = ((refl, (f, tt)), statement_fit (syntax.Assign e rs) p.3 f)
+  declaration_fit (DeclareClass None i h interface (syntax.Choose j c x y) end) p f = ((refl, (f, tt)), statement_fit (syntax.Choose j c x y) p.3 f)
+  declaration_fit (DeclareClass None i h interface (syntax.Repeat j c x) end) p f = ((refl, (f, tt)), statement_fit (syntax.Repeat j c x) p.3 f)
+  declaration_fit (DeclareClass None i h interface (syntax.For j name sign assign es x) end) p f = ((refl, (f, tt)), statement_fit (syntax.For j name sign assign es x) p.3 f)
+  declaration_fit (DeclareClass None i h interface (syntax.Inner j) end) p f = ((refl, (f, tt)), statement_fit (syntax.Inner j) p.3 f)
+  declaration_fit (DeclareClass None i h interface (syntax.Inspect j e opening x close other) end) p f = ((refl, (f, tt)), statement_fit (syntax.Inspect j e opening x close other) p.3 f)
+  declaration_fit (DeclareClass None i h interface (syntax.InspectWhen j e arms other) end) p f = ((refl, (f, tt)), statement_fit (syntax.InspectWhen j e arms other) p.3 f)
+  declaration_fit (DeclareClass None i h interface (syntax.Prefixed class arguments b) end) p f = absurd p.3
+  declaration_fit (DeclareClass None i h interface (syntax.Activate j word e schedule) end) p f = absurd p.3
+  declaration_fit (DeclareClass (Some prefix) i h interface a end) p f = let none = p.0 in absurd (cc)
 
 program_fit : (prefix : Option Prefix) (b : Block) → prefix ≡ None → PlainBlock b → FilledBlock b → Each Fit (program_texts prefix b)
-program_fit None (Begin i ds ss end) e p f = ((p.0, p.1, f.1), both_each (declarations_texts ds) (statements_texts ss) (declarations_fit ds p.0 f.0) (statements_fit ss p.1 f.1))
+program_fit None (Begin i ds ss end) e p f = (f.1, both_each (declarations_texts ds) (statements_texts ss) (declarations_fit ds p.0 f.0) (statements_fit ss p.1 f.1))
 program_fit (Some x) b e p f = absurd (cc)
 
 module _ (s : Source) (ok : Typed s) (laid : Laid s) where
+  level_built : (k : ℕ) (prefix : Option Identifier) (h : Heading) (ds : Declarations) (ss : Statements) → text s k ≡ Some (ClassText prefix h ds ss) → (written : Bool) → InnersIn written (ClassText prefix h ds ss) → FilledStatements ss → StatementsAre s k ss → LevelBuilt s k written ss
+  level_built k prefix h ds ss e true n f a = with_inner s ok laid k (ClassText prefix h ds ss) e ss n f a
+  level_built k prefix h ds ss e false n f a = statements_built s ok laid k (ClassText prefix h ds ss) e ss n f a
+
+  class_built : (k : ℕ) (prefix : Option Identifier) (h : Heading) (ds : Declarations) (ss : Statements) → text s k ≡ Some (ClassText prefix h ds ss) → Fit (ClassText prefix h ds ss) → TextTyped s k (ClassText prefix h ds ss) → ClassTextBuilt s k prefix ds ss
+  class_built k (Some prefix) h ds ss e f a = let none = f.0 in absurd (cc)
+  class_built k None h ds ss e f a = (
+    arrays_built s ok laid k (ClassText None h ds ss) e (ap is_connection e) ds a.own a.arrays,
+    level_built k None h ds ss e (writes_inner s k) (laid.inners k (ClassText None h ds ss) e) f.1 a.statements,
+  )
+
   text_built : (k : ℕ) (x : Text) → text s k ≡ Some x → Fit x → TextTyped s k x → TextBuilt s k x
-  text_built k (BlockText begin ds ss) e f a =
-      (arrays_built s ok laid k (BlockText begin ds ss) e ds a.own f.0 a.arrays, statements_built s ok laid k (BlockText begin ds ss) e ss f.1 f.2 a.statements)
-  text_built k (ProcedureText result h b) e f a = statement_built s ok laid k (ProcedureText result h b) e b f.0 f.1 a.body
+  text_built k (BlockText begin ds ss) e f a = (
+    arrays_built s ok laid k (BlockText begin ds ss) e (ap is_connection e) ds a.own a.arrays,
+    statements_built s ok laid k (BlockText begin ds ss) e ss (laid.inners k (BlockText begin ds ss) e) f a.statements,
+  )
+  text_built k (ProcedureText result h b) e f a = statement_built s ok laid k (ProcedureText result h b) e b (laid.inners k (ProcedureText result h b) e) f a.body
+  text_built zero (ClassText prefix h ds ss) e f a = let block = ok.starts in absurd (cc)
+  text_built (suc k) (ClassText prefix h ds ss) e f a = class_built (suc k) prefix h ds ss e f a
+  text_built k ConnectionText e f a = tt
   text_built k _ e f a = absurd f
 
   texts_built : (k : ℕ) (xs : List Text) → ((i : ℕ) (x : Text) → slice_get xs i ≡ Some x → text s (k + i) ≡ Some x) → Each Fit xs → TextsBuilt s k xs
@@ -146,4 +183,8 @@ module _ (s : Source) (ok : Typed s) (laid : Laid s) where
   unfolding texts_of text
   program_built p f =
       let fit = program_fit s.program.prefix s.program.block p.prefix p.block f in
-      record { texts = texts_built 0 (program_texts s.program.prefix s.program.block) (λ i x e. ap (slice_get (program_texts s.program.prefix s.program.block)) (omega arith) ∙ e) fit; plain = laid.plain; agrees = laid.agrees }
+      record {
+        texts = texts_built 0 (program_texts s.program.prefix s.program.block) (λ i x e. ap (slice_get (program_texts s.program.prefix s.program.block)) (omega arith) ∙ e) fit;
+        unprefixed = no_prefixes s ok laid;
+        agrees = agrees s ok laid;
+      }

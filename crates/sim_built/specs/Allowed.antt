@@ -3,11 +3,12 @@ use Rattle.std.specs.Prelude.{◌≡◌, false, List}
 use Rattle.sim_base.specs.declared.token.Token.{Token}
 use Rattle.sim_scope.specs.Source.{Source}
 use Rattle.sim_static.specs.Check.{Allowed, check_of}
-use Rattle.sim_static.specs.CodeParameters.{passes_code}
-use Rattle.sim_static.specs.NeedsClasses.{needs_classes}
+use Rattle.sim_static.specs.UnbuiltForms.{has_unbuilt_form}
+use Rattle.sim_static.specs.UnbuiltNames.{has_unbuilt_name}
 use Rattle.sim_tree.specs.SyntaxOfProgram.{program_syntax}
 use Rattle.sim_tree.specs.Tree.{IsTree}
 use Rattle.sim_tree.specs.declared.program.Program.{Program as Tree}
+use Rattle.sim_allowed.specs.KeptInstances.{keeps_instances}
 
 -- this is the program of a tree that breaks no rule, with what the static rules give it
 pub record IsChecked (tree : Tree) (s : Source) : Type 0 where
@@ -15,9 +16,10 @@ pub record IsChecked (tree : Tree) (s : Source) : Type 0 where
   pub program : s.program ≡ program_syntax tree
   pub lines : s.lines ≡ tree.lines.items
 
--- it is so of the tree of these tokens, which has no classes, parameters by name and formal procedures
+-- it is so of the tree of these tokens, neither has what is not built, and no entry of a procedure keeps instances
 pub record IsAllowed (tokens : List Token) (tree : Tree) (s : Source) : Type 0 where
   pub reads : IsTree tokens tree
-  pub class_free : needs_classes tokens ≡ false
-  pub by_value : passes_code (program_syntax tree) ≡ false
+  pub names : has_unbuilt_name tokens ≡ false
+  pub forms : has_unbuilt_form (program_syntax tree) ≡ false
   pub checked : IsChecked tree s
+  pub keeps : keeps_instances s ≡ false

@@ -1,19 +1,29 @@
--- How the tables of a program without classes lie.
-use Rattle.std.specs.Prelude.{◌≡◌, ◌<◌, ℕ, false, Some}
-use Rattle.std.specs.List.{list_any}
+-- How the tables of a program lie, as far as code rests on it.
+use Rattle.std.specs.Prelude.{◌≡◌, ◌<◌, ℕ, length, slice_get, Some}
 use Rattle.sim_base.specs.declared.numbering.DeclNo.{DeclNo}
+use Rattle.sim_scope.specs.declared.types.Entry.TheVariants as entry
+use Rattle.sim_scope.specs.declared.types.Formal.{Formal}
 use Rattle.sim_scope.specs.Access.{encloser}
+use Rattle.sim_scope.specs.Scopes.{entry_of, formals_in}
 use Rattle.sim_scope.specs.Source.{Source, block_of}
+use Rattle.sim_meaning.specs.Attributes.{is_connection}
 use Rattle.sim_meaning.specs.Entries.{numbers_of}
-use Rattle.sim_sound.specs.Typed.{Among}
-use Rattle.codegen.specs.Agrees.{Agrees}
-use Rattle.codegen.specs.BuiltProgram.{is_special}
+use Rattle.sim_meaning.specs.Texts.{program_texts, text}
+use Rattle.sim_agree.specs.Inners.{Inners}
+use Rattle.sim_sound.specs.Held.{Among}
+use Rattle.sim_sound.specs.Typed.{Distinct}
+use Rattle.codegen_expr.specs.Sites.{is_connected}
 
 pub record Laid (s : Source) : Type 0 where
-  pub agrees : Agrees s
+  -- there is a block for each text, and a connection for each connection
+  pub as_many : length s.tables.blocks ≡ length (program_texts s.program.prefix s.program.block)
+  pub connected : (k : ℕ) → is_connected s.tables k ≡ is_connection (text s k)
   -- a block has a greater number than the one around it
   pub falls : (t u : ℕ) → encloser s.tables t ≡ Some u → u < t
-  -- what a block lists is declared in it
+  -- what a block lists is declared in it, and is listed once
   pub owned : (k : ℕ) (d : DeclNo) → Among d (numbers_of s k) → block_of s d ≡ k
-  -- no block is a class, a prefixed block or a connection
-  pub plain : list_any is_special s.tables.blocks ≡ false
+  pub different : (k : ℕ) → Distinct (numbers_of s k)
+  -- the first of these are its formal parameters, as many as it has
+  pub formals : (k n : ℕ) (d : DeclNo) → slice_get (formals_in (slice_get s.tables.blocks k)) n ≡ Some d → (f : Formal) × (entry_of s.tables d ≡ Some (entry.Formal f))
+  -- `inner` stands where the table of its class has it
+  pub inners : Inners s

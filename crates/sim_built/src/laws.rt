@@ -1,11 +1,9 @@
 //! That what breaks no rule is built. Each law is a function that does nothing; its clause is the law.
-ghost use Rattle.std.specs.Prelude.{◌≡◌, ℕ, List};
-ghost use Rattle.sim_base.specs.declared.limits.Limits.{Limits};
+ghost use Rattle.std.specs.Prelude.{List};
 ghost use Rattle.sim_base.specs.declared.token.Token.{Token};
-ghost use Rattle.sim_code.specs.Outcome.{Ended, NoRule, World};
-ghost use Rattle.sim_meaning.specs.Meaning.{run};
-ghost use Rattle.sim_meaning.specs.Sane.{StaysSane};
+ghost use Rattle.sim_meaning.specs.Sane.{HasRules, NamesObjects, StaysSane};
 ghost use Rattle.sim_scope.specs.Source.{Source};
+ghost use Rattle.sim_agree.specs.Inners.{Inners};
 ghost use Rattle.sim_agree.specs.Plain.{Plain};
 ghost use Rattle.sim_agree.specs.TablesAgree.{TablesAgree};
 ghost use Rattle.sim_sound.specs.Typed.{Typed};
@@ -15,22 +13,24 @@ ghost use Rattle.sim_tree.specs.Filled.{Filled};
 ghost use Rattle.sim_built.specs.Allowed.{IsAllowed};
 ghost use Rattle.sim_built.specs.Laid.{Laid};
 
-/// A typed program without classes, parameters by name and formal procedures is built, where its tables lie as those of a program do.
+/// A typed program without class and block prefixes, parameters by name and formal procedures is built, where its tables lie as those of a
+/// program do.
 pub fn typed_programs_are_built()
     ensures { (s : Source) → Typed s → Laid s → Plain s.program → Filled s.program → ProgramBuilt s }
 {}
 
-/// Tables that agree with the texts of their program lie as code needs them.
+/// Tables that agree with the texts of their program, also in where `inner` stands, lie as code needs them.
 #[tactic(auto, using(crate::proofs::Lying::lies))]
 pub fn tables_lie()
-    ensures { (s : Source) → TablesAgree s → Laid s }
+    ensures { (s : Source) → TablesAgree s → Inners s → Laid s }
 {}
 
-/// A program that breaks no rule and has no classes, parameters by name and formal procedures is built, and never comes to where its
+/// A program that breaks no rule and has no prefixes, parameters by name and formal procedures is built, and never comes to where its
 /// meaning has no rule, whatever the limits and the input are. At each moment of its run the instance that operates lives with its
-/// enclosers, and stands at no other place of the chains.
+/// enclosers, and stands at no other place of the chains; and a reference that it took last into its hand names an object.
 pub fn allowed_programs_run()
     ensures built { (tokens : List Token) (tree : Tree) (s : Source) → IsAllowed tokens tree s → ProgramBuilt s }
-    ensures ruled { (tokens : List Token) (tree : Tree) (s : Source) → IsAllowed tokens tree s → (l : Limits) (input : List ℕ) (n : ℕ) (o : World) → run s l input n ≡ Ended o NoRule → ⊥ }
+    ensures ruled { (tokens : List Token) (tree : Tree) (s : Source) → IsAllowed tokens tree s → HasRules s }
     ensures stays_sane { (tokens : List Token) (tree : Tree) (s : Source) → IsAllowed tokens tree s → StaysSane s }
+    ensures names_objects { (tokens : List Token) (tree : Tree) (s : Source) → IsAllowed tokens tree s → NamesObjects s }
 {}

@@ -11,17 +11,21 @@ use Rattle.sim_values.specs.declared.value.TextVal.{TextVal}
 use Rattle.sim_values.specs.Plain.{Plain, Text}
 use Rattle.sim_values.specs.Store.{Store, image_at, with_image}
 use Rattle.sim_values.specs.Texts.{same_text}
+use Rattle.sim_chains.specs.Components.{AttachedObject, DetachedObject, NoObject, ResumedObject, Standing, TerminatedObject}
 use Rattle.sim_code.specs.declared.code.BlockKind.{BlockKind}
+use Rattle.sim_code.specs.declared.code.BlockKind.TheVariants as block
 use Rattle.sim_code.specs.declared.instr.Instr.{Instr}
 use Rattle.sim_code.specs.declared.instr.Instr.TheVariants as i
 use Rattle.sim_code.specs.declared.instr.Lined.{Lined}
-use Rattle.sim_code.specs.Code.{BlockOf, CodeOf}
+use Rattle.sim_code.specs.declared.stage.Stage.{Stage}
+use Rattle.sim_code.specs.Code.{BlockOf, ClassOf, CodeOf}
 use Rattle.sim_code.specs.Outcome.{ArrayOf, Going, Run, World}
 use Rattle.sim_code.specs.Events.{image_moved, image_set, no_rule, text_val}
 use Rattle.sim_code.specs.Arrays.{element, element_set, element_set_in, giving_back, handed_over, live_array, owned_by, with_array}
-use Rattle.sim_code.specs.Instances.{CellPlace, ElementPlace, ImagePlace, Place, at_level, is_given_at_end, is_live}
-use Rattle.sim_code.specs.Machine.{Activation, Address, ArrayValue, Cells, Frames, Link, Machine, Of, ProcedureValue, ThunkValue, Value, arrays_by_value, words_of_block, array_in, block_at, cell, cell_at, cell_set, frame_in, index, jumping, leaving, level, number, operand, own_block, owner, place_in, plain, pushing, pushing_any, same_kind, value_at, with_result}
+use Rattle.sim_code.specs.Instances.{CellPlace, ElementPlace, ImagePlace, Place, at_level, ended_as, going_below, is_given_at_end, is_live, object_ended}
+use Rattle.sim_code.specs.Machine.{Activation, Address, ArrayValue, Cells, Frames, Link, Machine, Of, ProcedureValue, ThunkValue, Value, arrays_by_value, words_of_block, array_in, block_at, cell, cell_at, cell_set, frame_in, index, jumping, leaving, level, link_in, number, operand, own_block, owner, place_in, plain, pushing, pushing_any, same_kind, value_at, with_result}
 use Rattle.sim_code.specs.Classes.{admitting, class_named, in_class, is_in, is_of, may_stand, qualifying}
+use Rattle.sim_code.specs.Levels.{after_declarations, at_inner, at_stage, class_at_level, declarations_done, ended_by_kind, entering_prefixed, generating, inner_reached, leading, level_ended, levelled, objects_of, outermost_ended, own_levels}
 use Rattle.sim_code.specs.Rows.{class_at, code_of, comparison_of, element_kind, entering_procedure, mstep, mrun, no_class, on_chain, one_row, opening, pushed, put_back, putting, qualified, row, standard_of, storing, truth_of, two_row, without_class}
 use Rattle.sim_code.specs.Growing.{Grown, OutputGrows, written}
 use Rattle.sim_code.proofs.Growing.{Grows, after_grows, after_more, grown_same, grows_assigning, grows_choosing, grows_copying, grows_entering, grows_finding, grows_having, grows_if, grows_integers, grows_keeping, grows_making, grows_many, grows_no_rule, grows_object, grows_one, grows_performing, grows_plain, grows_popping, grows_step, grows_stopping, grows_ticking, grows_truth, grows_two, grows_when}
@@ -172,6 +176,84 @@ call_grows code l o m a below line k n =
     block_grows code _ k o _ (λ k b x. grows_having Machine Cells _ o _ (λ cells _. grows_entering Machine l line (words_of_block b) o _ (λ p.
     record { more = subst (λ w. Grown p.store.written w) (sym (handed_same (length m.instances) (arrays_by_value b.formals values) p)) (grown_same p.store.written) }))))))))
 
+-- objects and prefixed blocks
+leading_grows : (code : CodeOf) (q : ℕ) (o : World) (r : Run Machine) → Here o r → Here o (leading code q o r)
+unfolding leading
+leading_grows code q o r h = grows_having Machine Lined _ o _ (λ _ _. h)
+
+levelled_grows : (code : CodeOf) (kind : BlockKind) (k : ℕ) (o : World) (go : BlockOf → ℕ → Run Machine) → ((b : BlockOf) (start : ℕ) → Here o (go b start)) → Here o (levelled code kind k o go)
+unfolding levelled
+levelled_grows code kind k o go h =
+    grows_having Machine BlockOf _ o _ (λ b _. grows_when Machine _ o _ (grows_having Machine (List ℕ) _ o _ (λ cs _. grows_having Machine ClassOf _ o _ (λ x _. leading_grows code x.declarations o _ (h b x.declarations)))))
+
+objects_grow : (code : CodeOf) (z : ℤ) (o : World) (go : ℕ → BlockOf → ℕ → Run Machine) → ((k : ℕ) (b : BlockOf) (start : ℕ) → Here o (go k b start)) → Here o (objects_of code z o go)
+unfolding objects_of
+objects_grow code z o go h =
+    grows_having Machine ℕ _ o _ (λ c _. grows_having Machine ClassOf _ o _ (λ x _. levelled_grows code _ x.block o _ (λ b start. grows_when Machine _ o _ (h x.block b start))))
+
+new_grows : (code : CodeOf) (l : Limits) (o : World) (m : Frames) (a : Activation) (below : List Activation) (line : ℕ) (z n : ℤ) → Here o (generating code l o m a below line z n)
+new_grows code l o m a below line z n =
+    index_grows n o _ (λ n. grows_many Machine Value plain n [] a.stack o _ (λ values stack. grows_popping Machine Value plain stack o _ (λ v stack. grows_having Machine ℕ (link_in v) o _ (λ parent _. grows_when Machine (is_live m parent) o _ (
+    objects_grow code z o _ (λ k b start. grows_having Machine Cells _ o _ (λ cells _. pushed_grows a.room stack _ o _ (λ stack. grows_entering Machine l line (words_of_block b) o _ (λ p.
+    record { more = subst (λ w. Grown p.store.written w) (sym (handed_same (length m.instances) (arrays_by_value b.formals values) p)) (grown_same p.store.written) })))))))))
+
+prefixed_grows : (code : CodeOf) (l : Limits) (o : World) (m : Frames) (a : Activation) (below : List Activation) (line : ℕ) (z n : ℤ) → Here o (entering_prefixed code l o m a below line z n)
+prefixed_grows code l o m a below line z n =
+    index_grows n o _ (λ n. grows_many Machine Value plain n [] a.stack o _ (λ values stack.
+    index_grows z o _ (λ k. levelled_grows code _ k o _ (λ b start. grows_having Machine Cells _ o _ (λ cells _. grows_entering Machine l line (words_of_block b) o _ (λ p.
+    record { more = subst (λ w. Grown p.store.written w) (sym (handed_same (length m.instances) (arrays_by_value b.formals values) p)) (grown_same p.store.written) }))))))
+
+own_levels_grow : (code : CodeOf) (m : Frames) (a : Activation) (stage : Stage) (o : World) (go : List ℕ → Run Machine) → ((cs : List ℕ) → Here o (go cs)) → Here o (own_levels code m a stage o go)
+unfolding own_levels
+own_levels_grow code m a stage o go h = grows_when Machine _ o _ (grows_having Machine ℕ (owner a) o _ (λ j _. grows_having Machine (List ℕ) _ o go (λ cs _. h cs)))
+
+stage_grows : (code : CodeOf) (o : World) (m : Frames) (a : Activation) (below : List Activation) (stage : Stage) (q : ℕ) → Here o (at_stage code o m a below stage q)
+stage_grows code o m a below stage q = leading_grows code q o _ (going o _)
+
+declared_grows : (code : CodeOf) (o : World) (m : Frames) (a : Activation) (below : List Activation) (n : ℕ) → Here o (declarations_done code o m a below n)
+declared_grows code o m a below n = own_levels_grow code m a _ o _ (λ cs. by_next cs (class_at_level code cs (suc n)))
+  where
+    by_next : (cs : List ℕ) (next : Option ClassOf) → Here o (after_declarations code o m a below n cs next)
+    by_next cs None = grows_having Machine ClassOf _ o _ (λ x _. stage_grows code o m a below _ x.statements)
+    by_next cs (Some x) = stage_grows code o m a below _ x.declarations
+
+inner_grows : (code : CodeOf) (o : World) (m : Frames) (a : Activation) (below : List Activation) (n : ℕ) → Here o (inner_reached code o m a below n)
+inner_grows code o m a below n = own_levels_grow code m a _ o _ (λ cs. by_next (class_at_level code cs (suc n)))
+  where
+    by_next : (next : Option ClassOf) → Here o (at_inner code o m a below n next)
+    by_next None = going o _
+    by_next (Some x) = stage_grows code o m a below _ x.statements
+
+ended_grows : (o : World) (m : Frames) (j : ℕ) (below : List Activation) → Here o (object_ended o m j below)
+unfolding object_ended
+ended_grows o m j below = by_standing (slice_get m.standings j)
+  where
+    by_below : (m : Frames) (below : List Activation) → Here o (going_below o below m)
+    by_below m [] = record { more = grown_same o.store.written }
+    by_below m (a ∷ below) = going o _
+
+    by_standing : (s : Option (Standing Activation)) → Here o (ended_as o m j below s)
+    by_standing None = record { more = grown_same o.store.written }
+    by_standing (Some (NoObject main)) = record { more = grown_same o.store.written }
+    by_standing (Some AttachedObject) = by_below _ below
+    by_standing (Some (DetachedObject chain)) = record { more = grown_same o.store.written }
+    by_standing (Some ResumedObject) = record { more = grown_same o.store.written }
+    by_standing (Some TerminatedObject) = record { more = grown_same o.store.written }
+
+outermost_grows : (code : CodeOf) (l : Limits) (o : World) (m : Frames) (a : Activation) (below : List Activation) (j k : ℕ) → Here o (outermost_ended code l o m a below j k)
+outermost_grows code l o m a below j k = grows_when Machine _ o _ (grows_having Machine BlockOf _ o _ (λ b _. by_kind b b.kind))
+  where
+    by_kind : (b : BlockOf) (kind : BlockKind) → Here o (ended_by_kind l o m below j b kind)
+    by_kind b block.SubBlock = none o
+    by_kind b block.Procedure = none o
+    by_kind b block.Object = grows_ticking Machine l o _ (λ p. ended_grows p m j below)
+    by_kind b block.Prefixed = leaving_grows b below None j o m
+
+level_ends : (code : CodeOf) (l : Limits) (o : World) (m : Frames) (a : Activation) (below : List Activation) (n : ℕ) → Here o (level_ended code l o m a below n)
+level_ends code l o m a below zero =
+    grows_having Machine ℕ (owner a) o _ (λ j _. grows_having Machine ℕ _ o _ (λ k _. grows_choosing Machine (k == 0) o _ _ (grows_stopping Machine _ o) (outermost_grows code l o m a below j k)))
+level_ends code l o m a below (suc n) = own_levels_grow code m a _ o _ (λ cs. grows_having Machine ClassOf _ o _ (λ x _. stage_grows code o m a below _ x.after_inner))
+
 row_grows : (code : CodeOf) (l : Limits) (o : World) (m : Frames) (a : Activation) (below : List Activation) (line : ℕ) (x : Instr) → Here o (row code l o m a below line x)
 row_grows code l o m a below line i.Halt = grows_stopping Machine _ o
 row_grows code l o m a below line (i.Int z) = push_grows o m a below _
@@ -228,13 +310,11 @@ row_grows code l o m a below line (i.Thunk t) = none o
 row_grows code l o m a below line (i.NameVal z c class) = none o
 row_grows code l o m a below line (i.NameAddr z c value) = none o
 row_grows code l o m a below line i.EndThunk = none o
-row_grows code l o m a below line (i.New class n) = none o
-row_grows code l o m a below line (i.Pref k n) = none o
-row_grows code l o m a below line (i.NextDecl z) = none o
-row_grows code l o m a below line (i.Inner z) = none o
-row_grows code l o m a below line (i.EndLevel (pos zero)) = grows_having Machine ℕ (owner a) o _ (λ j _. grows_having Machine ℕ _ o _ (λ k _. grows_when Machine (k == 0) o _ (grows_stopping Machine _ o)))
-row_grows code l o m a below line (i.EndLevel (pos (suc n))) = none o
-row_grows code l o m a below line (i.EndLevel (negsuc n)) = none o
+row_grows code l o m a below line (i.New class n) = new_grows code l o m a below line class n
+row_grows code l o m a below line (i.Pref k n) = prefixed_grows code l o m a below line k n
+row_grows code l o m a below line (i.NextDecl z) = index_grows z o _ (λ n. declared_grows code o m a below n)
+row_grows code l o m a below line (i.Inner z) = index_grows z o _ (λ n. inner_grows code o m a below n)
+row_grows code l o m a below line (i.EndLevel z) = index_grows z o _ (λ n. level_ends code l o m a below n)
 row_grows code l o m a below line (i.Array z n) = grows_having Machine Kind (element_kind z) o _ (λ kind _. index_grows n o _ (λ n. grows_integers Machine Value plain (2 * n) [] a.stack o _ (λ bounds stack. grows_making Machine l line a.home kind _ o _ (λ array p. pushed_grows a.room stack _ p _ (λ s. going p _)))))
 row_grows code l o m a below line i.CopyArr = grows_popping Machine Value plain a.stack o _ (λ v stack. grows_having Machine ℕ (array_in v) o _ (λ array _. grows_copying Machine l line a.home array o _ (λ copy p. going p _)))
 row_grows code l o m a below line i.Keep = grows_popping Machine Value plain a.stack o _ (λ v stack. grows_having Machine ℕ (array_in v) o _ (λ array _. grows_keeping Machine array o _ (λ p. going p _)))

@@ -1,3 +1,4 @@
+pub mod Ends
 pub mod Growing
 pub mod GrowingRows
 pub mod Lifts

@@ -10,7 +10,7 @@ use Rattle.sim_values.specs.declared.kind.Kind.{Kind}
 use Rattle.sim_code.specs.Outcome.{ArrayOf, Ending, Run, World}
 use Rattle.sim_code.specs.Events.{answering, choosing, computing, entering, having, no_rule, stopping, taking, ticking, when}
 use Rattle.sim_code.specs.Arrays.{copying_array, live_array, making_array}
-use Rattle.sim_code.proofs.Simulation.{Alike, ended}
+use Rattle.sim_code.proofs.Simulation.{Alike, ended, unruled}
 
 -- both are there, and related, or neither is
 abbrev pub Both : {A B : Type 0} → (A → B → Type 0) → Option A → Option B → Type 0
@@ -73,6 +73,27 @@ module _ (S M : Type 0) (R : S → M → Type 0) where
   alike_having A B P None (Some y) o r q h a = absurd h
   alike_having A B P (Some x) None o r q h a = absurd h
   alike_having A B P (Some x) (Some y) o r q h a = a x y refl refl h
+
+  -- where the second has what goes with what the first has
+  pub alike_leads : (A B : Type 0) (x : Option A) (y : Option B) (o : World) (r : A → Run S) (q : B → Run M) → ((a : A) → x ≡ Some a → (b : B) × (y ≡ Some b) × Alike R (r a) (q b)) → Alike R (having x o r) (having y o q)
+  unfolding having no_rule
+  alike_leads A B None y o r q f = unruled
+  alike_leads A B (Some a) y o r q f = let z = f a refl in subst (λ y. Alike R (r a) (having y o q)) (sym z.1) z.2
+
+  -- where the first has something the second goes on alike
+  pub alike_first : (A : Type 0) (x : Option A) (o : World) (r : A → Run S) (q : Run M) → ((a : A) → x ≡ Some a → Alike R (r a) q) → Alike R (having x o r) q
+  unfolding having no_rule
+  alike_first A None o r q f = unruled
+  alike_first A (Some a) o r q f = f a refl
+
+  pub alike_passes : (b : Bool) (o : World) (r : Run S) (q : Run M) → (b ≡ true → Alike R r q) → Alike R (when b o r) q
+  unfolding when no_rule
+  alike_passes true o r q f = f refl
+  alike_passes false o r q f = unruled
+
+  pub alike_unruled : (o : World) (q : Run M) → Alike R (no_rule o) q
+  unfolding no_rule
+  alike_unruled o q = unruled
 
   pub alike_same : (A : Type 0) (x : Option A) (o : World) (r : A → Run S) (q : A → Run M) → ((a : A) → Alike R (r a) (q a)) → Alike R (having x o r) (having x o q)
   unfolding having

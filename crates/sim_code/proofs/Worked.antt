@@ -3,13 +3,14 @@ use Rattle.std.proofs.Common.{refl}
 use Rattle.std.specs.Fmt.{digits}
 use Rattle.sim_code.specs.Arrays.{element_place, making_array, copying_array, keeping_array, finding_element, giving_back, handed_over}
 use Rattle.sim_code.specs.Events.{stopping, no_rule, ticking, taking, entering, having, when, computing, choosing, popping, pop_many, pop_plain, pop_truth, pop_integers, pop_operands, pop_text, answering, applying_one, applying_two, testing_step, performing, putting_back, assigning, making_text, joining}
-use Rattle.sim_code.specs.Instances.{at_level, kept_on}
+use Rattle.sim_code.specs.Instances.{at_level, kept_on, object_ended}
 use Rattle.sim_code.specs.Machine.{pushing, index, level as level_of_machine, cell_at, jumping, block_at, own_block, leaving, with_result}
 use Rattle.sim_code.specs.Rows.{put_back, putting}
 use Rattle.sim_values.specs.Operators.{calculate, compare, compare_as_texts, connect, same_objects, same_texts, two_of, one_of, step_test}
 use Rattle.sim_values.specs.Standard.{take_integer, take_character, take_text, take_nothing, row_of, standard_effect}
 use Rattle.sim_code.specs.Examples.{Worked}
 use Rattle.sim_code.specs.Classes.{levels}
+use Rattle.sim_code.specs.Levels.{leading, levelled, objects_of, own_levels, parameter_cell}
 use Rattle.sim_code.specs.Events.{pop_object, referring}
 use Rattle.sim_code.specs.ClassExamples.{Worked as WorkedClasses}
 
@@ -36,7 +37,7 @@ worked = record {
 }
 
 pub worked_classes : WorkedClasses
-unfolding digits element_place making_array copying_array keeping_array finding_element giving_back handed_over stopping no_rule ticking taking entering having when computing choosing popping pop_many pop_plain pop_truth pop_integers pop_operands pop_text answering applying_one applying_two testing_step performing putting_back assigning making_text joining at_level kept_on pushing index level_of_machine cell_at jumping block_at own_block leaving with_result putting put_back calculate compare compare_as_texts connect same_objects same_texts two_of one_of step_test take_integer take_character take_text take_nothing row_of standard_effect levels pop_object referring
+unfolding digits element_place making_array copying_array keeping_array finding_element giving_back handed_over stopping no_rule ticking taking entering having when computing choosing popping pop_many pop_plain pop_truth pop_integers pop_operands pop_text answering applying_one applying_two testing_step performing putting_back assigning making_text joining at_level kept_on pushing index level_of_machine cell_at jumping block_at own_block leaving with_result putting put_back calculate compare compare_as_texts connect same_objects same_texts two_of one_of step_test take_integer take_character take_text take_nothing row_of standard_effect levels pop_object referring parameter_cell leading levelled objects_of own_levels object_ended
 worked_classes = record {
   outermost_first = refl;
   without_prefix = refl;
@@ -59,4 +60,17 @@ worked_classes = record {
   no_such_class = refl;
   no_class_tested = refl;
   of_no_class = refl;
+  own_parameter = refl;
+  parameter_of_prefix = refl;
+  levels_done = refl;
+  no_words_for_object = refl;
+  end_takes_a_tick = refl;
+  prefixed_done = refl;
+  inner_too_early = refl;
+  end_too_early = refl;
+  declared_twice = refl;
+  no_second_level = refl;
+  no_declarations = refl;
+  value_missing = refl;
+  no_level_ends = refl;
 }

@@ -1,7 +1,7 @@
 -- Instances, numbered from 0 in the order of their entry, for the meaning and the machine: only the cells C and the activations A differ.
 -- No number is used again, so that a number means one instance for the whole run.
-use Rattle.std.specs.Prelude.{ℕ, zero, suc, Bool, true, false, not, ◌&&◌, ◌==◌, if◌then◌else◌, List, [], ◌∷◌, ◌++◌, slice_get, slice_set, Option, Some, None}
-use Rattle.sim_chains.specs.Components.{AttachedObject, Components, Standing, TerminatedObject}
+use Rattle.std.specs.Prelude.{◌≡◌, ℕ, zero, suc, Bool, true, false, not, ◌&&◌, ◌==◌, if◌then◌else◌, List, [], ◌∷◌, ◌++◌, slice_get, slice_set, Option, Some, None}
+use Rattle.sim_chains.specs.Components.{AttachedObject, Components, Standing, TerminatedObject, finish}
 use Rattle.sim_code.specs.Outcome.{Ended, Going, NoRule, Run, World}
 
 -- An instance: its text, which the code has as a block; the level of that; its textual encloser, which the program's block lacks; its
@@ -133,6 +133,13 @@ module _ {C A : Type 0} where
 
   unfoldable pub object_ended : World → Memory C A → (object : ℕ) → List A → Run (State C A)
   object_ended o m j below = ended_as o m j below (slice_get m.standings j)
+
+  -- The end of an attached object, whose activation is on top, is that of the transfers of control: the run goes on so, and the components
+  -- are those that are left when the object has finished.
+  pub record EndsAsComponent (owner : A → Option ℕ) (head : ℕ → ℕ) (o : World) (m : Memory C A) (object : ℕ) (top next : A) (below : List A) : Type 0 where
+    pub left : State C A
+    pub goes : object_ended o m object (next ∷ below) ≡ Going o left
+    pub same : components left ≡ finish owner head (components (record { chain = top ∷ next ∷ below; memory = m })) object
 
 -- where a variable lies: a cell of an instance, named by K; an element of an array; an image. Q names the class of a reference there
 pub data Place (K Q : Type 0) : Type 0 where

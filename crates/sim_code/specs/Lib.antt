@@ -5,6 +5,7 @@ pub mod Arrays
 pub mod Instances
 pub mod Machine
 pub mod Classes
+pub mod Levels
 pub mod Names
 pub mod Rows
 pub mod Running

@@ -1,14 +1,19 @@
 //! What the machine makes of small codes. Each law is a function that does nothing; its clause is the law.
+ghost use Rattle.std.specs.Prelude.{◌≡◌, ℕ, List, Option, Some, slice_get};
+ghost use Rattle.sim_chains.specs.Components.{AttachedObject};
 ghost use Rattle.sim_code.specs.Examples.{Worked};
 ghost use Rattle.sim_code.specs.ClassExamples.{Worked as WorkedClasses};
 ghost use Rattle.sim_code.specs.Growing.{OutputGrows};
+ghost use Rattle.sim_code.specs.Instances.{EndsAsComponent, Memory};
+ghost use Rattle.sim_code.specs.Outcome.{World};
 
 /// Small codes show in the end what they should: their output, their ticks and words, and how they end; and where they have no rule.
 pub fn worked_codes()
     ensures { Worked }
 {}
 
-/// The same of codes with classes: which levels a class has, in which classes objects are, and what references lead to.
+/// The same of codes with classes: which levels a class has, in which classes objects are, what references lead to, and how objects and
+/// prefixed blocks go from stage to stage.
 pub fn worked_classes()
     ensures { WorkedClasses }
 {}
@@ -16,4 +21,9 @@ pub fn worked_classes()
 /// What a run has written stays written: later output begins with it.
 pub fn output_grows()
     ensures { OutputGrows }
+{}
+
+/// An attached object ends as a component does.
+pub fn objects_end<C, A>()
+    ensures { (owner : A → Option ℕ) (head : ℕ → ℕ) (o : World) (m : Memory C A) (j : ℕ) (top next : A) (below : List A) → owner top ≡ Some j → slice_get m.standings j ≡ Some AttachedObject → EndsAsComponent owner head o m j top next below }
 {}

@@ -6,6 +6,7 @@ mod code;
 mod ending;
 mod instr;
 pub mod laws;
+mod stage;
 
 pub use code::{
     ActualList, BlockKind, BlockRecord, ClassRecord, Code, CodeActual, CodeFormal, CodeMode,
@@ -13,3 +14,4 @@ pub use code::{
 };
 pub use ending::Ending;
 pub use instr::{Instr, Lined};
+pub use stage::Stage;

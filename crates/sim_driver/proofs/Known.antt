@@ -22,11 +22,12 @@ use Rattle.sim_scope.specs.declared.types.SimType.{SimType}
 use Rattle.sim_scope.specs.Source.{Source, source_of}
 use Rattle.sim_scope.specs.Tables.{Tables}
 use Rattle.sim_static.specs.Check.{Allowed, Checked, Refused, answer, check_of}
-use Rattle.sim_static.specs.CodeParameters.{passes_code}
-use Rattle.sim_static.specs.NeedsClasses.{needs_classes}
+use Rattle.sim_static.specs.UnbuiltForms.{has_unbuilt_form}
+use Rattle.sim_static.specs.UnbuiltNames.{has_unbuilt_name}
+use Rattle.sim_allowed.specs.KeptInstances.{keeps_instances}
 use Rattle.sim_built.specs.Allowed.{IsAllowed}
 use Rattle.sim_run.specs.RunEnds.{IsRunnable}
-use Rattle.sim_driver.specs.Compiling.{Answers, Bad, BindsAs, BoundCompiles, CheckBinds, CheckRejects, ChecksAs, CheckedCompiles, Compiled, Deep, IsBad, IsDeep, IsParsed, LexedCompiles, Parsed, ParsedCompiles, Rejected, Same, SourceBinds, SourceCompiles, SourceRejects, TokensCompile, TokensReject, TreeBinds, TreeCompiles, TreeCompilesIf, TreeRejects, Whole, lacks_form, source_with, token_line}
+use Rattle.sim_driver.specs.Compiling.{AllowedCompiles, AllowedCompilesIf, Answers, Bad, BindsAs, BoundCompiles, CheckBinds, CheckRejects, ChecksAs, CheckedCompiles, Compiled, Deep, IsBad, IsDeep, IsParsed, LexedCompiles, Parsed, ParsedCompiles, Rejected, Same, SourceBinds, SourceCompiles, SourceRejects, TokensCompile, TokensReject, TreeBinds, TreeCompiles, TreeCompilesIf, TreeRejects, Whole, lacks_form, must_keep, source_with, token_line}
 use Rattle.sim_driver.specs.declared.compiling.Refusal.{Refusal}
 use Rattle.sim_driver.specs.declared.compiling.Refusal.TheVariants as refusal
 use Rattle.command_line.specs.declared.words.Command.{Command}
@@ -83,7 +84,7 @@ itself A = record { there = λ a. a; back = λ a. a }
 
 move_checked : (command : Command) (tokens : List Token) (p q : Tree) → SameSource p q → (checked : Checked) (c : Compiled) → CheckedCompiles command tokens p checked c → CheckedCompiles command tokens q checked c
 move_checked command tokens p q same (Refused fault) c is = is
-move_checked command tokens p q same (Allowed tables uses found_in types) c is = subst (λ s. BoundCompiles command s c) (same tables uses found_in types) is
+move_checked command tokens p q same (Allowed tables uses found_in types) c is = subst (λ s. AllowedCompiles command s c) (same tables uses found_in types) is
 
 move_if : (needs : Bool) (command : Command) (tokens : List Token) (p q : Tree) → SameSource p q → check_of p ≡ check_of q → (c : Compiled) → TreeCompilesIf needs command tokens p c → TreeCompilesIf needs command tokens q c
 move_if true command tokens p q same checked c is = is
@@ -167,9 +168,9 @@ lacking_none command tokens tree lacks is so c = by_equation (λ b. TreeCompiles
 pub bound_checked : (tokens : List Token) (p : Tree) (b : Bound) → b.program ≡ p → check_of p ≡ Allowed b.scopes b.uses.items b.found_in.items b.types.items → CheckBinds tokens p (source_of b)
 unfolding source_of
 bound_checked tokens p b same allowed command c =
-    same_then (CheckedCompiles command tokens p (check_of p) c) (BoundCompiles command (source_with p b.scopes b.uses.items b.found_in.items b.types.items) c) (BoundCompiles command (source_with b.program b.scopes b.uses.items b.found_in.items b.types.items) c)
+    same_then (CheckedCompiles command tokens p (check_of p) c) (AllowedCompiles command (source_with p b.scopes b.uses.items b.found_in.items b.types.items) c) (AllowedCompiles command (source_with b.program b.scopes b.uses.items b.found_in.items b.types.items) c)
     (by_equation (λ k. CheckedCompiles command tokens p k c) (check_of p) (Allowed b.scopes b.uses.items b.found_in.items b.types.items) allowed)
-    (by_equation (λ (q : Tree). BoundCompiles command (source_with q b.scopes b.uses.items b.found_in.items b.types.items) c) p b.program (sym same))
+    (by_equation (λ (q : Tree). AllowedCompiles command (source_with q b.scopes b.uses.items b.found_in.items b.types.items) c) p b.program (sym same))
 
 pub checks_as : (tokens : List Token) (p : Tree) (b : Bound) → b.program ≡ p → check_of p ≡ Allowed b.scopes b.uses.items b.found_in.items b.types.items → ChecksAs tokens p (source_of b)
 unfolding source_of
@@ -201,11 +202,19 @@ pub rejected_source : OneSyntax → (command : Command) (source : List ℕ) (tok
 rejected_source one command source tokens tree r line spells is rejects c =
     same_then (SourceCompiles command source c) (TreeCompiles command tokens tree c) (c ≡ Rejected r line) (whole_source_is one source tokens tree spells is command c) (rejects c)
 
--- a tree whose forms are built
+-- a tree whose forms are built, of a program that the static rules allow
 
-pub bound_tree : (command : Command) (tokens : List Token) (tree : Tree) (s : Source) → ((c : Compiled) → Same (TreeCompiles command tokens tree c) (CheckedCompiles command tokens tree (check_of tree) c)) → CheckBinds tokens tree s → TreeBinds command tokens tree s
-bound_tree command tokens tree s free binds c =
-    same_then (TreeCompiles command tokens tree c) (CheckedCompiles command tokens tree (check_of tree) c) (BoundCompiles command s c) (free c) (binds command c)
+allowed_tree : (command : Command) (tokens : List Token) (tree : Tree) (s : Source) → ((c : Compiled) → Same (TreeCompiles command tokens tree c) (CheckedCompiles command tokens tree (check_of tree) c)) → CheckBinds tokens tree s
+    → (keeps : Bool) → must_keep command s ≡ keeps → (c : Compiled) → Same (TreeCompiles command tokens tree c) (AllowedCompilesIf keeps command s c)
+allowed_tree command tokens tree s free binds keeps is c =
+    same_then (TreeCompiles command tokens tree c) (AllowedCompiles command s c) (AllowedCompilesIf keeps command s c)
+    (same_then (TreeCompiles command tokens tree c) (CheckedCompiles command tokens tree (check_of tree) c) (AllowedCompiles command s c) (free c) (binds command c))
+    (by_equation (λ b. AllowedCompilesIf b command s c) (must_keep command s) keeps is)
+
+-- the entry of a procedure keeps instances
+pub keeping : (command : Command) (tokens : List Token) (tree : Tree) (s : Source) (lacks : Bool) → lacks ≡ lacks_form command tokens (program_syntax tree) → lacks ≡ false → (keeps : Bool) → keeps ≡ must_keep command s → keeps ≡ true → ChecksAs tokens tree s
+    → TreeRejects command tokens tree rule.FormNotBuilt (record { 0 = 1 })
+keeping command tokens tree s lacks is none keeps same so (binds, checked) = allowed_tree command tokens tree s (lacking_none command tokens tree lacks is none) binds true (sym same ∙ so)
 
 -- neither of two is so
 neither : (a b : Bool) → (a || b) ≡ false → (a ≡ false) × (b ≡ false)
@@ -213,17 +222,22 @@ neither false false is = (refl, refl)
 neither false true is = cc is
 neither true b is = cc is
 
-has_none : (command : Command) (tokens : List Token) (p : Program) → lacks_form command tokens p ≡ false → command ≡ Run → (needs_classes tokens ≡ false) × (passes_code p ≡ false)
-has_none Run tokens p none is = neither (needs_classes tokens) (passes_code p) none
+has_none : (command : Command) (tokens : List Token) (p : Program) → lacks_form command tokens p ≡ false → command ≡ Run → (has_unbuilt_name tokens ≡ false) × (has_unbuilt_form p ≡ false)
+has_none Run tokens p none is = neither (has_unbuilt_name tokens) (has_unbuilt_form p) none
 has_none Check tokens p none is = cc is
 
--- what breaks no rule and has only forms that are built can be run
-pub binds_as : (command : Command) (tokens : List Token) (tree : Tree) (s : Source) (lacks : Bool) → lacks ≡ lacks_form command tokens (program_syntax tree) → lacks ≡ false → (IsAllowed tokens tree s → IsRunnable s) → ChecksAs tokens tree s → BindsAs command tokens tree s
-binds_as command tokens tree s lacks is none runs (binds, checked) = (
-  bound_tree command tokens tree s (lacking_none command tokens tree lacks is none) binds,
+keeps_none : (command : Command) (s : Source) → must_keep command s ≡ false → command ≡ Run → keeps_instances s ≡ false
+keeps_none Run s none is = none
+keeps_none Check s none is = cc is
+
+-- what breaks no rule and has only forms that are built can be run, where no entry of a procedure keeps instances
+pub binds_as : (command : Command) (tokens : List Token) (tree : Tree) (s : Source) (lacks : Bool) → lacks ≡ lacks_form command tokens (program_syntax tree) → lacks ≡ false → (keeps : Bool) → keeps ≡ must_keep command s → keeps ≡ false → (IsAllowed tokens tree s → IsRunnable s)
+    → ChecksAs tokens tree s → BindsAs command tokens tree s
+binds_as command tokens tree s lacks is none keeps same nowhere runs (binds, checked) = (
+  allowed_tree command tokens tree s (lacking_none command tokens tree lacks is none) binds false (sym same ∙ nowhere),
   λ reads run.
       let free = has_none command tokens (program_syntax tree) (sym is ∙ none) run in
-      runs (record { reads = reads; class_free = free.0; by_value = free.1; checked = checked }),
+      runs (record { reads = reads; names = free.0; forms = free.1; checked = checked; keeps = keeps_none command s (sym same ∙ nowhere) run }),
 )
 
 pub rejected_tree : (command : Command) (tokens : List Token) (tree : Tree) (r : Rule) (line : Line) → ((c : Compiled) → Same (TreeCompiles command tokens tree c) (CheckedCompiles command tokens tree (check_of tree) c)) → CheckRejects tokens tree r line

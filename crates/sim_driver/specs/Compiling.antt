@@ -19,8 +19,9 @@ use Rattle.sim_tree.specs.SyntaxOfProgram.{program_syntax}
 use Rattle.sim_tree.specs.Tree.{IsTree, limit}
 use Rattle.sim_tree.specs.declared.program.Program.{Program as Tree}
 use Rattle.sim_static.specs.Check.{Allowed, Checked, Refused, check_of}
-use Rattle.sim_static.specs.CodeParameters.{passes_code}
-use Rattle.sim_static.specs.NeedsClasses.{needs_classes}
+use Rattle.sim_static.specs.UnbuiltForms.{has_unbuilt_form}
+use Rattle.sim_static.specs.UnbuiltNames.{has_unbuilt_name}
+use Rattle.sim_allowed.specs.KeptInstances.{keeps_instances}
 use Rattle.sim_built.specs.Allowed.{IsChecked}
 use Rattle.sim_run.specs.RunEnds.{IsRunnable}
 use Rattle.sim_driver.specs.declared.compiling.Refusal.{Refusal}
@@ -41,10 +42,25 @@ token_line tokens token = (slice_index_or tokens token finish).line
 abbrev pub not_built : Compiled
 not_built = Rejected FormNotBuilt (record { 0 = 1 })
 
--- what a command makes of a program that breaks no rule
+-- what a command makes of a program that is not rejected
 abbrev pub BoundCompiles : Command → Source → Compiled → Type 0
 BoundCompiles Run s compiled = compiled ≡ Runnable s
 BoundCompiles Check s compiled = compiled ≡ Sound
+
+-- For `run` it is not built that the entry of a procedure keeps instances: where a class is declared in the procedure, and an array by reference
+-- is among its parameters.
+abbrev pub must_keep : Command → Source → Bool
+must_keep Run s = keeps_instances s
+must_keep Check s = false
+
+-- such a program is rejected behind the static rules
+abbrev pub AllowedCompilesIf : (keeps : Bool) → Command → Source → Compiled → Type 0
+AllowedCompilesIf true command s compiled = compiled ≡ not_built
+AllowedCompilesIf false command s compiled = BoundCompiles command s compiled
+
+-- what a command makes of a program that breaks no static rule
+abbrev pub AllowedCompiles : Command → Source → Compiled → Type 0
+AllowedCompiles command s compiled = AllowedCompilesIf (must_keep command s) command s compiled
 
 -- a tree with its tables, what its identifiers denote and where they are found, and what its expressions are
 abbrev pub source_with : Tree → Tables → (uses : List (Option Denotation)) → (found_in : List (Option ℕ)) → (types : List (Option SimType)) → Source
@@ -53,11 +69,12 @@ source_with tree tables uses found_in types = record { program = program_syntax 
 -- Of a checked tree: the first static rule that it breaks, at the line of the token that is to blame.
 abbrev pub CheckedCompiles : Command → List Token → Tree → Checked → Compiled → Type 0
 CheckedCompiles command tokens tree (Refused fault) compiled = compiled ≡ Rejected fault.rule (token_line tokens fault.token.0)
-CheckedCompiles command tokens tree (Allowed tables uses found_in types) compiled = BoundCompiles command (source_with tree tables uses found_in types) compiled
+CheckedCompiles command tokens tree (Allowed tables uses found_in types) compiled = AllowedCompiles command (source_with tree tables uses found_in types) compiled
 
--- A form that is not built: for `run` what needs classes, a parameter by name and a procedure as a parameter. `check` knows all forms.
+-- What else is not built, for `run`: a standard name of coroutines, of sets or of simulation; a prefix, virtual procedures, protection, a parameter by
+-- name, a procedure as a parameter, an activation. `check` knows all forms.
 abbrev pub lacks_form : Command → List Token → Program → Bool
-lacks_form Run tokens p = needs_classes tokens || passes_code p
+lacks_form Run tokens p = has_unbuilt_name tokens || has_unbuilt_form p
 lacks_form Check tokens p = false
 
 -- a source with such a form is rejected before the static rules are asked
@@ -74,7 +91,7 @@ pub record Same (A B : Type 0) : Type 0 where
   pub there : A → B
   pub back : B → A
 
--- the tree is this program, which breaks no rule
+-- the tree is this program, which is not rejected
 abbrev pub TreeBinds : Command → List Token → Tree → Source → Type 0
 TreeBinds command tokens tree s = (compiled : Compiled) → Same (TreeCompiles command tokens tree compiled) (BoundCompiles command s compiled)
 
@@ -82,9 +99,9 @@ TreeBinds command tokens tree s = (compiled : Compiled) → Same (TreeCompiles c
 abbrev pub TreeRejects : Command → List Token → Tree → Rule → Line → Type 0
 TreeRejects command tokens tree rule line = (compiled : Compiled) → Same (TreeCompiles command tokens tree compiled) (compiled ≡ Rejected rule line)
 
--- The same of a tree whose forms are built; it is the same for both commands.
+-- The static rules allow the tree, and it is this program; it is the same for both commands.
 abbrev pub CheckBinds : List Token → Tree → Source → Type 0
-CheckBinds tokens tree s = (command : Command) (compiled : Compiled) → Same (CheckedCompiles command tokens tree (check_of tree) compiled) (BoundCompiles command s compiled)
+CheckBinds tokens tree s = (command : Command) (compiled : Compiled) → Same (CheckedCompiles command tokens tree (check_of tree) compiled) (AllowedCompiles command s compiled)
 
 abbrev pub CheckRejects : List Token → Tree → Rule → Line → Type 0
 CheckRejects tokens tree rule line = (command : Command) (compiled : Compiled) → Same (CheckedCompiles command tokens tree (check_of tree) compiled) (compiled ≡ Rejected rule line)

@@ -1,21 +1,24 @@
 // From the bytes of a source to the program that breaks no rule, or to the rule that refuses it.
 ghost use Rattle.std.specs.Prelude.{◌≡◌, ◌<◌, ◌^◌, ◌-◌, length, IfOk};
+ghost use Rattle.sim_base.specs.declared.rule.Rule.TheVariants.{FormNotBuilt};
 ghost use Rattle.sim_lexer.specs.Spelling.{Reads, Spelled};
 ghost use Rattle.sim_parser.specs.Claim.{IsWholeSource};
 ghost use Rattle.sim_scope.specs.Source.{source_of};
 ghost use Rattle.sim_tree.specs.SyntaxOfProgram.{program_syntax};
 ghost use Rattle.sim_tree.specs.Tree.{IsTree};
-ghost use Rattle.sim_driver.specs.Compiling.{Answers, BindsAs, CheckRejects, ChecksAs, IsProgram, SourceRejects, TokensReject, TreeRejects, lacks_form, token_line};
+ghost use Rattle.sim_driver.specs.Compiling.{Answers, BindsAs, CheckRejects, ChecksAs, IsProgram, SourceRejects, TokensReject, TreeRejects, lacks_form, must_keep, token_line};
+ghost use Rattle.sim_driver.specs.declared.compiling.Refusal.TheVariants as refusal;
 ghost use Rattle.command_line.specs.declared.words.Command.{Command as AnyCommand};
 
 use command_line::Command;
 use sim_base::{Line, Rule, Token, TokenNo, line_of};
+use sim_built::keeps_instances;
 use sim_built::laws::allowed_programs_run;
 use sim_expr_parser::SyntaxRefusal;
 use sim_lexer::{LexRefusal, lex};
 use sim_parser::parse;
 use sim_scope::{Bound, StaticRefusal};
-use sim_static::{check, needs_classes, passes_code};
+use sim_static::{check, has_unbuilt_form, has_unbuilt_name};
 use sim_tree::grammar::one_tree;
 use std::alloc::Global;
 use thiserror::Error;
@@ -31,8 +34,8 @@ pub enum Refusal {
     Memory,
 }
 
-/// The program of a source, which breaks no rule; or the rule that it breaks first, with the line. To run, it must not have a class, a parameter
-/// by name or a procedure as a parameter.
+/// The program of a source, which breaks no rule; or the rule that it breaks first, with the line. To run, it must have only forms that are
+/// built, and no procedure in which a class is declared may have an array by reference as a parameter.
 pub fn bind(alloc: Global, command: Command, source: &[u8]) -> Result<Bound, Refusal>
     requires { length source.now < 2 ^ 32 - 1 }
     ensures { Answers (λ bound. IsProgram command source.now (source_of bound)) (SourceRejects command source.now) result }
@@ -85,18 +88,39 @@ fn line_at(tokens: &[Token], token: TokenNo) -> Line
     }
 }
 
-// Whether a tree of these tokens has a form that is not built: for `run` classes, parameters by name and procedures as parameters.
-#[tactic(auto, unfolding(sim_static::specs::NeedsClasses::NeedsClasses, sim_static::specs::CodeParameters::PassesCode))]
+// Whether a tree of these tokens has a name or a form that is not built, for `run`.
+#[tactic(auto, unfolding(sim_static::specs::UnbuiltNames::HasUnbuiltName, sim_static::specs::UnbuiltForms::HasUnbuiltForm))]
 fn lacks_form(command: Command, tokens: &[Token], tree: &sim_tree::Program) -> bool
     ensures { result ≡ lacks_form command tokens.now (program_syntax tree.now) }
 {
     match command {
-        Command::Run => needs_classes(tokens) || passes_code(tree),
+        Command::Run => has_unbuilt_name(tokens) || has_unbuilt_form(tree),
         Command::Check => false,
     }
 }
 
-// The program of a tree of these tokens. As long as a form is not built, a source that has it is refused first.
+// Whether the entry of a procedure of a program keeps instances, for `run`.
+fn must_keep(command: Command, bound: &Bound) -> bool
+    ensures { result ≡ must_keep command (source_of bound.now) }
+{
+    match command {
+        Command::Run => keeps_instances(bound),
+        Command::Check => false,
+    }
+}
+
+// The refusal of a source that has what is not built.
+fn not_built() -> Refusal
+    ensures { result ≡ refusal.Broken FormNotBuilt (record { 0 = 1 }) }
+{
+    Refusal::Broken {
+        rule: Rule::FormNotBuilt,
+        line: Line(1),
+    }
+}
+
+// The program of a tree of these tokens. As long as a form is not built, a source that has it is refused first; one whose run would keep
+// instances is refused behind the static rules.
 fn bind_tree(
     alloc: Global,
     command: Command,
@@ -106,13 +130,14 @@ fn bind_tree(
     ensures { Answers (λ bound. BindsAs command tokens.now tree (source_of bound)) (TreeRejects command tokens.now tree) result }
 {
     if lacks_form(command, tokens, &tree) {
-        return Err(Refusal::Broken {
-            rule: Rule::FormNotBuilt,
-            line: Line(1),
-        });
+        return Err(not_built());
+    }
+    let bound = bind_checked(alloc, tokens, tree)?;
+    if must_keep(command, &bound) {
+        return Err(not_built());
     }
     allowed_programs_run();
-    bind_checked(alloc, tokens, tree)
+    Ok(bound)
 }
 
 // The program of a tree of these tokens, by the static rules.

@@ -1,14 +1,13 @@
 -- What is pending leads to less, or to a tick.
-use Rattle.std.proofs.Common.{◌≡◌, ◌≤◌, ◌<◌, ℕ, zero, suc, ◌+◌, Bool, true, false, List, [], ◌∷◌, length, Option, Some, None, refl, sym, ◌∙◌, ap, subst, arith}
-use Rattle.std.specs.Prelude.{◌==◌, ◌*◌, slice_get, if◌then◌else◌}
+use Rattle.std.proofs.Common.{◌≡◌, ◌≤◌, ◌<◌, ℕ, ◌+◌, Bool, true, false, List, [], ◌∷◌, length, Option, Some, None, refl, ◌∙◌, arith}
+use Rattle.std.specs.Prelude.{◌*◌, slice_get, if◌then◌else◌}
 use Rattle.sim_base.specs.declared.limits.Limits.{Limits}
 use Rattle.sim_base.specs.declared.numbering.DeclNo.{DeclNo}
 use Rattle.sim_chains.specs.Components.{AttachedObject, DetachedObject, NoObject, ResumedObject, Standing, TerminatedObject}
 use Rattle.sim_scope.specs.Scopes.{class_formals}
 use Rattle.sim_scope.specs.Source.{Source, block_around, line_at}
-use Rattle.sim_tree.specs.declared.stmt.Assignment.{Assignment}
 use Rattle.sim_tree.specs.declared.expr.Identifier.{Identifier}
-use Rattle.sim_tree.specs.Syntax.{Also, Arms, Arrayed, Arrays, Begin, Block, BoundPair, Declarations, DeclareClass, DeclareProcedure, Element, Expression, Expressions, Heading, NoArm, NoDeclaration, NoMore, NoStatement, Statement, Statements, Variables, When, With}
+use Rattle.sim_tree.specs.Syntax.{Also, Arms, Arrayed, Arrays, Begin, Block, BoundPair, Declarations, DeclareClass, DeclareProcedure, Element, Expression, NoArm, NoDeclaration, NoStatement, Statement, Statements, Variables, When, With}
 use Rattle.sim_tree.specs.Syntax as syntax
 use Rattle.sim_values.specs.declared.operators.Calculation.TheVariants as calculation
 use Rattle.sim_values.specs.declared.operators.Dyadic.TheVariants as dyadic
@@ -17,26 +16,26 @@ use Rattle.sim_values.specs.Plain.{Character, Integer, Nothing, Object, Plain, T
 use Rattle.sim_values.specs.declared.value.TextVal.{TextVal}
 use Rattle.sim_values.specs.Store.{image_at, with_image}
 use Rattle.sim_values.specs.Texts.{same_text}
-use Rattle.sim_code.specs.Outcome.{ArrayOf, Going, Run, World}
-use Rattle.sim_code.specs.Events.{choosing, having, image_moved, text_val, ticking}
+use Rattle.sim_code.specs.Outcome.{ArrayOf, Run, World}
+use Rattle.sim_code.specs.Events.{having, image_moved, text_val, ticking}
 use Rattle.sim_code.specs.Arrays.{element, element_set_in, giving_back, handed_over, live_array, owned_by, pairs}
 use Rattle.sim_code.specs.Instances.{CellPlace, ElementPlace, ImagePlace, Place, ended_as, is_given_at_end, is_live, object_ended}
-use Rattle.sim_meaning.specs.Closing.{close, formals_from}
+use Rattle.sim_meaning.specs.Closing.{formals_from}
 use Rattle.sim_meaning.specs.Connections.{arm_tried, arms_tried, connected, object_connected}
-use Rattle.sim_meaning.specs.Levels.{class_at, is_in, levels, text_at}
+use Rattle.sim_meaning.specs.Levels.{class_at, has_procedure, is_in, levels, text_at}
 use Rattle.sim_meaning.specs.Objects.{cells_of_levels, filled_in, generated, inner_done, is_member, object_entered, prefix_done, prefixed_entered, putting_reference, with_inner}
 use Rattle.sim_meaning.specs.Entries.{arrays_by_value, arrays_declared, arrays_of, bounds_of, filled_behind, first_array, further_arrays, segments_of, first_cells, formals_of, words_of_cells}
-use Rattle.sim_meaning.specs.Meaning.{called, do_op, leaving, procedure_entered, sub_block_entered, world_left}
-use Rattle.sim_meaning.specs.Pending.{Activation, Address, AgainOp, array_in, ArrayOp, AttributeOf, AttributeOp, BackOp, BranchOp, CallOf, CallOp, Cell, cell, cell_made, cell_set, ChooseOp, Configuration, Connection, ConnectOp, CopyOf, CopyOp, DeclareOp, Do, DropOp, Either, ElementOf, ElementOp, ElementsOp, EndBlock, EndLevel, EndObject, EndPrefixed, EnterOp, Eval, Exec, Execs, FetchOp, FitsOf, FitsOp, Further, Given, GiveOp, IfOp, ImageOf, InnerOp, instance_in, Instances, Item, Joined, JoinOp, KeepOp, KeptOf, Key, Level, LevelOp, Link, MemberOf, MemberOp, NewOf, NewOp, NoTerm, ObjectOp, Of, One, OneOp, Op, PastOp, place_in, PlaceOf, plain, PrefixedOp, ProcedureValue, QualifiedElementOf, QualifiedElementOp, QualifiedPlaceOf, QuaOf, QuaOp, RaiseOp, ReferOp, RemoteCallOf, ShareOp, StandardOf, StandardOp, StepOp, StepTestOp, StoreOp, SwapOp, Target, Term, Terms, TestOp, ToAddress, ToCell, ToPlace, ToReference, ToReferenceAt, ToText, ToTextAt, ToTextOf, Tree, Two, TwoOp, Unbuilt, Val, ValueAt, WhenOp, WhileElementOp}
+use Rattle.sim_meaning.specs.Meaning.{called, do_op, leaving, procedure_entered, sub_block_entered}
+use Rattle.sim_meaning.specs.Pending.{Activation, Address, AgainOp, array_in, ArrayOp, AttributeOf, AttributeOp, BackOp, BranchOp, CallOf, CallOp, Cell, cell, cell_made, cell_set, ChooseOp, Configuration, Connection, ConnectOp, CopyOf, CopyOp, DeclareOp, Do, DropOp, Either, ElementOf, ElementOp, ElementsOp, EndLevel, EndPrefixed, EnterOp, Eval, Exec, Execs, FetchOp, FitsOf, FitsOp, Further, Given, GiveOp, IfOp, ImageOf, InnerOp, instance_in, Instances, Item, Joined, JoinOp, KeepOp, KeptOf, Key, Level, LevelOp, Link, MemberOf, MemberOp, NewOf, NewOp, NoTerm, ObjectOp, Of, One, OneOp, Op, PastOp, place_in, PlaceOf, plain, PrefixedOp, ProcedureValue, QualifiedElementOf, QualifiedElementOp, QualifiedPlaceOf, QuaOf, QuaOp, RaiseOp, ReferOp, RemoteCallOf, ShareOp, StandardOf, StandardOp, StepOp, StepTestOp, StoreOp, SwapOp, Target, Term, Terms, TestOp, ToAddress, ToCell, ToPlace, ToReference, ToReferenceAt, ToText, ToTextAt, ToTextOf, Tree, Two, TwoOp, Unbuilt, Val, ValueAt, WhenOp, WhileElementOp}
 use Rattle.sim_meaning.specs.Pending as pending
 use Rattle.sim_meaning.specs.Statements as statement
-use Rattle.sim_meaning.specs.Statements.{assigned, begin_of, compound, elements, entered_at, exec, execs, first_branch, inner_begun, lefts, levels_of_instance, looping, prefix_begun, raised, reading}
-use Rattle.sim_meaning.specs.Steps.{count, each, eval, go, put_back, putting, stored, value_at, with_value}
+use Rattle.sim_meaning.specs.Statements.{assigned, begin_of, compound, elements, entered_at, exec, execs, first_branch, inner_begun, levels_of_instance, looping, prefix_begun, raised, reading}
+use Rattle.sim_meaning.specs.Steps.{count, each, eval, put_back, putting, stored, value_at}
 use Rattle.sim_meaning.specs.Texts.{BlockText, ProcedureText, declared_at, kind_named}
 use Rattle.sim_meaning.specs.Texts as texts
 use Rattle.sim_finite.proofs.Closing.{close_small}
-use Rattle.sim_finite.proofs.Lifts.{Goes, assigning_goes, choosing_goes, computing_goes, copying_goes, entering_goes, finding_goes, having_goes, integers_goes, joining_goes, keeping_goes, making_goes, many_goes, none, object_goes, one_goes, performing_goes, plain_goes, popping_goes, qualifying_goes, step_goes, ticking_goes, truth_goes, two_goes, when_goes}
-use Rattle.sim_finite.proofs.Weights.{Lower, arms_weight, bounds_weight, chain_weight, declarations_weight, elements_weight, expression_weight, levels_weight, lighter, names_weight, op_weight, segments_weight, statements_weight, target_weight, term_weight, terms_weight, ticked, weight, work_weight}
+use Rattle.sim_finite.proofs.Lifts.{Goes, assigning_goes, choosing_goes, copying_goes, entering_goes, finding_goes, having_goes, integers_goes, joining_goes, keeping_goes, making_goes, many_goes, none, object_goes, one_goes, performing_goes, plain_goes, popping_goes, qualifying_goes, step_goes, ticking_goes, truth_goes, two_goes, when_goes}
+use Rattle.sim_finite.proofs.Weights.{Lower, arms_weight, bounds_weight, chain_weight, declarations_weight, elements_weight, expression_weight, levels_weight, lighter, names_weight, op_weight, segments_weight, statements_weight, target_weight, term_weight, terms_weight, ticked, work_weight}
 
 -- ---- worlds with the same ticks
 
@@ -355,7 +354,7 @@ module _ (s : Source) (l : Limits) (o : World) (m : Instances) (i : ℕ) (w : Li
   op_falls (StandardOp name line) = performing_goes (From 1) put_back (back_goes (From 1)) _ l line name vals o m _ (λ p m value vals same. lighter same (omega arith))
   op_falls (NewOp k n line) = generation_falls k n line
   op_falls (AttributeOp k key class line) = object_goes (From 1) plain line vals o _ (λ j vals. when_goes (From 1) (is_in s m k j) o _ (lighter refl (omega arith)))
-  op_falls (ObjectOp line) = object_goes (From 1) plain line vals o _ (λ j vals. lighter refl (omega arith))
+  op_falls (ObjectOp k line) = object_goes (From 1) plain line vals o _ (λ j vals. when_goes (From 1) (has_procedure s m k j) o _ (lighter refl (omega arith)))
   op_falls (QualifiedElementOp n line k) = finding_goes (From 1) plain array_in n line vals o _ (λ a k vals. lighter refl (omega arith))
   op_falls (MemberOp member k) = plain_goes (From 1) plain vals o _ (λ p vals. having_goes (From 1) (is_member s m member k p) o _ (λ b. lighter refl (omega arith)))
   op_falls (QuaOp k line) = object_goes (From 1) plain line vals o _ (λ j vals. qualifying_goes (From 1) line (is_in s m k) (Object j) o _ (lighter refl (omega arith)))

@@ -1,5 +1,5 @@
 -- How much is pending: no more steps can come between two ticks.
-use Rattle.std.proofs.Common.{◌≡◌, ◌≤◌, ◌<◌, ℕ, suc, ◌+◌, List, [], ◌∷◌, ◌++◌, arith, refl}
+use Rattle.std.proofs.Common.{◌≡◌, ◌≤◌, ◌<◌, ℕ, ◌+◌, List, [], ◌∷◌}
 use Rattle.sim_base.specs.declared.limits.Limits.{Limits}
 use Rattle.sim_tree.specs.declared.expr.Identifier.{Identifier}
 use Rattle.sim_tree.specs.Syntax.{Also, Arms, Arrayed, Arrays, BoundPair, Declarations, DeclareClass, DeclareProcedure, Element, Expression, Expressions, NoArm, NoDeclaration, NoMore, NoStatement, Statements, Then, Variables, When, With}
@@ -127,7 +127,7 @@ op_weight (JoinOp line) = 1
 op_weight (StandardOp name line) = 1
 op_weight (NewOp k n line) = 1
 op_weight (AttributeOp k key class line) = 1
-op_weight (ObjectOp line) = 1
+op_weight (ObjectOp k line) = 1
 op_weight (QualifiedElementOp n line k) = 1
 op_weight (MemberOp member k) = 1
 op_weight (QuaOp k line) = 1

@@ -1,17 +1,16 @@
 -- Classes and their levels. A class has the attributes and the statements of its prefix, of the prefix of that, and so on: these are its
 -- levels, the outermost prefix first and the class itself last. So has a prefixed block. An object is in each of the levels of its class.
 use Rattle.std.specs.Prelude.{ℕ, zero, suc, Bool, true, false, not, ◌==◌, if◌then◌else◌, List, [], ◌∷◌, ◌++◌, length, slice_get, Option, Some, None}
-use Rattle.sim_base.specs.declared.numbering.DeclNo.{DeclNo}
 use Rattle.sim_scope.specs.declared.scopes.Denotation.{Denotation}
 use Rattle.sim_scope.specs.declared.scopes.Denotation.TheVariants as denotation
 use Rattle.sim_scope.specs.declared.types.SimType.{SimType}
 use Rattle.sim_scope.specs.declared.types.SimType.TheVariants as t
+use Rattle.sim_scope.specs.Access.{encloser}
 use Rattle.sim_scope.specs.Levels.{base, class_block, has_level, has_standard}
 use Rattle.sim_scope.specs.Source.{Source, denoted}
 use Rattle.sim_scope.specs.Tables.{BlockOf, Tables}
 use Rattle.sim_tree.specs.declared.expr.Membership.{Membership}
 use Rattle.sim_tree.specs.declared.expr.Membership.TheVariants as membership
-use Rattle.sim_tree.specs.Syntax.{Declarations, Statements}
 use Rattle.sim_code.specs.Instances.{Instance}
 use Rattle.sim_meaning.specs.Pending.{Held, Instances, Level}
 use Rattle.sim_meaning.specs.Texts.{ClassText, PrefixedText, StandardText, Text, text}
@@ -70,6 +69,12 @@ abbrev pub levels_inside : (text : ℕ) → List Level → List Level
 levels_inside k [] = []
 levels_inside k (x ∷ xs) = if x.text == k then xs else levels_inside k xs
 
+-- objects and prefixed blocks have levels
+abbrev pub has_levels : Option Text → Bool
+has_levels (Some (ClassText prefix h ds ss)) = true
+has_levels (Some (PrefixedText class arguments ds ss)) = true
+has_levels _ = false
+
 -- ---- the class of an object
 
 abbrev pub text_in : Option (Instance (List Held)) → Option ℕ
@@ -95,6 +100,14 @@ text_is class (Some k) = k == class
 -- it is of a class where that is its own
 unfoldable pub is_of : Instances → (class object : ℕ) → Bool
 is_of m class j = text_is class (text_at m j)
+
+abbrev pub is_in_any : Source → Instances → (class : Option ℕ) → (object : ℕ) → Bool
+is_in_any s m None j = false
+is_in_any s m (Some class) j = is_in s m class j
+
+-- an object has the procedure of a text where it is in the class around that
+unfoldable pub has_procedure : Source → Instances → (text object : ℕ) → Bool
+has_procedure s m k j = is_in_any s m (encloser s.tables k) j
 
 -- `is` and `in`
 unfoldable pub belongs : Source → Instances → Membership → (class object : ℕ) → Bool

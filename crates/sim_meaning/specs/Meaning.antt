@@ -97,7 +97,7 @@ do_op s l o m i w vals rest (StandardOp name line) = performing operand put_back
 -- objects and references
 do_op s l o m i w vals rest (NewOp k n line) = generated s l o m i w vals rest k n line
 do_op s l o m i w vals rest (AttributeOp k key class line) = attribute_found s o m i w vals rest k key class line
-do_op s l o m i w vals rest (ObjectOp line) = object_found o m i w vals rest line
+do_op s l o m i w vals rest (ObjectOp k line) = object_found s o m i w vals rest k line
 do_op s l o m i w vals rest (QualifiedElementOp n line k) = qualified_element_found o m i w vals rest n line k
 do_op s l o m i w vals rest (MemberOp member k) = member_tested s o m i w vals rest member k
 do_op s l o m i w vals rest (QuaOp k line) = qua_tested s o m i w vals rest k line

@@ -13,8 +13,8 @@ use Rattle.sim_values.specs.Plain.{Nothing, Object, Plain, Truth}
 use Rattle.sim_code.specs.Outcome.{Going, Run, World}
 use Rattle.sim_code.specs.Events.{entering, having, no_rule, pop_many, pop_object, pop_plain, popping, qualifying, when}
 use Rattle.sim_code.specs.Arrays.{element_set, finding_element, handed_over, keeping_array}
-use Rattle.sim_code.specs.Instances.{CellPlace, ElementPlace, ImagePlace, Place, entered, is_live}
-use Rattle.sim_meaning.specs.Levels.{belongs, is_in, levels}
+use Rattle.sim_code.specs.Instances.{CellPlace, ElementPlace, Place, entered, is_live}
+use Rattle.sim_meaning.specs.Levels.{belongs, has_procedure, is_in, levels}
 use Rattle.sim_meaning.specs.Pending.{Activation, Address, ArrayValue, Configuration, Declared, DeclareOp, Do, EndLevel, EndObject, EndPrefixed, Execs, Held, InnerOp, Instances, Item, Key, Level, LevelOp, Link, Of, Val, array_in, cell_set, held_set, instance_in, place_in, plain}
 use Rattle.sim_meaning.specs.Texts.{constant_of}
 use Rattle.sim_meaning.specs.Closing.{formals_from}
@@ -28,9 +28,9 @@ abbrev pub attribute_found : Source → World → Instances → ℕ → List Ite
 attribute_found s o m i w vals rest k key class line =
     pop_object plain line vals o (λ j vals. when (is_in s m k j) o (go o m i w (Address (CellPlace j key class) ∷ vals) rest))
 
--- the object in hand, as the instance in which its procedures are declared
-abbrev pub object_found : World → Instances → ℕ → List Item → List Val → List Activation → (line : ℕ) → Run Configuration
-object_found o m i w vals rest line = pop_object plain line vals o (λ j vals. go o m i w (Link j ∷ vals) rest)
+-- the object in hand, as the instance in which a procedure is declared that it has
+abbrev pub object_found : Source → World → Instances → ℕ → List Item → List Val → List Activation → (text line : ℕ) → Run Configuration
+object_found s o m i w vals rest k line = pop_object plain line vals o (λ j vals. when (has_procedure s m k j) o (go o m i w (Link j ∷ vals) rest))
 
 abbrev pub qualified_element_found : World → Instances → ℕ → List Item → List Val → List Activation → (subscripts line class : ℕ) → Run Configuration
 qualified_element_found o m i w vals rest n line k =

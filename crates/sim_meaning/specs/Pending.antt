@@ -120,7 +120,7 @@ pub data Op : Type 0 where
   StandardOp : Standard → (line : ℕ) → Op
   NewOp : (text actuals line : ℕ) → Op
   AttributeOp : (text : ℕ) → Key → (class : Option ℕ) → (line : ℕ) → Op
-  ObjectOp : (line : ℕ) → Op
+  ObjectOp : (text line : ℕ) → Op
   QualifiedElementOp : (subscripts line class : ℕ) → Op
   MemberOp : Membership → (class : ℕ) → Op
   QuaOp : (class line : ℕ) → Op

@@ -1,13 +1,17 @@
 -- What the code of a program may count on at each moment of the program's run: the instance that operates lives with its enclosers, and
 -- stands at no other place of the chains.
-use Rattle.std.specs.Prelude.{◌≡◌, ⊤, ℕ, List, [], ◌∷◌, slice_get, Option, Some, None}
+use Rattle.std.specs.Prelude.{◌≡◌, ⊤, ℕ, true, List, [], ◌∷◌, slice_get, Some, None}
 use Rattle.sim_base.specs.declared.limits.Limits.{Limits}
 use Rattle.sim_chains.specs.Components.{DetachedObject, NoObject, Standing}
 use Rattle.sim_scope.specs.Source.{Source}
-use Rattle.sim_code.specs.Outcome.{Going, World}
+use Rattle.sim_values.specs.Plain.{Object}
+use Rattle.sim_code.specs.Outcome.{Ended, Going, NoRule, World}
 use Rattle.sim_code.specs.Instances.{Instance, Memory, live}
+use Rattle.sim_meaning.specs.Levels.{has_levels}
 use Rattle.sim_meaning.specs.Meaning.{run}
-use Rattle.sim_meaning.specs.Pending.{Activation, Configuration, Instances}
+use Rattle.sim_meaning.specs.Pending.{Activation, Configuration, Held, Instances, Val}
+use Rattle.sim_meaning.specs.Pending as pending
+use Rattle.sim_meaning.specs.Texts.{text}
 
 -- Neither an instance nor one of its enclosers was given back.
 pub data Lives {C A : Type 0} (m : Memory C A) : (instance : ℕ) → Type 0 where
@@ -42,3 +46,32 @@ Sane c = SaneOn c.memory c.chain
 -- Each configuration that a run of the source comes to is sane.
 abbrev pub StaysSane : Source → Type 0
 StaysSane s = (l : Limits) (input : List ℕ) (n : ℕ) (o : World) (c : Configuration) → run s l input n ≡ Going o c → Sane c
+
+-- ---- what else the code of a program may count on
+
+-- The run of the source never comes to where there is no rule.
+abbrev pub HasRules : Source → Type 0
+HasRules s = (l : Limits) (input : List ℕ) (n : ℕ) (o : World) → run s l input n ≡ Ended o NoRule → ⊥
+
+-- What a reference names is an object or a prefixed block, and is there.
+pub record IsObject (s : Source) (m : Instances) (object : ℕ) : Type 0 where
+  pub instance : Instance (List Held)
+  pub lives : live m object ≡ Some instance
+  pub levels : has_levels (text s instance.text) ≡ true
+
+abbrev pub Names : Source → Instances → Val → Type 0
+Names s m (pending.Of (Object j)) = IsObject s m j
+Names s m _ = ⊤
+
+-- of the value that was in hand last
+abbrev pub LastNames : Source → Instances → List Val → Type 0
+LastNames s m [] = ⊤
+LastNames s m (v ∷ vals) = Names s m v
+
+abbrev pub NamesOn : Source → Instances → List Activation → Type 0
+NamesOn s m [] = ⊤
+NamesOn s m (a ∷ rest) = LastNames s m a.values
+
+-- A reference that the operating instance took last into its hand names an object, at each moment of a run.
+abbrev pub NamesObjects : Source → Type 0
+NamesObjects s = (l : Limits) (input : List ℕ) (n : ℕ) (o : World) (c : Configuration) → run s l input n ≡ Going o c → NamesOn s c.memory c.chain

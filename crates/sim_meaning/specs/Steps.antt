@@ -45,7 +45,7 @@ eval o m i w vals rest (StandardOf name ts line) = go o m i (each ts (Do (Standa
 -- what objects have
 eval o m i w vals rest (NewOf j k ts line) = go o m i (each ts (Do (NewOp k (count ts) line) ∷ w)) (Link j ∷ vals) rest
 eval o m i w vals rest (AttributeOf k key class line a) = go o m i (Do (Eval a) ∷ Do (AttributeOp k key class line) ∷ w) vals rest
-eval o m i w vals rest (RemoteCallOf a k ts line) = go o m i (Do (Eval a) ∷ Do (ObjectOp line) ∷ each ts (Do (CallOp k (count ts) line) ∷ w)) vals rest
+eval o m i w vals rest (RemoteCallOf a k ts line) = go o m i (Do (Eval a) ∷ Do (ObjectOp k line) ∷ each ts (Do (CallOp k (count ts) line) ∷ w)) vals rest
 eval o m i w vals rest (QualifiedPlaceOf j key k) = go o m i w (Address (CellPlace j key (Some k)) ∷ vals) rest
 eval o m i w vals rest (QualifiedElementOf line k a ts) = go o m i (Do (Eval a) ∷ each ts (Do (QualifiedElementOp (count ts) line k) ∷ w)) vals rest
 eval o m i w vals rest (MemberOf member k a) = go o m i (Do (Eval a) ∷ Do (MemberOp member k) ∷ w) vals rest

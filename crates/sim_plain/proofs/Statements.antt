@@ -1,15 +1,14 @@
--- A program of a derivation without words of classes, without prefixes and without parameters that are code, is plain.
+-- A program of a derivation without names that are not built, and without forms that are not built, is plain.
 use Rattle.std.proofs.Common.{◌≡◌, ℕ, Bool, true, false, ◌||◌, List, [], ◌∷◌, ◌++◌, Option, Some, None, map, refl, sym, ap}
 use Rattle.std.proofs.lemmas.Bool.{false≢true}
 use Rattle.std.specs.List.{list_any}
-use Rattle.std.specs.Prelude.{not, option_map}
+use Rattle.std.specs.Prelude.{is_some, not, option_map}
 use Rattle.sim_base.specs.declared.token.Token.{Token}
 use Rattle.sim_base.specs.declared.token.TokenKind.TheVariants as k
 use Rattle.sim_tree.specs.declared.expr.Expr.{Expr}
 use Rattle.sim_tree.specs.declared.expr.Identifier.{Identifier}
 use Rattle.sim_tree.specs.declared.program.BlockPrefix.{BlockPrefix}
 use Rattle.sim_tree.specs.declared.program.Program.{Program as ProgramTree}
-use Rattle.sim_tree.specs.declared.stmt.Activation.TheVariants as activation
 use Rattle.sim_tree.specs.declared.stmt.ArraySegment.{ArraySegment}
 use Rattle.sim_tree.specs.declared.stmt.Assigned.{Assigned}
 use Rattle.sim_tree.specs.declared.stmt.Block.{Block}
@@ -23,6 +22,7 @@ use Rattle.sim_tree.specs.declared.stmt.Mode.{Mode}
 use Rattle.sim_tree.specs.declared.stmt.Mode.TheVariants as mode
 use Rattle.sim_tree.specs.declared.stmt.ModePart.{ModePart}
 use Rattle.sim_tree.specs.declared.stmt.Procedure.{Procedure}
+use Rattle.sim_tree.specs.declared.stmt.Protection.{Protection}
 use Rattle.sim_tree.specs.declared.stmt.ReferenceElement.{ReferenceElement}
 use Rattle.sim_tree.specs.declared.stmt.ReferenceElement.TheVariants as reference_element
 use Rattle.sim_tree.specs.declared.stmt.Specification.{Specification}
@@ -31,31 +31,34 @@ use Rattle.sim_tree.specs.declared.stmt.Specifier.TheVariants as specifier
 use Rattle.sim_tree.specs.declared.stmt.Stmt.{Stmt}
 use Rattle.sim_tree.specs.declared.stmt.TypeName.{TypeName}
 use Rattle.sim_tree.specs.declared.stmt.TypeName.TheVariants as type_name
+use Rattle.sim_tree.specs.declared.stmt.VirtualSpecification.{VirtualSpecification}
+use Rattle.sim_tree.specs.declared.stmt.When.{When}
 use Rattle.sim_tree.specs.Grammar as g
 use Rattle.sim_tree.specs.Nesting.{has_token}
 use Rattle.sim_tree.specs.Reading.{Forest, done, leaf, place, node, bare_leaf}
 use Rattle.sim_tree.specs.Derivation.{derivation_of, raise, row, expression}
 use Rattle.sim_tree.specs.ProgramDerivation as d
-use Rattle.sim_tree.specs.ProgramDerivation.{Declared, Prefixed, acted, assigned_derivation, begun, block_derivation, contents, declaration_derivation, joined, next_statement, program_derivation, statement_derivation}
+use Rattle.sim_tree.specs.ProgramDerivation.{Declared, Prefixed, acted, assigned_derivation, begun, block_derivation, contents, declaration_derivation, joined, next_statement, program_derivation, statement_derivation, when_derivation}
 use Rattle.sim_tree.specs.Syntax as s
 use Rattle.sim_tree.specs.Syntax.{Declaration, Declarations, Statement, declarations, statements}
 use Rattle.sim_tree.specs.Syntax.{Block as BlockSyntax}
 use Rattle.sim_tree.specs.SyntaxOf.{syntax_of}
 use Rattle.sim_tree.specs.SyntaxOfProgram as t
-use Rattle.sim_tree.specs.SyntaxOfProgram.{Arm, Classed, Headed, block_syntax, declaration_syntax, program_syntax, statement_syntax}
+use Rattle.sim_tree.specs.SyntaxOfProgram.{Arm, Classed, Headed, arm_syntax, block_syntax, declaration_syntax, program_syntax, statement_syntax}
 use Rattle.sim_tree.specs.Tree.{IsTree, is_bare}
 use Rattle.sim_tree.proofs.Full.{reads_full}
 use Rattle.sim_tree.proofs.Induction as induction
 use Rattle.sim_tree.proofs.ReadExpressions.{Full, is_full-Full}
 use Rattle.sim_tree.proofs.ReadStatements.{acted_full}
-use Rattle.sim_scope.specs.declared.types.Position.TheVariants.{Inside}
-use Rattle.sim_scope.specs.Walk.{block_events, declaration_events, declarations_events, enclosed, program_events, statement_events, statements_events, whole_events}
-use Rattle.sim_static.specs.CodeParameters.{forms, has_code, is_by_name, is_name, is_of_procedures, is_prefixed, is_procedure, passes_code, yes}
-use Rattle.sim_static.specs.NeedsClasses.{is_dot, needs_classes}
+use Rattle.sim_scope.specs.declared.types.Position.{Position}
+use Rattle.sim_scope.specs.declared.types.Position.TheVariants.{ClassBody, ClassStatement, Inside}
+use Rattle.sim_scope.specs.Walk.{arms_events, block_events, declaration_events, declarations_events, enclosed, program_events, statement_events, statements_events, whole_events}
+use Rattle.sim_static.specs.UnbuiltForms.{forms, has_code, has_some, has_unbuilt_form, is_by_name, is_name, is_of_procedures, is_procedure, yes}
+use Rattle.sim_static.specs.UnbuiltNames.{has_unbuilt_name, is_dot}
 use Rattle.sim_plain.specs.Clean.{Clean, CleanBehind}
-use Rattle.sim_agree.specs.Plain.{Each, Plain, PlainBlock, PlainBounds, PlainDeclaration, PlainDeclarations, PlainElement, PlainExpression, PlainHeading, PlainMode, PlainResult, PlainSegment, PlainSide, PlainSpecification, PlainSpecified, PlainStatement, PlainStatements, PlainType, PlainWord}
+use Rattle.sim_agree.specs.Plain.{Each, Plain, PlainArms, PlainBlock, PlainBounds, PlainDeclaration, PlainDeclarations, PlainElement, PlainExpression, PlainHeading, PlainInterface, PlainMode, PlainName, PlainResult, PlainSegment, PlainSide, PlainSpecification, PlainSpecified, PlainStatement, PlainStatements, PlainType, PlainWord}
 use Rattle.sim_plain.proofs.Expressions.{operand_plain, plain_expr, valued}
-use Rattle.sim_plain.proofs.Tokens.{none_needs, reads_clean}
+use Rattle.sim_plain.proofs.Tokens.{none_spells, reads_clean}
 
 no : true ≡ false → ⊥
 no e = false≢true (sym e)
@@ -79,41 +82,46 @@ either : (a b : Bool) → (a || b) ≡ false → (a ≡ false) × (b ≡ false)
 either true b h = absurd (no h)
 either false b h = (refl, h)
 
--- a block, whether it is one in its own right or a compound statement
-abbrev FreeBlock : BlockSyntax → Type 0
-FreeBlock (s.Begin i ds ss e) = Free (declarations_events forms ds) × Free (statements_events forms Inside ss)
+-- a block, whether it is one in its own right, a compound statement or the body of a class
+abbrev FreeBlock : Position → BlockSyntax → Type 0
+FreeBlock p (s.Begin i ds ss e) = Free (declarations_events forms ds) × Free (statements_events forms p ss)
 
 free_enclosed : (ds : Declarations) (inside : List Bool) → Free (enclosed ds [] inside []) → Free inside
 free_enclosed s.NoDeclaration inside h = h
 free_enclosed (s.With d ds) inside h = (free_both inside [] h).0
 
-free_block : (b : BlockSyntax) → Free (block_events forms b) → FreeBlock b
+free_block : (b : BlockSyntax) → Free (block_events forms b) → FreeBlock Inside b
 free_block (s.Begin i ds ss e) h = free_both (declarations_events forms ds) (statements_events forms Inside ss) (free_enclosed ds (declarations_events forms ds ++ statements_events forms Inside ss) h)
 
-free_whole : (b : BlockSyntax) → Free (whole_events forms b) → FreeBlock b
+free_compound : (p : Position) (b : BlockSyntax) → Free (statement_events forms p (s.Compound b)) → (q : Position) × FreeBlock q b
+free_compound ClassBody (s.Begin i ds ss e) h = (ClassStatement, free_both (declarations_events forms ds) (statements_events forms ClassStatement ss) h)
+free_compound ClassStatement b h = (Inside, free_block b h)
+free_compound Inside b h = (Inside, free_block b h)
+
+free_whole : (b : BlockSyntax) → Free (whole_events forms b) → FreeBlock Inside b
 free_whole (s.Begin i ds ss e) h =
     let both = free_both (declarations_events forms ds) (statements_events forms Inside ss ++ []) h in (both.0, (free_both (statements_events forms Inside ss) [] both.1).0)
 
 -- ---- the claims of derivations
 
 abbrev Says : Forest → Statement → Type 0
-Says f e = has_token g.Statement f ≡ true → Full f → Clean f → Free (statement_events forms Inside e) → PlainStatement e
+Says f e = has_token g.Statement f ≡ true → Full f → Clean f → (p : Position) → Free (statement_events forms p e) → PlainStatement e
 
 abbrev Declares : Declared → Declaration → Type 0
 Declares (d.Plain f) e = Full f → Clean f → Free (declaration_events forms e) → PlainDeclaration e
-Declares (Prefixed x i f) e = Unit {0}
+Declares (Prefixed x i f) e = Free (declaration_events forms e) → ⊥
 
 abbrev Blocks : Forest → BlockSyntax → Type 0
-Blocks f e = Full f → Clean f → FreeBlock e → PlainBlock e
+Blocks f e = Full f → Clean f → (p : Position) → FreeBlock p e → PlainBlock e
 
 abbrev Classes : Forest → Classed → Type 0
-Classes f e = Unit {0}
+Classes f e = ((x : Identifier) (i : ℕ) → Free (declaration_events forms (e (Some x) i)) → ⊥) × (Full f → Clean f → (i : ℕ) → Free (declaration_events forms (e None i)) → PlainDeclaration (e None i))
 
 abbrev Procedures : Forest → Headed → Type 0
 Procedures f e = Full f → Clean f → (result : Option TypeName) (i : ℕ) → PlainResult result → Free (declaration_events forms (e result i)) → PlainDeclaration (e result i)
 
 abbrev Arms : Forest → Arm → Type 0
-Arms f e = Unit {0}
+Arms f e = Full f → Clean f → Free (statement_events forms Inside e.body) → PlainName e.class × PlainStatement e.body
 
 abbrev EachStatement : List Forest → List Statement → Type 0
 EachStatement = induction.EachStatement Says Declares Blocks Classes Procedures Arms
@@ -207,7 +215,7 @@ plain_type (type_name.Integer i) c = tt
 plain_type (type_name.Boolean i) c = tt
 plain_type (type_name.Character i) c = tt
 plain_type (type_name.Text i) c = tt
-plain_type (type_name.Reference i class) c = absurd (no c.0)
+plain_type (type_name.Reference i class) c = c.1.0
 
 plain_word : (w : Mode) → is_name w ≡ false → PlainWord w
 plain_word mode.Value h = tt
@@ -242,35 +250,66 @@ plain_heading name ps ms xs h c =
 -- ---- blocks
 
 more_statements : (fs : List Forest) (es : List Statement) (end : ℕ) → EachStatement fs es → Full (row g.NextStatement (map next_statement fs) (bare_leaf end k.End done)) → Clean (row g.NextStatement (map next_statement fs) (bare_leaf end k.End done))
-    → Free (statements_events forms Inside (statements es)) → PlainStatements (statements es)
-more_statements [] [] end each full c free = tt
-more_statements [] (e ∷ es) end each full c free = absurd each
-more_statements (f ∷ fs) [] end each full c free = absurd each
-more_statements (f ∷ fs) (e ∷ es) end each full c free =
-    let both = free_both (statement_events forms Inside e) (statements_events forms Inside (statements es)) free in
-    (each.0 full.1.0 full.1.1 c.0.0 both.0, more_statements fs es end each.1 full.2 c.1 both.1)
+    → (p : Position) → Free (statements_events forms p (statements es)) → PlainStatements (statements es)
+more_statements [] [] end each full c p free = tt
+more_statements [] (e ∷ es) end each full c p free = absurd each
+more_statements (f ∷ fs) [] end each full c p free = absurd each
+more_statements (f ∷ fs) (e ∷ es) end each full c p free =
+    let both = free_both (statement_events forms p e) (statements_events forms p (statements es)) free in
+    (each.0 full.1.0 full.1.1 c.0.0 p both.0, more_statements fs es end each.1 full.2 c.1 p both.1)
 
-statements_plain : (fs : List Forest) (es : List Statement) (end : ℕ) → EachStatement fs es → Full (d.statements fs end) → Clean (d.statements fs end) → Free (statements_events forms Inside (statements es)) → PlainStatements (statements es)
-statements_plain [] [] end each full c free = tt
-statements_plain [] (e ∷ es) end each full c free = absurd each
-statements_plain (f ∷ fs) [] end each full c free = absurd each
-statements_plain (f ∷ fs) (e ∷ es) end each full c free =
+statements_plain : (fs : List Forest) (es : List Statement) (end : ℕ) → EachStatement fs es → Full (d.statements fs end) → Clean (d.statements fs end) → (p : Position) → Free (statements_events forms p (statements es)) → PlainStatements (statements es)
+statements_plain [] [] end each full c p free = tt
+statements_plain [] (e ∷ es) end each full c p free = absurd each
+statements_plain (f ∷ fs) [] end each full c p free = absurd each
+statements_plain (f ∷ fs) (e ∷ es) end each full c p free =
     let rest = row g.NextStatement (map next_statement fs) (bare_leaf end k.End done) in
     let parts = begun_full f rest full in
     let clean = clean_begun f rest c in
-    let both = free_both (statement_events forms Inside e) (statements_events forms Inside (statements es)) free in
-    (each.0 parts.0 parts.1 clean.0 both.0, more_statements fs es end each.1 parts.2 clean.1 both.1)
+    let both = free_both (statement_events forms p e) (statements_events forms p (statements es)) free in
+    (each.0 parts.0 parts.1 clean.0 p both.0, more_statements fs es end each.1 parts.2 clean.1 p both.1)
 
 contents_plain : (ds : List Declared) (xs : List Declaration) (fs : List Forest) (es : List Statement) (end : ℕ) → EachDeclaration ds xs → EachStatement fs es → Full (contents ds fs end) → Clean (contents ds fs end)
-    → Free (declarations_events forms (declarations xs)) → Free (statements_events forms Inside (statements es)) → PlainDeclarations (declarations xs) × PlainStatements (statements es)
-contents_plain [] [] fs es end all each full c fd fe = (tt, statements_plain fs es end each full c fe)
-contents_plain [] (x ∷ xs) fs es end all each full c fd fe = absurd all
-contents_plain (y ∷ ds) [] fs es end all each full c fd fe = absurd all
-contents_plain (d.Plain f ∷ ds) (x ∷ xs) fs es end all each full c fd fe =
+    → (p : Position) → Free (declarations_events forms (declarations xs)) → Free (statements_events forms p (statements es)) → PlainDeclarations (declarations xs) × PlainStatements (statements es)
+contents_plain [] [] fs es end all each full c p fd fe = (tt, statements_plain fs es end each full c p fe)
+contents_plain [] (x ∷ xs) fs es end all each full c p fd fe = absurd all
+contents_plain (y ∷ ds) [] fs es end all each full c p fd fe = absurd all
+contents_plain (d.Plain f ∷ ds) (x ∷ xs) fs es end all each full c p fd fe =
     let both = free_both (declaration_events forms x) (declarations_events forms (declarations xs)) fd in
-    let rest = contents_plain ds xs fs es end all.1 each full.2.2.1 c.1.1.0 both.1 fe in
+    let rest = contents_plain ds xs fs es end all.1 each full.2.2.1 c.1.1.0 p both.1 fe in
     ((all.0 full.1 c.0 both.0, rest.0), rest.1)
-contents_plain (Prefixed name i f ∷ ds) (x ∷ xs) fs es end all each full c fd fe = absurd (no c.1.0.0)
+contents_plain (Prefixed name i f ∷ ds) (x ∷ xs) fs es end all each full c p fd fe = absurd (all.0 (free_both (declaration_events forms x) (declarations_events forms (declarations xs)) fd).0)
+
+-- ---- classes and arms
+
+no_interface : (xs : List Protection) (ys : List VirtualSpecification) → has_some (map t.protection_syntax xs) ≡ false → has_some (map t.virtual_syntax ys) ≡ false → PlainInterface (t.interface_syntax xs ys)
+no_interface [] [] h g = (refl, refl)
+no_interface (x ∷ xs) ys h g = absurd (no h)
+no_interface [] (y ∷ ys) h g = absurd (no g)
+
+abbrev behind_heading : List Protection → List VirtualSpecification → Forest → Forest
+behind_heading xs ys f = row g.Protection (map d.protection_derivation xs) (d.virtuals_derivation ys f)
+
+past_interface : (xs : List Protection) (ys : List VirtualSpecification) (f : Forest) → has_some (map t.protection_syntax xs) ≡ false → has_some (map t.virtual_syntax ys) ≡ false
+    → Full (behind_heading xs ys f) → Clean (behind_heading xs ys f) → Full f × Clean f
+past_interface [] [] f h g full c = (full, c)
+past_interface (x ∷ xs) ys f h g full c = absurd (no h)
+past_interface [] (y ∷ ys) f h g full c = absurd (no g)
+
+abbrev WhenPair : Type 0
+WhenPair = induction.WhenPair Says Declares Blocks Classes Procedures Arms
+
+abbrev first_when : WhenPair → When
+first_when x = x.0
+
+arms_plain : (xs : List WhenPair) → Full (row g.WhenArm (map when_derivation (map first_when xs)) done) → Clean (row g.WhenArm (map when_derivation (map first_when xs)) done)
+    → Free (arms_events forms (t.arms (map arm_syntax (map first_when xs)))) → PlainArms (t.arms (map arm_syntax (map first_when xs)))
+arms_plain [] full c free = tt
+arms_plain (x ∷ xs) full c free =
+    let body = statement_events forms Inside (arm_syntax x.0).body in
+    let both = free_both (body ++ []) (arms_events forms (t.arms (map arm_syntax (map first_when xs)))) free in
+    let here = x.1 full.1 c.0 (free_both body [] both.0).0 in
+    (here.0, here.1, arms_plain xs full.2 c.1 both.1)
 
 -- ---- each node
 
@@ -287,45 +326,70 @@ abbrev first_decl : DeclPair → Decl
 first_decl x = x.0
 
 stmt_step : induction.StmtStep Says Declares Blocks Classes Procedures Arms
-stmt_step (Stmt-F.Empty i) token full c free = tt
-stmt_step (Stmt-F.Block b) token full c free = b.1 full.1 c.0 (free_block (block_syntax b.0) free)
-stmt_step (Stmt-F.PrefixedBlock p b) token full c free = absurd (no free)
-stmt_step (Stmt-F.Inner i) token full c free = absurd (no c.0)
-stmt_step (Stmt-F.Call e) token full c free = called e done full c
-stmt_step (Stmt-F.Assignment e v) token full c free = assigned_plain e v.items token full c
-stmt_step (Stmt-F.If i e a None) token full c free =
-    (expr_plain e full.0 full.1 c.1.0, a.value.1 full.2.0 full.2.1 c.1.1.0 (free_both (statement_events forms Inside (statement_syntax a.value.0)) [] free).0, tt)
-stmt_step (Stmt-F.If i e a (Some b)) token full c free =
+stmt_step (Stmt-F.Empty i) token full c p free = tt
+stmt_step (Stmt-F.Block b) token full c p free = let inside = free_compound p (block_syntax b.0) free in b.1 full.1 c.0 inside.0 inside.1
+stmt_step (Stmt-F.PrefixedBlock x b) token full c p free = absurd (no free)
+stmt_step (Stmt-F.Inner i) token full c p free = tt
+stmt_step (Stmt-F.Call e) token full c p free = called e done full c
+stmt_step (Stmt-F.Assignment e v) token full c p free = assigned_plain e v.items token full c
+stmt_step (Stmt-F.If i e a None) token full c p free =
+    (expr_plain e full.0 full.1 c.1.0, a.value.1 full.2.0 full.2.1 c.1.1.0 Inside (free_both (statement_events forms Inside (statement_syntax a.value.0)) [] free).0, tt)
+stmt_step (Stmt-F.If i e a (Some b)) token full c p free =
     let x = statement_events forms Inside (statement_syntax a.value.0) in
     let y = statement_events forms Inside (statement_syntax b.value.0) in
     let both = free_both x (y ++ []) free in
-    (expr_plain e full.0 full.1 c.1.0, a.value.1 full.2.0 full.2.1 c.1.1.0 both.0, (b.value.1 full.2.2.1.0 full.2.2.1.1 c.1.1.1.0.0 (free_both y [] both.1).0, tt))
-stmt_step (Stmt-F.While i e a) token full c free = (expr_plain e full.0 full.1 c.1.0, a.value.1 full.2.0 full.2.1 c.1.1.0 free)
-stmt_step (Stmt-F.For i x n v a) token full c free = (elements_plain v.items full.1 c.1.1.0.1, a.value.1 full.2.0 full.2.1 c.1.1.1.0 free)
-stmt_step (Stmt-F.ForReference i x n v a) token full c free = (reference_elements_plain v.items full.1 c.1.1.0.1, a.value.1 full.2.0 full.2.1 c.1.1.1.0 free)
-stmt_step (Stmt-F.Inspect i e n a m None) token full c free = absurd (no c.0)
-stmt_step (Stmt-F.Inspect i e n a m (Some b)) token full c free = absurd (no c.0)
-stmt_step (Stmt-F.InspectWhen i e v None) token full c free = absurd (no c.0)
-stmt_step (Stmt-F.InspectWhen i e v (Some b)) token full c free = absurd (no c.0)
-stmt_step (Stmt-F.Activation i activation.Activate e o) token full c free = absurd (no c.0)
-stmt_step (Stmt-F.Activation i activation.Reactivate e o) token full c free = absurd (no c.0)
+    (expr_plain e full.0 full.1 c.1.0, a.value.1 full.2.0 full.2.1 c.1.1.0 Inside both.0, (b.value.1 full.2.2.1.0 full.2.2.1.1 c.1.1.1.0.0 Inside (free_both y [] both.1).0, tt))
+stmt_step (Stmt-F.While i e a) token full c p free = (expr_plain e full.0 full.1 c.1.0, a.value.1 full.2.0 full.2.1 c.1.1.0 Inside free)
+stmt_step (Stmt-F.For i x n v a) token full c p free = (elements_plain v.items full.1 c.1.1.0.1, a.value.1 full.2.0 full.2.1 c.1.1.1.0 Inside free)
+stmt_step (Stmt-F.ForReference i x n v a) token full c p free = (reference_elements_plain v.items full.1 c.1.1.0.1, a.value.1 full.2.0 full.2.1 c.1.1.1.0 Inside free)
+stmt_step (Stmt-F.Inspect i e n a m None) token full c p free =
+    (expr_plain e full.0 full.1 c.1.0, a.value.1 full.2.1.0 full.2.1.1 c.1.1.0.1.0 Inside (free_both (statement_events forms Inside (statement_syntax a.value.0)) [] free).0, tt)
+stmt_step (Stmt-F.Inspect i e n a m (Some b)) token full c p free =
+    let x = statement_events forms Inside (statement_syntax a.value.0) in
+    let y = statement_events forms Inside (statement_syntax b.value.0) in
+    let both = free_both x (y ++ []) free in
+    (expr_plain e full.0 full.1 c.1.0, a.value.1 full.2.1.0 full.2.1.1 c.1.1.0.1.0 Inside both.0, (b.value.1 full.2.2.1.0 full.2.2.1.1 c.1.1.1.0.0 Inside (free_both y [] both.1).0, tt))
+stmt_step (Stmt-F.InspectWhen i e v None) token full c p free =
+    (expr_plain e full.0 full.1 c.1.0, arms_plain v.items full.2.1 c.1.1.0 (free_both (arms_events forms (t.arms (map arm_syntax (map first_when v.items)))) [] free).0, tt)
+stmt_step (Stmt-F.InspectWhen i e v (Some b)) token full c p free =
+    let x = arms_events forms (t.arms (map arm_syntax (map first_when v.items))) in
+    let y = statement_events forms Inside (statement_syntax b.value.0) in
+    let both = free_both x (y ++ []) free in
+    (expr_plain e full.0 full.1 c.1.0, arms_plain v.items full.2.1 c.1.1.0 both.0, (b.value.1 full.2.2.1.0 full.2.2.1.1 c.1.1.1.0.0 Inside (free_both y [] both.1).0, tt))
+stmt_step (Stmt-F.Activation i word e o) token full c p free = absurd (no free)
 
 decl_step : induction.DeclStep Says Declares Blocks Classes Procedures Arms
 decl_step (Decl-F.Variables n v) = λ full c free. plain_type n c.0
 decl_step (Decl-F.Arrays n i v) = λ full c free. (plain_type n c.0, segments_plain v.items full.2.1 c.1.0.1)
 decl_step (Decl-F.Procedure None i p) = λ full c free. p.1 full.1 c.1.0 None i.0 tt free
 decl_step (Decl-F.Procedure (Some n) i p) = λ full c free. p.1 full.2.1.1 c.1.0.1.0 (Some n) i.0 (plain_type n c.0) free
-decl_step (Decl-F.Class None i q) = λ full c free. absurd (no c.0)
-decl_step (Decl-F.Class (Some x) i q) = tt
+decl_step (Decl-F.Class None i q) = λ full c free. q.1.1 full.1 c.1.0 i.0 free
+decl_step (Decl-F.Class (Some x) i q) = λ free. q.1.0 x i.0 free
 
 block_step : induction.BlockStep Says Declares Blocks Classes Procedures Arms
-block_step b full c free =
+block_step b full c p free =
     contents_plain (map declaration_derivation (map first_decl b.declarations.items)) (map declaration_syntax (map first_decl b.declarations.items)) (map statement_derivation (map first_stmt b.statements.items))
     (map statement_syntax (map first_stmt b.statements.items)) b.end.0 (induction.each_declaration Says Declares Blocks Classes Procedures Arms b.declarations.items) (induction.each_statement Says Declares Blocks Classes Procedures Arms b.statements.items)
-    full.1 c.1.0 free.0 free.1
+    full.1 c.1.0 p free.0 free.1
 
 class_step : induction.ClassStep Says Declares Blocks Classes Procedures Arms
-class_step q = tt
+class_step q = (
+  λ x i free. no free,
+  λ full c i free.
+      let body = statement_events forms ClassBody (statement_syntax q.body.value.0) in
+      let code = has_code (t.heading_syntax q.name q.parameters.items q.modes.items q.specifications.items) in
+      let protections = has_some (map t.protection_syntax q.protections.items) in
+      let virtuals = has_some (map t.virtual_syntax q.virtuals.items) in
+      let both = free_first ((code || protections) || virtuals) (body ++ []) free in
+      let last = either (code || protections) virtuals both.0 in
+      let first = either code protections last.0 in
+      let inside = past_interface q.protections.items q.virtuals.items (node g.Statement (statement_derivation q.body.value.0) (place q.end.0 done)) first.1 last.1 full.2 c.1.1 in (
+        refl,
+        plain_heading q.name q.parameters.items q.modes.items q.specifications.items first.0 c.1.0,
+        no_interface q.protections.items q.virtuals.items first.1 last.1,
+        q.body.value.1 inside.0.0 inside.0.1 inside.1.0 ClassBody (free_both body [] both.1).0,
+      ),
+)
 
 procedure_step : induction.ProcedureStep Says Declares Blocks Classes Procedures Arms
 procedure_step p full c result i type free =
@@ -334,36 +398,36 @@ procedure_step p full c result i type free =
     let both = free_first h (body ++ []) free in (
       type,
       plain_heading p.name p.parameters.items p.modes.items p.specifications.items both.0 c.1.0,
-      p.body.value.1 full.2.0 full.2.1 c.1.1.0 (free_both body [] both.1).0,
+      p.body.value.1 full.2.0 full.2.1 c.1.1.0 Inside (free_both body [] both.1).0,
     )
 
 when_step : induction.WhenStep Says Declares Blocks Classes Procedures Arms
-when_step w = tt
+when_step w full c free = (c.1.0, w.body.1 full.0 full.1 c.1.1.1.0 Inside free)
 
 plain_block : (b : Block) → Blocks (block_derivation b) (block_syntax b)
 plain_block = induction.each_block Says Declares Blocks Classes Procedures Arms stmt_step decl_step block_step class_step procedure_step when_step
 
 -- ---- a program
 
-no_prefix : (x : Option BlockPrefix) → is_prefixed (option_map t.prefix_syntax x) ≡ false → x ≡ None
+no_prefix : (x : Option BlockPrefix) → is_some (option_map t.prefix_syntax x) ≡ false → x ≡ None
 no_prefix None h = refl
 no_prefix (Some x) h = absurd (no h)
 
-pub plain_program : (ws : List Token) (p : ProgramTree) → IsTree ws p → needs_classes ws ≡ false → passes_code (program_syntax p) ≡ false → Plain (program_syntax p)
-unfolding program_syntax passes_code program_events
+pub plain_program : (ws : List Token) (p : ProgramTree) → IsTree ws p → has_unbuilt_name ws ≡ false → has_unbuilt_form (program_syntax p) ≡ false → Plain (program_syntax p)
+unfolding program_syntax has_unbuilt_form program_events
 plain_program ws p tree free h =
     let f = node g.Program (program_derivation p) done in
     let full = is_full-Full f (reads_full tree.reads) in
-    let c = reads_clean (none_needs false false ws free) tree.reads in
-    let both = free_first (is_prefixed (option_map t.prefix_syntax p.prefix)) (whole_events forms (block_syntax p.block)) h in
+    let c = reads_clean (none_spells false ws free) tree.reads in
+    let both = free_first (is_some (option_map t.prefix_syntax p.prefix)) (whole_events forms (block_syntax p.block)) h in
     let none = no_prefix p.prefix both.0 in
     record {
       prefix = ap (option_map t.prefix_syntax) none;
       block = go p.prefix none full.1 c.0 (free_whole (block_syntax p.block) both.1);
     }
   where
-    go : (x : Option BlockPrefix) → x ≡ None → Full (d.prefixed x (node g.Compound (block_derivation p.block) done)) → Clean (d.prefixed x (node g.Compound (block_derivation p.block) done)) → FreeBlock (block_syntax p.block) → PlainBlock (block_syntax p.block)
-    go None is full c free = plain_block p.block full.1 c.0 free
+    go : (x : Option BlockPrefix) → x ≡ None → Full (d.prefixed x (node g.Compound (block_derivation p.block) done)) → Clean (d.prefixed x (node g.Compound (block_derivation p.block) done)) → FreeBlock Inside (block_syntax p.block) → PlainBlock (block_syntax p.block)
+    go None is full c free = plain_block p.block full.1 c.0 Inside free
     go (Some x) is full c free = absurd (other is)
       where
         other : Some x ≡ None → ⊥

@@ -1,4 +1,4 @@
--- Where the tokens of a source need no classes none of them does, and their derivation is clean.
+-- Where a source has no name that is not built none of its tokens is one, and their derivation is clean.
 use Rattle.std.proofs.Common.{◌≡◌, ℕ, ◌+◌, zero, suc, Bool, true, false, ◌||◌, ◌&&◌, List, [], ◌∷◌, Some, refl, sym, ap, ◌∙◌, subst, arith, if◌then◌else◌}
 use Rattle.std.proofs.lemmas.Bool.{false≢true}
 use Rattle.std.specs.Prelude.{not}
@@ -12,7 +12,7 @@ use Rattle.sim_tree.specs.Grammar.{Part, Times, Once, Maybe, Many, Symbol, Kept,
 use Rattle.sim_tree.specs.Reading.{Forest, Reads, reads-done, reads-kept, reads-mark, reads-any, reads-none, reads-here, reads-part, reads-skip, after, kind_at, value_at}
 use Rattle.sim_tree.proofs.Follow.{each_row}
 use Rattle.sim_tree.proofs.Completion.{left_true, right_true, row_get}
-use Rattle.sim_static.specs.NeedsClasses.{ends_prefix, is_begin, is_dot, needs, needs_from, needs_here}
+use Rattle.sim_static.specs.UnbuiltNames.{is_dot, spells, spells_from, spells_here}
 use Rattle.sim_plain.specs.Clean.{Clean, CleanBehind}
 
 either : (a b : Bool) → (a || b) ≡ false → (a ≡ false) × (b ≡ false)
@@ -24,26 +24,22 @@ abbrev dotted_at : Bool → List Token → ℕ → Bool
 dotted_at dotted ws zero = dotted
 dotted_at dotted ws (suc i) = is_dot (kind_at ws i)
 
-parted : (dotted before : Bool) (w : Token) (ws : List Token) → needs_from dotted before (w ∷ ws) ≡ false
-    → (needs dotted w.lexeme.kind w.lexeme.value ≡ false) × (needs_from (is_dot w.lexeme.kind) (ends_prefix w.lexeme.kind) ws ≡ false)
-unfolding needs_from needs_here
-parted dotted before w ws h =
-    let here = needs dotted w.lexeme.kind w.lexeme.value in
-    let both = either (here || before && is_begin w.lexeme.kind) (needs_from (is_dot w.lexeme.kind) (ends_prefix w.lexeme.kind) ws) h in
-    ((either here (before && is_begin w.lexeme.kind) both.0).0, both.1)
+parted : (dotted : Bool) (w : Token) (ws : List Token) → spells_from dotted (w ∷ ws) ≡ false → (spells dotted w.lexeme.kind w.lexeme.value ≡ false) × (spells_from (is_dot w.lexeme.kind) ws ≡ false)
+unfolding spells_from spells_here
+parted dotted w ws h = either (spells dotted w.lexeme.kind w.lexeme.value) (spells_from (is_dot w.lexeme.kind) ws) h
 
 -- what its value says is what stands beside the kind
-said : (dotted : Bool) (kind : TokenKind) (value : TokenValue) → needs dotted kind (value_for kind value) ≡ needs dotted kind value
+said : (dotted : Bool) (kind : TokenKind) (value : TokenValue) → spells dotted kind (value_for kind value) ≡ spells dotted kind value
 said dotted k.Identifier value = refl
 said dotted _ value = refl
 
-pub none_needs : (dotted before : Bool) (ws : List Token) → needs_from dotted before ws ≡ false → (i : ℕ) → needs (dotted_at dotted ws i) (kind_at ws i) (value_at ws i) ≡ false
+pub none_spells : (dotted : Bool) (ws : List Token) → spells_from dotted ws ≡ false → (i : ℕ) → spells (dotted_at dotted ws i) (kind_at ws i) (value_at ws i) ≡ false
 unfolding kind_at value_at
-none_needs dotted before [] h zero = refl
-none_needs dotted before [] h (suc i) = refl
-none_needs dotted before (w ∷ ws) h zero = said dotted w.lexeme.kind w.lexeme.value ∙ (parted dotted before w ws h).0
-none_needs dotted before (w ∷ ws) h (suc zero) = none_needs (is_dot w.lexeme.kind) (ends_prefix w.lexeme.kind) ws (parted dotted before w ws h).1 zero
-none_needs dotted before (w ∷ ws) h (suc (suc i)) = none_needs (is_dot w.lexeme.kind) (ends_prefix w.lexeme.kind) ws (parted dotted before w ws h).1 (suc i)
+none_spells dotted [] h zero = refl
+none_spells dotted [] h (suc i) = refl
+none_spells dotted (w ∷ ws) h zero = said dotted w.lexeme.kind w.lexeme.value ∙ (parted dotted w ws h).0
+none_spells dotted (w ∷ ws) h (suc zero) = none_spells (is_dot w.lexeme.kind) ws (parted dotted w ws h).1 zero
+none_spells dotted (w ∷ ws) h (suc (suc i)) = none_spells (is_dot w.lexeme.kind) ws (parted dotted w ws h).1 (suc i)
 
 -- In the grammar a token follows each dot.
 abbrev starts_kept : List Symbol → Bool
@@ -97,13 +93,13 @@ behind ws i = ap (dotted_at false ws) next
 abbrev CleanTo : List Token → Bool → Forest → ℕ → Type 0
 CleanTo ws dotted f j = CleanBehind dotted f × (dotted_at false ws j ≡ false)
 
-module _ {most : ℕ} {ws : List Token} (free : (i : ℕ) → needs (dotted_at false ws i) (kind_at ws i) (value_at ws i) ≡ false) where
+module _ {most : ℕ} {ws : List Token} (free : (i : ℕ) → spells (dotted_at false ws i) (kind_at ws i) (value_at ws i) ≡ false) where
   clean : {d i j : ℕ} {s : List Symbol} {f : Forest} → Reads most ws d s i f j → (dotted : Bool) → dotted_at false ws i ≡ dotted → ready dotted s ≡ true → steady s ≡ true → CleanTo ws dotted f j
   clean reads-done true is r st = absurd (false≢true r)
   clean reads-done false is r st = (tt, is)
   clean (reads-kept {start = i} {any = any} {s = s} h q) dotted is r st =
       let rest = clean q (is_dot (kind_at ws i)) (behind ws i) (behind_kept (kind_at ws i) any s h (left_true (ready (one_of any k.Dot) s) (steady s) st)) (right_true (ready (one_of any k.Dot) s) (steady s) st) in
-      ((subst (λ z. needs z (kind_at ws i) (value_at ws i) ≡ false) is (free i), rest.0), rest.1)
+      ((subst (λ z. spells z (kind_at ws i) (value_at ws i) ≡ false) is (free i), rest.0), rest.1)
   clean (reads-mark h q) true is r st = absurd (false≢true r)
   clean (reads-mark {start = i} {a = a} {s = s} h q) false is r st =
       clean q false (behind ws i ∙ behind_mark (kind_at ws i) a h (left_true (not (g.is k.Dot a)) (steady s) st)) refl (right_true (not (g.is k.Dot a)) (steady s) st)

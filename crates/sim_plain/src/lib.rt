@@ -1,4 +1,4 @@
-//! That a source without words of classes is a program without classes.
+//! That a source that passes the tests has no form that is not built.
 #![tactic(auto)]
 
 pub mod laws;

@@ -14,7 +14,7 @@ use Rattle.sim_code.specs.declared.code.CodeType.{CodeType}
 use Rattle.sim_code.specs.Code.{BlockOf, CodeOf}
 use Rattle.sim_code.specs.Events.{pop_many}
 use Rattle.sim_code.specs.Instances.{kept_on}
-use Rattle.sim_code.specs.Machine.{Frames, Machine, Value, frames_kept, is_nothing}
+use Rattle.sim_code.specs.Machine.{Frames, Value, frames_kept, is_nothing}
 use Rattle.sim_code.specs.Machine as machine
 use Rattle.sim_code.specs.Outcome.{Run, World}
 use Rattle.sim_code.proofs.Lifts.{EachAt}
@@ -22,11 +22,12 @@ use Rattle.sim_code.proofs.Simulation.{Alike}
 use Rattle.sim_meaning.specs.Entries.{arrays_by_value, formals_of, instances_kept, is_array_by_value, is_held, with_array_of}
 use Rattle.sim_meaning.specs.Pending.{Activation, Instances, Val}
 use Rattle.sim_meaning.specs.Pending as meaning
-use Rattle.sim_meaning.specs.Texts.{is_class_free}
-use Rattle.codegen.specs.Compiled.{RecordOf, code_formal, type_of_name}
+use Rattle.sim_meaning.specs.Texts.{is_class_free, text}
+use Rattle.codegen.specs.Compiled.{RecordOf, code_formal, parameters_of, type_of_name}
 use Rattle.sim_relate.proofs.Ends.{is_typed}
 use Rattle.sim_relate.proofs.Heads.{kept_standings}
-use Rattle.sim_relate.proofs.Relation.{Any, Changed, Every, Kind, StackAt, StoreAt, ValAt, anys, array_at, element_at, image_at, link_at, more_at, plain_at}
+use Rattle.sim_relate.proofs.Known.{Any, Every, Kind, StackAt, ValAt, anys, array_at, element_at, image_at, link_at, more_at, plain_at}
+use Rattle.sim_relate.proofs.Relation.{Changed, StoreAt}
 use Rattle.sim_relate.proofs.Slots.{results}
 use Rattle.sim_relate.proofs.Stores.{SameOwners, keeps_kept, later_kept, store_kept, unchanged}
 
@@ -111,7 +112,7 @@ module _ (s : Source) (code : CodeOf) where
   kept_alike m fs a chain below owners false true e = absurd (cc)
   kept_alike m fs a chain below owners false false e = unchanged s code m fs a
 
-  pub both_kept : (m : Instances) (fs : Frames) → StoreAt s code m fs → (chain : List Activation) (below : List machine.Activation) → SameOwners s code chain below → (k : ℕ) (kind : BlockKind) (result : CodeType) (b : BlockOf) → RecordOf s k kind result b → Changed s code Every m fs (instances_kept s k chain m) (frames_kept b below fs)
-  both_kept m fs a chain below owners k kind result b heads =
+  pub both_kept : (m : Instances) (fs : Frames) → StoreAt s code m fs → (chain : List Activation) (below : List machine.Activation) → SameOwners s code chain below → (k : ℕ) (kind : BlockKind) (result : CodeType) (b : BlockOf) → RecordOf s code k kind result b → parameters_of s k (text s k) ≡ formals_of s k → Changed s code Every m fs (instances_kept s k chain m) (frames_kept b below fs)
+  both_kept m fs a chain below owners k kind result b heads own =
       kept_alike m fs a chain below owners (not (is_class_free s k) && list_any is_held (formals_of s k)) (not b.class_free && list_any machine.is_held b.formals)
-      (ap (λ z. not z && list_any machine.is_held b.formals) heads.class_free ∙ ap (λ z. not (is_class_free s k) && list_any machine.is_held z) heads.formals ∙ ap (λ z. not (is_class_free s k) && z) (any_held (formals_of s k)))
+      (ap (λ z. not z && list_any machine.is_held b.formals) heads.class_free ∙ ap (λ z. not (is_class_free s k) && list_any machine.is_held z) (heads.formals ∙ ap (map code_formal) own) ∙ ap (λ z. not (is_class_free s k) && z) (any_held (formals_of s k)))

@@ -1,15 +1,15 @@
 -- Values are taken from where they lie, and put there.
-use Rattle.std.proofs.Common.{◌≡◌, ◌<◌, ◌≤◌, ℕ, suc, List, ◌∷◌, length, Option, Some, None, refl, sym, ◌∙◌, arith}
+use Rattle.std.proofs.Common.{◌≡◌, ◌<◌, ◌≤◌, ℕ, suc, true, false, List, ◌∷◌, length, Option, Some, None, refl, sym, ◌∙◌, subst, arith}
 use Rattle.std.specs.Prelude.{pos}
 use Rattle.sim_base.specs.declared.limits.Limits.{Limits}
 use Rattle.sim_scope.specs.Source.{Source, level_of}
 use Rattle.sim_values.specs.Plain.{Plain}
 use Rattle.sim_code.specs.declared.instr.Instr.TheVariants as i
-use Rattle.sim_code.specs.Code.{BlockOf, CodeOf}
-use Rattle.sim_code.specs.Outcome.{Going, World}
+use Rattle.sim_code.specs.Code.{CodeOf}
+use Rattle.sim_code.specs.Outcome.{Going, Run, World}
 use Rattle.sim_code.specs.Events.{having, image_set, image_value}
 use Rattle.sim_code.specs.Arrays.{element, element_set}
-use Rattle.sim_code.specs.Instances.{ElementPlace, Place, ImagePlace}
+use Rattle.sim_code.specs.Instances.{CellPlace, ElementPlace, Place, ImagePlace}
 use Rattle.sim_code.specs.Machine.{Frames, Machine, Value}
 use Rattle.sim_code.specs.Machine as machine
 use Rattle.sim_code.specs.Rows.{on_top}
@@ -17,19 +17,21 @@ use Rattle.sim_code.specs.Rows as rows
 use Rattle.sim_code.proofs.Lifts.{Both, alike_equal, alike_found, alike_having, alike_same}
 use Rattle.sim_code.proofs.Simulation.{Alike}
 use Rattle.sim_meaning.specs.Meaning.{do_op}
-use Rattle.sim_meaning.specs.Pending.{Activation, Configuration, Do, FetchOp, GiveOp, Instances, Item, Key, Op, ShareOp, StoreOp, Target, ToAddress, ToCell, Val, cell_set, place_in, plain, ToText, ToTextOf}
-use Rattle.sim_meaning.specs.Steps.{go, of_plain, putting, stored, text_assigned}
+use Rattle.sim_meaning.specs.Pending as meaning
+use Rattle.sim_meaning.specs.Pending.{Activation, Configuration, cell, Do, FetchOp, GiveOp, Instances, Item, Key, Op, ShareOp, StoreOp, Target, ToAddress, ToCell, Val, cell_set, place_in, plain, ToText, ToTextOf}
+use Rattle.sim_meaning.specs.Steps.{go, of_plain, putting, text_assigned}
 use Rattle.sim_meaning.specs.Steps as steps
-use Rattle.sim_meaning.specs.Texts.{text}
-use Rattle.codegen_expr.specs.Sites.{cells_in, slot_of, At}
-use Rattle.sim_relate.proofs.Relation.{Any, ChainAt, Changed, Every, HandAt, Kind, OpAt, StackAt, StateAt, ValAt, WorkAt, anys, array_at, element_at, link_at, more_at, plain_at, site_at, there, image_at}
+use Rattle.codegen_expr.specs.Sites.{HasCell, Is, slot_of, At, own_part, frame_text}
+use Rattle.sim_relate.proofs.Known.{FixedOf, IsRead, LinkTo, Located, OwnerOf, PlaceIs, Refers, RefersAt, Stands, is_declared, is_fixed, refers_cell, refers_element, Any, Every, HandAt, Kind, StackAt, ValAt, anys, array_at, element_at, link_at, more_at, plain_at, site_at, image_at, Runs}
+use Rattle.sim_relate.proofs.Relation.{StoreIs, TargetAt, stays, ChainAt, Changed, OpAt, StateAt, WorkAt, there}
 use Rattle.sim_relate.proofs.Carried.{all_every, kept_every}
+use Rattle.sim_relate.proofs.Frames.{same_frame}
 use Rattle.sim_relate.proofs.Hands.{hand_popping, hand_assigning}
 use Rattle.sim_relate.proofs.Here.{Here, act, at_row, goes, kinds_as, with_values}
 use Rattle.sim_relate.proofs.Living.{own_level, reached}
 use Rattle.sim_relate.proofs.Moved.{moved, work_more, work_moved}
 use Rattle.sim_relate.proofs.Operators.{at_cell, onward, pending, pushes, same_plain}
-use Rattle.sim_relate.proofs.Stores.{cell_write, placed_here, temp_written}
+use Rattle.sim_relate.proofs.Stores.{cell_read, cell_write, placed_here, temp_written}
 
 -- addresses of the same element or image
 pub data PlaceAt : Place Key (Option ℕ) → Place ℕ ℕ → Type 0 where
@@ -51,99 +53,153 @@ pub value_both : (o : World) (m : Instances) (fs : Frames) (p : Place Key (Optio
 value_both o m fs _ _ (element_place {a} {n}) = plain_both (element o a n)
 value_both o m fs _ _ (image_place {n}) = plain_both (image_value o n)
 
-module _ (s : Source) (code : CodeOf) (l : Limits) (o : World) (m : Instances) (inst : ℕ) (w : List Item) (vals : List Val) (rest : List Activation) (fs : Frames) (t : ℕ) (b : BlockOf) (pc : ℕ) (stack : List Value) (below : List machine.Activation) (ks : List Kind) (here : Here s code m fs inst rest t b ks vals stack) (u q : ℕ) (ks' : List Kind) (low : length (cells_in s t (text s t)) ≤ u) (k : WorkAt s code m fs (λ v. ChainAt s code m fs rest v below) inst t b u w q ks') where
+module _ (s : Source) (code : CodeOf) (l : Limits) (o : World) (m : Instances) (inst : ℕ) (w : List Item) (vals : List Val) (rest : List Activation) (fs : Frames) (t : ℕ) (b : Runs) (pc : ℕ) (stack : List Value) (below : List machine.Activation) (ks : List Kind) (here : Here s code m fs inst rest t b ks vals stack) (u q : ℕ) (ks' : List Kind) (low : length (own_part s (frame_text s t)) ≤ u) (k : WorkAt s code m fs (λ v. ChainAt s code m fs rest v below) inst t b u w q ks') where
   abbrev R : Configuration → Machine → Type 0
   R = StateAt s code
 
   abbrev a_top : machine.Activation
-  a_top = act inst pc stack b.room
+  a_top = act inst pc stack b
 
   abbrev Follows : Op → Type 0
   Follows op = OpAt s code m fs inst (site_at t b u) op pc q ks ks' → Alike R (do_op s l o m inst w vals rest op) (on_top code l o fs a_top below)
 
-  on_with : {p : World} {ks2 : List Kind} {vals2 : List Val} {stack2 : List Value} {next : ℕ} → StackAt (HandAt s m) ks2 vals2 stack2 → ks' ≡ ks2 → q ≡ next → Alike R (go p m inst w vals2 rest) (Going p (record { chain = act inst next stack2 b.room ∷ below; memory = fs }))
+  on_with : {p : World} {ks2 : List Kind} {vals2 : List Val} {stack2 : List Value} {next : ℕ} → StackAt (HandAt s code m) ks2 vals2 stack2 → ks' ≡ ks2 → q ≡ next → Alike R (go p m inst w vals2 rest) (Going p (record { chain = act inst next stack2 b ∷ below; memory = fs }))
   on_with h e place = onward s code l o m inst w vals rest fs t b pc stack below ks here u q ks' low k h e place
 
   -- what lies at an address
-  fetched : (v : Val) (x : Value) (vals' : List Val) (stack' : List Value) (left : List Kind) → ValAt v x → StackAt (HandAt s m) left vals' stack' → ks' ≡ anys 1 left → q ≡ suc pc
+  fetched : (v : Val) (x : Value) (vals' : List Val) (stack' : List Value) (left : List Kind) → ValAt v x → StackAt (HandAt s code m) left vals' stack' → ks' ≡ anys 1 left → q ≡ suc pc
       → Alike R (having (place_in v) o (λ p. having (steps.value_at o m p) o (λ v. go o m inst w (v ∷ vals') rest))) (having (machine.place_in x) o (λ p. having (machine.value_at o fs p) o (λ v. machine.on o fs a_top (v ∷ stack') below)))
   fetched v x vals' stack' left h hs e place =
       alike_having Configuration Machine R (Place Key (Option ℕ)) (Place ℕ ℕ) PlaceAt (place_in v) (machine.place_in x) o _ _ (place_both v x h) (λ p p' ep ep' there.
       alike_having Configuration Machine R Val Value ValAt (steps.value_at o m p) (machine.value_at o fs p') o _ _ (value_both o m fs p p' there) (λ v x ev ex h. on_with (more_at h hs) e place))
 
-  pub fetch : Follows FetchOp
-  fetch a = at_row s code l o fs a_top below _ i.Fetch a.line q a.works.is
-      (hand_popping Configuration Machine R Val Value (HandAt s m) plain machine.plain same_plain Any a.works.left vals stack o _ _ (kinds_as s code a.works.«in» here.values)
-      (λ v x vals' stack' ev ex h hs. fetched v x vals' stack' a.works.left h hs a.works.out a.works.is.on))
+  -- what lies in a cell
+  in_cell : (j z : ℕ) (key : Key) (class : Option ℕ) (slot class' : ℕ) (vals' : List Val) (stack' : List Value) (left : List Kind) → Both ValAt (cell m j key) (machine.cell fs j slot) → StackAt (HandAt s code m) left vals' stack' → ks' ≡ anys 1 left → q ≡ suc pc
+      → Alike R (having (place_in (meaning.Address (CellPlace j key class))) o (λ p. having (steps.value_at o m p) o (λ v. go o m inst w (v ∷ vals') rest))) (having (machine.place_in (machine.Address (CellPlace j slot class'))) o (λ p. having (machine.value_at o fs p) o (λ v. machine.on o fs a_top (v ∷ stack') below)))
+  unfolding having
+  in_cell j z key class slot class' vals' stack' left b hs e place =
+      alike_having Configuration Machine R Val Value ValAt (cell m j key) (machine.cell fs j slot) o _ _ b (λ v x ev ex h. on_with (more_at h hs) e place)
+
+  abbrev meaning_fetches : Val → List Val → Run Configuration
+  meaning_fetches v vals' = having (place_in v) o (λ p. having (steps.value_at o m p) o (λ v. go o m inst w (v ∷ vals') rest))
+
+  abbrev machine_fetches : Value → List Value → Run Machine
+  machine_fetches x stack' = having (machine.place_in x) o (λ p. having (machine.value_at o fs p) o (λ v. machine.on o fs a_top (v ∷ stack') below))
+
+  fetch_refers : (class : ℕ) (v : Val) (x : Value) (vals' : List Val) (stack' : List Value) (left : List Kind) → RefersAt s code m class v x → StackAt (HandAt s code m) left vals' stack' → ks' ≡ anys 1 left → q ≡ suc pc → Alike R (meaning_fetches v vals') (machine_fetches x stack')
+  unfolding having
+  fetch_refers class _ _ vals' stack' left (refers_cell {j} {t} {key} st own has varies declared) hs e place =
+      alike_having Configuration Machine R Val Value ValAt (cell m j key) (machine.cell fs j (slot_of s code t key)) o _ _ (cell_read s code m fs j t key here.store st own has varies) (λ v x ev ex h. on_with (more_at h hs) e place)
+  fetch_refers class _ _ vals' stack' left (refers_element {a} {n}) hs e place =
+      alike_having Configuration Machine R Val Value ValAt (of_plain (element o a n)) (machine.of_plain (element o a n)) o _ _ (plain_both (element o a n)) (λ v x ev ex h. on_with (more_at h hs) e place)
+
+  fetch_located : (v : Val) (x : Value) (vals' : List Val) (stack' : List Value) (left : List Kind) → PlaceIs s code m v x → StackAt (HandAt s code m) left vals' stack' → ks' ≡ anys 1 left → q ≡ suc pc → Alike R (meaning_fetches v vals') (machine_fetches x stack')
+  fetch_located v x vals' stack' left h hs e place =
+      subst (λ z. Alike R (meaning_fetches z vals') (machine_fetches x stack')) (sym h.is_val)
+      (subst (λ z. Alike R (meaning_fetches (meaning.Address (CellPlace h.instance h.key None)) vals') (machine_fetches z stack')) (sym h.is_value)
+      (in_cell h.instance h.text h.key None (slot_of s code h.text h.key) 0 vals' stack' left (cell_read s code m fs h.instance h.text h.key here.store h.stands h.own h.has h.varies) hs e place))
+
+  fetch_with : (kind : Kind) (left : List Kind) → Is code i.Fetch pc q → ks ≡ kind ∷ left → ((v : Val) (x : Value) (vals' : List Val) (stack' : List Value) → HandAt s code m kind v x → StackAt (HandAt s code m) left vals' stack' → Alike R (meaning_fetches v vals') (machine_fetches x stack')) → Alike R (do_op s l o m inst w vals rest FetchOp) (on_top code l o fs a_top below)
+  fetch_with kind left is e f = at_row s code l o fs a_top below _ i.Fetch is.line q is.is
+      (hand_popping Configuration Machine R Val Value (HandAt s code m) plain machine.plain same_plain kind left vals stack o _ _ (kinds_as s code e here.values)
+      (λ v x vals' stack' ev ex h hs. f v x vals' stack' h hs))
+
+  pub fetch_any : (left : List Kind) → Is code i.Fetch pc q → ks ≡ Any ∷ left → ks' ≡ anys 1 left → Alike R (do_op s l o m inst w vals rest FetchOp) (on_top code l o fs a_top below)
+  fetch_any left is e out = fetch_with Any left is e (λ v x vals' stack' h hs. fetched v x vals' stack' left h hs out is.is.on)
+
+  pub fetch_place : (left : List Kind) → Is code i.Fetch pc q → ks ≡ Located ∷ left → ks' ≡ anys 1 left → Alike R (do_op s l o m inst w vals rest FetchOp) (on_top code l o fs a_top below)
+  fetch_place left is e out = fetch_with Located left is e (λ v x vals' stack' h hs. fetch_located v x vals' stack' left h hs out is.is.on)
+
+  pub fetch_reference : (class : ℕ) (left : List Kind) → Is code i.Fetch pc q → ks ≡ Refers class ∷ left → ks' ≡ anys 1 left → Alike R (do_op s l o m inst w vals rest FetchOp) (on_top code l o fs a_top below)
+  fetch_reference class left is e out = fetch_with (Refers class) left is e (λ v x vals' stack' h hs. fetch_refers class v x vals' stack' left h hs out is.is.on)
 
   -- ---- one left side
 
   -- both go on behind a write of a cell
-  pub wrote_on : {p : World} {vals' : List Val} {stack' : List Value} {next : ℕ} (m' : Instances) (fs' : Frames) → Changed s code Every m fs m' fs' → (ks2 : List Kind) → StackAt (HandAt s m) ks2 vals' stack' → ks' ≡ ks2 → q ≡ next → Alike R (go p m' inst w vals' rest) (Going p (record { chain = act inst next stack' b.room ∷ below; memory = fs' }))
+  pub wrote_on : {p : World} {vals' : List Val} {stack' : List Value} {next : ℕ} (m' : Instances) (fs' : Frames) → Changed s code Every m fs m' fs' → (ks2 : List Kind) → StackAt (HandAt s code m) ks2 vals' stack' → ks' ≡ ks2 → q ≡ next → Alike R (go p m' inst w vals' rest) (Going p (record { chain = act inst next stack' b ∷ below; memory = fs' }))
   wrote_on m' fs' r ks2 hs e place =
       goes s code u q (moved s code r (kept_every m) here (kinds_as s code (sym e) hs))
       (work_moved s code r here (all_every rest) below u (λ n le lt. r.keeps.temps inst t n tt here.stands le) w q ks' k) place
 
-  to_cell : (j : ℕ) (key : Key) → Follows (StoreOp (ToCell j key))
+  pub to_cell : (j : ℕ) (key : Key) → Follows (StoreOp (ToCell j key))
   to_cell j key a =
       let c = a.0 in
-      at_row s code l o fs a_top below _ (i.Store (pos (level_of s c.text)) (pos (slot_of s c.text key))) c.is.line q c.is.is
-      (hand_popping Configuration Machine R Val Value (HandAt s m) plain machine.plain same_plain Any ks' vals stack o _ _ (kinds_as s code a.1 here.values)
+      at_row s code l o fs a_top below _ (i.Store (pos (level_of s c.text)) (pos (slot_of s code c.text key))) c.is.line q c.is.is
+      (hand_popping Configuration Machine R Val Value (HandAt s code m) plain machine.plain same_plain Any ks' vals stack o _ _ (kinds_as s code a.1 here.values)
       (λ v x vals' stack' ev ex h hs.
-      at_cell s code l o m inst w vals rest fs t b pc stack below ks here o (level_of s c.text) j (slot_of s c.text key) _ _ (reached s m inst c.text j here.lives c.reaches)
-      (alike_having Configuration Machine R Instances Frames (Changed s code Every m fs) (cell_set m j key v) (machine.cell_set fs j (slot_of s c.text key) x) o _ _ (cell_write s code m fs j c.text key v x here.store c.reaches.stands c.has h)
+      at_cell s code l o m inst w vals rest fs t b pc stack below ks here o (level_of s c.text) j (slot_of s code c.text key) _ _ (reached s m inst c.text j here.lives c.reaches)
+      (alike_having Configuration Machine R Instances Frames (Changed s code Every m fs) (cell_set m j key v) (machine.cell_set fs j (slot_of s code c.text key) x) o _ _ (cell_write s code m fs j c.text key v x here.store c.reaches.stands c.own c.has c.varies c.declared h)
       (λ m' fs' em efs r. wrote_on m' fs' r ks' hs refl c.is.is.on))))
 
-  put_element : (v : Val) (x : Value) (vals2 : List Val) (stack2 : List Value) → ValAt v x → StackAt (HandAt s m) ks' vals2 stack2 → q ≡ suc pc → (a n : ℕ)
+  put_element : (v : Val) (x : Value) (vals2 : List Val) (stack2 : List Value) → ValAt v x → StackAt (HandAt s code m) ks' vals2 stack2 → q ≡ suc pc → (a n : ℕ)
       → Alike R (putting (ElementPlace a n None) v o m (λ o m. go o m inst w vals2 rest)) (rows.putting (ElementPlace a n 0) x o fs (λ o m. machine.on o m a_top stack2 below))
   unfolding putting rows.putting having
   put_element v x vals2 stack2 h h2 place a n =
       alike_equal Configuration Machine R Plain (plain v) (machine.plain x) o _ _ (same_plain v x h) (λ p. alike_same Configuration Machine R World (element_set o a n p) o _ _ (λ o'. on_with h2 refl place))
 
-  put_image : (v : Val) (x : Value) (vals2 : List Val) (stack2 : List Value) → ValAt v x → StackAt (HandAt s m) ks' vals2 stack2 → q ≡ suc pc → (n : ℕ)
+  put_image : (v : Val) (x : Value) (vals2 : List Val) (stack2 : List Value) → ValAt v x → StackAt (HandAt s code m) ks' vals2 stack2 → q ≡ suc pc → (n : ℕ)
       → Alike R (putting (ImagePlace n) v o m (λ o m. go o m inst w vals2 rest)) (rows.putting (ImagePlace n) x o fs (λ o m. machine.on o m a_top stack2 below))
   unfolding putting rows.putting
   put_image v x vals2 stack2 h h2 place n =
       alike_equal Configuration Machine R Plain (plain v) (machine.plain x) o _ _ (same_plain v x h) (λ p. alike_same Configuration Machine R World (image_set o n p) o _ _ (λ o'. on_with h2 refl place))
 
-  to_address : Follows (StoreOp ToAddress)
-  to_address a = at_row s code l o fs a_top below _ i.Put a.0.line q a.0.is
-      (hand_popping Configuration Machine R Val Value (HandAt s m) plain machine.plain same_plain Any (anys 1 ks') vals stack o _ _ (kinds_as s code a.1 here.values)
-      (λ v x vals1 stack1 ev ex h h1.
-      hand_popping Configuration Machine R Val Value (HandAt s m) plain machine.plain same_plain Any ks' vals1 stack1 o _ _ h1
-      (λ p p' vals2 stack2 ep ep' hp h2.
-      alike_having Configuration Machine R (Place Key (Option ℕ)) (Place ℕ ℕ) PlaceAt (place_in p) (machine.place_in p') o _ _ (place_both p p' hp)
-      (λ z z' ez ez' there. puts v x vals2 stack2 h h2 a.0.is.on z z' there))))
+  put_cell : (v : Val) (x : Value) (vals2 : List Val) (stack2 : List Value) → ValAt v x → StackAt (HandAt s code m) ks' vals2 stack2 → q ≡ suc pc → (j z : ℕ) (key : Key) → Stands s m j z → frame_text s z ≡ z → HasCell s z key → is_fixed s key ≡ false → is_declared key ≡ true
+      → Alike R (putting (CellPlace j key None) v o m (λ o m. go o m inst w vals2 rest)) (rows.putting (CellPlace j (slot_of s code z key) 0) x o fs (λ o m. machine.on o m a_top stack2 below))
+  unfolding putting rows.putting
+  put_cell v x vals2 stack2 h h2 place j z key st own has varies declared =
+      alike_having Configuration Machine R Instances Frames (Changed s code Every m fs) (cell_set m j key v) (machine.cell_set fs j (slot_of s code z key) x) o _ _ (cell_write s code m fs j z key v x here.store st own has varies declared h)
+      (λ m' fs' em efs r. wrote_on m' fs' r ks' h2 refl place)
+
+  abbrev meaning_puts : Val → Val → List Val → Run Configuration
+  meaning_puts v p vals2 = having (place_in p) o (λ p. putting p v o m (λ o m. go o m inst w vals2 rest))
+
+  abbrev machine_puts : (line : ℕ) → Value → Value → List Value → Run Machine
+  machine_puts line x p stack2 = having (machine.place_in p) o (λ p. rows.storing code line p x o fs (λ o m. machine.on o m a_top stack2 below))
+
+  puts_at : (line : ℕ) (kind : Kind) → IsRead kind → (v : Val) (x : Value) (p : Val) (p' : Value) (vals2 : List Val) (stack2 : List Value) → ValAt v x → HandAt s code m kind p p' → StackAt (HandAt s code m) ks' vals2 stack2 → q ≡ suc pc → Alike R (meaning_puts v p vals2) (machine_puts line x p' stack2)
+  unfolding having
+  puts_at line Any i v x p p' vals2 stack2 h hp h2 place =
+      alike_having Configuration Machine R (Place Key (Option ℕ)) (Place ℕ ℕ) PlaceAt (place_in p) (machine.place_in p') o _ _ (place_both p p' hp) (λ z z' ez ez' there. puts_one line v x vals2 stack2 h h2 place z z' there)
     where
-      puts : (v : Val) (x : Value) (vals2 : List Val) (stack2 : List Value) → ValAt v x → StackAt (HandAt s m) ks' vals2 stack2 → q ≡ suc pc → (z : Place Key (Option ℕ)) (z' : Place ℕ ℕ) → PlaceAt z z'
-          → Alike R (putting z v o m (λ o m. go o m inst w vals2 rest)) (rows.storing code a.0.line z' x o fs (λ o m. machine.on o m a_top stack2 below))
-      puts v x vals2 stack2 h h2 place _ _ (element_place {a} {n}) = put_element v x vals2 stack2 h h2 place a n
-      puts v x vals2 stack2 h h2 place _ _ (image_place {n}) = put_image v x vals2 stack2 h h2 place n
+      puts_one : (line : ℕ) (v : Val) (x : Value) (vals2 : List Val) (stack2 : List Value) → ValAt v x → StackAt (HandAt s code m) ks' vals2 stack2 → q ≡ suc pc → (z : Place Key (Option ℕ)) (z' : Place ℕ ℕ) → PlaceAt z z'
+          → Alike R (putting z v o m (λ o m. go o m inst w vals2 rest)) (rows.storing code line z' x o fs (λ o m. machine.on o m a_top stack2 below))
+      puts_one line v x vals2 stack2 h h2 place _ _ (element_place {a} {n}) = put_element v x vals2 stack2 h h2 place a n
+      puts_one line v x vals2 stack2 h h2 place _ _ (image_place {n}) = put_image v x vals2 stack2 h h2 place n
+  puts_at line Located i v x p p' vals2 stack2 h hp h2 place =
+      subst (λ z. Alike R (meaning_puts v z vals2) (machine_puts line x p' stack2)) (sym hp.is_val)
+      (subst (λ z. Alike R (meaning_puts v (meaning.Address (CellPlace hp.instance hp.key None)) vals2) (machine_puts line x z stack2)) (sym hp.is_value)
+      (put_cell v x vals2 stack2 h h2 place hp.instance hp.text hp.key hp.stands hp.own hp.has hp.varies hp.declared))
+  puts_at line (LinkTo z) i v x p p' vals2 stack2 h hp h2 place = absurd i
+  puts_at line (OwnerOf z) i v x p p' vals2 stack2 h hp h2 place = absurd i
+  puts_at line (Refers z) i v x p p' vals2 stack2 h hp h2 place = absurd i
+  puts_at line (FixedOf z) i v x p p' vals2 stack2 h hp h2 place = absurd i
+
+  pub to_address : Follows (StoreOp ToAddress)
+  to_address a =
+      let e = a.1 in
+      at_row s code l o fs a_top below _ i.Put a.0.line q a.0.is
+      (hand_popping Configuration Machine R Val Value (HandAt s code m) plain machine.plain same_plain Any (e.place ∷ ks') vals stack o _ _ (kinds_as s code e.«in» here.values)
+      (λ v x vals1 stack1 ev ex h h1.
+      hand_popping Configuration Machine R Val Value (HandAt s code m) plain machine.plain same_plain e.place ks' vals1 stack1 o _ _ h1
+      (λ p p' vals2 stack2 ep ep' hp h2. puts_at a.0.line e.place e.reads v x p p' vals2 stack2 h hp h2 a.0.is.on)))
 
   -- a text is assigned to a text
-  to_text : (line : ℕ) → At code i.AssignT line pc q → ks ≡ anys 2 ks' → Alike R (text_assigned o m inst w vals rest line) (on_top code l o fs a_top below)
+  pub to_text : (line : ℕ) → At code i.AssignT line pc q → ks ≡ anys 2 ks' → Alike R (text_assigned o m inst w vals rest line) (on_top code l o fs a_top below)
   to_text line is e = at_row s code l o fs a_top below _ i.AssignT line q is
-      (hand_assigning Configuration Machine R Val Value (HandAt s m) plain machine.plain same_plain line ks' vals stack o _ _ (kinds_as s code e here.values)
+      (hand_assigning Configuration Machine R Val Value (HandAt s code m) plain machine.plain same_plain line ks' vals stack o _ _ (kinds_as s code e here.values)
       (λ p vals' stack' h. on_with h refl is.on))
-
-  pub store : (x : Target) → Follows (StoreOp x)
-  store (ToCell j key) a = to_cell j key a
-  store ToAddress a = to_address a
-  store (ToText line) a = to_text line a.0 a.1
-  store (ToTextOf j key line) a = to_text line a.0 a.1
-  store _ a = absurd a
 
   -- ---- several left sides
 
   pub share : (ts : List Target) → Follows (ShareOp ts)
   share ts a =
       at_row s code l o fs a_top below _ (i.Store (pos (level_of s t)) (pos a.temp)) a.kept.line a.x a.kept.is
-      (hand_popping Configuration Machine R Val Value (HandAt s m) plain machine.plain same_plain Any a.left vals stack o _ _ (kinds_as s code a.«in» here.values)
+      (hand_popping Configuration Machine R Val Value (HandAt s code m) plain machine.plain same_plain Any a.left vals stack o _ _ (kinds_as s code a.«in» here.values)
       (λ v x vals' stack' ev ex h hs.
       let r = temp_written s code m fs inst t b a.temp x here.store here.stands here.lives here.found a.is_temp.behind a.is_temp.within in
       let more : u ≤ suc a.temp = omega (arith, a.unused) in
       let again : suc a.temp ≤ suc a.temp = omega arith in
-      let low' : length (cells_in s t (text s t)) ≤ suc a.temp = omega (arith, a.is_temp.behind) in
+      let low' : length (own_part s (frame_text s t)) ≤ suc a.temp = omega (arith, a.is_temp.behind) in
       let in_use : a.temp < suc a.temp = omega arith in
       at_cell s code l o m inst w vals rest fs t b pc stack below ks here o (level_of s t) inst a.temp _ _ (own_level s m inst t here.stands here.lives)
       (alike_found Configuration Machine R Frames (machine.cell_set fs inst a.temp x) r.frames o _ _ r.is
@@ -152,13 +208,27 @@ module _ (s : Source) (code : CodeOf) (l : Limits) (o : World) (m : Instances) (
         suc a.temp,
         q,
         ks',
+        t,
+        b,
+        same_frame s t,
         there refl,
         again,
         low',
-        record { temp = a.temp; x = x; like = h; «in_use» = in_use; is_temp = record { behind = a.is_temp.behind; within = a.is_temp.within }; holds = r.holds; gives = a.gives },
+        stays (record { temp = a.temp; x = x; like = h; «in_use» = in_use; is_temp = record { behind = a.is_temp.behind; within = a.is_temp.within }; holds = r.holds; gives = a.gives }) refl,
         work_more s code m r.frames (λ v. ChainAt s code m r.frames rest v below) inst t b u (suc a.temp) more w q ks'
             (work_moved s code r.changed here here.alone below u (λ n le lt. r.others n (λ same. let no : ⊥ = omega (arith, same, lt, a.unused) in no)) w q ks' k),
       ) a.kept.is.on))))
+
+  -- what a value is given to is no variable that is found anew
+  target_store : (x : Target) (p p' : ℕ) (before behind : List Kind) → TargetAt s code m inst x p p' before behind → StoreIs s code m inst (site_at t b u) x p p' before behind
+  target_store (ToCell j key) p p' before behind a = a
+  target_store ToAddress p p' before behind a = a
+  target_store (ToText line) p p' before behind a = a
+  target_store (ToTextOf j key line) p p' before behind a = a
+  target_store (meaning.ToReference line) p p' before behind a = a
+  target_store (meaning.ToPlace x) p p' before behind a = absurd a
+  target_store (meaning.ToTextAt x line) p p' before behind a = absurd a
+  target_store (meaning.ToReferenceAt x line) p p' before behind a = absurd a
 
   -- what was taken lies in its temp
   pub give : (v : Val) (x : Target) (ts : List Target) → Follows (GiveOp v (x ∷ ts))
@@ -170,5 +240,5 @@ module _ (s : Source) (code : CodeOf) (l : Limits) (o : World) (m : Instances) (
       (alike_found Configuration Machine R Value (machine.cell fs inst a.temp) a.x o _ _ (placed_here s code m fs here.store inst a.temp here.lives ∙ a.holds)
       (pushes s code l o m inst w vals rest fs t b pc stack below ks here o a.x _ _ load.fits
       (goes s code u g.0 (with_values s code here (more_at a.like here.values))
-      (pending s code l o m inst w vals rest fs t b pc stack below ks here u q ks' low k (Do (GiveOp v ts) ∷ w) (StoreOp x) g.0 g.1 (Any ∷ ks) g.2 g.4
+      (pending s code l o m inst w vals rest fs t b pc stack below ks here u q ks' low k (Do (GiveOp v ts) ∷ w) (StoreOp x) g.0 g.1 (Any ∷ ks) g.2 (target_store x g.0 g.1 (Any ∷ ks) g.2 g.4)
       (pending s code l o m inst w vals rest fs t b pc stack below ks here u q ks' low k w (GiveOp v ts) g.1 q g.2 ks' (record { temp = a.temp; x = a.x; like = a.like; «in_use» = a.«in_use»; is_temp = a.is_temp; holds = a.holds; gives = g.5 }) k)) load.is.is.on))))

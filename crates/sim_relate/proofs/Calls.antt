@@ -1,5 +1,5 @@
 -- Standard names.
-use Rattle.std.proofs.Common.{◌≡◌, ◌<◌, ◌≤◌, ◌+◌, ℕ, zero, suc, Bool, true, List, ◌∷◌, length, Option, Some, None, refl, sym, ap, ◌∙◌, arith, subst, []}
+use Rattle.std.proofs.Common.{◌≡◌, ◌<◌, ◌≤◌, ◌+◌, ℕ, zero, suc, Bool, true, false, List, ◌∷◌, length, Option, Some, None, refl, sym, ap, ◌∙◌, arith, subst, []}
 use Rattle.std.specs.Prelude.{pos, Result, Ok, Err}
 use Rattle.sim_base.specs.declared.limits.Limits.{Limits}
 use Rattle.sim_scope.specs.Source.{Source}
@@ -8,7 +8,7 @@ use Rattle.sim_values.specs.declared.standard.StandardType.{StandardType}
 use Rattle.sim_values.specs.Plain.{Plain, Text}
 use Rattle.sim_values.specs.Standard.{operands_of, row_of, standard_effect}
 use Rattle.sim_code.specs.declared.instr.Instr.TheVariants as i
-use Rattle.sim_code.specs.Code.{BlockOf, CodeOf}
+use Rattle.sim_code.specs.Code.{CodeOf}
 use Rattle.sim_code.specs.Outcome.{Run, World}
 use Rattle.sim_code.specs.Events.{no_rule, when, computing, having, image_set, image_value, only_text, performing, putting_back, taking}
 use Rattle.sim_code.specs.Machine.{Frames, Machine, Value}
@@ -23,8 +23,9 @@ use Rattle.sim_meaning.specs.Pending as meaning
 use Rattle.sim_meaning.specs.Statements.{has_value}
 use Rattle.sim_meaning.specs.Steps.{go, with_value, of_plain, operand, plain_in, put_back, putting}
 use Rattle.sim_meaning.specs.Texts.{text}
-use Rattle.codegen_expr.specs.Sites.{cells_in, HasCell, slot_of}
-use Rattle.sim_relate.proofs.Relation.{ChainAt, Changed, Every, HandAt, Kind, OpAt, StackAt, StateAt, WorkAt, given, more_at, plain_at, site_at, AllRead, Any, IsRead, LinkTo, Located, Stands, ValAt, array_at, element_at, image_at, link_at}
+use Rattle.codegen_expr.specs.Sites.{HasCell, slot_of, own_part, frame_text}
+use Rattle.sim_relate.proofs.Known.{FixedOf, OwnerOf, Refers, is_declared, is_fixed, Every, HandAt, Kind, StackAt, given, more_at, plain_at, site_at, AllRead, Any, IsRead, LinkTo, Located, Stands, ValAt, array_at, element_at, image_at, link_at, Runs}
+use Rattle.sim_relate.proofs.Relation.{ChainAt, Changed, OpAt, StateAt, WorkAt}
 use Rattle.sim_relate.proofs.Hands.{stack_length, FirstAt, hand_operands}
 use Rattle.sim_relate.proofs.Here.{Here, act, at_row, kinds_as}
 use Rattle.sim_relate.proofs.Operators.{chosen, onward, same_plain}
@@ -47,12 +48,12 @@ has_room_is : (r : Option StandardType) (room values operands left : ℕ) → (h
 has_room_is None room values operands left f e = refl
 has_room_is (Some x) room values operands left f e = let lt : left < room = f refl in grind (arith, lt, e)
 
-module _ (s : Source) (code : CodeOf) (l : Limits) (o : World) (m : Instances) (inst : ℕ) (w : List Item) (vals : List Val) (rest : List Activation) (fs : Frames) (t : ℕ) (b : BlockOf) (pc : ℕ) (stack : List Value) (below : List machine.Activation) (ks : List Kind) (here : Here s code m fs inst rest t b ks vals stack) (u q : ℕ) (ks' : List Kind) (low : length (cells_in s t (text s t)) ≤ u) (k : WorkAt s code m fs (λ v. ChainAt s code m fs rest v below) inst t b u w q ks') where
+module _ (s : Source) (code : CodeOf) (l : Limits) (o : World) (m : Instances) (inst : ℕ) (w : List Item) (vals : List Val) (rest : List Activation) (fs : Frames) (t : ℕ) (b : Runs) (pc : ℕ) (stack : List Value) (below : List machine.Activation) (ks : List Kind) (here : Here s code m fs inst rest t b ks vals stack) (u q : ℕ) (ks' : List Kind) (low : length (own_part s (frame_text s t)) ≤ u) (k : WorkAt s code m fs (λ v. ChainAt s code m fs rest v below) inst t b u w q ks') where
   abbrev R : Configuration → Machine → Type 0
   R = StateAt s code
 
   abbrev a_top : machine.Activation
-  a_top = act inst pc stack b.room
+  a_top = act inst pc stack b
 
   -- ---- operands, and where the first one goes back to
 
@@ -73,13 +74,16 @@ module _ (s : Source) (code : CodeOf) (l : Limits) (o : World) (m : Instances) (
   operand_same _ _ (element_at {a} {n}) = plain_same (element o a n)
   operand_same _ _ (image_at {n}) = plain_same (image_value o n)
 
-  reads_same : (k : Kind) → IsRead k → (v : Val) (x : Value) → HandAt s m k v x → operand o m v ≡ machine.operand o fs x
+  reads_same : (k : Kind) → IsRead k → (v : Val) (x : Value) → HandAt s code m k v x → operand o m v ≡ machine.operand o fs x
   reads_same Any r v x h = operand_same v x h
   reads_same Located r v x h =
       ap (operand o m) h.is_val ∙
-      ap only_text (both_plain (cell m h.instance h.key) (machine.cell fs h.instance (slot_of s h.text h.key)) (cell_read s code m fs h.instance h.text h.key here.store h.stands h.has)) ∙
+      ap only_text (both_plain (cell m h.instance h.key) (machine.cell fs h.instance (slot_of s code h.text h.key)) (cell_read s code m fs h.instance h.text h.key here.store h.stands h.own h.has h.varies)) ∙
       ap (machine.operand o fs) (sym h.is_value)
   reads_same (LinkTo text) r v x h = absurd r
+  reads_same (OwnerOf text) r v x h = absurd r
+  reads_same (Refers class) r v x h = absurd r
+  reads_same (FixedOf d) r v x h = absurd r
 
   -- it goes back to an element, an image or a cell, or is dropped
   module _ (t2 : TextVal) (p : World) (r : World → Instances → Run Configuration) (y : World → Frames → Run Machine) (as_is : (p : World) → Alike R (r p m) (y p fs)) (after : (p : World) (m' : Instances) (fs' : Frames) → Changed s code Every m fs m' fs' → Alike R (r p m') (y p fs')) where
@@ -91,20 +95,23 @@ module _ (s : Source) (code : CodeOf) (l : Limits) (o : World) (m : Instances) (
     value_back _ _ (element_at {a} {n}) = alike_same Configuration Machine R World (element_set p a n (Text t2)) p _ _ (λ p. as_is p)
     value_back _ _ (image_at {n}) = alike_same Configuration Machine R World (image_set p n (Text t2)) p _ _ (λ p. as_is p)
 
-    cell_back : (j u : ℕ) (key : Key) → Stands s m j u → HasCell s u key → Alike R (put_back (meaning.Address (CellPlace j key None)) t2 p m r) (rows.put_back (machine.Address (CellPlace j (slot_of s u key) 0)) t2 p fs y)
+    cell_back : (j u : ℕ) (key : Key) → Stands s m j u → frame_text s u ≡ u → HasCell s u key → is_fixed s key ≡ false → is_declared key ≡ true → Alike R (put_back (meaning.Address (CellPlace j key None)) t2 p m r) (rows.put_back (machine.Address (CellPlace j (slot_of s code u key) 0)) t2 p fs y)
     unfolding put_back rows.put_back putting rows.putting
-    cell_back j u key stands has =
-        alike_having Configuration Machine R Instances Frames (Changed s code Every m fs) (cell_set m j key (meaning.Of (Text t2))) (machine.cell_set fs j (slot_of s u key) (machine.Of (Text t2))) p _ _
-        (cell_write s code m fs j u key (meaning.Of (Text t2)) (machine.Of (Text t2)) here.store stands has plain_at) (λ m' fs' em efs w. after p m' fs' w)
+    cell_back j u key stands own has varies declared =
+        alike_having Configuration Machine R Instances Frames (Changed s code Every m fs) (cell_set m j key (meaning.Of (Text t2))) (machine.cell_set fs j (slot_of s code u key) (machine.Of (Text t2))) p _ _
+        (cell_write s code m fs j u key (meaning.Of (Text t2)) (machine.Of (Text t2)) here.store stands own has varies declared plain_at) (λ m' fs' em efs w. after p m' fs' w)
 
-    back : (k : Kind) → IsRead k → (v : Val) (x : Value) → HandAt s m k v x → Alike R (put_back v t2 p m r) (rows.put_back x t2 p fs y)
+    back : (k : Kind) → IsRead k → (v : Val) (x : Value) → HandAt s code m k v x → Alike R (put_back v t2 p m r) (rows.put_back x t2 p fs y)
     back Any i v x h = value_back v x h
     back Located i v x h =
         subst (λ z. Alike R (put_back z t2 p m r) (rows.put_back x t2 p fs y)) (sym h.is_val)
-        (subst (λ z. Alike R (put_back (meaning.Address (CellPlace h.instance h.key None)) t2 p m r) (rows.put_back z t2 p fs y)) (sym h.is_value) (cell_back h.instance h.text h.key h.stands h.has))
+        (subst (λ z. Alike R (put_back (meaning.Address (CellPlace h.instance h.key None)) t2 p m r) (rows.put_back z t2 p fs y)) (sym h.is_value) (cell_back h.instance h.text h.key h.stands h.own h.has h.varies h.declared))
     back (LinkTo text) i v x h = absurd i
+    back (OwnerOf text) i v x h = absurd i
+    back (Refers class) i v x h = absurd i
+    back (FixedOf d) i v x h = absurd i
 
-  moves_back : (f : Option Val) (f' : Option Value) → Both (FirstAt Configuration Machine R Val Value (HandAt s m) (operand o m) (machine.operand o fs) reads_same) f f' → (moved : Option TextVal) (p : World) (r : World → Instances → Run Configuration) (y : World → Frames → Run Machine) → ((p : World) → Alike R (r p m) (y p fs)) → ((p : World) (m' : Instances) (fs' : Frames) → Changed s code Every m fs m' fs' → Alike R (r p m') (y p fs'))
+  moves_back : (f : Option Val) (f' : Option Value) → Both (FirstAt Configuration Machine R Val Value (HandAt s code m) (operand o m) (machine.operand o fs) reads_same) f f' → (moved : Option TextVal) (p : World) (r : World → Instances → Run Configuration) (y : World → Frames → Run Machine) → ((p : World) → Alike R (r p m) (y p fs)) → ((p : World) (m' : Instances) (fs' : Frames) → Changed s code Every m fs m' fs' → Alike R (r p m') (y p fs'))
       → Alike R (putting_back put_back f moved p m r) (putting_back rows.put_back f' moved p fs y)
   unfolding putting_back
   moves_back None None h moved p r y as_is after = as_is p
@@ -115,14 +122,14 @@ module _ (s : Source) (code : CodeOf) (l : Limits) (o : World) (m : Instances) (
 
   -- ---- the value that it leaves, if it leaves one
 
-  left_with : (value : Option Plain) (result : Option StandardType) (left : List Kind) (vals' : List Val) (stack' : List Value) → is_some value ≡ has_value result → ks' ≡ given (has_value result) left → StackAt (HandAt s m) left vals' stack' → StackAt (HandAt s m) ks' (with_value value vals') (rows.with_value value stack')
+  left_with : (value : Option Plain) (result : Option StandardType) (left : List Kind) (vals' : List Val) (stack' : List Value) → is_some value ≡ has_value result → ks' ≡ given (has_value result) left → StackAt (HandAt s code m) left vals' stack' → StackAt (HandAt s code m) ks' (with_value value vals') (rows.with_value value stack')
   left_with None result left vals' stack' e out h = kinds_as s code (sym (out ∙ ap (λ g. given g left) (sym e))) h
   left_with (Some v) result left vals' stack' e out h = kinds_as s code (sym (out ∙ ap (λ g. given g left) (sym e))) (more_at plain_at h)
 
-  roomy : (name : Standard) (many : ℕ) (left : List Kind) → many ≡ length (operands_of (row_of name).function) → AllRead many ks left → (has_value (row_of name).result ≡ true → length left < b.room) → room_for name a_top ≡ true
+  roomy : (name : Standard) (many : ℕ) (left : List Kind) → many ≡ length (operands_of (row_of name).function) → AllRead many ks left → (has_value (row_of name).result ≡ true → length left < b.block.room) → room_for name a_top ≡ true
   roomy name many left counts e fits =
       let deep : length stack ≡ length (operands_of (row_of name).function) + length left = sym (stack_length ks vals stack here.values) ∙ read_length many ks left e ∙ ap (λ n. n + length left) counts in
-      has_room_is (row_of name).result b.room (length stack) (length (operands_of (row_of name).function)) (length left) fits deep
+      has_room_is (row_of name).result b.block.room (length stack) (length (operands_of (row_of name).function)) (length left) fits deep
 
   whenever : (test : Bool) (r : Run Configuration) (x : Run Machine) → test ≡ true → Alike R r x → Alike R r (when test o x)
   unfolding when
@@ -130,7 +137,7 @@ module _ (s : Source) (code : CodeOf) (l : Limits) (o : World) (m : Instances) (
 
   -- what it does with its operands
   module _ (name : Standard) (line : ℕ) (left : List Kind) (out : ks' ≡ given (has_value (row_of name).result) left) (place : q ≡ suc pc) where
-    answered : (ps : List Plain) (effect : Effect) (f : Option Val) (f' : Option Value) (vals' : List Val) (stack' : List Value) → Both (FirstAt Configuration Machine R Val Value (HandAt s m) (operand o m) (machine.operand o fs) reads_same) f f' → StackAt (HandAt s m) left vals' stack' → standard_effect name ps o.store ≡ Some effect → (p : World) (x : Result (Option Plain) RunError) → effect.answer ≡ x
+    answered : (ps : List Plain) (effect : Effect) (f : Option Val) (f' : Option Value) (vals' : List Val) (stack' : List Value) → Both (FirstAt Configuration Machine R Val Value (HandAt s code m) (operand o m) (machine.operand o fs) reads_same) f f' → StackAt (HandAt s code m) left vals' stack' → standard_effect name ps o.store ≡ Some effect → (p : World) (x : Result (Option Plain) RunError) → effect.answer ≡ x
         → Alike R (computing line x p (λ value. putting_back put_back f effect.moved p m (λ p m. go p m inst w (with_value value vals') rest)))
         (computing line x p (λ value. putting_back rows.put_back f' effect.moved p fs (λ p m. machine.on p m a_top (rows.with_value value stack') below)))
     unfolding computing
@@ -141,7 +148,7 @@ module _ (s : Source) (code : CodeOf) (l : Limits) (o : World) (m : Instances) (
         (λ p m' fs' r. wrote_on s code l o m inst w vals rest fs t b pc stack below ks here u q ks' low k m' fs' r ks' hs refl place)
     answered ps effect f f' vals' stack' b2 h e p (Err error) is = alike_stopping Configuration Machine R _ p
 
-    effected : (ps : List Plain) (x : Option Effect) (f : Option Val) (f' : Option Value) (vals' : List Val) (stack' : List Value) → Both (FirstAt Configuration Machine R Val Value (HandAt s m) (operand o m) (machine.operand o fs) reads_same) f f' → StackAt (HandAt s m) left vals' stack' → standard_effect name ps o.store ≡ x
+    effected : (ps : List Plain) (x : Option Effect) (f : Option Val) (f' : Option Value) (vals' : List Val) (stack' : List Value) → Both (FirstAt Configuration Machine R Val Value (HandAt s code m) (operand o m) (machine.operand o fs) reads_same) f f' → StackAt (HandAt s code m) left vals' stack' → standard_effect name ps o.store ≡ x
         → Alike R (having x o (λ effect. taking l line effect.wanted o (λ p. computing line effect.answer (record p { store = effect.store }) (λ value. putting_back put_back f effect.moved (record p { store = effect.store }) m (λ p m. go p m inst w (with_value value vals') rest)))))
         (having x o (λ effect. taking l line effect.wanted o (λ p. computing line effect.answer (record p { store = effect.store }) (λ value. putting_back rows.put_back f' effect.moved (record p { store = effect.store }) fs (λ p m. machine.on p m a_top (rows.with_value value stack') below)))))
     unfolding having
@@ -151,7 +158,7 @@ module _ (s : Source) (code : CodeOf) (l : Limits) (o : World) (m : Instances) (
     performed : AllRead (length (operands_of (row_of name).function)) ks left → Alike R (performing operand put_back l line name vals o m (λ p m value vals. go p m inst w (with_value value vals) rest)) (performing machine.operand rows.put_back l line name stack o fs (λ p m value stack. machine.on p m a_top (rows.with_value value stack) below))
     unfolding performing
     performed r =
-        hand_operands Configuration Machine R Val Value (HandAt s m) (operand o m) (machine.operand o fs) reads_same (length (operands_of (row_of name).function)) ks left None None vals stack o _ _ tt r here.values
+        hand_operands Configuration Machine R Val Value (HandAt s code m) (operand o m) (machine.operand o fs) reads_same (length (operands_of (row_of name).function)) ks left None None vals stack o _ _ tt r here.values
         (λ ps f f' vals' stack' b2 h. effected ps (standard_effect name ps o.store) f f' vals' stack' b2 h refl)
 
   pub standard : (name : Standard) (line : ℕ) → OpAt s code m fs inst (site_at t b u) (StandardOp name line) pc q ks ks' → Alike R (do_op s l o m inst w vals rest (StandardOp name line)) (on_top code l o fs a_top below)

@@ -3,42 +3,69 @@ use Rattle.std.proofs.Common.{◌≡◌, ◌<◌, ◌≤◌, ℕ, suc, Bool, fal
 use Rattle.std.specs.Prelude.{slice_get}
 use Rattle.sim_chains.specs.Components.{AttachedObject, DetachedObject, NoObject, ResumedObject, Standing, TerminatedObject}
 use Rattle.sim_scope.specs.Source.{Source, level_of}
+use Rattle.sim_values.specs.Plain.{Character, Integer, Nothing, Object, Plain, Text, Truth}
 use Rattle.sim_code.proofs.Lifts.{Both}
-use Rattle.sim_code.specs.Code.{BlockOf, CodeOf}
+use Rattle.sim_code.specs.Code.{CodeOf}
 use Rattle.sim_code.specs.Machine.{Frames, Value}
 use Rattle.sim_code.specs.Machine as machine
-use Rattle.sim_meaning.specs.Pending.{Activation, BackOp, BranchOp, CallOf, Cell, CopyOf, Do, Either, ElementOf, ElementsOp, EndBlock, EndProcedure, EndProgram, Eval, Further, Given, GiveOp, IfOp, ImageOf, Instances, Item, Joined, NoTerm, One, Op, PlaceOf, RaiseOp, ShareOp, StandardOf, StepTestOp, StoreOp, Target, Term, Terms, ToAddress, ToCell, ToText, ToTextOf, Two, Unbuilt, Val, ValueAt, WhileElementOp}
-use Rattle.sim_meaning.specs.Texts.{text}
-use Rattle.sim_meaning.specs.Sane.{AllKept, AllOf, KeptOf}
-use Rattle.codegen_expr.specs.Sites.{Site, cells_in}
-use Rattle.sim_relate.proofs.Relation.{Any, Bottom, ChainAt, ChainOn, Changed, ComesTo, EndAt, Every, GivesIs, HandAt, Keeps, Kind, Later, LinkTo, Located, OpAt, OperandAt, Reaches, ReadsAt, StackAt, StandingAt, StandingsAt, Stands, TargetAt, TermAt, TermsAt, VariableIs, WorkAt, more_at, none_at, over, placed, returning, site_at, there}
+use Rattle.sim_meaning.specs.Pending.{Activation, AttributeOf, BackOp, BranchOp, CallOf, Cell, CopyOf, Do, Either, ElementOf, ElementsOp, EndBlock, EndObject, EndProcedure, EndProgram, Eval, FitsOf, Further, Given, GiveOp, IfOp, ImageOf, Instances, Item, Joined, KeptOf, Key, MemberOf, NewOf, NoTerm, One, Op, PlaceOf, QuaOf, QualifiedElementOf, QualifiedPlaceOf, RaiseOp, RemoteCallOf, ShareOp, StandardOf, StepTestOp, StoreOp, Target, Term, Terms, ToAddress, ToCell, ToPlace, ToReference, ToReferenceAt, ToText, ToTextAt, ToTextOf, Two, Unbuilt, Val, ValueAt, WhileElementOp}
+use Rattle.sim_meaning.specs.Sane.{AllKept, AllOf, KeptOf as KeptChains}
+use Rattle.codegen_expr.specs.Sites.{Site, class_number, frame_text, own_part}
+use Rattle.codegen.specs.CodeFor.{OfCell, OfPlace, OfReference, Variable}
+use Rattle.sim_relate.proofs.Known.{Any, Every, FixedOf, HandAt, Keeps, Kind, Later, LinkTo, Located, OwnerOf, Reaches, Refers, RefersAt, Runs, StackAt, Stands, more_at, none_at, placed, refers_cell, refers_element, site_at}
+use Rattle.sim_relate.proofs.Trees.{CellPlaceIs, GivenIs, OperandAt, ReadsAt, TermAt, TermsAt}
+use Rattle.sim_relate.proofs.Relation.{Bottom, ChainAt, ChainOn, Changed, ComesTo, EndAt, GivesIs, InStage, OpAt, PlaceStoreIs, StandingAt, StandingsAt, StoreIs, TargetAt, VariableIs, WorkAt, declares, inner_here, inner_last, over, returning, stays, there, with_inner}
+use Rattle.sim_relate.proofs.Frames.{stands_same}
 
-end_later : (s : Source) (code : CodeOf) (Below Below' : Bool → Type 0) → ((v : Bool) → Below v → Below' v) → (t : ℕ) (b : BlockOf) (x : Item) (p : ℕ) (ks : List Kind) → EndAt s code Below t b x p ks → EndAt s code Below' t b x p ks
+end_later : (s : Source) (code : CodeOf) (Below Below' : Bool → Type 0) → ((v : Bool) → Below v → Below' v) → (t : ℕ) (b : Runs) (x : Item) (p : ℕ) (ks : List Kind) → EndAt s code Below t b x p ks → EndAt s code Below' t b x p ks
 end_later s code Below Below' f t b (Do op) p ks a = absurd a
 end_later s code Below Below' f t b EndBlock p ks a = (a.0, let x = a.1 in record { last = x.last; at = x.at; heads = x.heads; none = x.none; below = f false x.below })
 end_later s code Below Below' f t b (EndProcedure v) p ks a =
     record { result = a.result; heading = a.heading; body = a.body; is = a.is; same = a.same; ends = let x = a.ends in record { last = x.last; at = x.at; heads = x.heads; none = x.none; below = f v x.below } }
 end_later s code Below Below' f t b EndProgram p ks a = (a.0, let x = a.1 in record { last = x.last; at = x.at; heads = x.heads; none = x.none; below = f false x.below })
+end_later s code Below Below' f t b EndObject p ks a = (a.0, a.1, let x = a.2 in record { last = x.last; at = x.at; heads = x.heads; none = x.none; below = f false x.below })
 end_later s code Below Below' f t b _ p ks a = absurd a
+
+-- the temps of an instance that are in use
+abbrev pub TempsKept : Source → Frames → Frames → (inst t used : ℕ) → Type 0
+TempsKept s fs fs' inst t used = (c : ℕ) → length (own_part s (frame_text s t)) ≤ c → c < used → placed fs' inst c ≡ placed fs inst c
 
 module _ (s : Source) (code : CodeOf) (m m' : Instances) (e : Later s m m') where
   reaches_later : (from t u j : ℕ) → Stands s m from t → Reaches s m from u j → Reaches s m' from u j
   reaches_later from t u j st r = record { found = e.same (level_of s u) from t st ∙ r.found; stands = e.stands j u r.stands }
 
-  pub hand_later : (k : Kind) (v : Val) (x : Value) → HandAt s m k v x → HandAt s m' k v x
-  hand_later Any v x h = h
-  hand_later Located v x h = record { instance = h.instance; text = h.text; key = h.key; is_val = h.is_val; is_value = h.is_value; stands = e.stands h.instance h.text h.stands; has = h.has }
-  hand_later (LinkTo u) v x h = record { instance = h.instance; is_val = h.is_val; is_value = h.is_value; stands = e.stands h.instance u h.stands }
+  refers_later : (k : ℕ) (v : Val) (x : Value) → RefersAt s code m k v x → RefersAt s code m' k v x
+  refers_later k _ _ (refers_cell {j} {t} st own has varies declared) = refers_cell (e.stands j t st) own has varies declared
+  refers_later k _ _ refers_element = refers_element
 
-  pub stack_later : (ks : List Kind) (vals : List Val) (stack : List Value) → StackAt (HandAt s m) ks vals stack → StackAt (HandAt s m') ks vals stack
+  pub hand_later : (k : Kind) (v : Val) (x : Value) → HandAt s code m k v x → HandAt s code m' k v x
+  hand_later Any v x h = h
+  hand_later Located v x h = record { instance = h.instance; text = h.text; key = h.key; is_val = h.is_val; is_value = h.is_value; stands = e.stands h.instance h.text h.stands; own = h.own; has = h.has; varies = h.varies; declared = h.declared }
+  hand_later (LinkTo u) v x h = record { instance = h.instance; is_val = h.is_val; is_value = h.is_value; stands = e.stands h.instance u h.stands }
+  hand_later (OwnerOf u) v x h = record { instance = h.instance; is_val = h.is_val; is_value = h.is_value; stands = e.stands h.instance u h.stands }
+  hand_later (Refers k) v x h = refers_later k v x h
+  hand_later (FixedOf d) v x h = record { instance = h.instance; text = h.text; is_val = h.is_val; is_value = h.is_value; stands = e.stands h.instance h.text h.stands; own = h.own; has = h.has; fixed = h.fixed }
+
+  pub stack_later : (ks : List Kind) (vals : List Val) (stack : List Value) → StackAt (HandAt s code m) ks vals stack → StackAt (HandAt s code m') ks vals stack
   stack_later _ _ _ none_at = none_at
   stack_later _ _ _ (more_at {k} {ks} {v} {vals} {x} {stack} h more) = more_at (hand_later k v x h) (stack_later ks vals stack more)
 
   module _ (inst t : ℕ) (st : Stands s m inst t) where
+    given_later : (site : Site) (n : ℕ) (v : Plain) (p q : ℕ) → GivenIs s code m inst site n v p q → GivenIs s code m' inst site n v p q
+    given_later site n (Integer z) p q a = a
+    given_later site n (Truth c) p q a = a
+    given_later site n (Character c) p q a = a
+    given_later site n (Text x) p q a = a
+    given_later site n (Object j) p q a = record { text = a.text; push = a.push; reaches = reaches_later inst t a.text j st a.reaches }
+    given_later site n Nothing p q a = a
+
+    place_later : (site : Site) (n j : ℕ) (key : Key) (class p q : ℕ) → CellPlaceIs s code m inst site n j key class p q → CellPlaceIs s code m' inst site n j key class p q
+    place_later site n j key class p q a = record { text = a.text; address = a.address; reaches = reaches_later inst t a.text j st a.reaches; own = a.own; has = a.has; varies = a.varies; declared = a.declared }
+
     mutual
       pub term_later : (site : Site) (n : ℕ) (x : Term) (p q : ℕ) → TermAt s code m inst site n x p q → TermAt s code m' inst site n x p q
-      term_later site n (Given v) p q a = a
-      term_later site n (Cell j key) p q a = record { text = a.text; load = a.load; reaches = reaches_later inst t a.text j st a.reaches; has = a.has }
+      term_later site n (Given v) p q a = given_later site n v p q a
+      term_later site n (Cell j key) p q a = record { text = a.text; load = a.load; reaches = reaches_later inst t a.text j st a.reaches; own = a.own; has = a.has; varies = a.varies }
       term_later site n (One op line x) p q a = (a.0, (term_later site n x p a.0 (a.1).0, (a.1).1), a.2)
       term_later site n (Two op line x y) p q a = (a.0, a.1, (term_later site n x p a.0 (a.2).0, (a.2).1), (term_later site (suc n) y a.0 a.1 (a.3).0, (a.3).1), a.4)
       term_later site n (Either c x y) p q a = record {
@@ -55,7 +82,7 @@ module _ (s : Source) (code : CodeOf) (m m' : Instances) (e : Later s m m') wher
         second = (term_later site n y a.x q (a.second).0, (a.second).1);
       }
       term_later site n (ElementOf line x ts) p q a = (a.0, a.1, (term_later site n x p a.0 (a.2).0, (a.2).1), terms_later site (suc n) ts a.0 a.1 a.3, a.4)
-      term_later site n (ValueAt x) p q a = (a.0, (term_later site n x p a.0 (a.1).0, (a.1).1), a.2)
+      term_later site n (ValueAt x) p q a = (a.0, term_later site n x p a.0 a.1, a.2)
       term_later site n (CopyOf line x) p q a = (a.0, (term_later site n x p a.0 (a.1).0, (a.1).1), a.2)
       term_later site n (CallOf j k ts line) p q a = record {
         text = a.text;
@@ -69,10 +96,41 @@ module _ (s : Source) (code : CodeOf) (m m' : Instances) (e : Later s m m') wher
         as_many = a.as_many;
       }
       term_later site n (StandardOf name ts line) p q a = (a.0, reads_later site n ts p a.0 a.1, a.2)
-      term_later site n (PlaceOf j key) p q a = record { text = a.text; address = a.address; reaches = reaches_later inst t a.text j st a.reaches; has = a.has }
+      term_later site n (PlaceOf j key) p q a = place_later site n j key 0 p q a
       term_later site n (ImageOf image) p q a = a
       term_later site n (Joined line x y) p q a = (a.0, a.1, (term_later site n x p a.0 (a.2).0, (a.2).1), (term_later site (suc n) y a.0 a.1 (a.3).0, (a.3).1), a.4)
-      term_later site n _ p q a = absurd a
+      term_later site n (NewOf j k ts line) p q a = record {
+        text = a.text;
+        x = a.x;
+        y = a.y;
+        link = a.link;
+        reaches = reaches_later inst t a.text j st a.reaches;
+        actuals = terms_later site (suc n) ts a.x a.y a.actuals;
+        new = a.new;
+        stands_in = a.stands_in;
+        class = a.class;
+      }
+      term_later site n (AttributeOf text key class line x) p q a = (a.0, (term_later site n x p a.0 (a.1).0, (a.1).1), a.2)
+      term_later site n (RemoteCallOf x k ts line) p q a = record {
+        text = a.text;
+        x = a.x;
+        y = a.y;
+        z = a.z;
+        object = (term_later site n x p a.x (a.object).0, (a.object).1);
+        fits = a.fits;
+        there = a.there;
+        actuals = terms_later site (suc n) ts a.y a.z a.actuals;
+        call = a.call;
+        procedure = a.procedure;
+        as_many = a.as_many;
+      }
+      term_later site n (QualifiedPlaceOf j key k) p q a = (a.0, place_later site n j key (class_number s code k) p q a.1)
+      term_later site n (QualifiedElementOf line k x ts) p q a = (a.0, a.1, (term_later site n x p a.0 (a.2).0, (a.2).1), terms_later site (suc n) ts a.0 a.1 a.3, a.4)
+      term_later site n (MemberOf member k x) p q a = (a.0, (term_later site n x p a.0 (a.1).0, (a.1).1), a.2)
+      term_later site n (QuaOf k line x) p q a = (a.0, (term_later site n x p a.0 (a.1).0, (a.1).1), a.2)
+      term_later site n (FitsOf k line x) p q a = (a.0, (term_later site n x p a.0 (a.1).0, (a.1).1), a.2)
+      term_later site n (KeptOf x) p q a = (a.0, (term_later site n x p a.0 (a.1).0, (a.1).1), a.2)
+      term_later site n Unbuilt p q a = a
 
       pub terms_later : (site : Site) (n : ℕ) (xs : Terms) (p q : ℕ) → TermsAt s code m inst site n xs p q → TermsAt s code m' inst site n xs p q
       terms_later site n NoTerm p q a = a
@@ -86,26 +144,37 @@ module _ (s : Source) (code : CodeOf) (m m' : Instances) (e : Later s m m') wher
     operand_later site n x p q a = (term_later site n x p q a.0, a.1)
 
     target_later : (x : Target) (p q : ℕ) (ks ks' : List Kind) → TargetAt s code m inst x p q ks ks' → TargetAt s code m' inst x p q ks ks'
-    target_later (ToCell j key) p q ks ks' a = (let c = a.0 in record { text = c.text; is = c.is; reaches = reaches_later inst t c.text j st c.reaches; has = c.has }, a.1)
+    target_later (ToCell j key) p q ks ks' a = (let c = a.0 in record { text = c.text; is = c.is; reaches = reaches_later inst t c.text j st c.reaches; own = c.own; has = c.has; varies = c.varies; declared = c.declared }, a.1)
     target_later ToAddress p q ks ks' a = a
     target_later (ToText line) p q ks ks' a = a
     target_later (ToTextOf j key line) p q ks ks' a = a
+    target_later (ToReference line) p q ks ks' a = a
     target_later _ p q ks ks' a = absurd a
+
+    place_stored : (site : Site) (x : Term) (kind : Kind) (Put : ℕ → ℕ → Type 0) (p q : ℕ) (ks ks' : List Kind) → PlaceStoreIs s code m inst site x kind Put p q ks ks' → PlaceStoreIs s code m' inst site x kind Put p q ks ks'
+    place_stored site x kind Put p q ks ks' a = record { x = a.x; y = a.y; place = term_later site (suc (length ks')) x p a.x a.place; is_place = a.is_place; under = a.under; put = a.put; «in» = a.«in» }
+
+    store_later : (site : Site) (x : Target) (p q : ℕ) (ks ks' : List Kind) → StoreIs s code m inst site x p q ks ks' → StoreIs s code m' inst site x p q ks ks'
+    store_later site (ToPlace x) p q ks ks' a = (a.0, a.1, place_stored site x a.0 _ p q ks ks' a.2)
+    store_later site (ToTextAt x line) p q ks ks' a = a
+    store_later site (ToReferenceAt x line) p q ks ks' a = (a.0, a.1, place_stored site x (Refers a.0) _ p q ks ks' a.2)
+    store_later site (ToCell j key) p q ks ks' a = target_later (ToCell j key) p q ks ks' a
+    store_later site ToAddress p q ks ks' a = a
+    store_later site (ToText line) p q ks ks' a = a
+    store_later site (ToTextOf j key line) p q ks ks' a = a
+    store_later site (ToReference line) p q ks ks' a = a
 
     gives_later : (site : Site) (temp : ℕ) (ts : List Target) (p q : ℕ) (ks ks' : List Kind) → GivesIs s code m inst site temp ts p q ks ks' → GivesIs s code m' inst site temp ts p q ks ks'
     gives_later site temp [] p q ks ks' a = a
     gives_later site temp (x ∷ xs) p q ks ks' a = (a.0, a.1, a.2, a.3, target_later x a.0 a.1 (Any ∷ ks) a.2 a.4, gives_later site temp xs a.1 q a.2 ks' a.5)
 
-    variable_later : (x : Target) → VariableIs s code m inst x → VariableIs s code m' inst x
-    variable_later x v = record { text = v.text; key = v.key; assigned = v.assigned; instance = v.instance; is = v.is; reaches = reaches_later inst t v.text v.instance st v.reaches; has = v.has }
+    variable_later : (site : Site) (v : Variable) (x : Target) → VariableIs s code m inst site v x → VariableIs s code m' inst site v x
+    variable_later site (OfCell text key assigned) x v = record { instance = v.instance; is = v.is; reaches = reaches_later inst t text v.instance st v.reaches; own = v.own; has = v.has; varies = v.varies; declared = v.declared }
+    variable_later site (OfPlace y assigned) x v = record { place = v.place; is = v.is; anew = λ u n p q h. let r = v.anew u n p q h in (term_later (record site { used = u }) n v.place p q r.0, r.1) }
+    variable_later site (OfReference y line) x v = record { place = v.place; is = v.is; anew = λ u n p q h. let r = v.anew u n p q h in record { class = r.class; is_class = r.is_class; term = term_later (record site { used = u }) n v.place p q r.term; leaves = r.leaves } }
 
     module _ (fs fs' : Frames) where
-      -- the temps of the instance that are in use
-      abbrev pub TempsKept : (used : ℕ) → Type 0
-      TempsKept used = (c : ℕ) → length (cells_in s t (text s t)) ≤ c → c < used → placed fs' inst c ≡ placed fs inst c
-
-      pub op_later : (b : BlockOf) (used : ℕ) → TempsKept used → (op : Op) (p q : ℕ) (ks ks' : List Kind) → OpAt s code m fs inst (site_at t b used) op p q ks ks' → OpAt s code m' fs' inst (site_at t b used) op p q ks ks'
-      unfolding variable_later
+      pub op_later : (b : Runs) (used : ℕ) → TempsKept s fs fs' inst t used → (op : Op) (p q : ℕ) (ks ks' : List Kind) → OpAt s code m fs inst (site_at t b used) op p q ks ks' → OpAt s code m' fs' inst (site_at t b used) op p q ks ks'
       op_later b used keeps (Eval x) p q ks ks' a = (term_later (site_at t b used) (length ks) x p q a.0, a.1)
       op_later b used keeps (IfOp x y) p q ks ks' a =
           let c = a.choice in
@@ -125,7 +194,7 @@ module _ (s : Source) (code : CodeOf) (m m' : Instances) (e : Later s m m') wher
             «in» = a.«in»;
             out = a.out;
           }
-      op_later b used keeps (StoreOp x) p q ks ks' a = target_later x p q ks ks' a
+      op_later b used keeps (StoreOp x) p q ks ks' a = store_later (site_at t b used) x p q ks ks' a
       op_later b used keeps (ShareOp ts) p q ks ks' a = record {
         temp = a.temp;
         unused = a.unused;
@@ -147,27 +216,38 @@ module _ (s : Source) (code : CodeOf) (m m' : Instances) (e : Later s m m') wher
       }
       op_later b used keeps (BranchOp x next) p q ks ks' a = record { z = a.z; w = a.w; jump = a.jump; leads = a.leads; turn = a.turn; next = op_later b used keeps next a.w q ks' ks' a.next; «in» = a.«in» }
       op_later b used keeps (BackOp op) p q ks ks' a = record { t = a.t; x = a.x; u = a.u; jump = a.jump; back = a.back; tick = a.tick; next = op_later b used keeps op a.t q ks ks' a.next }
-      op_later b used keeps (ElementsOp x es y) p q ks ks' a = record { v = variable_later x a.v; number = a.number; elements = a.elements; out = a.out }
-      op_later b used keeps (WhileElementOp x f c y) p q ks ks' a = record { v = variable_later x a.v; element = a.element; out = a.out }
-      op_later b used keeps (StepTestOp x line f c y) p q ks ks' a = (let r = a.0 in record { v = variable_later x r.v; start = r.start; at = r.at; element = r.element }, a.1, a.2)
-      op_later b used keeps (RaiseOp x line f c y) p q ks ks' a = (let r = a.0 in record { v = variable_later x r.v; start = r.start; at = r.at; element = r.element }, a.1, a.2)
+      op_later b used keeps (ElementsOp x es y) p q ks ks' a = record { variable = a.variable; v = variable_later (site_at t b used) a.variable x a.v; number = a.number; elements = a.elements; out = a.out }
+      op_later b used keeps (WhileElementOp x f c y) p q ks ks' a = record { variable = a.variable; v = variable_later (site_at t b used) a.variable x a.v; element = a.element; out = a.out }
+      op_later b used keeps (StepTestOp x line f c y) p q ks ks' a = (let r = a.0 in record { variable = r.variable; v = variable_later (site_at t b used) r.variable x r.v; start = r.start; at = r.at; element = r.element }, a.1, a.2)
+      op_later b used keeps (RaiseOp x line f c y) p q ks ks' a = (let r = a.0 in record { variable = r.variable; v = variable_later (site_at t b used) r.variable x r.v; start = r.start; at = r.at; element = r.element }, a.1, a.2)
       op_later b used keeps _ p q ks ks' a = a
 
-      comes_later : (b : BlockOf) (used : ℕ) → TempsKept used → (n q p : ℕ) → ComesTo s code fs inst t b used n q p → ComesTo s code fs' inst t b used n q p
+      comes_later : (b : Runs) (used : ℕ) → TempsKept s fs fs' inst t used → (n q p : ℕ) → ComesTo s code fs inst t b used n q p → ComesTo s code fs' inst t b used n q p
       comes_later b used keeps n q _ (there e) = there e
       comes_later b used keeps n q _ (over {p} {p'} jump ahead more) = over jump ahead (comes_later b used keeps n q p' more)
       comes_later b used keeps n q _ (returning {p} {p'} r more) =
           returning (record { temp = r.temp; number = r.number; first = r.first; returns = r.returns; was = r.was; «in_use» = r.«in_use»; is_temp = r.is_temp; holds = keeps r.temp r.is_temp.behind r.«in_use» ∙ r.holds; leads = r.leads; back = r.back }) (comes_later b used keeps n q p' more)
 
-      pub work_later : (Below Below' : Bool → Type 0) → ((v : Bool) → Below v → Below' v) → (b : BlockOf) (used : ℕ) → TempsKept used → (w : List Item) (p : ℕ) (ks : List Kind) → WorkAt s code m fs Below inst t b used w p ks → WorkAt s code m' fs' Below' inst t b used w p ks
-      work_later Below Below' f b used keeps [] p ks a = a
-      work_later Below Below' f b used keeps (Do op ∷ w) p ks a =
-          let fewer : TempsKept a.1 = λ c le lt. keeps c le (omega (arith, lt, a.5)) in
-          (a.0, a.1, a.2, a.3, comes_later b used keeps (length ks) a.0 p a.4, a.5, a.6, op_later b a.1 fewer op a.0 a.2 ks a.3 a.7, work_later Below Below' f b a.1 fewer w a.2 a.3 a.8)
-      work_later Below Below' f b used keeps (EndBlock ∷ w) p ks a = (a.0, comes_later b used keeps (length ks) a.0 p a.1, end_later s code Below Below' f t b EndBlock a.0 ks a.2)
-      work_later Below Below' f b used keeps (EndProcedure v ∷ w) p ks a = (a.0, comes_later b used keeps (length ks) a.0 p a.1, end_later s code Below Below' f t b (EndProcedure v) a.0 ks a.2)
-      work_later Below Below' f b used keeps (EndProgram ∷ w) p ks a = (a.0, comes_later b used keeps (length ks) a.0 p a.1, end_later s code Below Below' f t b EndProgram a.0 ks a.2)
-      work_later Below Below' f b used keeps (_ ∷ w) p ks a = absurd a
+      stage_later : (b : Runs) (used : ℕ) → TempsKept s fs fs' inst t used → (op : Op) (c d : Runs) (p q : ℕ) (ks ks' : List Kind) → InStage s code (OpAt s code m fs inst (site_at t b used)) (site_at t b used) op c d p q ks ks' → InStage s code (OpAt s code m' fs' inst (site_at t b used)) (site_at t b used) op c d p q ks ks'
+      stage_later b used keeps op c d p q ks ks' (stays a g) = stays (op_later b used keeps op p q ks ks' a) g
+      stage_later b used keeps op c d p q ks ks' (declares k e g a) = declares k e g a
+      stage_later b used keeps op c d p q ks ks' (inner_last e g a) = inner_last e g a
+      stage_later b used keeps op c d p q ks ks' (inner_here k e g a) = inner_here k e g a
+      stage_later b used keeps op c d p q ks ks' (with_inner ss e g a) = with_inner ss e g a
+
+module _ (s : Source) (code : CodeOf) (m m' : Instances) (e : Later s m m') (inst : ℕ) (fs fs' : Frames) (Below Below' : Bool → Type 0) (f : (v : Bool) → Below v → Below' v) where
+  pub work_later : (t : ℕ) → Stands s m inst t → (b : Runs) (used : ℕ) → TempsKept s fs fs' inst t used → (w : List Item) (p : ℕ) (ks : List Kind) → WorkAt s code m fs Below inst t b used w p ks → WorkAt s code m' fs' Below' inst t b used w p ks
+  work_later t st b used keeps [] p ks a = a
+  work_later t st b used keeps (Do op ∷ w) p ks a =
+      let le = a.8 in
+      let st2 = stands_same s m inst a.4 t a.6 st in
+      let fewer : TempsKept s fs fs' inst a.4 a.1 = λ c behind lt. keeps c (subst (λ z. length (own_part s z) ≤ c) (a.6).frame behind) (omega (arith, lt, le)) in
+      (a.0, a.1, a.2, a.3, a.4, a.5, a.6, comes_later s code m m' e inst t st fs fs' b used keeps (length ks) a.0 p a.7, a.8, a.9, stage_later s code m m' e inst a.4 st2 fs fs' b a.1 fewer op b a.5 a.0 a.2 ks a.3 a.10, work_later a.4 st2 a.5 a.1 fewer w a.2 a.3 a.11)
+  work_later t st b used keeps (EndBlock ∷ w) p ks a = (a.0, comes_later s code m m' e inst t st fs fs' b used keeps (length ks) a.0 p a.1, end_later s code Below Below' f (frame_text s t) b EndBlock a.0 ks a.2)
+  work_later t st b used keeps (EndProcedure v ∷ w) p ks a = (a.0, comes_later s code m m' e inst t st fs fs' b used keeps (length ks) a.0 p a.1, end_later s code Below Below' f (frame_text s t) b (EndProcedure v) a.0 ks a.2)
+  work_later t st b used keeps (EndProgram ∷ w) p ks a = (a.0, comes_later s code m m' e inst t st fs fs' b used keeps (length ks) a.0 p a.1, end_later s code Below Below' f (frame_text s t) b EndProgram a.0 ks a.2)
+  work_later t st b used keeps (EndObject ∷ w) p ks a = (a.0, comes_later s code m m' e inst t st fs fs' b used keeps (length ks) a.0 p a.1, end_later s code Below Below' f (frame_text s t) b EndObject a.0 ks a.2)
+  work_later t st b used keeps (_ ∷ w) p ks a = absurd a
 
 module _ (s : Source) (code : CodeOf) (m m' : Instances) (fs fs' : Frames) (e : Later s m m') (Of : ℕ → Type 0) (k : Keeps s m fs fs' Of) where
   chain_on_later : (Ground Ground' : Bool → List machine.Activation → Type 0) → ((v : Bool) (below : List machine.Activation) → Ground v below → Ground' v below) → (chain : List Activation) → AllOf Of chain → (v : Bool) (below : List machine.Activation) → ChainOn s code Ground m fs chain v below → ChainOn s code Ground' m' fs' chain v below
@@ -181,19 +261,20 @@ module _ (s : Source) (code : CodeOf) (m m' : Instances) (fs fs' : Frames) (e : 
     found = c.found;
     stands = e.stands a.instance c.text c.stands;
     room = c.room;
+    stage = c.stage;
     kinds = c.kinds;
     values = stack_later s code m m' e c.kinds a.values x.stack c.values;
     fits = c.fits;
     used = c.used;
-    goes = work_later s code m m' e a.instance c.text c.stands fs fs' (λ w. ChainOn s code Ground m fs rest w below) (λ w. ChainOn s code Ground' m' fs' rest w below)
-        (λ w b. chain_on_later Ground Ground' g rest all.1 w below b) c.block c.used (λ t le lt. k.temps a.instance c.text t all.0 c.stands le) a.work x.pc _ c.goes;
+    goes = work_later s code m m' e a.instance fs fs' (λ w. ChainOn s code Ground m fs rest w below) (λ w. ChainOn s code Ground' m' fs' rest w below)
+        (λ w b. chain_on_later Ground Ground' g rest all.1 w below b) c.text c.stands c.block c.used (λ t le lt. k.temps a.instance c.text t all.0 c.stands le) a.work x.pc _ c.goes;
   }
 
   pub chain_later : (chain : List Activation) → AllOf Of chain → (v : Bool) (below : List machine.Activation) → ChainAt s code m fs chain v below → ChainAt s code m' fs' chain v below
   chain_later chain all v below c = chain_on_later (Bottom s code) (Bottom s code) (λ w b g. g) chain all v below c
 
   -- the chains that are kept
-  standing_later : (x : Standing Activation) (y : Standing machine.Activation) → KeptOf Of x → StandingAt s code m fs x y → StandingAt s code m' fs' x y
+  standing_later : (x : Standing Activation) (y : Standing machine.Activation) → KeptChains Of x → StandingAt s code m fs x y → StandingAt s code m' fs' x y
   standing_later (NoObject None) (NoObject None) all a = a
   standing_later (NoObject (Some chain)) (NoObject (Some below)) all a = chain_later chain all false below a
   standing_later AttachedObject AttachedObject all a = a
@@ -202,7 +283,7 @@ module _ (s : Source) (code : CodeOf) (m m' : Instances) (fs fs' : Frames) (e : 
   standing_later TerminatedObject TerminatedObject all a = a
   standing_later _ _ all a = absurd a
 
-  pub both_later : (x : Option (Standing Activation)) (y : Option (Standing machine.Activation)) → ((z : Standing Activation) → x ≡ Some z → KeptOf Of z) → Both (StandingAt s code m fs) x y → Both (StandingAt s code m' fs') x y
+  pub both_later : (x : Option (Standing Activation)) (y : Option (Standing machine.Activation)) → ((z : Standing Activation) → x ≡ Some z → KeptChains Of z) → Both (StandingAt s code m fs) x y → Both (StandingAt s code m' fs') x y
   both_later None None o a = a
   both_later None (Some y) o a = absurd a
   both_later (Some x) None o a = absurd a

@@ -1,9 +1,12 @@
 -- The code of an expression evaluates its closed tree.
 use Rattle.std.proofs.Common.{◌≡◌, ℕ, suc, Bool, true, false, List, [], ◌∷◌, length, Option, Some, None, refl, sym, ap, ◌∙◌, subst}
-use Rattle.std.specs.Prelude.{pos, ◌&&◌, ◌||◌}
+use Rattle.std.specs.Prelude.{pos, slice_get, ◌&&◌, ◌||◌, if◌then◌else◌}
 use Rattle.sim_base.specs.declared.numbering.DeclNo.{DeclNo}
+use Rattle.sim_scope.specs.declared.scopes.Declaration.{Declaration}
 use Rattle.sim_scope.specs.declared.scopes.Denotation.{Denotation}
 use Rattle.sim_scope.specs.declared.scopes.Denotation.TheVariants as denotation
+use Rattle.sim_scope.specs.declared.standard.StandardName.{StandardName}
+use Rattle.sim_scope.specs.declared.standard.StandardName.TheVariants as found
 use Rattle.sim_scope.specs.declared.types.Entry.{Entry}
 use Rattle.sim_scope.specs.declared.types.Entry.TheVariants as entry
 use Rattle.sim_scope.specs.declared.types.Formal.{Formal}
@@ -12,36 +15,43 @@ use Rattle.sim_scope.specs.declared.types.FormalKind.TheVariants as shape
 use Rattle.sim_scope.specs.declared.types.Mode.{Mode}
 use Rattle.sim_scope.specs.declared.types.Mode.TheVariants as mode
 use Rattle.sim_scope.specs.declared.types.SimType.{SimType}
-use Rattle.sim_scope.specs.Scopes.{entry_of}
-use Rattle.sim_scope.specs.Source.{Source, block_of, denoted, line_at}
+use Rattle.sim_scope.specs.declared.types.SimType.TheVariants as t
+use Rattle.sim_scope.specs.Access.{encloser}
+use Rattle.sim_scope.specs.Levels.{class_block, class_block_in}
+use Rattle.sim_scope.specs.Scopes.{entry_in, entry_of}
+use Rattle.sim_scope.specs.Source.{Source, block_of, denoted, found_at, level_of, line_at, type_at}
 use Rattle.sim_tree.specs.declared.expr.Identifier.{Identifier}
+use Rattle.sim_tree.specs.declared.expr.Membership.{Membership}
 use Rattle.sim_tree.specs.declared.expr.Sign.{Sign}
 use Rattle.sim_tree.specs.declared.expr.Sign.TheVariants as sign
 use Rattle.sim_tree.specs.Syntax.{Expression, Expressions, Literal, NoMore, Then}
 use Rattle.sim_tree.specs.Syntax as syntax
 use Rattle.sim_values.specs.declared.standard.Standard.{Standard}
+use Rattle.sim_values.specs.declared.standard.Standard.TheVariants as name_of
 use Rattle.sim_values.specs.Plain.{Plain, Character, Integer, Nothing, Object, Text, Truth}
+use Rattle.sim_values.specs.Standard.{is_image, moves_position, on_image, row_of}
 use Rattle.sim_code.specs.declared.instr.Instr.TheVariants as i
 use Rattle.sim_code.specs.Code.{CodeOf}
-use Rattle.sim_meaning.specs.Closing.{Joining, Lazily, Negated, Plainly, Sort, actual_term, array_term, close, close_actuals, close_all, constant_term, declared_term, formal_term, formals_at, home_of, in_instance, is_text, is_text_type, literal_term, named_term, signed_term, sort_of, standard_term, two_term, variable_term, array_place, attribute_term, behind_dot, close_place, declared_place, dot_term, formal_place, given_term, image_place, is_attribute, is_attribute_denoted, is_variable, name_term, named_place, object_term, stream_denoted, stream_of, sysout, variable_place}
-use Rattle.sim_meaning.specs.Attributes.{connection_at, declared_attribute, fitting, if_any, parameter_qualification}
-use Rattle.sim_meaning.specs.Names.{procedure_named, stream_named}
-use Rattle.sim_meaning.specs.Pending.{CallOf, Cell, Declared, ElementOf, Instances, Term, Terms, ValueAt, Further, NoTerm, PlaceOf}
-use Rattle.sim_meaning.specs.Statements.{standard_leaves, has_value}
-use Rattle.sim_meaning.specs.Steps.{count}
-use Rattle.sim_meaning.specs.Texts.{constant_of}
-use Rattle.codegen_expr.specs.Sites.{At, Inside, Site}
-use Rattle.codegen_expr.specs.CodeExpr.{ActualAt, ActualsAt, ArrayAt, CallAt, CellAt, ConstantAt, DeclaredAt, ElementAt, ExprAt, ExprsAt, FormalAt, LiteralAt, NamedAt, PlainAt, SignedAt, StandardAt, StandardIs, TwoAt, VariableAt, block_number, gives_entry, operands, ArrayPlaceAt, AttributeAt, BehindDotAt, DeclaredPlaceAt, DotAt, FormalPlaceAt, GivenAt, ImagePlaceAt, NameAt, NamedPlaceAt, ObjectAt, PlaceAt, VariablePlaceAt}
-use Rattle.codegen_expr.specs.CodeExpr as code_gives
-use Rattle.sim_relate.proofs.Plainly.{Agrees}
-use Rattle.sim_relate.proofs.Formals.{actuals_counted, formals_same}
-use Rattle.sim_relate.proofs.Relation.{Finds, OperandAt, TermAt, TermsAt, gives, text_gives, GivenIs, IsImage, ReadsAt, empty, listed, of_input, of_output, reads}
-use Rattle.sim_scope.specs.declared.standard.StandardName.{StandardName}
-use Rattle.sim_scope.specs.declared.standard.StandardName.TheVariants as found
-use Rattle.sim_values.specs.declared.standard.Standard.TheVariants as name_of
-use Rattle.sim_values.specs.Standard.{is_image, moves_position, on_image, row_of}
+use Rattle.sim_code.specs.Instances.{at_level}
+use Rattle.sim_meaning.specs.Attributes.{array_attribute, attribute, attribute_place, cell_of_connection, connected_object, connection_at, declared_attribute, entry_at, entry_attribute, fitting, generation, if_any, is_connection, kept_if, membership_term, parameter_at, parameter_attribute, parameter_qualification, place_of_attribute, qua_term, qualified, qualified_place, this_instance, this_term, variable_attribute, with_arrays_kept}
+use Rattle.sim_meaning.specs.Attributes as attributes
+use Rattle.sim_meaning.specs.Closing.{Joining, Lazily, Negated, Plainly, Sort, actual_term, array_place, array_term, attribute_term, behind_dot, class_parameters, close, close_actuals, close_all, close_place, constant_term, declared_place, declared_term, dot_term, formal_place, formal_term, formals_at, given_term, home_of, home_of_class, image_place, in_instance, is_attribute, is_text, is_text_type, is_variable, literal_term, name_term, named_place, named_term, object_term, reference_place, result_meant, result_place, signed_term, sort_of, standard_term, stream_denoted, stream_of, sysout, two_term, typed_token, variable_place, variable_term}
 use Rattle.sim_meaning.specs.Constants.{text_constant}
-use Rattle.sim_relate.proofs.Pending.{read_given}
+use Rattle.sim_meaning.specs.Levels.{class_at, class_denoted, class_text, is_class, qualification}
+use Rattle.sim_meaning.specs.Names.{procedure_named, stream_named}
+use Rattle.sim_meaning.specs.Pending.{CallOf, Cell, Declared, ElementOf, Further, ImageOf, Instances, Key, NoTerm, PlaceOf, RemoteCallOf, Result, Term, Terms, Unbuilt, ValueAt}
+use Rattle.sim_meaning.specs.Statements.{has_value, standard_leaves}
+use Rattle.sim_meaning.specs.Steps.{count}
+use Rattle.sim_meaning.specs.Texts.{constant_of, text}
+use Rattle.codegen_expr.specs.Sites.{At, HasCell, Inside, Is, Pushes, Site, block_number, class_number, frame_text, is_constant, slot_of}
+use Rattle.codegen_expr.specs.CodeExpr.{ActualAt, ActualsAt, ArrayAt, ArrayOfAt, ArrayPlaceAt, ArrayPlaceOfAt, AttributeAt, AttributePlaceAt, BehindDotAt, CallAt, CellAt, ConnectedAt, ConnectedNameAt, ConstantAt, ConstantAttributeAt, DeclaredAt, DeclaredPlaceAt, DotAt, ElementAt, ElementOfAt, ExprAt, ExprsAt, FittingAt, FormalAt, FormalPlaceAt, GenerationAt, GivenAt, LiteralAt, MemberAt, NameAt, NamedAt, NamedPlaceAt, ObjectAt, OfObjectAt, ParameterOfAt, ParameterPlaceOfAt, PlaceAt, PlaceBehindAt, PlaceOfObjectAt, PlaceOrResultAt, PlainAt, QuaAt, QualifiedPlaceAt, ReferencePlaceAt, RemoteCallAt, SignedAt, StandardAt, StandardIs, StreamPlaceAt, ThisFoundAt, ThisOfAt, ThroughAt, TwoAt, VariableAt, VariableOfAt, VariablePlaceAt, VariablePlaceOfAt, gives_entry, operands}
+use Rattle.codegen_expr.specs.CodeExpr as code_gives
+use Rattle.sim_relate.proofs.Formals.{actuals_counted, formals_same}
+use Rattle.sim_relate.proofs.Frames.{frame_idem, frame_level, own_frame}
+use Rattle.sim_relate.proofs.Known.{Any, Finds, FixedOf, IsImage, Kind, LeavesIs, Located, Refers, Stands, attribute_kind, gives, inside, is_read, kind_unless, of_input, of_output, outermost, read_given, reads, seen_at, text_gives}
+use Rattle.sim_relate.proofs.Plainly.{Agrees}
+use Rattle.sim_relate.proofs.Roomy.{FitsWhere, connected_fits, expression_fits}
+use Rattle.sim_relate.proofs.Trees.{Classed, CellIs, CellPlaceIs, FoundIs, GivenIs, OperandAt, ReadsAt, TermAt, TermsAt, empty, listed}
 
 module _ (s : Source) (code : CodeOf) (m : Instances) (inst : ℕ) (site : Site) (agrees : Agrees s) (reach : (u : ℕ) → Inside s.tables site.text u → Finds s m inst u) where
   -- the tree evaluates, and leaves a value just where g says so
@@ -52,17 +62,54 @@ module _ (s : Source) (code : CodeOf) (m : Instances) (inst : ℕ) (site : Site)
   there : (o : Option ℕ) (j : ℕ) (f : ℕ → Term) (n : ℕ) (g : Bool) (p q : ℕ) → o ≡ Some j → NamedIs n g (f j) p q → NamedIs n g (in_instance o f) p q
   there o j f n g p q e a = subst (λ o. NamedIs n g (in_instance o f) p q) (sym e) a
 
+  -- ---- where variables lie
+
+  -- what can be an operand of a standard name
+  abbrev pub ReadAt : (n : ℕ) → Term → ℕ → ℕ → Type 0
+  ReadAt n t p q = TermAt s code m inst site n t p q × (reads s t ≡ true)
+
+  -- the class of a reference
+  pub record Qualified : Type 0 where
+    pub class : ℕ
+    pub is_class : Classed s class
+
+  abbrev pub class_given : Option Qualified → ℕ
+  class_given None = 0
+  class_given (Some k) = class_number s code k.class
+
+  -- a place that is read, or that of a reference with its class
+  pub record QualifiedIs (k n : ℕ) (t : Term) (p q : ℕ) : Type 0 where
+    pub term : TermAt s code m inst site n t p q
+    pub leaves : (ks : List Kind) → LeavesIs s t ks (Refers k ∷ ks)
+
+  abbrev pub PlacedAt : Option Qualified → (n : ℕ) → Term → ℕ → ℕ → Type 0
+  PlacedAt None n t p q = ReadAt n t p q
+  PlacedAt (Some k) n t p q = QualifiedIs k.class n (qualified k.class t) p q
+
+  element_placed : (o : Option Qualified) (n line : ℕ) (array : Term) (terms : Terms) (p x y q : ℕ) → OperandAt s code m inst site n array p x → TermsAt s code m inst site (suc n) terms x y → At code (i.Elem (pos (count terms)) (pos (class_given o))) line y q → PlacedAt o n (ElementOf line array terms) p q
+  element_placed None n line array terms p x y q a b c = ((x, y, a, b, c), refl)
+  element_placed (Some k) n line array terms p x y q a b c = record { term = (x, y, a, b, (k.is_class, c)); leaves = λ ks. refl }
+
+  place_placed : (o : Option Qualified) (n j : ℕ) (key : Key) (p q : ℕ) → CellPlaceIs s code m inst site n j key (class_given o) p q → PlacedAt o n (PlaceOf j key) p q
+  place_placed None n j key p q a = (a, refl)
+  place_placed (Some k) n j key p q a = record { term = (k.is_class, a); leaves = λ ks. refl }
+
+  -- an image has no class
+  image_placed : (o : Option Qualified) (n image p q : ℕ) → IsImage image → Pushes code site n (i.AddrImg (pos image)) p q → PlacedAt o n (ImageOf image) p q
+  image_placed None n image p q known a = ((known, a), refl)
+  image_placed (Some k) n image p q known a = record { term = tt; leaves = λ ks. tt }
+
   -- ---- operators
 
   -- a value that the code has
-  plain_given : (v : Plain) (n p q : ℕ) → PlainAt s code site n v p q → GivenIs s code site n v p q
+  plain_given : (v : Plain) (n p q : ℕ) → PlainAt s code site n v p q → GivenIs s code m inst site n v p q
   plain_given (Integer z) n p q a = a
   plain_given (Truth true) n p q a = a
   plain_given (Truth false) n p q a = a
   plain_given (Character c) n p q a = a
   plain_given (Text t) n p q a = listed a.0 a.1
-  plain_given (Object j) n p q a = a
-  plain_given Nothing n p q a = a
+  plain_given (Object j) n p q a = absurd a
+  plain_given Nothing n p q a = absurd a
 
   given_at : (v : Option Plain) (n p q : ℕ) → GivenAt s code site n v p q → OperandAt s code m inst site n (given_term v) p q
   given_at (Some v) n p q a = (plain_given v n p q a, refl)
@@ -74,7 +121,7 @@ module _ (s : Source) (code : CodeOf) (m : Instances) (inst : ℕ) (site : Site)
   literal_at token (syntax.TextValue t) n p q a = given_at (text_constant s token) n p q a
   literal_at token (syntax.BooleanValue true) n p q a = (a, refl)
   literal_at token (syntax.BooleanValue false) n p q a = (a, refl)
-  literal_at token syntax.NoObject n p q a = absurd a
+  literal_at token syntax.NoObject n p q a = (a, refl)
   literal_at token syntax.NoText n p q a = (empty refl a, refl)
 
   two_at : (k : Sort) (line n : ℕ) (A B C : ℕ → ℕ → Type 0) (x y : Term) (p q : ℕ) → ((p q : ℕ) → A p q → OperandAt s code m inst site n x p q) → ((p q : ℕ) → B p q → OperandAt s code m inst site n y p q) → ((p q : ℕ) → C p q → OperandAt s code m inst site (suc n) y p q)
@@ -91,15 +138,22 @@ module _ (s : Source) (code : CodeOf) (m : Instances) (inst : ℕ) (site : Site)
 
   -- ---- identifiers
 
-  pub cell_at : (d : DeclNo) (n p q : ℕ) → CellAt s code site n d p q → NamedIs n true (in_instance (home_of s m inst d) (λ j. Cell j (Declared d.0))) p q
-  unfolding home_of
-  cell_at d n p q a =
-      let r = reach (block_of s d) a.inside in
-      there (home_of s m inst d) r.0 (λ j. Cell j (Declared d.0)) n true p q r.2 (record { text = block_of s d; load = a.load; reaches = r.1; has = a.within }, refl)
+  -- a declared cell lies in the frames of its own text
+  own : (d : DeclNo) → HasCell s (block_of s d) (Declared d.0) → frame_text s (block_of s d) ≡ block_of s d
+  own d has = own_frame s agrees (block_of s d) (Declared d.0) has refl
 
-  variable_at : (d : DeclNo) (es : Expressions) (n p q : ℕ) → VariableAt s code site n d es p q → NamedIs n true (variable_term s m inst d es) p q
-  variable_at d NoMore n p q a = cell_at d n p q a
-  variable_at d (Then e es) n p q a = absurd a
+  cell_is : (d : DeclNo) (n p q : ℕ) → is_constant (entry_of s.tables d) ≡ false → (a : CellAt s code site n d p q) → CellIs s code m inst site n (reach (block_of s d) a.inside).0 (Declared d.0) p q
+  cell_is d n p q varies a = let r = reach (block_of s d) a.inside in record { text = block_of s d; load = a.load; reaches = r.1; own = own d a.within; has = a.within; varies = varies }
+
+  pub cell_at : (d : DeclNo) (n p q : ℕ) → is_constant (entry_of s.tables d) ≡ false → CellAt s code site n d p q → NamedIs n true (in_instance (home_of s m inst d) (λ j. Cell j (Declared d.0))) p q
+  unfolding home_of
+  cell_at d n p q varies a =
+      let r = reach (block_of s d) a.inside in
+      there (home_of s m inst d) r.0 (λ j. Cell j (Declared d.0)) n true p q r.2 (cell_is d n p q varies a, refl)
+
+  variable_at : (d : DeclNo) (es : Expressions) (n p q : ℕ) → is_constant (entry_of s.tables d) ≡ false → VariableAt s code site n d es p q → NamedIs n true (variable_term s m inst d es) p q
+  variable_at d NoMore n p q varies a = cell_at d n p q varies a
+  variable_at d (Then e es) n p q varies a = absurd a
 
   constant_at : (v : Option Plain) (es : Expressions) (n p q : ℕ) → ConstantAt s code site n v es p q → NamedIs n true (constant_term v es) p q
   constant_at (Some v) NoMore n p q a = (plain_given v n p q a, refl)
@@ -107,32 +161,32 @@ module _ (s : Source) (code : CodeOf) (m : Instances) (inst : ℕ) (site : Site)
   constant_at None NoMore n p q a = absurd a
   constant_at None (Then e es) n p q a = absurd a
 
-  -- an element of the array in the cell of a declaration
-  pub element_at : (d : DeclNo) (line n : ℕ) (es : Expressions) (Inner : ℕ → ℕ → Type 0) (terms : Terms) → ((p q : ℕ) → Inner p q → TermsAt s code m inst site (suc n) terms p q) → operands es ≡ count terms → (p q : ℕ) → ElementAt s code site n line d es Inner p q
-      → NamedIs n true (in_instance (home_of s m inst d) (λ j. ElementOf line (Cell j (Declared d.0)) terms)) p q
+  -- an element of the array in the cell of a declaration, with the class of a reference there
+  pub element_at : (o : Option Qualified) (d : DeclNo) (line n : ℕ) (es : Expressions) (Inner : ℕ → ℕ → Type 0) (terms : Terms) → ((p q : ℕ) → Inner p q → TermsAt s code m inst site (suc n) terms p q) → operands es ≡ count terms → (p q : ℕ) → is_constant (entry_of s.tables d) ≡ false → ElementAt s code site n line (class_given o) d es Inner p q
+      → PlacedAt o n (in_instance (home_of s m inst d) (λ j. ElementOf line (Cell j (Declared d.0)) terms)) p q
   unfolding home_of
-  element_at d line n es Inner terms f counts p q a =
+  element_at o d line n es Inner terms f counts p q varies a =
       let r = reach (block_of s d) a.array.inside in
-      there (home_of s m inst d) r.0 (λ j. ElementOf line (Cell j (Declared d.0)) terms) n true p q r.2
-      ((a.x, a.y, (record { text = block_of s d; load = a.array.load; reaches = r.1; has = a.array.within }, refl), f a.x a.y a.subscripts, subst (λ k. At code (i.Elem (pos k) (pos 0)) line a.y q) counts a.found), refl)
+      subst (λ z. PlacedAt o n (in_instance z (λ j. ElementOf line (Cell j (Declared d.0)) terms)) p q) (sym r.2)
+      (element_placed o n line (Cell r.0 (Declared d.0)) terms p a.x a.y q (cell_is d n p a.x varies a.array, refl) (f a.x a.y a.subscripts) (subst (λ k. At code (i.Elem (pos k) (pos (class_given o))) line a.y q) counts a.found))
 
-  array_at : (d : DeclNo) (line n : ℕ) (es : Expressions) (Inner : ℕ → ℕ → Type 0) (terms : Terms) → ((p q : ℕ) → Inner p q → TermsAt s code m inst site (suc n) terms p q) → operands es ≡ count terms → (p q : ℕ) → ArrayAt s code site n line d es Inner p q → NamedIs n true (array_term s m inst line d es terms) p q
+  array_at : (d : DeclNo) (line n : ℕ) (es : Expressions) (Inner : ℕ → ℕ → Type 0) (terms : Terms) → ((p q : ℕ) → Inner p q → TermsAt s code m inst site (suc n) terms p q) → operands es ≡ count terms → (p q : ℕ) → is_constant (entry_of s.tables d) ≡ false → ArrayAt s code site n line d es Inner p q → NamedIs n true (array_term s m inst line d es terms) p q
   unfolding home_of
-  array_at d line n NoMore Inner terms f counts p q a = cell_at d n p q a
-  array_at d line n (Then e es) Inner terms f counts p q a =
+  array_at d line n NoMore Inner terms f counts p q varies a = cell_at d n p q varies a
+  array_at d line n (Then e es) Inner terms f counts p q varies a =
       let x = a.1 in
       let r = reach (block_of s d) x.array.inside in
       there (home_of s m inst d) r.0 (λ j. ValueAt (ElementOf line (Cell j (Declared d.0)) terms)) n true p q r.2
-      ((a.0, ((x.x, x.y, (record { text = block_of s d; load = x.array.load; reaches = r.1; has = x.array.within }, refl), f x.x x.y x.subscripts, subst (λ k. At code (i.Elem (pos k) (pos 0)) line x.y a.0) counts x.found), refl), a.2), refl)
+      ((a.0, (x.x, x.y, (cell_is d n p x.x varies x.array, refl), f x.x x.y x.subscripts, subst (λ k. At code (i.Elem (pos k) (pos 0)) line x.y a.0) counts x.found), record { kind = Any; left = λ ks. refl; fetches = a.2 }), refl)
 
-  formal_at : (d : DeclNo) (line n : ℕ) (by : Mode) (kind : FormalKind) (es : Expressions) (Inner : ℕ → ℕ → Type 0) (terms : Terms) → ((p q : ℕ) → Inner p q → TermsAt s code m inst site (suc n) terms p q) → operands es ≡ count terms → (p q : ℕ) → FormalAt s code site n line d by kind es Inner p q → NamedIs n true (formal_term s m inst line d by kind es terms) p q
-  formal_at d line n mode.ByName kind es Inner terms f counts p q a = absurd a
-  formal_at d line n mode.ByValue shape.Simple es Inner terms f counts p q a = variable_at d es n p q a
-  formal_at d line n mode.ByValue shape.Array es Inner terms f counts p q a = array_at d line n es Inner terms f counts p q a
-  formal_at d line n mode.ByValue shape.Procedure es Inner terms f counts p q a = absurd a
-  formal_at d line n mode.ByReference shape.Simple es Inner terms f counts p q a = variable_at d es n p q a
-  formal_at d line n mode.ByReference shape.Array es Inner terms f counts p q a = array_at d line n es Inner terms f counts p q a
-  formal_at d line n mode.ByReference shape.Procedure es Inner terms f counts p q a = absurd a
+  formal_at : (d : DeclNo) (line n : ℕ) (by : Mode) (kind : FormalKind) (es : Expressions) (Inner : ℕ → ℕ → Type 0) (terms : Terms) → ((p q : ℕ) → Inner p q → TermsAt s code m inst site (suc n) terms p q) → operands es ≡ count terms → (p q : ℕ) → is_constant (entry_of s.tables d) ≡ false → FormalAt s code site n line d by kind es Inner p q → NamedIs n true (formal_term s m inst line d by kind es terms) p q
+  formal_at d line n mode.ByName kind es Inner terms f counts p q varies a = absurd a
+  formal_at d line n mode.ByValue shape.Simple es Inner terms f counts p q varies a = variable_at d es n p q varies a
+  formal_at d line n mode.ByValue shape.Array es Inner terms f counts p q varies a = array_at d line n es Inner terms f counts p q varies a
+  formal_at d line n mode.ByValue shape.Procedure es Inner terms f counts p q varies a = absurd a
+  formal_at d line n mode.ByReference shape.Simple es Inner terms f counts p q varies a = variable_at d es n p q varies a
+  formal_at d line n mode.ByReference shape.Array es Inner terms f counts p q varies a = array_at d line n es Inner terms f counts p q varies a
+  formal_at d line n mode.ByReference shape.Procedure es Inner terms f counts p q varies a = absurd a
 
   -- a call: the procedure's text is in the text of its declaration
   call_at : (d : DeclNo) (line n : ℕ) (result : Option SimType) (k : ℕ) (es : Expressions) (Inner : ℕ → ℕ → Type 0) (terms : Terms) → ((p q : ℕ) → Inner p q → TermsAt s code m inst site (suc n) terms p q × (operands es ≡ count terms) × (operands es ≡ length (formals_at s d))) → (p q : ℕ) → entry_of s.tables d ≡ Some (entry.Procedure result k) → CallAt s code site n line d k es Inner p q
@@ -160,10 +214,10 @@ module _ (s : Source) (code : CodeOf) (m : Instances) (inst : ℕ) (site : Site)
   declared_at : (d : DeclNo) (line n : ℕ) (o : Option Entry) (es : Expressions) (Inner : ℕ → ℕ → Type 0) (Actuals : List Formal → ℕ → ℕ → Type 0) (terms : Terms) (actuals : List Formal → Terms) → ((p q : ℕ) → Inner p q → TermsAt s code m inst site (suc n) terms p q) → operands es ≡ count terms
       → ((fs : List Formal) (p q : ℕ) → Actuals fs p q → TermsAt s code m inst site (suc n) (actuals fs) p q × (operands es ≡ count (actuals fs)) × (operands es ≡ length fs))
       → (p q : ℕ) → entry_of s.tables d ≡ o → DeclaredAt s code site n line d o es Inner Actuals p q → NamedIs n (gives_entry o) (declared_term s m inst line d o es terms actuals) p q
-  declared_at d line n (Some (entry.Variable type)) es Inner Actuals terms actuals f counts g p q is a = variable_at d es n p q a
+  declared_at d line n (Some (entry.Variable type)) es Inner Actuals terms actuals f counts g p q is a = variable_at d es n p q (ap is_constant is) a
   declared_at d line n (Some (entry.Constant type)) es Inner Actuals terms actuals f counts g p q is a = constant_at (constant_of s d) es n p q a
-  declared_at d line n (Some (entry.Array element dimensions)) es Inner Actuals terms actuals f counts g p q is a = array_at d line n es Inner terms f counts p q a
-  declared_at d line n (Some (entry.Formal x)) es Inner Actuals terms actuals f counts g p q is a = formal_at d line n x.mode x.kind es Inner terms f counts p q a
+  declared_at d line n (Some (entry.Array element dimensions)) es Inner Actuals terms actuals f counts g p q is a = array_at d line n es Inner terms f counts p q (ap is_constant is) a
+  declared_at d line n (Some (entry.Formal x)) es Inner Actuals terms actuals f counts g p q is a = formal_at d line n x.mode x.kind es Inner terms f counts p q (ap is_constant is) a
   declared_at d line n (Some (entry.Procedure result k)) es Inner Actuals terms actuals f counts g p q is a = call_at d line n result k es (Actuals (formals_at s d)) (actuals (formals_at s d)) (g (formals_at s d)) p q is a
   declared_at d line n (Some (entry.Class block)) es Inner Actuals terms actuals f counts g p q is a = absurd a
   declared_at d line n (Some (entry.Virtual result own)) es Inner Actuals terms actuals f counts g p q is a = absurd a
@@ -196,7 +250,7 @@ module _ (s : Source) (code : CodeOf) (m : Instances) (inst : ℕ) (site : Site)
 
   name_at : (is : Bool) (on : Option Standard) (name : Standard) (image line n : ℕ) (es : Expressions) (Operands Inner : ℕ → ℕ → Type 0) (terms : Terms) → ((p q : ℕ) → Operands p q → TermsAt s code m inst site n terms p q) → ((p q : ℕ) → Inner p q → TermsAt s code m inst site (suc n) terms p q) → operands es ≡ count terms → IsImage image
       → is_image name ≡ is → on_image name ≡ on → (p q : ℕ) → NameAt code site n line image is on name es Operands Inner p q → NamedIs n (has_value (row_of name).result) (name_term is on name image line terms) p q
-  name_at true on name image line n es Operands Inner terms f0 f counts known ei eo p q a = ((a.0, ((known, a.1), refl), a.2), sym (image_gives name ei))
+  name_at true on name image line n es Operands Inner terms f0 f counts known ei eo p q a = ((a.0, (known, a.1), record { kind = Any; left = λ ks. refl; fetches = a.2 }), sym (image_gives name ei))
   name_at false (Some x) name image line n es Operands Inner terms f0 f counts known ei eo p q a =
       ((a.1, (a.0, ((known, a.2), refl), reads_terms terms (suc n) a.0 a.1 (f a.0 a.1 a.3)), subst (λ c. StandardIs code site n line x c a.1 q) (ap suc counts) a.4), on_image_gives name x eo)
   name_at false None name image line n es Operands Inner terms f0 f counts known ei eo p q a = ((a.0, reads_terms terms n p a.0 (f0 p a.0 a.1), subst (λ c. StandardIs code site n line name c a.0 q) counts a.2), refl)
@@ -215,48 +269,43 @@ module _ (s : Source) (code : CodeOf) (m : Instances) (inst : ℕ) (site : Site)
 
   -- ---- where variables lie, and attributes of texts
 
-  -- what can be an operand of a standard name
-  abbrev pub ReadAt : (n : ℕ) → Term → ℕ → ℕ → Type 0
-  ReadAt n t p q = TermAt s code m inst site n t p q × (reads s t ≡ true)
-
-  variable_place_at : (d : DeclNo) (es : Expressions) (n p q : ℕ) → VariablePlaceAt s code site n d es p q → ReadAt n (variable_place s m inst d es) p q
+  variable_place_at : (o : Option Qualified) (d : DeclNo) (es : Expressions) (n p q : ℕ) → is_constant (entry_of s.tables d) ≡ false → VariablePlaceAt s code site n (class_given o) d es p q → PlacedAt o n (variable_place s m inst d es) p q
   unfolding home_of
-  variable_place_at d NoMore n p q a =
+  variable_place_at o d NoMore n p q varies a =
       let r = reach (block_of s d) a.inside in
-      subst (λ o. ReadAt n (in_instance o (λ j. PlaceOf j (Declared d.0))) p q) (sym r.2) (record { text = block_of s d; address = a.address; reaches = r.1; has = a.within }, refl)
-  variable_place_at d (Then e es) n p q a = absurd a
+      subst (λ z. PlacedAt o n (in_instance z (λ j. PlaceOf j (Declared d.0))) p q) (sym r.2)
+      (place_placed o n r.0 (Declared d.0) p q (record { text = block_of s d; address = a.address; reaches = r.1; own = own d a.within; has = a.within; varies = varies; declared = refl }))
+  variable_place_at o d (Then e es) n p q varies a = absurd a
 
-  array_place_at : (d : DeclNo) (line n : ℕ) (es : Expressions) (Inner : ℕ → ℕ → Type 0) (terms : Terms) → ((p q : ℕ) → Inner p q → TermsAt s code m inst site (suc n) terms p q) → operands es ≡ count terms → (p q : ℕ) → ArrayPlaceAt s code site n line d es Inner p q → ReadAt n (array_place s m inst line d es terms) p q
-  array_place_at d line n NoMore Inner terms f counts p q a = absurd a
-  array_place_at d line n (Then e es) Inner terms f counts p q a =
-      let x = element_at d line n (Then e es) Inner terms f counts p q a in
-      (x.0, read_given s (array_place s m inst line d (Then e es) terms) x.1)
+  array_place_at : (o : Option Qualified) (d : DeclNo) (line n : ℕ) (es : Expressions) (Inner : ℕ → ℕ → Type 0) (terms : Terms) → ((p q : ℕ) → Inner p q → TermsAt s code m inst site (suc n) terms p q) → operands es ≡ count terms → (p q : ℕ) → is_constant (entry_of s.tables d) ≡ false → ArrayPlaceAt s code site n line (class_given o) d es Inner p q → PlacedAt o n (array_place s m inst line d es terms) p q
+  array_place_at o d line n NoMore Inner terms f counts p q varies a = absurd a
+  array_place_at o d line n (Then e es) Inner terms f counts p q varies a = element_at o d line n (Then e es) Inner terms f counts p q varies a
 
-  formal_place_at : (d : DeclNo) (line n : ℕ) (by : Mode) (kind : FormalKind) (es : Expressions) (Inner : ℕ → ℕ → Type 0) (terms : Terms) → ((p q : ℕ) → Inner p q → TermsAt s code m inst site (suc n) terms p q) → operands es ≡ count terms → (p q : ℕ) → FormalPlaceAt s code site n line d by kind es Inner p q → ReadAt n (formal_place s m inst line d by kind es terms) p q
-  formal_place_at d line n mode.ByName kind es Inner terms f counts p q a = absurd a
-  formal_place_at d line n mode.ByValue shape.Simple es Inner terms f counts p q a = variable_place_at d es n p q a
-  formal_place_at d line n mode.ByValue shape.Array es Inner terms f counts p q a = array_place_at d line n es Inner terms f counts p q a
-  formal_place_at d line n mode.ByValue shape.Procedure es Inner terms f counts p q a = absurd a
-  formal_place_at d line n mode.ByReference shape.Simple es Inner terms f counts p q a = variable_place_at d es n p q a
-  formal_place_at d line n mode.ByReference shape.Array es Inner terms f counts p q a = array_place_at d line n es Inner terms f counts p q a
-  formal_place_at d line n mode.ByReference shape.Procedure es Inner terms f counts p q a = absurd a
+  formal_place_at : (o : Option Qualified) (d : DeclNo) (line n : ℕ) (by : Mode) (kind : FormalKind) (es : Expressions) (Inner : ℕ → ℕ → Type 0) (terms : Terms) → ((p q : ℕ) → Inner p q → TermsAt s code m inst site (suc n) terms p q) → operands es ≡ count terms → (p q : ℕ) → is_constant (entry_of s.tables d) ≡ false → FormalPlaceAt s code site n line (class_given o) d by kind es Inner p q → PlacedAt o n (formal_place s m inst line d by kind es terms) p q
+  formal_place_at o d line n mode.ByName kind es Inner terms f counts p q varies a = absurd a
+  formal_place_at o d line n mode.ByValue shape.Simple es Inner terms f counts p q varies a = variable_place_at o d es n p q varies a
+  formal_place_at o d line n mode.ByValue shape.Array es Inner terms f counts p q varies a = array_place_at o d line n es Inner terms f counts p q varies a
+  formal_place_at o d line n mode.ByValue shape.Procedure es Inner terms f counts p q varies a = absurd a
+  formal_place_at o d line n mode.ByReference shape.Simple es Inner terms f counts p q varies a = variable_place_at o d es n p q varies a
+  formal_place_at o d line n mode.ByReference shape.Array es Inner terms f counts p q varies a = array_place_at o d line n es Inner terms f counts p q varies a
+  formal_place_at o d line n mode.ByReference shape.Procedure es Inner terms f counts p q varies a = absurd a
 
-  declared_place_at : (d : DeclNo) (line n : ℕ) (o : Option Entry) (es : Expressions) (Inner : ℕ → ℕ → Type 0) (terms : Terms) → ((p q : ℕ) → Inner p q → TermsAt s code m inst site (suc n) terms p q) → operands es ≡ count terms → (p q : ℕ) → DeclaredPlaceAt s code site n line d o es Inner p q → ReadAt n (declared_place s m inst line d o es terms) p q
-  declared_place_at d line n (Some (entry.Variable type)) es Inner terms f counts p q a = variable_place_at d es n p q a
-  declared_place_at d line n (Some (entry.Array element dimensions)) es Inner terms f counts p q a = array_place_at d line n es Inner terms f counts p q a
-  declared_place_at d line n (Some (entry.Formal x)) es Inner terms f counts p q a = formal_place_at d line n x.mode x.kind es Inner terms f counts p q a
-  declared_place_at d line n (Some (entry.Constant type)) es Inner terms f counts p q a = absurd a
-  declared_place_at d line n (Some (entry.Procedure result k)) es Inner terms f counts p q a = absurd a
-  declared_place_at d line n (Some (entry.Class block)) es Inner terms f counts p q a = absurd a
-  declared_place_at d line n (Some (entry.Virtual result own)) es Inner terms f counts p q a = absurd a
-  declared_place_at d line n (Some (entry.Unspecified written)) es Inner terms f counts p q a = absurd a
-  declared_place_at d line n (Some (entry.Attribute name parameter result)) es Inner terms f counts p q a = absurd a
-  declared_place_at d line n None es Inner terms f counts p q a = absurd a
+  declared_place_at : (o : Option Qualified) (d : DeclNo) (line n : ℕ) (e : Option Entry) (es : Expressions) (Inner : ℕ → ℕ → Type 0) (terms : Terms) → ((p q : ℕ) → Inner p q → TermsAt s code m inst site (suc n) terms p q) → operands es ≡ count terms → (p q : ℕ) → entry_of s.tables d ≡ e → DeclaredPlaceAt s code site n line (class_given o) d e es Inner p q → PlacedAt o n (declared_place s m inst line d e es terms) p q
+  declared_place_at o d line n (Some (entry.Variable type)) es Inner terms f counts p q is a = variable_place_at o d es n p q (ap is_constant is) a
+  declared_place_at o d line n (Some (entry.Array element dimensions)) es Inner terms f counts p q is a = array_place_at o d line n es Inner terms f counts p q (ap is_constant is) a
+  declared_place_at o d line n (Some (entry.Formal x)) es Inner terms f counts p q is a = formal_place_at o d line n x.mode x.kind es Inner terms f counts p q (ap is_constant is) a
+  declared_place_at o d line n (Some (entry.Constant type)) es Inner terms f counts p q is a = absurd a
+  declared_place_at o d line n (Some (entry.Procedure result k)) es Inner terms f counts p q is a = absurd a
+  declared_place_at o d line n (Some (entry.Class block)) es Inner terms f counts p q is a = absurd a
+  declared_place_at o d line n (Some (entry.Virtual result own)) es Inner terms f counts p q is a = absurd a
+  declared_place_at o d line n (Some (entry.Unspecified written)) es Inner terms f counts p q is a = absurd a
+  declared_place_at o d line n (Some (entry.Attribute name parameter result)) es Inner terms f counts p q is a = absurd a
+  declared_place_at o d line n None es Inner terms f counts p q is a = absurd a
 
-  named_place_at : (u : Option Denotation) (line n : ℕ) (es : Expressions) (Inner : ℕ → ℕ → Type 0) (terms : Terms) → ((p q : ℕ) → Inner p q → TermsAt s code m inst site (suc n) terms p q) → operands es ≡ count terms → (p q : ℕ) → NamedPlaceAt s code site n line u es Inner p q → ReadAt n (named_place s m inst line u es terms) p q
-  named_place_at (Some (denotation.Declared d)) line n es Inner terms f counts p q a = declared_place_at d line n (entry_of s.tables d) es Inner terms f counts p q a
-  named_place_at (Some (denotation.Standard name)) line n es Inner terms f counts p q a = ((of_output, a), refl)
-  named_place_at None line n es Inner terms f counts p q a = ((of_output, a), refl)
+  named_place_at : (o : Option Qualified) (u : Option Denotation) (line n : ℕ) (es : Expressions) (Inner : ℕ → ℕ → Type 0) (terms : Terms) → ((p q : ℕ) → Inner p q → TermsAt s code m inst site (suc n) terms p q) → operands es ≡ count terms → (p q : ℕ) → NamedPlaceAt s code site n line (class_given o) u es Inner p q → PlacedAt o n (named_place s m inst line u es terms) p q
+  named_place_at o (Some (denotation.Declared d)) line n es Inner terms f counts p q a = declared_place_at o d line n (entry_of s.tables d) es Inner terms f counts p q refl a
+  named_place_at o (Some (denotation.Standard name)) line n es Inner terms f counts p q a = image_placed o n sysout p q of_output a
+  named_place_at o None line n es Inner terms f counts p q a = image_placed o n sysout p q of_output a
 
   -- `sysin` and `sysout` are known by their images
   abbrev OnlyImages : Option ℕ → Type 0
@@ -278,9 +327,9 @@ module _ (s : Source) (code : CodeOf) (m : Instances) (inst : ℕ) (site : Site)
   stream_is (syntax.Named name es) = stream_denoted_is (denoted s name.token.0)
   stream_is _ = tt
 
-  image_place_at : (o : Option ℕ) (other : Term) (n p q : ℕ) → OnlyImages o → ImagePlaceAt code site n o p q → ReadAt n (image_place o other) p q
-  image_place_at None other n p q known a = absurd a
-  image_place_at (Some image) other n p q known a = ((known, a), refl)
+  image_place_at : (o : Option Qualified) (stream : Option ℕ) (Other : ℕ → ℕ → Type 0) (other : Term) (n p q : ℕ) → OnlyImages stream → ((p q : ℕ) → Other p q → PlacedAt o n other p q) → StreamPlaceAt code site n stream Other p q → PlacedAt o n (image_place stream other) p q
+  image_place_at o None Other other n p q known f a = f p q a
+  image_place_at o (Some image) Other other n p q known f a = image_placed o n image p q known a
 
   object_at : (place : Bool) (n : ℕ) (Place Value : ℕ → ℕ → Type 0) (x y : Term) → ((p q : ℕ) → Place p q → ReadAt n x p q) → ((p q : ℕ) → Value p q → OperandAt s code m inst site n y p q) → (p q : ℕ) → ObjectAt place Place Value p q → ReadAt n (object_term place x y) p q
   object_at true n Place Value x y f g p q a = f p q a
@@ -297,92 +346,329 @@ module _ (s : Source) (code : CodeOf) (m : Instances) (inst : ℕ) (site : Site)
   behind_dot_at (Some image) name is line n es Place Value Operands Inner x y terms known f g h0 h counts p q a = standard_at name image line n es Operands Inner terms h0 h counts known p q a
   behind_dot_at None name is line n es Place Value Operands Inner x y terms known f g h0 h counts p q a = attribute_at name is line n es Place Value Inner x y terms f g h counts p q a
 
-  dot_at : (u : Option Denotation) (stream : Option ℕ) (is : Bool) (line n : ℕ) (es : Expressions) (Place Value Operands Inner : ℕ → ℕ → Type 0) (x y : Term) (terms : Terms) → OnlyImages stream → ((p q : ℕ) → Place p q → ReadAt n x p q) → ((p q : ℕ) → Value p q → OperandAt s code m inst site n y p q) → ((p q : ℕ) → Operands p q → TermsAt s code m inst site n terms p q) → ((p q : ℕ) → Inner p q → TermsAt s code m inst site (suc n) terms p q) → operands es ≡ count terms
-      → (p q : ℕ) → DotAt code site n line u stream is es Place Value Operands Inner p q → NamedIs n (code_gives.gives s u) (dot_term u stream is line x y terms) p q
-  dot_at (Some (denotation.Standard name)) stream is line n es Place Value Operands Inner x y terms known f g h0 h counts p q a = behind_dot_at stream (procedure_named name) is line n es Place Value Operands Inner x y terms known f g h0 h counts p q a
-  dot_at (Some (denotation.Declared d)) stream is line n es Place Value Operands Inner x y terms known f g h0 h counts p q a = absurd a
-  dot_at None stream is line n es Place Value Operands Inner x y terms known f g h0 h counts p q a = absurd a
+  -- ---- what objects have
 
-  -- An attribute of an object has no code. So an operand with code is none.
-  dotted_declared : (u : Option Denotation) (stream : Option ℕ) (is : Bool) (line n : ℕ) (es : Expressions) (Place Value Operands Inner : ℕ → ℕ → Type 0) (p q : ℕ) → DotAt code site n line u stream is es Place Value Operands Inner p q → is_attribute_denoted s u es ≡ false
-  dotted_declared None stream is line n es Place Value Operands Inner p q a = absurd a
-  dotted_declared (Some (denotation.Declared d)) stream is line n es Place Value Operands Inner p q a = absurd a
-  dotted_declared (Some (denotation.Standard name)) stream is line n es Place Value Operands Inner p q a = refl
+  -- the code of an object: in front of a dot, or connected
+  abbrev pub ObjectIs : (n : ℕ) → (Base : ℕ → ℕ → Type 0) → Term → Type 0
+  ObjectIs n Base x = (p q : ℕ) → Base p q → OperandAt s code m inst site n x p q
 
-  no_attribute : (e : Expression) (n p q : ℕ) → ExprAt s code site n e p q → is_attribute s e ≡ false
-  unfolding is_attribute
-  no_attribute (syntax.Dot token x name es) n p q a =
-      dotted_declared (denoted s name.token.0) (stream_of s x) (is_variable s x) (line_at s name.token.0) n es (PlaceAt s code site n x) (ExprAt s code site n x) (ExprsAt s code site n es) (ExprsAt s code site (suc n) es) p q a.1
-  no_attribute _ n p q a = refl
+  varying : (d : DeclNo) → is_constant (entry_of s.tables d) ≡ false → attribute_kind s (Declared d.0) None ≡ Located
+  varying d e = ap (λ b. kind_unless b d.0) e
 
-  -- a variable in front of the dot, or none
-  object_more : (moves is more : Bool) (Place Value : ℕ → ℕ → Type 0) → ((p q : ℕ) → Value p q → more ≡ false) → (p q : ℕ) → ObjectAt (moves && is) Place Value p q → ObjectAt (moves && (is || more)) Place Value p q
-  object_more false is more Place Value f p q a = a
-  object_more true true more Place Value f p q a = a
-  object_more true false more Place Value f p q a = subst (λ z. ObjectAt z Place Value p q) (sym (f p q a)) a
+  attribute_placed : (o : Option Qualified) (d : DeclNo) (line n : ℕ) (Base : ℕ → ℕ → Type 0) (x : Term) → ObjectIs n Base x → (p q : ℕ) → is_constant (entry_of s.tables d) ≡ false → AttributePlaceAt s code line (class_given o) d Base p q → PlacedAt o n (attribute_place s line d x) p q
+  attribute_placed None d line n Base x f p q varies a =
+      let e = varying d varies in
+      ((a.x, f p a.x a.object, subst (λ z. FoundIs s code z (block_of s d) (Declared d.0) line a.x q) (sym e) (record { is = a.found; own = own d a.within; has = a.within; varies = varies; declared = refl })), ap is_read e)
+  attribute_placed (Some k) d line n Base x f p q varies a = record {
+    term = (a.x, f p a.x a.object, record { is_class = k.is_class; place = record { is = a.found; own = own d a.within; has = a.within; varies = varies; declared = refl } });
+    leaves = λ ks. refl;
+  }
 
-  attribute_more : (name : Option Standard) (is more : Bool) (line n : ℕ) (es : Expressions) (Place Value Inner : ℕ → ℕ → Type 0) → ((p q : ℕ) → Value p q → more ≡ false) → (p q : ℕ) → AttributeAt code site n line name is es Place Value Inner p q → AttributeAt code site n line name (is || more) es Place Value Inner p q
-  attribute_more None is more line n es Place Value Inner f p q a = a
-  attribute_more (Some name) is more line n es Place Value Inner f p q a = (a.0, a.1, object_more (moves_position name) is more Place Value f p a.0 a.2, a.3, a.4)
+  -- its value
+  value_of : (d : DeclNo) (line n : ℕ) (Base : ℕ → ℕ → Type 0) (x : Term) → ObjectIs n Base x → (p y q : ℕ) → is_constant (entry_of s.tables d) ≡ false → AttributePlaceAt s code line 0 d Base p y → Is code i.Fetch y q → OperandAt s code m inst site n (ValueAt (attribute_place s line d x)) p q
+  value_of d line n Base x f p y q varies a b =
+      ((y, (attribute_placed None d line n Base x f p y varies a).0, record { kind = Located; left = λ ks. ap (λ z. z ∷ ks) (varying d varies); fetches = b }), refl)
 
-  behind_more : (stream : Option ℕ) (name : Option Standard) (is more : Bool) (line n : ℕ) (es : Expressions) (Place Value Operands Inner : ℕ → ℕ → Type 0) → ((p q : ℕ) → Value p q → more ≡ false) → (p q : ℕ) → BehindDotAt code site n line stream name is es Place Value Operands Inner p q → BehindDotAt code site n line stream name (is || more) es Place Value Operands Inner p q
-  behind_more (Some image) name is more line n es Place Value Operands Inner f p q a = a
-  behind_more None name is more line n es Place Value Operands Inner f p q a = attribute_more name is more line n es Place Value Inner f p q a
+  variable_of_at : (d : DeclNo) (es : Expressions) (line n : ℕ) (Base : ℕ → ℕ → Type 0) (x : Term) → ObjectIs n Base x → (p q : ℕ) → is_constant (entry_of s.tables d) ≡ false → VariableOfAt s code line d es Base p q → NamedIs n true (variable_attribute (attribute_place s line d x) es) p q
+  variable_of_at d NoMore line n Base x f p q varies a = value_of d line n Base x f p a.0 q varies a.1 a.2
+  variable_of_at d (Then e es) line n Base x f p q varies a = absurd a
 
-  dot_more : (u : Option Denotation) (stream : Option ℕ) (is more : Bool) (line n : ℕ) (es : Expressions) (Place Value Operands Inner : ℕ → ℕ → Type 0) → ((p q : ℕ) → Value p q → more ≡ false) → (p q : ℕ) → DotAt code site n line u stream is es Place Value Operands Inner p q → DotAt code site n line u stream (is || more) es Place Value Operands Inner p q
-  dot_more None stream is more line n es Place Value Operands Inner f p q a = absurd a
-  dot_more (Some (denotation.Declared d)) stream is more line n es Place Value Operands Inner f p q a = absurd a
-  dot_more (Some (denotation.Standard name)) stream is more line n es Place Value Operands Inner f p q a = behind_more stream (procedure_named name) is more line n es Place Value Operands Inner f p q a
+  constant_of_at : (d : DeclNo) (es : Expressions) (line n : ℕ) (Base : ℕ → ℕ → Type 0) (x : Term) → ObjectIs n Base x → (p q : ℕ) → is_constant (entry_of s.tables d) ≡ true → ConstantAttributeAt s code site n line d es Base p q → NamedIs n true (variable_attribute (attribute_place s line d x) es) p q
+  constant_of_at d NoMore line n Base x f p q fixed a =
+      let e : attribute_kind s (Declared d.0) None ≡ FixedOf d.0 = ap (λ b. kind_unless b d.0) fixed in (
+        (
+          a.y,
+          (a.x, f p a.x a.object, subst (λ z. FoundIs s code z (block_of s d) (Declared d.0) line a.x a.y) (sym e) (record { is = a.there; own = own d a.within; has = a.within })),
+          record { kind = FixedOf d.0; left = λ ks. ap (λ z. z ∷ ks) e; fetches = record { x = a.z; dropped = a.dropped; value = a.value } },
+        ),
+        refl,
+      )
+  constant_of_at d (Then e es) line n Base x f p q fixed a = absurd a
 
-  -- behind a dot stands no attribute of an object
-  dotted : (u : Option Denotation) (f : DeclNo → Term) (other : Term) (n : ℕ) (g : Bool) (p q : ℕ) → (declared_attribute u ≡ None) → NamedIs n g other p q → NamedIs n g (if_any (declared_attribute u) f other) p q
-  dotted u f other n g p q e a = subst (λ z. NamedIs n g (if_any z f other) p q) (sym e) a
+  element_of_at : (o : Option Qualified) (d : DeclNo) (line n : ℕ) (es : Expressions) (Base Inner : ℕ → ℕ → Type 0) (x : Term) (terms : Terms) → ObjectIs n Base x → ((p q : ℕ) → Inner p q → TermsAt s code m inst site (suc n) terms p q) → operands es ≡ count terms → (p q : ℕ) → is_constant (entry_of s.tables d) ≡ false → ElementOfAt s code line (class_given o) d es Base Inner p q
+      → PlacedAt o n (ElementOf line (ValueAt (attribute_place s line d x)) terms) p q
+  element_of_at o d line n es Base Inner x terms f g counts p q varies a =
+      element_placed o n line (ValueAt (attribute_place s line d x)) terms p a.y a.z q (value_of d line n Base x f p a.x a.y varies a.place a.array) (g a.y a.z a.subscripts) (subst (λ k. At code (i.Elem (pos k) (pos (class_given o))) line a.z q) counts a.found)
 
-  undeclared : (u : Option Denotation) (stream : Option ℕ) (is : Bool) (line n : ℕ) (es : Expressions) (Place Value Operands Inner : ℕ → ℕ → Type 0) (p q : ℕ) → DotAt code site n line u stream is es Place Value Operands Inner p q → declared_attribute u ≡ None
-  undeclared None stream is line n es Place Value Operands Inner p q a = absurd a
-  undeclared (Some (denotation.Declared d)) stream is line n es Place Value Operands Inner p q a = absurd a
-  undeclared (Some (denotation.Standard name)) stream is line n es Place Value Operands Inner p q a = refl
+  array_of_at : (d : DeclNo) (line n : ℕ) (es : Expressions) (Base Inner : ℕ → ℕ → Type 0) (x : Term) (terms : Terms) → ObjectIs n Base x → ((p q : ℕ) → Inner p q → TermsAt s code m inst site (suc n) terms p q) → operands es ≡ count terms → (p q : ℕ) → is_constant (entry_of s.tables d) ≡ false → ArrayOfAt s code line d es Base Inner p q → NamedIs n true (array_attribute line (attribute_place s line d x) es terms) p q
+  array_of_at d line n NoMore Base Inner x terms f g counts p q varies a = variable_of_at d NoMore line n Base x f p q varies a
+  array_of_at d line n (Then e es) Base Inner x terms f g counts p q varies a =
+      ((a.0, (element_of_at None d line n (Then e es) Base Inner x terms f g counts p a.0 varies a.1).0, record { kind = Any; left = λ ks. refl; fetches = a.2 }), refl)
 
-  -- nor is anything seen in a connection
-  alone_is : (token : ℕ) (f : ℕ → Term) (other : Term) (n : ℕ) (g : Bool) (p q : ℕ) → NamedIs n g other p q → NamedIs n g (if_any (connection_at s token) f other) p q
-  alone_is token f other n g p q a = subst (λ z. NamedIs n g (if_any z f other) p q) (sym (agrees.unconnected token)) a
+  parameter_of_at : (d : DeclNo) (line n : ℕ) (kind : FormalKind) (es : Expressions) (Base Inner : ℕ → ℕ → Type 0) (x : Term) (terms : Terms) → ObjectIs n Base x → ((p q : ℕ) → Inner p q → TermsAt s code m inst site (suc n) terms p q) → operands es ≡ count terms → (p q : ℕ) → is_constant (entry_of s.tables d) ≡ false → ParameterOfAt s code line d kind es Base Inner p q → NamedIs n true (parameter_attribute line kind (attribute_place s line d x) es terms) p q
+  parameter_of_at d line n shape.Simple es Base Inner x terms f g counts p q varies a = variable_of_at d es line n Base x f p q varies a
+  parameter_of_at d line n shape.Array es Base Inner x terms f g counts p q varies a = array_of_at d line n es Base Inner x terms f g counts p q varies a
+  parameter_of_at d line n shape.Procedure es Base Inner x terms f g counts p q varies a = absurd a
 
-  alone_read : (token : ℕ) (f : ℕ → Term) (other : Term) (n p q : ℕ) → ReadAt n other p q → ReadAt n (if_any (connection_at s token) f other) p q
-  alone_read token f other n p q a = subst (λ z. ReadAt n (if_any z f other) p q) (sym (agrees.unconnected token)) a
+  -- actual parameters, as many as there are formal ones
+  abbrev pub ActualsAre : (n : ℕ) → Expressions → DeclNo → (Actuals : ℕ → ℕ → Type 0) → Terms → Type 0
+  ActualsAre n es d Actuals terms = (p q : ℕ) → Actuals p q → TermsAt s code m inst site (suc n) terms p q × (operands es ≡ count terms) × (operands es ≡ length (formals_at s d))
+
+  remote_call_at : (d : DeclNo) (line n : ℕ) (result : Option SimType) (k : ℕ) (es : Expressions) (Base Actuals : ℕ → ℕ → Type 0) (x : Term) (terms : Terms) → ObjectIs n Base x → FitsWhere s code site n Base → ActualsAre n es d Actuals terms → (p q : ℕ) → entry_of s.tables d ≡ Some (entry.Procedure result k) → RemoteCallAt s code line k es Base Actuals p q
+      → NamedIs n (gives_entry (Some (entry.Procedure result k))) (RemoteCallOf x k terms line) p q
+  remote_call_at d line n result k es Base Actuals x terms f fits h p q is a =
+      let y = agrees.procedures d result k is in
+      let inner = h a.y a.z a.actuals in (
+        record {
+          text = block_of s d;
+          x = a.x;
+          y = a.y;
+          z = a.z;
+          object = f p a.x a.object;
+          fits = fits p a.x a.object;
+          there = a.there;
+          actuals = inner.0;
+          call = subst (λ c. At code (i.Call (pos (block_number s k)) (pos c)) line a.z q) inner.1 a.call;
+          procedure = record { result = y.given; heading = y.heading; body = y.body; is = y.is; stands_in = y.around };
+          as_many = sym inner.1 ∙ inner.2 ∙ ap length (formals_same s d result k is);
+        },
+        ap text_gives y.is ∙ y.same,
+      )
+
+  of_object_at : (d : DeclNo) (line n : ℕ) (o : Option Entry) (es : Expressions) (Base Inner Actuals : ℕ → ℕ → Type 0) (x : Term) (terms actuals : Terms) → ObjectIs n Base x → FitsWhere s code site n Base → ((p q : ℕ) → Inner p q → TermsAt s code m inst site (suc n) terms p q) → operands es ≡ count terms → ActualsAre n es d Actuals actuals
+      → (p q : ℕ) → entry_of s.tables d ≡ o → OfObjectAt s code site n line d o es Base Inner Actuals p q → NamedIs n (gives_entry o) (entry_attribute s line d o x es terms actuals) p q
+  of_object_at d line n (Some (entry.Variable type)) es Base Inner Actuals x terms actuals f fits g counts h p q is a = variable_of_at d es line n Base x f p q (ap is_constant is) a
+  of_object_at d line n (Some (entry.Constant type)) es Base Inner Actuals x terms actuals f fits g counts h p q is a = constant_of_at d es line n Base x f p q (ap is_constant is) a
+  of_object_at d line n (Some (entry.Array element dimensions)) es Base Inner Actuals x terms actuals f fits g counts h p q is a = array_of_at d line n es Base Inner x terms f g counts p q (ap is_constant is) a
+  of_object_at d line n (Some (entry.Formal y)) es Base Inner Actuals x terms actuals f fits g counts h p q is a = parameter_of_at d line n y.kind es Base Inner x terms f g counts p q (ap is_constant is) a
+  of_object_at d line n (Some (entry.Procedure result k)) es Base Inner Actuals x terms actuals f fits g counts h p q is a = remote_call_at d line n result k es Base Actuals x actuals f fits h p q is a
+  of_object_at d line n (Some (entry.Class block)) es Base Inner Actuals x terms actuals f fits g counts h p q is a = absurd a
+  of_object_at d line n (Some (entry.Virtual result own)) es Base Inner Actuals x terms actuals f fits g counts h p q is a = absurd a
+  of_object_at d line n (Some (entry.Unspecified written)) es Base Inner Actuals x terms actuals f fits g counts h p q is a = absurd a
+  of_object_at d line n (Some (entry.Attribute name parameter result)) es Base Inner Actuals x terms actuals f fits g counts h p q is a = absurd a
+  of_object_at d line n None es Base Inner Actuals x terms actuals f fits g counts h p q is a = absurd a
+
+  -- where they lie
+  variable_place_of : (o : Option Qualified) (d : DeclNo) (es : Expressions) (line n : ℕ) (Base : ℕ → ℕ → Type 0) (x : Term) → ObjectIs n Base x → (p q : ℕ) → is_constant (entry_of s.tables d) ≡ false → VariablePlaceOfAt s code line (class_given o) d es Base p q → PlacedAt o n (attributes.variable_at (attribute_place s line d x) es) p q
+  variable_place_of o d NoMore line n Base x f p q varies a = attribute_placed o d line n Base x f p q varies a
+  variable_place_of o d (Then e es) line n Base x f p q varies a = absurd a
+
+  array_place_of : (o : Option Qualified) (d : DeclNo) (line n : ℕ) (es : Expressions) (Base Inner : ℕ → ℕ → Type 0) (x : Term) (terms : Terms) → ObjectIs n Base x → ((p q : ℕ) → Inner p q → TermsAt s code m inst site (suc n) terms p q) → operands es ≡ count terms → (p q : ℕ) → is_constant (entry_of s.tables d) ≡ false → ArrayPlaceOfAt s code line (class_given o) d es Base Inner p q → PlacedAt o n (attributes.element_at line (attribute_place s line d x) es terms) p q
+  array_place_of o d line n NoMore Base Inner x terms f g counts p q varies a = absurd a
+  array_place_of o d line n (Then e es) Base Inner x terms f g counts p q varies a = element_of_at o d line n (Then e es) Base Inner x terms f g counts p q varies a
+
+  parameter_place_of : (o : Option Qualified) (d : DeclNo) (line n : ℕ) (kind : FormalKind) (es : Expressions) (Base Inner : ℕ → ℕ → Type 0) (x : Term) (terms : Terms) → ObjectIs n Base x → ((p q : ℕ) → Inner p q → TermsAt s code m inst site (suc n) terms p q) → operands es ≡ count terms → (p q : ℕ) → is_constant (entry_of s.tables d) ≡ false → ParameterPlaceOfAt s code line (class_given o) d kind es Base Inner p q → PlacedAt o n (parameter_at line kind (attribute_place s line d x) es terms) p q
+  parameter_place_of o d line n shape.Simple es Base Inner x terms f g counts p q varies a = variable_place_of o d es line n Base x f p q varies a
+  parameter_place_of o d line n shape.Array es Base Inner x terms f g counts p q varies a = array_place_of o d line n es Base Inner x terms f g counts p q varies a
+  parameter_place_of o d line n shape.Procedure es Base Inner x terms f g counts p q varies a = absurd a
+
+  place_of_object_at : (o : Option Qualified) (d : DeclNo) (line n : ℕ) (e : Option Entry) (es : Expressions) (Base Inner : ℕ → ℕ → Type 0) (x : Term) (terms : Terms) → ObjectIs n Base x → ((p q : ℕ) → Inner p q → TermsAt s code m inst site (suc n) terms p q) → operands es ≡ count terms → (p q : ℕ) → entry_of s.tables d ≡ e → PlaceOfObjectAt s code line (class_given o) d e es Base Inner p q → PlacedAt o n (entry_at s line d e x es terms) p q
+  place_of_object_at o d line n (Some (entry.Variable type)) es Base Inner x terms f g counts p q is a = variable_place_of o d es line n Base x f p q (ap is_constant is) a
+  place_of_object_at o d line n (Some (entry.Array element dimensions)) es Base Inner x terms f g counts p q is a = array_place_of o d line n es Base Inner x terms f g counts p q (ap is_constant is) a
+  place_of_object_at o d line n (Some (entry.Formal y)) es Base Inner x terms f g counts p q is a = parameter_place_of o d line n y.kind es Base Inner x terms f g counts p q (ap is_constant is) a
+  place_of_object_at o d line n (Some (entry.Constant type)) es Base Inner x terms f g counts p q is a = absurd a
+  place_of_object_at o d line n (Some (entry.Procedure result k)) es Base Inner x terms f g counts p q is a = absurd a
+  place_of_object_at o d line n (Some (entry.Class block)) es Base Inner x terms f g counts p q is a = absurd a
+  place_of_object_at o d line n (Some (entry.Virtual result own)) es Base Inner x terms f g counts p q is a = absurd a
+  place_of_object_at o d line n (Some (entry.Unspecified written)) es Base Inner x terms f g counts p q is a = absurd a
+  place_of_object_at o d line n (Some (entry.Attribute name parameter result)) es Base Inner x terms f g counts p q is a = absurd a
+  place_of_object_at o d line n None es Base Inner x terms f g counts p q is a = absurd a
+
+  place_behind_at : (o : Option Qualified) (u : Option Denotation) (line n : ℕ) (es : Expressions) (Base Inner : ℕ → ℕ → Type 0) (x : Term) (terms : Terms) → ObjectIs n Base x → ((p q : ℕ) → Inner p q → TermsAt s code m inst site (suc n) terms p q) → operands es ≡ count terms → (p q : ℕ) → PlaceBehindAt s code line (class_given o) u es Base Inner p q
+      → PlacedAt o n (if_any (declared_attribute u) (place_of_attribute s line x es terms) Unbuilt) p q
+  place_behind_at o (Some (denotation.Declared d)) line n es Base Inner x terms f g counts p q a = place_of_object_at o d line n (entry_of s.tables d) es Base Inner x terms f g counts p q refl a
+  place_behind_at o (Some (denotation.Standard name)) line n es Base Inner x terms f g counts p q a = absurd a
+  place_behind_at o None line n es Base Inner x terms f g counts p q a = absurd a
+
+  -- an attribute of an object, a text or a stream
+  dot_at : (u : Option Denotation) (stream : Option ℕ) (is : Bool) (line n : ℕ) (es : Expressions) (Place Value Operands Inner : ℕ → ℕ → Type 0) (Actuals : List Formal → ℕ → ℕ → Type 0) (x y : Term) (terms : Terms) (actuals : DeclNo → Terms) → OnlyImages stream → ((p q : ℕ) → Place p q → ReadAt n x p q) → ((p q : ℕ) → Value p q → OperandAt s code m inst site n y p q) → FitsWhere s code site n Value → ((p q : ℕ) → Operands p q → TermsAt s code m inst site n terms p q) → ((p q : ℕ) → Inner p q → TermsAt s code m inst site (suc n) terms p q) → operands es ≡ count terms
+      → ((d : DeclNo) → ActualsAre n es d (Actuals (formals_at s d)) (actuals d)) → (p q : ℕ) → DotAt s code site n line u stream is es Place Value Operands Inner Actuals p q → NamedIs n (code_gives.gives s u) (if_any (declared_attribute u) (attribute s line y es terms actuals) (dot_term u stream is line x y terms)) p q
+  dot_at (Some (denotation.Standard name)) stream is line n es Place Value Operands Inner Actuals x y terms actuals known f g fits h0 h counts ha p q a = behind_dot_at stream (procedure_named name) is line n es Place Value Operands Inner x y terms known f g h0 h counts p q a
+  dot_at (Some (denotation.Declared d)) stream is line n es Place Value Operands Inner Actuals x y terms actuals known f g fits h0 h counts ha p q a = of_object_at d line n (entry_of s.tables d) es Value Inner (Actuals (formals_at s d)) y terms (actuals d) g fits h counts (ha d) p q refl a
+  dot_at None stream is line n es Place Value Operands Inner Actuals x y terms actuals known f g fits h0 h counts ha p q a = absurd a
+
+  -- ---- connections
+
+  -- a connection stands in the frames of the text around
+  frame_stands : {j t : ℕ} → Stands s m j t → Stands s m j (frame_text s t)
+  frame_stands {j} {t} (outermost is text level alone around) = outermost is (text ∙ sym (frame_idem s agrees t)) (level ∙ sym (frame_level s agrees t)) alone (ap (encloser s.tables) (frame_idem s agrees t) ∙ around)
+  frame_stands {j} {t} (inside is text level out around before stands) = inside is (text ∙ sym (frame_idem s agrees t)) (level ∙ sym (frame_level s agrees t)) out (ap (encloser s.tables) (frame_idem s agrees t) ∙ around) before stands
+
+  connected_at : (t n p q : ℕ) → ConnectedAt s code site n t p q → OperandAt s code m inst site n (connected_object s m inst t) p q
+  connected_at t n p q a =
+      let r = reach t a.inside in
+      let same = frame_level s agrees t in
+      let key = cell_of_connection s t in
+      subst (λ z. OperandAt s code m inst site n (if_any z (λ j. Cell j key) Unbuilt) p q) (sym r.2) (
+        record {
+          text = frame_text s t;
+          load = subst (λ l. Pushes code site n (i.Load (pos l) (pos (slot_of s code (frame_text s t) key))) p q) (sym same) a.load;
+          reaches = record { found = ap (λ l. seen_at m l inst) same ∙ (r.1).found; stands = frame_stands (r.1).stands };
+          own = frame_idem s agrees t;
+          has = a.within;
+          varies = refl;
+        },
+        refl,
+      )
+
+  connected_name_at : (t : ℕ) (u : Option Denotation) (line n : ℕ) (es : Expressions) (Inner : ℕ → ℕ → Type 0) (Actuals : List Formal → ℕ → ℕ → Type 0) (terms : Terms) (actuals : DeclNo → Terms) → ((p q : ℕ) → Inner p q → TermsAt s code m inst site (suc n) terms p q) → operands es ≡ count terms → ((d : DeclNo) → ActualsAre n es d (Actuals (formals_at s d)) (actuals d))
+      → (p q : ℕ) → ConnectedNameAt s code site n line t u es Inner Actuals p q → NamedIs n (code_gives.gives s u) (if_any (declared_attribute u) (attribute s line (connected_object s m inst t) es terms actuals) Unbuilt) p q
+  connected_name_at t (Some (denotation.Declared d)) line n es Inner Actuals terms actuals g counts ha p q a =
+      of_object_at d line n (entry_of s.tables d) es (ConnectedAt s code site n t) Inner (Actuals (formals_at s d)) (connected_object s m inst t) terms (actuals d) (λ p q. connected_at t n p q) (λ p q. connected_fits s code site t n p q) g counts (ha d) p q refl a
+  connected_name_at t (Some (denotation.Standard name)) line n es Inner Actuals terms actuals g counts ha p q a = absurd a
+  connected_name_at t None line n es Inner Actuals terms actuals g counts ha p q a = absurd a
+
+  -- what is seen through a connection, or else is seen without one
+  through_at : (c : Option ℕ) (u : Option Denotation) (line n : ℕ) (es : Expressions) (Operands Inner : ℕ → ℕ → Type 0) (Actuals : List Formal → ℕ → ℕ → Type 0) (terms : Terms) (actuals : List Formal → Terms) → ((p q : ℕ) → Operands p q → TermsAt s code m inst site n terms p q) → ((p q : ℕ) → Inner p q → TermsAt s code m inst site (suc n) terms p q) → operands es ≡ count terms
+      → ((fs : List Formal) (p q : ℕ) → Actuals fs p q → TermsAt s code m inst site (suc n) (actuals fs) p q × (operands es ≡ count (actuals fs)) × (operands es ≡ length fs))
+      → (p q : ℕ) → ThroughAt c (λ t. ConnectedNameAt s code site n line t u es Inner Actuals) (NamedAt s code site n line u es Operands Inner Actuals) p q
+      → NamedIs n (code_gives.gives s u) (if_any c (λ t. if_any (declared_attribute u) (attribute s line (connected_object s m inst t) es terms (λ d. actuals (formals_at s d))) Unbuilt) (named_term s m inst line u es terms actuals)) p q
+  through_at None u line n es Operands Inner Actuals terms actuals f0 f counts g p q a = named_at u line n es Operands Inner Actuals terms actuals f0 f counts g p q a
+  through_at (Some t) u line n es Operands Inner Actuals terms actuals f0 f counts g p q a = connected_name_at t u line n es Inner Actuals terms (λ d. actuals (formals_at s d)) f counts (λ d. g (formals_at s d)) p q a
+
+  place_through : (c : Option ℕ) (o : Option Qualified) (u : Option Denotation) (line n : ℕ) (es : Expressions) (Inner : ℕ → ℕ → Type 0) (terms : Terms) → ((p q : ℕ) → Inner p q → TermsAt s code m inst site (suc n) terms p q) → operands es ≡ count terms → (p q : ℕ) → ThroughAt c (λ t. PlaceBehindAt s code line (class_given o) u es (ConnectedAt s code site n t) Inner) (NamedPlaceAt s code site n line (class_given o) u es Inner) p q
+      → PlacedAt o n (if_any c (λ t. if_any (declared_attribute u) (place_of_attribute s line (connected_object s m inst t) es terms) Unbuilt) (named_place s m inst line u es terms)) p q
+  place_through None o u line n es Inner terms f counts p q a = named_place_at o u line n es Inner terms f counts p q a
+  place_through (Some t) o u line n es Inner terms f counts p q a = place_behind_at o u line n es (ConnectedAt s code site n t) Inner (connected_object s m inst t) terms (λ p q. connected_at t n p q) f counts p q a
+
+  -- ---- classes
+
+  this_by : (t n p q : ℕ) (c : Bool) → ThisOfAt s code site n t c p q → OperandAt s code m inst site n (if_any (if c then Some t else None) (λ c. connected_object s m inst c) (this_instance (at_level m (level_of s t) inst))) p q
+  this_by t n p q true a = connected_at t n p q a
+  this_by t n p q false a =
+      let r = reach t a.inside in
+      subst (λ z. OperandAt s code m inst site n (this_instance z) p q) (sym r.2) (record { text = t; push = a.push; reaches = r.1 }, refl)
+
+  this_at : (found : Option ℕ) (n p q : ℕ) → ThisFoundAt s code site n found p q → OperandAt s code m inst site n (this_term s m inst found) p q
+  this_at None n p q a = absurd a
+  this_at (Some t) n p q a = this_by t n p q (is_connection (text s t)) a
+
+  -- the class that a declaration is
+  class_found : (o : Option ℕ) (k : ℕ) → class_text s o ≡ Some k → (o ≡ Some k) × (is_class (text s k) ≡ true)
+  class_found None k e = absurd (cc)
+  class_found (Some t) k e = by_test (is_class (text s t)) refl e
+    where
+      by_test : (c : Bool) → is_class (text s t) ≡ c → (if c then Some t else None) ≡ Some k → (Some t ≡ Some k) × (is_class (text s k) ≡ true)
+      by_test true h e = (e, subst (λ z. is_class (text s z) ≡ true) (cc (e)) h)
+      by_test false h e = absurd (cc)
+
+  entry_is : (o : Option Declaration) (k : ℕ) → class_block_in (elim o [ None ↦ None | Some row ↦ Some row.entry ]) ≡ Some k → entry_in o ≡ Some (entry.Class k)
+  entry_is None k e = absurd (cc)
+  entry_is (Some row) k e = by_entry row.entry refl
+    where
+      by_entry : (x : Entry) → row.entry ≡ x → Some row.entry ≡ Some (entry.Class k)
+      by_entry (entry.Class t) h = ap Some h ∙ ap (λ z. Some (entry.Class z)) (cc (e, h))
+      by_entry _ h = absurd (cc)
+
+  declared_class : (d : DeclNo) (k : ℕ) → class_block s.tables d ≡ Some k → entry_of s.tables d ≡ Some (entry.Class k)
+  unfolding class_block entry_of
+  declared_class d k e = entry_is (slice_get s.tables.declarations d.0) k e
+
+  class_is : (token : ℕ) → class_denoted s (denoted s token) ≡ class_at s token
+  unfolding class_at
+  class_is token = refl
+
+  -- a class that is named
+  denoted_classed : (u : Option Denotation) (k : ℕ) → class_denoted s u ≡ Some k → Classed s k
+  denoted_classed (Some (denotation.Declared d)) k e = (class_found (class_block s.tables d) k e).1
+  denoted_classed (Some (denotation.Standard name)) k e = absurd (cc)
+  denoted_classed None k e = absurd (cc)
+
+  pub qualification_classed : (type : Option SimType) (k : ℕ) → qualification s type ≡ Some k → Classed s k
+  unfolding qualification
+  qualification_classed None k e = absurd (cc)
+  qualification_classed (Some t.Integer) k e = absurd (cc)
+  qualification_classed (Some t.Boolean) k e = absurd (cc)
+  qualification_classed (Some t.Character) k e = absurd (cc)
+  qualification_classed (Some t.Text) k e = absurd (cc)
+  qualification_classed (Some (t.Ref d)) k e = (class_found (class_block s.tables d) k e).1
+  qualification_classed (Some t.NoneType) k e = absurd (cc)
+
+  parameter_classed : (kind : FormalKind) (type : Option SimType) (k : ℕ) → parameter_qualification s kind type ≡ Some k → Classed s k
+  parameter_classed shape.Simple type k e = qualification_classed type k e
+  parameter_classed shape.Array type k e = absurd (cc)
+  parameter_classed shape.Procedure type k e = absurd (cc)
+
+  member_at : (member : Membership) (u : Option Denotation) (class : Option ℕ) → class_denoted s u ≡ class → (A : ℕ → ℕ → Type 0) (n : ℕ) (x : Term) → ObjectIs n A x → (p q : ℕ) → MemberAt s code member class A p q → OperandAt s code m inst site n (membership_term member class x) p q
+  member_at member u None e A n x f p q a = absurd a
+  member_at member u (Some k) e A n x f p q a = ((a.0, f p a.0 a.1, (denoted_classed u k e, a.2)), refl)
+
+  qua_at : (line : ℕ) (u : Option Denotation) (class : Option ℕ) → class_denoted s u ≡ class → (A : ℕ → ℕ → Type 0) (n : ℕ) (x : Term) → ObjectIs n A x → (p q : ℕ) → QuaAt s code line class A p q → OperandAt s code m inst site n (qua_term class line x) p q
+  qua_at line u None e A n x f p q a = absurd a
+  qua_at line u (Some k) e A n x f p q a = ((a.0, f p a.0 a.1, (denoted_classed u k e, a.2)), refl)
+
+  generation_at : (u : Option Denotation) (class : Option ℕ) (line n : ℕ) (es : Expressions) (Actuals : ℕ → ℕ → Type 0) (terms : Terms) → class_denoted s u ≡ class → ((p q : ℕ) → Actuals p q → TermsAt s code m inst site (suc n) terms p q × (operands es ≡ count terms)) → (p q : ℕ) → GenerationAt s code site n line u class es Actuals p q
+      → OperandAt s code m inst site n (generation (home_of_class s m inst u) class terms line) p q
+  unfolding home_of
+  generation_at None class line n es Actuals terms e h p q a = absurd a
+  generation_at (Some (denotation.Standard name)) class line n es Actuals terms e h p q a = absurd a
+  generation_at (Some (denotation.Declared d)) None line n es Actuals terms e h p q a = absurd a
+  generation_at (Some (denotation.Declared d)) (Some t) line n es Actuals terms e h p q a =
+      let r = reach (block_of s d) a.inside in
+      let class = class_found (class_block s.tables d) t e in
+      let inner = h a.x a.y a.actuals in
+      subst (λ z. OperandAt s code m inst site n (generation z (Some t) terms line) p q) (sym r.2) (
+        record {
+          text = block_of s d;
+          x = a.x;
+          y = a.y;
+          link = a.link;
+          reaches = r.1;
+          actuals = inner.0;
+          new = subst (λ c. At code (i.New (pos (class_number s code t)) (pos c)) line a.y q) inner.1 a.new;
+          stands_in = agrees.classes d t (declared_class d t class.0);
+          class = class.1;
+        },
+        refl,
+      )
 
   -- ---- actual parameters
 
-  -- no parameter is a reference
-  qualification_none : (kind : FormalKind) (type : Option SimType) → parameter_qualification s kind type ≡ None
-  qualification_none shape.Simple type = agrees.unqualified type
-  qualification_none shape.Array type = refl
-  qualification_none shape.Procedure type = refl
+  fits : (class : Option ℕ) → ((k : ℕ) → class ≡ Some k → Classed s k) → (line n : ℕ) (A : ℕ → ℕ → Type 0) (x : Term) → ObjectIs n A x → (p q : ℕ) → FittingAt s code site n line class A p q → OperandAt s code m inst site n (fitting class line x) p q
+  fits None c line n A x f p q a = f p q a
+  fits (Some k) c line n A x f p q a =
+      ((a.x, f p a.x a.actual, record { x = a.y; y = a.z; z = a.w; temp = a.temp; is_class = c k refl; unused = a.behind; within = a.within; address = a.address; under = a.under; put = a.put; again = a.again }), refl)
 
-  fits : (kind : FormalKind) (type : Option SimType) (line n : ℕ) (x : Term) (p q : ℕ) → OperandAt s code m inst site n x p q → OperandAt s code m inst site n (fitting (parameter_qualification s kind type) line x) p q
-  fits kind type line n x p q a = subst (λ z. OperandAt s code m inst site n (fitting z line x) p q) (sym (qualification_none kind type)) a
+  abbrev pub kept_when : Bool → Mode → FormalKind → Term → Term
+  kept_when true by kind x = kept_if by kind x
+  kept_when false by kind x = x
 
-  actual_at : (by : Mode) (kind : FormalKind) (text : Bool) (line n : ℕ) (A : ℕ → ℕ → Type 0) (x : Term) (p q : ℕ) → ((p q : ℕ) → A p q → OperandAt s code m inst site n x p q) → ActualAt code site n line by kind text A p q → OperandAt s code m inst site n (actual_term line by kind text x) p q
+  abbrev pub kept_all : Bool → List Formal → Terms → Terms
+  kept_all true fs ts = with_arrays_kept fs ts
+  kept_all false fs ts = ts
+
+  -- a value, a reference or a text
+  plain_actual : (by : Mode) (text : Bool) (line n : ℕ) (A : ℕ → ℕ → Type 0) (x : Term) → ObjectIs n A x → (keeps : Bool) (p q : ℕ) → ActualAt code site n line keeps by shape.Simple text A p q → OperandAt s code m inst site n (actual_term line by shape.Simple text x) p q
   unfolding row_of
-  actual_at mode.ByValue shape.Array text line n A x p q f a = ((a.0, f p a.0 a.1, a.2), refl)
-  actual_at mode.ByReference shape.Array text line n A x p q f a = f p q a
-  actual_at mode.ByValue shape.Simple true line n A x p q f a = let v = f p a.0 a.1 in ((a.0, (a.0, (v.0, read_given s x v.1), refl), a.2), refl)
-  actual_at mode.ByValue shape.Simple false line n A x p q f a = f p q a
-  actual_at mode.ByReference shape.Simple text line n A x p q f a = f p q a
-  actual_at mode.ByValue shape.Procedure text line n A x p q f a = absurd a
-  actual_at mode.ByReference shape.Procedure text line n A x p q f a = absurd a
-  actual_at mode.ByName shape.Simple text line n A x p q f a = absurd a
-  actual_at mode.ByName shape.Array text line n A x p q f a = absurd a
-  actual_at mode.ByName shape.Procedure text line n A x p q f a = absurd a
+  plain_actual mode.ByValue true line n A x f keeps p q a = let v = f p a.0 a.1 in ((a.0, (a.0, (v.0, read_given s x v.1), refl), a.2), refl)
+  plain_actual mode.ByValue false line n A x f keeps p q a = f p q a
+  plain_actual mode.ByReference text line n A x f keeps p q a = f p q a
+  plain_actual mode.ByName text line n A x f keeps p q a = absurd a
+
+  actual_at : (keeps : Bool) (by : Mode) (kind : FormalKind) (type : Option SimType) (text : Bool) (line n : ℕ) (A : ℕ → ℕ → Type 0) (x : Term) → ObjectIs n A x → (p q : ℕ) → FittingAt s code site n line (parameter_qualification s kind type) (ActualAt code site n line keeps by kind text A) p q
+      → OperandAt s code m inst site n (kept_when keeps by kind (fitting (parameter_qualification s kind type) line (actual_term line by kind text x))) p q
+  unfolding row_of
+  actual_at true mode.ByReference shape.Array type text line n A x f p q a = ((a.0, f p a.0 a.1, a.2), refl)
+  actual_at false mode.ByReference shape.Array type text line n A x f p q a = f p q a
+  actual_at true mode.ByValue shape.Array type text line n A x f p q a = ((a.0, f p a.0 a.1, a.2), refl)
+  actual_at false mode.ByValue shape.Array type text line n A x f p q a = ((a.0, f p a.0 a.1, a.2), refl)
+  actual_at true mode.ByValue shape.Simple type text line n A x f p q a = fits (parameter_qualification s shape.Simple type) (parameter_classed shape.Simple type) line n (ActualAt code site n line true mode.ByValue shape.Simple text A) (actual_term line mode.ByValue shape.Simple text x) (λ p q. plain_actual mode.ByValue text line n A x f true p q) p q a
+  actual_at false mode.ByValue shape.Simple type text line n A x f p q a = fits (parameter_qualification s shape.Simple type) (parameter_classed shape.Simple type) line n (ActualAt code site n line false mode.ByValue shape.Simple text A) (actual_term line mode.ByValue shape.Simple text x) (λ p q. plain_actual mode.ByValue text line n A x f false p q) p q a
+  actual_at true mode.ByReference shape.Simple type text line n A x f p q a = fits (parameter_qualification s shape.Simple type) (parameter_classed shape.Simple type) line n (ActualAt code site n line true mode.ByReference shape.Simple text A) (actual_term line mode.ByReference shape.Simple text x) (λ p q. plain_actual mode.ByReference text line n A x f true p q) p q a
+  actual_at false mode.ByReference shape.Simple type text line n A x f p q a = fits (parameter_qualification s shape.Simple type) (parameter_classed shape.Simple type) line n (ActualAt code site n line false mode.ByReference shape.Simple text A) (actual_term line mode.ByReference shape.Simple text x) (λ p q. plain_actual mode.ByReference text line n A x f false p q) p q a
+  actual_at keeps mode.ByValue shape.Procedure type text line n A x f p q a = absurd a
+  actual_at keeps mode.ByReference shape.Procedure type text line n A x f p q a = absurd a
+  actual_at true mode.ByName shape.Simple type text line n A x f p q a = fits (parameter_qualification s shape.Simple type) (parameter_classed shape.Simple type) line n (ActualAt code site n line true mode.ByName shape.Simple text A) (actual_term line mode.ByName shape.Simple text x) (λ p q. plain_actual mode.ByName text line n A x f true p q) p q a
+  actual_at false mode.ByName shape.Simple type text line n A x f p q a = fits (parameter_qualification s shape.Simple type) (parameter_classed shape.Simple type) line n (ActualAt code site n line false mode.ByName shape.Simple text A) (actual_term line mode.ByName shape.Simple text x) (λ p q. plain_actual mode.ByName text line n A x f false p q) p q a
+  actual_at keeps mode.ByName shape.Array type text line n A x f p q a = absurd a
+  actual_at keeps mode.ByName shape.Procedure type text line n A x f p q a = absurd a
+
+  count_kept : (fs : List Formal) (ts : Terms) → count (with_arrays_kept fs ts) ≡ count ts
+  count_kept [] ts = refl
+  count_kept (f ∷ fs) NoTerm = refl
+  count_kept (f ∷ fs) (Further x ts) = ap suc (count_kept fs ts)
 
   pub count_close : (es : Expressions) → operands es ≡ count (close_all s m inst es)
   count_close NoMore = refl
   count_close (Then e es) = ap suc (count_close es)
 
-  count_actuals : (line n : ℕ) (es : Expressions) (fs : List Formal) (p q : ℕ) → ActualsAt s code site n line es fs p q → operands es ≡ count (close_actuals s m inst line es fs)
-  count_actuals line n NoMore [] p q a = refl
-  count_actuals line n NoMore (f ∷ fs) p q a = absurd a
-  count_actuals line n (Then e es) [] p q a = absurd a
-  count_actuals line n (Then e es) (f ∷ fs) p q a = ap suc (count_actuals line (suc n) es fs a.0 q a.2)
+  count_actuals : (line n : ℕ) (keeps : Bool) (es : Expressions) (fs : List Formal) (p q : ℕ) → ActualsAt s code site n line keeps es fs p q → operands es ≡ count (close_actuals s m inst line es fs)
+  count_actuals line n keeps NoMore [] p q a = refl
+  count_actuals line n keeps NoMore (f ∷ fs) p q a = absurd a
+  count_actuals line n keeps (Then e es) [] p q a = absurd a
+  count_actuals line n keeps (Then e es) (f ∷ fs) p q a = ap suc (count_actuals line (suc n) keeps es fs a.0 q a.2)
+
+  -- ---- expressions
 
   mutual
     pub close_at : (e : Expression) (n p q : ℕ) → ExprAt s code site n e p q → OperandAt s code m inst site n (close s m inst e) p q
@@ -392,63 +678,102 @@ module _ (s : Source) (code : CodeOf) (m : Instances) (inst : ℕ) (site : Site)
         two_at (sort_of (is_text s x) op) (line_at s token) n (ExprAt s code site n x) (ExprAt s code site n y) (ExprAt s code site (suc n) y) (close s m inst x) (close s m inst y) p q (λ p q. close_at x n p q) (λ p q. close_at y n p q) (λ p q. close_at y (suc n) p q) a
     close_at (syntax.Not token x) n p q a = ((a.0, close_at x n p a.0 a.1, a.2), refl)
     close_at (syntax.Signed k token x) n p q a = signed_at k (line_at s token) n (ExprAt s code site n x) (close s m inst x) p q (λ p q. close_at x n p q) a
-    close_at (syntax.Member member token x class) n p q a = absurd a
+    close_at (syntax.Member member token x class) n p q a = member_at member (denoted s class.token.0) (class_at s class.token.0) (class_is class.token.0) (ExprAt s code site n x) n (close s m inst x) (λ p q. close_at x n p q) p q a
     close_at (syntax.Dot token x name es) n p q a =
-        let d = dot_more (denoted s name.token.0) (stream_of s x) (is_variable s x) (is_attribute s x) (line_at s name.token.0) n es (PlaceAt s code site n x) (ExprAt s code site n x) (ExprsAt s code site n es) (ExprsAt s code site (suc n) es) (λ p q. no_attribute x n p q) p q a.1 in
-        let none = undeclared (denoted s name.token.0) (stream_of s x) (is_variable s x) (line_at s name.token.0) n es (PlaceAt s code site n x) (ExprAt s code site n x) (ExprsAt s code site n es) (ExprsAt s code site (suc n) es) p q a.1 in
-        let y = dot_at (denoted s name.token.0) (stream_of s x) (is_variable s x || is_attribute s x) (line_at s name.token.0) n es (PlaceAt s code site n x) (ExprAt s code site n x) (ExprsAt s code site n es) (ExprsAt s code site (suc n) es) (close_place s m inst x) (close s m inst x) (close_all s m inst es)
-        (stream_is x) (λ p q. place_at x n p q) (λ p q. close_at x n p q) (λ p q. close_all_at es n p q) (λ p q. close_all_at es (suc n) p q) (count_close es) p q d in
-        dotted (denoted s name.token.0) _ _ n true p q none (y.0, y.1 ∙ a.0)
-    close_at (syntax.Qua token x class) n p q a = absurd a
+        let y =
+        dot_at (denoted s name.token.0) (stream_of s x) (is_variable s x || is_attribute s x) (line_at s name.token.0) n es (PlaceAt s code site n 0 x) (ExprAt s code site n x) (ExprsAt s code site n es) (ExprsAt s code site (suc n) es) (λ fs. ActualsAt s code site (suc n) (line_at s name.token.0) false es fs)
+        (close_place s m inst x) (close s m inst x) (close_all s m inst es) (λ d. close_actuals s m inst (line_at s name.token.0) es (formals_at s d))
+        (stream_is x) (λ p q. place_at None x n p q) (λ p q. close_at x n p q) (λ p q. expression_fits s code site x n p q) (λ p q. close_all_at es n p q) (λ p q. close_all_at es (suc n) p q) (count_close es)
+        (λ d p q b. (close_actuals_at false (line_at s name.token.0) es (formals_at s d) (suc n) p q b, count_actuals (line_at s name.token.0) (suc n) false es (formals_at s d) p q b, actuals_counted s code site (line_at s name.token.0) (suc n) false es (formals_at s d) p q b)) p q a.1 in
+        (y.0, y.1 ∙ a.0)
+    close_at (syntax.Qua token x class) n p q a = qua_at (line_at s token) (denoted s class.token.0) (class_at s class.token.0) (class_is class.token.0) (ExprAt s code site n x) n (close s m inst x) (λ p q. close_at x n p q) p q a
     close_at (syntax.Constant x token) n p q a = literal_at token x n p q a
     close_at (syntax.Named name es) n p q a =
-        let x = named_at (denoted s name.token.0) (line_at s name.token.0) n es (ExprsAt s code site n es) (ExprsAt s code site (suc n) es) (λ fs. ActualsAt s code site (suc n) (line_at s name.token.0) es fs)
+        let x =
+        through_at (connection_at s name.token.0) (denoted s name.token.0) (line_at s name.token.0) n es (ExprsAt s code site n es) (ExprsAt s code site (suc n) es) (λ fs. ActualsAt s code site (suc n) (line_at s name.token.0) false es fs)
         (close_all s m inst es) (λ fs. close_actuals s m inst (line_at s name.token.0) es fs) (λ p q. close_all_at es n p q) (λ p q. close_all_at es (suc n) p q) (count_close es)
-        (λ fs p q b. (close_actuals_at (line_at s name.token.0) es fs (suc n) p q b, count_actuals (line_at s name.token.0) (suc n) es fs p q b, actuals_counted s code site (line_at s name.token.0) (suc n) es fs p q b)) p q a.1 in
-        alone_is name.token.0 _ _ n true p q (x.0, x.1 ∙ a.0)
-    close_at (syntax.This token class) n p q a = absurd a
-    close_at (syntax.New token class es) n p q a = absurd a
+        (λ fs p q b. (close_actuals_at false (line_at s name.token.0) es fs (suc n) p q b, count_actuals (line_at s name.token.0) (suc n) false es fs p q b, actuals_counted s code site (line_at s name.token.0) (suc n) false es fs p q b)) p q a.1 in
+        (x.0, x.1 ∙ a.0)
+    close_at (syntax.This token class) n p q a = this_at (found_at s token) n p q a
+    close_at (syntax.New token class es) n p q a =
+        let fs = class_parameters s (class_at s class.token.0) in
+        generation_at (denoted s class.token.0) (class_at s class.token.0) (line_at s token) n es (ActualsAt s code site (suc n) (line_at s class.token.0) true es fs) (with_arrays_kept fs (close_actuals s m inst (line_at s class.token.0) es fs)) (class_is class.token.0)
+        (λ p q b. (close_actuals_at true (line_at s class.token.0) es fs (suc n) p q b, count_actuals (line_at s class.token.0) (suc n) true es fs p q b ∙ sym (count_kept fs (close_actuals s m inst (line_at s class.token.0) es fs)))) p q a
     close_at (syntax.Parentheses token x) n p q a = close_at x n p q a
 
-    pub place_at : (e : Expression) (n p q : ℕ) → PlaceAt s code site n e p q → ReadAt n (close_place s m inst e) p q
-    place_at (syntax.Named name es) n p q a =
-        alone_read name.token.0 _ _ n p q (named_place_at (denoted s name.token.0) (line_at s name.token.0) n es (ExprsAt s code site (suc n) es) (close_all s m inst es) (λ p q. close_all_at es (suc n) p q) (count_close es) p q a)
-    place_at (syntax.Dot token x name es) n p q a = image_place_at (stream_of s x) _ n p q (stream_is x) a
-    place_at (syntax.If token c x y) n p q a = absurd a
-    place_at (syntax.Binary op token x y) n p q a = absurd a
-    place_at (syntax.Not token x) n p q a = absurd a
-    place_at (syntax.Signed k token x) n p q a = absurd a
-    place_at (syntax.Member member token x class) n p q a = absurd a
-    place_at (syntax.Qua token x class) n p q a = absurd a
-    place_at (syntax.Constant x token) n p q a = absurd a
-    place_at (syntax.This token class) n p q a = absurd a
-    place_at (syntax.New token class es) n p q a = absurd a
-    place_at (syntax.Parentheses token x) n p q a = absurd a
+    -- where a variable lies, with the class of a reference there
+    pub place_at : (o : Option Qualified) (e : Expression) (n p q : ℕ) → PlaceAt s code site n (class_given o) e p q → PlacedAt o n (close_place s m inst e) p q
+    place_at o (syntax.Named name es) n p q a =
+        place_through (connection_at s name.token.0) o (denoted s name.token.0) (line_at s name.token.0) n es (ExprsAt s code site (suc n) es) (close_all s m inst es) (λ p q. close_all_at es (suc n) p q) (count_close es) p q a
+    place_at o (syntax.Dot token x name es) n p q a =
+        image_place_at o (stream_of s x) (PlaceBehindAt s code (line_at s name.token.0) (class_given o) (denoted s name.token.0) es (ExprAt s code site n x) (ExprsAt s code site (suc n) es)) (if_any (declared_attribute (denoted s name.token.0)) (place_of_attribute s (line_at s name.token.0) (close s m inst x) es (close_all s m inst es)) Unbuilt) n p q (stream_is x)
+        (λ p q b. place_behind_at o (denoted s name.token.0) (line_at s name.token.0) n es (ExprAt s code site n x) (ExprsAt s code site (suc n) es) (close s m inst x) (close_all s m inst es) (λ p q. close_at x n p q) (λ p q. close_all_at es (suc n) p q) (count_close es) p q b) a
+    place_at o (syntax.If token c x y) n p q a = absurd a
+    place_at o (syntax.Binary op token x y) n p q a = absurd a
+    place_at o (syntax.Not token x) n p q a = absurd a
+    place_at o (syntax.Signed k token x) n p q a = absurd a
+    place_at o (syntax.Member member token x class) n p q a = absurd a
+    place_at o (syntax.Qua token x class) n p q a = absurd a
+    place_at o (syntax.Constant x token) n p q a = absurd a
+    place_at o (syntax.This token class) n p q a = absurd a
+    place_at o (syntax.New token class es) n p q a = absurd a
+    place_at o (syntax.Parentheses token x) n p q a = absurd a
 
     pub close_all_at : (es : Expressions) (n p q : ℕ) → ExprsAt s code site n es p q → TermsAt s code m inst site n (close_all s m inst es) p q
     close_all_at NoMore n p q a = a
     close_all_at (Then e es) n p q a = (a.0, close_at e n p a.0 a.1, close_all_at es (suc n) a.0 q a.2)
 
-    close_actuals_at : (line : ℕ) (es : Expressions) (fs : List Formal) (n p q : ℕ) → ActualsAt s code site n line es fs p q → TermsAt s code m inst site n (close_actuals s m inst line es fs) p q
-    close_actuals_at line NoMore [] n p q a = a
-    close_actuals_at line NoMore (f ∷ fs) n p q a = absurd a
-    close_actuals_at line (Then e es) [] n p q a = absurd a
-    close_actuals_at line (Then e es) (f ∷ fs) n p q a =
-        (a.0, fits f.kind f.ty line n _ p a.0 (actual_at f.mode f.kind (is_text_type f.ty) line n (ExprAt s code site n e) (close s m inst e) p a.0 (λ p q. close_at e n p q) a.1), close_actuals_at line es fs (suc n) a.0 q a.2)
+    close_actuals_at : (keeps : Bool) (line : ℕ) (es : Expressions) (fs : List Formal) (n p q : ℕ) → ActualsAt s code site n line keeps es fs p q → TermsAt s code m inst site n (kept_all keeps fs (close_actuals s m inst line es fs)) p q
+    close_actuals_at true line NoMore [] n p q a = a
+    close_actuals_at false line NoMore [] n p q a = a
+    close_actuals_at keeps line NoMore (f ∷ fs) n p q a = absurd a
+    close_actuals_at keeps line (Then e es) [] n p q a = absurd a
+    close_actuals_at true line (Then e es) (f ∷ fs) n p q a =
+        (a.0, actual_at true f.mode f.kind f.ty (is_text_type f.ty) line n (ExprAt s code site n e) (close s m inst e) (λ p q. close_at e n p q) p a.0 a.1, close_actuals_at true line es fs (suc n) a.0 q a.2)
+    close_actuals_at false line (Then e es) (f ∷ fs) n p q a =
+        (a.0, actual_at false f.mode f.kind f.ty (is_text_type f.ty) line n (ExprAt s code site n e) (close s m inst e) (λ p q. close_at e n p q) p a.0 a.1, close_actuals_at false line es fs (suc n) a.0 q a.2)
 
   -- a call that stands as a statement
-  pub call_named_at : (name : Identifier) (es : Expressions) (n p q : ℕ) → NamedAt s code site n (line_at s name.token.0) (denoted s name.token.0) es (ExprsAt s code site n es) (ExprsAt s code site (suc n) es) (λ fs. ActualsAt s code site (suc n) (line_at s name.token.0) es fs) p q
+  pub call_named_at : (name : Identifier) (es : Expressions) (n p q : ℕ) → ThroughAt (connection_at s name.token.0) (λ t. ConnectedNameAt s code site n (line_at s name.token.0) t (denoted s name.token.0) es (ExprsAt s code site (suc n) es) (λ fs. ActualsAt s code site (suc n) (line_at s name.token.0) false es fs)) (NamedAt s code site n (line_at s name.token.0) (denoted s name.token.0) es (ExprsAt s code site n es) (ExprsAt s code site (suc n) es) (λ fs. ActualsAt s code site (suc n) (line_at s name.token.0) false es fs)) p q
       → NamedIs n (code_gives.gives s (denoted s name.token.0)) (close s m inst (syntax.Named name es)) p q
   call_named_at name es n p q a =
-      alone_is name.token.0 _ _ n (code_gives.gives s (denoted s name.token.0)) p q (named_at (denoted s name.token.0) (line_at s name.token.0) n es (ExprsAt s code site n es) (ExprsAt s code site (suc n) es) (λ fs. ActualsAt s code site (suc n) (line_at s name.token.0) es fs)
+      through_at (connection_at s name.token.0) (denoted s name.token.0) (line_at s name.token.0) n es (ExprsAt s code site n es) (ExprsAt s code site (suc n) es) (λ fs. ActualsAt s code site (suc n) (line_at s name.token.0) false es fs)
       (close_all s m inst es) (λ fs. close_actuals s m inst (line_at s name.token.0) es fs) (λ p q. close_all_at es n p q) (λ p q. close_all_at es (suc n) p q) (count_close es)
-      (λ fs p q b. (close_actuals_at (line_at s name.token.0) es fs (suc n) p q b, count_actuals (line_at s name.token.0) (suc n) es fs p q b, actuals_counted s code site (line_at s name.token.0) (suc n) es fs p q b)) p q a)
+      (λ fs p q b. (close_actuals_at false (line_at s name.token.0) es fs (suc n) p q b, count_actuals (line_at s name.token.0) (suc n) false es fs p q b, actuals_counted s code site (line_at s name.token.0) (suc n) false es fs p q b)) p q a
 
-  pub call_dot_at : (token : ℕ) (x : Expression) (name : Identifier) (es : Expressions) (n p q : ℕ) → DotAt code site n (line_at s name.token.0) (denoted s name.token.0) (stream_of s x) (is_variable s x) es (PlaceAt s code site n x) (ExprAt s code site n x) (ExprsAt s code site n es) (ExprsAt s code site (suc n) es) p q
+  pub call_dot_at : (token : ℕ) (x : Expression) (name : Identifier) (es : Expressions) (n p q : ℕ) → DotAt s code site n (line_at s name.token.0) (denoted s name.token.0) (stream_of s x) (is_variable s x || is_attribute s x) es (PlaceAt s code site n 0 x) (ExprAt s code site n x) (ExprsAt s code site n es) (ExprsAt s code site (suc n) es) (λ fs. ActualsAt s code site (suc n) (line_at s name.token.0) false es fs) p q
       → NamedIs n (code_gives.gives s (denoted s name.token.0)) (close s m inst (syntax.Dot token x name es)) p q
   call_dot_at token x name es n p q a =
-      let d = dot_more (denoted s name.token.0) (stream_of s x) (is_variable s x) (is_attribute s x) (line_at s name.token.0) n es (PlaceAt s code site n x) (ExprAt s code site n x) (ExprsAt s code site n es) (ExprsAt s code site (suc n) es) (λ p q. no_attribute x n p q) p q a in
-      let none = undeclared (denoted s name.token.0) (stream_of s x) (is_variable s x) (line_at s name.token.0) n es (PlaceAt s code site n x) (ExprAt s code site n x) (ExprsAt s code site n es) (ExprsAt s code site (suc n) es) p q a in
-      dotted (denoted s name.token.0) _ _ n (code_gives.gives s (denoted s name.token.0)) p q none
-      (dot_at (denoted s name.token.0) (stream_of s x) (is_variable s x || is_attribute s x) (line_at s name.token.0) n es (PlaceAt s code site n x) (ExprAt s code site n x) (ExprsAt s code site n es) (ExprsAt s code site (suc n) es) (close_place s m inst x) (close s m inst x) (close_all s m inst es)
-      (stream_is x) (λ p q. place_at x n p q) (λ p q. close_at x n p q) (λ p q. close_all_at es n p q) (λ p q. close_all_at es (suc n) p q) (count_close es) p q d)
+      dot_at (denoted s name.token.0) (stream_of s x) (is_variable s x || is_attribute s x) (line_at s name.token.0) n es (PlaceAt s code site n 0 x) (ExprAt s code site n x) (ExprsAt s code site n es) (ExprsAt s code site (suc n) es) (λ fs. ActualsAt s code site (suc n) (line_at s name.token.0) false es fs)
+      (close_place s m inst x) (close s m inst x) (close_all s m inst es) (λ d. close_actuals s m inst (line_at s name.token.0) es (formals_at s d))
+      (stream_is x) (λ p q. place_at None x n p q) (λ p q. close_at x n p q) (λ p q. expression_fits s code site x n p q) (λ p q. close_all_at es n p q) (λ p q. close_all_at es (suc n) p q) (count_close es)
+      (λ d p q b. (close_actuals_at false (line_at s name.token.0) es (formals_at s d) (suc n) p q b, count_actuals (line_at s name.token.0) (suc n) false es (formals_at s d) p q b, actuals_counted s code site (line_at s name.token.0) (suc n) false es (formals_at s d) p q b)) p q a
+
+  -- ---- where references lie
+
+  reference_by : (k : Qualified) (e : Expression) (n p q : ℕ) (own : Option ℕ) → PlaceOrResultAt s code site n (class_number s code k.class) own (PlaceAt s code site n (class_number s code k.class) e) p q → QualifiedIs k.class n (qualified k.class (result_place s m inst own (close_place s m inst e))) p q
+  reference_by k e n p q None a = place_at (Some k) e n p q a
+  reference_by k e n p q (Some t) a =
+      let r = reach t a.inside in
+      subst (λ z. QualifiedIs k.class n (qualified k.class (in_instance z (λ j. PlaceOf j Result))) p q) (sym r.2)
+      (place_placed (Some k) n r.0 Result p q (record { text = t; address = a.address; reaches = r.1; own = own_frame s agrees t Result a.within refl; has = a.within; varies = refl; declared = refl }))
+
+  pub record ReferenceFound (e : Expression) (n p q : ℕ) : Type 0 where
+    pub class : ℕ
+    pub is_class : Classed s class
+    pub is : qualification s (type_at s (typed_token e)) ≡ Some class
+    pub place : QualifiedIs class n (reference_place s m inst e) p q
+
+  pub reference_at : (e : Expression) (n p q : ℕ) → ReferencePlaceAt s code site n e p q → ReferenceFound e n p q
+  reference_at e n p q a = by_class (qualification s (type_at s (typed_token e))) refl a
+    where
+      by_class : (o : Option ℕ) → qualification s (type_at s (typed_token e)) ≡ o → QualifiedPlaceAt s code site n o e p q → ReferenceFound e n p q
+      by_class None h a = absurd a
+      by_class (Some k) h a =
+          let c = qualification_classed (type_at s (typed_token e)) k h in
+          record {
+            class = k;
+            is_class = c;
+            is = h;
+            place = subst (λ z. QualifiedIs k n (qualified_place z (result_place s m inst (result_meant s e) (close_place s m inst e))) p q) (sym h) (reference_by (record { class = k; is_class = c }) e n p q (result_meant s e) a);
+          }

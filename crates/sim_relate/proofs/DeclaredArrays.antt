@@ -6,21 +6,23 @@ use Rattle.sim_tree.specs.declared.expr.Identifier.{Identifier}
 use Rattle.sim_tree.specs.Syntax.{Arrayed, Arrays, BoundPair, Declarations, DeclareClass, DeclareProcedure, NoDeclaration, Variables, With}
 use Rattle.sim_values.specs.declared.kind.Kind.{Kind as TypeKind}
 use Rattle.sim_code.specs.declared.instr.Instr.TheVariants as i
-use Rattle.sim_code.specs.Code.{BlockOf, CodeOf}
+use Rattle.sim_code.specs.Code.{CodeOf}
 use Rattle.sim_code.specs.Machine.{Frames}
 use Rattle.sim_meaning.specs.Closing.{close}
 use Rattle.sim_meaning.specs.Entries.{arrays_declared, arrays_of, bounds_of, first_array, further_arrays, segments_of}
 use Rattle.sim_meaning.specs.Pending.{ArrayOp, Cell, CopyOp, Declared, Do, Eval, Instances, Item, StoreOp, ToCell}
-use Rattle.sim_meaning.specs.Texts.{declared_at, kind_named, text}
+use Rattle.sim_meaning.specs.Texts.{declared_at, kind_named}
 use Rattle.sim_meaning.specs.Sane.{Lives}
-use Rattle.codegen_expr.specs.Sites.{At, cells_in}
+use Rattle.codegen_expr.specs.Sites.{Varies, At, own_part, frame_text}
 use Rattle.sim_relate.proofs.Plainly.{Agrees}
 use Rattle.codegen.specs.CodeArrays.{ArraysAt, BoundsAt, FurtherAt, KeepsArray, LoadsArray, MakesAt, SegmentsAt}
 use Rattle.sim_relate.proofs.Closing.{close_at}
+use Rattle.sim_relate.proofs.Frames.{own_frame}
 use Rattle.sim_relate.proofs.Living.{reach_found}
 use Rattle.sim_relate.proofs.Pending.{anys_more, evals, pends}
 use Rattle.sim_relate.proofs.Reach.{own_reaches}
-use Rattle.sim_relate.proofs.Relation.{Any, Kind, Stands, WorkAt, anys, site_at}
+use Rattle.sim_relate.proofs.Known.{Any, Kind, Stands, anys, site_at, Runs}
+use Rattle.sim_relate.proofs.Relation.{WorkAt}
 
 -- two values for each dimension
 abbrev bounded : List BoundPair → List Kind → List Kind
@@ -38,30 +40,30 @@ further_some : (s : Source) (i : ℕ) (first : DeclNo) (x : Identifier) (xs : Li
     → further_arrays s i first (x ∷ xs) w ≡ Do (Eval (Cell i (Declared first.0))) ∷ Do (CopyOp (line_at s x.token.0)) ∷ Do (StoreOp (ToCell i (Declared d.0))) ∷ further_arrays s i first xs w
 further_some s i first x xs w d e = rw e
 
-module _ (s : Source) (code : CodeOf) (agrees : Agrees s) (m : Instances) (fs : Frames) (Below : Bool → Type 0) (inst t : ℕ) (b : BlockOf) (u : ℕ) (low : length (cells_in s t (text s t)) ≤ u) (st : Stands s m inst t) (lives : Lives m inst) where
+module _ (s : Source) (code : CodeOf) (agrees : Agrees s) (m : Instances) (fs : Frames) (Below : Bool → Type 0) (inst t : ℕ) (b : Runs) (u : ℕ) (low : length (own_part s (frame_text s t)) ≤ u) (st : Stands s m inst t) (lives : Lives m inst) where
   abbrev Work : List Item → ℕ → List Kind → Type 0
   Work w p ks = WorkAt s code m fs Below inst t b u w p ks
 
   array_stored : (w : List Item) (d : DeclNo) (p q : ℕ) → KeepsArray s code (site_at t b u) (Some d) p q → Work w q [] → Work (Do (StoreOp (ToCell inst (Declared d.0))) ∷ w) p (Any ∷ [])
-  array_stored w d p q a k = pends s code m fs Below inst t b u low w (StoreOp (ToCell inst (Declared d.0))) p q (Any ∷ []) [] (record { text = t; is = a.1; reaches = own_reaches s m inst t agrees st; has = a.0 }, refl) k
+  array_stored w d p q a k = pends s code m fs Below inst t b u low w (StoreOp (ToCell inst (Declared d.0))) p q (Any ∷ []) [] (record { text = t; is = a.2; reaches = own_reaches s m inst t agrees st; own = own_frame s agrees t (Declared d.0) a.0 refl; has = a.0; varies = a.1; declared = refl }, refl) k
 
-  further_one : (w : List Item) (d : DeclNo) (x : Identifier) (xs : List Identifier) (p y z q : ℕ) → LoadsArray s code (site_at t b u) (Some d) p y → At code i.CopyArr (line_at s x.token.0) y z → (o : Option DeclNo) → declared_at s x.token.0 ≡ o → KeepsArray s code (site_at t b u) o z q → Work (further_arrays s inst d xs w) q [] → Work (further_arrays s inst d (x ∷ xs) w) p []
-  further_one w d x xs p y z q a c None e stored k = absurd stored
-  further_one w d x xs p y z q a c (Some d') e stored k =
+  further_one : (w : List Item) (d : DeclNo) → Varies s d → (x : Identifier) (xs : List Identifier) (p y z q : ℕ) → LoadsArray s code (site_at t b u) (Some d) p y → At code i.CopyArr (line_at s x.token.0) y z → (o : Option DeclNo) → declared_at s x.token.0 ≡ o → KeepsArray s code (site_at t b u) o z q → Work (further_arrays s inst d xs w) q [] → Work (further_arrays s inst d (x ∷ xs) w) p []
+  further_one w d varies x xs p y z q a c None e stored k = absurd stored
+  further_one w d varies x xs p y z q a c (Some d') e stored k =
       let behind = further_arrays s inst d xs w in
       let store : List Item = Do (StoreOp (ToCell inst (Declared d'.0))) ∷ behind in
       subst (λ v. Work v p []) (sym (further_some s inst d x xs w d' e))
-      (evals s code m fs Below inst t b u low (Do (CopyOp (line_at s x.token.0)) ∷ store) (Cell inst (Declared d.0)) p y [] (record { text = t; load = a.1; reaches = own_reaches s m inst t agrees st; has = a.0 }, refl)
+      (evals s code m fs Below inst t b u low (Do (CopyOp (line_at s x.token.0)) ∷ store) (Cell inst (Declared d.0)) p y [] (record { text = t; load = a.1; reaches = own_reaches s m inst t agrees st; own = own_frame s agrees t (Declared d.0) a.0 refl; has = a.0; varies = varies }, refl)
       (pends s code m fs Below inst t b u low store (CopyOp (line_at s x.token.0)) y z (Any ∷ []) (Any ∷ []) (record { is = c; left = []; «in» = refl; out = refl })
       (array_stored behind d' z q stored k)))
 
-  further_at : (w : List Item) (d : DeclNo) (xs : List Identifier) (p q : ℕ) → FurtherAt s code (site_at t b u) (Some d) xs p q → Work w q [] → Work (further_arrays s inst d xs w) p []
-  further_at w d [] p q a k = subst (λ z. Work w z []) a k
-  further_at w d (x ∷ xs) p q a k = further_one w d x xs p a.0 a.1 a.2 a.3 a.4 (declared_at s x.token.0) refl a.5 (further_at w d xs a.2 q a.6 k)
+  further_at : (w : List Item) (d : DeclNo) → Varies s d → (xs : List Identifier) (p q : ℕ) → FurtherAt s code (site_at t b u) (Some d) xs p q → Work w q [] → Work (further_arrays s inst d xs w) p []
+  further_at w d varies [] p q a k = subst (λ z. Work w z []) a k
+  further_at w d varies (x ∷ xs) p q a k = further_one w d varies x xs p a.0 a.1 a.2 a.3 a.4 (declared_at s x.token.0) refl a.5 (further_at w d varies xs a.2 q a.6 k)
 
   first_at : (w : List Item) (o : Option DeclNo) (xs : List Identifier) (p y q : ℕ) → KeepsArray s code (site_at t b u) o p y → FurtherAt s code (site_at t b u) o xs y q → Work w q [] → Work (first_array s inst o xs w) p (Any ∷ [])
   first_at w None xs p y q a f k = absurd a
-  first_at w (Some d) xs p y q a f k = array_stored (further_arrays s inst d xs w) d p y a (further_at w d xs y q f k)
+  first_at w (Some d) xs p y q a f k = array_stored (further_arrays s inst d xs w) d p y a (further_at w d a.1 xs y q f k)
 
   makes_at : (w : List Item) (kind : TypeKind) (n : ℕ) (xs : List Identifier) (p q : ℕ) (ks : List Kind) → ks ≡ anys (2 * n) [] → MakesAt s code (site_at t b u) kind n xs p q → Work w q [] → Work (arrays_of s inst kind n xs w) p ks
   makes_at w kind n [] p q ks e a k = absurd a

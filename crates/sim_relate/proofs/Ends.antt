@@ -1,6 +1,6 @@
 -- The ends of blocks, of procedures and of the program.
-use Rattle.std.proofs.Common.{◌≡◌, ◌<◌, ℕ, Bool, true, false, List, [], ◌∷◌, length, Option, Some, None, refl, sym, ap, ◌∙◌, subst, arith}
-use Rattle.std.specs.Prelude.{◌==◌, if◌then◌else◌, nat_lt, pos, slice_get}
+use Rattle.std.proofs.Common.{◌≡◌, ◌<◌, ◌+◌, ◌++◌, ℕ, Bool, true, false, List, [], ◌∷◌, length, Option, Some, None, refl, sym, ap, ◌∙◌, subst, arith}
+use Rattle.std.specs.Prelude.{◌==◌, if◌then◌else◌, nat_lt, pos, slice_get, slice_set}
 use Rattle.sim_base.specs.declared.limits.Limits.{Limits}
 use Rattle.sim_scope.specs.Source.{Source}
 use Rattle.sim_tree.specs.declared.stmt.TypeName.{TypeName}
@@ -12,27 +12,32 @@ use Rattle.sim_code.specs.declared.code.BlockKind.TheVariants as block_kind
 use Rattle.sim_code.specs.declared.instr.Instr.TheVariants as i
 use Rattle.sim_code.specs.Code.{BlockOf, CodeOf}
 use Rattle.sim_code.specs.Outcome.{Going, Normal, Run, World}
-use Rattle.sim_code.specs.Events.{having, no_rule, stopping, when}
+use Rattle.sim_chains.specs.Components.{AttachedObject, DetachedObject, NoObject, ResumedObject, Standing, TerminatedObject}
+use Rattle.sim_code.specs.declared.stage.Stage.TheVariants as stage
+use Rattle.sim_code.specs.Levels.{ended_by_kind, level_ended, outermost_ended, same_stage}
+use Rattle.sim_code.specs.Events.{choosing, having, no_rule, stopping, ticking, when}
 use Rattle.sim_code.specs.Arrays.{giving_back}
-use Rattle.sim_code.specs.Instances.{Instance, given, is_given_at_end}
-use Rattle.sim_code.specs.Machine.{Cells, Frames, Machine, Value, frames_left, is_nothing, own_block, pushing, same_kind, text_in, with_result, words_of_block}
+use Rattle.sim_code.specs.Instances.{Instance, ended_as, given, going_below, is_given_at_end, object_ended}
+use Rattle.sim_code.specs.Machine.{Frames, Machine, Value, frames_left, is_nothing, own_block, pushing, same_kind, text_in, with_result, words_of_block}
 use Rattle.sim_code.specs.Machine as machine
 use Rattle.sim_code.specs.Rows.{on_top}
-use Rattle.sim_code.proofs.Lifts.{Both, alike_found, alike_having, alike_no_rule, alike_stopping}
-use Rattle.sim_code.proofs.Simulation.{Alike, going}
+use Rattle.sim_code.proofs.Lifts.{Both, alike_found, alike_having, alike_no_rule, alike_stopping, alike_ticking}
+use Rattle.sim_code.proofs.Simulation.{Alike, ended, going}
 use Rattle.sim_meaning.specs.Meaning.{do_item, has_result, instances_left, leaving, text_of, words_of_text, world_left}
-use Rattle.sim_meaning.specs.Pending.{Activation, Configuration, EndBlock, EndProcedure, EndProgram, Held, Instances, Item, Result, Val, cell}
+use Rattle.sim_meaning.specs.Pending.{Activation, Configuration, EndBlock, EndObject, EndProcedure, EndProgram, Held, Instances, Item, Result, Val, cell}
 use Rattle.sim_meaning.specs.Texts.{ProcedureText, Text, text}
 use Rattle.sim_meaning.specs.Entries.{first_cells}
-use Rattle.codegen_expr.specs.CodeExpr.{block_number}
-use Rattle.codegen_expr.specs.Sites.{HasCell, cells_in, place_of, slot_of}
-use Rattle.codegen.specs.Compiled.{type_of_name}
-use Rattle.sim_relate.proofs.Carried.{all_every, chain_changed, kept_every, parked_changed}
+use Rattle.codegen_expr.specs.Sites.{HasCell, block_in_front, block_number, cells_in, frame_text, hidden_in, own_cells, own_part, place_of, slot_of, types_in}
+use Rattle.codegen.specs.Compiled.{cells_of_block, type_of_name}
+use Rattle.sim_relate.proofs.Carried.{all_every, both_later, chain_changed, chain_later, kept_every, parked_changed}
 use Rattle.sim_relate.proofs.Hands.{stack_length}
-use Rattle.sim_relate.proofs.Heads.{given_standings, is_live_at}
+use Rattle.sim_relate.proofs.Heads.{Heads, both_refl, given_standings, heads_refl, is_live_at, later_all}
+use Rattle.sim_relate.proofs.Lists.{set_both}
 use Rattle.sim_relate.proofs.Here.{Here, act, at_row}
 use Rattle.sim_relate.proofs.Living.{lives_now}
-use Rattle.sim_relate.proofs.Relation.{Any, ChainAt, Changed, EndAt, EndIs, Every, Kind, StandingsAt, StateAt, StoreAt, ValAt, more_at}
+use Rattle.sim_relate.proofs.Reach.{other_numbers}
+use Rattle.sim_relate.proofs.Known.{Any, Every, Keeps, Kind, Later, Runs, Stands, ValAt, more_at}
+use Rattle.sim_relate.proofs.Relation.{ChainAt, Changed, EndAt, EndIs, StandingAt, StandingsAt, StateAt, StoreAt}
 use Rattle.sim_relate.proofs.Stores.{cell_read, framed, given_at_end_same, keeps_given, later_given, store_given, unchanged}
 
 pub chosen : {A : Type 0} (P : A → Type 0) (b : Bool) (x y : A) → b ≡ true → P x → P (if b then x else y)
@@ -47,23 +52,28 @@ pub text_of_is : (m : Instances) (j : ℕ) (x : Instance (List Held)) → slice_
 text_of_is m j x e = rw e
 
 -- the words of a text are those of its block
-pub words_agree : (s : Source) (t : ℕ) (b : BlockOf) (x : Text) → text s t ≡ Some x → b.cells ≡ length (cells_in s t (text s t)) → words_of_text s t (text s t) ≡ words_of_block b
-words_agree s t b x e c =
-    let same : b.cells ≡ length (first_cells s t x) = c ∙ ap (λ z. length (cells_in s t z)) e in
+pub words_agree : (s : Source) (code : CodeOf) (t : ℕ) (b : BlockOf) (x : Text) → text s t ≡ Some x → own_cells s t x ≡ first_cells s t x → block_in_front s code t ≡ None → b.cells ≡ cells_of_block (block_in_front s code t) + length (cells_in s t (text s t)) → words_of_text s t (text s t) ≡ words_of_block b
+words_agree s code t b x e own front c =
+    let none : cells_of_block (block_in_front s code t) ≡ 0 = ap cells_of_block front in
+    let count : length (cells_in s t (text s t)) ≡ length (first_cells s t x) = ap (λ z. length (cells_in s t z)) e ∙ ap length own in
+    let same : b.cells ≡ length (first_cells s t x) = omega (arith, c, none, count) in
     ap (words_of_text s t) e ∙ ap (λ n. instance_words n false) (sym same)
 
 -- the result of a procedure is the first cell
-pub result_slot : (s : Source) (t : ℕ) (type : TypeName) (h : Heading) (a : Statement) → text s t ≡ Some (ProcedureText (Some type) h a) → slot_of s t Result ≡ 0
+pub result_slot : (s : Source) (code : CodeOf) (t : ℕ) (type : TypeName) (h : Heading) (a : Statement) → text s t ≡ Some (ProcedureText (Some type) h a) → block_in_front s code t ≡ None → slot_of s code t Result ≡ 0
 unfolding slot_of first_cells
-result_slot s t type h a e = ap (λ z. place_of Result (cells_in s t z)) e
+result_slot s code t type h a e front =
+    let first : place_of Result (own_part s t) ≡ 0 = ap (λ z. place_of Result (cells_in s t z ++ hidden_in s t)) e in
+    let start : length (types_in (block_in_front s code t)) ≡ 0 = ap (λ z. length (types_in z)) front in
+    omega (arith, first, start)
 
 pub result_there : (s : Source) (t : ℕ) (type : TypeName) (h : Heading) (a : Statement) → text s t ≡ Some (ProcedureText (Some type) h a) → HasCell s t Result
 unfolding first_cells
 result_there s t type h a e =
-    let slot = result_slot s t type h a e in
-    let some : 0 < length (cells_in s t (Some (ProcedureText (Some type) h a))) = omega arith in
-    let more : 0 < length (cells_in s t (text s t)) = subst (λ z. 0 < length (cells_in s t z)) (sym e) some in
-    omega (arith, slot, more)
+    let first : place_of Result (own_part s t) ≡ 0 = ap (λ z. place_of Result (cells_in s t z ++ hidden_in s t)) e in
+    let some : 0 < length (cells_in s t (Some (ProcedureText (Some type) h a)) ++ hidden_in s t) = omega arith in
+    let more : 0 < length (own_part s t) = subst (λ z. 0 < length (cells_in s t z ++ hidden_in s t)) (sym e) some in
+    omega (arith, first, more)
 
 pub is_typed : (type : TypeName) → is_nothing (type_of_name (Some type)) ≡ false
 is_typed (type_name.Integer token) = refl
@@ -132,6 +142,7 @@ module _ (s : Source) (code : CodeOf) where
             found = k.found;
             stands = k.stands;
             room = k.room;
+            stage = k.stage;
             kinds = Any ∷ k.kinds;
             values = more_at w k.values;
             fits = λ no. absurd (cc);
@@ -142,71 +153,90 @@ module _ (s : Source) (code : CodeOf) where
           parked = parked_left;
         }))
 
-module _ (s : Source) (code : CodeOf) (l : Limits) (o : World) (m : Instances) (inst : ℕ) (w : List Item) (vals : List Val) (rest : List Activation) (fs : Frames) (t : ℕ) (b : BlockOf) (pc : ℕ) (stack : List Value) (below : List machine.Activation) (ks : List Kind) (here : Here s code m fs inst rest t b ks vals stack) (used : ℕ) where
+module _ (s : Source) (code : CodeOf) (l : Limits) (o : World) (m : Instances) (inst : ℕ) (w : List Item) (vals : List Val) (rest : List Activation) (fs : Frames) (t : ℕ) (b : Runs) (pc : ℕ) (stack : List Value) (below : List machine.Activation) (ks : List Kind) (here : Here s code m fs inst rest t b ks vals stack) (used : ℕ) where
   abbrev Related : Configuration → Machine → Type 0
   Related = StateAt s code
 
   abbrev top : machine.Activation
-  top = act inst pc stack b.room
+  top = act inst pc stack b
 
   -- what an end's lemma says
   abbrev pub EndFollows : Item → Type 0
-  EndFollows x = EndAt s code (λ v. ChainAt s code m fs rest v below) t b x pc ks → Alike Related (do_item s l o m inst w vals rest x) (on_top code l o fs top below)
+  EndFollows x = EndAt s code (λ v. ChainAt s code m fs rest v below) (frame_text s t) b x pc ks → Alike Related (do_item s l o m inst w vals rest x) (on_top code l o fs top below)
 
-  number_here : text_in (slice_get fs.instances inst) ≡ Some (block_number s t)
+  number_here : text_in (slice_get fs.instances inst) ≡ Some (block_number s (frame_text s t))
   number_here =
       let now = lives_now m inst here.lives in
       let f = framed s code m fs here.store here.stands now.0 now.1 in
       let there = is_live_at (slice_get fs.instances inst) f.frame f.frame_lives in
       ap text_in there.there ∙ ap Some ((f.pair).number ∙ ap (block_number s) f.of_text)
 
-  text_here : text_of m inst ≡ t
+  text_here : text_of m inst ≡ frame_text s t
   text_here =
       let now = lives_now m inst here.lives in
       let f = framed s code m fs here.store here.stands now.0 now.1 in
       let there = is_live_at (slice_get m.instances inst) f.now f.lives in
       text_of_is m inst f.now there.there ∙ f.of_text
 
-  own_alike : (k : BlockKind) (r : Run Configuration) (go : BlockOf → Run Machine) → same_kind b.kind k ≡ true → Alike Related r (go b) → Alike Related r (own_block code k fs top o go)
+  front_here : block_in_front s code (frame_text s t) ≡ None
+  front_here =
+      let now = lives_now m inst here.lives in
+      let f = framed s code m fs here.store here.stands now.0 now.1 in
+      ap (block_in_front s code) (sym f.of_text) ∙ (f.pair).alone
+
+  -- the own text of the instance
+  frame_own : frame_text s (frame_text s t) ≡ frame_text s t
+  frame_own =
+      let now = lives_now m inst here.lives in
+      let f = framed s code m fs here.store here.stands now.0 now.1 in
+      ap (frame_text s) (sym f.of_text) ∙ (f.pair).own ∙ f.of_text
+
+  here_stands : Stands s m inst (frame_text s t)
+  here_stands =
+      let now = lives_now m inst here.lives in
+      let f = framed s code m fs here.store here.stands now.0 now.1 in
+      subst (λ z. Stands s m inst z) f.of_text (here.store.all inst f.now (is_live_at (slice_get m.instances inst) f.now f.lives).there)
+
+  own_alike : (k : BlockKind) (r : Run Configuration) (go : BlockOf → Run Machine) → same_kind b.block.kind k ≡ true → Alike Related r (go b.block) → Alike Related r (own_block code k fs top o go)
   unfolding own_block when
   own_alike k r go e h =
       alike_found Configuration Machine Related ℕ (machine.owner top) inst o r _ refl
-      (alike_found Configuration Machine Related ℕ (text_in (slice_get fs.instances inst)) (block_number s t) o r _ number_here
-      (alike_found Configuration Machine Related BlockOf (slice_get code.blocks (block_number s t)) b o r _ here.found
-      (chosen (λ q. Alike Related r q) (same_kind b.kind k) (go b) (no_rule o) e h)))
+      (alike_found Configuration Machine Related ℕ (text_in (slice_get fs.instances inst)) (block_number s (frame_text s t)) o r _ number_here
+      (alike_found Configuration Machine Related BlockOf (slice_get code.blocks (block_number s (frame_text s t))) b.block o r _ here.found
+      (chosen (λ q. Alike Related r q) (same_kind b.block.kind k) (go b.block) (no_rule o) e h)))
 
   pub end_block : EndFollows EndBlock
   end_block a =
       let x = a.1 in
       at_row s code l o fs top below _ i.Leave x.at.line x.last x.at.is
       (own_alike block_kind.SubBlock _ _ (ap (λ z. same_kind z block_kind.SubBlock) (x.heads).is_kind)
-      (leave_still s code o m fs here.store here.parked inst t b text_here (words_agree s t b _ (a.0).is (x.heads).cells) rest below x.below))
+      (leave_still s code o m fs here.store here.parked inst (frame_text s t) b.block text_here (words_agree s code (frame_text s t) b.block _ (a.0).is refl front_here (x.heads).cells) rest below x.below))
 
-  result_alike : (r : Run Configuration) (go : Option Value → Run Machine) → is_nothing b.result_type ≡ false → Alike Related r (having (machine.cell fs inst 0) o (λ v. go (Some v))) → Alike Related r (with_result b fs inst o go)
+  result_alike : (r : Run Configuration) (go : Option Value → Run Machine) → is_nothing b.block.result_type ≡ false → Alike Related r (having (machine.cell fs inst 0) o (λ v. go (Some v))) → Alike Related r (with_result b.block fs inst o go)
   unfolding with_result
-  result_alike r go e h = left_out (λ q. Alike Related r q) (is_nothing b.result_type) (go None) (having (machine.cell fs inst 0) o (λ v. go (Some v))) e h
+  result_alike r go e h = left_out (λ q. Alike Related r q) (is_nothing b.block.result_type) (go None) (having (machine.cell fs inst 0) o (λ v. go (Some v))) e h
 
-  no_result_alike : (r : Run Configuration) (go : Option Value → Run Machine) → is_nothing b.result_type ≡ true → Alike Related r (go None) → Alike Related r (with_result b fs inst o go)
+  no_result_alike : (r : Run Configuration) (go : Option Value → Run Machine) → is_nothing b.block.result_type ≡ true → Alike Related r (go None) → Alike Related r (with_result b.block fs inst o go)
   unfolding with_result
-  no_result_alike r go e h = chosen (λ q. Alike Related r q) (is_nothing b.result_type) (go None) (having (machine.cell fs inst 0) o (λ v. go (Some v))) e h
+  no_result_alike r go e h = chosen (λ q. Alike Related r q) (is_nothing b.block.result_type) (go None) (having (machine.cell fs inst 0) o (λ v. go (Some v))) e h
 
-  end_typed : (type : TypeName) (h : Heading) (body : Statement) → text s t ≡ Some (ProcedureText (Some type) h body) → EndIs s code i.Return block_kind.Procedure (type_of_name (Some type)) t b pc ks (ChainAt s code m fs rest true below) → Alike Related (do_item s l o m inst w vals rest (EndProcedure true)) (on_top code l o fs top below)
+  end_typed : (type : TypeName) (h : Heading) (body : Statement) → text s (frame_text s t) ≡ Some (ProcedureText (Some type) h body) → EndIs s code i.Return block_kind.Procedure (type_of_name (Some type)) (frame_text s t) b.block pc ks (ChainAt s code m fs rest true below) → Alike Related (do_item s l o m inst w vals rest (EndProcedure true)) (on_top code l o fs top below)
   end_typed type h body is x =
       at_row s code l o fs top below _ i.Return x.at.line x.last x.at.is
       (own_alike block_kind.Procedure _ _ (ap (λ z. same_kind z block_kind.Procedure) (x.heads).is_kind)
       (result_alike _ _ (ap is_nothing (x.heads).gives ∙ is_typed type)
       (alike_having Configuration Machine Related Val Value ValAt (cell m inst Result) (machine.cell fs inst 0) o _ _
-      (subst (λ c. Both ValAt (cell m inst Result) (machine.cell fs inst c)) (result_slot s t type h body is) (cell_read s code m fs inst t Result here.store here.stands (result_there s t type h body is)))
-      (λ v z ev ez vz. leave_value s code o m fs here.store here.parked inst t b text_here (words_agree s t b _ is (x.heads).cells) v z vz rest below x.below))))
+      (subst (λ c. Both ValAt (cell m inst Result) (machine.cell fs inst c)) (result_slot s code (frame_text s t) type h body is front_here) (cell_read s code m fs inst (frame_text s t) Result here.store here_stands frame_own (result_there s (frame_text s t) type h body is) refl))
+      (λ v z ev ez vz. leave_value s code o m fs here.store here.parked inst (frame_text s t) b.block text_here (words_agree s code (frame_text s t) b.block _ is refl front_here (x.heads).cells) v z vz rest below x.below))))
 
-  end_untyped : (h : Heading) (body : Statement) → text s t ≡ Some (ProcedureText None h body) → EndIs s code i.Return block_kind.Procedure (type_of_name None) t b pc ks (ChainAt s code m fs rest false below) → Alike Related (do_item s l o m inst w vals rest (EndProcedure false)) (on_top code l o fs top below)
+  end_untyped : (h : Heading) (body : Statement) → text s (frame_text s t) ≡ Some (ProcedureText None h body) → EndIs s code i.Return block_kind.Procedure (type_of_name None) (frame_text s t) b.block pc ks (ChainAt s code m fs rest false below) → Alike Related (do_item s l o m inst w vals rest (EndProcedure false)) (on_top code l o fs top below)
   end_untyped h body is x =
       at_row s code l o fs top below _ i.Return x.at.line x.last x.at.is
       (own_alike block_kind.Procedure _ _ (ap (λ z. same_kind z block_kind.Procedure) (x.heads).is_kind)
       (no_result_alike _ _ (ap is_nothing (x.heads).gives)
-      (leave_still s code o m fs here.store here.parked inst t b text_here (words_agree s t b _ is (x.heads).cells) rest below x.below)))
+      (leave_still s code o m fs here.store here.parked inst (frame_text s t) b.block text_here (words_agree s code (frame_text s t) b.block _ is refl front_here (x.heads).cells) rest below x.below)))
 
-  end_of : (leaves : Bool) (result : Option TypeName) (h : Heading) (body : Statement) → has_result result ≡ leaves → text s t ≡ Some (ProcedureText result h body) → EndIs s code i.Return block_kind.Procedure (type_of_name result) t b pc ks (ChainAt s code m fs rest leaves below) → Alike Related (do_item s l o m inst w vals rest (EndProcedure leaves)) (on_top code l o fs top below)
+  end_of : (leaves : Bool) (result : Option TypeName) (h : Heading) (body : Statement) → has_result result ≡ leaves → text s (frame_text s t) ≡ Some (ProcedureText result h body) → EndIs s code i.Return block_kind.Procedure (type_of_name result) (frame_text s t) b.block pc ks (ChainAt s code m fs rest leaves below) → Alike Related (do_item s l o m inst w vals rest (EndProcedure leaves)) (on_top code l o fs top below)
   end_of true (Some type) h body e is x = end_typed type h body is x
   end_of false None h body e is x = end_untyped h body is x
   end_of true None h body e is x = absurd (cc)
@@ -215,15 +245,76 @@ module _ (s : Source) (code : CodeOf) (l : Limits) (o : World) (m : Instances) (
   pub end_procedure : (leaves : Bool) → EndFollows (EndProcedure leaves)
   end_procedure leaves a = end_of leaves a.result a.heading a.body a.same a.is a.ends
 
-  first_number : t ≡ 0 → (block_number s t == 0) ≡ true
+  first_number : frame_text s t ≡ 0 → (block_number s (frame_text s t) == 0) ≡ true
   unfolding block_number
   first_number e = ap (λ k. block_number s k == 0) e
 
+  at_zero : (r : Run Configuration) (q : Run Machine) → Alike Related r q → Alike Related r q
+  at_zero r q a = a
+
+  -- the end of level 0, by the number of the block
+  level_alike : (r : Run Configuration) → Alike Related r (choosing (block_number s (frame_text s t) == 0) (stopping Normal o) (outermost_ended code l o fs top below inst (block_number s (frame_text s t)))) → Alike Related r (machine.index (pos 0) o (λ n. level_ended code l o fs top below n))
+  unfolding machine.index
+  level_alike r h =
+      alike_found Configuration Machine Related ℕ (machine.number (pos 0)) 0 o r _ refl
+      (alike_found Configuration Machine Related ℕ (machine.owner top) inst o _ _ refl
+      (alike_found Configuration Machine Related ℕ (text_in (slice_get fs.instances inst)) (block_number s (frame_text s t)) o _ _ number_here h))
+
   pub end_program : EndFollows EndProgram
-  unfolding when
+  unfolding choosing
   end_program a =
       let x = a.1 in
       at_row s code l o fs top below _ (i.EndLevel (pos 0)) x.at.line x.last x.at.is
-      (alike_found Configuration Machine Related ℕ (machine.owner top) inst o _ _ refl
-      (alike_found Configuration Machine Related ℕ (text_in (slice_get fs.instances inst)) (block_number s t) o _ _ number_here
-      (chosen (λ q. Alike Related (stopping Normal o) q) (block_number s t == 0) (stopping Normal o) (no_rule o) (first_number a.0) (alike_stopping Configuration Machine Related Normal o))))
+      (level_alike _ (chosen (λ q. Alike Related (stopping Normal o) q) (block_number s (frame_text s t) == 0) (stopping Normal o) _ (first_number a.0) (alike_stopping Configuration Machine Related Normal o)))
+
+  -- ---- the end of an object
+
+  module _ (p : World) where
+    abbrev ended_m : Instances
+    ended_m = record m { standings = slice_set m.standings inst TerminatedObject }
+
+    abbrev ended_fs : Frames
+    ended_fs = record fs { standings = slice_set fs.standings inst TerminatedObject }
+
+    ended_later : Later s m ended_m
+    ended_later = later_all s m ended_m (λ k. both_refl Heads heads_refl (slice_get m.instances k))
+
+    ended_keeps : Keeps s m fs ended_fs Every
+    ended_keeps = record { temps = λ j t c of st le. refl }
+
+    ended_store : StoreAt s code ended_m ended_fs
+    ended_store = let a = here.store in record { as_many = a.as_many; at = a.at; all = λ j x e. ended_later.stands j x.text (a.all j x e) }
+
+    ended_parked : StandingsAt s code ended_m ended_fs
+    ended_parked =
+        set_both (StandingAt s code ended_m ended_fs) m.standings fs.standings inst TerminatedObject TerminatedObject
+        (λ j. both_later s code m ended_m fs ended_fs ended_later Every ended_keeps (slice_get m.standings j) (slice_get fs.standings j) (λ z is. kept_every m j z is) (here.parked j)) tt
+
+    goes_below : (chain : List Activation) (under : List machine.Activation) → ChainAt s code m fs chain false under → Alike Related (going_below p chain ended_m) (going_below p under ended_fs)
+    goes_below [] [] c = ended
+    goes_below [] (x ∷ under) c = absurd (cc (c.is))
+    goes_below (y ∷ chain) [] c = absurd c
+    goes_below (y ∷ chain) (x ∷ under) c = going (record { chain = chain_later s code m ended_m fs ended_fs ended_later Every ended_keeps (y ∷ chain) (all_every (y ∷ chain)) false (x ∷ under) c; store = ended_store; parked = ended_parked })
+
+    ended_alike : (x : Option (Standing Activation)) (y : Option (Standing machine.Activation)) → Both (StandingAt s code m fs) x y → ChainAt s code m fs rest false below → Alike Related (ended_as p m inst rest x) (ended_as p fs inst below y)
+    ended_alike None None b c = ended
+    ended_alike None (Some y) b c = absurd b
+    ended_alike (Some x) None b c = absurd b
+    ended_alike (Some AttachedObject) (Some AttachedObject) b c = goes_below rest below c
+    ended_alike (Some (NoObject None)) (Some (NoObject None)) b c = ended
+    ended_alike (Some (NoObject (Some x))) (Some (NoObject (Some y))) b c = ended
+    ended_alike (Some (DetachedObject x)) (Some (DetachedObject y)) b c = ended
+    ended_alike (Some ResumedObject) (Some ResumedObject) b c = ended
+    ended_alike (Some TerminatedObject) (Some TerminatedObject) b c = ended
+    ended_alike (Some _) (Some _) b c = absurd b
+
+  pub end_object : EndFollows EndObject
+  unfolding choosing when object_ended
+  end_object a =
+      let x = a.2 in
+      at_row s code l o fs top below _ (i.EndLevel (pos 0)) x.at.line x.last x.at.is
+      (level_alike _ (left_out (λ q. Alike Related (ticking l o (λ p. object_ended p m inst rest)) q) (block_number s (frame_text s t) == 0) (stopping Normal o) _ (other_numbers (block_number s (frame_text s t)) 0 a.0)
+      (chosen (λ q. Alike Related (ticking l o (λ p. object_ended p m inst rest)) q) (same_stage b.stage (stage.Behind 0)) _ (no_rule o) (ap (λ z. same_stage z (stage.Behind 0)) a.1)
+      (alike_found Configuration Machine Related BlockOf (slice_get code.blocks (block_number s (frame_text s t))) b.block o _ _ here.found
+      (subst (λ z. Alike Related (ticking l o (λ p. object_ended p m inst rest)) (ended_by_kind l o fs below inst b.block z)) (sym (x.heads).is_kind)
+      (alike_ticking Configuration Machine Related l o _ _ (λ p. ended_alike p (slice_get m.standings inst) (slice_get fs.standings inst) (here.parked inst) x.below)))))))

@@ -1,6 +1,7 @@
 -- What entries of all kinds have in common.
-use Rattle.std.proofs.Common.{◌≡◌, ◌<◌, ◌+◌, ℕ, Bool, true, false, List, [], ◌∷◌, ◌++◌, length, map, Option, Some, None, refl, sym, ap, ◌∙◌, subst, arith}
+use Rattle.std.proofs.Common.{◌≡◌, ◌<◌, ◌≤◌, ℕ, Bool, true, false, List, [], ◌∷◌, ◌++◌, length, map, Option, Some, None, refl, sym, ap, ◌∙◌, subst, arith, length-append}
 use Rattle.std.proofs.lemmas.List.{length-map}
+use Rattle.sim_meaning.specs.Attributes.{is_connection}
 use Rattle.std.proofs.lemmas.Option.{slice_get_within}
 use Rattle.std.specs.Prelude.{if◌then◌else◌, pos, slice_get}
 use Rattle.sim_scope.specs.Access.{around, encloser}
@@ -15,21 +16,23 @@ use Rattle.sim_code.specs.Code.{BlockOf, CodeOf}
 use Rattle.sim_code.specs.Outcome.{Run, World}
 use Rattle.sim_code.specs.Events.{having, no_rule, when}
 use Rattle.sim_code.specs.Instances.{Instance, entered}
-use Rattle.sim_code.specs.Machine.{Cells, Frames, Machine, Value, block_at, first_value, number, same_kind}
+use Rattle.sim_code.specs.Machine.{Cells, Frames, Machine, block_at, first_value, joined, number, same_kind}
 use Rattle.sim_code.specs.Machine as machine
 use Rattle.sim_code.proofs.Lifts.{alike_found, alike_no_rule}
 use Rattle.sim_code.proofs.Simulation.{Alike}
-use Rattle.sim_meaning.specs.Entries.{first_cells, new_instance}
-use Rattle.sim_meaning.specs.Pending.{Activation, Configuration, Do, EndBlock, EndProcedure, EndProgram, Held, Instances, Item}
+use Rattle.sim_meaning.specs.Entries.{new_instance}
+use Rattle.sim_meaning.specs.Pending.{Activation, Configuration, Do, EndBlock, EndObject, EndProcedure, EndProgram, Held, Instances, Item, held}
 use Rattle.sim_meaning.specs.Texts.{BlockText, ConnectionText, PrefixedText, Text, program_texts, text}
-use Rattle.codegen_expr.specs.CodeExpr.{block_number}
-use Rattle.codegen_expr.specs.Sites.{cells_in}
-use Rattle.sim_relate.proofs.Plainly.{Agrees}
-use Rattle.codegen.specs.Compiled.{CodeHas, Compiled, RecordOf, TextCode, type_of_cell}
+use Rattle.codegen_expr.specs.Sites.{block_number, cells_in, frame_text, hidden_in, own_part, types_in}
+use Rattle.sim_relate.proofs.Plainly.{Agrees, Coding}
+use Rattle.codegen.specs.Compiled.{CodeHas, RecordOf, TextCode, type_of_cell}
 use Rattle.sim_relate.proofs.Carried.{all_every, both_later, chain_later, kept_every}
 use Rattle.sim_relate.proofs.Ends.{chosen, left_out}
-use Rattle.sim_relate.proofs.Relation.{CellsAt, ChainAt, Every, InstanceAt, Kind, StandingAt, StandingsAt, StateAt, StoreAt, Stands, ValAt, WorkAt, key_of, none_at, plain_at, value_of}
-use Rattle.sim_relate.proofs.Slots.{first_all, first_cells_at}
+use Rattle.sim_relate.proofs.Known.{Every, Kind, Runs, SlotAt, Stands, is_fixed, none_at}
+use Rattle.sim_relate.proofs.Relation.{ChainAt, InstanceAt, StandingAt, StandingsAt, StateAt, StoreAt, WorkAt}
+use Rattle.sim_relate.proofs.Slots.{HeldAt, Typed, empty_behind, key_of, types_split}
+use Rattle.sim_relate.proofs.Frames.{frame_self, front_is, slot_is}
+use Rattle.sim_relate.proofs.Layouts.{cells_by_key, declared_there, hidden_empty}
 use Rattle.sim_relate.proofs.Lists.{append_both, there_get}
 use Rattle.sim_relate.proofs.Reach.{same_some}
 use Rattle.sim_relate.proofs.Stores.{SameOwners, keeps_entered, later_entered, store_entered}
@@ -61,25 +64,30 @@ pub record Coded (s : Source) (code : CodeOf) (k : ℕ) (x : Text) (o : Option B
   pub found : o ≡ Some block
   pub has : TextCode s code k x block
 
-coded : (s : Source) (code : CodeOf) (k : ℕ) (x : Text) (o : Option BlockOf) → CodeHas s code k x o → Coded s code k x o
-coded s code k ConnectionText o h = absurd h
-coded s code k (BlockText begin ds ss) None h = absurd h
-coded s code k (BlockText begin ds ss) (Some b) h = record { block = b; found = refl; has = h }
-coded s code k _ None h = absurd h
-coded s code k _ (Some b) h = record { block = b; found = refl; has = h }
+coded : (s : Source) (code : CodeOf) (k : ℕ) (x : Text) (o : Option BlockOf) → is_connection (Some x) ≡ false → CodeHas s code k x o → Coded s code k x o
+coded s code k ConnectionText o e h = absurd (cc)
+coded s code k (BlockText begin ds ss) None e h = absurd h
+coded s code k (BlockText begin ds ss) (Some b) e h = record { block = b; found = refl; has = h }
+coded s code k _ None e h = absurd h
+coded s code k _ (Some b) e h = record { block = b; found = refl; has = h }
 
-pub code_there : (s : Source) (code : CodeOf) → Compiled s code → (k : ℕ) (x : Text) → text s k ≡ Some x → Coded s code k x (slice_get code.blocks (block_number s k))
-code_there s code c k x e = coded s code k x (slice_get code.blocks (block_number s k)) (c.each k x e)
+pub code_there : (s : Source) (code : CodeOf) → Coding s code → (k : ℕ) (x : Text) → text s k ≡ Some x → is_connection (Some x) ≡ false → Coded s code k x (slice_get code.blocks (block_number s k))
+code_there s code c k x e own = coded s code k x (slice_get code.blocks (block_number s k)) own (c.each k x e)
+
+-- a text that is no connection has frames of its own
+pub frame_there : (s : Source) → Agrees s → (k : ℕ) (x : Text) → text s k ≡ Some x → is_connection (Some x) ≡ false → frame_text s k ≡ k
+frame_there s a k x e own = frame_self s a k (a.connected k ∙ ap is_connection e ∙ own)
 
 -- ---- what is below on a chain
 
 module _ (s : Source) (code : CodeOf) where
-  work_below : (m : Instances) (fs : Frames) (Below : Bool → Type 0) (inst t : ℕ) (b : BlockOf) (used : ℕ) (w : List Item) (p : ℕ) (ks : List Kind) → WorkAt s code m fs Below inst t b used w p ks → (v : Bool) × Below v
+  work_below : (m : Instances) (fs : Frames) (Below : Bool → Type 0) (inst t : ℕ) (b : Runs) (used : ℕ) (w : List Item) (p : ℕ) (ks : List Kind) → WorkAt s code m fs Below inst t b used w p ks → (v : Bool) × Below v
   work_below m fs Below inst t b used [] p ks a = absurd a
-  work_below m fs Below inst t b used (Do op ∷ w) p ks a = work_below m fs Below inst t b a.1 w a.2 a.3 a.8
+  work_below m fs Below inst t b used (Do op ∷ w) p ks a = work_below m fs Below inst a.4 a.5 a.1 w a.2 a.3 a.11
   work_below m fs Below inst t b used (EndBlock ∷ w) p ks a = (false, ((a.2).1).below)
   work_below m fs Below inst t b used (EndProcedure leaves ∷ w) p ks a = (leaves, ((a.2).ends).below)
   work_below m fs Below inst t b used (EndProgram ∷ w) p ks a = (false, ((a.2).1).below)
+  work_below m fs Below inst t b used (EndObject ∷ w) p ks a = (false, ((a.2).2).below)
   work_below m fs Below inst t b used (_ ∷ w) p ks a = absurd a
 
   pub chain_owners : (m : Instances) (fs : Frames) (chain : List Activation) (v : Bool) (below : List machine.Activation) → ChainAt s code m fs chain v below → SameOwners s code chain below
@@ -117,27 +125,49 @@ module _ (s : Source) (code : CodeOf) where
   abbrev pub new_frame : (number : ℕ) → BlockOf → (parent : Option ℕ) → Cells → Instance Cells
   new_frame n b parent cells = record { text = n; level = b.level; encloser = parent; cells = cells; passing = b.class_free; kept = false; given_back = false }
 
-  pub instance_at : (k : ℕ) (x : Text) (kind : BlockKind) (result : CodeType) (b : BlockOf) → text s k ≡ Some x → RecordOf s k kind result b → slice_get code.blocks (block_number s k) ≡ Some b → (e : Option ℕ) (cells : List Held) (cells' : Cells) → CellsAt ValAt (map value_of cells) cells' → map key_of cells ≡ map key_of (first_cells s k x) → length cells' ≡ length b.types
-      → InstanceAt s code (new_instance s k e cells) (new_frame (block_number s k) b e cells')
-  instance_at k x kind result b is heads found e cells cells' at keys size = record {
-    number = refl;
-    level = heads.level;
-    encloser = refl;
-    passing = heads.class_free;
-    kept = refl;
-    given_back = refl;
-    cells = at;
-    keys = keys ∙ ap (λ z. map key_of (cells_in s k z)) (sym is);
-    size = λ b' f. size ∙ ap (λ z. length (z.types)) (same_some (slice_get code.blocks (block_number s k)) b b' found f);
-  }
+  module _ (agrees : Agrees s) (k : ℕ) (kind : BlockKind) (result : CodeType) (b : BlockOf) (heads : RecordOf s code k kind result b) where
+    flat_types : b.types ≡ map type_of_cell (own_part s k) ++ heads.temps
+    flat_types = heads.types ∙ ap (λ z. types_in z ++ (map type_of_cell (own_part s k) ++ heads.temps)) (front_is s agrees code k)
 
-  pub first_at : (k : ℕ) (x : Text) (kind : BlockKind) (result : CodeType) (b : BlockOf) → text s k ≡ Some x → RecordOf s k kind result b → CellsAt ValAt (map value_of (first_cells s k x)) (machine.first_cells b)
-  first_at k x kind result b is heads =
-      let types : b.types ≡ map type_of_cell (first_cells s k x) ++ heads.temps = heads.types ∙ ap (λ z. map type_of_cell (cells_in s k z) ++ heads.temps) is in
-      subst (λ z. CellsAt ValAt (map value_of (first_cells s k x)) (map first_value z)) (sym types) (first_cells_at ValAt (λ p. plain_at) (first_cells s k x) heads.temps (first_all ValAt s k x))
+    split_types : b.types ≡ map type_of_cell (cells_in s k (text s k)) ++ (map type_of_cell (hidden_in s k) ++ heads.temps)
+    split_types = flat_types ∙ types_split (cells_in s k (text s k)) (hidden_in s k) heads.temps
 
-  pub first_size : (b : BlockOf) → length (machine.first_cells b) ≡ length b.types
-  first_size b = length-map b.types first_value
+    pub own_types : length (own_part s k) ≤ length b.types
+    own_types =
+        let e = ap length flat_types in
+        let n = length-append (map type_of_cell (own_part s k)) heads.temps in
+        let m = length-map (own_part s k) type_of_cell in
+        omega (arith, e, n, m)
+
+    pub first_size : length (machine.first_cells b) ≡ length b.types
+    first_size = length-map b.types first_value
+
+    -- what code says of the cells, with what stands behind them
+    pub first_typed : machine.first_cells b ≡ Typed s (map type_of_cell (hidden_in s k) ++ heads.temps) (cells_in s k (text s k))
+    first_typed = ap (map first_value) split_types
+
+    pub first_none : (c : ℕ) → length (cells_in s k (text s k)) ≤ c → c < length (own_part s k) → joined (slice_get (machine.first_cells b) c) ≡ None
+    first_none c le lt = ap (λ z. joined (slice_get (map first_value z) c)) flat_types ∙ empty_behind (cells_in s k (text s k)) (hidden_in s k) heads.temps c (hidden_empty s k) le lt
+
+    pub instance_at : slice_get code.blocks (block_number s k) ≡ Some b → frame_text s k ≡ k → (e : Option ℕ) (hs : List Held) (cells : Cells) → HeldAt s hs cells → map key_of hs ≡ map key_of (cells_in s k (text s k)) → length cells ≡ length b.types
+        → ((c : ℕ) → length (cells_in s k (text s k)) ≤ c → c < length (own_part s k) → joined (slice_get cells c) ≡ None) → InstanceAt s code (new_instance s k e hs) (new_frame (block_number s k) b e cells)
+    instance_at found own e hs cells at keys size none =
+        let long = own_types in
+        record {
+          number = refl;
+          level = heads.level;
+          encloser = refl;
+          passing = heads.class_free;
+          kept = refl;
+          given_back = refl;
+          own = own;
+          start = ap (λ z. length (types_in z)) (front_is s agrees code k);
+          alone = front_is s agrees code k;
+          cells = λ key has. subst (λ z. SlotAt s (is_fixed s key) key (held key hs) (joined (slice_get cells z))) (sym (slot_is s agrees code k key)) (cells_by_key s agrees k hs keys cells at none key has);
+          there = λ key has d. declared_there s agrees k hs keys key has d;
+          fits = omega (arith, long, size);
+          size = λ b' f. size ∙ ap (λ z. length (z.types)) (same_some (slice_get code.blocks (block_number s k)) b b' found f);
+        }
 
   -- ---- a new instance on top
 
@@ -156,10 +186,10 @@ module _ (s : Source) (code : CodeOf) where
         append_both (StandingAt s code later_m later_fs) m.standings fs.standings p r
         (λ j. both_later s code m later_m fs later_fs (later_entered s m x p) Every (keeps_entered s m fs a.as_many y r) (slice_get m.standings j) (slice_get fs.standings j) (λ z is. kept_every m j z is) (old j)) new
 
-    pub enters : StandingsAt s code later_m later_fs → (chain : List Activation) (below : List machine.Activation) (k : ℕ) (b : BlockOf) → InstanceAt s code x y → slice_get code.blocks (block_number s k) ≡ Some b → Stands s later_m (length m.instances) k → (w : List Item) (used pc : ℕ)
+    pub enters : StandingsAt s code later_m later_fs → (chain : List Activation) (below : List machine.Activation) (k : ℕ) (b : Runs) → InstanceAt s code x y → slice_get code.blocks (block_number s (frame_text s k)) ≡ Some b.block → Stands s later_m (length m.instances) k → Stands s later_m (length m.instances) x.text → (w : List Item) (used pc : ℕ)
         → WorkAt s code later_m later_fs (λ v. ChainAt s code later_m later_fs chain v below) (length m.instances) k b used w pc []
-        → R (record { chain = record { instance = length m.instances; work = w; values = [] } ∷ chain; memory = later_m }) (record { chain = record { thunk = false; home = length fs.instances; pc = pc; stack = []; room = b.room } ∷ below; memory = later_fs })
-    enters parked chain below k b pair found stands w used pc work = record {
+        → R (record { chain = record { instance = length m.instances; work = w; values = [] } ∷ chain; memory = later_m }) (record { chain = record { thunk = false; home = length fs.instances; pc = pc; stack = []; room = b.block.room; stage = b.stage } ∷ below; memory = later_fs })
+    enters parked chain below k b pair found stands own w used pc work = record {
       chain = record {
         base = refl;
         home = sym a.as_many;
@@ -168,12 +198,13 @@ module _ (s : Source) (code : CodeOf) where
         found = found;
         stands = stands;
         room = refl;
+        stage = refl;
         kinds = [];
         values = none_at;
         fits = λ no. absurd (cc);
         used = used;
         goes = work;
       };
-      store = store_entered s code m fs a x y p r pair;
+      store = store_entered s code m fs a x y p r pair own;
       parked = parked;
     }

@@ -1,5 +1,5 @@
 -- The entry of sub-blocks, procedures and the program's block.
-use Rattle.std.proofs.Common.{◌≡◌, ◌<◌, ◌≤◌, ◌+◌, ◌*◌, ℕ, zero, suc, Bool, true, false, List, [], ◌∷◌, length, Option, Some, None, refl, sym, ap, ◌∙◌, subst, arith}
+use Rattle.std.proofs.Common.{◌≡◌, ◌<◌, ◌≤◌, ◌+◌, ◌*◌, ℕ, zero, suc, Bool, true, false, List, [], ◌∷◌, ◌++◌, length, map, Option, Some, None, refl, sym, ap, ◌∙◌, subst, arith}
 use Rattle.std.proofs.lemmas.Option.{slice_get_within}
 use Rattle.std.specs.Prelude.{◌==◌, if◌then◌else◌, nat_lt, pos, slice_get}
 use Rattle.sim_base.specs.declared.limits.Limits.{Limits}
@@ -12,7 +12,10 @@ use Rattle.sim_values.specs.declared.kind.Kind.{Kind as TypeKind}
 use Rattle.sim_values.specs.declared.kind.Kind.TheVariants as type_kind
 use Rattle.sim_values.specs.Words.{instance_words}
 use Rattle.sim_code.specs.declared.code.BlockKind.TheVariants as block_kind
+use Rattle.sim_code.specs.declared.code.BlockKind.{BlockKind}
+use Rattle.sim_code.specs.declared.code.CodeType.{CodeType}
 use Rattle.sim_code.specs.declared.code.CodeType.TheVariants as type
+use Rattle.sim_code.specs.declared.stage.Stage.TheVariants as stage
 use Rattle.sim_code.specs.declared.instr.Instr.TheVariants as i
 use Rattle.sim_code.specs.declared.instr.Lined.{Lined}
 use Rattle.sim_code.specs.Code.{BlockOf, CodeOf}
@@ -20,36 +23,38 @@ use Rattle.sim_code.specs.Outcome.{Going, Run, World}
 use Rattle.sim_code.specs.Events.{entering, having, no_rule, when}
 use Rattle.sim_code.specs.Arrays.{handed_over, pairs}
 use Rattle.sim_code.specs.Instances.{Instance, is_live}
-use Rattle.sim_code.specs.Machine.{Cells, Frames, Machine, Value, frames_kept, in_frame, is_nothing, number, same_kind, waiting, words_of_block}
+use Rattle.sim_code.specs.Machine.{Cells, Frames, Machine, Value, frames_kept, in_frame, is_nothing, joined, number, same_kind, waiting, words_of_block}
 use Rattle.sim_code.specs.Machine as machine
-use Rattle.sim_code.specs.Rows.{entering_procedure, on_top}
+use Rattle.sim_code.specs.Rows.{on_top}
 use Rattle.sim_code.specs.Rows as rows
 use Rattle.sim_code.proofs.Lifts.{EachAt, alike_entering, alike_found, alike_making, alike_when}
-use Rattle.sim_code.proofs.Simulation.{Alike, going}
-use Rattle.sim_meaning.specs.Entries.{arrays_by_value, filled_behind, first_cells, formals_of, instances_kept, new_instance, words_of_cells}
+use Rattle.sim_code.proofs.Simulation.{Alike, going, unruled}
+use Rattle.sim_meaning.specs.Entries.{arrays_by_value, cells_from, filled_behind, first_cells, formals_of, instances_kept, new_instance, numbers_of, with_result, words_of_cells}
 use Rattle.sim_meaning.specs.Meaning.{block_work, do_op, first_step, has_result, procedure_entered, program_entered, sub_block_entered}
 use Rattle.sim_meaning.specs.Pending.{Activation, ArrayOp, ArrayValue, CallOp, Configuration, Do, EndBlock, EndProcedure, EndProgram, EnterOp, Exec, Execs, Held, Instances, Item, Op, PastOp, Val, instance_in, plain}
 use Rattle.sim_meaning.specs.Steps.{go}
 use Rattle.sim_meaning.specs.Texts.{BlockText, ClassText, ConnectionText, PrefixedText, ProcedureText, StandardText, Text, text}
 use Rattle.sim_meaning.specs.Sane.{Lives, lives_alone}
-use Rattle.codegen_expr.specs.CodeExpr.{block_number}
-use Rattle.codegen_expr.specs.Sites.{At, cells_in, lined}
+use Rattle.codegen_expr.specs.Sites.{At, block_in_front, block_number, cells_in, frame_text, hidden_in, lined, own_cells, own_end, own_part, types_in}
 use Rattle.codegen.specs.CodeArrays.{ArraysAt, element_number}
 use Rattle.codegen.specs.CodeStm.{StmsAt}
-use Rattle.codegen.specs.Compiled.{Compiled, ProcedureTextOf, ProgramOf, TextCode, type_of_name}
-use Rattle.sim_relate.proofs.Plainly.{agreed}
+use Rattle.codegen.specs.Compiled.{ProcedureTextOf, ProgramOf, RecordOf, TextCode, cells_of_block, code_formal, parameters_of, site_of, type_of_cell, type_of_name}
+use Rattle.sim_relate.proofs.Plainly.{Agrees, Coding, agreed}
+use Rattle.sim_relate.proofs.Frames.{front_is}
+use Rattle.sim_relate.proofs.Parameters.{formals_vary, result_vary}
 use Rattle.sim_relate.proofs.Actuals.{arrays_same, behind_result, both_kept, counted_many, each_length}
 use Rattle.sim_relate.proofs.Carried.{all_every, chain_changed, kept_every, parked_changed}
 use Rattle.sim_relate.proofs.DeclaredArrays.{arrays_at}
 use Rattle.sim_relate.proofs.Ends.{chosen}
-use Rattle.sim_relate.proofs.Entering.{block_alike, block_refused, chain_entered, chain_owners, code_there, enters, first_at, first_size, first_text, instance_at, later_fs, later_m, new_frame, parked_entered, text_there}
+use Rattle.sim_relate.proofs.Entering.{block_alike, chain_entered, chain_owners, code_there, enters, first_none, first_size, first_text, first_typed, frame_there, instance_at, later_fs, later_m, new_frame, parked_entered, text_there}
 use Rattle.sim_relate.proofs.Formals.{formals_fit}
 use Rattle.sim_relate.proofs.Hands.{hand_integers, hand_popping, stack_length}
 use Rattle.sim_relate.proofs.Here.{Here, act, at_row, goes, kinds_as, with_values}
 use Rattle.sim_relate.proofs.Living.{new_lives, new_lives_inside}
 use Rattle.sim_relate.proofs.Pending.{ends_at, pends}
-use Rattle.sim_relate.proofs.Relation.{Any, CallOpIs, ChainAt, Changed, Every, HandAt, Kind, LinkIs, LinkTo, OpAt, StackAt, StandingsAt, StateAt, StoreAt, Stands, ValAt, WorkAt, anys, array_at, element_at, given, link_at, more_at, plain_at, site_at, straight, image_at}
-use Rattle.sim_relate.proofs.Slots.{Written, cells_filled_behind, cells_fit, machine_fills, put_from, put_length, results}
+use Rattle.sim_relate.proofs.Known.{Any, Every, FixedOf, HandAt, IsLink, Kind, LinkTo, Located, OwnerOf, Refers, Runs, StackAt, Stands, ValAt, anys, array_at, at_stage, element_at, given, image_at, link_at, more_at, plain_at, site_at}
+use Rattle.sim_relate.proofs.Relation.{CallOpIs, ChainAt, Changed, EndAt, OpAt, StandingsAt, StateAt, StoreAt, WorkAt, straight}
+use Rattle.sim_relate.proofs.Slots.{HeldAt, Typed, VaryFirst, Written, cells_at, cells_filled_behind, cells_fit, key_of, machine_fills, put_behind, put_from, put_length, result_at, results}
 use Rattle.sim_relate.proofs.Stores.{is_live_same, new_inside, new_outermost}
 
 no_around : (o : Option ℕ) (u : ℕ) → o ≡ None → o ≡ Some u → ⊥
@@ -60,21 +65,56 @@ procedure_code : (s : Source) (code : CodeOf) (k : ℕ) (result : Option TypeNam
 procedure_code s code zero result h a b x = x
 procedure_code s code (suc k) result h a b x = x
 
-words_same : (s : Source) (k : ℕ) (x : Text) (b : BlockOf) → text s k ≡ Some x → b.cells ≡ length (cells_in s k (text s k)) → words_of_block b ≡ words_of_cells (first_cells s k x)
-words_same s k x b is c = ap (λ n. instance_words n false) (c ∙ ap (λ z. length (cells_in s k z)) is)
+-- a block's code runs at no stage
+abbrev pub plainly : BlockOf → Runs
+plainly b = at_stage b stage.NoStage
+
+module _ (s : Source) (code : CodeOf) (agrees : Agrees s) where
+  pub words_same : (k : ℕ) (x : Text) (b : BlockOf) → text s k ≡ Some x → own_cells s k x ≡ first_cells s k x → b.cells ≡ cells_of_block (block_in_front s code k) + length (cells_in s k (text s k)) → words_of_block b ≡ words_of_cells (first_cells s k x)
+  words_same k x b is own c =
+      let none : cells_of_block (block_in_front s code k) ≡ 0 = ap cells_of_block (front_is s agrees code k) in
+      let count : length (cells_in s k (text s k)) ≡ length (first_cells s k x) = ap (λ z. length (cells_in s k z)) is ∙ ap length own in
+      let same : b.cells ≡ length (first_cells s k x) = omega (arith, c, none, count) in
+      ap (λ n. instance_words n false) same
+
+  -- the own part ends where the temps begin
+  pub used_is : (k : ℕ) → own_end s code k ≡ length (own_part s k)
+  used_is k =
+      let none : length (types_in (block_in_front s code k)) ≡ 0 = ap (λ z. length (types_in z)) (front_is s agrees code k) in
+      omega (arith, none)
+
+  pub used_low : (k : ℕ) → frame_text s k ≡ k → length (own_part s (frame_text s k)) ≤ own_end s code k
+  used_low k own =
+      let e = used_is k in
+      let f : length (own_part s (frame_text s k)) ≡ length (own_part s k) = ap (λ z. length (own_part s z)) own in
+      omega (arith, e, f)
+
+  -- the first cells of a block, and of a procedure
+  pub block_first : (k begin : ℕ) (ds : Declarations) (ss : Statements) (kind : BlockKind) (result : CodeType) (b : BlockOf) → text s k ≡ Some (BlockText begin ds ss) → RecordOf s code k kind result b → HeldAt s (first_cells s k (BlockText begin ds ss)) (machine.first_cells b)
+  unfolding first_cells
+  block_first k begin ds ss kind result b is heads =
+      let rest : List CodeType = map type_of_cell (hidden_in s k) ++ heads.temps in
+      let typed : machine.first_cells b ≡ Typed s rest (cells_from s (numbers_of s k)) = first_typed s code agrees k kind result b heads ∙ ap (λ z. Typed s rest (cells_in s k z)) is in
+      subst (λ z. HeldAt s (cells_from s (numbers_of s k)) z) (sym typed) (cells_at s rest (numbers_of s k))
+
+  pub procedure_first : (k : ℕ) (type : Option TypeName) (h : Heading) (a : Statement) (kind : BlockKind) (result : CodeType) (b : BlockOf) → text s k ≡ Some (ProcedureText type h a) → RecordOf s code k kind result b → HeldAt s (first_cells s k (ProcedureText type h a)) (machine.first_cells b)
+  unfolding first_cells
+  procedure_first k type h a kind result b is heads =
+      let rest : List CodeType = map type_of_cell (hidden_in s k) ++ heads.temps in
+      let hs : List Held = cells_from s (numbers_of s k) in
+      let typed : machine.first_cells b ≡ Typed s rest (with_result type hs) = first_typed s code agrees k kind result b heads ∙ ap (λ z. Typed s rest (cells_in s k z)) is in
+      subst (λ z. HeldAt s (with_result type hs) z) (sym typed) (result_at s rest type hs hs (cells_at s rest (numbers_of s k)))
 
 -- ---- the work of a block that is entered
 
-module _ (s : Source) (code : CodeOf) (compiled : Compiled s code) (m : Instances) (fs : Frames) (Below : Bool → Type 0) (j k : ℕ) (b : BlockOf) (stands : Stands s m j k) (lives : Lives m j) where
-  fits : b.cells ≡ length (cells_in s k (text s k)) → length (cells_in s k (text s k)) ≤ b.cells
-  fits e = omega (arith, e)
+module _ (s : Source) (code : CodeOf) (compiled : Coding s code) (m : Instances) (fs : Frames) (Below : Bool → Type 0) (j k : ℕ) (b : BlockOf) (stands : Stands s m j k) (own : frame_text s k ≡ k) (lives : Lives m j) where
+  pub block_pends : (ds : Declarations) (ss : Statements) (end : Item) (p y q : ℕ) → ArraysAt s code (site_of s code k b) ds p y → StmsAt s code (site_of s code k b) 0 ss y q → WorkAt s code m fs Below j k (plainly b) (own_end s code k) (end ∷ []) q []
+      → WorkAt s code m fs Below j k (plainly b) (own_end s code k) (block_work s m j ds ss end) p []
+  block_pends ds ss end p y q arrays stms ends =
+      let low = used_low s code (agreed s code compiled) k own in
+      arrays_at s code (agreed s code compiled) m fs Below j k (plainly b) (own_end s code k) low stands lives (Do (Execs ss) ∷ end ∷ []) ds p y arrays (pends s code m fs Below j k (plainly b) (own_end s code k) low (end ∷ []) (Execs ss) y q [] [] (stms, refl) ends)
 
-  pub block_pends : (ds : Declarations) (ss : Statements) (end : Item) (p y q : ℕ) → b.cells ≡ length (cells_in s k (text s k)) → ArraysAt s code (site_at k b b.cells) ds p y → StmsAt s code (site_at k b b.cells) 0 ss y q → WorkAt s code m fs Below j k b b.cells (end ∷ []) q []
-      → WorkAt s code m fs Below j k b b.cells (block_work s m j ds ss end) p []
-  block_pends ds ss end p y q e arrays stms ends =
-      arrays_at s code (agreed s code compiled) m fs Below j k b b.cells (fits e) stands lives (Do (Execs ss) ∷ end ∷ []) ds p y arrays (pends s code m fs Below j k b b.cells (fits e) (end ∷ []) (Execs ss) y q [] [] (stms, refl) ends)
-
-module _ (s : Source) (code : CodeOf) (compiled : Compiled s code) (l : Limits) (o : World) where
+module _ (s : Source) (code : CodeOf) (compiled : Coding s code) (l : Limits) (o : World) where
   abbrev R : Configuration → Machine → Type 0
   R = StateAt s code
 
@@ -82,48 +122,47 @@ module _ (s : Source) (code : CodeOf) (compiled : Compiled s code) (l : Limits) 
 
   first_block : (m : Instances) (fs : Frames) → StoreAt s code m fs → StandingsAt s code m fs → (begin : ℕ) (ds : Declarations) (ss : Statements) → text s 0 ≡ Some (BlockText begin ds ss) → (b : BlockOf) → slice_get code.blocks 0 ≡ Some b → ProgramOf s code begin ds ss b
       → Alike R (program_entered s l o m (Some (BlockText begin ds ss))) (machine.block_at code block_kind.SubBlock (pos 0) o (λ k b x. entering l x.line.0 (words_of_block b) o (λ p. in_frame p fs k b None (machine.first_cells b) [])))
-  unfolding block_number
+  unfolding block_number frame_text
   first_block m fs a parked begin ds ss is b found h =
       let heads = h.heads in
       let body = h.body in
+      let agrees = agreed s code compiled in
       let cells = first_cells s 0 (BlockText begin ds ss) in
       block_alike s code o block_kind.SubBlock 0 b found (ap (λ z. same_kind z block_kind.SubBlock) heads.is_kind) (slice_get_within code.instrs b.entry _ (h.enter).at) _ _ (λ x ex.
-      alike_entering Configuration Machine R l (line_at s begin) x.line.0 (words_of_cells cells) (words_of_block b) o _ _ (same_line x ex (h.enter).at) (words_same s 0 (BlockText begin ds ss) b is heads.cells) (λ p.
+      alike_entering Configuration Machine R l (line_at s begin) x.line.0 (words_of_cells cells) (words_of_block b) o _ _ (same_line x ex (h.enter).at) (words_same s code agrees 0 (BlockText begin ds ss) b is refl heads.cells) (λ p.
       let new = new_instance s 0 None cells in
       let frame = new_frame s code 0 b None (machine.first_cells b) in
       let m' = later_m s code m fs a new frame (NoObject None) (NoObject None) in
       let fs' = later_fs s code m fs a new frame (NoObject None) (NoObject None) in
-      let stands : Stands s m' (length m.instances) 0 = new_outermost s m 0 new (NoObject None) refl refl refl (agreed s code compiled).outermost in
+      let stands : Stands s m' (length m.instances) 0 = new_outermost s m 0 new (NoObject None) refl refl refl agrees.outermost in
       let lives : Lives m' (length m.instances) = lives_alone (new_lives m new (NoObject None) refl) refl in
       let Below : Bool → Type 0 = λ v. ChainAt s code m' fs' [] v [] in
-      let low : length (cells_in s 0 (text s 0)) ≤ b.cells = omega (arith, heads.cells) in
+      let low = used_low s code agrees 0 refl in
       let next = (h.enter).on in
       let start = body.there in
       let ahead : b.entry < h.start = omega (arith, next) in
-      let work = block_pends s code compiled m' fs' Below (length m.instances) 0 b stands lives ds ss EndProgram h.start (body.body).0 body.stop heads.cells (body.body).1 (body.body).2
-      (ends_at s code m' fs' Below (length m.instances) 0 b b.cells EndProgram [] body.stop [] (refl, record { last = body.last; at = body.ends; heads = heads; none = refl; below = record { still = refl; is = refl } })) in
-      going (enters s code m fs a new frame (NoObject None) (NoObject None) (parked_entered s code m fs a new frame (NoObject None) (NoObject None) tt parked) [] [] 0 b (instance_at s code 0 (BlockText begin ds ss) block_kind.SubBlock type.Nothing b is heads found None cells (machine.first_cells b) (first_at s code 0 (BlockText begin ds ss) block_kind.SubBlock type.Nothing b is heads) refl (first_size s code b))
-      found stands (Do PastOp ∷ block_work s m' (length m.instances) ds ss EndProgram) b.cells b.entry
-      (pends s code m' fs' Below (length m.instances) 0 b b.cells low (block_work s m' (length m.instances) ds ss EndProgram) PastOp b.entry h.start [] []
+      let work = block_pends s code compiled m' fs' Below (length m.instances) 0 b stands refl lives ds ss EndProgram h.start (body.body).0 body.stop (body.body).1 (body.body).2
+      (ends_at s code m' fs' Below (length m.instances) 0 (plainly b) (own_end s code 0) EndProgram [] body.stop [] (refl, record { last = body.last; at = body.ends; heads = heads; none = refl; below = record { still = refl; is = refl } })) in
+      let pair = instance_at s code agrees 0 block_kind.SubBlock type.Nothing b heads found refl None cells (machine.first_cells b) (block_first s code agrees 0 begin ds ss block_kind.SubBlock type.Nothing b is heads) (ap (λ z. map key_of (cells_in s 0 z)) (sym is)) (first_size s code agrees 0 block_kind.SubBlock type.Nothing b heads) (first_none s code agrees 0 block_kind.SubBlock type.Nothing b heads) in
+      going (enters s code m fs a new frame (NoObject None) (NoObject None) (parked_entered s code m fs a new frame (NoObject None) (NoObject None) tt parked) [] [] 0 (plainly b) pair
+      found stands stands (Do PastOp ∷ block_work s m' (length m.instances) ds ss EndProgram) (own_end s code 0) b.entry
+      (pends s code m' fs' Below (length m.instances) 0 (plainly b) (own_end s code 0) low (block_work s m' (length m.instances) ds ss EndProgram) PastOp b.entry h.start [] []
       (h.start, record { line = line_at s begin; is = h.enter }, record { forward = ahead; there = start }, refl) work))))
     where
       same_line : (x : Lined) → slice_get code.instrs b.entry ≡ Some x → slice_get code.instrs b.entry ≡ Some (lined (i.Jump (pos h.start)) (line_at s begin)) → x.line.0 ≡ line_at s begin
       same_line x e f = let same : x ≡ lined (i.Jump (pos h.start)) (line_at s begin) = cc in ap (λ z. z.line.0) same
 
-  when_equal : (b b' : Bool) (r : Run Configuration) (q : Run Machine) → b' ≡ b → Alike R r q → Alike R (when b o r) (when b' o q)
+  pub when_equal : (b b' : Bool) (r : Run Configuration) (q : Run Machine) → b' ≡ b → Alike R r q → Alike R (when b o r) (when b' o q)
   when_equal b b' r q e h = subst (λ c. Alike R (when b o r) (when c o q)) (sym e) (alike_when Configuration Machine R b o r q h)
 
   first_some : (m : Instances) (fs : Frames) → StoreAt s code m fs → StandingsAt s code m fs → (x : Text) → text s 0 ≡ Some x → Alike R (program_entered s l o m (Some x)) (machine.block_at code block_kind.SubBlock (pos 0) o (λ k b x. entering l x.line.0 (words_of_block b) o (λ p. in_frame p fs k b None (machine.first_cells b) [])))
-  unfolding block_number
-  first_some m fs a parked (BlockText begin ds ss) is = let c = code_there s code compiled 0 (BlockText begin ds ss) is in first_block m fs a parked begin ds ss is c.block c.found c.has
-  first_some m fs a parked (ProcedureText result h body) is =
-      let c = code_there s code compiled 0 (ProcedureText result h body) is in
-      let heads = (procedure_code s code 0 result h body c.block c.has).heads in
-      block_refused s code o block_kind.SubBlock 0 c.block c.found (ap (λ z. same_kind z block_kind.SubBlock) heads.is_kind) _
-  first_some m fs a parked (ClassText prefix h ds ss) is = absurd ((code_there s code compiled 0 (ClassText prefix h ds ss) is).has)
-  first_some m fs a parked (PrefixedText class arguments ds ss) is = absurd ((code_there s code compiled 0 (PrefixedText class arguments ds ss) is).has)
-  first_some m fs a parked ConnectionText is = absurd ((code_there s code compiled 0 ConnectionText is).has)
-  first_some m fs a parked (StandardText which) is = absurd ((code_there s code compiled 0 (StandardText which) is).has)
+  unfolding block_number no_rule
+  first_some m fs a parked (BlockText begin ds ss) is = let c = code_there s code compiled 0 (BlockText begin ds ss) is refl in first_block m fs a parked begin ds ss is c.block c.found c.has
+  first_some m fs a parked (ProcedureText result h body) is = unruled
+  first_some m fs a parked (ClassText prefix h ds ss) is = unruled
+  first_some m fs a parked (PrefixedText class arguments ds ss) is = absurd ((code_there s code compiled 0 (PrefixedText class arguments ds ss) is refl).has)
+  first_some m fs a parked ConnectionText is = unruled
+  first_some m fs a parked (StandardText which) is = unruled
 
   -- both enter the program's block
   pub first_alike : (m : Instances) (fs : Frames) → StoreAt s code m fs → StandingsAt s code m fs → Alike R (first_step s l o m) (rows.first_step code l o fs)
@@ -135,18 +174,18 @@ module _ (s : Source) (code : CodeOf) (compiled : Compiled s code) (l : Limits) 
 
 -- ---- entries from an instance
 
-module _ (s : Source) (code : CodeOf) (compiled : Compiled s code) (l : Limits) (o : World) (m : Instances) (inst : ℕ) (w : List Item) (vals : List Val) (rest : List Activation) (fs : Frames) (t : ℕ) (b : BlockOf) (pc : ℕ) (stack : List Value) (below : List machine.Activation) (ks : List Kind) (here : Here s code m fs inst rest t b ks vals stack) (u q : ℕ) (ks' : List Kind) (low : length (cells_in s t (text s t)) ≤ u) (work : WorkAt s code m fs (λ v. ChainAt s code m fs rest v below) inst t b u w q ks') where
+module _ (s : Source) (code : CodeOf) (compiled : Coding s code) (l : Limits) (o : World) (m : Instances) (inst : ℕ) (w : List Item) (vals : List Val) (rest : List Activation) (fs : Frames) (t : ℕ) (b : Runs) (pc : ℕ) (stack : List Value) (below : List machine.Activation) (ks : List Kind) (here : Here s code m fs inst rest t b ks vals stack) (u q : ℕ) (ks' : List Kind) (low : length (own_part s (frame_text s t)) ≤ u) (work : WorkAt s code m fs (λ v. ChainAt s code m fs rest v below) inst t b u w q ks') where
   abbrev Related : Configuration → Machine → Type 0
   Related = StateAt s code
 
   abbrev top : machine.Activation
-  top = act inst pc stack b.room
+  top = act inst pc stack b
 
   abbrev pub Follows : Op → Type 0
   Follows op = OpAt s code m fs inst (site_at t b u) op pc q ks ks' → Alike Related (do_op s l o m inst w vals rest op) (on_top code l o fs top below)
 
   -- the instance waits, with what is left in its hand
-  waits : (v : Bool) (left : List Kind) (vals2 : List Val) (stack2 : List Value) → StackAt (HandAt s m) left vals2 stack2 → (v ≡ true → length left < b.room) → ks' ≡ given v left → q ≡ suc pc → ChainAt s code m fs (record { instance = inst; work = w; values = vals2 } ∷ rest) v (waiting top stack2 ∷ below)
+  pub waits : (v : Bool) (left : List Kind) (vals2 : List Val) (stack2 : List Value) → StackAt (HandAt s code m) left vals2 stack2 → (v ≡ true → length left < b.block.room) → ks' ≡ given v left → q ≡ suc pc → ChainAt s code m fs (record { instance = inst; work = w; values = vals2 } ∷ rest) v (waiting top stack2 ∷ below)
   waits v left vals2 stack2 h fits e place = record {
     base = refl;
     home = refl;
@@ -155,6 +194,7 @@ module _ (s : Source) (code : CodeOf) (compiled : Compiled s code) (l : Limits) 
     found = here.found;
     stands = here.stands;
     room = refl;
+    stage = refl;
     kinds = left;
     values = h;
     fits = fits;
@@ -166,7 +206,9 @@ module _ (s : Source) (code : CodeOf) (compiled : Compiled s code) (l : Limits) 
 
   enter_block : (k line : ℕ) (begin : ℕ) (ds : Declarations) (ss : Statements) → text s (suc k) ≡ Some (BlockText begin ds ss) → At code (i.Enter (pos (block_number s (suc k)))) line pc q → encloser s.tables (suc k) ≡ Some t → ks' ≡ ks → Alike Related (sub_block_entered s l o m inst w vals rest (suc k) line (Some (BlockText begin ds ss))) (on_top code l o fs top below)
   enter_block k line begin ds ss is at around e =
-      let c = code_there s code compiled (suc k) (BlockText begin ds ss) is in
+      let agrees = agreed s code compiled in
+      let own = frame_there s agrees (suc k) (BlockText begin ds ss) is refl in
+      let c = code_there s code compiled (suc k) (BlockText begin ds ss) is refl in
       let new_block = c.block in
       let h = c.has in
       let heads = h.heads in
@@ -174,7 +216,7 @@ module _ (s : Source) (code : CodeOf) (compiled : Compiled s code) (l : Limits) 
       let cells = first_cells s (suc k) (BlockText begin ds ss) in
       at_row s code l o fs top below _ (i.Enter (pos (block_number s (suc k)))) line q at
       (block_alike s code o block_kind.SubBlock (block_number s (suc k)) new_block c.found (ap (λ z. same_kind z block_kind.SubBlock) heads.is_kind) body.there _ _ (λ x ex.
-      alike_entering Configuration Machine Related l line line (words_of_cells cells) (words_of_block new_block) o _ _ refl (words_same s (suc k) (BlockText begin ds ss) new_block is heads.cells) (λ p.
+      alike_entering Configuration Machine Related l line line (words_of_cells cells) (words_of_block new_block) o _ _ refl (words_same s code agrees (suc k) (BlockText begin ds ss) new_block is refl heads.cells) (λ p.
       let new = new_instance s (suc k) (Some inst) cells in
       let frame = new_frame s code (block_number s (suc k)) new_block (Some inst) (machine.first_cells new_block) in
       let m' = later_m s code m fs here.store new frame (NoObject None) (NoObject None) in
@@ -182,26 +224,25 @@ module _ (s : Source) (code : CodeOf) (compiled : Compiled s code) (l : Limits) 
       let chain : List Activation = record { instance = inst; work = w; values = vals } ∷ rest in
       let under : List machine.Activation = waiting top stack ∷ below in
       let Below : Bool → Type 0 = λ v. ChainAt s code m' fs' chain v under in
-      let stands : Stands s m' (length m.instances) (suc k) = new_inside s m (suc k) inst t new (NoObject None) refl refl refl around here.stands in
+      let stands : Stands s m' (length m.instances) (suc k) = new_inside s m (suc k) inst t new (NoObject None) (sym own) refl refl (ap (encloser s.tables) own ∙ around) here.stands in
       let lives : Lives m' (length m.instances) = new_lives_inside m new (NoObject None) refl inst refl here.lives in
       let waiting_chain = chain_entered s code m fs here.store new frame (NoObject None) (NoObject None) chain false under (waits false ks vals stack here.values (λ no. absurd (cc)) e at.on) in
-      going (enters s code m fs here.store new frame (NoObject None) (NoObject None) (parked_entered s code m fs here.store new frame (NoObject None) (NoObject None) tt here.parked) chain under (suc k) new_block (instance_at s code (suc k) (BlockText begin ds ss) block_kind.SubBlock type.Nothing new_block is heads c.found (Some inst) cells (machine.first_cells new_block) (first_at s code (suc k) (BlockText begin ds ss) block_kind.SubBlock type.Nothing new_block is heads) refl (first_size s code new_block))
-      c.found stands (block_work s m' (length m.instances) ds ss EndBlock) new_block.cells new_block.entry
-      (block_pends s code compiled m' fs' Below (length m.instances) (suc k) new_block stands lives ds ss EndBlock new_block.entry (body.body).0 body.stop heads.cells (body.body).1 (body.body).2
-      (ends_at s code m' fs' Below (length m.instances) (suc k) new_block new_block.cells EndBlock [] body.stop [] (record { begin = begin; declarations = ds; statements = ss; is = is }, record { last = body.last; at = body.ends; heads = heads; none = refl; below = waiting_chain })))))))
+      let pair = instance_at s code agrees (suc k) block_kind.SubBlock type.Nothing new_block heads c.found own (Some inst) cells (machine.first_cells new_block) (block_first s code agrees (suc k) begin ds ss block_kind.SubBlock type.Nothing new_block is heads) (ap (λ z. map key_of (cells_in s (suc k) z)) (sym is)) (first_size s code agrees (suc k) block_kind.SubBlock type.Nothing new_block heads) (first_none s code agrees (suc k) block_kind.SubBlock type.Nothing new_block heads) in
+      going (enters s code m fs here.store new frame (NoObject None) (NoObject None) (parked_entered s code m fs here.store new frame (NoObject None) (NoObject None) tt here.parked) chain under (suc k) (plainly new_block) pair
+      (ap (λ z. slice_get code.blocks (block_number s z)) own ∙ c.found) stands stands (block_work s m' (length m.instances) ds ss EndBlock) (own_end s code (suc k)) new_block.entry
+      (block_pends s code compiled m' fs' Below (length m.instances) (suc k) new_block stands own lives ds ss EndBlock new_block.entry (body.body).0 body.stop (body.body).1 (body.body).2
+      (ends_at s code m' fs' Below (length m.instances) (suc k) (plainly new_block) (own_end s code (suc k)) EndBlock [] body.stop []
+      (subst (λ z. EndAt s code Below z (plainly new_block) EndBlock body.stop []) (sym own) (record { begin = begin; declarations = ds; statements = ss; is = is }, record { last = body.last; at = body.ends; heads = heads; none = refl; below = waiting_chain }))))))))
 
   enter_some : (k line : ℕ) (x : Text) → text s k ≡ Some x → At code (i.Enter (pos (block_number s k))) line pc q → encloser s.tables k ≡ Some t → ks' ≡ ks → Alike Related (sub_block_entered s l o m inst w vals rest k line (Some x)) (on_top code l o fs top below)
+  unfolding no_rule
   enter_some zero line x is at around e = absurd (no_around (encloser s.tables 0) t (agreed s code compiled).outermost around)
   enter_some (suc k) line (BlockText begin ds ss) is at around e = enter_block k line begin ds ss is at around e
-  enter_some (suc k) line (ProcedureText result h body) is at around e =
-      let c = code_there s code compiled (suc k) (ProcedureText result h body) is in
-      let heads = (procedure_code s code (suc k) result h body c.block c.has).heads in
-      at_row s code l o fs top below _ (i.Enter (pos (block_number s (suc k)))) line q at
-      (block_refused s code o block_kind.SubBlock (block_number s (suc k)) c.block c.found (ap (λ z. same_kind z block_kind.SubBlock) heads.is_kind) _)
-  enter_some (suc k) line (ClassText prefix h ds ss) is at around e = absurd ((code_there s code compiled (suc k) (ClassText prefix h ds ss) is).has)
-  enter_some (suc k) line (PrefixedText class arguments ds ss) is at around e = absurd ((code_there s code compiled (suc k) (PrefixedText class arguments ds ss) is).has)
-  enter_some (suc k) line ConnectionText is at around e = absurd ((code_there s code compiled (suc k) ConnectionText is).has)
-  enter_some (suc k) line (StandardText which) is at around e = absurd ((code_there s code compiled (suc k) (StandardText which) is).has)
+  enter_some (suc k) line (ProcedureText result h body) is at around e = unruled
+  enter_some (suc k) line (ClassText prefix h ds ss) is at around e = unruled
+  enter_some (suc k) line (PrefixedText class arguments ds ss) is at around e = unruled
+  enter_some (suc k) line ConnectionText is at around e = unruled
+  enter_some (suc k) line (StandardText which) is at around e = unruled
 
   pub enter : (k line : ℕ) → Follows (EnterOp k line)
   enter k line a =
@@ -210,7 +251,7 @@ module _ (s : Source) (code : CodeOf) (compiled : Compiled s code) (l : Limits) 
 
   -- ---- procedures
 
-  found_left : (A : Type 0) (x : Option A) (a : A) (r : A → Run Configuration) (p : Run Machine) → x ≡ Some a → Alike Related (r a) p → Alike Related (having x o r) p
+  pub found_left : (A : Type 0) (x : Option A) (a : A) (r : A → Run Configuration) (p : Run Machine) → x ≡ Some a → Alike Related (r a) p → Alike Related (having x o r) p
   unfolding having
   found_left A x a r p e h = subst (λ z. Alike Related (having z o r) p) (sym e) h
 
@@ -228,17 +269,30 @@ module _ (s : Source) (code : CodeOf) (compiled : Compiled s code) (l : Limits) 
     abbrev cells' : Cells
     cells' = put_from (results result) values' (machine.first_cells new_block)
 
-    cells_at : Written ValAt (filled_behind result values cells) cells cells'
-    cells_at =
+    agrees : Agrees s
+    agrees = agreed s code compiled
+
+    own : frame_text s k ≡ k
+    own = frame_there s agrees k (ProcedureText result heading body) is refl
+
+    first_here : HeldAt s cells (machine.first_cells new_block)
+    first_here = procedure_first s code agrees k result heading body block_kind.Procedure (type_of_name result) new_block is h.heads
+
+    vary : VaryFirst s (results result + length values) cells
+    unfolding first_cells
+    vary = result_vary s result (length values) (cells_from s (numbers_of s k)) (subst (λ n. VaryFirst s n (cells_from s (numbers_of s k))) (sym many) (formals_vary s agrees k))
+
+    cells_written : Written s (filled_behind result values cells) cells cells'
+    cells_written =
         let fit = formals_fit s k result heading body in
         let le : results result + length values ≤ length cells = omega (arith, fit, many) in
-        cells_filled_behind ValAt result values values' cells (machine.first_cells new_block) (first_at s code k (ProcedureText result heading body) block_kind.Procedure (type_of_name result) new_block is h.heads) each le
+        cells_filled_behind s result values values' cells (machine.first_cells new_block) first_here each le vary
 
     machine_fills_too : machine.filled (if is_nothing new_block.result_type then 0 else 1) values' (machine.first_cells new_block) ≡ Some cells'
     machine_fills_too =
         let fit = formals_fit s k result heading body in
         let n = each_length values values' each in
-        let more = cells_fit ValAt cells (machine.first_cells new_block) (first_at s code k (ProcedureText result heading body) block_kind.Procedure (type_of_name result) new_block is h.heads) in
+        let more = cells_fit s cells (machine.first_cells new_block) first_here in
         let le : results result + length values' ≤ length (machine.first_cells new_block) = omega (arith, fit, many, n, more) in
         ap (λ c. machine.filled c values' (machine.first_cells new_block)) (ap (λ z. if is_nothing z then 0 else 1) (h.heads).gives ∙ behind_result result) ∙ machine_fills (results result) values' (machine.first_cells new_block) le
 
@@ -248,16 +302,19 @@ module _ (s : Source) (code : CodeOf) (compiled : Compiled s code) (l : Limits) 
     abbrev kept_fs : Frames
     kept_fs = frames_kept new_block (top ∷ below) fs
 
+    own_parameters : parameters_of s k (text s k) ≡ formals_of s k
+    own_parameters = ap (parameters_of s k) is
+
     kept : Changed s code Every m fs kept_m kept_fs
-    kept = both_kept s code m fs here.store chain (top ∷ below) (chain_owners s code m fs chain (has_result result) under waiting_here) k block_kind.Procedure (type_of_name result) new_block h.heads
+    kept = both_kept s code m fs here.store chain (top ∷ below) (chain_owners s code m fs chain (has_result result) under waiting_here) k block_kind.Procedure (type_of_name result) new_block h.heads own_parameters
 
     abbrev new : Instance (List Held)
-    new = new_instance s k (Some j) cells_at.now
+    new = new_instance s k (Some j) cells_written.now
 
     abbrev frame : Instance Cells
     frame = new_frame s code (block_number s k) new_block (Some j) cells'
 
-    state_entered : Related (record { chain = record { instance = length kept_m.instances; work = Do (Exec body) ∷ EndProcedure (has_result result) ∷ []; values = [] } ∷ chain; memory = later_m s code kept_m kept_fs kept.store new frame (NoObject None) (NoObject None) }) (record { chain = record { thunk = false; home = length kept_fs.instances; pc = new_block.entry; stack = []; room = new_block.room } ∷ under; memory = later_fs s code kept_m kept_fs kept.store new frame (NoObject None) (NoObject None) })
+    state_entered : Related (record { chain = record { instance = length kept_m.instances; work = Do (Exec body) ∷ EndProcedure (has_result result) ∷ []; values = [] } ∷ chain; memory = later_m s code kept_m kept_fs kept.store new frame (NoObject None) (NoObject None) }) (record { chain = record { thunk = false; home = length kept_fs.instances; pc = new_block.entry; stack = []; room = new_block.room; stage = stage.NoStage } ∷ under; memory = later_fs s code kept_m kept_fs kept.store new frame (NoObject None) (NoObject None) })
     state_entered =
         let heads = h.heads in
         let code_body = h.body in
@@ -265,21 +322,29 @@ module _ (s : Source) (code : CodeOf) (compiled : Compiled s code) (l : Limits) 
         let fs' = later_fs s code kept_m kept_fs kept.store new frame (NoObject None) (NoObject None) in
         let Below : Bool → Type 0 = λ v. ChainAt s code m' fs' chain v under in
         let out = (kept.later).stands j around link in
-        let stands : Stands s m' (length kept_m.instances) k = new_inside s kept_m k j around new (NoObject None) refl refl refl in_text out in
+        let stands : Stands s m' (length kept_m.instances) k = new_inside s kept_m k j around new (NoObject None) (sym own) refl refl (ap (encloser s.tables) own ∙ in_text) out in
         let chain_kept = chain_changed s code kept chain (all_every chain) (has_result result) under waiting_here in
         let parked_kept = parked_changed s code kept (kept_every m) here.parked in
         let chain_there = chain_entered s code kept_m kept_fs kept.store new frame (NoObject None) (NoObject None) chain (has_result result) under chain_kept in
-        let size : length cells' ≡ length new_block.types = put_length (results result) values' (machine.first_cells new_block) ∙ first_size s code new_block in
-        let pair = instance_at s code k (ProcedureText result heading body) block_kind.Procedure (type_of_name result) new_block is heads found (Some j) cells_at.now cells' cells_at.at cells_at.keys size in
-        let low' : length (cells_in s k (text s k)) ≤ new_block.cells = omega (arith, heads.cells) in
-        enters s code kept_m kept_fs kept.store new frame (NoObject None) (NoObject None) (parked_entered s code kept_m kept_fs kept.store new frame (NoObject None) (NoObject None) tt parked_kept) chain under k new_block pair found stands (Do (Exec body) ∷ EndProcedure (has_result result) ∷ []) new_block.cells new_block.entry
-        (pends s code m' fs' Below (length kept_m.instances) k new_block new_block.cells low' (EndProcedure (has_result result) ∷ []) (Exec body) new_block.entry code_body.stop [] [] (straight code_body.body, refl)
-        (ends_at s code m' fs' Below (length kept_m.instances) k new_block new_block.cells (EndProcedure (has_result result)) [] code_body.stop [] (record { result = result; heading = heading; body = body; is = is; same = refl; ends = record { last = code_body.last; at = code_body.ends; heads = heads; none = refl; below = chain_there } })))
+        let size : length cells' ≡ length new_block.types = put_length (results result) values' (machine.first_cells new_block) ∙ first_size s code agrees k block_kind.Procedure (type_of_name result) new_block heads in
+        let n = each_length values values' each in
+        let fit = formals_fit s k result heading body in
+        let count : length (cells_in s k (text s k)) ≡ length cells = ap (λ z. length (cells_in s k z)) is in
+        let none : (c : ℕ) → length (cells_in s k (text s k)) ≤ c → c < length (own_part s k) → joined (slice_get cells' c) ≡ None = λ c le lt.
+        (let past : results result + length values' ≤ c = omega (arith, le, n, fit, many, count) in
+        ap joined (put_behind (results result) values' (machine.first_cells new_block) c past) ∙ first_none s code agrees k block_kind.Procedure (type_of_name result) new_block heads c le lt) in
+        let pair = instance_at s code agrees k block_kind.Procedure (type_of_name result) new_block heads found own (Some j) cells_written.now cells' cells_written.at (cells_written.keys ∙ ap (λ z. map key_of (cells_in s k z)) (sym is)) size none in
+        let low' = used_low s code agrees k own in
+        let used = own_end s code k in
+        enters s code kept_m kept_fs kept.store new frame (NoObject None) (NoObject None) (parked_entered s code kept_m kept_fs kept.store new frame (NoObject None) (NoObject None) tt parked_kept) chain under k (plainly new_block) pair (ap (λ z. slice_get code.blocks (block_number s z)) own ∙ found) stands stands (Do (Exec body) ∷ EndProcedure (has_result result) ∷ []) used new_block.entry
+        (pends s code m' fs' Below (length kept_m.instances) k (plainly new_block) used low' (EndProcedure (has_result result) ∷ []) (Exec body) new_block.entry code_body.stop [] [] (straight code_body.body, refl)
+        (ends_at s code m' fs' Below (length kept_m.instances) k (plainly new_block) used (EndProcedure (has_result result)) [] code_body.stop []
+        (subst (λ z. EndAt s code Below z (plainly new_block) (EndProcedure (has_result result)) code_body.stop []) (sym own) (record { result = result; heading = heading; body = body; is = is; same = refl; ends = record { last = code_body.last; at = code_body.ends; heads = heads; none = refl; below = chain_there } }))))
 
     worlds_same : (p : World) → handed_over (length fs.instances) (machine.arrays_by_value new_block.formals values') p ≡ handed_over (length m.instances) (arrays_by_value (formals_of s k) values) p
     worlds_same p =
         let heads = h.heads in
-        ap (λ z. handed_over (length fs.instances) (machine.arrays_by_value z values') p) heads.formals ∙ ap (λ z. handed_over (length fs.instances) z p) (arrays_same (formals_of s k) values values' each) ∙ ap (λ n. handed_over n (arrays_by_value (formals_of s k) values) p) (sym (here.store).as_many)
+        ap (λ z. handed_over (length fs.instances) (machine.arrays_by_value z values') p) (heads.formals ∙ ap (map code_formal) own_parameters) ∙ ap (λ z. handed_over (length fs.instances) z p) (arrays_same (formals_of s k) values values' each) ∙ ap (λ n. handed_over n (arrays_by_value (formals_of s k) values) p) (sym (here.store).as_many)
 
     in_same_world : (p p' : World) (c : Configuration) (x : Machine) → p' ≡ p → Related c x → Alike Related (Going p c) (Going p' x)
     in_same_world p p' c x e r = subst (λ z. Alike Related (Going p c) (Going z x)) (sym e) (going r)
@@ -289,35 +354,49 @@ module _ (s : Source) (code : CodeOf) (compiled : Compiled s code) (l : Limits) 
     procedure_enters =
         let heads = h.heads in
         block_alike s code o block_kind.Procedure (block_number s k) new_block found (ap (λ z. same_kind z block_kind.Procedure) heads.is_kind) (h.body).there _ _ (λ x ex.
-        found_left (List Held) (filled_behind result values cells) cells_at.now _ _ cells_at.is
+        found_left (List Held) (filled_behind result values cells) cells_written.now _ _ cells_written.is
         (alike_found Configuration Machine Related Cells (machine.filled (if is_nothing new_block.result_type then 0 else 1) values' (machine.first_cells new_block)) cells' o _ _ machine_fills_too
-        (alike_entering Configuration Machine Related l line line (words_of_cells cells) (words_of_block new_block) o _ _ refl (words_same s k (ProcedureText result heading body) new_block is heads.cells) (λ p.
+        (alike_entering Configuration Machine Related l line line (words_of_cells cells) (words_of_block new_block) o _ _ refl (words_same s code agrees k (ProcedureText result heading body) new_block is refl heads.cells) (λ p.
         in_same_world _ _ _ _ (worlds_same p) state_entered))))
 
   by_equal : (A : Type 0) (x y : A) (f : A → Run Configuration) (q : Run Machine) → x ≡ y → Alike Related (f y) q → Alike Related (f x) q
   by_equal A x y f q e h = subst (λ z. Alike Related (f z) q) (sym e) h
 
-  -- the link is an instance of the text around
-  called_at : (k n line : ℕ) (a : CallOpIs s code (site_at t b u) k n line pc q ks ks') → (values : List Val) (values' : List Value) → EachAt ValAt values values' → length values ≡ n → (v : Val) (x : Value) (vals2 : List Val) (stack2 : List Value) → LinkIs s m a.text v x → StackAt (HandAt s m) a.left vals2 stack2
+  -- a link of either kind, to an instance of the text around
+  pub record LinkFound (text : ℕ) (v : Val) (x : Value) : Type 0 where
+    pub instance : ℕ
+    pub is_val : instance_in v ≡ Some instance
+    pub is_value : machine.frame_in x ≡ Some instance
+    pub stands : Stands s m instance text
+
+  link_found : (k : Kind) (text : ℕ) → IsLink k text → (v : Val) (x : Value) → HandAt s code m k v x → LinkFound text v x
+  link_found (LinkTo u) text e v x h = record { instance = h.instance; is_val = ap instance_in h.is_val; is_value = ap machine.frame_in h.is_value; stands = subst (λ z. Stands s m h.instance z) e h.stands }
+  link_found (OwnerOf u) text e v x h = record { instance = h.instance; is_val = ap instance_in h.is_val; is_value = ap machine.frame_in h.is_value; stands = subst (λ z. Stands s m h.instance z) e h.stands }
+  link_found Any text e v x h = absurd e
+  link_found Located text e v x h = absurd e
+  link_found (Refers k) text e v x h = absurd e
+  link_found (FixedOf d) text e v x h = absurd e
+
+  called_at : (k n line : ℕ) (a : CallOpIs s code (site_at t b u) k n line pc q ks ks') → (values : List Val) (values' : List Value) → EachAt ValAt values values' → length values ≡ n → (v : Val) (x : Value) (vals2 : List Val) (stack2 : List Value) → LinkFound a.text v x → StackAt (HandAt s code m) a.left vals2 stack2
       → Alike Related (having (instance_in v) o (λ j. when (is_live m j) o (procedure_entered s l o m inst w vals2 rest k line values j (text s k))))
       (having (machine.frame_in x) o (λ parent. when (is_live fs parent) o (machine.block_at code block_kind.Procedure (pos (block_number s k)) o (λ n b x. having (machine.filled (if is_nothing b.result_type then 0 else 1) values' (machine.first_cells b)) o (λ cells. entering l line (words_of_block b) o (λ p. in_frame (handed_over (length fs.instances) (machine.arrays_by_value b.formals values') p) (frames_kept b (top ∷ below) fs) n b (Some parent) cells (waiting top stack2 ∷ below)))))))
   called_at k n line a values values' each counted v x vals2 stack2 link h =
       let j = link.instance in
       let p = a.procedure in
-      let c = code_there s code compiled k (ProcedureText p.result p.heading p.body) p.is in
+      let c = code_there s code compiled k (ProcedureText p.result p.heading p.body) p.is refl in
       let has = procedure_code s code k p.result p.heading p.body c.block c.has in
       let under = waits (has_result p.result) a.left vals2 stack2 h (λ _. a.fits) a.out (a.is).on in
-      found_left ℕ (instance_in v) j _ _ (ap instance_in link.is_val)
-      (alike_found Configuration Machine Related ℕ (machine.frame_in x) j o _ _ (ap machine.frame_in link.is_value)
+      found_left ℕ (instance_in v) j _ _ link.is_val
+      (alike_found Configuration Machine Related ℕ (machine.frame_in x) j o _ _ link.is_value
       (when_equal s code compiled l o (is_live m j) (is_live fs j) _ _ (sym (is_live_same s code m fs here.store j))
       (by_equal (Option Text) (text s k) (Some (ProcedureText p.result p.heading p.body)) (λ z. procedure_entered s l o m inst w vals2 rest k line values j z) _ p.is
       (procedure_enters k line p.result p.heading p.body p.is c.block c.found has j a.text p.stands_in link.stands values values' each (counted ∙ a.as_many) vals2 stack2 under))))
 
-  call_row : (n : ℕ) (r : Run Configuration) (go : ℕ → Run Machine) → Alike Related r (go n) → Alike Related r (machine.index (pos n) o go)
+  pub call_row : (n : ℕ) (r : Run Configuration) (go : ℕ → Run Machine) → Alike Related r (go n) → Alike Related r (machine.index (pos n) o go)
   unfolding machine.index
   call_row n r go h = alike_found Configuration Machine Related ℕ (number (pos n)) n o r go refl h
 
-  same_hand : (v : Val) (x : Value) → HandAt s m Any v x → plain v ≡ machine.plain x
+  pub same_hand : (v : Val) (x : Value) → HandAt s code m Any v x → plain v ≡ machine.plain x
   same_hand _ _ plain_at = refl
   same_hand _ _ link_at = refl
   same_hand _ _ array_at = refl
@@ -328,9 +407,9 @@ module _ (s : Source) (code : CodeOf) (compiled : Compiled s code) (l : Limits) 
   call k n line a =
       at_row s code l o fs top below _ (i.Call (pos (block_number s k)) (pos n)) line q a.is
       (call_row n _ _
-      (counted_many Configuration Machine Related (HandAt s m) n n (LinkTo a.text ∷ a.left) [] [] vals stack o _ _ (kinds_as s code a.«in» here.values) tt (omega arith) (λ values values' vals1 stack1 each counted h1.
-      hand_popping Configuration Machine Related Val Value (HandAt s m) plain machine.plain same_hand (LinkTo a.text) a.left vals1 stack1 o _ _ h1 (λ v x vals2 stack2 ev ex link h2.
-      called_at k n line a values values' each counted v x vals2 stack2 link h2))))
+      (counted_many Configuration Machine Related (HandAt s code m) n n (a.link ∷ a.left) [] [] vals stack o _ _ (kinds_as s code a.«in» here.values) tt (omega arith) (λ values values' vals1 stack1 each counted h1.
+      hand_popping Configuration Machine Related Val Value (HandAt s code m) plain machine.plain same_hand a.link a.left vals1 stack1 o _ _ h1 (λ v x vals2 stack2 ev ex link h2.
+      called_at k n line a values values' each counted v x vals2 stack2 (link_found a.link a.text a.links v x link) h2))))
 
   -- ---- arrays
 
@@ -341,12 +420,12 @@ module _ (s : Source) (code : CodeOf) (compiled : Compiled s code) (l : Limits) 
   element_kind_is type_kind.Text = refl
   element_kind_is type_kind.Reference = refl
 
-  array_pushed : (left : List Kind) (vals2 : List Val) (stack2 : List Value) (p : World) (array : ℕ) → StackAt (HandAt s m) left vals2 stack2 → length left < b.room → ks' ≡ anys 1 left → q ≡ suc pc → Alike Related (go p m inst w (ArrayValue array ∷ vals2) rest) (machine.pushing b.room stack2 (machine.ArrayValue array) p (λ stack. machine.on p fs top stack below))
+  array_pushed : (left : List Kind) (vals2 : List Val) (stack2 : List Value) (p : World) (array : ℕ) → StackAt (HandAt s code m) left vals2 stack2 → length left < b.block.room → ks' ≡ anys 1 left → q ≡ suc pc → Alike Related (go p m inst w (ArrayValue array ∷ vals2) rest) (machine.pushing b.block.room stack2 (machine.ArrayValue array) p (λ stack. machine.on p fs top stack below))
   unfolding machine.pushing when
   array_pushed left vals2 stack2 p array h fits e place =
       let n = stack_length left vals2 stack2 h in
-      let less : nat_lt (length stack2) b.room ≡ true = grind (arith, n, fits) in
-      chosen (λ z. Alike Related (go p m inst w (ArrayValue array ∷ vals2) rest) z) (nat_lt (length stack2) b.room) _ (no_rule p) less
+      let less : nat_lt (length stack2) b.block.room ≡ true = grind (arith, n, fits) in
+      chosen (λ z. Alike Related (go p m inst w (ArrayValue array ∷ vals2) rest) z) (nat_lt (length stack2) b.block.room) _ (no_rule p) less
       (goes s code u q (with_values s code here (more_at array_at h)) (subst (λ z. WorkAt s code m fs (λ v. ChainAt s code m fs rest v below) inst t b u w q z) e work) place)
 
   pub array : (kind : TypeKind) (n line : ℕ) → Follows (ArrayOp kind n line)
@@ -354,5 +433,5 @@ module _ (s : Source) (code : CodeOf) (compiled : Compiled s code) (l : Limits) 
       at_row s code l o fs top below _ (i.Array (element_number kind) (pos n)) line q a.is
       (alike_found Configuration Machine Related TypeKind (rows.element_kind (element_number kind)) kind o _ _ (element_kind_is kind)
       (call_row n _ _
-      (hand_integers Configuration Machine Related Val Value (HandAt s m) plain machine.plain same_hand (2 * n) a.left [] vals stack o _ _ (kinds_as s code a.«in» here.values) (λ bounds vals2 stack2 h.
+      (hand_integers Configuration Machine Related Val Value (HandAt s code m) plain machine.plain same_hand (2 * n) a.left [] vals stack o _ _ (kinds_as s code a.«in» here.values) (λ bounds vals2 stack2 h.
       alike_making Configuration Machine Related l line inst kind (pairs bounds) o _ _ (λ array p. array_pushed a.left vals2 stack2 p array h a.fits a.out (a.is).on)))))

@@ -1,5 +1,5 @@
 -- The formal parameters of a procedure: as many as the actual ones, and no more than its cells.
-use Rattle.std.proofs.Common.{◌≡◌, ℕ, zero, suc, ◌+◌, ◌≤◌, List, [], ◌∷◌, length, Option, Some, None, refl, ap, ◌∙◌, arith}
+use Rattle.std.proofs.Common.{◌≡◌, ℕ, zero, suc, ◌+◌, ◌≤◌, Bool, List, [], ◌∷◌, length, Option, Some, None, refl, ap, ◌∙◌, arith}
 use Rattle.std.specs.Prelude.{slice_get, take}
 use Rattle.sim_base.specs.declared.numbering.DeclNo.{DeclNo}
 use Rattle.sim_scope.specs.declared.types.Entry.{Entry}
@@ -21,11 +21,11 @@ use Rattle.codegen_expr.specs.CodeExpr.{ActualsAt, operands}
 use Rattle.codegen_expr.specs.Sites.{Site}
 use Rattle.sim_relate.proofs.Slots.{results}
 
-pub actuals_counted : (s : Source) (code : CodeOf) (site : Site) (line n : ℕ) (es : Expressions) (fs : List Formal) (p q : ℕ) → ActualsAt s code site n line es fs p q → operands es ≡ length fs
-actuals_counted s code site line n NoMore [] p q a = refl
-actuals_counted s code site line n NoMore (f ∷ fs) p q a = absurd a
-actuals_counted s code site line n (Then e es) [] p q a = absurd a
-actuals_counted s code site line n (Then e es) (f ∷ fs) p q a = ap suc (actuals_counted s code site line (suc n) es fs a.0 q a.2)
+pub actuals_counted : (s : Source) (code : CodeOf) (site : Site) (line n : ℕ) (keeps : Bool) (es : Expressions) (fs : List Formal) (p q : ℕ) → ActualsAt s code site n line keeps es fs p q → operands es ≡ length fs
+actuals_counted s code site line n keeps NoMore [] p q a = refl
+actuals_counted s code site line n keeps NoMore (f ∷ fs) p q a = absurd a
+actuals_counted s code site line n keeps (Then e es) [] p q a = absurd a
+actuals_counted s code site line n keeps (Then e es) (f ∷ fs) p q a = ap suc (actuals_counted s code site line (suc n) keeps es fs a.0 q a.2)
 
 -- ---- both words for the formal parameters
 

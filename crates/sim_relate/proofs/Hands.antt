@@ -11,7 +11,7 @@ use Rattle.sim_code.specs.Events.{answering, applying_one, applying_two, having,
 use Rattle.sim_code.specs.Arrays.{element_place, finding_element, live_array}
 use Rattle.sim_code.proofs.Lifts.{EachAt, alike_answering, alike_computing, alike_equal, alike_same, Both}
 use Rattle.sim_code.proofs.Simulation.{Alike}
-use Rattle.sim_relate.proofs.Relation.{Any, Kind, StackAt, anys, more_at, none_at, AllRead, IsRead}
+use Rattle.sim_relate.proofs.Known.{Any, Kind, StackAt, anys, more_at, none_at, AllRead, IsRead}
 use Rattle.sim_values.specs.Texts.{assign}
 
 pub stack_length : {V X : Type 0} {W : Kind → V → X → Type 0} (ks : List Kind) (vals : List V) (stack : List X) → StackAt W ks vals stack → length ks ≡ length stack

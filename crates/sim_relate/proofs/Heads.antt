@@ -8,7 +8,7 @@ use Rattle.sim_code.proofs.Lifts.{Both}
 use Rattle.sim_meaning.specs.Pending.{Held, Instances}
 use Rattle.sim_relate.proofs.Lists.{append_before}
 use Rattle.sim_relate.proofs.Reach.{if_false}
-use Rattle.sim_relate.proofs.Relation.{Later, Stands, inside, outermost, seen_at, seen_within}
+use Rattle.sim_relate.proofs.Known.{Later, Stands, inside, outermost, seen_at, seen_within}
 
 -- ---- both there
 

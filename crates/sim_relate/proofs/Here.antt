@@ -1,11 +1,11 @@
 -- Related states, put together.
-use Rattle.std.proofs.Common.{◌≡◌, ℕ, List, ◌∷◌, false, Some, refl, subst}
+use Rattle.std.proofs.Common.{◌≡◌, ℕ, List, ◌∷◌, false, Some, refl, ap, ◌∙◌, subst}
 use Rattle.std.specs.Prelude.{slice_get}
 use Rattle.sim_base.specs.declared.limits.Limits.{Limits}
 use Rattle.sim_scope.specs.Source.{Source}
 use Rattle.sim_code.specs.declared.instr.Instr.{Instr}
 use Rattle.sim_code.specs.declared.instr.Lined.{Lined}
-use Rattle.sim_code.specs.Code.{BlockOf, CodeOf}
+use Rattle.sim_code.specs.Code.{CodeOf}
 use Rattle.sim_code.specs.Outcome.{Going, Run, World}
 use Rattle.sim_code.specs.Machine.{Frames, Machine, Value}
 use Rattle.sim_code.specs.Machine as machine
@@ -14,37 +14,39 @@ use Rattle.sim_code.proofs.Lifts.{alike_found}
 use Rattle.sim_code.proofs.Simulation.{Alike, going}
 use Rattle.sim_meaning.specs.Pending.{Activation, Configuration, Instances, Item, Val}
 use Rattle.sim_meaning.specs.Steps.{go}
-use Rattle.sim_meaning.specs.Sane.{AllKept, AllOf, Lives, Other}
-use Rattle.codegen_expr.specs.Sites.{At, lined}
-use Rattle.codegen_expr.specs.CodeExpr.{block_number}
-use Rattle.sim_relate.proofs.Relation.{ChainAt, HandAt, Kind, StackAt, StandingsAt, Stands, StateAt, StoreAt, WorkAt}
+use Rattle.sim_meaning.specs.Sane.{AllKept, AllOf, LastNames, Lives, Other}
+use Rattle.codegen_expr.specs.Sites.{At, block_number, lined, frame_text}
+use Rattle.sim_relate.proofs.Known.{HandAt, Kind, StackAt, Stands, Runs, SameFrame}
+use Rattle.sim_relate.proofs.Frames.{stands_same}
+use Rattle.sim_relate.proofs.Relation.{ChainAt, StandingsAt, StateAt, StoreAt, WorkAt}
 
 -- the activation of an instance
-abbrev pub act : (inst pc : ℕ) → List Value → (room : ℕ) → machine.Activation
-act inst pc stack room = record { thunk = false; home = inst; pc = pc; stack = stack; room = room }
+abbrev pub act : (inst pc : ℕ) → List Value → Runs → machine.Activation
+act inst pc stack b = record { thunk = false; home = inst; pc = pc; stack = stack; room = b.block.room; stage = b.stage }
 
 -- where both sides stand, apart from the work
-pub record There (s : Source) (code : CodeOf) (m : Instances) (fs : Frames) (inst t : ℕ) (b : BlockOf) (ks : List Kind) (vals : List Val) (stack : List Value) : Type 0 where
+pub record There (s : Source) (code : CodeOf) (m : Instances) (fs : Frames) (inst t : ℕ) (b : Runs) (ks : List Kind) (vals : List Val) (stack : List Value) : Type 0 where
   pub store : StoreAt s code m fs
   pub parked : StandingsAt s code m fs
   pub stands : Stands s m inst t
-  pub found : slice_get code.blocks (block_number s t) ≡ Some b
-  pub values : StackAt (HandAt s m) ks vals stack
+  pub found : slice_get code.blocks (block_number s (frame_text s t)) ≡ Some b.block
+  pub values : StackAt (HandAt s code m) ks vals stack
 
 -- The same of the instance that operates: it lives with its enclosers, and stands at no other place of the chains.
-pub record Here (s : Source) (code : CodeOf) (m : Instances) (fs : Frames) (inst : ℕ) (rest : List Activation) (t : ℕ) (b : BlockOf) (ks : List Kind) (vals : List Val) (stack : List Value) : Type 0 where
+pub record Here (s : Source) (code : CodeOf) (m : Instances) (fs : Frames) (inst : ℕ) (rest : List Activation) (t : ℕ) (b : Runs) (ks : List Kind) (vals : List Val) (stack : List Value) : Type 0 where
   pub store : StoreAt s code m fs
   pub parked : StandingsAt s code m fs
   pub lives : Lives m inst
   pub alone : AllOf (Other inst) rest
   pub kept_alone : AllKept (Other inst) m
+  pub names : LastNames s m vals
   pub stands : Stands s m inst t
-  pub found : slice_get code.blocks (block_number s t) ≡ Some b
-  pub values : StackAt (HandAt s m) ks vals stack
+  pub found : slice_get code.blocks (block_number s (frame_text s t)) ≡ Some b.block
+  pub values : StackAt (HandAt s code m) ks vals stack
 
 module _ (s : Source) (code : CodeOf) where
-  pub state_at : {m : Instances} {fs : Frames} {inst t : ℕ} {b : BlockOf} {ks : List Kind} {vals : List Val} {stack : List Value} {w : List Item} {rest : List Activation} {pc : ℕ} {below : List machine.Activation} (used p : ℕ) → There s code m fs inst t b ks vals stack → WorkAt s code m fs (λ v. ChainAt s code m fs rest v below) inst t b used w p ks → p ≡ pc
-      → StateAt s code (record { chain = record { instance = inst; work = w; values = vals } ∷ rest; memory = m }) (record { chain = act inst pc stack b.room ∷ below; memory = fs })
+  pub state_at : {m : Instances} {fs : Frames} {inst t : ℕ} {b : Runs} {ks : List Kind} {vals : List Val} {stack : List Value} {w : List Item} {rest : List Activation} {pc : ℕ} {below : List machine.Activation} (used p : ℕ) → There s code m fs inst t b ks vals stack → WorkAt s code m fs (λ v. ChainAt s code m fs rest v below) inst t b used w p ks → p ≡ pc
+      → StateAt s code (record { chain = record { instance = inst; work = w; values = vals } ∷ rest; memory = m }) (record { chain = act inst pc stack b ∷ below; memory = fs })
   state_at {m} {fs} {inst} {t} {b} {ks} {vals} {stack} {w} {rest} {pc} {below} used p here work e = record {
     chain = record {
       base = refl;
@@ -54,6 +56,7 @@ module _ (s : Source) (code : CodeOf) where
       found = here.found;
       stands = here.stands;
       room = refl;
+      stage = refl;
       kinds = ks;
       values = here.values;
       fits = λ no. absurd (cc);
@@ -64,20 +67,34 @@ module _ (s : Source) (code : CodeOf) where
     parked = here.parked;
   }
 
-  pub goes : {o : World} {m : Instances} {fs : Frames} {inst t : ℕ} {b : BlockOf} {ks : List Kind} {vals : List Val} {stack : List Value} {w : List Item} {rest : List Activation} {pc : ℕ} {below : List machine.Activation} (used p : ℕ) → There s code m fs inst t b ks vals stack → WorkAt s code m fs (λ v. ChainAt s code m fs rest v below) inst t b used w p ks → p ≡ pc
-      → Alike (StateAt s code) (go o m inst w vals rest) (Going o (record { chain = act inst pc stack b.room ∷ below; memory = fs }))
+  pub goes : {o : World} {m : Instances} {fs : Frames} {inst t : ℕ} {b : Runs} {ks : List Kind} {vals : List Val} {stack : List Value} {w : List Item} {rest : List Activation} {pc : ℕ} {below : List machine.Activation} (used p : ℕ) → There s code m fs inst t b ks vals stack → WorkAt s code m fs (λ v. ChainAt s code m fs rest v below) inst t b used w p ks → p ≡ pc
+      → Alike (StateAt s code) (go o m inst w vals rest) (Going o (record { chain = act inst pc stack b ∷ below; memory = fs }))
   goes used p here work e = going (state_at used p here work e)
 
   -- the row of the instruction that stands there
   pub at_row : (l : Limits) (o : World) (fs : Frames) (a : machine.Activation) (below : List machine.Activation) (r : Run Configuration) (x : Instr) (line q : ℕ) → At code x line a.pc q → Alike (StateAt s code) r (row code l o fs a below line x) → Alike (StateAt s code) r (on_top code l o fs a below)
   at_row l o fs a below r x line q is like = alike_found Configuration Machine (StateAt s code) Lined (slice_get code.instrs a.pc) (lined x line) o r (λ y. row code l o fs a below y.line.0 y.instr) is.at like
 
-  pub there_of : {m : Instances} {fs : Frames} {inst : ℕ} {rest : List Activation} {t : ℕ} {b : BlockOf} {ks : List Kind} {vals : List Val} {stack : List Value} → Here s code m fs inst rest t b ks vals stack → There s code m fs inst t b ks vals stack
+  pub there_of : {m : Instances} {fs : Frames} {inst : ℕ} {rest : List Activation} {t : ℕ} {b : Runs} {ks : List Kind} {vals : List Val} {stack : List Value} → Here s code m fs inst rest t b ks vals stack → There s code m fs inst t b ks vals stack
   there_of here = record { store = here.store; parked = here.parked; stands = here.stands; found = here.found; values = here.values }
 
   -- the same place with other values
-  pub with_values : {m : Instances} {fs : Frames} {inst : ℕ} {rest : List Activation} {t : ℕ} {b : BlockOf} {ks ks' : List Kind} {vals vals' : List Val} {stack stack' : List Value} → Here s code m fs inst rest t b ks vals stack → StackAt (HandAt s m) ks' vals' stack' → There s code m fs inst t b ks' vals' stack'
+  pub with_values : {m : Instances} {fs : Frames} {inst : ℕ} {rest : List Activation} {t : ℕ} {b : Runs} {ks ks' : List Kind} {vals vals' : List Val} {stack stack' : List Value} → Here s code m fs inst rest t b ks vals stack → StackAt (HandAt s code m) ks' vals' stack' → There s code m fs inst t b ks' vals' stack'
   with_values here h = record { store = here.store; parked = here.parked; stands = here.stands; found = here.found; values = h }
 
-  pub kinds_as : {m : Instances} {ks ks' : List Kind} {vals : List Val} {stack : List Value} → ks ≡ ks' → StackAt (HandAt s m) ks vals stack → StackAt (HandAt s m) ks' vals stack
-  kinds_as {m} {vals = vals} {stack = stack} e h = subst (λ k. StackAt (HandAt s m) k vals stack) e h
+  pub kinds_as : {m : Instances} {ks ks' : List Kind} {vals : List Val} {stack : List Value} → ks ≡ ks' → StackAt (HandAt s code m) ks vals stack → StackAt (HandAt s code m) ks' vals stack
+  kinds_as {m} {vals = vals} {stack = stack} e h = subst (λ k. StackAt (HandAt s code m) k vals stack) e h
+
+  -- the same place, seen from another text with these frames
+  pub here_at : {m : Instances} {fs : Frames} {inst : ℕ} {rest : List Activation} {t v : ℕ} {b : Runs} {ks : List Kind} {vals : List Val} {stack : List Value} → SameFrame s v t → Here s code m fs inst rest t b ks vals stack → Here s code m fs inst rest v b ks vals stack
+  here_at {m} {inst = inst} {t = t} {v = v} {b = b} f here = record {
+    store = here.store;
+    parked = here.parked;
+    lives = here.lives;
+    alone = here.alone;
+    kept_alone = here.kept_alone;
+    names = here.names;
+    stands = stands_same s m inst v t f here.stands;
+    found = ap (λ z. slice_get code.blocks (block_number s z)) f.frame ∙ here.found;
+    values = here.values;
+  }

@@ -14,32 +14,31 @@ use Rattle.sim_values.specs.Texts.{Frame, assigned, blanks, concatenated, part, 
 use Rattle.sim_values.specs.Words.{is_exhausted}
 use Rattle.sim_code.specs.declared.instr.Instr.{Instr}
 use Rattle.sim_code.specs.declared.instr.Instr.TheVariants as i
-use Rattle.sim_code.specs.Code.{BlockOf, CodeOf}
+use Rattle.sim_code.specs.Code.{CodeOf}
 use Rattle.sim_code.specs.Outcome.{Ending, Going, Run, RunFault, StorageExhausted, World}
 use Rattle.sim_code.specs.Events.{answering, applying_two, computing, having, joining, making_text, no_rule, pop_plain, pop_text, popping, stopping, taking, text_val, with_texts}
 use Rattle.sim_code.specs.Instances.{at_level}
 use Rattle.sim_code.specs.Machine.{Frames, Machine, Value}
 use Rattle.sim_code.specs.Machine as machine
 use Rattle.sim_code.specs.Rows.{mstep}
-use Rattle.sim_code.proofs.Lifts.{alike_no_rule, alike_stopping}
 use Rattle.sim_code.proofs.Simulation.{Alike}
 use Rattle.sim_meaning.specs.Meaning.{do_op}
 use Rattle.sim_meaning.specs.Pending.{Activation, Configuration, Instances, Item, JoinOp, Val, plain}
 use Rattle.sim_meaning.specs.Pending as meaning
 use Rattle.sim_meaning.specs.Steps.{go}
-use Rattle.sim_meaning.specs.Texts.{text}
 use Rattle.sim_meaning.specs.Sane.{Other}
 use Rattle.codegen_expr.specs.CodeExpr.{Stand, join_instrs}
-use Rattle.codegen_expr.specs.Sites.{cells_in}
+use Rattle.codegen_expr.specs.Sites.{own_part, frame_text}
 use Rattle.sim_relate.specs.SameRuns.{seen_world}
-use Rattle.sim_relate.proofs.Relation.{ChainAt, Changed, HandAt, Kind, OpAt, StackAt, StateAt, StoreAt, ValAt, WorkAt, anys, array_at, element_at, image_at, link_at, more_at, placed, plain_at, site_at}
+use Rattle.sim_relate.proofs.Known.{HandAt, Kind, StackAt, ValAt, anys, array_at, element_at, image_at, link_at, more_at, placed, plain_at, site_at, Runs}
+use Rattle.sim_relate.proofs.Relation.{ChainAt, Changed, OpAt, StateAt, StoreAt, WorkAt}
 use Rattle.sim_relate.proofs.Carried.{changed_twice}
 use Rattle.sim_relate.proofs.Hands.{stack_length}
 use Rattle.sim_relate.proofs.Here.{Here, act, goes, kinds_as}
 use Rattle.sim_relate.proofs.JoinTexts.{first_assigns, frames1, new, second_assigns, smaller, sub_is, sum_bad, sum_ok}
 use Rattle.sim_relate.proofs.Living.{own_level}
 use Rattle.sim_relate.proofs.Moved.{moved, work_moved}
-use Rattle.sim_relate.proofs.Ranked.{Catches, InEach, Meets, caught, first, lags, meets, simply}
+use Rattle.sim_relate.proofs.Ranked.{AlikeIn, both_no_rule, both_stopping, Catches, InEach, Meets, caught, first, lags, meets, simply}
 use Rattle.sim_relate.proofs.Stores.{levels_same, temp_written}
 use Rattle.sim_relate.proofs.Straight.{RowIs, add_fault, add_row, assign_row, blanks_full, blanks_row, dup_row, int_row, length_full, length_row, load_row, made, pop_row, same_row, st, stands_at, stands_to, step_at, store_row, sub_row, takes_none, takes_some, takes_too_many, up}
 
@@ -111,7 +110,7 @@ module _ {S : Type 0} (o : World) where
 fits_on : (storage used wanted : ℕ) → is_exhausted storage used wanted ≡ false → is_exhausted storage (used + wanted) 0 ≡ false
 fits_on storage used wanted e = let same : used + wanted + 0 ≡ used + wanted = omega arith in ap (nat_lt storage) same ∙ e
 
-module _ (s : Source) (code : CodeOf) (l : Limits) (o : World) (m : Instances) (inst : ℕ) (w : List Item) (vals : List Val) (rest : List Activation) (fs : Frames) (t : ℕ) (b : BlockOf) (pc : ℕ) (stack : List Value) (below : List machine.Activation) (ks : List Kind) (here : Here s code m fs inst rest t b ks vals stack) (u q : ℕ) (ks' : List Kind) (low : length (cells_in s t (text s t)) ≤ u) (k : WorkAt s code m fs (λ v. ChainAt s code m fs rest v below) inst t b u w q ks') where
+module _ (s : Source) (code : CodeOf) (l : Limits) (o : World) (m : Instances) (inst : ℕ) (w : List Item) (vals : List Val) (rest : List Activation) (fs : Frames) (t : ℕ) (b : Runs) (pc : ℕ) (stack : List Value) (below : List machine.Activation) (ks : List Kind) (here : Here s code m fs inst rest t b ks vals stack) (u q : ℕ) (ks' : List Kind) (low : length (own_part s (frame_text s t)) ≤ u) (k : WorkAt s code m fs (λ v. ChainAt s code m fs rest v below) inst t b u w q ks') where
   abbrev R : Configuration → Machine → Type 0
   R = StateAt s code
 
@@ -121,29 +120,29 @@ module _ (s : Source) (code : CodeOf) (l : Limits) (o : World) (m : Instances) (
   -- frames in which some temps have other values
   record Temps (f : Frames) : Type 0 where
     changed : Changed s code (Other inst) m fs m f
-    own : (c : ℕ) → length (cells_in s t (text s t)) ≤ c → c < u → placed f inst c ≡ placed fs inst c
+    own : (c : ℕ) → length (own_part s (frame_text s t)) ≤ c → c < u → placed f inst c ≡ placed fs inst c
 
-  module _ (line temp : ℕ) (left : List Kind) (unused : u ≤ temp) (within : suc (suc temp) < length b.types) (room : suc (suc (length left)) < b.room) (joins : Stand code line (join_instrs (level_of s t) temp) pc q) (out : ks' ≡ anys 1 left)
-      (vals' : List Val) (stack' : List Value) (hands : StackAt (HandAt s m) left vals' stack') where
+  module _ (line temp : ℕ) (left : List Kind) (unused : u ≤ temp) (within : suc (suc temp) < length b.block.types) (room : suc (suc (length left)) < b.block.room) (joins : Stand code line (join_instrs (level_of s t) temp) pc q) (out : ks' ≡ anys 1 left)
+      (vals' : List Val) (stack' : List Value) (hands : StackAt (HandAt s code m) left vals' stack') where
     abbrev lev : ℕ
     lev = level_of s t
 
     abbrev at : ℕ → List Value → Frames → Machine
-    at n stk f = st code l line inst b.room below (up n pc) stk f
+    at n stk f = st code l line inst b below (up n pc) stk f
 
     abbrev Row : Instr → ℕ → World → List Value → Frames → Run Machine → Type 0
-    Row x n p stk f z = RowIs code l line inst b.room below x (up n pc) p stk f z
+    Row x n p stk f z = RowIs code l line inst b below x (up n pc) p stk f z
 
     deep : length left ≡ length stack'
     deep = stack_length left vals' stack' hands
 
-    fits0 : length stack' < b.room
+    fits0 : length stack' < b.block.room
     fits0 = let e = deep in omega (arith, e, room)
 
-    fits1 : suc (length stack') < b.room
+    fits1 : suc (length stack') < b.block.room
     fits1 = let e = deep in omega (arith, e, room)
 
-    fits2 : suc (suc (length stack')) < b.room
+    fits2 : suc (suc (length stack')) < b.block.room
     fits2 = let e = deep in omega (arith, e, room)
 
     own_frame : (f : Frames) → StoreAt s code m f → at_level f lev inst ≡ Some inst
@@ -152,7 +151,7 @@ module _ (s : Source) (code : CodeOf) (l : Limits) (o : World) (m : Instances) (
     -- ---- steps
 
     steps : (n : ℕ) (x : Instr) (p : World) (stk : List Value) (f : Frames) (z : Run Machine) → slice_get (join_instrs lev temp) n ≡ Some x → Row x n p stk f z → g p (at n stk f) ≡ z
-    steps n x p stk f z e a = step_at code l line inst b.room below x (up n pc) (suc (up n pc)) p stk f z (stands_at code line (join_instrs lev temp) pc q joins n x e) a
+    steps n x p stk f z e a = step_at code l line inst b below x (up n pc) (suc (up n pc)) p stk f z (stands_at code line (join_instrs lev temp) pc q joins n x e) a
 
     silent : {r : Run Configuration} {stk stk' : List Value} {f f' : Frames} (n : ℕ) (x : Instr) → slice_get (join_instrs lev temp) n ≡ Some x → Row x n o stk f (Going o (at (suc n) stk' f')) → Meets g (InEach R) r o (at (suc n) stk' f') → Meets g (InEach R) r o (at n stk f)
     silent {stk = stk} {f = f} n x e a more = first (steps n x o stk f _ e a) more
@@ -161,10 +160,10 @@ module _ (s : Source) (code : CodeOf) (l : Limits) (o : World) (m : Instances) (
     lag {p = p} {stk = stk} {f = f} n x e a same more = lags (steps n x p stk f _ e a) same more
 
     both_end : (r : Run Configuration) (x : Machine) → r ≡ no_rule o → g o x ≡ no_rule o → Meets g (InEach R) r o x
-    both_end r x e f = meets (caught (simply (subst (λ z. Alike R r z) (sym f) (subst (λ z. Alike R z (no_rule o)) (sym e) (alike_no_rule Configuration Machine R o)))))
+    both_end r x e f = meets (caught (subst (λ z. AlikeIn (InEach R) r z) (sym f) (subst (λ z. AlikeIn (InEach R) z (no_rule o)) (sym e) (both_no_rule o))))
 
     both_stop : (e : Ending) (r : Run Configuration) (x : Machine) → r ≡ stopping e o → g o x ≡ stopping e o → Meets g (InEach R) r o x
-    both_stop e r x f h = meets (caught (simply (subst (λ z. Alike R r z) (sym h) (subst (λ z. Alike R z (stopping e o)) (sym f) (alike_stopping Configuration Machine R e o)))))
+    both_stop e r x f h = meets (caught (subst (λ z. AlikeIn (InEach R) r z) (sym h) (subst (λ z. AlikeIn (InEach R) z (stopping e o)) (sym f) (both_stopping e o))))
 
     -- the end
     ends : (p : World) (f : Frames) → Temps f → (x : TextVal) → Alike R (go p m inst w (meaning.Of (Text x) ∷ vals') rest) (Going p (at 31 (machine.Of (Text x) ∷ stack') f))
@@ -240,7 +239,7 @@ module _ (s : Source) (code : CodeOf) (l : Limits) (o : World) (m : Instances) (
       taken e = ap (λ c. let x = blanks frames (pos (la + lb)) in making_text l line (if c then with_both x x.answer ta tb else record { wanted = 0; frames = frames; answer = Err IntegerOverflow }) o (λ t p. go p m inst w (meaning.Of (Text t) ∷ vals') rest)) e
 
       -- behind `blanks`
-      behind_blanks : is_integer (pos (la + 1 + lb)) ≡ true → is_exhausted l.storage o.words words ≡ false → Catches g (InEach R) (after_words (let p : World = record o { words = o.words + words } in p)) (Going (made code l line inst b.room below o (la + lb)) (at 16 (machine.Of (Text (new frames ta tb)) ∷ stack') f))
+      behind_blanks : is_integer (pos (la + 1 + lb)) ≡ true → is_exhausted l.storage o.words words ≡ false → Catches g (InEach R) (after_words (let p : World = record o { words = o.words + words } in p)) (Going (made code l line inst b below o (la + lb)) (at 16 (machine.Of (Text (new frames ta tb)) ∷ stack') f))
       behind_blanks big fits =
           let one_more = smaller (la + 1) (la + 1 + lb) (omega arith) big in
           let vr : Value = machine.Of (Text (new frames ta tb)) in
@@ -249,27 +248,27 @@ module _ (s : Source) (code : CodeOf) (l : Limits) (o : World) (m : Instances) (
           let e3 = own_frame r.frames r.changed.store in
           let in_a3 : machine.cell r.frames inst temp ≡ Some va = r.reads_others temp (λ same. (let no : ⊥ = omega (arith, same) in no)) ∙ in_a in
           let in_b3 : machine.cell r.frames inst (suc temp) ≡ Some vb = r.reads_others (suc temp) (λ same. (let no : ⊥ = omega (arith, same) in no)) ∙ in_b in
-          let o2 = made code l line inst b.room below o (la + lb) in
+          let o2 = made code l line inst b below o (la + lb) in
           let o3 = with_texts o2 (assigned (frames1 frames ta tb) (new frames ta tb) ta) in
           let o4 = with_texts o3 both_frames in
           let full : is_exhausted l.storage (o.words + words) 0 ≡ false = fits_on l.storage o.words words fits in
-          let h0 = load_row code l line inst b.room below r.frames in
-          lag 16 (i.Store (pos lev) (pos (suc (suc temp)))) refl (store_row code l line inst b.room below f r.frames o2 (up 16 pc) vr stack' lev (suc (suc temp)) e r.is) refl
+          let h0 = load_row code l line inst b below r.frames in
+          lag 16 (i.Store (pos lev) (pos (suc (suc temp)))) refl (store_row code l line inst b below f r.frames o2 (up 16 pc) vr stack' lev (suc (suc temp)) e r.is) refl
           (lag 17 (i.Load (pos lev) (pos (suc (suc temp)))) refl (h0 o2 (up 17 pc) stack' lev (suc (suc temp)) vr e3 r.reads fits0) refl
           (lag 18 (i.Load (pos lev) (pos temp)) refl (h0 o2 (up 18 pc) (vr ∷ stack') lev temp va e3 in_a3 fits1) refl
-          (lag 19 i.AssignT refl (assign_row code l line inst b.room below r.frames o2 (up 19 pc) (new frames ta tb) ta stack' (first_assigns frames ta tb)) refl
+          (lag 19 i.AssignT refl (assign_row code l line inst b below r.frames o2 (up 19 pc) (new frames ta tb) ta stack' (first_assigns frames ta tb)) refl
           (lag 20 (i.Load (pos lev) (pos (suc (suc temp)))) refl (h0 o3 (up 20 pc) stack' lev (suc (suc temp)) vr e3 r.reads fits0) refl
           (lag 21 (i.Load (pos lev) (pos temp)) refl (h0 o3 (up 21 pc) (vr ∷ stack') lev temp va e3 in_a3 fits1) refl
-          (lag 22 (i.Std (pos 20)) refl (length_row code l line inst b.room below r.frames o3 (up 22 pc) ta (vr ∷ stack') full fits1) refl
-          (lag 23 (i.Int (pos 1)) refl (int_row code l line inst b.room below r.frames o3 (up 23 pc) (machine.Of (Integer (pos la)) ∷ vr ∷ stack') (pos 1) fits2) refl
-          (lag 24 i.Add refl (add_row code l line inst b.room below r.frames o3 (up 24 pc) (pos la) (pos 1) (pos (la + 1)) (vr ∷ stack') (sum_ok la 1 (la + 1) refl one_more)) refl
+          (lag 22 (i.Std (pos 20)) refl (length_row code l line inst b below r.frames o3 (up 22 pc) ta (vr ∷ stack') full fits1) refl
+          (lag 23 (i.Int (pos 1)) refl (int_row code l line inst b below r.frames o3 (up 23 pc) (machine.Of (Integer (pos la)) ∷ vr ∷ stack') (pos 1) fits2) refl
+          (lag 24 i.Add refl (add_row code l line inst b below r.frames o3 (up 24 pc) (pos la) (pos 1) (pos (la + 1)) (vr ∷ stack') (sum_ok la 1 (la + 1) refl one_more)) refl
           (lag 25 (i.Load (pos lev) (pos (suc temp))) refl (h0 o3 (up 25 pc) (machine.Of (Integer (pos (la + 1))) ∷ vr ∷ stack') lev (suc temp) vb e3 in_b3 fits2) refl
-          (lag 26 (i.Std (pos 20)) refl (length_row code l line inst b.room below r.frames o3 (up 26 pc) tb (machine.Of (Integer (pos (la + 1))) ∷ vr ∷ stack') full fits2) refl
-          (lag 27 (i.Std (pos 27)) refl (sub_row code l line inst b.room below r.frames o3 (up 27 pc) (la + 1) lb (new frames ta tb) (part (new frames ta tb) (la + 1) lb) stack' (sub_is frames ta tb) full fits0) refl
+          (lag 26 (i.Std (pos 20)) refl (length_row code l line inst b below r.frames o3 (up 26 pc) tb (machine.Of (Integer (pos (la + 1))) ∷ vr ∷ stack') full fits2) refl
+          (lag 27 (i.Std (pos 27)) refl (sub_row code l line inst b below r.frames o3 (up 27 pc) (la + 1) lb (new frames ta tb) (part (new frames ta tb) (la + 1) lb) stack' (sub_is frames ta tb) full fits0) refl
           (lag 28 (i.Load (pos lev) (pos (suc temp))) refl (h0 o3 (up 28 pc) (machine.Of (Text (part (new frames ta tb) (la + 1) lb)) ∷ stack') lev (suc temp) vb e3 in_b3 fits1) refl
-          (lag 29 i.AssignT refl (assign_row code l line inst b.room below r.frames o3 (up 29 pc) (part (new frames ta tb) (la + 1) lb) tb stack' (second_assigns frames ta tb)) refl
+          (lag 29 i.AssignT refl (assign_row code l line inst b below r.frames o3 (up 29 pc) (part (new frames ta tb) (la + 1) lb) tb stack' (second_assigns frames ta tb)) refl
           (lag 30 (i.Load (pos lev) (pos (suc (suc temp)))) refl (h0 o4 (up 30 pc) stack' lev (suc (suc temp)) vr e3 r.reads fits0) refl
-          (caught (simply (ends o4 r.frames (record {
+          (caught (simply (λ p same. absurd (cc)) (ends o4 r.frames (record {
             changed = changed_twice s code temps.changed r.changed;
             own = λ c le lt. r.others c (λ same. (let no : ⊥ = omega (arith, same, lt, unused) in no)) ∙ temps.own c le lt;
           }) (new frames ta tb))))))))))))))))))
@@ -279,49 +278,49 @@ module _ (s : Source) (code : CodeOf) (l : Limits) (o : World) (m : Instances) (
 
       words_split : (c : Bool) → is_exhausted l.storage o.words words ≡ c → is_integer (pos (la + 1 + lb)) ≡ true → Meets g (InEach R) (made_run o) o (at 15 sums f)
       words_split true e big =
-          both_stop (StorageExhausted line o.words words) (made_run o) (at 15 sums f) (taken big ∙ takes_too_many l line o after_words words e) (steps 15 (i.Std (pos 14)) o sums f _ refl (blanks_full code l line inst b.room below f o (up 15 pc) (la + lb) stack' e fits0))
+          both_stop (StorageExhausted line o.words words) (made_run o) (at 15 sums f) (taken big ∙ takes_too_many l line o after_words words e) (steps 15 (i.Std (pos 14)) o sums f _ refl (blanks_full code l line inst b below f o (up 15 pc) (la + lb) stack' e fits0))
       words_split false e big =
-          meets (subst (λ z. Catches g (InEach R) (made_run o) z) (sym (steps 15 (i.Std (pos 14)) o sums f _ refl (blanks_row code l line inst b.room below f o (up 15 pc) (la + lb) stack' e fits0)))
-          (subst (λ z. Catches g (InEach R) z (Going (made code l line inst b.room below o (la + lb)) (at 16 (machine.Of (Text (new frames ta tb)) ∷ stack') f))) (sym (taken big ∙ takes_some l line o after_words words e)) (behind_blanks big e)))
+          meets (subst (λ z. Catches g (InEach R) (made_run o) z) (sym (steps 15 (i.Std (pos 14)) o sums f _ refl (blanks_row code l line inst b below f o (up 15 pc) (la + lb) stack' e fits0)))
+          (subst (λ z. Catches g (InEach R) z (Going (made code l line inst b below o (la + lb)) (at 16 (machine.Of (Text (new frames ta tb)) ∷ stack') f))) (sym (taken big ∙ takes_some l line o after_words words e)) (behind_blanks big e)))
 
       abbrev lengths : List Value
       lengths = machine.Of (Integer (pos lb)) ∷ machine.Of (Integer (pos la)) ∷ stack'
 
       sum_of_both : is_integer (pos (la + lb)) ≡ true → Meets g (InEach R) (made_run o) o (at 13 (machine.Of (Integer (pos 1)) ∷ machine.Of (Integer (pos (la + lb))) ∷ sums) f) → Meets g (InEach R) (made_run o) o (at 10 lengths f)
       sum_of_both small more =
-          silent 10 i.Add refl (add_row code l line inst b.room below f o (up 10 pc) (pos la) (pos lb) (pos (la + lb)) stack' (sum_ok la lb (la + lb) refl small))
-          (silent 11 i.Dup refl (dup_row code l line inst b.room below f o (up 11 pc) (machine.Of (Integer (pos (la + lb)))) stack' fits1)
-          (silent 12 (i.Int (pos 1)) refl (int_row code l line inst b.room below f o (up 12 pc) (machine.Of (Integer (pos (la + lb))) ∷ sums) (pos 1) fits2) more))
+          silent 10 i.Add refl (add_row code l line inst b below f o (up 10 pc) (pos la) (pos lb) (pos (la + lb)) stack' (sum_ok la lb (la + lb) refl small))
+          (silent 11 i.Dup refl (dup_row code l line inst b below f o (up 11 pc) (machine.Of (Integer (pos (la + lb)))) stack' fits1)
+          (silent 12 (i.Int (pos 1)) refl (int_row code l line inst b below f o (up 12 pc) (machine.Of (Integer (pos (la + lb))) ∷ sums) (pos 1) fits2) more))
 
       sum_too_great : (c : Bool) → is_integer (pos (la + lb)) ≡ c → is_integer (pos (la + 1 + lb)) ≡ false → is_exhausted l.storage o.words 0 ≡ false → Meets g (InEach R) (made_run o) o (at 10 lengths f)
       sum_too_great false small e fits =
-          both_stop (RunFault IntegerOverflow line) (made_run o) (at 10 lengths f) (overflows e fits) (steps 10 i.Add o lengths f _ refl (add_fault code l line inst b.room below f o (up 10 pc) (pos la) (pos lb) IntegerOverflow stack' (sum_bad la lb (la + lb) refl small)))
+          both_stop (RunFault IntegerOverflow line) (made_run o) (at 10 lengths f) (overflows e fits) (steps 10 i.Add o lengths f _ refl (add_fault code l line inst b below f o (up 10 pc) (pos la) (pos lb) IntegerOverflow stack' (sum_bad la lb (la + lb) refl small)))
       sum_too_great true small e fits =
           sum_of_both small
           (both_stop (RunFault IntegerOverflow line) (made_run o) (at 13 (machine.Of (Integer (pos 1)) ∷ machine.Of (Integer (pos (la + lb))) ∷ sums) f) (overflows e fits)
-          (steps 13 i.Add o (machine.Of (Integer (pos 1)) ∷ machine.Of (Integer (pos (la + lb))) ∷ sums) f _ refl (add_fault code l line inst b.room below f o (up 13 pc) (pos (la + lb)) (pos 1) IntegerOverflow sums (sum_bad (la + lb) 1 (la + 1 + lb) (omega arith) e))))
+          (steps 13 i.Add o (machine.Of (Integer (pos 1)) ∷ machine.Of (Integer (pos (la + lb))) ∷ sums) f _ refl (add_fault code l line inst b below f o (up 13 pc) (pos (la + lb)) (pos 1) IntegerOverflow sums (sum_bad (la + lb) 1 (la + 1 + lb) (omega arith) e))))
 
       sum_split : (c : Bool) → is_integer (pos (la + 1 + lb)) ≡ c → is_exhausted l.storage o.words 0 ≡ false → Meets g (InEach R) (made_run o) o (at 10 lengths f)
       sum_split false e fits = sum_too_great (is_integer (pos (la + lb))) refl e fits
       sum_split true e fits =
           sum_of_both (smaller (la + lb) (la + 1 + lb) (omega arith) e)
-          (silent 13 i.Add refl (add_row code l line inst b.room below f o (up 13 pc) (pos (la + lb)) (pos 1) (pos (la + 1 + lb)) sums (sum_ok (la + lb) 1 (la + 1 + lb) (omega arith) e))
-          (silent 14 i.Pop refl (pop_row code l line inst b.room below f o (up 14 pc) (machine.Of (Integer (pos (la + 1 + lb)))) sums) (words_split (is_exhausted l.storage o.words words) refl e)))
+          (silent 13 i.Add refl (add_row code l line inst b below f o (up 13 pc) (pos (la + lb)) (pos 1) (pos (la + 1 + lb)) sums (sum_ok (la + lb) 1 (la + 1 + lb) (omega arith) e))
+          (silent 14 i.Pop refl (pop_row code l line inst b below f o (up 14 pc) (machine.Of (Integer (pos (la + 1 + lb)))) sums) (words_split (is_exhausted l.storage o.words words) refl e)))
 
       length_split : (c : Bool) → is_exhausted l.storage o.words 0 ≡ c → Meets g (InEach R) text_run o (at 7 (va ∷ stack') f)
       length_split true e =
-          both_stop (StorageExhausted line o.words 0) text_run (at 7 (va ∷ stack') f) (opens ∙ takes_too_many l line o made_run 0 e) (steps 7 (i.Std (pos 20)) o (va ∷ stack') f _ refl (length_full code l line inst b.room below f o (up 7 pc) ta stack' e fits0))
+          both_stop (StorageExhausted line o.words 0) text_run (at 7 (va ∷ stack') f) (opens ∙ takes_too_many l line o made_run 0 e) (steps 7 (i.Std (pos 20)) o (va ∷ stack') f _ refl (length_full code l line inst b below f o (up 7 pc) ta stack' e fits0))
       length_split false e =
           subst (λ z. Meets g (InEach R) z o (at 7 (va ∷ stack') f)) (sym (opens ∙ takes_none l line o made_run e))
-          (silent 7 (i.Std (pos 20)) refl (length_row code l line inst b.room below f o (up 7 pc) ta stack' e fits0)
-          (silent 8 (i.Load (pos lev) (pos (suc temp))) refl (load_row code l line inst b.room below f o (up 8 pc) (machine.Of (Integer (pos la)) ∷ stack') lev (suc temp) vb (own_frame f temps.changed.store) in_b fits1)
-          (silent 9 (i.Std (pos 20)) refl (length_row code l line inst b.room below f o (up 9 pc) tb (machine.Of (Integer (pos la)) ∷ stack') e fits1) (sum_split (is_integer (pos (la + 1 + lb))) refl e))))
+          (silent 7 (i.Std (pos 20)) refl (length_row code l line inst b below f o (up 7 pc) ta stack' e fits0)
+          (silent 8 (i.Load (pos lev) (pos (suc temp))) refl (load_row code l line inst b below f o (up 8 pc) (machine.Of (Integer (pos la)) ∷ stack') lev (suc temp) vb (own_frame f temps.changed.store) in_b fits1)
+          (silent 9 (i.Std (pos 20)) refl (length_row code l line inst b below f o (up 9 pc) tb (machine.Of (Integer (pos la)) ∷ stack') e fits1) (sum_split (is_integer (pos (la + 1 + lb))) refl e))))
 
       text_meets : Meets g (InEach R) text_run o (at 4 (vb ∷ va ∷ stack') f)
       text_meets =
-          silent 4 i.SameT refl (same_row code l line inst b.room below f o (up 4 pc) ta tb stack')
-          (silent 5 i.Pop refl (pop_row code l line inst b.room below f o (up 5 pc) (machine.Of (Truth (same_text ta tb))) stack')
-          (silent 6 (i.Load (pos lev) (pos temp)) refl (load_row code l line inst b.room below f o (up 6 pc) stack' lev temp va (own_frame f temps.changed.store) in_a fits0) (length_split (is_exhausted l.storage o.words 0) refl)))
+          silent 4 i.SameT refl (same_row code l line inst b below f o (up 4 pc) ta tb stack')
+          (silent 5 i.Pop refl (pop_row code l line inst b below f o (up 5 pc) (machine.Of (Truth (same_text ta tb))) stack')
+          (silent 6 (i.Load (pos lev) (pos temp)) refl (load_row code l line inst b below f o (up 6 pc) stack' lev temp va (own_frame f temps.changed.store) in_a fits0) (length_split (is_exhausted l.storage o.words 0) refl)))
 
     -- ---- two values
 
@@ -342,18 +341,18 @@ module _ (s : Source) (code : CodeOf) (l : Limits) (o : World) (m : Instances) (
         let r2 = temp_written s code m r1.frames inst t b temp x' r1.changed.store here.stands here.lives here.found (omega (arith, low, unused)) (omega (arith, within)) in
         let in_b : machine.cell r2.frames inst (suc temp) ≡ Some x = r2.reads_others (suc temp) (λ same. (let no : ⊥ = omega (arith, same) in no)) ∙ r1.reads in
         let e2 = own_frame r2.frames r2.changed.store in
-        silent 0 (i.Store (pos lev) (pos (suc temp))) refl (store_row code l line inst b.room below fs r1.frames o (up 0 pc) x (x' ∷ stack') lev (suc temp) (own_frame fs here.store) r1.is)
-        (silent 1 (i.Store (pos lev) (pos temp)) refl (store_row code l line inst b.room below r1.frames r2.frames o (up 1 pc) x' stack' lev temp (own_frame r1.frames r1.changed.store) r2.is)
-        (silent 2 (i.Load (pos lev) (pos temp)) refl (load_row code l line inst b.room below r2.frames o (up 2 pc) stack' lev temp x' e2 r2.reads fits0)
-        (silent 3 (i.Load (pos lev) (pos (suc temp))) refl (load_row code l line inst b.room below r2.frames o (up 3 pc) (x' ∷ stack') lev (suc temp) x e2 in_b fits1)
+        silent 0 (i.Store (pos lev) (pos (suc temp))) refl (store_row code l line inst b below fs r1.frames o (up 0 pc) x (x' ∷ stack') lev (suc temp) (own_frame fs here.store) r1.is)
+        (silent 1 (i.Store (pos lev) (pos temp)) refl (store_row code l line inst b below r1.frames r2.frames o (up 1 pc) x' stack' lev temp (own_frame r1.frames r1.changed.store) r2.is)
+        (silent 2 (i.Load (pos lev) (pos temp)) refl (load_row code l line inst b below r2.frames o (up 2 pc) stack' lev temp x' e2 r2.reads fits0)
+        (silent 3 (i.Load (pos lev) (pos (suc temp))) refl (load_row code l line inst b below r2.frames o (up 3 pc) (x' ∷ stack') lev (suc temp) x e2 in_b fits1)
         (after_loads v v' x x' (text_or v x h) (text_or v' x' h') r2.frames (record {
           changed = changed_twice s code r1.changed r2.changed;
           own = λ c le lt. r2.others c (λ same. (let no : ⊥ = omega (arith, same, lt, unused) in no)) ∙ r1.others c (λ same. (let no : ⊥ = omega (arith, same, lt, unused) in no));
         }) r2.reads in_b))))
 
-  in_hands : (line : ℕ) (left : List Kind) (vs : List Val) (xs : List Value) → StackAt (HandAt s m) (anys 2 left) vs xs → (temp : ℕ) → u ≤ temp → suc (suc temp) < length b.types → suc (suc (length left)) < b.room → Stand code line (join_instrs (level_of s t) temp) pc q → ks' ≡ anys 1 left
-      → Meets g (InEach R) (joining plain l line vs o (λ z p vals. go p m inst w (meaning.Of z ∷ vals) rest)) o (record { chain = act inst pc xs b.room ∷ below; memory = fs })
+  in_hands : (line : ℕ) (left : List Kind) (vs : List Val) (xs : List Value) → StackAt (HandAt s code m) (anys 2 left) vs xs → (temp : ℕ) → u ≤ temp → suc (suc temp) < length b.block.types → suc (suc (length left)) < b.block.room → Stand code line (join_instrs (level_of s t) temp) pc q → ks' ≡ anys 1 left
+      → Meets g (InEach R) (joining plain l line vs o (λ z p vals. go p m inst w (meaning.Of z ∷ vals) rest)) o (record { chain = act inst pc xs b ∷ below; memory = fs })
   in_hands line left _ _ (more_at {v = v} {x = x} h (more_at {v = v'} {vals = vals'} {x = x'} {stack = stack'} h' hands)) temp unused within room joins out = starts line temp left unused within room joins out vals' stack' hands v v' x x' h h'
 
-  pub join : (line : ℕ) → OpAt s code m fs inst (site_at t b u) (JoinOp line) pc q ks ks' → Meets (mstep code l) (InEach (StateAt s code)) (do_op s l o m inst w vals rest (JoinOp line)) o (record { chain = act inst pc stack b.room ∷ below; memory = fs })
+  pub join : (line : ℕ) → OpAt s code m fs inst (site_at t b u) (JoinOp line) pc q ks ks' → Meets (mstep code l) (InEach (StateAt s code)) (do_op s l o m inst w vals rest (JoinOp line)) o (record { chain = act inst pc stack b ∷ below; memory = fs })
   join line a = let j = a.joins in in_hands line a.left vals stack (kinds_as s code a.«in» here.values) j.temp j.unused j.within j.room j.joins a.out

@@ -1,5 +1,5 @@
 -- The code of left sides, and what they are when their statement begins.
-use Rattle.std.proofs.Common.{◌≡◌, ◌≤◌, ℕ, suc, Bool, true, false, List, [], ◌∷◌, ◌++◌, length, Option, Some, None, refl, sym, ap, ◌∙◌, subst, arith, ◌+◌}
+use Rattle.std.proofs.Common.{◌≡◌, ◌≤◌, ℕ, suc, Bool, true, false, List, [], ◌∷◌, ◌++◌, length, Option, Some, None, refl, sym, ap, ◌∙◌, subst, arith}
 use Rattle.std.specs.Prelude.{pos, reverse}
 use Rattle.std.proofs.lemmas.List.{reverse-append}
 use Rattle.sim_base.specs.declared.numbering.DeclNo.{DeclNo}
@@ -11,146 +11,158 @@ use Rattle.sim_scope.specs.declared.types.FormalKind.{FormalKind}
 use Rattle.sim_scope.specs.declared.types.FormalKind.TheVariants as shape
 use Rattle.sim_scope.specs.declared.types.Mode.{Mode}
 use Rattle.sim_scope.specs.declared.types.Mode.TheVariants as mode
+use Rattle.sim_scope.specs.Assignments.{LeftSide}
 use Rattle.sim_scope.specs.Scopes.{entry_of}
 use Rattle.sim_scope.specs.Source.{Source, block_of, denoted, line_at}
-use Rattle.sim_scope.specs.Assignments.{LeftSide}
 use Rattle.sim_tree.specs.declared.stmt.Assignment.{Assignment}
 use Rattle.sim_tree.specs.declared.stmt.Assignment.TheVariants as assignment
 use Rattle.sim_tree.specs.Syntax.{Expression, Expressions, NoMore, Then}
 use Rattle.sim_tree.specs.Syntax as syntax
 use Rattle.sim_code.specs.declared.instr.Instr.TheVariants as i
-use Rattle.sim_code.specs.Code.{BlockOf, CodeOf}
+use Rattle.sim_code.specs.Code.{CodeOf}
 use Rattle.sim_code.specs.Machine.{Frames}
-use Rattle.sim_code.proofs.Lifts.{EachAt}
-use Rattle.sim_meaning.specs.Attributes.{connection_at}
-use Rattle.sim_meaning.specs.Closing.{Left, LeftAddress, LeftCell, array_left, close, close_all, close_left, close_left_of, declared_left, formal_left, home_of, close_place, is_text, left_found, left_in, named_left, result_left, variable_left, LeftText, in_instance, left_variable, own_result, result_meant, result_or, unless_connected}
+use Rattle.sim_meaning.specs.Attributes.{connection_at, declared_attribute}
+use Rattle.sim_meaning.specs.Closing.{Left, LeftAddress, LeftCell, LeftReference, LeftText, LeftUnbuilt, array_left, close, close_all, close_left, close_left_of, close_place, declared_left, formal_left, home_of, in_instance, is_text, left_found, left_in, left_variable, named_left, reference_place, result_left, result_meant, result_or, variable_left}
 use Rattle.sim_meaning.specs.Pending.{Cell, Declared, Do, ElementOf, Eval, Instances, Item, Result, ShareOp, StoreOp, Target, Term, ToAddress, ToCell}
 use Rattle.sim_meaning.specs.Pending as meaning
 use Rattle.sim_meaning.specs.Statements.{Lefts, assigning, before, lefts}
-use Rattle.sim_meaning.specs.Texts.{text}
-use Rattle.codegen_expr.specs.Sites.{At, HasCell, Inside, Site, cells_in}
-use Rattle.codegen_expr.specs.CodeExpr.{ElementAt, ExprsAt, ExprAt}
+use Rattle.codegen_expr.specs.Sites.{At, HasCell, Inside, Site, Varies, frame_text, is_constant, own_part}
+use Rattle.codegen_expr.specs.CodeExpr.{ElementAt, ExprAt, ExprsAt, PlaceAt, ReferencePlaceAt}
+use Rattle.codegen.specs.CodeLeft.{AtAddress, AtAttribute, GivesAt, GoesAt, InCell, LeftsAt, NotBuilt, ResultAt, SharesAt, StoreAt, Stored, ToReference, ToResult, ToText, below, each_stored, stored, stored_declared, stored_element, stored_formal, stored_found, stored_left, stored_named, stored_of, stored_result, stored_text, stored_variable}
+use Rattle.sim_relate.proofs.Closing.{close_all_at, close_at, count_close, place_at, reference_at}
+use Rattle.sim_relate.proofs.Frames.{own_frame}
+use Rattle.sim_relate.proofs.Known.{Any, Finds, IsRead, Kind, LeavesIs, Reaches, Refers, Runs, is_declared, is_fixed, leaves_any, leaves_read, reads, site_at}
+use Rattle.sim_relate.proofs.Pending.{evals, pends}
 use Rattle.sim_relate.proofs.Plainly.{Agrees}
-use Rattle.codegen.specs.CodeLeft.{AtAddress, GivesAt, GoesAt, InCell, LeftsAt, NotBuilt, SharesAt, StoreAt, Stored, addresses, each_stored, stored, stored_declared, stored_element, stored_formal, stored_named, stored_of, stored_result, stored_variable, ResultAt, ToResult, ToText, stored_left, stored_text}
-use Rattle.sim_relate.proofs.Relation.{Any, Finds, GivesIs, Kind, OperandAt, Reaches, TargetAt, WorkAt, anys, site_at}
-use Rattle.sim_relate.proofs.Closing.{close_all_at, close_at, count_close}
-use Rattle.sim_relate.proofs.Pending.{anys_more, evals, pends}
-
-each_append : {A B : Type 0} (P : A → B → Type 0) (xs : List A) (ys : List B) (x : A) (y : B) → EachAt P xs ys → P x y → EachAt P (xs ++ x ∷ []) (ys ++ y ∷ [])
-each_append P [] [] x y a h = (h, tt)
-each_append P [] (b ∷ ys) x y a h = absurd a
-each_append P (c ∷ xs) [] x y a h = absurd a
-each_append P (c ∷ xs) (b ∷ ys) x y a h = (a.0, each_append P xs ys x y a.1 h)
+use Rattle.sim_relate.proofs.Relation.{GivesIs, StoreIs, TargetAt, WorkAt}
+use Rattle.sim_relate.proofs.Trees.{Classed, OperandAt, TermAt}
 
 reverse_first : {A : Type 0} (x : A) (xs : List A) → reverse (x ∷ xs) ≡ reverse xs ++ x ∷ []
 reverse_first x xs = reverse-append (x ∷ []) xs
 
-each_reverse : {A B : Type 0} (P : A → B → Type 0) (xs : List A) (ys : List B) → EachAt P xs ys → EachAt P (reverse xs) (reverse ys)
-each_reverse P [] [] a = tt
-each_reverse P [] (y ∷ ys) a = absurd a
-each_reverse P (x ∷ xs) [] a = absurd a
-each_reverse P (x ∷ xs) (y ∷ ys) a =
-    subst (λ z. EachAt P z (reverse (y ∷ ys))) (sym (reverse_first x xs)) (subst (λ z. EachAt P (reverse xs ++ x ∷ []) z) (sym (reverse_first y ys)) (each_append P (reverse xs) (reverse ys) x y (each_reverse P xs ys a.1) a.0))
+-- The values in hand that left sides leave: from left to right, and with the last one first.
+abbrev pub over : List (List Kind) → List Kind → List Kind
+over [] ks = ks
+over (x ∷ xs) ks = over xs (x ++ ks)
 
--- how many addresses and texts one left side has
-abbrev held_by : Stored → ℕ
-held_by (AtAddress d es line) = 1
-held_by (ToText e line) = 1
-held_by (ToResult k line) = 1
-held_by _ = 0
+abbrev pub under : List (List Kind) → List Kind → List Kind
+under [] ks = ks
+under (x ∷ xs) ks = x ++ under xs ks
 
-addresses_one : (x : Stored) (xs : List Stored) → addresses (x ∷ xs) ≡ held_by x + addresses xs
-addresses_one (InCell k key) xs = omega arith
-addresses_one (AtAddress d es line) xs = omega arith
-addresses_one (ToText e line) xs = omega arith
-addresses_one (ToResult k line) xs = omega arith
-addresses_one NotBuilt xs = omega arith
+under_append : (xs ys : List (List Kind)) (ks : List Kind) → under (xs ++ ys) ks ≡ under xs (under ys ks)
+under_append [] ys ks = refl
+under_append (x ∷ xs) ys ks = ap (λ z. x ++ z) (under_append xs ys ks)
 
-addresses_last : (xs : List Stored) (x : Stored) → addresses (xs ++ x ∷ []) ≡ addresses (x ∷ xs)
-addresses_last [] x = refl
-addresses_last (y ∷ xs) x =
-    let e = addresses_last xs x in
-    let a = addresses_one y (xs ++ x ∷ []) in
-    let b = addresses_one x xs in
-    let c = addresses_one y xs in
-    let d = addresses_one x (y ∷ xs) in
-    omega (arith, a, b, c, d, e)
+over_reverse : (xs : List (List Kind)) (ks : List Kind) → under (reverse xs) ks ≡ over xs ks
+over_reverse [] ks = refl
+over_reverse (x ∷ xs) ks = ap (λ z. under z ks) (reverse_first x xs) ∙ under_append (reverse xs) (x ∷ []) ks ∙ over_reverse xs (x ++ ks)
 
-addresses_first : (x : Stored) (xs ys : List Stored) → addresses xs ≡ addresses ys → addresses (x ∷ xs) ≡ addresses (x ∷ ys)
-addresses_first x xs ys e = addresses_one x xs ∙ ap (λ n. held_by x + n) e ∙ sym (addresses_one x ys)
-
-addresses_reverse : (xs : List Stored) → addresses (reverse xs) ≡ addresses xs
-addresses_reverse [] = refl
-addresses_reverse (x ∷ xs) = ap addresses (reverse_first x xs) ∙ addresses_last (reverse xs) x ∙ addresses_first x (reverse xs) xs (addresses_reverse xs)
-
-module _ (s : Source) (code : CodeOf) (m : Instances) (inst t : ℕ) (b : BlockOf) (u : ℕ) (agrees : Agrees s) (reach : (v : ℕ) → Inside s.tables t v → Finds s m inst v) where
+module _ (s : Source) (code : CodeOf) (m : Instances) (inst t : ℕ) (b : Runs) (u : ℕ) (agrees : Agrees s) (reach : (v : ℕ) → Inside s.tables t v → Finds s m inst v) where
   abbrev pub site : Site
   site = site_at t b u
 
   -- what a left side is in the code, and what it is when the statement begins
+  pub record CellFound (k : ℕ) (key : meaning.Key) (x : Left) : Type 0 where
+    pub instance : ℕ
+    pub is : x ≡ LeftCell instance key
+    pub reaches : Reaches s m inst k instance
+    pub own : frame_text s k ≡ k
+    pub varies : is_fixed s key ≡ false
+    pub declared : is_declared key ≡ true
+
+  pub record PlaceFound (n p q : ℕ) (x : Left) : Type 0 where
+    pub tree : Term
+    pub is : x ≡ LeftAddress tree
+    pub place : TermAt s code m inst site n tree p q
+    pub reads : reads s tree ≡ true
+
+  pub record ReferenceIs (line n p q : ℕ) (x : Left) : Type 0 where
+    pub tree : Term
+    pub class : ℕ
+    pub is_class : Classed s class
+    pub is : x ≡ LeftReference line tree
+    pub place : TermAt s code m inst site n tree p q
+    pub leaves : (ks : List Kind) → LeavesIs s tree ks (Refers class ∷ ks)
+
   abbrev pub LeftFits : Stored → Left → Type 0
-  LeftFits (InCell k key) x = Inside s.tables t k → HasCell s k key → (j : ℕ) × (x ≡ LeftCell j key) × Reaches s m inst k j
-  LeftFits (AtAddress d es line) x = (n p q : ℕ) → ElementAt s code site n line d es (ExprsAt s code site (suc n) es) p q → (y : Term) × (x ≡ LeftAddress y) × OperandAt s code m inst site n y p q
+  LeftFits (InCell k key) x = Inside s.tables t k → HasCell s k key → CellFound k key x
+  LeftFits (AtAddress d es line) x = (n p q : ℕ) → ElementAt s code site n line 0 d es (ExprsAt s code site (suc n) es) p q → PlaceFound n p q x
+  LeftFits (AtAttribute e) x = (n p q : ℕ) → PlaceAt s code site n 0 e p q → PlaceFound n p q x
+  LeftFits (ToReference e line) x = (n p q : ℕ) → ReferencePlaceAt s code site n e p q → ReferenceIs line n p q x
   LeftFits (ToText e line) x = (n p q : ℕ) → ExprAt s code site n e p q → (y : Term) × (x ≡ LeftText line y) × OperandAt s code m inst site n y p q
   LeftFits (ToResult k line) x = (n p q : ℕ) → ResultAt s code site n k p q → (y : Term) × (x ≡ LeftText line y) × OperandAt s code m inst site n y p q
   LeftFits NotBuilt x = Unit {0}
 
-  left_cell : (d : DeclNo) (es : Expressions) → LeftFits (stored_variable s d es) (variable_left s m inst d es)
+  left_cell : (d : DeclNo) (es : Expressions) → Varies s d → LeftFits (stored_variable s d es) (variable_left s m inst d es)
   unfolding home_of
-  left_cell d NoMore = λ ins has. let r = reach (block_of s d) ins in (r.0, ap (λ o. left_in o (λ j. LeftCell j (Declared d.0))) r.2, r.1)
-  left_cell d (Then e es) = tt
+  left_cell d NoMore varies = λ ins has.
+      let r = reach (block_of s d) ins in
+      record { instance = r.0; is = ap (λ o. left_in o (λ j. LeftCell j (Declared d.0))) r.2; reaches = r.1; own = own_frame s agrees (block_of s d) (Declared d.0) has refl; varies = varies; declared = refl }
+  left_cell d (Then e es) varies = tt
 
-  left_element : (d : DeclNo) (es : Expressions) (line : ℕ) → LeftFits (stored_element d es line) (array_left s m inst line d es)
+  left_element : (d : DeclNo) (es : Expressions) (line : ℕ) → Varies s d → LeftFits (stored_element d es line) (array_left s m inst line d es)
   unfolding home_of
-  left_element d NoMore line = tt
-  left_element d (Then e es) line = λ n p q a.
+  left_element d NoMore line varies = tt
+  left_element d (Then e es) line varies = λ n p q a.
       let r = reach (block_of s d) a.array.inside in
-      let terms = close_all s m inst (Then e es) in (
-        ElementOf line (Cell r.0 (Declared d.0)) terms,
-        ap (λ o. left_in o (λ j. LeftAddress (ElementOf line (Cell j (Declared d.0)) terms))) r.2,
-        ((a.x, a.y, (record { text = block_of s d; load = a.array.load; reaches = r.1; has = a.array.within }, refl), close_all_at s code m inst site agrees reach (Then e es) (suc n) a.x a.y a.subscripts, subst (λ c. At code (i.Elem (pos c) (pos 0)) line a.y q) (count_close s code m inst site agrees reach (Then e es)) a.found), refl),
-      )
+      let terms = close_all s m inst (Then e es) in
+      record {
+        tree = ElementOf line (Cell r.0 (Declared d.0)) terms;
+        is = ap (λ o. left_in o (λ j. LeftAddress (ElementOf line (Cell j (Declared d.0)) terms))) r.2;
+        place = (a.x, a.y, (record { text = block_of s d; load = a.array.load; reaches = r.1; own = own_frame s agrees (block_of s d) (Declared d.0) a.array.within refl; has = a.array.within; varies = varies }, refl), close_all_at s code m inst site agrees reach (Then e es) (suc n) a.x a.y a.subscripts, subst (λ c. At code (i.Elem (pos c) (pos 0)) line a.y q) (count_close s code m inst site agrees reach (Then e es)) a.found);
+        reads = refl;
+      }
 
-  left_formal : (d : DeclNo) (es : Expressions) (line : ℕ) (by : Mode) (kind : FormalKind) → LeftFits (stored_formal s d es line by kind) (formal_left s m inst line d by kind es)
-  left_formal d es line mode.ByName kind = tt
-  left_formal d es line mode.ByValue shape.Simple = left_cell d es
-  left_formal d es line mode.ByValue shape.Array = left_element d es line
-  left_formal d es line mode.ByValue shape.Procedure = tt
-  left_formal d es line mode.ByReference shape.Simple = left_cell d es
-  left_formal d es line mode.ByReference shape.Array = left_element d es line
-  left_formal d es line mode.ByReference shape.Procedure = tt
+  left_formal : (d : DeclNo) (es : Expressions) (line : ℕ) (by : Mode) (kind : FormalKind) → Varies s d → LeftFits (stored_formal s d es line by kind) (formal_left s m inst line d by kind es)
+  left_formal d es line mode.ByName kind varies = tt
+  left_formal d es line mode.ByValue shape.Simple varies = left_cell d es varies
+  left_formal d es line mode.ByValue shape.Array varies = left_element d es line varies
+  left_formal d es line mode.ByValue shape.Procedure varies = tt
+  left_formal d es line mode.ByReference shape.Simple varies = left_cell d es varies
+  left_formal d es line mode.ByReference shape.Array varies = left_element d es line varies
+  left_formal d es line mode.ByReference shape.Procedure varies = tt
 
   left_result : (k : ℕ) (es : Expressions) → LeftFits (stored_result k es) (result_left s m inst k es)
-  left_result k NoMore = λ ins has. let r = reach k ins in (r.0, ap (λ o. left_in o (λ j. LeftCell j Result)) r.2, r.1)
+  left_result k NoMore = λ ins has.
+      let r = reach k ins in
+      record { instance = r.0; is = ap (λ o. left_in o (λ j. LeftCell j Result)) r.2; reaches = r.1; own = own_frame s agrees k Result has refl; varies = refl; declared = refl }
   left_result k (Then e es) = tt
 
-  left_declared : (d : DeclNo) (es : Expressions) (line : ℕ) (o : Option Entry) → LeftFits (stored_declared s d es line o) (declared_left s m inst line d o es)
-  left_declared d es line (Some (entry.Variable type)) = left_cell d es
-  left_declared d es line (Some (entry.Constant type)) = tt
-  left_declared d es line (Some (entry.Array element dimensions)) = left_element d es line
-  left_declared d es line (Some (entry.Formal f)) = left_formal d es line f.mode f.kind
-  left_declared d es line (Some (entry.Procedure result k)) = left_result k es
-  left_declared d es line (Some (entry.Class block)) = tt
-  left_declared d es line (Some (entry.Virtual result own)) = tt
-  left_declared d es line (Some (entry.Unspecified written)) = tt
-  left_declared d es line (Some (entry.Attribute name parameter result)) = tt
-  left_declared d es line None = tt
+  left_declared : (d : DeclNo) (es : Expressions) (line : ℕ) (o : Option Entry) → entry_of s.tables d ≡ o → LeftFits (stored_declared s d es line o) (declared_left s m inst line d o es)
+  left_declared d es line (Some (entry.Variable type)) is = left_cell d es (ap is_constant is)
+  left_declared d es line (Some (entry.Constant type)) is = tt
+  left_declared d es line (Some (entry.Array element dimensions)) is = left_element d es line (ap is_constant is)
+  left_declared d es line (Some (entry.Formal f)) is = left_formal d es line f.mode f.kind (ap is_constant is)
+  left_declared d es line (Some (entry.Procedure result k)) is = left_result k es
+  left_declared d es line (Some (entry.Class block)) is = tt
+  left_declared d es line (Some (entry.Virtual result own)) is = tt
+  left_declared d es line (Some (entry.Unspecified written)) is = tt
+  left_declared d es line (Some (entry.Attribute name parameter result)) is = tt
+  left_declared d es line None is = tt
 
-  left_named : (x : Option Denotation) (es : Expressions) (line : ℕ) → LeftFits (stored_named s x es line) (named_left s m inst line x es)
-  left_named (Some (denotation.Declared d)) es line = left_declared d es line (entry_of s.tables d)
+  pub left_named : (x : Option Denotation) (es : Expressions) (line : ℕ) → LeftFits (stored_named s x es line) (named_left s m inst line x es)
+  left_named (Some (denotation.Declared d)) es line = left_declared d es line (entry_of s.tables d) refl
   left_named (Some (denotation.Standard name)) es line = tt
   left_named None es line = tt
 
+  -- an attribute of an object is found anew
+  left_place : (e : Expression) → LeftFits (AtAttribute e) (LeftAddress (close_place s m inst e))
+  left_place e = λ n p q a. let x = place_at s code m inst site agrees reach None e n p q a in record { tree = close_place s m inst e; is = refl; place = x.0; reads = x.1 }
+
+  left_by : {A : Type 0} (o : Option A) (e : Expression) (x : Stored) (y : Left) → LeftFits x y → LeftFits (stored_found o e x) (left_found o (close_place s m inst e) y)
+  left_by None e x y h = h
+  left_by (Some z) e x y h = left_place e
+
   pub left_at : (e : Expression) → LeftFits (stored_left s e) (left_variable s m inst e)
   left_at (syntax.Named name es) =
-      subst (λ z. LeftFits (stored_left s (syntax.Named name es)) (left_found z (close_place s m inst (syntax.Named name es)) (named_left s m inst (line_at s name.token.0) (denoted s name.token.0) es))) (sym (agrees.unconnected name.token.0))
+      left_by (connection_at s name.token.0) (syntax.Named name es) (stored_named s (denoted s name.token.0) es (line_at s name.token.0)) (named_left s m inst (line_at s name.token.0) (denoted s name.token.0) es)
       (left_named (denoted s name.token.0) es (line_at s name.token.0))
+  left_at (syntax.Dot token x name es) = left_by (declared_attribute (denoted s name.token.0)) (syntax.Dot token x name es) NotBuilt LeftUnbuilt tt
   left_at (syntax.If token c x y) = tt
   left_at (syntax.Binary op token x y) = tt
   left_at (syntax.Not token x) = tt
   left_at (syntax.Signed k token x) = tt
   left_at (syntax.Member member token x class) = tt
-  left_at (syntax.Dot token x name es) = tt
   left_at (syntax.Qua token x class) = tt
   left_at (syntax.Constant x token) = tt
   left_at (syntax.This token class) = tt
@@ -164,69 +176,77 @@ module _ (s : Source) (code : CodeOf) (m : Instances) (inst t : ℕ) (b : BlockO
       let r = reach k a.inside in (
         Cell r.0 Result,
         ap (λ o. LeftText line (in_instance o (λ j. Cell j Result))) r.2,
-        (record { text = k; load = a.load; reaches = r.1; has = a.within }, refl),
+        (record { text = k; load = a.load; reaches = r.1; own = own_frame s agrees k Result a.within refl; has = a.within; varies = refl }, refl),
       )
 
-  -- no identifier is seen in a connection, so the procedure that is meant is the one in whose text it stands
-  meant_at : (e : Expression) (line : ℕ) → LeftFits (stored_text (own_result s e) e line) (LeftText line (result_or s m inst (result_meant s e) (close s m inst e)))
-  unfolding own_result result_meant
-  meant_at (syntax.Named name es) line =
-      let own = own_result s (syntax.Named name es) in
-      subst (λ z. LeftFits (stored_text own (syntax.Named name es) line) (LeftText line (result_or s m inst (unless_connected z own) (close s m inst (syntax.Named name es))))) (sym (agrees.unconnected name.token.0))
-      (left_text_at own (syntax.Named name es) line)
-  meant_at (syntax.If token c x y) line = left_text_at None (syntax.If token c x y) line
-  meant_at (syntax.Binary op token x y) line = left_text_at None (syntax.Binary op token x y) line
-  meant_at (syntax.Not token x) line = left_text_at None (syntax.Not token x) line
-  meant_at (syntax.Signed k token x) line = left_text_at None (syntax.Signed k token x) line
-  meant_at (syntax.Member member token x class) line = left_text_at None (syntax.Member member token x class) line
-  meant_at (syntax.Dot token x name es) line = left_text_at None (syntax.Dot token x name es) line
-  meant_at (syntax.Qua token x class) line = left_text_at None (syntax.Qua token x class) line
-  meant_at (syntax.Constant x token) line = left_text_at None (syntax.Constant x token) line
-  meant_at (syntax.This token class) line = left_text_at None (syntax.This token class) line
-  meant_at (syntax.New token class es) line = left_text_at None (syntax.New token class es) line
-  meant_at (syntax.Parentheses token x) line = left_text_at None (syntax.Parentheses token x) line
+  -- a reference
+  pub left_reference : (e : Expression) (line : ℕ) → LeftFits (ToReference e line) (LeftReference line (reference_place s m inst e))
+  left_reference e line = λ n p q a.
+      let x = reference_at s code m inst site agrees reach e n p q a in
+      record { tree = reference_place s m inst e; class = x.class; is_class = x.is_class; is = refl; place = (x.place).term; leaves = (x.place).leaves }
 
   left_of : (g : Bool) (sign : Assignment) (line : ℕ) (e : Expression) → LeftFits (stored_of g sign s line e) (close_left_of g sign s m inst line e)
-  left_of true assignment.Value line e = meant_at e line
+  left_of true assignment.Value line e = left_text_at (result_meant s e) e line
   left_of true assignment.Reference line e = left_at e
   left_of false assignment.Value line e = left_at e
-  left_of false assignment.Reference line e = tt
+  left_of false assignment.Reference line e = left_reference e line
 
-  -- what a value is given to
-  abbrev pub TargetFits : Stored → Target → Type 0
-  TargetFits (InCell k key) x = (j : ℕ) × (x ≡ ToCell j key) × Reaches s m inst k j × HasCell s k key
-  TargetFits (AtAddress d es line) x = x ≡ ToAddress
-  TargetFits (ToText e line) x = x ≡ meaning.ToText line
-  TargetFits (ToResult k line) x = x ≡ meaning.ToText line
-  TargetFits NotBuilt x = ⊥
+  -- what a value is given to, and what is in hand for it
+  pub data TargetFits : Stored → Target → List Kind → Type 0 where
+    in_cell : {k j : ℕ} {key : meaning.Key} → Reaches s m inst k j → HasCell s k key → frame_text s k ≡ k → is_fixed s key ≡ false → is_declared key ≡ true → TargetFits (InCell k key) (ToCell j key) []
+    at_address : {d : DeclNo} {es : Expressions} {line : ℕ} {kind : Kind} → IsRead kind → TargetFits (AtAddress d es line) ToAddress (kind ∷ [])
+    at_attribute : {e : Expression} {kind : Kind} → IsRead kind → TargetFits (AtAttribute e) ToAddress (kind ∷ [])
+    to_reference : {e : Expression} {line k : ℕ} → Classed s k → TargetFits (ToReference e line) (meaning.ToReference line) (Refers k ∷ [])
+    to_text : {e : Expression} {line : ℕ} → TargetFits (ToText e line) (meaning.ToText line) (Any ∷ [])
+    to_result : {k line : ℕ} → TargetFits (ToResult k line) (meaning.ToText line) (Any ∷ [])
 
-  -- the store of a value stands for its target, over the addresses of the others
-  stores : (x : Stored) (y : Target) (p q : ℕ) (ks : List Kind) → TargetFits x y → StoreAt s code x p q → TargetAt s code m inst y p q (Any ∷ anys (addresses (x ∷ [])) ks) ks
-  stores (InCell k key) y p q ks f a = subst (λ z. TargetAt s code m inst z p q (Any ∷ ks) ks) (sym f.1) (record { text = k; is = a; reaches = f.2; has = f.3 }, refl)
-  stores (AtAddress d es line) y p q ks f a = subst (λ z. TargetAt s code m inst z p q (Any ∷ Any ∷ ks) ks) (sym f) (a, refl)
-  stores (ToText e line) y p q ks f a = subst (λ z. TargetAt s code m inst z p q (Any ∷ Any ∷ ks) ks) (sym f) (a, refl)
-  stores (ToResult k line) y p q ks f a = subst (λ z. TargetAt s code m inst z p q (Any ∷ Any ∷ ks) ks) (sym f) (a, refl)
-  stores NotBuilt y p q ks f a = absurd f
+  pub data AllFit : List Stored → List Target → List (List Kind) → Type 0 where
+    no_fit : AllFit [] [] []
+    more_fit : {x : Stored} {xs : List Stored} {y : Target} {ys : List Target} {k : List Kind} {kss : List (List Kind)} → TargetFits x y k → AllFit xs ys kss → AllFit (x ∷ xs) (y ∷ ys) (k ∷ kss)
 
-  gives_is : (used temp : ℕ) (xs : List Stored) (ys : List Target) (p q : ℕ) (ks : List Kind) → EachAt TargetFits xs ys → GivesAt s code site temp (length (anys (addresses xs) ks)) xs p q → GivesIs s code m inst (site_at t b used) temp ys p q (anys (addresses xs) ks) ks
-  gives_is used temp [] [] p q ks f a = (a, refl)
-  gives_is used temp [] (y ∷ ys) p q ks f a = absurd f
-  gives_is used temp (x ∷ xs) [] p q ks f a = absurd f
-  gives_is used temp (InCell k key ∷ xs) (y ∷ ys) p q ks f a =
-      let load = a.2 in
-      (a.0, a.1, anys (addresses xs) ks, record { is = load.is; fits = load.fits }, stores (InCell k key) y a.0 a.1 (anys (addresses xs) ks) f.0 a.3, gives_is used temp xs ys a.1 q ks f.1 a.4)
-  gives_is used temp (AtAddress d es line ∷ xs) (y ∷ ys) p q ks f a =
-      let load = a.2 in
-      (a.0, a.1, anys (addresses xs) ks, record { is = load.is; fits = load.fits }, stores (AtAddress d es line) y a.0 a.1 (anys (addresses xs) ks) f.0 a.3, gives_is used temp xs ys a.1 q ks f.1 a.4)
-  gives_is used temp (ToText e line ∷ xs) (y ∷ ys) p q ks f a =
-      let load = a.2 in
-      (a.0, a.1, anys (addresses xs) ks, record { is = load.is; fits = load.fits }, stores (ToText e line) y a.0 a.1 (anys (addresses xs) ks) f.0 a.3, gives_is used temp xs ys a.1 q ks f.1 a.4)
-  gives_is used temp (ToResult k line ∷ xs) (y ∷ ys) p q ks f a =
-      let load = a.2 in
-      (a.0, a.1, anys (addresses xs) ks, record { is = load.is; fits = load.fits }, stores (ToResult k line) y a.0 a.1 (anys (addresses xs) ks) f.0 a.3, gives_is used temp xs ys a.1 q ks f.1 a.4)
-  gives_is used temp (NotBuilt ∷ xs) (y ∷ ys) p q ks f a = absurd (f.0)
+  fit_append : {x : Stored} {y : Target} {k : List Kind} (xs : List Stored) (ys : List Target) (kss : List (List Kind)) → AllFit xs ys kss → TargetFits x y k → AllFit (xs ++ x ∷ []) (ys ++ y ∷ []) (kss ++ k ∷ [])
+  fit_append _ _ _ no_fit h = more_fit h no_fit
+  fit_append _ _ _ (more_fit {xs = xs} {ys = ys} {kss = kss} f more) h = more_fit f (fit_append xs ys kss more h)
 
-  module _ (fs : Frames) (Below : Bool → Type 0) (low : length (cells_in s t (text s t)) ≤ u) where
+  fit_reverse : (xs : List Stored) (ys : List Target) (kss : List (List Kind)) → AllFit xs ys kss → AllFit (reverse xs) (reverse ys) (reverse kss)
+  fit_reverse _ _ _ no_fit = no_fit
+  fit_reverse _ _ _ (more_fit {x} {xs} {y} {ys} {k} {kss} f more) =
+      subst (λ z. AllFit z (reverse (y ∷ ys)) (reverse (k ∷ kss))) (sym (reverse_first x xs))
+      (subst (λ z. AllFit (reverse xs ++ x ∷ []) z (reverse (k ∷ kss))) (sym (reverse_first y ys))
+      (subst (λ z. AllFit (reverse xs ++ x ∷ []) (reverse ys ++ y ∷ []) z) (sym (reverse_first k kss)) (fit_append (reverse xs) (reverse ys) (reverse kss) (fit_reverse xs ys kss more) f)))
+
+  -- the store of a value stands for its target
+  stores : {x : Stored} {y : Target} {k : List Kind} (p q : ℕ) (ks : List Kind) → TargetFits x y k → StoreAt s code x p q → TargetAt s code m inst y p q (Any ∷ k ++ ks) ks
+  stores p q ks (in_cell {k} r has own varies declared) a = (record { text = k; is = a; reaches = r; own = own; has = has; varies = varies; declared = declared }, refl)
+  stores p q ks (at_address {kind = kind} r) a = (a, record { place = kind; reads = r; «in» = refl })
+  stores p q ks (at_attribute {kind = kind} r) a = (a, record { place = kind; reads = r; «in» = refl })
+  stores p q ks (to_reference {k = k} c) a = record { is = a; class = k; is_class = c; left = ks; «in» = refl; out = refl }
+  stores p q ks to_text a = (a, refl)
+  stores p q ks to_result a = (a, refl)
+
+  store_is : {x : Stored} {y : Target} {k : List Kind} (p q : ℕ) (before behind : List Kind) → TargetFits x y k → TargetAt s code m inst y p q before behind → StoreIs s code m inst site y p q before behind
+  store_is p q before behind (in_cell r has own varies declared) a = a
+  store_is p q before behind (at_address r) a = a
+  store_is p q before behind (at_attribute r) a = a
+  store_is p q before behind (to_reference c) a = a
+  store_is p q before behind to_text a = a
+  store_is p q before behind to_result a = a
+
+  below_is : {x : Stored} {y : Target} {k : List Kind} (ks : List Kind) → TargetFits x y k → below x (length (k ++ ks)) ≡ length ks
+  below_is ks (in_cell r has own varies declared) = refl
+  below_is ks (at_address r) = refl
+  below_is ks (at_attribute r) = refl
+  below_is ks (to_reference c) = refl
+  below_is ks to_text = refl
+  below_is ks to_result = refl
+
+  gives_is : (used temp : ℕ) (xs : List Stored) (ys : List Target) (kss : List (List Kind)) (p q : ℕ) (ks : List Kind) → AllFit xs ys kss → GivesAt s code site temp (length (under kss ks)) xs p q → GivesIs s code m inst (site_at t b used) temp ys p q (under kss ks) ks
+  gives_is used temp _ _ _ p q ks no_fit a = (a, refl)
+  gives_is used temp _ _ _ p q ks (more_fit {xs = xs} {ys = ys} {kss = kss} f more) a =
+      let load = a.2 in
+      (a.0, a.1, under kss ks, record { is = load.is; fits = load.fits }, stores a.0 a.1 (under kss ks) f a.3, gives_is used temp xs ys kss a.1 q ks more (subst (λ n. GivesAt s code site temp n xs a.1 q) (below_is (under kss ks) f) a.4))
+
+  module _ (fs : Frames) (Below : Bool → Type 0) (low : length (own_part s (frame_text s t)) ≤ u) where
     abbrev pub Works : List Item → ℕ → List Kind → Type 0
     Works w p ks = WorkAt s code m fs Below inst t b u w p ks
 
@@ -234,85 +254,83 @@ module _ (s : Source) (code : CodeOf) (m : Instances) (inst t : ℕ) (b : BlockO
     pub record LeftsAre (xs : List Stored) (o : Option Lefts) (End : ℕ → ℕ → ℕ → Type 0) (ks : List Kind) (p q : ℕ) : Type 0 where
       pub found : Lefts
       pub is : o ≡ Some found
-      pub fit : EachAt TargetFits xs found.targets
+      pub kinds : List (List Kind)
+      pub fit : AllFit xs found.targets kinds
       pub y : ℕ
-      pub ends : End (length (anys (addresses xs) ks)) y q
-      pub works : (w : List Item) → Works w y (anys (addresses xs) ks) → Works (found.work ++ w) p ks
+      pub ends : End (length (over kinds ks)) y q
+      pub works : (w : List Item) → Works w y (over kinds ks) → Works (found.work ++ w) p ks
 
-    -- a text that is assigned to is found
-    text_found : (line : ℕ) (v : Left) (xs : List Stored) (o : Option Lefts) (End : ℕ → ℕ → ℕ → Type 0) (ks : List Kind) (p x q : ℕ) → ((y : Term) × (v ≡ LeftText line y) × OperandAt s code m inst site (length ks) y p x) → LeftsAre xs o End (Any ∷ ks) x q
-        → (st : Stored) → addresses (st ∷ xs) ≡ suc (addresses xs) → anys (addresses xs) (Any ∷ ks) ≡ anys (suc (addresses xs)) ks → TargetFits st (meaning.ToText line) → LeftsAre (st ∷ xs) (before v o) End ks p q
-    text_found line v xs o End ks p x q f r st counts more fits =
-        let all : anys (addresses xs) (Any ∷ ks) ≡ anys (addresses (st ∷ xs)) ks = more ∙ ap (λ n. anys n ks) (sym counts) in
-        record {
-          found = record { work = Do (Eval f.0) ∷ r.found.work; targets = meaning.ToText line ∷ r.found.targets };
-          is = ap (λ z. before z o) f.1 ∙ ap (λ z. before (LeftText line f.0) z) r.is;
-          fit = (fits, r.fit);
-          y = r.y;
-          ends = subst (λ z. End (length z) r.y q) all r.ends;
-          works = λ w z. evals s code m fs Below inst t b u low (r.found.work ++ w) f.0 p x ks f.2 (r.works w (subst (λ z. Works w r.y z) (sym all) z));
-        }
+    -- one that leaves a value
+    held_left : (st : Stored) (v : Left) (kind : Kind) (tree : Term) (y : Target) (xs : List Stored) (o : Option Lefts) (End : ℕ → ℕ → ℕ → Type 0) (ks : List Kind) (p x q : ℕ) → TargetFits st y (kind ∷ []) → ((r : Lefts) → before v (Some r) ≡ Some (let z : Lefts = record { work = Do (Eval tree) ∷ r.work; targets = y ∷ r.targets } in z)) → TermAt s code m inst site (length ks) tree p x → LeavesIs s tree ks (kind ∷ ks) → LeftsAre xs o End (kind ∷ ks) x q
+        → LeftsAre (st ∷ xs) (before v o) End ks p q
+    held_left st v kind tree y xs o End ks p x q fits is a leaves r = record {
+      found = record { work = Do (Eval tree) ∷ r.found.work; targets = y ∷ r.found.targets };
+      is = ap (before v) r.is ∙ is r.found;
+      kinds = (kind ∷ []) ∷ r.kinds;
+      fit = more_fit fits r.fit;
+      y = r.y;
+      ends = r.ends;
+      works = λ w z. pends s code m fs Below inst t b u low (r.found.work ++ w) (Eval tree) p x ks (kind ∷ ks) (a, leaves) (r.works w z);
+    }
+
+    text_left : (st : Stored) (line : ℕ) (v : Left) (xs : List Stored) (o : Option Lefts) (End : ℕ → ℕ → ℕ → Type 0) (ks : List Kind) (p x q : ℕ) → TargetFits st (meaning.ToText line) (Any ∷ []) → ((y : Term) × (v ≡ LeftText line y) × OperandAt s code m inst site (length ks) y p x) → LeftsAre xs o End (Any ∷ ks) x q → LeftsAre (st ∷ xs) (before v o) End ks p q
+    text_left st line v xs o End ks p x q fits f r = held_left st v Any f.0 (meaning.ToText line) xs o End ks p x q fits (λ r. ap (λ z. before z (Some r)) f.1) (f.2).0 (leaves_any s f.0 ks (f.2).1) r
+
+    place_left : (st : Stored) (v : Left) (xs : List Stored) (o : Option Lefts) (End : ℕ → ℕ → ℕ → Type 0) (ks : List Kind) (p x q : ℕ) → ((kind : Kind) → IsRead kind → TargetFits st ToAddress (kind ∷ [])) → PlaceFound (length ks) p x v → ((ks : List Kind) → LeftsAt s code site (length ks) xs End x q → LeftsAre xs o End ks x q) → LeftsAt s code site (suc (length ks)) xs End x q → LeftsAre (st ∷ xs) (before v o) End ks p q
+    place_left st v xs o End ks p x q fits f rec more =
+        let y = leaves_read s f.tree ks f.reads in
+        held_left st v y.0 f.tree ToAddress xs o End ks p x q (fits y.0 y.1) (λ r. ap (λ z. before z (Some r)) f.is) f.place y.2 (rec (y.0 ∷ ks) more)
 
     one_left : (x : Stored) (v : Left) (xs : List Stored) (o : Option Lefts) (End : ℕ → ℕ → ℕ → Type 0) (ks : List Kind) (p q : ℕ) → LeftFits x v → ((ks : List Kind) (p : ℕ) → LeftsAt s code site (length ks) xs End p q → LeftsAre xs o End ks p q) → LeftsAt s code site (length ks) (x ∷ xs) End p q → LeftsAre (x ∷ xs) (before v o) End ks p q
     one_left (InCell k key) v xs o End ks p q fit rec a =
         let f = fit a.0 a.1 in
         let r = rec ks p a.2 in
         record {
-          found = record { work = r.found.work; targets = ToCell f.0 key ∷ r.found.targets };
-          is = ap (λ z. before z o) f.1 ∙ ap (λ z. before (LeftCell f.0 key) z) r.is;
-          fit = ((f.0, refl, f.2, a.1), r.fit);
+          found = record { work = r.found.work; targets = ToCell f.instance key ∷ r.found.targets };
+          is = ap (λ z. before z o) f.is ∙ ap (λ z. before (LeftCell f.instance key) z) r.is;
+          kinds = [] ∷ r.kinds;
+          fit = more_fit (in_cell f.reaches a.1 f.own f.varies f.declared) r.fit;
           y = r.y;
           ends = r.ends;
           works = r.works;
         }
     one_left (AtAddress d es line) v xs o End ks p q fit rec a =
         let f = fit (length ks) p a.0 a.1 in
-        let r = rec (Any ∷ ks) a.0 a.2 in
-        record {
-          found = record { work = Do (Eval f.0) ∷ r.found.work; targets = ToAddress ∷ r.found.targets };
-          is = ap (λ z. before z o) f.1 ∙ ap (λ z. before (LeftAddress f.0) z) r.is;
-          fit = (refl, r.fit);
-          y = r.y;
-          ends = subst (λ z. End (length z) r.y q) (anys_more (addresses xs) ks) r.ends;
-          works = λ w z. evals s code m fs Below inst t b u low (r.found.work ++ w) f.0 p a.0 ks f.2 (r.works w (subst (λ z. Works w r.y z) (sym (anys_more (addresses xs) ks)) z));
-        }
-    one_left (ToText e line) v xs o End ks p q fit rec a =
-        let r = rec (Any ∷ ks) a.0 a.2 in
-        text_found line v xs o End ks p a.0 q (fit (length ks) p a.0 a.1) r (ToText e line) refl (anys_more (addresses xs) ks) refl
-    one_left (ToResult k line) v xs o End ks p q fit rec a =
-        let r = rec (Any ∷ ks) a.0 a.2 in
-        text_found line v xs o End ks p a.0 q (fit (length ks) p a.0 a.1) r (ToResult k line) refl (anys_more (addresses xs) ks) refl
+        place_left (AtAddress d es line) v xs o End ks p a.0 q (λ kind r. at_address r) f (λ ks b. rec ks a.0 b) a.2
+    one_left (AtAttribute e) v xs o End ks p q fit rec a = place_left (AtAttribute e) v xs o End ks p a.0 q (λ kind r. at_attribute r) (fit (length ks) p a.0 a.1) (λ ks b. rec ks a.0 b) a.2
+    one_left (ToReference e line) v xs o End ks p q fit rec a =
+        let f = fit (length ks) p a.0 a.1 in
+        held_left (ToReference e line) v (Refers f.class) f.tree (meaning.ToReference line) xs o End ks p a.0 q (to_reference f.is_class) (λ r. ap (λ z. before z (Some r)) f.is) f.place (f.leaves ks) (rec (Refers f.class ∷ ks) a.0 a.2)
+    one_left (ToText e line) v xs o End ks p q fit rec a = text_left (ToText e line) line v xs o End ks p a.0 q to_text (fit (length ks) p a.0 a.1) (rec (Any ∷ ks) a.0 a.2)
+    one_left (ToResult k line) v xs o End ks p q fit rec a = text_left (ToResult k line) line v xs o End ks p a.0 q to_result (fit (length ks) p a.0 a.1) (rec (Any ∷ ks) a.0 a.2)
     one_left NotBuilt v xs o End ks p q fit rec a = absurd a
 
     pub lefts_at : (es : List LeftSide) (End : ℕ → ℕ → ℕ → Type 0) (ks : List Kind) (p q : ℕ) → LeftsAt s code site (length ks) (each_stored s es) End p q → LeftsAre (each_stored s es) (lefts s m inst es) End ks p q
-    lefts_at [] End ks p q a = record { found = record { work = []; targets = [] }; is = refl; fit = tt; y = p; ends = a; works = λ w z. z }
+    lefts_at [] End ks p q a = record { found = record { work = []; targets = [] }; is = refl; kinds = []; fit = no_fit; y = p; ends = a; works = λ w z. z }
     lefts_at (e ∷ es) End ks p q a =
         one_left (stored s e.sign (line_at s e.token) e.target) (close_left s m inst e.sign (line_at s e.token) e.target) (each_stored s es) (lefts s m inst es) End ks p q (left_of (is_text s e.target) e.sign (line_at s e.token) e.target) (λ ks p b. lefts_at es End ks p q b) a
 
     -- the value, and where it goes
-    shares : (e : Expression) (xs : List Stored) (ys : List Target) (w : List Item) (p q : ℕ) (ks : List Kind) → EachAt TargetFits xs ys → SharesAt s code site (length (anys (addresses xs) ks)) e xs p q → Works w q ks → Works (Do (Eval (close s m inst e)) ∷ Do (ShareOp (reverse ys)) ∷ w) p (anys (addresses xs) ks)
-    shares e xs ys w p q ks f a k =
-        let counts : anys (addresses (reverse xs)) ks ≡ anys (addresses xs) ks = ap (λ n. anys n ks) (addresses_reverse xs) in
-        evals s code m fs Below inst t b u low (Do (ShareOp (reverse ys)) ∷ w) (close s m inst e) p a.x (anys (addresses xs) ks) (close_at s code m inst site agrees reach e (length (anys (addresses xs) ks)) p a.x a.value)
-        (pends s code m fs Below inst t b u low w (ShareOp (reverse ys)) a.x q (Any ∷ anys (addresses xs) ks) ks (record {
+    shares : (e : Expression) (xs : List Stored) (ys : List Target) (kss : List (List Kind)) (w : List Item) (p q : ℕ) (ks : List Kind) → AllFit xs ys kss → SharesAt s code site (length (over kss ks)) e xs p q → Works w q ks → Works (Do (Eval (close s m inst e)) ∷ Do (ShareOp (reverse ys)) ∷ w) p (over kss ks)
+    shares e xs ys kss w p q ks f a k =
+        let same : under (reverse kss) ks ≡ over kss ks = over_reverse kss ks in
+        evals s code m fs Below inst t b u low (Do (ShareOp (reverse ys)) ∷ w) (close s m inst e) p a.x (over kss ks) (close_at s code m inst site agrees reach e (length (over kss ks)) p a.x a.value)
+        (pends s code m fs Below inst t b u low w (ShareOp (reverse ys)) a.x q (Any ∷ over kss ks) ks (record {
           temp = a.temp;
           unused = a.behind;
           is_temp = record { behind = omega (arith, low, a.behind); within = a.within };
           x = a.y;
-          left = anys (addresses xs) ks;
+          left = over kss ks;
           kept = a.kept;
-          gives = subst (λ z. GivesIs s code m inst (site_at t b (suc a.temp)) a.temp (reverse ys) a.y q z ks) counts
-              (gives_is (suc a.temp) a.temp (reverse xs) (reverse ys) a.y q ks (each_reverse TargetFits xs ys f) (subst (λ z. GivesAt s code site a.temp (length z) (reverse xs) a.y q) (sym counts) a.gives));
+          gives = subst (λ z. GivesIs s code m inst (site_at t b (suc a.temp)) a.temp (reverse ys) a.y q z ks) same
+              (gives_is (suc a.temp) a.temp (reverse xs) (reverse ys) (reverse kss) a.y q ks (fit_reverse xs ys kss f) (subst (λ z. GivesAt s code site a.temp (length z) (reverse xs) a.y q) (sym same) a.gives));
           «in» = refl;
         }) k)
 
-    pub goes_at : (e : Expression) (xs : List Stored) (ys : List Target) (w : List Item) (p q : ℕ) (ks : List Kind) → EachAt TargetFits xs ys → GoesAt s code site e xs (length (anys (addresses xs) ks)) p q → Works w q ks → Works (Do (Eval (close s m inst e)) ∷ Do (assigning ys) ∷ w) p (anys (addresses xs) ks)
-    goes_at e [] [] w p q ks f a k = shares e [] [] w p q ks f a k
-    goes_at e [] (y ∷ ys) w p q ks f a k = absurd f
-    goes_at e (x ∷ xs) [] w p q ks f a k = absurd f
-    goes_at e (x ∷ []) (y ∷ []) w p q ks f a k =
-        evals s code m fs Below inst t b u low (Do (StoreOp y) ∷ w) (close s m inst e) p a.0 (anys (addresses (x ∷ [])) ks) (close_at s code m inst site agrees reach e (length (anys (addresses (x ∷ [])) ks)) p a.0 a.1)
-        (pends s code m fs Below inst t b u low w (StoreOp y) a.0 q (Any ∷ anys (addresses (x ∷ [])) ks) ks (stores x y a.0 q ks f.0 a.2) k)
-    goes_at e (x ∷ []) (y ∷ z ∷ ys) w p q ks f a k = absurd (f.1)
-    goes_at e (x ∷ v ∷ xs) (y ∷ []) w p q ks f a k = absurd (f.1)
-    goes_at e (x ∷ v ∷ xs) (y ∷ z ∷ ys) w p q ks f a k = shares e (x ∷ v ∷ xs) (y ∷ z ∷ ys) w p q ks f a k
+    pub goes_at : (e : Expression) (xs : List Stored) (ys : List Target) (kss : List (List Kind)) (w : List Item) (p q : ℕ) (ks : List Kind) → AllFit xs ys kss → GoesAt s code site e xs (length (over kss ks)) p q → Works w q ks → Works (Do (Eval (close s m inst e)) ∷ Do (assigning ys) ∷ w) p (over kss ks)
+    goes_at e _ _ _ w p q ks no_fit a k = shares e [] [] [] w p q ks no_fit a k
+    goes_at e _ _ _ w p q ks (more_fit {y = y} {k = kinds} f no_fit) a k =
+        evals s code m fs Below inst t b u low (Do (StoreOp y) ∷ w) (close s m inst e) p a.0 (kinds ++ ks) (close_at s code m inst site agrees reach e (length (kinds ++ ks)) p a.0 a.1)
+        (pends s code m fs Below inst t b u low w (StoreOp y) a.0 q (Any ∷ kinds ++ ks) ks (store_is a.0 q (Any ∷ kinds ++ ks) ks f (stores a.0 q ks f a.2)) k)
+    goes_at e _ _ _ w p q ks (more_fit {x = x} {y = y} {k = kinds} f (more_fit {x = x2} {xs = xs} {y = y2} {ys = ys} {k = kinds2} {kss = kss} g more)) a k =
+        shares e (x ∷ x2 ∷ xs) (y ∷ y2 ∷ ys) (kinds ∷ kinds2 ∷ kss) w p q ks (more_fit f (more_fit g more)) a k

@@ -12,7 +12,7 @@ use Rattle.sim_relate.proofs.Plainly.{Agrees}
 use Rattle.sim_relate.proofs.Heads.{is_live_at, lives_in}
 use Rattle.sim_relate.proofs.Lists.{append_at, append_before}
 use Rattle.sim_relate.proofs.Reach.{equal_numbers, if_true, is_there, reach}
-use Rattle.sim_relate.proofs.Relation.{Finds, Reaches, Stands, seen_at, seen_within}
+use Rattle.sim_relate.proofs.Known.{Finds, Reaches, Stands, seen_at, seen_within}
 
 module _ {C A : Type 0} (m : Memory C A) where
   pub lives_now : (j : ℕ) → Lives m j → (x : Instance C) × (live m j ≡ Some x)

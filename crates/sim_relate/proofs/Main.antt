@@ -1,40 +1,55 @@
 -- Where control has come to what is pending, the machine follows the program: both make a step, or the program one that shows nothing.
-use Rattle.std.proofs.Common.{◌≡◌, ◌<◌, ◌≤◌, ℕ, Bool, false, List, [], ◌∷◌, length, refl, sym, ap, ◌∙◌, subst, arith}
+use Rattle.std.proofs.Common.{◌≡◌, ◌<◌, ◌≤◌, ℕ, zero, suc, Option, Some, None, Bool, true, false, List, [], ◌∷◌, length, refl, sym, ap, ◌∙◌, subst, arith}
 use Rattle.std.specs.Prelude.{pos}
 use Rattle.sim_base.specs.declared.limits.Limits.{Limits}
-use Rattle.sim_scope.specs.Source.{Source, level_of}
+use Rattle.sim_scope.specs.Source.{Source, block_around, level_of, line_at}
 use Rattle.sim_tree.specs.Syntax.{Also, Element, NoStatement, Statement, Statements}
 use Rattle.sim_tree.specs.Syntax as syntax
 use Rattle.sim_code.specs.declared.instr.Instr.TheVariants as i
-use Rattle.sim_code.specs.Code.{BlockOf, CodeOf}
+use Rattle.sim_code.specs.Code.{CodeOf}
+use Rattle.sim_code.specs.Events.{no_rule}
 use Rattle.sim_code.specs.Outcome.{Going, World}
 use Rattle.sim_code.specs.Machine.{Frames, Machine, Value}
 use Rattle.sim_code.specs.Machine as machine
 use Rattle.sim_code.specs.Rows.{mstep, on_top}
-use Rattle.sim_code.proofs.Simulation.{Alike}
+use Rattle.sim_code.proofs.Simulation.{Alike, unruled}
 use Rattle.sim_meaning.specs.Meaning.{do_op, has_result, step}
-use Rattle.sim_meaning.specs.Pending.{Activation, AgainOp, ArrayOp, BackOp, BranchOp, CallOf, CallOp, Cell, ChooseOp, Configuration, CopyOf, CopyOp, Do, DropOp, Either, ElementOf, ElementOp, ElementsOp, EndBlock, EndProcedure, EndProgram, EnterOp, Eval, Exec, Execs, FetchOp, Given, GiveOp, IfOp, Instances, Item, One, OneOp, Op, PastOp, RaiseOp, ShareOp, StandardOf, StandardOp, StepOp, StepTestOp, StoreOp, Target, Term, Terms, TestOp, Two, TwoOp, Unbuilt, Val, ValueAt, WhileElementOp, ImageOf, JoinOp, Joined, PlaceOf}
+use Rattle.sim_meaning.specs.Pending.{Activation, AgainOp, ArrayOp, AttributeOf, AttributeOp, BackOp, BranchOp, CallOf, CallOp, Cell, ChooseOp, Configuration, ConnectOp, CopyOf, CopyOp, DeclareOp, Do, DropOp, Either, ElementOf, ElementOp, ElementsOp, EndBlock, EndObject, EndProcedure, EndProgram, EnterOp, Eval, Exec, Execs, FetchOp, FitsOf, FitsOp, Given, GiveOp, IfOp, ImageOf, Instances, Item, Joined, JoinOp, KeepOp, KeptOf, MemberOf, MemberOp, NewOf, NewOp, ObjectOp, One, OneOp, Op, PastOp, PlaceOf, QualifiedElementOf, QualifiedElementOp, QualifiedPlaceOf, QuaOf, QuaOp, RaiseOp, ReferOp, RemoteCallOf, ShareOp, StandardOf, StandardOp, StepOp, StepTestOp, StoreOp, SwapOp, Target, Term, Terms, TestOp, ToAddress, ToCell, ToPlace, ToReference, ToReferenceAt, ToText, ToTextAt, ToTextOf, Two, TwoOp, Unbuilt, Val, ValueAt, WhenOp, WhileElementOp}
+use Rattle.sim_meaning.specs.Entries.{arrays_declared}
+use Rattle.sim_meaning.specs.Statements.{begin_of}
 use Rattle.sim_meaning.specs.Steps.{count}
 use Rattle.sim_meaning.specs.Texts.{text}
-use Rattle.sim_meaning.specs.Sane.{Sane, SaneOn}
-use Rattle.codegen_expr.specs.Sites.{cells_in}
-use Rattle.codegen.specs.Compiled.{Compiled}
-use Rattle.sim_relate.proofs.Plainly.{agreed}
+use Rattle.sim_meaning.specs.Sane.{NamesOn, Sane, SaneOn}
+use Rattle.codegen_expr.specs.Sites.{own_part, frame_text}
+use Rattle.codegen.specs.Agrees.{is_prefixed}
+use Rattle.codegen.specs.CodeStm.{PrefixedAt}
+use Rattle.sim_relate.proofs.Plainly.{Coding, agreed}
 use Rattle.sim_relate.proofs.Assigns as assigns
 use Rattle.sim_relate.proofs.Calls as calls
+use Rattle.sim_relate.proofs.Connections as connections
 use Rattle.sim_relate.proofs.Ends as ends
 use Rattle.sim_relate.proofs.Entries as entries
-use Rattle.sim_relate.proofs.Here.{Here, act, at_row, goes, state_at, there_of, with_values}
+use Rattle.sim_relate.proofs.Here.{Here, act, at_row, goes, here_at, state_at, there_of, with_values}
+use Rattle.sim_relate.proofs.DeclaredArrays.{arrays_at}
+use Rattle.sim_relate.proofs.Fitting as fitting
+use Rattle.sim_relate.proofs.Fixed as fixed
+use Rattle.sim_relate.proofs.Generated as generated
 use Rattle.sim_relate.proofs.Joins as joins
+use Rattle.sim_relate.proofs.Stages as stages
 use Rattle.sim_relate.proofs.Living.{reached}
 use Rattle.sim_relate.proofs.Loops as loops
 use Rattle.sim_relate.proofs.Operators as operators
 use Rattle.sim_relate.proofs.Pending.{each_pends, pends}
-use Rattle.sim_relate.proofs.Quiet.{each_weight, weight}
+use Rattle.sim_relate.proofs.Quiet.{arrays_weight, each_weight, weight}
 use Rattle.sim_relate.proofs.Quiet as quiet_steps
-use Rattle.sim_relate.proofs.Relation.{BeginsAt, ChainAt, ChainNow, Kind, LinkTo, NowAt, OpAt, StandingsAt, StateAt, StateNow, StoreAt, WorkAt, anys, given, more_at, site_at, text_gives}
+use Rattle.sim_relate.proofs.Known.{Any, FixedOf, Kind, LinkTo, Located, OwnerOf, Refers, anys, given, more_at, site_at, text_gives, Runs}
+use Rattle.sim_relate.proofs.Relation.{BeginsAt, ChainAt, ChainNow, InStage, NowAt, OpAt, StandingsAt, StateAt, StateNow, StoreAt, WorkAt, WithInnerIs, declares, inner_here, inner_last, stays, with_inner}
+use Rattle.sim_relate.proofs.References as references
+use Rattle.sim_relate.proofs.Settle.{as_act}
 use Rattle.sim_relate.proofs.Statements as statements
-use Rattle.sim_relate.proofs.Ranked.{InEach, Meets}
+use Rattle.sim_relate.proofs.Ranked.{InEach, Meets, at_once, in_steps}
+use Rattle.sim_relate.proofs.Ranked as ranked
+use Rattle.sim_relate.proofs.Trees.{FetchesAt}
 
 -- a step of both, or one of the program alone that leaves less to be taken apart
 pub data MovesNow (s : Source) (code : CodeOf) (l : Limits) (o : World) (c : Configuration) (x : Machine) : Type 0 where
@@ -42,12 +57,12 @@ pub data MovesNow (s : Source) (code : CodeOf) (l : Limits) (o : World) (c : Con
   several : Meets (mstep code l) (InEach (StateAt s code)) (step s l o c) o x → MovesNow s code l o c x
   quiet : (c' : Configuration) → step s l o c ≡ Going o c' → StateAt s code c' x → weight s c' < weight s c → MovesNow s code l o c x
 
-module _ (s : Source) (code : CodeOf) (compiled : Compiled s code) (l : Limits) (o : World) (m : Instances) (inst : ℕ) (w : List Item) (vals : List Val) (rest : List Activation) (fs : Frames) (t : ℕ) (b : BlockOf) (pc : ℕ) (stack : List Value) (below : List machine.Activation) (ks : List Kind) (here : Here s code m fs inst rest t b ks vals stack) (u q : ℕ) (ks' : List Kind) (low : length (cells_in s t (text s t)) ≤ u) (k : WorkAt s code m fs (λ v. ChainAt s code m fs rest v below) inst t b u w q ks') where
+module _ (s : Source) (code : CodeOf) (compiled : Coding s code) (l : Limits) (o : World) (m : Instances) (inst : ℕ) (w : List Item) (vals : List Val) (rest : List Activation) (fs : Frames) (t : ℕ) (b : Runs) (pc : ℕ) (stack : List Value) (below : List machine.Activation) (ks : List Kind) (here : Here s code m fs inst rest t b ks vals stack) (u q : ℕ) (ks' : List Kind) (low : length (own_part s (frame_text s t)) ≤ u) (k : WorkAt s code m fs (λ v. ChainAt s code m fs rest v below) inst t b u w q ks') where
   abbrev Below : Bool → Type 0
   Below v = ChainAt s code m fs rest v below
 
   abbrev machine_here : Machine
-  machine_here = record { chain = act inst pc stack b.room ∷ below; memory = fs }
+  machine_here = record { chain = act inst pc stack b ∷ below; memory = fs }
 
   abbrev Follows : Op → Type 0
   Follows op = BeginsAt s code m fs inst (site_at t b u) op pc q ks ks' → MovesNow s code l o (record { chain = record { instance = inst; work = Do op ∷ w; values = vals } ∷ rest; memory = m }) machine_here
@@ -57,22 +72,37 @@ module _ (s : Source) (code : CodeOf) (compiled : Compiled s code) (l : Limits) 
   stands_so x a = state_at s code u pc (there_of s code here) a refl
 
   -- a call begins with the link to the instance in which the procedure is declared
-  link : (j c : ℕ) (ts : Terms) (line : ℕ) → OpAt s code m fs inst (site_at t b u) (Eval (CallOf j c ts line)) pc q ks ks' → Alike (StateAt s code) (do_op s l o m inst w vals rest (Eval (CallOf j c ts line))) (on_top code l o fs (act inst pc stack b.room) below)
+  link : (j c : ℕ) (ts : Terms) (line : ℕ) → OpAt s code m fs inst (site_at t b u) (Eval (CallOf j c ts line)) pc q ks ks' → Alike (StateAt s code) (do_op s l o m inst w vals rest (Eval (CallOf j c ts line))) (on_top code l o fs (act inst pc stack b) below)
   link j c ts line a =
       let x = a.0 in
       let p = x.procedure in
       let reaches = x.reaches in
       let is = (x.link).is in
       let out : ks' ≡ given (has_result p.result) ks = a.1 ∙ ap (λ g. given g ks) (ap text_gives p.is) in
-      at_row s code l o fs (act inst pc stack b.room) below _ (i.Link (pos (level_of s x.text))) is.line x.x is.is
+      at_row s code l o fs (act inst pc stack b) below _ (i.Link (pos (level_of s x.text))) is.line x.x is.is
       (operators.at_frame s code l o m inst w vals rest fs t b pc stack below ks here o (level_of s x.text) j _ _ (reached s m inst x.text j here.lives reaches)
       (operators.pushes s code l o m inst w vals rest fs t b pc stack below ks here o (machine.Link j) _ _ (x.link).fits
       (goes s code u x.x (with_values s code here (more_at (record { instance = j; is_val = refl; is_value = refl; stands = reaches.stands }) here.values))
       (each_pends s code m fs Below inst t b u low (Do (CallOp c (count ts) line) ∷ w) ts x.x x.y (LinkTo x.text ∷ ks) x.actuals
-      (pends s code m fs Below inst t b u low w (CallOp c (count ts) line) x.y q (anys (count ts) (LinkTo x.text ∷ ks)) ks' (record { text = x.text; procedure = p; is = x.call; as_many = x.as_many; left = ks; fits = (x.link).fits; «in» = refl; out = out }) k))
+      (pends s code m fs Below inst t b u low w (CallOp c (count ts) line) x.y q (anys (count ts) (LinkTo x.text ∷ ks)) ks' (record { link = LinkTo x.text; text = x.text; links = refl; procedure = p; is = x.call; as_many = x.as_many; left = ks; fits = (x.link).fits; «in» = refl; out = out }) k))
+      (is.is).on)))
+
+  -- an object too
+  new_link : (j c : ℕ) (ts : Terms) (line : ℕ) → OpAt s code m fs inst (site_at t b u) (Eval (NewOf j c ts line)) pc q ks ks' → Alike (StateAt s code) (do_op s l o m inst w vals rest (Eval (NewOf j c ts line))) (on_top code l o fs (act inst pc stack b) below)
+  new_link j c ts line a =
+      let x = a.0 in
+      let reaches = x.reaches in
+      let is = (x.link).is in
+      at_row s code l o fs (act inst pc stack b) below _ (i.Link (pos (level_of s x.text))) is.line x.x is.is
+      (operators.at_frame s code l o m inst w vals rest fs t b pc stack below ks here o (level_of s x.text) j _ _ (reached s m inst x.text j here.lives reaches)
+      (operators.pushes s code l o m inst w vals rest fs t b pc stack below ks here o (machine.Link j) _ _ (x.link).fits
+      (goes s code u x.x (with_values s code here (more_at (record { instance = j; is_val = refl; is_value = refl; stands = reaches.stands }) here.values))
+      (each_pends s code m fs Below inst t b u low (Do (NewOp c (count ts) line) ∷ w) ts x.x x.y (LinkTo x.text ∷ ks) x.actuals
+      (pends s code m fs Below inst t b u low w (NewOp c (count ts) line) x.y q (anys (count ts) (LinkTo x.text ∷ ks)) ks' (record { text = x.text; is = x.new; stands_in = x.stands_in; class = x.class; left = ks; fits = (x.link).fits; «in» = refl; out = a.1 }) k))
       (is.is).on)))
 
   eval_moves : (x : Term) → Follows (Eval x)
+  unfolding no_rule
   eval_moves (Given v) a = both (operators.constant s code l o m inst w vals rest fs t b pc stack below ks here u q ks' low k compiled.texts v a)
   eval_moves (Cell j key) a = both (operators.variable s code l o m inst w vals rest fs t b pc stack below ks here u q ks' low k j key a)
   eval_moves (One op line x) a = quiet _ refl (stands_so _ (quiet_steps.one_opened s code m fs Below inst t b u low w pc q ks ks' k op line x a)) (omega arith)
@@ -88,7 +118,25 @@ module _ (s : Source) (code : CodeOf) (compiled : Compiled s code) (l : Limits) 
   eval_moves (PlaceOf j key) a = both (operators.place s code l o m inst w vals rest fs t b pc stack below ks here u q ks' low k j key a)
   eval_moves (ImageOf n) a = both (operators.image s code l o m inst w vals rest fs t b pc stack below ks here u q ks' low k n a)
   eval_moves (Joined line x y) a = quiet _ refl (stands_so _ (quiet_steps.joined_opened s code m fs Below inst t b u low w pc q ks ks' k line x y a)) (omega arith)
-  eval_moves _ a = absurd (a.0)
+  eval_moves (NewOf j c ts line) a = both (new_link j c ts line a)
+  eval_moves (QualifiedPlaceOf j key c) a = both (references.qualified_place s code compiled l o m inst w vals rest fs t b pc stack below ks here u q ks' low k j key c a)
+  eval_moves (AttributeOf text key class line x) a = quiet _ refl (stands_so _ (quiet_steps.attribute_opened s code m fs Below inst t b u low w pc q ks ks' k text key class line x a)) (omega arith)
+  eval_moves (RemoteCallOf x c ts line) a = quiet _ refl (stands_so _ (quiet_steps.remote_opened s code m fs Below inst t b u low w pc q ks ks' k x c ts line a)) (omega arith)
+  eval_moves (QualifiedElementOf line c x ts) a = quiet _ refl (stands_so _ (quiet_steps.qualified_element_opened s code m fs Below inst t b u low w pc q ks ks' k line c x ts a)) (omega arith)
+  eval_moves (MemberOf member c x) a = quiet _ refl (stands_so _ (quiet_steps.member_opened s code m fs Below inst t b u low w pc q ks ks' k member c x a)) (omega arith)
+  eval_moves (QuaOf c line x) a = quiet _ refl (stands_so _ (quiet_steps.qua_opened s code m fs Below inst t b u low w pc q ks ks' k c line x a)) (omega arith)
+  eval_moves (FitsOf c line x) a = quiet _ refl (stands_so _ (quiet_steps.fits_opened s code m fs Below inst t b u low w pc q ks ks' k c line x a)) (omega arith)
+  eval_moves (KeptOf x) a = quiet _ refl (stands_so _ (quiet_steps.kept_opened s code m fs Below inst t b u low w pc q ks ks' k x a)) (omega arith)
+  eval_moves Unbuilt a = both unruled
+
+  -- no block has a prefix
+  no_prefix : (es : syntax.Expressions) (line : ℕ) (o : Option ℕ) (p : ℕ) → PrefixedAt s code (site_at t b u) (length ks) line es o p q → ⊥
+  no_prefix es line None p a = a
+  no_prefix es line (Some zero) p a = a
+  no_prefix es line (Some (suc n)) p a = two_ways (is_prefixed (text s (suc n))) a.is ((agreed s code compiled).flat.blocks (suc n))
+    where
+      two_ways : (c : Bool) → c ≡ true → c ≡ false → ⊥
+      two_ways c e f = cc
 
   statement_moves : (x : Statement) → Follows (Exec x)
   statement_moves (syntax.Empty token) a = quiet _ refl (stands_so w (quiet_steps.empty_begun s code m fs Below inst t b u low w pc q ks ks' k token a)) (omega arith)
@@ -98,10 +146,10 @@ module _ (s : Source) (code : CodeOf) (compiled : Compiled s code) (l : Limits) 
   statement_moves (syntax.Choose token c x y) a = both (statements.choose_statement s code l (agreed s code compiled) o m inst w vals rest fs t b pc stack below ks here u q ks' low k token c x y a)
   statement_moves (syntax.Repeat token c x) a = both (statements.repeat_statement s code l (agreed s code compiled) o m inst w vals rest fs t b pc stack below ks here u q ks' low k token c x a)
   statement_moves (syntax.For token x sign assign es y) a = both (loops.for_statement s code l (agreed s code compiled) o m inst w vals rest fs t b pc stack below ks here u q ks' low k token x sign assign es y a)
-  statement_moves (syntax.Prefixed class arguments x) a = absurd (a.0)
+  statement_moves (syntax.Prefixed class arguments x) a = absurd (no_prefix arguments (line_at s class.token.0) (block_around s (begin_of x)) (a.0).0 (a.0).2)
   statement_moves (syntax.Inner token) a = absurd (a.0)
-  statement_moves (syntax.Inspect token e opening x end other) a = absurd (a.0)
-  statement_moves (syntax.InspectWhen token e arms other) a = absurd (a.0)
+  statement_moves (syntax.Inspect token e opening x end other) a = both (statements.inspect_statement s code l (agreed s code compiled) o m inst w vals rest fs t b pc stack below ks here u q ks' low k token e opening x end other a)
+  statement_moves (syntax.InspectWhen token e arms other) a = both (statements.inspect_when_statement s code l (agreed s code compiled) o m inst w vals rest fs t b pc stack below ks here u q ks' low k token e arms other a)
   statement_moves (syntax.Activate token word e schedule) a = absurd (a.0)
 
   elements_move : (x : Target) (es : List Element) (y : Statement) → Follows (ElementsOp x es y)
@@ -110,6 +158,26 @@ module _ (s : Source) (code : CodeOf) (compiled : Compiled s code) (l : Limits) 
   elements_move x (syntax.While e token c ∷ es) y a = quiet _ refl (stands_so _ (loops.while_rests s code l (agreed s code compiled) o m inst w vals rest fs t b pc stack below ks here u q ks' low k x e token c es y a)) (omega arith)
   elements_move x (syntax.Step first token by limit ∷ es) y a = quiet _ refl (stands_so _ (loops.step_rests s code l (agreed s code compiled) o m inst w vals rest fs t b pc stack below ks here u q ks' low k x first token by limit es y a)) (omega arith)
 
+  -- the arrays of a level are declared
+  declare_moves : (ds : syntax.Declarations) → Follows (DeclareOp ds)
+  declare_moves ds a =
+      let e = arrays_weight s m inst ds w in
+      quiet _ refl (stands_so _ (subst (λ z. WorkAt s code m fs Below inst t b u (arrays_declared s m inst ds w) pc z) (sym a.1)
+      (arrays_at s code (agreed s code compiled) m fs Below inst t b u low here.stands here.lives w ds pc q a.0 (subst (λ z. WorkAt s code m fs Below inst t b u w q z) a.2 k)))) (omega (arith, e))
+
+  -- a step that is followed at once, or in several steps
+  followed : {op : Op} → ranked.Follows (mstep code l) (StateAt s code) (do_op s l o m inst w vals rest op) o machine_here → MovesNow s code l o (record { chain = record { instance = inst; work = Do op ∷ w; values = vals } ∷ rest; memory = m }) machine_here
+  followed (at_once a) = both a
+  followed (in_steps a) = several a
+
+  fetch_moves : (kind : Kind) (left : List Kind) → FetchesAt s code (site_at t b u) (length left) kind pc q → ks ≡ kind ∷ left → ks' ≡ anys 1 left → MovesNow s code l o (record { chain = record { instance = inst; work = Do FetchOp ∷ w; values = vals } ∷ rest; memory = m }) machine_here
+  fetch_moves Any left is e out = both (assigns.fetch_any s code l o m inst w vals rest fs t b pc stack below ks here u q ks' low k left is e out)
+  fetch_moves Located left is e out = both (assigns.fetch_place s code l o m inst w vals rest fs t b pc stack below ks here u q ks' low k left is e out)
+  fetch_moves (Refers class) left is e out = both (assigns.fetch_reference s code l o m inst w vals rest fs t b pc stack below ks here u q ks' low k class left is e out)
+  fetch_moves (FixedOf d) left is e out = followed (fixed.fetch_constant s code compiled l o m inst w vals rest fs t b pc stack below ks here u q ks' low k d left e out is)
+  fetch_moves (LinkTo text) left is e out = absurd is
+  fetch_moves (OwnerOf text) left is e out = absurd is
+
   -- one line for each operator
   op_moves : (op : Op) → Follows op
   op_moves (Eval x) a = eval_moves x a
@@ -117,14 +185,21 @@ module _ (s : Source) (code : CodeOf) (compiled : Compiled s code) (l : Limits) 
   op_moves (TwoOp op line) a = both (operators.two s code l o m inst w vals rest fs t b pc stack below ks here u q ks' low k op line a)
   op_moves (IfOp x y) a = both (operators.choice s code l o m inst w vals rest fs t b pc stack below ks here u q ks' low k x y a)
   op_moves (ElementOp n line) a = both (operators.element_op s code l o m inst w vals rest fs t b pc stack below ks here u q ks' low k n line a)
-  op_moves FetchOp a = both (assigns.fetch s code l o m inst w vals rest fs t b pc stack below ks here u q ks' low k a)
+  op_moves FetchOp a = fetch_moves a.kind a.left a.fetches a.«in» a.out
   op_moves (CopyOp line) a = both (operators.copy s code l o m inst w vals rest fs t b pc stack below ks here u q ks' low k line a)
   op_moves (CallOp c n line) a = both (entries.call s code compiled l o m inst w vals rest fs t b pc stack below ks here u q ks' low k c n line a)
   op_moves (StandardOp name line) a = both (calls.standard s code l o m inst w vals rest fs t b pc stack below ks here u q ks' low k name line a)
   op_moves (JoinOp line) a = several (joins.join s code l o m inst w vals rest fs t b pc stack below ks here u q ks' low k line a)
   op_moves DropOp a = both (operators.drop s code l o m inst w vals rest fs t b pc stack below ks here u q ks' low k a)
   op_moves AgainOp a = both (operators.again s code l o m inst w vals rest fs t b pc stack below ks here u q ks' low k a)
-  op_moves (StoreOp x) a = both (assigns.store s code l o m inst w vals rest fs t b pc stack below ks here u q ks' low k x a)
+  op_moves (StoreOp (ToReference line)) a = quiet _ refl (stands_so _ (quiet_steps.reference_stored s code m fs Below inst t b u low w pc q ks ks' k line a)) (omega arith)
+  op_moves (StoreOp (ToPlace x)) a = quiet _ refl (stands_so _ (quiet_steps.place_stored s code m fs Below inst t b u low w pc q ks ks' k x a)) (omega arith)
+  op_moves (StoreOp (ToReferenceAt x line)) a = quiet _ refl (stands_so _ (quiet_steps.reference_place_stored s code m fs Below inst t b u low w pc q ks ks' k x line a)) (omega arith)
+  op_moves (StoreOp (ToCell j key)) a = both (assigns.to_cell s code l o m inst w vals rest fs t b pc stack below ks here u q ks' low k j key a)
+  op_moves (StoreOp ToAddress) a = both (assigns.to_address s code l o m inst w vals rest fs t b pc stack below ks here u q ks' low k a)
+  op_moves (StoreOp (ToText line)) a = both (assigns.to_text s code l o m inst w vals rest fs t b pc stack below ks here u q ks' low k line a.0 a.1)
+  op_moves (StoreOp (ToTextOf j key line)) a = both (assigns.to_text s code l o m inst w vals rest fs t b pc stack below ks here u q ks' low k line a.0 a.1)
+  op_moves (StoreOp (ToTextAt x line)) a = both (assigns.to_text s code l o m inst w vals rest fs t b pc stack below ks here u q ks' low k line a.0 a.1)
   op_moves (ShareOp ts) a = both (assigns.share s code l o m inst w vals rest fs t b pc stack below ks here u q ks' low k ts a)
   op_moves (GiveOp v []) a = quiet _ refl (stands_so w (quiet_steps.nothing_given s code m fs Below inst t b u low w pc q ks ks' k v a)) (omega arith)
   op_moves (GiveOp v (x ∷ ts)) a = both (assigns.give s code l o m inst w vals rest fs t b pc stack below ks here u q ks' low k v x ts a)
@@ -143,37 +218,68 @@ module _ (s : Source) (code : CodeOf) (compiled : Compiled s code) (l : Limits) 
   op_moves (StepTestOp x line by limit y) a = both (loops.step_tested s code l (agreed s code compiled) o m inst w vals rest fs t b pc stack below ks here u q ks' low k x line by limit y a)
   op_moves (StepOp line) a = both (loops.step_test_op s code l (agreed s code compiled) o m inst w vals rest fs t b pc stack below ks here u q ks' low k line a)
   op_moves (RaiseOp x line by limit y) a = quiet _ refl (stands_so _ (loops.raise_rests s code l (agreed s code compiled) o m inst w vals rest fs t b pc stack below ks here u q ks' low k x line by limit y a)) (omega arith)
+  op_moves (NewOp c n line) a = both (generated.new_op s code compiled l o m inst w vals rest fs t b pc stack below ks here u q ks' low k c n line a)
+  op_moves (AttributeOp text key class line) a = both (references.attribute s code compiled l o m inst w vals rest fs t b pc stack below ks here u q ks' low k text key class line a)
+  op_moves (ObjectOp c line) a = both (references.object s code compiled l o m inst w vals rest fs t b pc stack below ks here u q ks' low k c line a)
+  op_moves (QualifiedElementOp n line c) a = both (references.qualified_element s code compiled l o m inst w vals rest fs t b pc stack below ks here u q ks' low k n line c a)
+  op_moves (MemberOp member c) a = both (references.member s code compiled l o m inst w vals rest fs t b pc stack below ks here u q ks' low k member c a)
+  op_moves (QuaOp c line) a = both (references.qua s code compiled l o m inst w vals rest fs t b pc stack below ks here u q ks' low k c line a)
+  op_moves (FitsOp c line) a = followed (fitting.fits s code compiled l o m inst w vals rest fs t b pc stack below ks here u q ks' low k c line a)
+  op_moves KeepOp a = both (references.keep s code compiled l o m inst w vals rest fs t b pc stack below ks here u q ks' low k a)
+  op_moves SwapOp a = both (references.swap s code compiled l o m inst w vals rest fs t b pc stack below ks here u q ks' low k a)
+  op_moves (ReferOp line) a = both (references.refer s code compiled l o m inst w vals rest fs t b pc stack below ks here u q ks' low k line a)
+  op_moves (ConnectOp c x other) a = followed (connections.connect_op s code compiled l o m inst w vals rest fs t b pc stack below ks here u q ks' low k c x other a)
+  op_moves (WhenOp arms other) a = followed (connections.when_op s code compiled l o m inst w vals rest fs t b pc stack below ks here u q ks' low k arms other a)
+  op_moves (DeclareOp ds) a = declare_moves ds a
   op_moves _ a = absurd a
 
-module _ (s : Source) (code : CodeOf) (compiled : Compiled s code) (l : Limits) (o : World) where
+module _ (s : Source) (code : CodeOf) (compiled : Coding s code) (l : Limits) (o : World) where
   abbrev Moves : Configuration → Machine → Type 0
   Moves c x = MovesNow s code l o c x
 
-  work_moves : (m : Instances) (inst : ℕ) (work : List Item) (vals : List Val) (rest : List Activation) (fs : Frames) (t : ℕ) (b : BlockOf) (pc : ℕ) (stack : List Value) (below : List machine.Activation) (ks : List Kind) (used : ℕ) → Here s code m fs inst rest t b ks vals stack → NowAt s code m fs (λ v. ChainAt s code m fs rest v below) inst t b used work pc ks
-      → Moves (record { chain = record { instance = inst; work = work; values = vals } ∷ rest; memory = m }) (record { chain = act inst pc stack b.room ∷ below; memory = fs })
+  stage_moves : (m : Instances) (inst : ℕ) (w : List Item) (vals : List Val) (rest : List Activation) (fs : Frames) (t : ℕ) (b c : Runs) (pc : ℕ) (stack : List Value) (below : List machine.Activation) (ks : List Kind) (here : Here s code m fs inst rest t b ks vals stack) (u q : ℕ) (ks' : List Kind) (low : length (own_part s (frame_text s t)) ≤ u) (op : Op)
+      → InStage s code (BeginsAt s code m fs inst (site_at t b u)) (site_at t b u) op b c pc q ks ks' → WorkAt s code m fs (λ v. ChainAt s code m fs rest v below) inst t c u w q ks'
+      → Moves (record { chain = record { instance = inst; work = Do op ∷ w; values = vals } ∷ rest; memory = m }) (record { chain = act inst pc stack b ∷ below; memory = fs })
+  stage_moves m inst w vals rest fs t b c pc stack below ks here u q ks' low op (stays a same) k = op_moves s code compiled l o m inst w vals rest fs t b pc stack below ks here u q ks' low (subst (λ z. WorkAt s code m fs (λ v. ChainAt s code m fs rest v below) inst t z u w q ks') same k) op a
+  stage_moves m inst w vals rest fs t b c pc stack below ks here u q ks' low op (declares level e g a) k =
+      subst (λ z. Moves (record { chain = record { instance = inst; work = Do z ∷ w; values = vals } ∷ rest; memory = m }) (record { chain = act inst pc stack b ∷ below; memory = fs })) (sym e)
+      (both (stages.declared s code l (agreed s code compiled) o m inst w vals rest fs t b pc stack below ks here u q ks' low level c g a k))
+  stage_moves m inst w vals rest fs t b c pc stack below ks here u q ks' low op (inner_last e g a) k =
+      subst (λ z. Moves (record { chain = record { instance = inst; work = Do z ∷ w; values = vals } ∷ rest; memory = m }) (record { chain = act inst pc stack b ∷ below; memory = fs })) (sym e)
+      (both (stages.inner_end s code l (agreed s code compiled) o m inst w vals rest fs t b pc stack below ks here u q ks' low c g a k))
+  stage_moves m inst w vals rest fs t b c pc stack below ks here u q ks' low op (inner_here token e g a) k =
+      subst (λ z. Moves (record { chain = record { instance = inst; work = Do z ∷ w; values = vals } ∷ rest; memory = m }) (record { chain = act inst pc stack b ∷ below; memory = fs })) (sym e)
+      (both (stages.inner_statement s code l (agreed s code compiled) o m inst w vals rest fs t b pc stack below ks here u q ks' low token c g a k))
+  stage_moves m inst w vals rest fs t b c pc stack below ks here u q ks' low op (with_inner ss e g a) k =
+      subst (λ z. Moves (record { chain = record { instance = inst; work = Do z ∷ w; values = vals } ∷ rest; memory = m }) (record { chain = act inst pc stack b ∷ below; memory = fs })) (sym e)
+      (by ss a)
+    where
+      by : (ss : Statements) → WithInnerIs s code (site_at t b u) b.block ss pc q → Moves (record { chain = record { instance = inst; work = Do (Execs ss) ∷ w; values = vals } ∷ rest; memory = m }) (record { chain = act inst pc stack b ∷ below; memory = fs })
+      by NoStatement a = absurd (a.is)
+      by (Also x more) a =
+          quiet _ refl (state_at s code u pc (there_of s code here)
+          (stages.with_inner_begun s code l (agreed s code compiled) o m inst w vals rest fs t b pc stack below ks here u q ks' low x more c g a k) refl) (omega arith)
+
+  work_moves : (m : Instances) (inst : ℕ) (work : List Item) (vals : List Val) (rest : List Activation) (fs : Frames) (t : ℕ) (b : Runs) (pc : ℕ) (stack : List Value) (below : List machine.Activation) (ks : List Kind) (used : ℕ) → Here s code m fs inst rest t b ks vals stack → NowAt s code m fs (λ v. ChainAt s code m fs rest v below) inst t b used work pc ks
+      → Moves (record { chain = record { instance = inst; work = work; values = vals } ∷ rest; memory = m }) (record { chain = act inst pc stack b ∷ below; memory = fs })
   work_moves m inst [] vals rest fs t b pc stack below ks used here a = absurd a
-  work_moves m inst (Do op ∷ w) vals rest fs t b pc stack below ks used here a = op_moves s code compiled l o m inst w vals rest fs t b pc stack below ks here a.0 a.1 a.2 a.4 a.6 op a.5
+  work_moves m inst (Do op ∷ w) vals rest fs t b pc stack below ks used here a =
+      let frame = a.5 in
+      stage_moves m inst w vals rest fs a.3 b a.4 pc stack below ks (here_at s code frame here) a.0 a.1 a.2 (subst (λ z. length (own_part s z) ≤ a.0) (sym frame.frame) a.7) op a.8 a.9
   work_moves m inst (EndBlock ∷ w) vals rest fs t b pc stack below ks used here a = both (ends.end_block s code l o m inst w vals rest fs t b pc stack below ks here used a)
   work_moves m inst (EndProcedure leaves ∷ w) vals rest fs t b pc stack below ks used here a = both (ends.end_procedure s code l o m inst w vals rest fs t b pc stack below ks here used leaves a)
   work_moves m inst (EndProgram ∷ w) vals rest fs t b pc stack below ks used here a = both (ends.end_program s code l o m inst w vals rest fs t b pc stack below ks here used a)
+  work_moves m inst (EndObject ∷ w) vals rest fs t b pc stack below ks used here a = both (ends.end_object s code l o m inst w vals rest fs t b pc stack below ks here used a)
   work_moves m inst (_ ∷ w) vals rest fs t b pc stack below ks used here a = absurd a
 
-  -- an activation is that of its instance
-  act_is : (y : machine.Activation) (j room : ℕ) → y.thunk ≡ false → y.home ≡ j → y.room ≡ room → y ≡ act j y.pc y.stack room
-  act_is y j room base home r =
-      let one : y ≡ record y { thunk = false } = ap (λ z. let x : machine.Activation = record y { thunk = z } in x) base in
-      let two : record y { thunk = false } ≡ record y { thunk = false; home = j } = ap (λ z. let x : machine.Activation = record y { thunk = false; home = z } in x) home in
-      let three : record y { thunk = false; home = j } ≡ act j y.pc y.stack room = ap (λ z. act j y.pc y.stack z) r in
-      one ∙ two ∙ three
-
-  chain_moves : (m : Instances) (chain : List Activation) (fs : Frames) (acts : List machine.Activation) → StoreAt s code m fs → StandingsAt s code m fs → SaneOn m chain → ChainNow s code m fs chain acts → Moves (record { chain = chain; memory = m }) (record { chain = acts; memory = fs })
-  chain_moves m [] fs [] store parked sane c = both (entries.first_alike s code compiled l o m fs store parked)
-  chain_moves m [] fs (y ∷ below) store parked sane c = absurd (cc (c.is))
-  chain_moves m (a ∷ rest) fs [] store parked sane c = absurd c
-  chain_moves m (a ∷ rest) fs (y ∷ below) store parked sane c =
-      let here : Here s code m fs a.instance rest c.text c.block c.kinds a.values y.stack = record { store = store; parked = parked; lives = sane.0; alone = sane.1; kept_alone = sane.2; stands = c.stands; found = c.found; values = c.values } in
-      subst (λ z. Moves (record { chain = a ∷ rest; memory = m }) (record { chain = z ∷ below; memory = fs })) (sym (act_is y a.instance (c.block).room c.base c.home c.room))
+  chain_moves : (m : Instances) (chain : List Activation) (fs : Frames) (acts : List machine.Activation) → StoreAt s code m fs → StandingsAt s code m fs → SaneOn m chain → NamesOn s m chain → ChainNow s code m fs chain acts → Moves (record { chain = chain; memory = m }) (record { chain = acts; memory = fs })
+  chain_moves m [] fs [] store parked sane names c = both (entries.first_alike s code compiled l o m fs store parked)
+  chain_moves m [] fs (y ∷ below) store parked sane names c = absurd (cc (c.is))
+  chain_moves m (a ∷ rest) fs [] store parked sane names c = absurd c
+  chain_moves m (a ∷ rest) fs (y ∷ below) store parked sane names c =
+      let here : Here s code m fs a.instance rest c.text c.block c.kinds a.values y.stack = record { store = store; parked = parked; lives = sane.0; alone = sane.1; kept_alone = sane.2; names = names; stands = c.stands; found = c.found; values = c.values } in
+      subst (λ z. Moves (record { chain = a ∷ rest; memory = m }) (record { chain = z ∷ below; memory = fs })) (sym (as_act s code l y a.instance c.block c.base c.home c.room c.stage))
       (work_moves m a.instance a.work a.values rest fs c.text c.block y.pc y.stack below c.kinds c.used here c.goes)
 
-  pub moves_now : (c : Configuration) (x : Machine) → Sane c → StateNow s code c x → MovesNow s code l o c x
-  moves_now c x sane a = chain_moves c.memory c.chain x.memory x.chain a.store a.parked sane a.chain
+  pub moves_now : (c : Configuration) (x : Machine) → Sane c → NamesOn s c.memory c.chain → StateNow s code c x → MovesNow s code l o c x
+  moves_now c x sane names a = chain_moves c.memory c.chain x.memory x.chain a.store a.parked sane names a.chain

@@ -13,13 +13,13 @@ use Rattle.sim_values.specs.declared.operators.Monadic.TheVariants as monadic
 use Rattle.sim_values.specs.Plain.{Character, Integer, Nothing, Object, Plain, Text, Truth}
 use Rattle.sim_code.specs.declared.instr.Instr.TheVariants as i
 use Rattle.sim_code.specs.declared.instr.Lined.{Lined}
-use Rattle.sim_code.specs.Code.{BlockOf, CodeOf}
+use Rattle.sim_code.specs.Code.{CodeOf}
 use Rattle.sim_code.specs.Outcome.{Going, Run, World}
 use Rattle.sim_code.specs.Events.{having, no_rule, when}
 use Rattle.sim_code.specs.Instances.{at_level}
 use Rattle.sim_code.specs.Machine.{Frames, Machine, Value, at, index, is_there, is_tick, jumping, level, number, on, pushing}
 use Rattle.sim_code.specs.Machine as machine
-use Rattle.sim_code.specs.Rows.{code_of, has_room, on_top, one_row, pushed, room_for, row, standard_of, truth_of, two_row, text_value}
+use Rattle.sim_code.specs.Rows.{code_of, on_top, one_row, row, truth_of, two_row, text_value}
 use Rattle.sim_code.specs.Rows as rows
 use Rattle.sim_code.proofs.Lifts.{alike_choosing, alike_copying, alike_equal, alike_found, alike_having}
 use Rattle.sim_code.proofs.Simulation.{Alike}
@@ -27,10 +27,11 @@ use Rattle.sim_meaning.specs.Meaning.{do_op}
 use Rattle.sim_meaning.specs.Pending.{Activation, AgainOp, Cell, Configuration, CopyOp, Do, DropOp, ElementOp, Eval, Given, IfOp, Instances, Item, Key, OneOp, Op, PastOp, Term, TwoOp, Val, array_in, cell, plain, ImageOf, PlaceOf}
 use Rattle.sim_meaning.specs.Pending as meaning
 use Rattle.sim_meaning.specs.Steps.{go}
-use Rattle.sim_meaning.specs.Texts.{text}
-use Rattle.codegen_expr.specs.Sites.{Ahead, Is, cells_in, slot_of}
+use Rattle.codegen_expr.specs.Sites.{Ahead, Is, slot_of, own_part, frame_text}
 use Rattle.codegen_expr.specs.CodeExpr.{one_instr, two_instr}
-use Rattle.sim_relate.proofs.Relation.{Any, ChainAt, HandAt, Kind, OpAt, OperandAt, StackAt, StateAt, ValAt, WorkAt, anys, array_at, element_at, link_at, more_at, plain_at, site_at, IsImage, TextIs, empty, image_at, listed, of_input, of_output}
+use Rattle.sim_relate.proofs.Known.{Any, HandAt, Kind, StackAt, ValAt, anys, array_at, element_at, link_at, more_at, plain_at, site_at, IsImage, image_at, of_input, of_output, Runs}
+use Rattle.sim_relate.proofs.Trees.{OperandAt, TextIs, empty, listed}
+use Rattle.sim_relate.proofs.Relation.{ChainAt, OpAt, StateAt, WorkAt}
 use Rattle.sim_relate.proofs.Hands.{hand_finding, hand_one, hand_popping, hand_truth, hand_two, stack_length}
 use Rattle.sim_relate.proofs.Here.{Here, act, at_row, goes, kinds_as, with_values}
 use Rattle.sim_relate.proofs.Living.{reached}
@@ -96,20 +97,20 @@ is_instr [] j lt = absurd (let e : ⊥ = omega (arith, lt) in e)
 is_instr (x ∷ xs) zero lt = refl
 is_instr (x ∷ xs) (suc j) lt = is_instr xs j (omega (arith, lt))
 
-module _ (s : Source) (code : CodeOf) (l : Limits) (o : World) (m : Instances) (inst : ℕ) (w : List Item) (vals : List Val) (rest : List Activation) (fs : Frames) (t : ℕ) (b : BlockOf) (pc : ℕ) (stack : List Value) (below : List machine.Activation) (ks : List Kind) (here : Here s code m fs inst rest t b ks vals stack) where
+module _ (s : Source) (code : CodeOf) (l : Limits) (o : World) (m : Instances) (inst : ℕ) (w : List Item) (vals : List Val) (rest : List Activation) (fs : Frames) (t : ℕ) (b : Runs) (pc : ℕ) (stack : List Value) (below : List machine.Activation) (ks : List Kind) (here : Here s code m fs inst rest t b ks vals stack) where
   abbrev pub R : Configuration → Machine → Type 0
   R = StateAt s code
 
   abbrev pub top : machine.Activation
-  top = act inst pc stack b.room
+  top = act inst pc stack b
 
   -- a value is pushed where there is room
-  pub room_is : length ks < b.room → nat_lt (length stack) b.room ≡ true
+  pub room_is : length ks < b.block.room → nat_lt (length stack) b.block.room ≡ true
   room_is lt = let e = stack_length ks vals stack here.values in grind (arith, lt, e)
 
-  pub pushes : (p : World) (x : Value) (r : Run Configuration) (go : List Value → Run Machine) → length ks < b.room → Alike R r (go (x ∷ stack)) → Alike R r (pushing b.room stack x p go)
+  pub pushes : (p : World) (x : Value) (r : Run Configuration) (go : List Value → Run Machine) → length ks < b.block.room → Alike R r (go (x ∷ stack)) → Alike R r (pushing b.block.room stack x p go)
   unfolding pushing when
-  pushes p x r go lt h = chosen (λ z. Alike R r z) (nat_lt (length stack) b.room) (go (x ∷ stack)) (no_rule p) (room_is lt) h
+  pushes p x r go lt h = chosen (λ z. Alike R r z) (nat_lt (length stack) b.block.room) (go (x ∷ stack)) (no_rule p) (room_is lt) h
 
   -- jumps
   pub jumps_ahead : (p : World) (q : ℕ) (r : Run Configuration) (go : ℕ → Run Machine) → Ahead code pc q → Alike R r (go q) → Alike R r (jumping code pc (pos q) p go)
@@ -140,7 +141,7 @@ module _ (s : Source) (code : CodeOf) (l : Limits) (o : World) (m : Instances) (
   unfolding index
   alike_indexed n r go h = alike_found Configuration Machine R ℕ (number (pos n)) n o r go refl h
 
-  module _ (u q : ℕ) (ks' : List Kind) (low : length (cells_in s t (text s t)) ≤ u) (k : WorkAt s code m fs (λ v. ChainAt s code m fs rest v below) inst t b u w q ks') where
+  module _ (u q : ℕ) (ks' : List Kind) (low : length (own_part s (frame_text s t)) ≤ u) (k : WorkAt s code m fs (λ v. ChainAt s code m fs rest v below) inst t b u w q ks') where
     abbrev pub Follows : Op → Type 0
     Follows op = OpAt s code m fs inst (site_at t b u) op pc q ks ks' → Alike R (do_op s l o m inst w vals rest op) (on_top code l o fs top below)
 
@@ -159,7 +160,7 @@ module _ (s : Source) (code : CodeOf) (l : Limits) (o : World) (m : Instances) (
     rests_as e = subst (λ z. Rests w q z) e k
 
     -- both go on behind the operator
-    pub onward : {p : World} {ks2 : List Kind} {vals2 : List Val} {stack2 : List Value} {next : ℕ} → StackAt (HandAt s m) ks2 vals2 stack2 → ks' ≡ ks2 → q ≡ next → Alike R (go p m inst w vals2 rest) (Going p (record { chain = act inst next stack2 b.room ∷ below; memory = fs }))
+    pub onward : {p : World} {ks2 : List Kind} {vals2 : List Val} {stack2 : List Value} {next : ℕ} → StackAt (HandAt s code m) ks2 vals2 stack2 → ks' ≡ ks2 → q ≡ next → Alike R (go p m inst w vals2 rest) (Going p (record { chain = act inst next stack2 b ∷ below; memory = fs }))
     onward h e place = goes s code u q (with_values s code here h) (rests_as e) place
 
     -- ---- values
@@ -188,18 +189,22 @@ module _ (s : Source) (code : CodeOf) (l : Limits) (o : World) (m : Instances) (
         at_row s code l o fs top below _ (i.Char (pos c)) x.is.line q x.is.is
         (alike_found Configuration Machine R ℕ (code_of (pos c)) c o _ _ (chosen (λ z. z ≡ Some c) (nat_lt c 256) (Some c) None small refl) (pushes o _ _ _ x.fits (onward (more_at plain_at here.values) a.1 x.is.is.on)))
     constant texts (Text x) a = given_text texts x a.0 a.1
-    constant texts (Object j) a = absurd (a.0)
-    constant texts Nothing a = absurd (a.0)
+    constant texts (Object j) a =
+        let c = a.0 in
+        at_row s code l o fs top below _ (i.This (pos (level_of s c.text))) c.push.is.line q c.push.is.is
+        (at_frame o (level_of s c.text) j _ _ (reached s m inst c.text j here.lives c.reaches)
+        (pushes o _ _ _ c.push.fits (onward (more_at plain_at here.values) a.1 c.push.is.is.on)))
+    constant texts Nothing a = at_row s code l o fs top below _ i.None a.0.is.line q a.0.is.is (pushes o _ _ _ a.0.fits (onward (more_at plain_at here.values) a.1 a.0.is.is.on))
 
     -- where a variable and an image lie
     pub place : (j : ℕ) (key : Key) → Follows (Eval (PlaceOf j key))
     place j key a =
         let c = a.0 in
-        at_row s code l o fs top below _ (i.Addr (pos (level_of s c.text)) (pos (slot_of s c.text key)) (pos 0)) c.address.is.line q c.address.is.is
+        at_row s code l o fs top below _ (i.Addr (pos (level_of s c.text)) (pos (slot_of s code c.text key)) (pos 0)) c.address.is.line q c.address.is.is
         (alike_found Configuration Machine R (Unit {0}) (rows.no_class (pos 0)) tt o _ _ refl
-        (at_cell o (level_of s c.text) j (slot_of s c.text key) _ _ (reached s m inst c.text j here.lives c.reaches)
+        (at_cell o (level_of s c.text) j (slot_of s code c.text key) _ _ (reached s m inst c.text j here.lives c.reaches)
         (pushes o _ _ _ c.address.fits
-        (onward (more_at (record { instance = j; text = c.text; key = key; is_val = refl; is_value = refl; stands = c.reaches.stands; has = c.has }) here.values) a.1 c.address.is.is.on))))
+        (onward (more_at (record { instance = j; text = c.text; key = key; is_val = refl; is_value = refl; stands = c.reaches.stands; own = c.own; has = c.has; varies = c.varies; declared = c.declared }) here.values) a.1 c.address.is.is.on))))
 
     image_there : (image : ℕ) → IsImage image → (x : TextVal) × (image_of o.store image ≡ Some x)
     image_there _ of_input = (o.store.sysin, refl)
@@ -217,9 +222,9 @@ module _ (s : Source) (code : CodeOf) (l : Limits) (o : World) (m : Instances) (
     pub variable : (j : ℕ) (key : Key) → Follows (Eval (Cell j key))
     variable j key a =
         let c = a.0 in
-        at_row s code l o fs top below _ (i.Load (pos (level_of s c.text)) (pos (slot_of s c.text key))) c.load.is.line q c.load.is.is
-        (at_cell o (level_of s c.text) j (slot_of s c.text key) _ _ (reached s m inst c.text j here.lives c.reaches)
-        (alike_having Configuration Machine R Val Value ValAt (cell m j key) (machine.cell fs j (slot_of s c.text key)) o _ _ (cell_read s code m fs j c.text key here.store c.reaches.stands c.has)
+        at_row s code l o fs top below _ (i.Load (pos (level_of s c.text)) (pos (slot_of s code c.text key))) c.load.is.line q c.load.is.is
+        (at_cell o (level_of s c.text) j (slot_of s code c.text key) _ _ (reached s m inst c.text j here.lives c.reaches)
+        (alike_having Configuration Machine R Val Value ValAt (cell m j key) (machine.cell fs j (slot_of s code c.text key)) o _ _ (cell_read s code m fs j c.text key here.store c.reaches.stands c.own c.has c.varies)
         (λ v x ev ex h. pushes o x _ _ c.load.fits (onward (more_at h here.values) a.1 c.load.is.is.on))))
 
     -- ---- operators on plain values
@@ -227,20 +232,20 @@ module _ (s : Source) (code : CodeOf) (l : Limits) (o : World) (m : Instances) (
     pub one : (op : Monadic) (line : ℕ) → Follows (OneOp op line)
     one op line a = at_row s code l o fs top below _ (one_instr op) line q a.is
         (subst (λ z. Alike R (do_op s l o m inst w vals rest (OneOp op line)) z) (sym (row_one code l o fs top below line op))
-        (hand_one Configuration Machine R Val Value (HandAt s m) plain machine.plain same_plain op line a.left vals stack o _ _ (kinds_as s code a.«in» here.values)
+        (hand_one Configuration Machine R Val Value (HandAt s code m) plain machine.plain same_plain op line a.left vals stack o _ _ (kinds_as s code a.«in» here.values)
         (λ z vals' stack' h. onward (more_at plain_at h) a.out a.is.on)))
 
     pub two : (op : Dyadic) (line : ℕ) → Follows (TwoOp op line)
     two op line a = at_row s code l o fs top below _ (two_instr op) line q a.is
         (subst (λ z. Alike R (do_op s l o m inst w vals rest (TwoOp op line)) z) (sym (row_two code l o fs top below line op))
-        (hand_two Configuration Machine R Val Value (HandAt s m) plain machine.plain same_plain op line a.left vals stack o _ _ (kinds_as s code a.«in» here.values)
+        (hand_two Configuration Machine R Val Value (HandAt s code m) plain machine.plain same_plain op line a.left vals stack o _ _ (kinds_as s code a.«in» here.values)
         (λ z vals' stack' h. onward (more_at plain_at h) a.out a.is.on)))
 
     pub choice : (x y : Term) → Follows (IfOp x y)
     choice x y a =
         let c = a.choice in
         at_row s code l o fs top below _ (i.JumpF (pos c.x)) c.jump.line c.z c.jump.is
-        (hand_truth Configuration Machine R Val Value (HandAt s m) plain machine.plain same_plain a.left vals stack o _ _ (kinds_as s code a.«in» here.values)
+        (hand_truth Configuration Machine R Val Value (HandAt s code m) plain machine.plain same_plain a.left vals stack o _ _ (kinds_as s code a.«in» here.values)
         (λ v vals' stack' h. alike_choosing Configuration Machine R v _ _ _ _
         (goes s code u c.z (with_values s code here h) (first_evals (Do PastOp ∷ w) x c.z c.w a.left c.first (pending w PastOp c.w q (anys 1 a.left) ks' (c.x, c.over, c.past, a.out) k)) c.jump.is.on)
         (jumps_ahead o c.x _ _ c.leads (goes s code u c.x (with_values s code here h) (first_evals w y c.x q a.left c.second (rests_as a.out)) refl))))
@@ -254,12 +259,12 @@ module _ (s : Source) (code : CodeOf) (l : Limits) (o : World) (m : Instances) (
     element_op n line a = at_row s code l o fs top below _ (i.Elem (pos n) (pos 0)) line q a.is
         (alike_found Configuration Machine R (Unit {0}) (rows.no_class (pos 0)) tt o _ _ refl
         (alike_indexed n _ _
-        (hand_finding Configuration Machine R Val Value (HandAt s m) plain machine.plain same_plain array_in machine.array_in same_array n line a.left vals stack o _ _ (kinds_as s code (a.«in» ∙ sym (anys_more n a.left)) here.values)
+        (hand_finding Configuration Machine R Val Value (HandAt s code m) plain machine.plain same_plain array_in machine.array_in same_array n line a.left vals stack o _ _ (kinds_as s code (a.«in» ∙ sym (anys_more n a.left)) here.values)
         (λ array k vals' stack' h. onward (more_at element_at h) a.out a.is.on))))
 
     pub copy : (line : ℕ) → Follows (CopyOp line)
     copy line a = at_row s code l o fs top below _ i.CopyArr line q a.is
-        (hand_popping Configuration Machine R Val Value (HandAt s m) plain machine.plain same_plain Any a.left vals stack o _ _ (kinds_as s code a.«in» here.values)
+        (hand_popping Configuration Machine R Val Value (HandAt s code m) plain machine.plain same_plain Any a.left vals stack o _ _ (kinds_as s code a.«in» here.values)
         (λ v x vals' stack' ev ex h hs. alike_equal Configuration Machine R ℕ (array_in v) (machine.array_in x) o _ _ (same_array v x h)
         (λ array. alike_copying Configuration Machine R l line inst array o _ _
         (λ n p. onward (more_at array_at hs) a.out a.is.on))))
@@ -268,10 +273,10 @@ module _ (s : Source) (code : CodeOf) (l : Limits) (o : World) (m : Instances) (
 
     pub drop : Follows DropOp
     drop a = at_row s code l o fs top below _ i.Pop a.line q a.works.is
-        (hand_popping Configuration Machine R Val Value (HandAt s m) plain machine.plain same_plain Any a.works.left vals stack o _ _ (kinds_as s code a.works.«in» here.values)
+        (hand_popping Configuration Machine R Val Value (HandAt s code m) plain machine.plain same_plain Any a.works.left vals stack o _ _ (kinds_as s code a.works.«in» here.values)
         (λ v x vals' stack' ev ex h hs. onward hs a.works.out a.works.is.on))
 
     pub again : Follows AgainOp
     again a = at_row s code l o fs top below _ i.Dup a.is.is.line q a.is.is.is
-        (hand_popping Configuration Machine R Val Value (HandAt s m) plain machine.plain same_plain Any a.left vals stack o _ _ (kinds_as s code a.«in» here.values)
+        (hand_popping Configuration Machine R Val Value (HandAt s code m) plain machine.plain same_plain Any a.left vals stack o _ _ (kinds_as s code a.«in» here.values)
         (λ v x vals' stack' ev ex h hs. pushes o x _ _ a.is.fits (onward (more_at h (kinds_as s code a.«in» here.values)) a.out a.is.is.is.on)))

@@ -1,40 +1,33 @@
 -- What is pending stands in the code.
-use Rattle.std.proofs.Common.{◌≡◌, ◌≤◌, ◌+◌, ℕ, zero, suc, Bool, true, List, ◌∷◌, length, refl, sym, ap, subst, arith}
+use Rattle.std.proofs.Common.{◌≡◌, ◌≤◌, ◌+◌, ℕ, zero, suc, Bool, List, ◌∷◌, length, refl, sym, ap, subst, arith}
 use Rattle.sim_scope.specs.Source.{Source}
-use Rattle.sim_code.specs.Code.{BlockOf, CodeOf}
+use Rattle.sim_code.specs.Code.{CodeOf}
 use Rattle.sim_code.specs.Machine.{Frames}
-use Rattle.sim_meaning.specs.Pending.{Do, EndBlock, EndProcedure, EndProgram, Eval, Further, Instances, Item, NoTerm, Op, PlaceOf, Term, Terms}
+use Rattle.sim_meaning.specs.Pending.{Do, EndBlock, EndObject, EndProcedure, EndProgram, Eval, Further, Instances, Item, NoTerm, Op, Term, Terms}
 use Rattle.sim_meaning.specs.Steps.{count, each}
-use Rattle.sim_meaning.specs.Texts.{text}
-use Rattle.codegen_expr.specs.Sites.{cells_in}
-use Rattle.sim_relate.proofs.Relation.{AllRead, Any, EndAt, IsRead, Kind, Located, OpAt, OperandAt, ReadsAt, TermsAt, WorkAt, anys, given, gives, leaving, reads, site_at, there}
+use Rattle.codegen_expr.specs.Sites.{own_part, frame_text}
+use Rattle.sim_relate.proofs.Known.{AllRead, Any, Kind, Runs, SameFrame, anys, leaves_any, leaves_read, site_at}
+use Rattle.sim_relate.proofs.Trees.{OperandAt, ReadsAt, TermsAt}
+use Rattle.sim_relate.proofs.Relation.{EndAt, InStage, OpAt, WorkAt, stays, there}
+use Rattle.sim_relate.proofs.Frames.{same_frame}
 
 -- one value more at either end
 pub anys_more : (n : ℕ) (k : List Kind) → anys n (Any ∷ k) ≡ anys (suc n) k
 anys_more zero k = refl
 anys_more (suc n) k = ap (λ x. Any ∷ x) (anys_more n k)
 
--- what an operand leaves, and what an operand of a standard name does
-pub leaves_any : (s : Source) (x : Term) (ks : List Kind) → gives s x ≡ true → leaving s x ks ≡ Any ∷ ks
-leaves_any s (PlaceOf j key) ks e = absurd (cc)
-leaves_any s x ks e = ap (λ g. given g ks) e
-
-pub leaves_read : (s : Source) (x : Term) (ks : List Kind) → reads s x ≡ true → (k : Kind) × IsRead k × (leaving s x ks ≡ k ∷ ks)
-leaves_read s (PlaceOf j key) ks e = (Located, tt, refl)
-leaves_read s x ks e = (Any, tt, ap (λ g. given g ks) e)
-
-pub read_given : (s : Source) (x : Term) → gives s x ≡ true → reads s x ≡ true
-read_given s (PlaceOf j key) e = refl
-read_given s x e = e
-
-module _ (s : Source) (code : CodeOf) (m : Instances) (fs : Frames) (Below : Bool → Type 0) (inst t : ℕ) (b : BlockOf) (u : ℕ) (low : length (cells_in s t (text s t)) ≤ u) where
+module _ (s : Source) (code : CodeOf) (m : Instances) (fs : Frames) (Below : Bool → Type 0) (inst t : ℕ) (b : Runs) (u : ℕ) (low : length (own_part s (frame_text s t)) ≤ u) where
   -- an operator in front of other work
   pub pends : (w : List Item) (op : Op) (p q : ℕ) (ks ks' : List Kind) → OpAt s code m fs inst (site_at t b u) op p q ks ks' → WorkAt s code m fs Below inst t b u w q ks' → WorkAt s code m fs Below inst t b u (Do op ∷ w) p ks
-  pends w op p q ks ks' a k = let same : u ≤ u = omega arith in (p, u, q, ks', there refl, same, low, a, k)
+  pends w op p q ks ks' a k = let same : u ≤ u = omega arith in (p, u, q, ks', t, b, same_frame s t, there refl, same, low, stays a refl, k)
+
+  -- an operator at its stage, which may stand in another text with the same frames
+  pub pends_in : (w : List Item) (op : Op) (v : ℕ) (c : Runs) (p q : ℕ) (ks ks' : List Kind) → SameFrame s v t → InStage s code (OpAt s code m fs inst (site_at v b u)) (site_at v b u) op b c p q ks ks' → WorkAt s code m fs Below inst v c u w q ks' → WorkAt s code m fs Below inst t b u (Do op ∷ w) p ks
+  pends_in w op v c p q ks ks' f a k = let same : u ≤ u = omega arith in (p, u, q, ks', v, c, f, there refl, same, low, a, k)
 
   -- an operand in front of other work
   pub evals : (w : List Item) (x : Term) (p q : ℕ) (ks : List Kind) → OperandAt s code m inst (site_at t b u) (length ks) x p q → WorkAt s code m fs Below inst t b u w q (Any ∷ ks) → WorkAt s code m fs Below inst t b u (Do (Eval x) ∷ w) p ks
-  evals w x p q ks a k = pends w (Eval x) p q ks (Any ∷ ks) (a.0, sym (leaves_any s x ks a.1)) k
+  evals w x p q ks a k = pends w (Eval x) p q ks (Any ∷ ks) (a.0, leaves_any s x ks a.1) k
 
   -- operands, one behind the other
   pub each_pends : (w : List Item) (xs : Terms) (p q : ℕ) (ks : List Kind) → TermsAt s code m inst (site_at t b u) (length ks) xs p q → WorkAt s code m fs Below inst t b u w q (anys (count xs) ks) → WorkAt s code m fs Below inst t b u (each xs w) p ks
@@ -48,12 +41,13 @@ module _ (s : Source) (code : CodeOf) (m : Instances) (fs : Frames) (Below : Boo
   each_reads w (Further x xs) done p q ks left r a k =
       let y = leaves_read s x ks (a.1).1 in
       let same : suc done + count xs ≡ done + suc (count xs) = omega arith in
-      pends (each xs w) (Eval x) p a.0 ks (y.0 ∷ ks) ((a.1).0, sym y.2) (each_reads w xs (suc done) a.0 q (y.0 ∷ ks) left (y.1, r) a.2 (λ ks2 r2. k ks2 (subst (λ n. AllRead n ks2 left) same r2)))
+      pends (each xs w) (Eval x) p a.0 ks (y.0 ∷ ks) ((a.1).0, y.2) (each_reads w xs (suc done) a.0 q (y.0 ∷ ks) left (y.1, r) a.2 (λ ks2 r2. k ks2 (subst (λ n. AllRead n ks2 left) same r2)))
 
 -- an end
-pub ends_at : (s : Source) (code : CodeOf) (m : Instances) (fs : Frames) (Below : Bool → Type 0) (inst t : ℕ) (b : BlockOf) (u : ℕ) (x : Item) (w : List Item) (p : ℕ) (ks : List Kind) → EndAt s code Below t b x p ks → WorkAt s code m fs Below inst t b u (x ∷ w) p ks
+pub ends_at : (s : Source) (code : CodeOf) (m : Instances) (fs : Frames) (Below : Bool → Type 0) (inst t : ℕ) (b : Runs) (u : ℕ) (x : Item) (w : List Item) (p : ℕ) (ks : List Kind) → EndAt s code Below (frame_text s t) b x p ks → WorkAt s code m fs Below inst t b u (x ∷ w) p ks
 ends_at s code m fs Below inst t b u (Do op) w p ks a = absurd a
 ends_at s code m fs Below inst t b u EndBlock w p ks a = (p, there refl, a)
 ends_at s code m fs Below inst t b u (EndProcedure v) w p ks a = (p, there refl, a)
 ends_at s code m fs Below inst t b u EndProgram w p ks a = (p, there refl, a)
+ends_at s code m fs Below inst t b u EndObject w p ks a = (p, there refl, a)
 ends_at s code m fs Below inst t b u _ w p ks a = absurd a

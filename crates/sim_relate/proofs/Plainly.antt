@@ -1,86 +1,66 @@
--- What the code of a program says of its tables: they agree with the texts, and no identifier is seen in a connection or is of a class, since
--- there is code for blocks and procedures alone.
-use Rattle.std.proofs.Common.{◌≡◌, ℕ, zero, suc, Bool, true, false, length, Option, Some, None, refl, ap, sym, ◌∙◌, subst}
-use Rattle.std.specs.Prelude.{if◌then◌else◌, slice_get}
+-- What the code of a program says of its tables: they agree with the texts; and no class and no block has a prefix, for which there is no
+-- relation yet.
+use Rattle.std.proofs.Common.{◌≡◌, ◌<◌, ℕ, suc, true, false, length, Option, Some, None}
+use Rattle.std.specs.Prelude.{slice_get}
 use Rattle.sim_base.specs.declared.numbering.DeclNo.{DeclNo}
 use Rattle.sim_scope.specs.declared.types.Entry.TheVariants as entry
+use Rattle.sim_scope.specs.declared.types.Formal.{Formal}
 use Rattle.sim_scope.specs.declared.types.SimType.{SimType}
-use Rattle.sim_scope.specs.declared.types.SimType.TheVariants as t
 use Rattle.sim_scope.specs.Access.{encloser}
-use Rattle.sim_scope.specs.Levels.{class_block}
-use Rattle.sim_scope.specs.Scopes.{entry_of}
-use Rattle.sim_scope.specs.Source.{Source, found_at, level_of}
-use Rattle.sim_scope.specs.declared.types.StandardClass.{StandardClass}
-use Rattle.sim_tree.specs.declared.expr.Identifier.{Identifier}
-use Rattle.sim_tree.specs.Syntax.{Declarations, Heading, Statements}
-use Rattle.sim_code.specs.Code.{BlockOf, CodeOf}
-use Rattle.sim_meaning.specs.Attributes.{connection_at, connection_in, is_connection}
-use Rattle.sim_meaning.specs.Levels.{class_text, is_class, qualification}
-use Rattle.sim_meaning.specs.Texts.{BlockText, ClassText, ConnectionText, PrefixedText, ProcedureText, StandardText, Text, program_texts, text}
-use Rattle.codegen.specs.Agrees.{ProcedureThere}
-use Rattle.codegen_expr.specs.CodeExpr.{block_number}
+use Rattle.sim_scope.specs.Scopes.{entry_of, formals_in}
+use Rattle.sim_scope.specs.Source.{Source, block_around, block_of, level_of}
+use Rattle.sim_code.specs.Code.{CodeOf}
+use Rattle.sim_meaning.specs.Attributes.{first_in, is_connection}
+use Rattle.sim_meaning.specs.Constants.{constants_of}
+use Rattle.sim_meaning.specs.Entries.{numbers_of}
+use Rattle.sim_meaning.specs.Texts.{Text, program_texts, text}
+use Rattle.codegen_expr.specs.Sites.{block_number, is_connected}
+use Rattle.codegen.specs.Agrees.{ProcedureThere, Unprefixed}
 use Rattle.codegen.specs.Compiled.{CodeHas, Compiled}
 
 pub record Agrees (s : Source) : Type 0 where
   pub outermost : encloser s.tables 0 ≡ None
   pub as_many : length s.tables.blocks ≡ length (program_texts s.program.prefix s.program.block)
-  pub levels : (t u : ℕ) → encloser s.tables t ≡ Some u → level_of s t ≡ suc (level_of s u)
+  pub connected : (k : ℕ) → is_connected s.tables k ≡ is_connection (text s k)
+  pub nesting : (t u : ℕ) → encloser s.tables t ≡ Some u → u < t
+  pub levels : (t u : ℕ) → encloser s.tables t ≡ Some u → is_connected s.tables t ≡ false → level_of s t ≡ suc (level_of s u)
+  pub same_level : (t u : ℕ) → encloser s.tables t ≡ Some u → is_connected s.tables t ≡ true → level_of s t ≡ level_of s u
+  pub begun : (k : ℕ) → is_connected s.tables k ≡ true → block_around s (first_in (slice_get s.tables.blocks k)) ≡ Some k
+  pub owned : (k n : ℕ) (d : DeclNo) → slice_get (numbers_of s k) n ≡ Some d → block_of s d ≡ k
+  pub once : (k n m : ℕ) (d : DeclNo) → slice_get (numbers_of s k) n ≡ Some d → slice_get (numbers_of s k) m ≡ Some d → n ≡ m
+  pub formals : (k n : ℕ) (d : DeclNo) → slice_get (formals_in (slice_get s.tables.blocks k)) n ≡ Some d → (f : Formal) × (entry_of s.tables d ≡ Some (entry.Formal f))
+  pub classes : (d : DeclNo) (k : ℕ) → entry_of s.tables d ≡ Some (entry.Class k) → encloser s.tables k ≡ Some (block_of s d)
   pub procedures : (d : DeclNo) (result : Option SimType) (k : ℕ) → entry_of s.tables d ≡ Some (entry.Procedure result k) → ProcedureThere s d result k
-  pub unconnected : (token : ℕ) → connection_at s token ≡ None
-  pub unqualified : (type : Option SimType) → qualification s type ≡ None
+  pub flat : Unprefixed s
 
-class_uncoded : (s : Source) (code : CodeOf) (k : ℕ) (prefix : Option Identifier) (h : Heading) (ds : Declarations) (ss : Statements) (o : Option BlockOf) → CodeHas s code k (ClassText prefix h ds ss) o → ⊥
-class_uncoded s code k prefix h ds ss None a = a
-class_uncoded s code zero prefix h ds ss (Some b) a = a
-class_uncoded s code (suc k) prefix h ds ss (Some b) a = a
+-- the code of a program
+pub record Coding (s : Source) (code : CodeOf) : Type 0 where
+  pub agrees : Agrees s
+  pub texts : code.texts ≡ constants_of s
+  pub each : (k : ℕ) (x : Text) → text s k ≡ Some x → CodeHas s code k x (slice_get code.blocks (block_number s k))
 
-standard_uncoded : (s : Source) (code : CodeOf) (k : ℕ) (which : StandardClass) (o : Option BlockOf) → CodeHas s code k (StandardText which) o → ⊥
-standard_uncoded s code k which None a = a
-standard_uncoded s code zero which (Some b) a = a
-standard_uncoded s code (suc k) which (Some b) a = a
+pub coding : (s : Source) (code : CodeOf) → Unprefixed s → Compiled s code → Coding s code
+coding s code flat compiled =
+    let a = compiled.agrees in
+    record {
+      agrees = record {
+        outermost = a.outermost;
+        as_many = a.as_many;
+        connected = a.connected;
+        nesting = a.nesting;
+        levels = a.levels;
+        same_level = a.same_level;
+        begun = a.begun;
+        owned = a.owned;
+        once = a.once;
+        formals = a.formals;
+        classes = a.classes;
+        procedures = a.procedures;
+        flat = flat;
+      };
+      texts = compiled.texts;
+      each = compiled.each;
+    }
 
-module _ (s : Source) (code : CodeOf) (compiled : Compiled s code) where
-  no_connection : (k : ℕ) (x : Option Text) → text s k ≡ x → is_connection x ≡ false
-  no_connection k None e = refl
-  no_connection k (Some (BlockText begin ds ss)) e = refl
-  no_connection k (Some (ProcedureText result h a)) e = refl
-  no_connection k (Some (ClassText prefix h ds ss)) e = refl
-  no_connection k (Some (PrefixedText class arguments ds ss)) e = refl
-  no_connection k (Some ConnectionText) e = absurd (compiled.each k ConnectionText e)
-  no_connection k (Some (StandardText which)) e = refl
-
-  no_class : (k : ℕ) (x : Option Text) → text s k ≡ x → is_class x ≡ false
-  no_class k None e = refl
-  no_class k (Some (BlockText begin ds ss)) e = refl
-  no_class k (Some (ProcedureText result h a)) e = refl
-  no_class k (Some (ClassText prefix h ds ss)) e = absurd (class_uncoded s code k prefix h ds ss (slice_get code.blocks (block_number s k)) (compiled.each k (ClassText prefix h ds ss) e))
-  no_class k (Some (PrefixedText class arguments ds ss)) e = refl
-  no_class k (Some ConnectionText) e = refl
-  no_class k (Some (StandardText which)) e = absurd (standard_uncoded s code k which (slice_get code.blocks (block_number s k)) (compiled.each k (StandardText which) e))
-
-  none_connected : (x : Option ℕ) → connection_in s x ≡ None
-  none_connected None = refl
-  none_connected (Some k) = ap (λ z. if z then Some k else None) (no_connection k (text s k) refl)
-
-  none_classed : (x : Option ℕ) → class_text s x ≡ None
-  none_classed None = refl
-  none_classed (Some k) = ap (λ z. if z then Some k else None) (no_class k (text s k) refl)
-
-  of_type : (type : Option SimType) → qualification s type ≡ None
-  unfolding qualification
-  of_type None = refl
-  of_type (Some t.Integer) = refl
-  of_type (Some t.Boolean) = refl
-  of_type (Some t.Character) = refl
-  of_type (Some t.Text) = refl
-  of_type (Some (t.Ref d)) = none_classed (class_block s.tables d)
-  of_type (Some t.NoneType) = refl
-
-  at_token : (token : ℕ) → connection_at s token ≡ None
-  unfolding connection_at
-  at_token token = none_connected (found_at s token)
-
-  pub agreed : Agrees s
-  agreed =
-      let a = compiled.agrees in
-      record { outermost = a.outermost; as_many = a.as_many; levels = a.levels; procedures = a.procedures; unconnected = at_token; unqualified = of_type }
+pub agreed : (s : Source) (code : CodeOf) → Coding s code → Agrees s
+agreed s code compiled = compiled.agrees

@@ -1,20 +1,26 @@
 -- Steps of the program that the machine makes no step for, and how many of them there can be in a row.
-use Rattle.std.proofs.Common.{◌≡◌, ◌≤◌, ℕ, suc, Bool, List, [], ◌∷◌, length, refl, subst, arith}
+use Rattle.std.proofs.Common.{◌≡◌, ◌≤◌, ℕ, suc, Bool, List, [], ◌∷◌, length, Option, refl, sym, ap, ◌∙◌, subst, arith}
 use Rattle.sim_scope.specs.Source.{Source}
-use Rattle.sim_tree.specs.Syntax.{Also, Element, NoStatement, Statement, Statements}
+use Rattle.sim_tree.specs.Syntax.{Also, Arrayed, Arrays, BoundPair, Declarations, DeclareClass, DeclareProcedure, Element, NoDeclaration, NoStatement, Statement, Statements, Variables, With}
+use Rattle.sim_tree.specs.declared.expr.Identifier.{Identifier}
 use Rattle.sim_tree.specs.Syntax as syntax
+use Rattle.sim_tree.specs.declared.expr.Membership.{Membership}
 use Rattle.sim_values.specs.declared.operators.Dyadic.{Dyadic}
 use Rattle.sim_values.specs.declared.operators.Monadic.{Monadic}
+use Rattle.sim_values.specs.declared.kind.Kind.{Kind as ElementKind}
 use Rattle.sim_values.specs.declared.standard.Standard.{Standard}
-use Rattle.sim_code.specs.Code.{BlockOf, CodeOf}
+use Rattle.sim_code.specs.Code.{CodeOf}
 use Rattle.sim_code.specs.Machine.{Frames}
 use Rattle.sim_meaning.specs.Closing.{close}
-use Rattle.sim_meaning.specs.Pending.{Activation, CallOf, Cell, Configuration, CopyOf, CopyOp, Do, Either, ElementOf, ElementOp, ElementsOp, Eval, Exec, Execs, FetchOp, Further, GiveOp, Given, IfOp, ImageOf, Instances, Item, JoinOp, Joined, NoTerm, One, OneOp, Op, PlaceOf, RaiseOp, StandardOf, StandardOp, Target, Term, Terms, Two, TwoOp, Unbuilt, Val, ValueAt}
+use Rattle.sim_meaning.specs.Entries.{arrays_declared, arrays_of, bounds_of, segments_of}
+use Rattle.sim_meaning.specs.Pending.{Activation, DeclareOp, AttributeOf, AttributeOp, CallOp, FitsOf, FitsOp, KeepOp, KeptOf, Key, MemberOf, MemberOp, ObjectOp, QuaOf, QuaOp, QualifiedElementOf, QualifiedElementOp, ReferOp, RemoteCallOf, StoreOp, SwapOp, ToAddress, ToPlace, ToReference, ToReferenceAt, CallOf, Cell, Configuration, CopyOf, CopyOp, Do, Either, ElementOf, ElementOp, ElementsOp, Eval, Exec, Execs, FetchOp, Further, GiveOp, Given, IfOp, ImageOf, Instances, Item, JoinOp, Joined, NoTerm, One, OneOp, Op, PlaceOf, RaiseOp, StandardOf, StandardOp, Target, Term, Terms, Two, TwoOp, Val, ValueAt}
 use Rattle.sim_meaning.specs.Steps.{count, each}
-use Rattle.sim_meaning.specs.Texts.{text}
-use Rattle.codegen_expr.specs.Sites.{cells_in}
+use Rattle.sim_meaning.specs.Texts.{kind_named, text}
+use Rattle.codegen_expr.specs.Sites.{own_part, frame_text}
 use Rattle.sim_relate.proofs.Pending.{anys_more, each_pends, each_reads, evals, pends}
-use Rattle.sim_relate.proofs.Relation.{Any, BeginsAt, Kind, OpAt, WorkAt, anys, site_at, straight, AllRead}
+use Rattle.sim_relate.proofs.Known.{Any, Kind, OwnerOf, Refers, given, leaves_as, text_gives, anys, site_at, AllRead, Runs}
+use Rattle.sim_relate.proofs.Trees.{OperandAt}
+use Rattle.sim_relate.proofs.Relation.{BeginsAt, OpAt, WorkAt, straight}
 
 -- ---- how much is taken apart before the next step of both
 
@@ -34,6 +40,13 @@ abbrev mutual
   opened (PlaceOf j key) = 0
   opened (ImageOf image) = 0
   opened (Joined line a b) = suc (opened a)
+  opened (AttributeOf text key class line a) = suc (opened a)
+  opened (RemoteCallOf a k ts line) = suc (opened a)
+  opened (QualifiedElementOf line k a ts) = suc (opened a)
+  opened (MemberOf member k a) = suc (opened a)
+  opened (QuaOf k line a) = suc (opened a)
+  opened (FitsOf k line a) = suc (opened a)
+  opened (KeptOf a) = suc (opened a)
   opened _ = 0
 
   pub opened_first : Terms → ℕ
@@ -59,12 +72,41 @@ abbrev pub given_left : List Target → ℕ → ℕ
 given_left [] rest = suc rest
 given_left (t ∷ ts) rest = 0
 
+-- a reference, and a variable that is found anew
+abbrev pub stored_first : Target → ℕ
+stored_first (ToReference line) = 1
+stored_first (ToPlace a) = suc (opened a)
+stored_first (ToReferenceAt a line) = suc (opened a)
+stored_first _ = 0
+
+-- the arrays of declarations
+abbrev pub bounds_begun : Source → Instances → ℕ → List BoundPair → ℕ → ℕ
+bounds_begun s m i [] rest = rest
+bounds_begun s m i (b ∷ bs) rest = opened (close s m i b.lower)
+
+abbrev pub names_begun : List Identifier → ℕ → ℕ
+names_begun [] rest = rest
+names_begun (x ∷ xs) rest = 0
+
+abbrev pub segments_begun : Source → Instances → ℕ → List Arrayed → ℕ → ℕ
+segments_begun s m i [] rest = rest
+segments_begun s m i (a ∷ more) rest = bounds_begun s m i a.bounds (names_begun a.names (segments_begun s m i more rest))
+
+abbrev pub arrays_begun : Source → Instances → ℕ → Declarations → ℕ → ℕ
+arrays_begun s m i NoDeclaration rest = rest
+arrays_begun s m i (With (Variables type vs) ds) rest = arrays_begun s m i ds rest
+arrays_begun s m i (With (Arrays type token segments) ds) rest = segments_begun s m i segments (arrays_begun s m i ds rest)
+arrays_begun s m i (With (DeclareProcedure result token h a end) ds) rest = arrays_begun s m i ds rest
+arrays_begun s m i (With (DeclareClass prefix token h interface a end) ds) rest = arrays_begun s m i ds rest
+
 abbrev pub op_weight : Source → Instances → ℕ → Op → ℕ → ℕ
 op_weight s m i (Eval t) rest = opened t
 op_weight s m i (Exec a) rest = begun a rest
 op_weight s m i (Execs ss) rest = begun_all ss rest
 op_weight s m i (GiveOp v ts) rest = given_left ts rest
+op_weight s m i (StoreOp t) rest = stored_first t
 op_weight s m i (ElementsOp t es a) rest = elements_begun s m i es rest
+op_weight s m i (DeclareOp ds) rest = suc (arrays_begun s m i ds rest)
 op_weight s m i (RaiseOp t line step limit a) rest = suc (opened (close s m i step))
 op_weight s m i _ rest = 0
 
@@ -80,6 +122,23 @@ chain_weight s m (a ∷ rest) = work_weight s m a.instance a.work
 abbrev pub weight : Source → Configuration → ℕ
 weight s c = chain_weight s c.memory c.chain
 
+-- what declarations begin with
+segments_weight : (s : Source) (m : Instances) (i : ℕ) (kind : ElementKind) (xs : List Arrayed) (w : List Item) → work_weight s m i (segments_of s m i kind xs w) ≡ segments_begun s m i xs (work_weight s m i w)
+segments_weight s m i kind [] w = refl
+segments_weight s m i kind (a ∷ more) w = by (length a.bounds) a.bounds a.names (segments_weight s m i kind more w)
+  where
+    by : (n : ℕ) (bs : List BoundPair) (xs : List Identifier) → work_weight s m i (segments_of s m i kind more w) ≡ segments_begun s m i more (work_weight s m i w) → work_weight s m i (bounds_of s m i bs (arrays_of s i kind n xs (segments_of s m i kind more w))) ≡ bounds_begun s m i bs (names_begun xs (segments_begun s m i more (work_weight s m i w)))
+    by n (b ∷ bs) xs e = refl
+    by n [] (x ∷ xs) e = refl
+    by n [] [] e = e
+
+pub arrays_weight : (s : Source) (m : Instances) (i : ℕ) (ds : Declarations) (w : List Item) → work_weight s m i (arrays_declared s m i ds w) ≡ arrays_begun s m i ds (work_weight s m i w)
+arrays_weight s m i NoDeclaration w = refl
+arrays_weight s m i (With (Variables type vs) ds) w = arrays_weight s m i ds w
+arrays_weight s m i (With (Arrays type token segments) ds) w = segments_weight s m i (kind_named type) segments (arrays_declared s m i ds w) ∙ ap (segments_begun s m i segments) (arrays_weight s m i ds w)
+arrays_weight s m i (With (DeclareProcedure result token h a end) ds) w = arrays_weight s m i ds w
+arrays_weight s m i (With (DeclareClass prefix token h interface a end) ds) w = arrays_weight s m i ds w
+
 -- operands in front of an operator that has an instruction
 pub each_weight : (s : Source) (m : Instances) (i : ℕ) (ts : Terms) (w : List Item) → work_weight s m i w ≡ 0 → work_weight s m i (each ts w) ≡ opened_first ts
 each_weight s m i NoTerm w e = e
@@ -87,7 +146,7 @@ each_weight s m i (Further t ts) w e = refl
 
 -- ---- what is pending then
 
-module _ (s : Source) (code : CodeOf) (m : Instances) (fs : Frames) (Below : Bool → Type 0) (inst t : ℕ) (b : BlockOf) (u : ℕ) (low : length (cells_in s t (text s t)) ≤ u) (w : List Item) (p q : ℕ) (ks ks' : List Kind) (k : WorkAt s code m fs Below inst t b u w q ks') where
+module _ (s : Source) (code : CodeOf) (m : Instances) (fs : Frames) (Below : Bool → Type 0) (inst t : ℕ) (b : Runs) (u : ℕ) (low : length (own_part s (frame_text s t)) ≤ u) (w : List Item) (p q : ℕ) (ks ks' : List Kind) (k : WorkAt s code m fs Below inst t b u w q ks') where
   abbrev Pends : List Item → ℕ → List Kind → Type 0
   Pends x place before = WorkAt s code m fs Below inst t b u x place before
 
@@ -126,10 +185,15 @@ module _ (s : Source) (code : CodeOf) (m : Instances) (fs : Frames) (Below : Boo
       (each_pends s code m fs Below inst t b u low (Do (ElementOp (count ts) line) ∷ w) ts y.0 y.1 (Any ∷ ks) y.3
       (puts w (ElementOp (count ts) line) y.1 q (anys (count ts) (Any ∷ ks)) ks' (record { is = y.4; left = ks; «in» = anys_more (count ts) ks; out = a.1 }) k))
 
+  -- an operand in front of an operator
+  opens : (x : Term) (op : Op) (y : ℕ) → OperandAt s code m inst (site_at t b u) (length ks) x p y → OpAt s code m fs inst (site_at t b u) op y q (Any ∷ ks) ks' → Pends (Do (Eval x) ∷ Do op ∷ w) p ks
+  opens x op y a c = evals s code m fs Below inst t b u low (Do op ∷ w) x p y ks a (puts w op y q (Any ∷ ks) ks' c k)
+
   pub value_opened : (x : Term) → Becomes (Do (Eval x) ∷ Do FetchOp ∷ w) (Eval (ValueAt x))
   value_opened x a =
       let y = a.0 in
-      evals s code m fs Below inst t b u low (Do FetchOp ∷ w) x p y.0 ks y.1 (puts w FetchOp y.0 q (Any ∷ ks) ks' (let z = y.2 in record { line = z.line; works = record { is = z.is; left = ks; «in» = refl; out = a.1 } }) k)
+      let f = y.2 in
+      puts (Do FetchOp ∷ w) (Eval x) p y.0 ks (f.kind ∷ ks) (y.1, leaves_as s x ks (f.kind ∷ ks) (sym (f.left ks))) (puts w FetchOp y.0 q (f.kind ∷ ks) ks' (record { kind = f.kind; left = ks; fetches = f.fetches; «in» = refl; out = a.1 }) k)
 
   pub copy_opened : (line : ℕ) (x : Term) → Becomes (Do (Eval x) ∷ Do (CopyOp line) ∷ w) (Eval (CopyOf line x))
   copy_opened line x a =
@@ -147,6 +211,65 @@ module _ (s : Source) (code : CodeOf) (m : Instances) (fs : Frames) (Below : Boo
       let y = a.0 in
       evals s code m fs Below inst t b u low (Do (Eval z) ∷ Do (JoinOp line) ∷ w) x p y.0 ks y.2
       (evals s code m fs Below inst t b u low (Do (JoinOp line) ∷ w) z y.0 y.1 (Any ∷ ks) y.3 (puts w (JoinOp line) y.1 q (Any ∷ Any ∷ ks) ks' (record { left = ks; joins = y.4; «in» = refl; out = a.1 }) k))
+
+  -- ---- what objects have
+
+  pub attribute_opened : (text : ℕ) (key : Key) (class : Option ℕ) (line : ℕ) (x : Term) → Becomes (Do (Eval x) ∷ Do (AttributeOp text key class line) ∷ w) (Eval (AttributeOf text key class line x))
+  attribute_opened text key class line x a = let y = a.0 in opens x (AttributeOp text key class line) y.0 y.1 (record { left = ks; found = y.2; «in» = refl; out = a.1 })
+
+  pub remote_opened : (x : Term) (c : ℕ) (ts : Terms) (line : ℕ) → Becomes (Do (Eval x) ∷ Do (ObjectOp c line) ∷ each ts (Do (CallOp c (count ts) line) ∷ w)) (Eval (RemoteCallOf x c ts line))
+  remote_opened x c ts line a =
+      let y = a.0 in
+      let behind = each ts (Do (CallOp c (count ts) line) ∷ w) in
+      evals s code m fs Below inst t b u low (Do (ObjectOp c line) ∷ behind) x p y.x ks y.object
+      (puts behind (ObjectOp c line) y.x y.y (Any ∷ ks) (OwnerOf y.text ∷ ks) (record { is = y.there; text = y.text; around = (y.procedure).stands_in; left = ks; «in» = refl; out = refl })
+      (each_pends s code m fs Below inst t b u low (Do (CallOp c (count ts) line) ∷ w) ts y.y y.z (OwnerOf y.text ∷ ks) y.actuals
+      (puts w (CallOp c (count ts) line) y.z q (anys (count ts) (OwnerOf y.text ∷ ks)) ks' (record { text = y.text; procedure = y.procedure; is = y.call; as_many = y.as_many; left = ks; fits = y.fits; link = OwnerOf y.text; links = refl; «in» = refl; out = a.1 ∙ ap (λ g. given g ks) (ap text_gives (y.procedure).is) }) k)))
+
+  pub qualified_element_opened : (line c : ℕ) (x : Term) (ts : Terms) → Becomes (Do (Eval x) ∷ each ts (Do (QualifiedElementOp (count ts) line c) ∷ w)) (Eval (QualifiedElementOf line c x ts))
+  qualified_element_opened line c x ts a =
+      let y = a.0 in
+      let e = y.4 in
+      evals s code m fs Below inst t b u low (each ts (Do (QualifiedElementOp (count ts) line c) ∷ w)) x p y.0 ks y.2
+      (each_pends s code m fs Below inst t b u low (Do (QualifiedElementOp (count ts) line c) ∷ w) ts y.0 y.1 (Any ∷ ks) y.3
+      (puts w (QualifiedElementOp (count ts) line c) y.1 q (anys (count ts) (Any ∷ ks)) ks' (record { is = e.1; is_class = e.0; left = ks; «in» = anys_more (count ts) ks; out = a.1 }) k))
+
+  pub member_opened : (member : Membership) (c : ℕ) (x : Term) → Becomes (Do (Eval x) ∷ Do (MemberOp member c) ∷ w) (Eval (MemberOf member c x))
+  member_opened member c x a = let y = a.0 in let e = y.2 in let z = e.1 in opens x (MemberOp member c) y.0 y.1 (e.0, record { line = z.line; works = record { is = z.is; left = ks; «in» = refl; out = a.1 } })
+
+  pub qua_opened : (c line : ℕ) (x : Term) → Becomes (Do (Eval x) ∷ Do (QuaOp c line) ∷ w) (Eval (QuaOf c line x))
+  qua_opened c line x a = let y = a.0 in let e = y.2 in opens x (QuaOp c line) y.0 y.1 (e.0, record { is = e.1; left = ks; «in» = refl; out = a.1 })
+
+  pub fits_opened : (c line : ℕ) (x : Term) → Becomes (Do (Eval x) ∷ Do (FitsOp c line) ∷ w) (Eval (FitsOf c line x))
+  fits_opened c line x a = let y = a.0 in opens x (FitsOp c line) y.0 y.1 (record { left = ks; fits = y.2; «in» = refl; out = a.1 })
+
+  pub kept_opened : (x : Term) → Becomes (Do (Eval x) ∷ Do KeepOp ∷ w) (Eval (KeptOf x))
+  kept_opened x a = let y = a.0 in let z = y.2 in opens x KeepOp y.0 y.1 (record { line = z.line; works = record { is = z.is; left = ks; «in» = refl; out = a.1 } })
+
+  -- ---- stores
+
+  -- a reference goes where its address leads
+  pub reference_stored : (line : ℕ) → Becomes (Do (ReferOp line) ∷ w) (StoreOp (ToReference line))
+  reference_stored line a = puts w (ReferOp line) p q ks ks' a k
+
+  -- a variable is found anew
+  pub place_stored : (x : Term) → Becomes (Do (Eval x) ∷ Do SwapOp ∷ Do (StoreOp ToAddress) ∷ w) (StoreOp (ToPlace x))
+  place_stored x h =
+      let kind = h.0 in
+      let a = h.2 in
+      subst (λ z. Pends (Do (Eval x) ∷ Do SwapOp ∷ Do (StoreOp ToAddress) ∷ w) p z) (sym a.«in»)
+      (puts (Do SwapOp ∷ Do (StoreOp ToAddress) ∷ w) (Eval x) p a.x (Any ∷ ks') (kind ∷ Any ∷ ks') (a.place, a.is_place (Any ∷ ks'))
+      (puts (Do (StoreOp ToAddress) ∷ w) SwapOp a.x a.y (kind ∷ Any ∷ ks') (Any ∷ kind ∷ ks') (record { is = a.under; first = kind; left = ks'; «in» = refl; out = refl })
+      (puts w (StoreOp ToAddress) a.y q (Any ∷ kind ∷ ks') ks' (a.put, record { place = kind; reads = h.1; «in» = refl }) k)))
+
+  pub reference_place_stored : (x : Term) (line : ℕ) → Becomes (Do (Eval x) ∷ Do SwapOp ∷ Do (ReferOp line) ∷ w) (StoreOp (ToReferenceAt x line))
+  reference_place_stored x line h =
+      let c = h.0 in
+      let a = h.2 in
+      subst (λ z. Pends (Do (Eval x) ∷ Do SwapOp ∷ Do (ReferOp line) ∷ w) p z) (sym a.«in»)
+      (puts (Do SwapOp ∷ Do (ReferOp line) ∷ w) (Eval x) p a.x (Any ∷ ks') (Refers c ∷ Any ∷ ks') (a.place, a.is_place (Any ∷ ks'))
+      (puts (Do (ReferOp line) ∷ w) SwapOp a.x a.y (Refers c ∷ Any ∷ ks') (Any ∷ Refers c ∷ ks') (record { is = a.under; first = Refers c; left = ks'; «in» = refl; out = refl })
+      (puts w (ReferOp line) a.y q (Any ∷ Refers c ∷ ks') ks' (record { is = a.put; class = c; is_class = h.1; left = ks'; «in» = refl; out = refl }) k)))
 
   -- ---- statements
 

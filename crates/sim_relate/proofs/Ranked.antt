@@ -1,7 +1,8 @@
 -- Two machines that show the same, where each step of the one is matched by the other. The second may make steps of its own that show
 -- nothing: the relation has a rank, which says how many of them are to come.
 use Rattle.std.proofs.Common.{◌≡◌, ◌⊎◌, ℕ, zero, suc, ◌<◌, ◌≤◌, None, inl, inr, refl, sym, ap, subst, ◌∙◌, arith}
-use Rattle.sim_code.specs.Outcome.{Ended, Ending, Going, Run, World, after}
+use Rattle.sim_code.specs.Outcome.{Ended, Ending, Going, NoRule, Run, World, after}
+use Rattle.sim_code.specs.Events.{no_rule, stopping}
 use Rattle.sim_code.proofs.Simulation.{Alike}
 use Rattle.sim_code.proofs.Simulation as simple
 use Rattle.sim_relate.specs.SameRuns.{seen, seen_world}
@@ -11,13 +12,23 @@ pub data AlikeIn {S M : Type 0} (R : World → S → M → Type 0) : Run S → R
   going : {o : World} {s : S} {m : M} → R o s m → AlikeIn R (Going o s) (Going o m)
   ended : {o : World} {e : Ending} → AlikeIn R (Ended o e) (Ended o e)
 
--- the same relation in each world
+-- The same relation in each world, where the first has a rule.
 abbrev pub InEach : {S M : Type 0} → (S → M → Type 0) → World → S → M → Type 0
 InEach R o s m = R s m
 
-pub simply : {S M : Type 0} {R : S → M → Type 0} {r : Run S} {q : Run M} → Alike R r q → AlikeIn (InEach R) r q
-simply (simple.going a) = going a
-simply simple.ended = ended
+pub simply : {S M : Type 0} {R : S → M → Type 0} {r : Run S} {q : Run M} → ((o : World) → r ≡ Ended o NoRule → ⊥) → Alike R r q → AlikeIn (InEach R) r q
+simply ruled (simple.going a) = going a
+simply ruled simple.ended = ended
+simply ruled (simple.unruled {o}) = absurd (ruled o refl)
+
+-- both have no rule, or stop
+pub both_no_rule : {S M : Type 0} {R : World → S → M → Type 0} (o : World) → AlikeIn R (no_rule o) (no_rule o)
+unfolding no_rule
+both_no_rule o = ended
+
+pub both_stopping : {S M : Type 0} {R : World → S → M → Type 0} (e : Ending) (o : World) → AlikeIn R (stopping e o) (stopping e o)
+unfolding stopping
+both_stopping e o = ended
 
 -- The second machine is alike, or still has steps of its own that change nothing of what is seen.
 pub data Catches {S M : Type 0} (g : World → M → Run M) (R : World → S → M → Type 0) (r : Run S) : Run M → Type 0 where
@@ -28,6 +39,11 @@ pub data Catches {S M : Type 0} (g : World → M → Run M) (R : World → S →
 pub data Meets {S M : Type 0} (g : World → M → Run M) (R : World → S → M → Type 0) (r : Run S) (o : World) : M → Type 0 where
   meets : {m : M} → Catches g R r (g o m) → Meets g R r o m
   first : {m m' : M} → g o m ≡ Going o m' → Meets g R r o m' → Meets g R r o m
+
+-- A step of the first is followed at once, or in several steps.
+pub data Follows {S M : Type 0} (g : World → M → Run M) (R : S → M → Type 0) (r : Run S) (o : World) (m : M) : Type 0 where
+  at_once : Alike R r (g o m) → Follows g R r o m
+  in_steps : Meets g (InEach R) r o m → Follows g R r o m
 
 -- what is so of where the first comes to may be added to the relation
 module _ {S M : Type 0} (R Q : World → S → M → Type 0) where

@@ -1,13 +1,14 @@
 -- What is seen by a level from an instance outward is the instance of the text that is meant.
-use Rattle.std.proofs.Common.{◌≡◌, ◌≢◌, ℕ, zero, suc, ◌<◌, ◌≤◌, List, Option, Some, Bool, true, false, refl, ap, ◌∙◌, subst, arith}
+use Rattle.std.proofs.Common.{◌≡◌, ◌≢◌, ℕ, zero, suc, ◌<◌, ◌≤◌, List, Option, Some, None, Bool, true, false, refl, sym, ap, ◌∙◌, subst, arith}
 use Rattle.std.specs.Prelude.{◌==◌, if◌then◌else◌, slice_get}
 use Rattle.sim_scope.specs.Access.{encloser}
 use Rattle.sim_scope.specs.Source.{Source, level_of}
 use Rattle.sim_code.specs.Instances.{Instance, found_at, outward}
 use Rattle.sim_meaning.specs.Pending.{Held, Instances}
-use Rattle.codegen_expr.specs.Sites.{Inside, further, itself}
+use Rattle.codegen_expr.specs.Sites.{Inside, behind, frame_text, further, is_connected, itself}
+use Rattle.sim_relate.proofs.Frames.{bool_cases, frame_out, frame_self, stands_same}
 use Rattle.sim_relate.proofs.Plainly.{Agrees}
-use Rattle.sim_relate.proofs.Relation.{Reaches, Stands, inside, outermost, seen_at, seen_within}
+use Rattle.sim_relate.proofs.Known.{Reaches, Stands, inside, outermost, seen_at, seen_within}
 
 pub equal_numbers : (a b : ℕ) → a ≡ b → (a == b) ≡ true
 equal_numbers a b e = grind (arith, e)
@@ -31,7 +32,7 @@ module _ (s : Source) (m : Instances) where
   pub record IsThere (j t : ℕ) : Type 0 where
     pub now : Instance (List Held)
     pub is : slice_get m.instances j ≡ Some now
-    pub text : now.text ≡ t
+    pub text : now.text ≡ frame_text s t
     pub level : now.level ≡ level_of s t
 
   pub is_there : {j t : ℕ} → Stands s m j t → IsThere j t
@@ -48,15 +49,19 @@ module _ (s : Source) (m : Instances) where
     pub before : out < j
     pub stands : Stands s m out u
 
-  pub is_inside : {j t : ℕ} → Stands s m j t → (u : ℕ) → encloser s.tables t ≡ Some u → IsInside j t u
-  is_inside {t = t} (outermost {x = x} is text level alone around) u e = absurd (cc)
-  is_inside {t = t} (inside {e = out} {u = v} {x = x} is text level alone around before stands) u e =
-      record { now = x; is = is; level = level; out = out; encloser = alone; before = before; stands = subst (λ z. Stands s m out z) (same_some (encloser s.tables t) v u around e) stands }
+  pub is_inside : {j t : ℕ} → Stands s m j t → frame_text s t ≡ t → (u : ℕ) → encloser s.tables t ≡ Some u → IsInside j t u
+  is_inside {t = t} (outermost {x = x} is text level alone around) own u e = let no : encloser s.tables t ≡ None = sym (ap (encloser s.tables) own) ∙ around in absurd (cc)
+  is_inside {t = t} (inside {e = out} {u = v} {x = x} is text level alone around before stands) own u e =
+      let there : encloser s.tables t ≡ Some v = sym (ap (encloser s.tables) own) ∙ around in
+      record { now = x; is = is; level = level; out = out; encloser = alone; before = before; stands = subst (λ z. Stands s m out z) (same_some (encloser s.tables t) v u there e) stands }
 
-  module _ (levels : (t u : ℕ) → encloser s.tables t ≡ Some u → level_of s t ≡ suc (level_of s u)) where
+  module _ (agrees : Agrees s) where
     outward_levels : {t u : ℕ} → Inside s.tables t u → level_of s u ≤ level_of s t
     outward_levels itself = omega arith
-    outward_levels (further {t = t} {u = u} e i) = let a = levels t u e in let b = outward_levels i in omega arith
+    outward_levels (behind {t = t} {u = u} e i) = let no = agrees.flat.classes t in absurd (cc)
+    outward_levels (further {t = t} {u = u} e i) =
+        let b = outward_levels i in
+        bool_cases (is_connected s.tables t) (λ c. let a = agrees.same_level t u e c in omega (arith, a, b)) (λ c. let a = agrees.levels t u e c in omega (arith, a, b))
 
     here_found : (n level j : ℕ) (x : Instance (List Held)) → slice_get m.instances j ≡ Some x → x.level ≡ level → seen_within (suc n) m level j ≡ Some j
     here_found n level j x is e =
@@ -73,23 +78,27 @@ module _ (s : Source) (m : Instances) where
       pub stands : Stands s m instance u
 
     within : (n i : ℕ) {t u : ℕ} → i < n → Inside s.tables t u → Stands s m i t → Within n i u
-    within zero i lt ins st = absurd (omega arith)
+    within zero i lt ins st = absurd (omega (arith, lt))
     within (suc n) i lt (itself {t = t}) st =
         let x = is_there st in
         record { instance = i; found = here_found n (level_of s t) i x.now x.is x.level; stands = st }
+    within (suc n) i lt (behind {t = t} e ins) st = let no = agrees.flat.classes t in absurd (cc)
     within (suc n) i lt (further {t = t} {u = v} {k = k} e ins) st =
-        let x = is_inside st v e in
-        let deeper = levels t v e in
+        bool_cases (is_connected s.tables t)
+        (λ c. within (suc n) i lt ins (stands_same s m i v t (record { frame = sym (frame_out s agrees t v c e); level = sym (agrees.same_level t v e c) }) st))
+        (λ c. let x = is_inside st (frame_self s agrees t c) v e in
+        let deeper = agrees.levels t v e c in
         let above = outward_levels ins in
-        let apart : x.now.level ≢ level_of s k = λ same. (let f : ⊥ = omega (arith, same, x.level) in f) in
-        let shorter : x.out < n = omega (arith, lt, x.before) in
+        let apart : x.now.level ≢ level_of s k = λ same. (let l = x.level in let f : ⊥ = omega (arith, same, l, deeper, above) in f) in
+        let before = x.before in
+        let shorter : x.out < n = omega (arith, lt, before) in
         let y = within n x.out shorter ins x.stands in
-        record { instance = y.instance; found = further_found n (level_of s k) i x.out x.now x.is apart x.encloser ∙ y.found; stands = y.stands }
+        record { instance = y.instance; found = further_found n (level_of s k) i x.out x.now x.is apart x.encloser ∙ y.found; stands = y.stands })
 
 pub reach : (s : Source) (m : Instances) (i t u : ℕ) → Agrees s → Stands s m i t → Inside s.tables t u → (j : ℕ) × Reaches s m i u j
 unfolding seen_at
 reach s m i t u a st ins =
-    let x = within s m a.levels (suc i) i (omega arith) ins st in
+    let x = within s m a (suc i) i (omega arith) ins st in
     (x.instance, record { found = x.found; stands = x.stands })
 
 -- an instance is found at its own level
@@ -97,4 +106,4 @@ pub own_reaches : (s : Source) (m : Instances) (i t : ℕ) → Agrees s → Stan
 unfolding seen_at
 own_reaches s m i t a st =
     let x = is_there s m st in
-    record { found = here_found s m a.levels i (level_of s t) i x.now x.is x.level; stands = st }
+    record { found = here_found s m a i (level_of s t) i x.now x.is x.level; stands = st }

@@ -1,287 +1,47 @@
 -- Which states of the machine stand for which states of a program.
-use Rattle.std.proofs.Common.{◌≡◌, ◌<◌, ◌≤◌, ◌*◌, ℕ, suc, zero, Bool, true, false, List, [], ◌∷◌, length, map, Option, Some, None}
+use Rattle.std.proofs.Common.{◌≡◌, ◌≢◌, ◌<◌, ◌≤◌, ◌*◌, ℕ, suc, Bool, true, false, List, [], ◌∷◌, length, Option, Some, None}
 use Rattle.std.specs.Prelude.{⊤, pos, slice_get}
 use Rattle.sim_chains.specs.Components.{AttachedObject, DetachedObject, NoObject, ResumedObject, Standing, TerminatedObject}
 use Rattle.sim_scope.specs.Access.{encloser}
-use Rattle.sim_scope.specs.Source.{Source, level_of}
+use Rattle.sim_scope.specs.Source.{Source, block_around, level_of}
 use Rattle.sim_tree.specs.declared.stmt.TypeName.{TypeName}
-use Rattle.sim_tree.specs.Syntax.{Also, Element, Expression, NoStatement, Statement, Statements}
+use Rattle.sim_tree.specs.Syntax.{Also, Arms, Element, Expression, NoStatement, Statement, Statements}
 use Rattle.sim_tree.specs.Syntax as syntax
 use Rattle.sim_values.specs.declared.kind.Kind.{Kind as TypeKind}
 use Rattle.sim_values.specs.declared.standard.Standard.{Standard}
-use Rattle.sim_values.specs.declared.value.TextVal.{TextVal}
-use Rattle.sim_values.specs.Plain.{Integer, Plain, Text as PlainText}
+use Rattle.sim_values.specs.Plain.{Integer}
 use Rattle.sim_values.specs.Standard.{row_of}
-use Rattle.sim_values.specs.Texts.{notext}
 use Rattle.sim_code.specs.declared.code.BlockKind.{BlockKind}
 use Rattle.sim_code.specs.declared.code.BlockKind.TheVariants as block_kind
 use Rattle.sim_code.specs.declared.code.CodeType.{CodeType}
 use Rattle.sim_code.specs.declared.code.CodeType.TheVariants as type
 use Rattle.sim_code.specs.declared.instr.Instr.{Instr}
 use Rattle.sim_code.specs.declared.instr.Instr.TheVariants as i
-use Rattle.sim_code.specs.Code.{BlockOf, CodeOf}
-use Rattle.sim_code.specs.Instances.{CellPlace, ElementPlace, ImagePlace, Instance, Memory, at_level, found_at}
-use Rattle.sim_code.specs.Instances as instances
-use Rattle.sim_code.specs.Machine.{Frames, Machine, Value, Cells}
+use Rattle.sim_code.specs.declared.stage.Stage.{Stage}
+use Rattle.sim_code.specs.declared.stage.Stage.TheVariants as stage
+use Rattle.sim_code.specs.Classes.{class_numbered}
+use Rattle.sim_code.specs.Code.{BlockOf, ClassOf, CodeOf}
+use Rattle.sim_code.specs.Instances.{Instance}
+use Rattle.sim_code.specs.Machine.{Frames, Machine, Value, Cells, joined}
 use Rattle.sim_code.specs.Machine as machine
 use Rattle.sim_code.proofs.Lifts.{Both}
-use Rattle.sim_meaning.specs.Pending.{Activation, AgainOp, ArrayOp, BackOp, BranchOp, CallOf, CallOp, Cell, ChooseOp, Configuration, CopyOf, CopyOp, Do, DropOp, Either, ElementOf, ElementOp, ElementsOp, EndBlock, EndProcedure, EndProgram, EnterOp, Eval, Exec, Execs, FetchOp, Further, Given, GiveOp, Held, IfOp, ImageOf, Instances, Item, JoinOp, Joined, Key, NoTerm, One, OneOp, Op, PastOp, PlaceOf, RaiseOp, ShareOp, StandardOf, StandardOp, StepOp, StepTestOp, StoreOp, Target, Term, Terms, TestOp, ToAddress, ToCell, ToText, ToTextOf, Two, TwoOp, Unbuilt, Val, ValueAt, WhileElementOp}
-use Rattle.sim_meaning.specs.Pending as meaning
+use Rattle.sim_meaning.specs.Levels.{is_class}
+use Rattle.sim_meaning.specs.Pending.{Activation, AgainOp, ArrayOp, AttributeOp, BackOp, BranchOp, CallOp, ChooseOp, Configuration, ConnectOp, CopyOp, DeclareOp, Do, DropOp, ElementOp, ElementsOp, EndBlock, EndObject, EndProcedure, EndProgram, EnterOp, Eval, Exec, Execs, FetchOp, FitsOp, GiveOp, Held, IfOp, InnerOp, Instances, Item, JoinOp, KeepOp, Key, LevelOp, MemberOp, NewOp, ObjectOp, OneOp, Op, PastOp, PrefixedOp, QuaOp, QualifiedElementOp, RaiseOp, ReferOp, ShareOp, StandardOp, StepOp, StepTestOp, StoreOp, SwapOp, Target, Term, TestOp, ToAddress, ToCell, ToPlace, ToReference, ToReferenceAt, ToText, ToTextAt, ToTextOf, TwoOp, Val, WhenOp, WhileElementOp, held}
 use Rattle.sim_meaning.specs.Entries.{formals_of}
 use Rattle.sim_meaning.specs.Meaning.{has_result}
 use Rattle.sim_meaning.specs.Statements.{has_value}
-use Rattle.sim_meaning.specs.Steps.{count}
-use Rattle.sim_meaning.specs.Texts.{BlockText, ProcedureText, Text, text}
-use Rattle.codegen_expr.specs.Sites.{Ahead, At, HasCell, IfAt, Is, LoopAt, Pushes, Site, cells_in, slot_of}
-use Rattle.codegen_expr.specs.CodeExpr.{ExprAt, IsConstant, OneAt, PlainAt, Stand, StandardIs, block_number, join_instrs, one_instr, two_instr}
-use Rattle.codegen.specs.CodeArrays.{element_number}
-use Rattle.codegen.specs.CodeFor.{ElementsAt, ReturnsAt, StepAt, TurnAt, Variable, WhileElementAt}
-use Rattle.codegen.specs.CodeStm.{StmAt, StmsAt}
+use Rattle.sim_meaning.specs.Texts.{BlockText, ProcedureText, text}
+use Rattle.sim_meaning.specs.Texts as Texts
+use Rattle.codegen_expr.specs.Sites.{Ahead, At, HasCell, Is, LoopAt, Pushes, Site, block_in_front, block_number, class_number, frame_text, is_connected, own_part, place_of, slot_of, start_of}
+use Rattle.codegen_expr.specs.CodeExpr.{ExprAt, PlaceAt, ReferencePlaceAt, StandardIs, member_instr, one_instr, two_instr}
+use Rattle.codegen.specs.CodeArrays.{ArraysAt, element_number}
+use Rattle.codegen.specs.CodeFor.{ElementsAt, OfCell, OfPlace, OfReference, ReturnsAt, StepAt, TurnAt, Variable, WhileElementAt}
+use Rattle.codegen.specs.CodeStm.{ArmsAt, ConnectsAt, StmAt, StmsAt, WithInnerAt}
 use Rattle.codegen.specs.Compiled.{RecordOf, type_of_name}
-
--- ---- values
-
--- What is known of a value in hand: that it is a link to an instance of a text, that it is where a cell lies, or that it is neither.
-pub data Kind : Type 0 where
-  Any : Kind
-  Located : Kind
-  LinkTo : (text : ℕ) → Kind
-
--- so many values more
-abbrev pub anys : ℕ → List Kind → List Kind
-anys zero ks = ks
-anys (suc n) ks = Any ∷ anys n ks
-
--- one value more, or none
-abbrev pub given : Bool → List Kind → List Kind
-given true ks = Any ∷ ks
-given false ks = ks
-
--- operands that may be addresses: so many values of the first kinds, before others
-abbrev pub IsRead : Kind → Type 0
-IsRead Any = ⊤
-IsRead Located = ⊤
-IsRead (LinkTo text) = ⊥
-
-abbrev pub AllRead : ℕ → List Kind → List Kind → Type 0
-AllRead zero ks left = ks ≡ left
-AllRead (suc n) [] left = ⊥
-AllRead (suc n) (k ∷ ks) left = IsRead k × AllRead n ks left
-
--- Whether the evaluation of a tree leaves a value that may lie in a cell: a procedure or a standard name may have no result, and where a
--- cell lies is no such value.
-abbrev pub text_gives : Option Text → Bool
-text_gives (Some (ProcedureText result h a)) = has_result result
-text_gives _ = false
-
-abbrev pub gives : Source → Term → Bool
-gives s (CallOf j k ts line) = text_gives (text s k)
-gives s (StandardOf name ts line) = has_value (row_of name).result
-gives s (PlaceOf j key) = false
-gives s _ = true
-
--- the values in hand behind its evaluation, and whether it can be an operand of a standard name
-abbrev pub leaving : Source → Term → List Kind → List Kind
-leaving s (PlaceOf j key) ks = Located ∷ ks
-leaving s t ks = given (gives s t) ks
-
-abbrev pub reads : Source → Term → Bool
-reads s (PlaceOf j key) = true
-reads s t = gives s t
-
-pub data ValAt : Val → Value → Type 0 where
-  plain_at : {p : Plain} → ValAt (meaning.Of p) (machine.Of p)
-  link_at : {j : ℕ} → ValAt (meaning.Link j) (machine.Link j)
-  array_at : {a : ℕ} → ValAt (meaning.ArrayValue a) (machine.ArrayValue a)
-  element_at : {a n : ℕ} → ValAt (meaning.Address (ElementPlace a n None)) (machine.Address (ElementPlace a n 0))
-  image_at : {n : ℕ} → ValAt (meaning.Address (ImagePlace n)) (machine.Address (ImagePlace n))
-
--- values in hand of these kinds and values on the stack, one by one
-pub data StackAt {V X : Type 0} (W : Kind → V → X → Type 0) : List Kind → List V → List X → Type 0 where
-  none_at : StackAt W [] [] []
-  more_at : {k : Kind} {ks : List Kind} {v : V} {vals : List V} {x : X} {stack : List X} → W k v x → StackAt W ks vals stack → StackAt W (k ∷ ks) (v ∷ vals) (x ∷ stack)
-
--- the cells of an instance are the first ones of its frame, one by one; temps stand behind them
-abbrev pub CellsAt : {V X : Type 0} → (V → X → Type 0) → List (Option V) → List (Option X) → Type 0
-CellsAt W [] cs = Unit {0}
-CellsAt W (v ∷ vs) [] = ⊥
-CellsAt W (v ∷ vs) (c ∷ cs) = Both W v c × CellsAt W vs cs
-
-abbrev pub value_of : Held → Option Val
-value_of h = h.value
-
-abbrev pub key_of : Held → Key
-key_of h = h.key
-
--- ---- instances
-
--- What is found by a level from an instance outward, given back or not.
-abbrev pub seen_within : {C A : Type 0} → ℕ → Memory C A → (level j : ℕ) → Option ℕ
-seen_within zero m level j = None
-seen_within (suc n) m level j = found_at level (seen_within n m level) j (slice_get m.instances j)
-
-unfoldable pub seen_at : {C A : Type 0} → Memory C A → (level j : ℕ) → Option ℕ
-seen_at m level j = seen_within (suc j) m level j
-
--- An instance stands for a text: it has the text and its level, and its encloser, which was entered before it, stands for the text
--- around. Whether it was given back is not asked: so it stands for the text in all later stores.
-pub data Stands (s : Source) (m : Instances) : (instance text : ℕ) → Type 0 where
-  outermost : {j t : ℕ} {x : Instance (List Held)} → slice_get m.instances j ≡ Some x → x.text ≡ t → x.level ≡ level_of s t → x.encloser ≡ None → encloser s.tables t ≡ None → Stands s m j t
-  inside : {j t e u : ℕ} {x : Instance (List Held)} → slice_get m.instances j ≡ Some x → x.text ≡ t → x.level ≡ level_of s t → x.encloser ≡ Some e → encloser s.tables t ≡ Some u → e < j → Stands s m e u → Stands s m j t
-
--- what is seen from an instance outward: the instance in which a declaration of a text lies
-pub record Reaches (s : Source) (m : Instances) (from text instance : ℕ) : Type 0 where
-  pub found : seen_at m (level_of s text) from ≡ Some instance
-  pub stands : Stands s m instance text
-
--- and code finds it
-abbrev pub Finds : Source → Instances → (from text : ℕ) → Type 0
-Finds s m from text = (j : ℕ) × Reaches s m from text j × (at_level m (level_of s text) from ≡ Some j)
-
--- a link in hand
-pub record LinkIs (s : Source) (m : Instances) (text : ℕ) (v : Val) (x : Value) : Type 0 where
-  pub instance : ℕ
-  pub is_val : v ≡ meaning.Link instance
-  pub is_value : x ≡ machine.Link instance
-  pub stands : Stands s m instance text
-
--- where a cell lies
-pub record PlaceIs (s : Source) (m : Instances) (v : Val) (x : Value) : Type 0 where
-  pub instance : ℕ
-  pub text : ℕ
-  pub key : Key
-  pub is_val : v ≡ meaning.Address (CellPlace instance key None)
-  pub is_value : x ≡ machine.Address (CellPlace instance (slot_of s text key) 0)
-  pub stands : Stands s m instance text
-  pub has : HasCell s text key
-
-abbrev pub HandAt : Source → Instances → Kind → Val → Value → Type 0
-HandAt s m Any v x = ValAt v x
-HandAt s m Located v x = PlaceIs s m v x
-HandAt s m (LinkTo text) v x = LinkIs s m text v x
-
--- what the later of two stores keeps of the instances: what they stand for, and what is found from them outward
-pub record Later (s : Source) (m m' : Instances) : Type 0 where
-  pub stands : (j t : ℕ) → Stands s m j t → Stands s m' j t
-  pub same : (level j t : ℕ) → Stands s m j t → seen_at m' level j ≡ seen_at m level j
-
--- what is in a cell of a frame, given back or not
-abbrev pub placed_in : Option (Instance Cells) → ℕ → Option Value
-placed_in x c = machine.value_in (instances.cells_in x) c
-
-abbrev pub placed : Frames → (frame cell : ℕ) → Option Value
-placed fs j c = placed_in (slice_get fs.instances j) c
-
--- what it keeps of the frames of some instances: the temps, which stand behind the cells of the text
-pub record Keeps (s : Source) (m : Instances) (fs fs' : Frames) (Of : ℕ → Type 0) : Type 0 where
-  pub temps : (j t c : ℕ) → Of j → Stands s m j t → length (cells_in s t (text s t)) ≤ c → placed fs' j c ≡ placed fs j c
-
--- every instance
-abbrev pub Every : ℕ → Type 0
-Every j = ⊤
-
--- the site in a text's code where so many cells and temps are in use
-abbrev pub site_at : (text : ℕ) → BlockOf → (used : ℕ) → Site
-site_at t b used = record { text = t; room = b.room; used = used; size = length b.types }
-
--- there are two images
-pub data IsImage : ℕ → Type 0 where
-  of_input : IsImage 0
-  of_output : IsImage 1
-
--- what is assigned to the variable of a `for` list
-abbrev pub variable_target : (assigned : Option ℕ) → (instance : ℕ) → Key → Target
-variable_target None j key = ToCell j key
-variable_target (Some line) j key = ToTextOf j key line
+use Rattle.sim_relate.proofs.Known.{AllRead, Any, HandAt, IsLink, IsRead, Keeps, Kind, Later, LinkTo, OwnerOf, Reaches, Refers, Runs, SameFrame, SlotAt, StackAt, Stands, ValAt, anys, at_stage, attribute_kind, given, is_declared, is_fixed, place_target, placed, reads, site_at, variable_target, LeavesIs}
+use Rattle.sim_relate.proofs.Trees.{Classed, JoinsIs, ProcedureIs, FoundIs, FetchesAt, FitsIs, TermAt, OperandAt}
 
 module _ (s : Source) (code : CodeOf) where
-  -- ---- closed trees
-
-  pub record CellIs (m : Instances) (inst : ℕ) (site : Site) (n j : ℕ) (key : Key) (p q : ℕ) : Type 0 where
-    pub text : ℕ
-    pub load : Pushes code site n (i.Load (pos (level_of s text)) (pos (slot_of s text key))) p q
-    pub reaches : Reaches s m inst text j
-    pub has : HasCell s text key
-
-  pub record CellPlaceIs (m : Instances) (inst : ℕ) (site : Site) (n j : ℕ) (key : Key) (p q : ℕ) : Type 0 where
-    pub text : ℕ
-    pub address : Pushes code site n (i.Addr (pos (level_of s text)) (pos (slot_of s text key)) (pos 0)) p q
-    pub reaches : Reaches s m inst text j
-    pub has : HasCell s text key
-
-  -- a text constant, or `notext`
-  pub data TextIs (site : Site) (n : ℕ) (t : TextVal) (p q : ℕ) : Type 0 where
-    listed : IsConstant s t → Pushes code site n (i.TextK (pos t.text_frame)) p q → TextIs site n t p q
-    empty : t ≡ notext → Pushes code site n i.NoText p q → TextIs site n t p q
-
-  abbrev pub GivenIs : Site → ℕ → Plain → ℕ → ℕ → Type 0
-  GivenIs site n (PlainText t) p q = TextIs site n t p q
-  GivenIs site n v p q = PlainAt s code site n v p q
-
-  -- what `&` does with both texts on the stack, in three temps
-  pub record JoinsIs (site : Site) (n line p q : ℕ) : Type 0 where
-    pub temp : ℕ
-    pub unused : site.used ≤ temp
-    pub within : suc (suc temp) < site.size
-    pub room : suc (suc n) < site.room
-    pub joins : Stand code line (join_instrs (level_of s site.text) temp) p q
-
-  -- the procedure of a text, and the text around it
-  pub record ProcedureIs (k around : ℕ) : Type 0 where
-    pub result : Option TypeName
-    pub heading : syntax.Heading
-    pub body : Statement
-    pub is : text s k ≡ Some (ProcedureText result heading body)
-    pub stands_in : encloser s.tables k ≡ Some around
-
-  pub record CallIs (m : Instances) (inst : ℕ) (site : Site) (n j k many line : ℕ) (Actuals : ℕ → ℕ → Type 0) (p q : ℕ) : Type 0 where
-    pub text : ℕ
-    pub x : ℕ
-    pub y : ℕ
-    pub link : Pushes code site n (i.Link (pos (level_of s text))) p x
-    pub reaches : Reaches s m inst text j
-    pub actuals : Actuals x y
-    pub call : At code (i.Call (pos (block_number s k)) (pos many)) line y q
-    pub procedure : ProcedureIs k text
-    pub as_many : many ≡ length (formals_of s k)
-
-  abbrev mutual
-    -- the code from p to q, run for an instance, evaluates the closed tree on n values
-    pub TermAt : Instances → (inst : ℕ) → Site → (n : ℕ) → Term → ℕ → ℕ → Type 0
-    TermAt m inst site n (Given v) p q = GivenIs site n v p q
-    TermAt m inst site n (Cell j key) p q = CellIs m inst site n j key p q
-    TermAt m inst site n (One op line a) p q = OneAt code op line (λ p q. TermAt m inst site n a p q × (gives s a ≡ true)) p q
-    TermAt m inst site n (Two op line a b) p q =
-        (x : ℕ) × (y : ℕ) × (TermAt m inst site n a p x × (gives s a ≡ true)) × (TermAt m inst site (suc n) b x y × (gives s b ≡ true)) × At code (two_instr op) line y q
-    TermAt m inst site n (Either c a b) p q =
-        IfAt code (λ p q. TermAt m inst site n c p q × (gives s c ≡ true)) (λ p q. TermAt m inst site n a p q × (gives s a ≡ true)) (λ p q. TermAt m inst site n b p q × (gives s b ≡ true)) p q
-    TermAt m inst site n (ElementOf line a ts) p q =
-        (x : ℕ) × (y : ℕ) × (TermAt m inst site n a p x × (gives s a ≡ true)) × TermsAt m inst site (suc n) ts x y × At code (i.Elem (pos (count ts)) (pos 0)) line y q
-    TermAt m inst site n (ValueAt a) p q = (x : ℕ) × (TermAt m inst site n a p x × (gives s a ≡ true)) × Is code i.Fetch x q
-    TermAt m inst site n (CopyOf line a) p q = (x : ℕ) × (TermAt m inst site n a p x × (gives s a ≡ true)) × At code i.CopyArr line x q
-    TermAt m inst site n (CallOf j k ts line) p q = CallIs m inst site n j k (count ts) line (TermsAt m inst site (suc n) ts) p q
-    TermAt m inst site n (StandardOf name ts line) p q =
-        (x : ℕ) × ReadsAt m inst site n ts p x × StandardIs code site n line name (count ts) x q
-    TermAt m inst site n (PlaceOf j key) p q = CellPlaceIs m inst site n j key p q
-    TermAt m inst site n (ImageOf image) p q = IsImage image × Pushes code site n (i.AddrImg (pos image)) p q
-    TermAt m inst site n (Joined line a b) p q =
-        (x : ℕ) × (y : ℕ) × (TermAt m inst site n a p x × (gives s a ≡ true)) × (TermAt m inst site (suc n) b x y × (gives s b ≡ true)) × JoinsIs site n line y q
-    TermAt m inst site n _ p q = ⊥
-
-    -- one value after the other
-    pub TermsAt : Instances → (inst : ℕ) → Site → (n : ℕ) → Terms → ℕ → ℕ → Type 0
-    TermsAt m inst site n NoTerm p q = q ≡ p
-    TermsAt m inst site n (Further t ts) p q = (x : ℕ) × (TermAt m inst site n t p x × (gives s t ≡ true)) × TermsAt m inst site (suc n) ts x q
-
-    -- operands of a standard name, one after the other
-    pub ReadsAt : Instances → (inst : ℕ) → Site → (n : ℕ) → Terms → ℕ → ℕ → Type 0
-    ReadsAt m inst site n NoTerm p q = q ≡ p
-    ReadsAt m inst site n (Further t ts) p q = (x : ℕ) × (TermAt m inst site n t p x × (reads s t ≡ true)) × ReadsAt m inst site (suc n) ts x q
-
-  -- an operand leaves a value
-  abbrev pub OperandAt : Instances → (inst : ℕ) → Site → (n : ℕ) → Term → ℕ → ℕ → Type 0
-  OperandAt m inst site n t p q = TermAt m inst site n t p q × (gives s t ≡ true)
-
   -- ---- operators: `before` are the kinds of the values in hand before it, `behind` those behind it
 
   -- an instruction that takes so many values and leaves one, or none
@@ -309,19 +69,82 @@ module _ (s : Source) (code : CodeOf) where
 
   pub record IfIs (m : Instances) (inst : ℕ) (site : Site) (a b : Term) (p q : ℕ) (before behind : List Kind) : Type 0 where
     pub left : List Kind
-    pub choice : ChoiceIs (OperandAt m inst site (length left) a) (OperandAt m inst site (length left) b) p q
+    pub choice : ChoiceIs (OperandAt s code m inst site (length left) a) (OperandAt s code m inst site (length left) b) p q
     pub «in» : before ≡ anys 1 left
     pub out : behind ≡ anys 1 left
 
   pub record CallOpIs (site : Site) (k actuals line p q : ℕ) (before behind : List Kind) : Type 0 where
     pub text : ℕ
-    pub procedure : ProcedureIs k text
+    pub procedure : ProcedureIs s code k text
     pub is : At code (i.Call (pos (block_number s k)) (pos actuals)) line p q
     pub as_many : actuals ≡ length (formals_of s k)
     pub left : List Kind
     pub fits : length left < site.room
-    pub «in» : before ≡ anys actuals (LinkTo text ∷ left)
+    pub link : Kind
+    pub links : IsLink link text
+    pub «in» : before ≡ anys actuals (link ∷ left)
     pub out : behind ≡ given (has_result procedure.result) left
+
+  pub record NewOpIs (site : Site) (k actuals line p q : ℕ) (before behind : List Kind) : Type 0 where
+    pub text : ℕ
+    pub is : At code (i.New (pos (class_number s code k)) (pos actuals)) line p q
+    pub stands_in : encloser s.tables k ≡ Some text
+    pub class : is_class (Texts.text s k) ≡ true
+    pub left : List Kind
+    pub fits : length left < site.room
+    pub «in» : before ≡ anys actuals (LinkTo text ∷ left)
+    pub out : behind ≡ anys 1 left
+
+  pub record AttributeOpIs (text : ℕ) (key : Key) (class : Option ℕ) (line p q : ℕ) (before behind : List Kind) : Type 0 where
+    pub left : List Kind
+    pub found : FoundIs s code (attribute_kind s key class) text key line p q
+    pub «in» : before ≡ anys 1 left
+    pub out : behind ≡ attribute_kind s key class ∷ left
+
+  -- the text around the procedure of the object in hand
+  pub record ObjectOpIs (k line p q : ℕ) (before behind : List Kind) : Type 0 where
+    pub is : At code i.NotNone line p q
+    pub text : ℕ
+    pub around : encloser s.tables k ≡ Some text
+    pub left : List Kind
+    pub «in» : before ≡ anys 1 left
+    pub out : behind ≡ OwnerOf text ∷ left
+
+  pub record QualifiedElementOpIs (n line k p q : ℕ) (before behind : List Kind) : Type 0 where
+    pub is : At code (i.Elem (pos n) (pos (class_number s code k))) line p q
+    pub is_class : Classed s k
+    pub left : List Kind
+    pub «in» : before ≡ anys (suc n) left
+    pub out : behind ≡ Refers k ∷ left
+
+  pub record FitsOpIs (site : Site) (k line p q : ℕ) (before behind : List Kind) : Type 0 where
+    pub left : List Kind
+    pub fits : FitsIs s code site (length left) k line p q
+    pub «in» : before ≡ anys 1 left
+    pub out : behind ≡ anys 1 left
+
+  pub record FetchOpIs (site : Site) (p q : ℕ) (before behind : List Kind) : Type 0 where
+    pub kind : Kind
+    pub left : List Kind
+    pub fetches : FetchesAt s code site (length left) kind p q
+    pub «in» : before ≡ kind ∷ left
+    pub out : behind ≡ Any ∷ left
+
+  -- a value changes places with where a variable lies
+  pub record SwapIs (p q : ℕ) (before behind : List Kind) : Type 0 where
+    pub is : Is code i.Swap p q
+    pub first : Kind
+    pub left : List Kind
+    pub «in» : before ≡ first ∷ Any ∷ left
+    pub out : behind ≡ Any ∷ first ∷ left
+
+  pub record ReferIs (line p q : ℕ) (before behind : List Kind) : Type 0 where
+    pub is : At code i.Put line p q
+    pub class : ℕ
+    pub is_class : Classed s class
+    pub left : List Kind
+    pub «in» : before ≡ Any ∷ Refers class ∷ left
+    pub out : behind ≡ left
 
   pub record StandardOpIs (site : Site) (name : Standard) (line p q : ℕ) (before behind : List Kind) : Type 0 where
     pub left : List Kind
@@ -332,7 +155,7 @@ module _ (s : Source) (code : CodeOf) where
 
   pub record JoinOpIs (site : Site) (line p q : ℕ) (before behind : List Kind) : Type 0 where
     pub left : List Kind
-    pub joins : JoinsIs site (length left) line p q
+    pub joins : JoinsIs s code site (length left) line p q
     pub «in» : before ≡ anys 2 left
     pub out : behind ≡ anys 1 left
 
@@ -352,20 +175,46 @@ module _ (s : Source) (code : CodeOf) where
   -- the value on top goes to a cell
   pub record CellStoreIs (m : Instances) (inst j : ℕ) (key : Key) (p q : ℕ) : Type 0 where
     pub text : ℕ
-    pub is : Is code (i.Store (pos (level_of s text)) (pos (slot_of s text key))) p q
+    pub is : Is code (i.Store (pos (level_of s text)) (pos (slot_of s code text key))) p q
     pub reaches : Reaches s m inst text j
+    pub own : frame_text s text ≡ text
     pub has : HasCell s text key
+    pub varies : is_fixed s key ≡ false
+    pub declared : is_declared key ≡ true
+
+  -- a value on top of where it goes
+  pub record PutsOn (before behind : List Kind) : Type 0 where
+    pub place : Kind
+    pub reads : IsRead place
+    pub «in» : before ≡ Any ∷ place ∷ behind
 
   abbrev pub TargetAt : Instances → (inst : ℕ) → Target → (p q : ℕ) → (before behind : List Kind) → Type 0
   TargetAt m inst (ToCell j key) p q before behind = CellStoreIs m inst j key p q × (before ≡ anys 1 behind)
-  TargetAt m inst ToAddress p q before behind = Is code i.Put p q × (before ≡ anys 2 behind)
+  TargetAt m inst ToAddress p q before behind = Is code i.Put p q × PutsOn before behind
   TargetAt m inst (ToText line) p q before behind = At code i.AssignT line p q × (before ≡ anys 2 behind)
   TargetAt m inst (ToTextOf j key line) p q before behind = At code i.AssignT line p q × (before ≡ anys 2 behind)
+  TargetAt m inst (ToReference line) p q before behind = ReferIs line p q before behind
   TargetAt m inst _ p q before behind = ⊥
 
-  -- a temp of the frame: it stands behind the cells of the text
+  -- the value in hand goes to a place that is found then
+  pub record PlaceStoreIs (m : Instances) (inst : ℕ) (site : Site) (a : Term) (kind : Kind) (Put : ℕ → ℕ → Type 0) (p q : ℕ) (before behind : List Kind) : Type 0 where
+    pub x : ℕ
+    pub y : ℕ
+    pub place : TermAt s code m inst site (suc (length behind)) a p x
+    pub is_place : (ks : List Kind) → LeavesIs s a ks (kind ∷ ks)
+    pub under : Is code i.Swap x y
+    pub put : Put y q
+    pub «in» : before ≡ Any ∷ behind
+
+  abbrev pub StoreIs : Instances → (inst : ℕ) → Site → Target → (p q : ℕ) → (before behind : List Kind) → Type 0
+  StoreIs m inst site (ToPlace a) p q before behind = (kind : Kind) × IsRead kind × PlaceStoreIs m inst site a kind (λ x y. Is code i.Put x y) p q before behind
+  StoreIs m inst site (ToTextAt a line) p q before behind = At code i.AssignT line p q × (before ≡ anys 2 behind)
+  StoreIs m inst site (ToReferenceAt a line) p q before behind = (k : ℕ) × Classed s k × PlaceStoreIs m inst site a (Refers k) (λ x y. At code i.Put line x y) p q before behind
+  StoreIs m inst site t p q before behind = TargetAt m inst t p q before behind
+
+  -- a temp of the frame: it stands behind the own part of the text
   pub record TempIs (site : Site) (temp : ℕ) : Type 0 where
-    pub behind : length (cells_in s site.text (text s site.text)) ≤ temp
+    pub behind : length (own_part s (frame_text s site.text)) ≤ temp
     pub within : temp < site.size
 
   -- what is in a temp goes to one left side after another
@@ -417,7 +266,7 @@ module _ (s : Source) (code : CodeOf) where
     turning : TurningIs site n a p q → TurnOf site n a p q
 
   -- from p the number in a temp leads back to q
-  pub record ReturningIs (fs : Frames) (inst t : ℕ) (b : BlockOf) (used n p q : ℕ) : Type 0 where
+  pub record ReturningIs (fs : Frames) (inst t : ℕ) (b : Runs) (used n p q : ℕ) : Type 0 where
     pub temp : ℕ
     pub number : ℕ
     pub first : ℕ
@@ -430,7 +279,7 @@ module _ (s : Source) (code : CodeOf) where
     pub back : ReturnsAt s code (site_at t b was) n temp 0 returns p first
 
   -- from p control comes to q by what shows nothing
-  pub data ComesTo (fs : Frames) (inst t : ℕ) (b : BlockOf) (used n q : ℕ) : (p : ℕ) → Type 0 where
+  pub data ComesTo (fs : Frames) (inst t : ℕ) (b : Runs) (used n q : ℕ) : (p : ℕ) → Type 0 where
     there : {p : ℕ} → q ≡ p → ComesTo fs inst t b used n q p
     over : {p p' x : ℕ} → Is code (i.Jump (pos p')) p x → Ahead code p p' → ComesTo fs inst t b used n q p' → ComesTo fs inst t b used n q p
     returning : {p p' : ℕ} → ReturningIs fs inst t b used n p p' → ComesTo fs inst t b used n q p' → ComesTo fs inst t b used n q p
@@ -464,52 +313,107 @@ module _ (s : Source) (code : CodeOf) where
     pub tick : Is code i.Tick t u
     pub next : Next t
 
-  -- the variable of a `for` list
-  pub record VariableIs (m : Instances) (inst : ℕ) (t : Target) : Type 0 where
-    pub text : ℕ
-    pub key : Key
-    pub assigned : Option ℕ
+  -- the variable of a `for` list: a cell, or what is found anew each time, which a closed tree tells
+  pub record CellVariableIs (m : Instances) (inst text : ℕ) (key : Key) (assigned : Option ℕ) (t : Target) : Type 0 where
     pub instance : ℕ
     pub is : t ≡ variable_target assigned instance key
     pub reaches : Reaches s m inst text instance
+    pub own : frame_text s text ≡ text
     pub has : HasCell s text key
+    pub varies : is_fixed s key ≡ false
+    pub declared : is_declared key ≡ true
 
-  abbrev pub variable : {m : Instances} {inst : ℕ} {t : Target} → VariableIs m inst t → Variable
-  variable v = record { text = v.text; key = v.key; assigned = v.assigned }
+  pub record PlaceVariableIs (m : Instances) (inst : ℕ) (site : Site) (e : Expression) (assigned : Option ℕ) (t : Target) : Type 0 where
+    pub place : Term
+    pub is : t ≡ place_target assigned place
+    pub anew : (u n p q : ℕ) → PlaceAt s code (record site { used = u }) n 0 e p q → TermAt s code m inst (record site { used = u }) n place p q × (reads s place ≡ true)
+
+  -- a reference, with the class against which it is held
+  pub record FoundWithClass (m : Instances) (inst : ℕ) (site : Site) (n : ℕ) (a : Term) (p q : ℕ) : Type 0 where
+    pub class : ℕ
+    pub is_class : Classed s class
+    pub term : TermAt s code m inst site n a p q
+    pub leaves : (ks : List Kind) → LeavesIs s a ks (Refers class ∷ ks)
+
+  pub record ReferenceVariableIs (m : Instances) (inst : ℕ) (site : Site) (e : Expression) (line : ℕ) (t : Target) : Type 0 where
+    pub place : Term
+    pub is : t ≡ ToReferenceAt place line
+    pub anew : (u n p q : ℕ) → ReferencePlaceAt s code (record site { used = u }) n e p q → FoundWithClass m inst (record site { used = u }) n place p q
+
+  abbrev pub VariableIs : Instances → (inst : ℕ) → Site → Variable → Target → Type 0
+  VariableIs m inst site (OfCell text key assigned) t = CellVariableIs m inst text key assigned t
+  VariableIs m inst site (OfPlace e assigned) t = PlaceVariableIs m inst site e assigned t
+  VariableIs m inst site (OfReference e line) t = ReferenceVariableIs m inst site e line t
 
   pub record ElementsIs (m : Instances) (inst : ℕ) (site : Site) (t : Target) (es : List Element) (a : Statement) (p q : ℕ) (before behind : List Kind) : Type 0 where
-    pub v : VariableIs m inst t
+    pub variable : Variable
+    pub v : VariableIs m inst site variable t
     pub number : ℕ
-    pub elements : ElementsAt s code site (length before) (variable v) number es (λ k. TurnOf site (length before) a) p q
+    pub elements : ElementsAt s code site (length before) variable number es (λ k. TurnOf site (length before) a) p q
     pub out : behind ≡ before
 
   pub record WhileElementIs (m : Instances) (inst : ℕ) (site : Site) (t : Target) (e c : Expression) (a : Statement) (p q : ℕ) (before behind : List Kind) : Type 0 where
-    pub v : VariableIs m inst t
-    pub element : WhileElementAt s code site (length before) (variable v) e c (TurnOf site (length before) a) p q
+    pub variable : Variable
+    pub v : VariableIs m inst site variable t
+    pub element : WhileElementAt s code site (length before) variable e c (TurnOf site (length before) a) p q
     pub out : behind ≡ before
 
   -- a step element, at one of its places
   pub record StepIs (m : Instances) (inst : ℕ) (site : Site) (t : Target) (line : ℕ) (step limit : Expression) (a : Statement) (q : ℕ) (behind : List Kind) : Type 0 where
-    pub v : VariableIs m inst t
+    pub variable : Variable
+    pub v : VariableIs m inst site variable t
     pub start : Expression
     pub at : ℕ
-    pub element : StepAt s code site (length behind) (variable v) start line step limit (TurnOf site (length behind) a) at q
+    pub element : StepAt s code site (length behind) variable start line step limit (TurnOf site (length behind) a) at q
+
+  -- ---- connections
+
+  -- the object in hand is connected, or `otherwise` is taken; or the arms are tried
+  pub record ConnectIs (site : Site) (opening : ℕ) (a : Statement) (other : Statements) (p q : ℕ) (before behind : List Kind) : Type 0 where
+    pub left : List Kind
+    pub b : ℕ
+    pub c : ℕ
+    pub d : ℕ
+    pub e : ℕ
+    pub f : ℕ
+    pub g : ℕ
+    pub y : ℕ
+    pub z : ℕ
+    pub again : Pushes code site (suc (length left)) i.Dup p b
+    pub none : Pushes code site (suc (suc (length left))) i.None b c
+    pub same : Is code i.Same c d
+    pub other_than : Is code i.Not d e
+    pub jump : Is code (i.JumpF (pos y)) e f
+    pub leads : Ahead code e y
+    pub connected : ConnectsAt s code site opening (block_around s opening) (λ site. StmAt s code site (length left) a) f g
+    pub over : Is code (i.Jump (pos q)) g y
+    pub past : Ahead code g q
+    pub dropped : Is code i.Pop y z
+    pub otherwise : StmsAt s code site (length left) other z q
+    pub «in» : before ≡ anys 1 left
+    pub out : behind ≡ left
+
+  pub record WhenIs (site : Site) (arms : Arms) (other : Statements) (p q : ℕ) (before behind : List Kind) : Type 0 where
+    pub left : List Kind
+    pub tried : ArmsAt s code site (length left) arms (StmsAt s code site (length left) other) p q
+    pub «in» : before ≡ anys 1 left
+    pub out : behind ≡ left
 
   -- An operator stands at p and goes on at q. It is run in an instance, which has a frame, at a site.
   abbrev pub OpAt : Instances → Frames → (inst : ℕ) → Site → Op → (p q : ℕ) → (before behind : List Kind) → Type 0
-  OpAt m fs inst site (Eval t) p q before behind = TermAt m inst site (length before) t p q × (behind ≡ leaving s t before)
+  OpAt m fs inst site (Eval t) p q before behind = TermAt s code m inst site (length before) t p q × LeavesIs s t before behind
   OpAt m fs inst site (OneOp op line) p q before behind = Works (one_instr op) line 1 true p q before behind
   OpAt m fs inst site (TwoOp op line) p q before behind = Works (two_instr op) line 2 true p q before behind
   OpAt m fs inst site (IfOp a b) p q before behind = IfIs m inst site a b p q before behind
   OpAt m fs inst site (ElementOp n line) p q before behind = Works (i.Elem (pos n) (pos 0)) line (suc n) true p q before behind
-  OpAt m fs inst site FetchOp p q before behind = WorksAnyLine i.Fetch 1 true p q before behind
+  OpAt m fs inst site FetchOp p q before behind = FetchOpIs site p q before behind
   OpAt m fs inst site (CopyOp line) p q before behind = Works i.CopyArr line 1 true p q before behind
   OpAt m fs inst site (CallOp k n line) p q before behind = CallOpIs site k n line p q before behind
   OpAt m fs inst site (StandardOp name line) p q before behind = StandardOpIs site name line p q before behind
   OpAt m fs inst site (JoinOp line) p q before behind = JoinOpIs site line p q before behind
   OpAt m fs inst site DropOp p q before behind = WorksAnyLine i.Pop 1 false p q before behind
   OpAt m fs inst site AgainOp p q before behind = AgainIs site p q before behind
-  OpAt m fs inst site (StoreOp t) p q before behind = TargetAt m inst t p q before behind
+  OpAt m fs inst site (StoreOp t) p q before behind = StoreIs m inst site t p q before behind
   OpAt m fs inst site (ShareOp ts) p q before behind = ShareIs m inst site ts p q before behind
   OpAt m fs inst site (GiveOp v ts) p q before behind = GiveIs m fs inst site v ts p q before behind
   OpAt m fs inst site (ArrayOp kind n line) p q before behind = ArrayIs site kind n line p q before behind
@@ -528,7 +432,76 @@ module _ (s : Source) (code : CodeOf) where
   OpAt m fs inst site (StepTestOp t line step limit a) p q before behind = (x : StepIs m inst site t line step limit a q behind) × (x.element.t ≡ p) × (before ≡ anys 1 behind)
   OpAt m fs inst site (StepOp line) p q before behind = WorksAnyLine i.StepTest 3 true p q before behind
   OpAt m fs inst site (RaiseOp t line step limit a) p q before behind = (x : StepIs m inst site t line step limit a q behind) × (x.element.h ≡ p) × (before ≡ behind)
-  OpAt m fs inst site _ p q before behind = ⊥
+  OpAt m fs inst site (NewOp k n line) p q before behind = NewOpIs site k n line p q before behind
+  OpAt m fs inst site (AttributeOp k key class line) p q before behind = AttributeOpIs k key class line p q before behind
+  OpAt m fs inst site (ObjectOp k line) p q before behind = ObjectOpIs k line p q before behind
+  OpAt m fs inst site (QualifiedElementOp n line k) p q before behind = QualifiedElementOpIs n line k p q before behind
+  OpAt m fs inst site (MemberOp member k) p q before behind = Classed s k × WorksAnyLine (member_instr member (class_number s code k)) 1 true p q before behind
+  OpAt m fs inst site (QuaOp k line) p q before behind = Classed s k × Works (i.Qua (pos (class_number s code k))) line 1 true p q before behind
+  OpAt m fs inst site (FitsOp k line) p q before behind = FitsOpIs site k line p q before behind
+  OpAt m fs inst site KeepOp p q before behind = WorksAnyLine i.Keep 1 true p q before behind
+  OpAt m fs inst site SwapOp p q before behind = SwapIs p q before behind
+  OpAt m fs inst site (ReferOp line) p q before behind = ReferIs line p q before behind
+  OpAt m fs inst site (DeclareOp ds) p q before behind = ArraysAt s code site ds p q × (before ≡ []) × (behind ≡ [])
+  OpAt m fs inst site (ConnectOp k a other) p q before behind = ConnectIs site k a other p q before behind
+  OpAt m fs inst site (WhenOp arms other) p q before behind = WhenIs site arms other p q before behind
+  OpAt m fs inst site (LevelOp k) p q before behind = ⊥
+  OpAt m fs inst site (InnerOp xs) p q before behind = ⊥
+  OpAt m fs inst site (PrefixedOp k n line) p q before behind = ⊥
+
+  -- ---- stages
+
+  -- the class of a block without a prefix
+  pub record ClassHere (b : BlockOf) (class : ClassOf) : Type 0 where
+    pub of_objects : b.kind ≡ block_kind.Object
+    pub numbered : class_numbered code b.class ≡ Some class
+    pub first : class.prefix ≡ 0
+
+  -- all declarations are made, and the statements begin
+  pub record DeclaredIs (b : BlockOf) (p q : ℕ) : Type 0 where
+    pub behind : ℕ
+    pub is : Is code (i.NextDecl (pos 0)) p behind
+    pub class : ClassOf
+    pub has : ClassHere b class
+    pub leads : class.statements ≡ q
+    pub there : q < length code.instrs
+
+  -- there is no level inside
+  pub record InnerIs (b : BlockOf) (p q : ℕ) : Type 0 where
+    pub is : Is code (i.Inner (pos 0)) p q
+    pub class : ClassOf
+    pub has : ClassHere b class
+
+  -- `inner` itself, in the level of a text
+  pub record InnerHere (site : Site) (b : BlockOf) (token p q : ℕ) : Type 0 where
+    pub x : ℕ
+    pub tick : Is code i.Tick p x
+    pub inner : InnerIs b x q
+    pub its_own : block_around s token ≡ Some site.text
+    pub level : is_connected s.tables site.text ≡ false
+
+  -- statements one of which is `inner`
+  pub record WithInnerIs (site : Site) (b : BlockOf) (ss : Statements) (p q : ℕ) : Type 0 where
+    pub after : ℕ
+    pub is : WithInnerAt s code site 0 after ss p q
+    pub class : ClassOf
+    pub has : ClassHere b class
+    pub level : is_connected s.tables site.text ≡ false
+
+  -- from one stage to the next, with nothing in hand
+  pub record NextStage (b c : Runs) (old new : Stage) (before behind : List Kind) : Type 0 where
+    pub was : b.stage ≡ old
+    pub is : c ≡ at_stage b.block new
+    pub none : before ≡ []
+    pub none_behind : behind ≡ []
+
+  -- An operator leaves the stage as it is, or it is one of those that go to the next one.
+  pub data InStage (Stays : Op → (p q : ℕ) → (before behind : List Kind) → Type 0) (site : Site) (op : Op) (b c : Runs) (p q : ℕ) (before behind : List Kind) : Type 0 where
+    stays : Stays op p q before behind → c ≡ b → InStage Stays site op b c p q before behind
+    declares : (k : ℕ) → op ≡ LevelOp k → NextStage b c (stage.Declaring 0) (stage.Stating 0) before behind → DeclaredIs b.block p q → InStage Stays site op b c p q before behind
+    inner_last : op ≡ InnerOp [] → NextStage b c (stage.Stating 0) (stage.Behind 0) before behind → InnerIs b.block p q → InStage Stays site op b c p q before behind
+    inner_here : (token : ℕ) → op ≡ Exec (syntax.Inner token) → NextStage b c (stage.Stating 0) (stage.Behind 0) before behind → InnerHere site b.block token p q → InStage Stays site op b c p q before behind
+    with_inner : (ss : Statements) → op ≡ Execs ss → NextStage b c (stage.Stating 0) (stage.Behind 0) before behind → WithInnerIs site b.block ss p q → InStage Stays site op b c p q before behind
 
   -- ---- pending work
 
@@ -536,7 +509,7 @@ module _ (s : Source) (code : CodeOf) where
   pub record EndIs (x : Instr) (kind : BlockKind) (result : CodeType) (t : ℕ) (b : BlockOf) (p : ℕ) (before : List Kind) (Below : Type 0) : Type 0 where
     pub last : ℕ
     pub at : Is code x p last
-    pub heads : RecordOf s t kind result b
+    pub heads : RecordOf s code t kind result b
     pub none : before ≡ []
     pub below : Below
 
@@ -555,11 +528,12 @@ module _ (s : Source) (code : CodeOf) where
     pub ends : Ends result
 
   -- the end of a text
-  abbrev pub EndAt : (Below : Bool → Type 0) → (t : ℕ) → BlockOf → Item → (p : ℕ) → (before : List Kind) → Type 0
+  abbrev pub EndAt : (Below : Bool → Type 0) → (t : ℕ) → Runs → Item → (p : ℕ) → (before : List Kind) → Type 0
   EndAt Below t b (Do op) p before = ⊥
-  EndAt Below t b EndBlock p before = BlockEnds t × EndIs i.Leave block_kind.SubBlock type.Nothing t b p before (Below false)
-  EndAt Below t b (EndProcedure leaves) p before = ProcedureEnds t leaves (λ result. EndIs i.Return block_kind.Procedure (type_of_name result) t b p before (Below leaves))
-  EndAt Below t b EndProgram p before = (t ≡ 0) × EndIs (i.EndLevel (pos 0)) block_kind.SubBlock type.Nothing t b p before (Below false)
+  EndAt Below t b EndBlock p before = BlockEnds t × EndIs i.Leave block_kind.SubBlock type.Nothing t b.block p before (Below false)
+  EndAt Below t b (EndProcedure leaves) p before = ProcedureEnds t leaves (λ result. EndIs i.Return block_kind.Procedure (type_of_name result) t b.block p before (Below leaves))
+  EndAt Below t b EndProgram p before = (t ≡ 0) × EndIs (i.EndLevel (pos 0)) block_kind.SubBlock type.Nothing t b.block p before (Below false)
+  EndAt Below t b EndObject p before = (block_number s t ≢ 0) × (b.stage ≡ stage.Behind 0) × EndIs (i.EndLevel (pos 0)) block_kind.Object type.Nothing t b.block p before (Below false)
   EndAt Below t b _ p before = ⊥
 
   -- an operator in its own place
@@ -567,42 +541,46 @@ module _ (s : Source) (code : CodeOf) where
   BeginsAt m fs inst site (Exec a) p q before behind = StmAt s code site (length before) a p q × (behind ≡ before)
   BeginsAt m fs inst site op p q before behind = OpAt m fs inst site op p q before behind
 
-  -- The pending work of an instance of the text t, whose block is b, from the place p on, where cells and temps up to `used` are in use.
-  -- An operator may use more of them than those behind it, and no fewer than the text has cells. `Below` tells of what is below on the
-  -- chain, and whether that waits for a value.
-  abbrev pub WorkAt : Instances → Frames → (Below : Bool → Type 0) → (inst t : ℕ) → BlockOf → (used : ℕ) → List Item → (p : ℕ) → (before : List Kind) → Type 0
+  -- The pending work of an instance at the text t, whose block is b, from the place p on, where cells and temps up to `used` are in use. An
+  -- operator may use more of them than those behind it, and no fewer than the text has cells; it may stand in another text whose frames are
+  -- these, as in a connection. `Below` tells of what is below on the chain, and whether that waits for a value.
+  abbrev pub WorkAt : Instances → Frames → (Below : Bool → Type 0) → (inst t : ℕ) → Runs → (used : ℕ) → List Item → (p : ℕ) → (before : List Kind) → Type 0
   WorkAt m fs Below inst t b used [] p before = ⊥
   WorkAt m fs Below inst t b used (Do op ∷ w) p before =
-      (at : ℕ) × (u : ℕ) × (q : ℕ) × (behind : List Kind) × ComesTo fs inst t b used (length before) at p × (u ≤ used) × (length (cells_in s t (text s t)) ≤ u) × OpAt m fs inst (site_at t b u) op at q before behind × WorkAt m fs Below inst t b u w q behind
-  WorkAt m fs Below inst t b used (EndBlock ∷ w) p before = (at : ℕ) × ComesTo fs inst t b used (length before) at p × EndAt Below t b EndBlock at before
-  WorkAt m fs Below inst t b used (EndProcedure leaves ∷ w) p before = (at : ℕ) × ComesTo fs inst t b used (length before) at p × EndAt Below t b (EndProcedure leaves) at before
-  WorkAt m fs Below inst t b used (EndProgram ∷ w) p before = (at : ℕ) × ComesTo fs inst t b used (length before) at p × EndAt Below t b EndProgram at before
+      (at : ℕ) × (u : ℕ) × (q : ℕ) × (behind : List Kind) × (v : ℕ) × (c : Runs) × SameFrame s v t × ComesTo fs inst t b used (length before) at p × (u ≤ used) × (length (own_part s (frame_text s t)) ≤ u)
+      × InStage (OpAt m fs inst (site_at v b u)) (site_at v b u) op b c at q before behind × WorkAt m fs Below inst v c u w q behind
+  WorkAt m fs Below inst t b used (EndBlock ∷ w) p before = (at : ℕ) × ComesTo fs inst t b used (length before) at p × EndAt Below (frame_text s t) b EndBlock at before
+  WorkAt m fs Below inst t b used (EndProcedure leaves ∷ w) p before = (at : ℕ) × ComesTo fs inst t b used (length before) at p × EndAt Below (frame_text s t) b (EndProcedure leaves) at before
+  WorkAt m fs Below inst t b used (EndProgram ∷ w) p before = (at : ℕ) × ComesTo fs inst t b used (length before) at p × EndAt Below (frame_text s t) b EndProgram at before
+  WorkAt m fs Below inst t b used (EndObject ∷ w) p before = (at : ℕ) × ComesTo fs inst t b used (length before) at p × EndAt Below (frame_text s t) b EndObject at before
   WorkAt m fs Below inst t b used (_ ∷ w) p before = ⊥
 
   -- The same where control has come to the first part, which a statement begins in its own place.
-  abbrev pub NowAt : Instances → Frames → (Below : Bool → Type 0) → (inst t : ℕ) → BlockOf → (used : ℕ) → List Item → (p : ℕ) → (before : List Kind) → Type 0
+  abbrev pub NowAt : Instances → Frames → (Below : Bool → Type 0) → (inst t : ℕ) → Runs → (used : ℕ) → List Item → (p : ℕ) → (before : List Kind) → Type 0
   NowAt m fs Below inst t b used [] p before = ⊥
   NowAt m fs Below inst t b used (Do op ∷ w) p before =
-      (u : ℕ) × (q : ℕ) × (behind : List Kind) × (u ≤ used) × (length (cells_in s t (text s t)) ≤ u) × BeginsAt m fs inst (site_at t b u) op p q before behind × WorkAt m fs Below inst t b u w q behind
-  NowAt m fs Below inst t b used (EndBlock ∷ w) p before = EndAt Below t b EndBlock p before
-  NowAt m fs Below inst t b used (EndProcedure leaves ∷ w) p before = EndAt Below t b (EndProcedure leaves) p before
-  NowAt m fs Below inst t b used (EndProgram ∷ w) p before = EndAt Below t b EndProgram p before
+      (u : ℕ) × (q : ℕ) × (behind : List Kind) × (v : ℕ) × (c : Runs) × SameFrame s v t × (u ≤ used) × (length (own_part s (frame_text s t)) ≤ u) × InStage (BeginsAt m fs inst (site_at v b u)) (site_at v b u) op b c p q before behind × WorkAt m fs Below inst v c u w q behind
+  NowAt m fs Below inst t b used (EndBlock ∷ w) p before = EndAt Below (frame_text s t) b EndBlock p before
+  NowAt m fs Below inst t b used (EndProcedure leaves ∷ w) p before = EndAt Below (frame_text s t) b (EndProcedure leaves) p before
+  NowAt m fs Below inst t b used (EndProgram ∷ w) p before = EndAt Below (frame_text s t) b EndProgram p before
+  NowAt m fs Below inst t b used (EndObject ∷ w) p before = EndAt Below (frame_text s t) b EndObject p before
   NowAt m fs Below inst t b used (_ ∷ w) p before = ⊥
 
   -- ---- chains
 
   -- An instance on a chain, and the activation that stands for it; `waits` tells whether it gets a value before it goes on.
-  pub record TopIs (m : Instances) (fs : Frames) (a : Activation) (waits : Bool) (x : machine.Activation) (Work : (t : ℕ) → BlockOf → (used p : ℕ) → List Kind → Type 0) : Type 0 where
+  pub record TopIs (m : Instances) (fs : Frames) (a : Activation) (waits : Bool) (x : machine.Activation) (Work : (t : ℕ) → Runs → (used p : ℕ) → List Kind → Type 0) : Type 0 where
     pub base : x.thunk ≡ false
     pub home : x.home ≡ a.instance
     pub text : ℕ
-    pub block : BlockOf
-    pub found : slice_get code.blocks (block_number s text) ≡ Some block
+    pub block : Runs
+    pub found : slice_get code.blocks (block_number s (frame_text s text)) ≡ Some block.block
     pub stands : Stands s m a.instance text
-    pub room : x.room ≡ block.room
+    pub room : x.room ≡ block.block.room
+    pub stage : x.stage ≡ block.stage
     pub kinds : List Kind
-    pub values : StackAt (HandAt s m) kinds a.values x.stack
-    pub fits : waits ≡ true → length kinds < block.room
+    pub values : StackAt (HandAt s code m) kinds a.values x.stack
+    pub fits : waits ≡ true → length kinds < block.block.room
     pub used : ℕ
     pub goes : Work text block used x.pc (given waits kinds)
 
@@ -631,13 +609,19 @@ module _ (s : Source) (code : CodeOf) where
     pub passing : y.passing ≡ x.passing
     pub kept : y.kept ≡ x.kept
     pub given_back : y.given_back ≡ x.given_back
-    pub cells : CellsAt ValAt (map value_of x.cells) y.cells
-    pub keys : map key_of x.cells ≡ map key_of (cells_in s x.text (text s x.text))
+    pub own : frame_text s x.text ≡ x.text
+    pub start : start_of s code x.text ≡ 0
+    pub alone : block_in_front s code x.text ≡ None
+    -- each cell, by its key; those that are declared are there
+    pub cells : (key : Key) → HasCell s x.text key → SlotAt s (is_fixed s key) key (held key x.cells) (joined (slice_get y.cells (slot_of s code x.text key)))
+    pub there : (key : Key) → HasCell s x.text key → is_declared key ≡ true → place_of key x.cells < length x.cells
+    pub fits : length (own_part s x.text) ≤ length y.cells
     pub size : (b : BlockOf) → slice_get code.blocks (block_number s x.text) ≡ Some b → length y.cells ≡ length b.types
 
   pub record StoreAt (m : Instances) (fs : Frames) : Type 0 where
     pub as_many : length m.instances ≡ length fs.instances
     pub at : (j : ℕ) → Both InstanceAt (slice_get m.instances j) (slice_get fs.instances j)
+    pub all : (j : ℕ) (x : Instance (List Held)) → slice_get m.instances j ≡ Some x → Stands s m j x.text
 
   -- How an instance and its frame stand as components: alike, and the chains that they keep stand for each other.
   abbrev pub StandingAt : Instances → Frames → Standing Activation → Standing machine.Activation → Type 0

@@ -11,22 +11,23 @@ use Rattle.sim_values.specs.Operators.{compare, holds, two_of}
 use Rattle.sim_values.specs.Plain.{Integer, Truth}
 use Rattle.sim_code.specs.declared.instr.Instr.{Instr}
 use Rattle.sim_code.specs.declared.instr.Instr.TheVariants as i
-use Rattle.sim_code.specs.Code.{BlockOf, CodeOf}
+use Rattle.sim_code.specs.Code.{CodeOf}
 use Rattle.sim_code.specs.Outcome.{Going, Run, World}
 use Rattle.sim_code.specs.Events.{answering, applying_two, choosing, computing, having, no_rule, pop_plain, pop_truth, popping, when}
 use Rattle.sim_code.specs.Instances.{at_level}
 use Rattle.sim_code.specs.Machine.{Frames, Machine, Value, at, index, is_there, is_tick, jumping, level, on, pushing}
 use Rattle.sim_code.specs.Machine as machine
 use Rattle.sim_code.specs.Rows.{mstep, pushed, row}
-use Rattle.sim_meaning.specs.Pending.{Activation, Configuration, Do, EndBlock, EndProcedure, EndProgram, Exec, Instances, Item, Op}
+use Rattle.sim_meaning.specs.Pending.{Activation, Configuration, Do, EndBlock, EndObject, EndProcedure, EndProgram, Exec, Instances, Item, Op}
 use Rattle.sim_meaning.specs.Pending as meaning
-use Rattle.sim_meaning.specs.Texts.{text}
-use Rattle.sim_meaning.specs.Sane.{Sane, SaneOn}
-use Rattle.codegen_expr.specs.Sites.{Ahead, At, Is, cells_in}
+use Rattle.sim_meaning.specs.Sane.{NamesOn, Sane, SaneOn}
+use Rattle.codegen_expr.specs.Sites.{Ahead, At, Is, own_part, frame_text}
 use Rattle.codegen.specs.CodeFor.{ReturnsAt}
-use Rattle.sim_relate.proofs.Relation.{ChainAt, ComesTo, Kind, NowAt, OpAt, ReturningIs, StandingsAt, StateAt, StateNow, StoreAt, TurningIs, WorkAt, over, placed, returning, site_at, straight, there, turning}
+use Rattle.sim_relate.proofs.Known.{Kind, placed, site_at, Runs}
+use Rattle.sim_relate.proofs.Relation.{ChainAt, ComesTo, NowAt, OpAt, ReturningIs, StandingsAt, StateAt, StateNow, StoreAt, TurningIs, WorkAt, over, returning, straight, there, turning, BeginsAt, InStage, declares, inner_here, inner_last, stays, with_inner}
 use Rattle.sim_relate.proofs.Hands.{stack_length}
-use Rattle.sim_relate.proofs.Here.{Here, There, act, there_of}
+use Rattle.sim_relate.proofs.Here.{Here, There, act, there_of, here_at}
+use Rattle.sim_relate.proofs.Frames.{same_frame}
 use Rattle.sim_relate.proofs.Living.{own_level}
 use Rattle.sim_relate.proofs.Moved.{moved, work_more, work_moved}
 use Rattle.sim_relate.proofs.Operators.{chosen, is_instr}
@@ -41,8 +42,8 @@ pub data Slows (code : CodeOf) (l : Limits) : ℕ → Machine → Machine → Ty
 abbrev pub SlowTo : CodeOf → Limits → Machine → Machine → Type 0
 SlowTo code l x y = (n : ℕ) × Slows code l n x y
 
-abbrev pub machine_at : Frames → (inst pc : ℕ) → List Value → (room : ℕ) → List machine.Activation → Machine
-machine_at fs inst pc stack room below = record { chain = act inst pc stack room ∷ below; memory = fs }
+abbrev pub machine_at : Frames → (inst pc : ℕ) → List Value → (run : Runs) → List machine.Activation → Machine
+machine_at fs inst pc stack run below = record { chain = act inst pc stack run ∷ below; memory = fs }
 
 abbrev numbers_equal : ℕ → ℕ → Bool
 numbers_equal a b = holds comparison.Equal (int_cmp (pos a) (pos b))
@@ -58,11 +59,11 @@ module _ (code : CodeOf) (l : Limits) where
   pub slow_then : {x y z : Machine} → SlowTo code l x y → SlowTo code l y z → SlowTo code l x z
   slow_then {x} {y} {z} a r = slow_append a.0 x y z a.1 r
 
-  module _ (o : World) (fs : Frames) (inst p : ℕ) (stack : List Value) (room : ℕ) (below : List machine.Activation) where
+  module _ (o : World) (fs : Frames) (inst p : ℕ) (stack : List Value) (run : Runs) (below : List machine.Activation) where
     abbrev a_top : machine.Activation
-    a_top = act inst p stack room
+    a_top = act inst p stack run
 
-    by_row : (x : Instr) (line q : ℕ) → At code x line p q → mstep code l o (machine_at fs inst p stack room below) ≡ row code l o fs a_top below line x
+    by_row : (x : Instr) (line q : ℕ) → At code x line p q → mstep code l o (machine_at fs inst p stack run below) ≡ row code l o fs a_top below line x
     unfolding having
     by_row x line q a = ap (λ z. having z o (λ y. row code l o fs a_top below y.line.0 y.instr)) a.at
 
@@ -79,65 +80,65 @@ module _ (code : CodeOf) (l : Limits) where
         let tick : is_tick (slice_get code.instrs t) ≡ true = ap is_tick a.is.at in
         chosen (λ z. z ≡ go t) (if nat_lt p t then is_there (slice_get code.instrs t) else is_tick (slice_get code.instrs t)) (go t) (no_rule o) (ap (λ z. if z then is_there (slice_get code.instrs t) else is_tick (slice_get code.instrs t)) e ∙ tick) refl
 
-    pub over_step : (q x : ℕ) → Is code (i.Jump (pos q)) p x → Ahead code p q → mstep code l o (machine_at fs inst p stack room below) ≡ Going o (machine_at fs inst q stack room below)
+    pub over_step : (q x : ℕ) → Is code (i.Jump (pos q)) p x → Ahead code p q → mstep code l o (machine_at fs inst p stack run below) ≡ Going o (machine_at fs inst q stack run below)
     over_step q x a ahead = by_row (i.Jump (pos q)) a.line x a.is ∙ jumping_ahead q (λ q. at o fs a_top q stack below) ahead
 
-    pub back_step : (t x u : ℕ) → Is code (i.Jump (pos t)) p x → t ≤ p → Is code i.Tick t u → mstep code l o (machine_at fs inst p stack room below) ≡ Going o (machine_at fs inst t stack room below)
+    pub back_step : (t x u : ℕ) → Is code (i.Jump (pos t)) p x → t ≤ p → Is code i.Tick t u → mstep code l o (machine_at fs inst p stack run below) ≡ Going o (machine_at fs inst t stack run below)
     back_step t x u a le tick = by_row (i.Jump (pos t)) a.line x a.is ∙ jumping_back t u (λ q. at o fs a_top q stack below) le tick
 
-    pushing_is : (v : Value) (go : List Value → Run Machine) → length stack < room → pushing room stack v o go ≡ go (v ∷ stack)
+    pushing_is : (v : Value) (go : List Value → Run Machine) → length stack < run.block.room → pushing run.block.room stack v o go ≡ go (v ∷ stack)
     unfolding pushing when
-    pushing_is v go lt = let e : nat_lt (length stack) room ≡ true = grind (arith, lt) in chosen (λ z. z ≡ go (v ∷ stack)) (nat_lt (length stack) room) (go (v ∷ stack)) (no_rule o) e refl
+    pushing_is v go lt = let e : nat_lt (length stack) run.block.room ≡ true = grind (arith, lt) in chosen (λ z. z ≡ go (v ∷ stack)) (nat_lt (length stack) run.block.room) (go (v ∷ stack)) (no_rule o) e refl
 
     -- behind the instruction
-    behind : (q : ℕ) (fs' : Frames) (stack' : List Value) → q ≡ suc p → Going o (machine_at fs' inst (suc p) stack' room below) ≡ Going o (machine_at fs' inst q stack' room below)
-    behind q fs' stack' e = ap (λ z. Going o (machine_at fs' inst z stack' room below)) (sym e)
+    behind : (q : ℕ) (fs' : Frames) (stack' : List Value) → q ≡ suc p → Going o (machine_at fs' inst (suc p) stack' run below) ≡ Going o (machine_at fs' inst q stack' run below)
+    behind q fs' stack' e = ap (λ z. Going o (machine_at fs' inst z stack' run below)) (sym e)
 
-    pub int_step : (z q : ℕ) → Is code (i.Int (pos z)) p q → length stack < room → mstep code l o (machine_at fs inst p stack room below) ≡ Going o (machine_at fs inst q (machine.Of (Integer (pos z)) ∷ stack) room below)
+    pub int_step : (z q : ℕ) → Is code (i.Int (pos z)) p q → length stack < run.block.room → mstep code l o (machine_at fs inst p stack run below) ≡ Going o (machine_at fs inst q (machine.Of (Integer (pos z)) ∷ stack) run below)
     int_step z q a lt = by_row (i.Int (pos z)) a.line q a.is ∙ pushing_is (machine.Of (Integer (pos z))) (λ stack. on o fs a_top stack below) lt ∙ behind q fs (machine.Of (Integer (pos z)) ∷ stack) a.is.on
 
     cell_is : (z j c : ℕ) (go : ℕ → ℕ → Run Machine) → at_level fs z inst ≡ Some j → machine.cell_at fs a_top (pos z) (pos c) o go ≡ go j c
     unfolding machine.cell_at level index having
     cell_is z j c go e = ap (λ y. having y o (λ j. go j c)) e
 
-    pub load_step : (z j c q : ℕ) (v : Value) → Is code (i.Load (pos z) (pos c)) p q → at_level fs z inst ≡ Some j → machine.cell fs j c ≡ Some v → length stack < room → mstep code l o (machine_at fs inst p stack room below) ≡ Going o (machine_at fs inst q (v ∷ stack) room below)
+    pub load_step : (z j c q : ℕ) (v : Value) → Is code (i.Load (pos z) (pos c)) p q → at_level fs z inst ≡ Some j → machine.cell fs j c ≡ Some v → length stack < run.block.room → mstep code l o (machine_at fs inst p stack run below) ≡ Going o (machine_at fs inst q (v ∷ stack) run below)
     unfolding having
     load_step z j c q v a e h lt =
         by_row (i.Load (pos z) (pos c)) a.line q a.is ∙ cell_is z j c (λ j c. having (machine.cell fs j c) o (λ v. pushed o fs a_top below v)) e ∙ ap (λ y. having y o (λ v. pushed o fs a_top below v)) h
         ∙ pushing_is v (λ stack. on o fs a_top stack below) lt ∙ behind q fs (v ∷ stack) a.is.on
 
-  pub store_step : (o : World) (fs : Frames) (inst p : ℕ) (stack : List Value) (room : ℕ) (below : List machine.Activation) (z j c q : ℕ) (v : Value) (fs' : Frames) → Is code (i.Store (pos z) (pos c)) p q → at_level fs z inst ≡ Some j → machine.cell_set fs j c v ≡ Some fs'
-      → mstep code l o (machine_at fs inst p (v ∷ stack) room below) ≡ Going o (machine_at fs' inst q stack room below)
+  pub store_step : (o : World) (fs : Frames) (inst p : ℕ) (stack : List Value) (run : Runs) (below : List machine.Activation) (z j c q : ℕ) (v : Value) (fs' : Frames) → Is code (i.Store (pos z) (pos c)) p q → at_level fs z inst ≡ Some j → machine.cell_set fs j c v ≡ Some fs'
+      → mstep code l o (machine_at fs inst p (v ∷ stack) run below) ≡ Going o (machine_at fs' inst q stack run below)
   unfolding having popping
-  store_step o fs inst p stack room below z j c q v fs' a e h =
-      by_row o fs inst p (v ∷ stack) room below (i.Store (pos z) (pos c)) a.line q a.is
-      ∙ cell_is o fs inst p (v ∷ stack) room below z j c (λ j c. having (machine.cell_set fs j c v) o (λ m. on o m (act inst p (v ∷ stack) room) stack below)) e
-      ∙ ap (λ y. having y o (λ m. on o m (act inst p (v ∷ stack) room) stack below)) h ∙ behind o fs inst p (v ∷ stack) room below q fs' stack a.is.on
+  store_step o fs inst p stack run below z j c q v fs' a e h =
+      by_row o fs inst p (v ∷ stack) run below (i.Store (pos z) (pos c)) a.line q a.is
+      ∙ cell_is o fs inst p (v ∷ stack) run below z j c (λ j c. having (machine.cell_set fs j c v) o (λ m. on o m (act inst p (v ∷ stack) run) stack below)) e
+      ∙ ap (λ y. having y o (λ m. on o m (act inst p (v ∷ stack) run) stack below)) h ∙ behind o fs inst p (v ∷ stack) run below q fs' stack a.is.on
 
-  equal_step : (o : World) (fs : Frames) (inst p : ℕ) (stack : List Value) (room : ℕ) (below : List machine.Activation) (x y q : ℕ) → Is code (i.Rel (pos 2)) p q
-      → mstep code l o (machine_at fs inst p (machine.Of (Integer (pos y)) ∷ machine.Of (Integer (pos x)) ∷ stack) room below) ≡ Going o (machine_at fs inst q (machine.Of (Truth (numbers_equal x y)) ∷ stack) room below)
+  equal_step : (o : World) (fs : Frames) (inst p : ℕ) (stack : List Value) (run : Runs) (below : List machine.Activation) (x y q : ℕ) → Is code (i.Rel (pos 2)) p q
+      → mstep code l o (machine_at fs inst p (machine.Of (Integer (pos y)) ∷ machine.Of (Integer (pos x)) ∷ stack) run below) ≡ Going o (machine_at fs inst q (machine.Of (Truth (numbers_equal x y)) ∷ stack) run below)
   unfolding having applying_two pop_plain popping answering computing two_of compare
-  equal_step o fs inst p stack room below x y q a =
+  equal_step o fs inst p stack run below x y q a =
       let whole = machine.Of (Integer (pos y)) ∷ machine.Of (Integer (pos x)) ∷ stack in
-      by_row o fs inst p whole room below (i.Rel (pos 2)) a.line q a.is ∙ behind o fs inst p whole room below q fs (machine.Of (Truth (numbers_equal x y)) ∷ stack) a.is.on
+      by_row o fs inst p whole run below (i.Rel (pos 2)) a.line q a.is ∙ behind o fs inst p whole run below q fs (machine.Of (Truth (numbers_equal x y)) ∷ stack) a.is.on
 
-  true_step : (o : World) (fs : Frames) (inst p : ℕ) (stack : List Value) (room : ℕ) (below : List machine.Activation) (v : Bool) (q x : ℕ) → Is code (i.JumpF (pos x)) p q → v ≡ true
-      → mstep code l o (machine_at fs inst p (machine.Of (Truth v) ∷ stack) room below) ≡ Going o (machine_at fs inst q stack room below)
+  true_step : (o : World) (fs : Frames) (inst p : ℕ) (stack : List Value) (run : Runs) (below : List machine.Activation) (v : Bool) (q x : ℕ) → Is code (i.JumpF (pos x)) p q → v ≡ true
+      → mstep code l o (machine_at fs inst p (machine.Of (Truth v) ∷ stack) run below) ≡ Going o (machine_at fs inst q stack run below)
   unfolding having pop_truth pop_plain popping choosing
-  true_step o fs inst p stack room below v q x a e =
+  true_step o fs inst p stack run below v q x a e =
       let whole = machine.Of (Truth v) ∷ stack in
-      let back = act inst p whole room in
-      by_row o fs inst p whole room below (i.JumpF (pos x)) a.line q a.is
-      ∙ ap (λ z. if z then on o fs back stack below else jumping code p (pos x) o (λ q. at o fs back q stack below)) e ∙ behind o fs inst p whole room below q fs stack a.is.on
+      let back = act inst p whole run in
+      by_row o fs inst p whole run below (i.JumpF (pos x)) a.line q a.is
+      ∙ ap (λ z. if z then on o fs back stack below else jumping code p (pos x) o (λ q. at o fs back q stack below)) e ∙ behind o fs inst p whole run below q fs stack a.is.on
 
-  false_step : (o : World) (fs : Frames) (inst p : ℕ) (stack : List Value) (room : ℕ) (below : List machine.Activation) (v : Bool) (q x : ℕ) → Is code (i.JumpF (pos x)) p q → Ahead code p x → v ≡ false
-      → mstep code l o (machine_at fs inst p (machine.Of (Truth v) ∷ stack) room below) ≡ Going o (machine_at fs inst x stack room below)
+  false_step : (o : World) (fs : Frames) (inst p : ℕ) (stack : List Value) (run : Runs) (below : List machine.Activation) (v : Bool) (q x : ℕ) → Is code (i.JumpF (pos x)) p q → Ahead code p x → v ≡ false
+      → mstep code l o (machine_at fs inst p (machine.Of (Truth v) ∷ stack) run below) ≡ Going o (machine_at fs inst x stack run below)
   unfolding having pop_truth pop_plain popping choosing
-  false_step o fs inst p stack room below v q x a ahead e =
+  false_step o fs inst p stack run below v q x a ahead e =
       let whole = machine.Of (Truth v) ∷ stack in
-      let back = act inst p whole room in
-      by_row o fs inst p whole room below (i.JumpF (pos x)) a.line q a.is
-      ∙ ap (λ z. if z then on o fs back stack below else jumping code p (pos x) o (λ q. at o fs back q stack below)) e ∙ jumping_ahead o fs inst p whole room below x (λ q. at o fs back q stack below) ahead
+      let back = act inst p whole run in
+      by_row o fs inst p whole run below (i.JumpF (pos x)) a.line q a.is
+      ∙ ap (λ z. if z then on o fs back stack below else jumping code p (pos x) o (λ q. at o fs back q stack below)) e ∙ jumping_ahead o fs inst p whole run below x (λ q. at o fs back q stack below) ahead
 
 numbers_same : (a b : ℕ) → a ≡ b → numbers_equal a b ≡ true
 numbers_same a b e =
@@ -151,9 +152,9 @@ numbers_differ a b lt =
     let greater : int_lt (pos a) (pos b) ≡ true = grind (arith, lt) in
     ap (λ z. holds comparison.Equal (cond z order.Less (cond (int_lt (pos a) (pos b)) order.Greater order.Equal))) less ∙ ap (λ z. holds comparison.Equal (cond z order.Greater order.Equal)) greater
 
-module _ (s : Source) (code : CodeOf) (l : Limits) (fs : Frames) (inst t : ℕ) (b : BlockOf) (stack : List Value) (below : List machine.Activation) (n : ℕ) (deep : length stack ≡ n) (own : at_level fs (level_of s t) inst ≡ Some inst) (reads : (c : ℕ) → machine.cell fs inst c ≡ placed fs inst c) where
+module _ (s : Source) (code : CodeOf) (l : Limits) (fs : Frames) (inst t : ℕ) (b : Runs) (stack : List Value) (below : List machine.Activation) (n : ℕ) (deep : length stack ≡ n) (own : at_level fs (level_of s t) inst ≡ Some inst) (reads : (c : ℕ) → machine.cell fs inst c ≡ placed fs inst c) where
   abbrev In : ℕ → Machine
-  In p = machine_at fs inst p stack b.room below
+  In p = machine_at fs inst p stack b below
 
   -- the number in a temp leads back
   module _ (was temp number : ℕ) (held : machine.cell fs inst temp ≡ Some (machine.Of (Integer (pos number)))) where
@@ -161,46 +162,47 @@ module _ (s : Source) (code : CodeOf) (l : Limits) (fs : Frames) (inst t : ℕ) 
     returns_path [] k d p first q e is a = absurd a
     returns_path (r ∷ []) k zero p first q e is a =
         let same : r ≡ q = cc (is) in
-        subst (λ z. SlowTo code l (In p) (In z)) same (slow_more code l (λ o. over_step code l o fs inst p stack b.room below r first a.0 a.1) (0, no_step))
+        subst (λ z. SlowTo code l (In p) (In z)) same (slow_more code l (λ o. over_step code l o fs inst p stack b below r first a.0 a.1) (0, no_step))
     returns_path (r ∷ []) k (suc d) p first q e is a = absurd (cc (is))
     returns_path (r ∷ r2 ∷ rs) k zero p first q e is a =
         let x = a.1 in
         let same : r ≡ q = cc (is) in
         let eq : number ≡ k = omega (arith, e) in
-        let one : length stack < b.room = omega (arith, deep, x.kept.fits) in
-        let two : suc (length stack) < b.room = omega (arith, deep, x.number_pushed.fits) in
+        let one : length stack < b.block.room = omega (arith, deep, x.kept.fits) in
+        let two : suc (length stack) < b.block.room = omega (arith, deep, x.number_pushed.fits) in
         subst (λ z. SlowTo code l (In p) (In z)) same
-        (slow_more code l (λ o. load_step code l o fs inst p stack b.room below (level_of s t) inst temp x.a (machine.Of (Integer (pos number))) x.kept.is own held one)
-        (slow_more code l (λ o. int_step code l o fs inst x.a (machine.Of (Integer (pos number)) ∷ stack) b.room below k x.b x.number_pushed.is two)
-        (slow_more code l (λ o. equal_step code l o fs inst x.b stack b.room below number k x.c x.equal)
-        (slow_more code l (λ o. true_step code l o fs inst x.c stack b.room below (numbers_equal number k) x.d a.0 x.other (numbers_same number k eq))
-        (slow_more code l (λ o. over_step code l o fs inst x.d stack b.room below r a.0 x.jump x.there) (0, no_step))))))
+        (slow_more code l (λ o. load_step code l o fs inst p stack b below (level_of s t) inst temp x.a (machine.Of (Integer (pos number))) x.kept.is own held one)
+        (slow_more code l (λ o. int_step code l o fs inst x.a (machine.Of (Integer (pos number)) ∷ stack) b below k x.b x.number_pushed.is two)
+        (slow_more code l (λ o. equal_step code l o fs inst x.b stack b below number k x.c x.equal)
+        (slow_more code l (λ o. true_step code l o fs inst x.c stack b below (numbers_equal number k) x.d a.0 x.other (numbers_same number k eq))
+        (slow_more code l (λ o. over_step code l o fs inst x.d stack b below r a.0 x.jump x.there) (0, no_step))))))
     returns_path (r ∷ r2 ∷ rs) k (suc d) p first q e is a =
         let x = a.1 in
         let more : k < number = omega (arith, e) in
         let next : number ≡ suc k + d = omega (arith, e) in
-        let one : length stack < b.room = omega (arith, deep, x.kept.fits) in
-        let two : suc (length stack) < b.room = omega (arith, deep, x.number_pushed.fits) in
-        slow_more code l (λ o. load_step code l o fs inst p stack b.room below (level_of s t) inst temp x.a (machine.Of (Integer (pos number))) x.kept.is own held one)
-        (slow_more code l (λ o. int_step code l o fs inst x.a (machine.Of (Integer (pos number)) ∷ stack) b.room below k x.b x.number_pushed.is two)
-        (slow_more code l (λ o. equal_step code l o fs inst x.b stack b.room below number k x.c x.equal)
-        (slow_more code l (λ o. false_step code l o fs inst x.c stack b.room below (numbers_equal number k) x.d a.0 x.other x.leads (numbers_differ k number more))
+        let one : length stack < b.block.room = omega (arith, deep, x.kept.fits) in
+        let two : suc (length stack) < b.block.room = omega (arith, deep, x.number_pushed.fits) in
+        slow_more code l (λ o. load_step code l o fs inst p stack b below (level_of s t) inst temp x.a (machine.Of (Integer (pos number))) x.kept.is own held one)
+        (slow_more code l (λ o. int_step code l o fs inst x.a (machine.Of (Integer (pos number)) ∷ stack) b below k x.b x.number_pushed.is two)
+        (slow_more code l (λ o. equal_step code l o fs inst x.b stack b below number k x.c x.equal)
+        (slow_more code l (λ o. false_step code l o fs inst x.c stack b below (numbers_equal number k) x.d a.0 x.other x.leads (numbers_differ k number more))
         (returns_path (r2 ∷ rs) (suc k) d a.0 first q next is a.2))))
 
   come_path : (used q p : ℕ) → ComesTo s code fs inst t b used n q p → SlowTo code l (In p) (In q)
   come_path used q _ (there {p} e) = subst (λ z. SlowTo code l (In p) (In z)) (sym e) (0, no_step)
-  come_path used q _ (over {p} {p'} {x} jump ahead more) = slow_more code l (λ o. over_step code l o fs inst p stack b.room below p' x jump ahead) (come_path used q p' more)
+  come_path used q _ (over {p} {p'} {x} jump ahead more) = slow_more code l (λ o. over_step code l o fs inst p stack b below p' x jump ahead) (come_path used q p' more)
   come_path used q _ (returning {p} {p'} r more) =
       let e : r.number ≡ 0 + r.number = omega arith in
       slow_then code l (returns_path r.was r.temp r.number (reads r.temp ∙ r.holds) r.returns 0 r.number p r.first p' e r.leads r.back) (come_path used q p' more)
 
 -- what is pending behind a turn is come back to
-pub comes_back : (s : Source) (code : CodeOf) (m : Instances) (fs : Frames) (Below : Bool → Type 0) (inst t : ℕ) (b : BlockOf) (used : ℕ) (w : List Item) (p p' : ℕ) (ks : List Kind) → ReturningIs s code fs inst t b used (length ks) p p' → WorkAt s code m fs Below inst t b used w p' ks → WorkAt s code m fs Below inst t b used w p ks
+pub comes_back : (s : Source) (code : CodeOf) (m : Instances) (fs : Frames) (Below : Bool → Type 0) (inst t : ℕ) (b : Runs) (used : ℕ) (w : List Item) (p p' : ℕ) (ks : List Kind) → ReturningIs s code fs inst t b used (length ks) p p' → WorkAt s code m fs Below inst t b used w p' ks → WorkAt s code m fs Below inst t b used w p ks
 comes_back s code m fs Below inst t b used [] p p' ks r a = a
-comes_back s code m fs Below inst t b used (Do op ∷ w) p p' ks r a = (a.0, a.1, a.2, a.3, returning r a.4, a.5, a.6, a.7, a.8)
+comes_back s code m fs Below inst t b used (Do op ∷ w) p p' ks r a = (a.0, a.1, a.2, a.3, a.4, a.5, a.6, returning r a.7, a.8, a.9, a.10, a.11)
 comes_back s code m fs Below inst t b used (EndBlock ∷ w) p p' ks r a = (a.0, returning r a.1, a.2)
 comes_back s code m fs Below inst t b used (EndProcedure v ∷ w) p p' ks r a = (a.0, returning r a.1, a.2)
 comes_back s code m fs Below inst t b used (EndProgram ∷ w) p p' ks r a = (a.0, returning r a.1, a.2)
+comes_back s code m fs Below inst t b used (EndObject ∷ w) p p' ks r a = (a.0, returning r a.1, a.2)
 comes_back s code m fs Below inst t b used (_ ∷ w) p p' ks r a = absurd a
 
 module _ (s : Source) (code : CodeOf) (l : Limits) where
@@ -208,7 +210,7 @@ module _ (s : Source) (code : CodeOf) (l : Limits) where
   abbrev pub Settles : Configuration → Machine → Type 0
   Settles c x = (y : Machine) × SlowTo code l x y × StateNow s code c y
 
-  module _ (m : Instances) (inst : ℕ) (vals : List meaning.Val) (rest : List Activation) (fs : Frames) (t : ℕ) (b : BlockOf) (stack : List Value) (below : List machine.Activation) (ks : List Kind) (here : Here s code m fs inst rest t b ks vals stack) where
+  module _ (m : Instances) (inst : ℕ) (vals : List meaning.Val) (rest : List Activation) (fs : Frames) (t : ℕ) (b : Runs) (stack : List Value) (below : List machine.Activation) (ks : List Kind) (here : Here s code m fs inst rest t b ks vals stack) where
     abbrev Below : Bool → Type 0
     Below v = ChainAt s code m fs rest v below
 
@@ -222,7 +224,7 @@ module _ (s : Source) (code : CodeOf) (l : Limits) where
     deep = sym (stack_length ks vals stack here.values)
 
     -- control has come to the first part
-    now_at : (fs' : Frames) → There s code m fs' inst t b ks vals stack → (used : ℕ) (w : List Item) (p : ℕ) → NowAt s code m fs' (λ v. ChainAt s code m fs' rest v below) inst t b used w p ks → StateNow s code (Stood w) (machine_at fs' inst p stack b.room below)
+    now_at : (fs' : Frames) → There s code m fs' inst t b ks vals stack → (used : ℕ) (w : List Item) (p : ℕ) → NowAt s code m fs' (λ v. ChainAt s code m fs' rest v below) inst t b used w p ks → StateNow s code (Stood w) (machine_at fs' inst p stack b below)
     now_at fs' there' used w p a = record {
       chain = record {
         base = refl;
@@ -232,6 +234,7 @@ module _ (s : Source) (code : CodeOf) (l : Limits) where
         found = there'.found;
         stands = there'.stands;
         room = refl;
+        stage = refl;
         kinds = ks;
         values = there'.values;
         fits = λ no. absurd (cc);
@@ -243,15 +246,15 @@ module _ (s : Source) (code : CodeOf) (l : Limits) where
     }
 
     -- a turn goes to the statement
-    turns : (used u : ℕ) (w : List Item) (x : Statement) (p q : ℕ) (behind : List Kind) → u ≤ used → length (cells_in s t (text s t)) ≤ u → TurningIs s code (site_at t b u) (length ks) x p q → behind ≡ ks → WorkAt s code m fs Below inst t b u w q behind → Settles (Stood (Do (Exec x) ∷ w)) (machine_at fs inst p stack b.room below)
+    turns : (used u : ℕ) (w : List Item) (x : Statement) (p q : ℕ) (behind : List Kind) → u ≤ used → length (own_part s (frame_text s t)) ≤ u → TurningIs s code (site_at t b u) (length ks) x p q → behind ≡ ks → WorkAt s code m fs Below inst t b u w q behind → Settles (Stood (Do (Exec x) ∷ w)) (machine_at fs inst p stack b below)
     turns used u w x p q behind le low a e k =
         let number = machine.Of (Integer (pos a.number)) in
         let r = temp_written s code m fs inst t b a.temp number here.store here.stands here.lives here.found a.is_temp.behind a.is_temp.within in
-        let one : length stack < b.room = omega (arith, deep, a.turn.pushed.fits) in
+        let one : length stack < b.block.room = omega (arith, deep, a.turn.pushed.fits) in
         let more : u ≤ suc a.temp = omega (arith, a.unused) in
         let again : suc a.temp ≤ suc a.temp = omega arith in
         let in_use : a.temp < suc a.temp = omega arith in
-        let low' : length (cells_in s t (text s t)) ≤ suc a.temp = omega (arith, a.is_temp.behind) in
+        let low' : length (own_part s (frame_text s t)) ≤ suc a.temp = omega (arith, a.is_temp.behind) in
         let there' = moved s code r.changed here.kept_alone here here.values in
         let k1 = subst (λ z. WorkAt s code m fs Below inst t b u w q z) e k in
         let k2 = work_moved s code r.changed here here.alone below u (λ n le lt. r.others n (λ same. let no : ⊥ = omega (arith, same, lt, a.unused) in no)) w q ks k1 in
@@ -268,47 +271,66 @@ module _ (s : Source) (code : CodeOf) (l : Limits) where
           leads = a.turn.returns_here;
           back = a.back;
         }) k3 in (
-          machine_at r.frames inst a.start stack b.room below,
-          slow_more code l (λ o. int_step code l o fs inst p stack b.room below a.number a.turn.x a.turn.pushed.is one)
-              (slow_more code l (λ o. store_step code l o fs inst a.turn.x stack b.room below (level_of s t) inst a.temp a.turn.y number r.frames a.turn.kept own r.is)
-              (slow_more code l (λ o. back_step code l o r.frames inst a.turn.y stack b.room below a.start q a.ticked a.turn.jump a.turn.behind a.tick) (0, no_step))),
-          now_at r.frames there' (suc a.temp) (Do (Exec x) ∷ w) a.start (suc a.temp, a.done, ks, again, low', (a.body, refl), k4),
+          machine_at r.frames inst a.start stack b below,
+          slow_more code l (λ o. int_step code l o fs inst p stack b below a.number a.turn.x a.turn.pushed.is one)
+              (slow_more code l (λ o. store_step code l o fs inst a.turn.x stack b below (level_of s t) inst a.temp a.turn.y number r.frames a.turn.kept own r.is)
+              (slow_more code l (λ o. back_step code l o r.frames inst a.turn.y stack b below a.start q a.ticked a.turn.jump a.turn.behind a.tick) (0, no_step))),
+          now_at r.frames there' (suc a.temp) (Do (Exec x) ∷ w) a.start (suc a.temp, a.done, ks, t, b, same_frame s t, again, low', stays (a.body, refl) refl, k4),
         )
 
-    -- an operator in its own place, or a turn
-    begins : (used : ℕ) (w : List Item) (op : Op) (p : ℕ) (u q : ℕ) (behind : List Kind) → u ≤ used → length (cells_in s t (text s t)) ≤ u → OpAt s code m fs inst (site_at t b u) op p q ks behind → WorkAt s code m fs Below inst t b u w q behind → Settles (Stood (Do op ∷ w)) (machine_at fs inst p stack b.room below)
-    begins used w (Exec x) p u q behind le low (straight a, e) k = (_, (0, no_step), now_at fs (there_of s code here) used (Do (Exec x) ∷ w) p (u, q, behind, le, low, (a, e), k))
-    begins used w (Exec x) p u q behind le low (turning a, e) k = turns used u w x p q behind le low a e k
-    begins used w op p u q behind le low a k = (_, (0, no_step), now_at fs (there_of s code here) used (Do op ∷ w) p (u, q, behind, le, low, a, k))
+    stands_now : (used : ℕ) (w : List Item) (op : Op) (p u q : ℕ) (behind : List Kind) (c : Runs) → u ≤ used → length (own_part s (frame_text s t)) ≤ u → InStage s code (BeginsAt s code m fs inst (site_at t b u)) (site_at t b u) op b c p q ks behind → WorkAt s code m fs Below inst t c u w q behind → Settles (Stood (Do op ∷ w)) (machine_at fs inst p stack b below)
+    stands_now used w op p u q behind c le low a k = (_, (0, no_step), now_at fs (there_of s code here) used (Do op ∷ w) p (u, q, behind, t, c, same_frame s t, le, low, a, k))
 
-    come : (used : ℕ) (q p : ℕ) → ComesTo s code fs inst t b used (length ks) q p → SlowTo code l (machine_at fs inst p stack b.room below) (machine_at fs inst q stack b.room below)
+    -- an operator in its own place, or a turn
+    begins : (used : ℕ) (w : List Item) (op : Op) (p u q : ℕ) (behind : List Kind) → u ≤ used → length (own_part s (frame_text s t)) ≤ u → OpAt s code m fs inst (site_at t b u) op p q ks behind → WorkAt s code m fs Below inst t b u w q behind → Settles (Stood (Do op ∷ w)) (machine_at fs inst p stack b below)
+    begins used w (Exec x) p u q behind le low (straight a, e) k = stands_now used w (Exec x) p u q behind b le low (stays (a, e) refl) k
+    begins used w (Exec x) p u q behind le low (turning a, e) k = turns used u w x p q behind le low a e k
+    begins used w op p u q behind le low a k = stands_now used w op p u q behind b le low (stays a refl) k
+
+    pub begins_in : (used : ℕ) (w : List Item) (op : Op) (p u q : ℕ) (behind : List Kind) (c : Runs) → u ≤ used → length (own_part s (frame_text s t)) ≤ u → InStage s code (OpAt s code m fs inst (site_at t b u)) (site_at t b u) op b c p q ks behind → WorkAt s code m fs Below inst t c u w q behind → Settles (Stood (Do op ∷ w)) (machine_at fs inst p stack b below)
+    begins_in used w op p u q behind c le low (stays a g) k = begins used w op p u q behind le low a (subst (λ z. WorkAt s code m fs Below inst t z u w q behind) g k)
+    begins_in used w op p u q behind c le low (declares x e g a) k = stands_now used w op p u q behind c le low (declares x e g a) k
+    begins_in used w op p u q behind c le low (inner_last e g a) k = stands_now used w op p u q behind c le low (inner_last e g a) k
+    begins_in used w op p u q behind c le low (inner_here x e g a) k = stands_now used w op p u q behind c le low (inner_here x e g a) k
+    begins_in used w op p u q behind c le low (with_inner x e g a) k = stands_now used w op p u q behind c le low (with_inner x e g a) k
+
+    pub come : (used : ℕ) (q p : ℕ) → ComesTo s code fs inst t b used (length ks) q p → SlowTo code l (machine_at fs inst p stack b below) (machine_at fs inst q stack b below)
     come used q p a = come_path s code l fs inst t b stack below (length ks) deep own (λ c. placed_here s code m fs here.store inst c here.lives) used q p a
 
-    first_come : (c : Configuration) (x y : Machine) → SlowTo code l x y → Settles c y → Settles c x
+    pub first_come : (c : Configuration) (x y : Machine) → SlowTo code l x y → Settles c y → Settles c x
     first_come c x y a r = (r.0, slow_then code l a r.1, r.2)
 
-    pub top_settles : (used : ℕ) (w : List Item) (p : ℕ) → WorkAt s code m fs Below inst t b used w p ks → Settles (Stood w) (machine_at fs inst p stack b.room below)
-    top_settles used [] p a = absurd a
-    top_settles used (Do op ∷ w) p a = first_come _ _ _ (come used a.0 p a.4) (begins used w op a.0 a.1 a.2 a.3 a.5 a.6 a.7 a.8)
-    top_settles used (EndBlock ∷ w) p a = first_come _ _ _ (come used a.0 p a.1) (_, (0, no_step), now_at fs (there_of s code here) used (EndBlock ∷ w) a.0 a.2)
-    top_settles used (EndProcedure v ∷ w) p a = first_come _ _ _ (come used a.0 p a.1) (_, (0, no_step), now_at fs (there_of s code here) used (EndProcedure v ∷ w) a.0 a.2)
-    top_settles used (EndProgram ∷ w) p a = first_come _ _ _ (come used a.0 p a.1) (_, (0, no_step), now_at fs (there_of s code here) used (EndProgram ∷ w) a.0 a.2)
-    top_settles used (_ ∷ w) p a = absurd a
+    pub end_settles : (used : ℕ) (w : List Item) (x : Item) (at p : ℕ) → ComesTo s code fs inst t b used (length ks) at p → NowAt s code m fs Below inst t b used (x ∷ w) at ks → Settles (Stood (x ∷ w)) (machine_at fs inst p stack b below)
+    end_settles used w x at p c a = first_come _ _ _ (come used at p c) (_, (0, no_step), now_at fs (there_of s code here) used (x ∷ w) at a)
+
+  top_settles : (m : Instances) (inst : ℕ) (vals : List meaning.Val) (rest : List Activation) (fs : Frames) (t : ℕ) (b : Runs) (stack : List Value) (below : List machine.Activation) (ks : List Kind) (here : Here s code m fs inst rest t b ks vals stack) (used : ℕ) (w : List Item) (p : ℕ) → WorkAt s code m fs (λ v. ChainAt s code m fs rest v below) inst t b used w p ks
+      → Settles (record { chain = record { instance = inst; work = w; values = vals } ∷ rest; memory = m }) (machine_at fs inst p stack b below)
+  top_settles m inst vals rest fs t b stack below ks here used [] p a = absurd a
+  top_settles m inst vals rest fs t b stack below ks here used (Do op ∷ w) p a =
+      let less = subst (λ z. length (own_part s z) ≤ a.1) (sym (a.6).frame) a.9 in
+      first_come m inst vals rest fs t b stack below ks here _ _ _ (come m inst vals rest fs t b stack below ks here used a.0 p a.7)
+      (begins_in m inst vals rest fs a.4 b stack below ks (here_at s code a.6 here) used w op a.0 a.1 a.2 a.3 a.5 a.8 less a.10 a.11)
+  top_settles m inst vals rest fs t b stack below ks here used (EndBlock ∷ w) p a = end_settles m inst vals rest fs t b stack below ks here used w EndBlock a.0 p a.1 a.2
+  top_settles m inst vals rest fs t b stack below ks here used (EndProcedure v ∷ w) p a = end_settles m inst vals rest fs t b stack below ks here used w (EndProcedure v) a.0 p a.1 a.2
+  top_settles m inst vals rest fs t b stack below ks here used (EndProgram ∷ w) p a = end_settles m inst vals rest fs t b stack below ks here used w EndProgram a.0 p a.1 a.2
+  top_settles m inst vals rest fs t b stack below ks here used (EndObject ∷ w) p a = end_settles m inst vals rest fs t b stack below ks here used w EndObject a.0 p a.1 a.2
+  top_settles m inst vals rest fs t b stack below ks here used (_ ∷ w) p a = absurd a
 
   -- an activation that is as the relation says
-  as_act : (y : machine.Activation) (inst room : ℕ) → y.thunk ≡ false → y.home ≡ inst → y.room ≡ room → y ≡ act inst y.pc y.stack room
-  as_act y inst room a h r =
-      ap (λ z. let v : machine.Activation = record { thunk = z; home = y.home; pc = y.pc; stack = y.stack; room = y.room } in v) a
-      ∙ ap (λ z. let v : machine.Activation = record { thunk = false; home = z; pc = y.pc; stack = y.stack; room = y.room } in v) h
-      ∙ ap (λ z. let v : machine.Activation = record { thunk = false; home = inst; pc = y.pc; stack = y.stack; room = z } in v) r
+  pub as_act : (y : machine.Activation) (inst : ℕ) (run : Runs) → y.thunk ≡ false → y.home ≡ inst → y.room ≡ run.block.room → y.stage ≡ run.stage → y ≡ act inst y.pc y.stack run
+  as_act y inst run a h r g =
+      ap (λ z. let v : machine.Activation = record { thunk = z; home = y.home; pc = y.pc; stack = y.stack; room = y.room; stage = y.stage } in v) a
+      ∙ ap (λ z. let v : machine.Activation = record { thunk = false; home = z; pc = y.pc; stack = y.stack; room = y.room; stage = y.stage } in v) h
+      ∙ ap (λ z. let v : machine.Activation = record { thunk = false; home = inst; pc = y.pc; stack = y.stack; room = z; stage = y.stage } in v) r
+      ∙ ap (λ z. let v : machine.Activation = record { thunk = false; home = inst; pc = y.pc; stack = y.stack; room = run.block.room; stage = z } in v) g
 
-  settles : (m : Instances) (chain : List Activation) (fs : Frames) (below : List machine.Activation) → StoreAt s code m fs → StandingsAt s code m fs → SaneOn m chain → ChainAt s code m fs chain false below → Settles (record { chain = chain; memory = m }) (record { chain = below; memory = fs })
-  settles m [] fs below a parked sane c = (_, (0, no_step), record { chain = c; store = a; parked = parked })
-  settles m (x ∷ rest) fs [] a parked sane c = absurd c
-  settles m (x ∷ rest) fs (y ∷ below) a parked sane c =
-      subst (λ z. Settles (record { chain = x ∷ rest; memory = m }) (record { chain = z ∷ below; memory = fs })) (sym (as_act y x.instance c.block.room c.base c.home c.room))
-      (top_settles m x.instance x.values rest fs c.text c.block y.stack below c.kinds (record { store = a; parked = parked; lives = sane.0; alone = sane.1; kept_alone = sane.2; stands = c.stands; found = c.found; values = c.values }) c.used x.work y.pc c.goes)
+  settles : (m : Instances) (chain : List Activation) (fs : Frames) (below : List machine.Activation) → StoreAt s code m fs → StandingsAt s code m fs → SaneOn m chain → NamesOn s m chain → ChainAt s code m fs chain false below → Settles (record { chain = chain; memory = m }) (record { chain = below; memory = fs })
+  settles m [] fs below a parked sane names c = (_, (0, no_step), record { chain = c; store = a; parked = parked })
+  settles m (x ∷ rest) fs [] a parked sane names c = absurd c
+  settles m (x ∷ rest) fs (y ∷ below) a parked sane names c =
+      subst (λ z. Settles (record { chain = x ∷ rest; memory = m }) (record { chain = z ∷ below; memory = fs })) (sym (as_act y x.instance c.block c.base c.home c.room c.stage))
+      (top_settles m x.instance x.values rest fs c.text c.block y.stack below c.kinds (record { store = a; parked = parked; lives = sane.0; alone = sane.1; kept_alone = sane.2; names = names; stands = c.stands; found = c.found; values = c.values }) c.used x.work y.pc c.goes)
 
   -- where the machine has steps of its own, it makes them
-  pub settle : (c : Configuration) (x : Machine) → Sane c → StateAt s code c x → Settles c x
-  settle c x sane a = settles c.memory c.chain x.memory x.chain a.store a.parked sane a.chain
+  pub settle : (c : Configuration) (x : Machine) → Sane c → NamesOn s c.memory c.chain → StateAt s code c x → Settles c x
+  settle c x sane names a = settles c.memory c.chain x.memory x.chain a.store a.parked sane names a.chain

@@ -19,12 +19,13 @@ use Rattle.sim_values.specs.declared.standard.Standard.{Standard}
 use Rattle.sim_values.specs.Plain.{Plain}
 use Rattle.sim_values.specs.Standard.{is_image, on_image}
 use Rattle.std.specs.Prelude.{◌||◌}
-use Rattle.sim_meaning.specs.Attributes.{array_attribute, attribute, attribute_place, connected_object, connection_at, declared_attribute, entry_attribute, if_any, parameter_attribute, variable_attribute}
-use Rattle.sim_meaning.specs.Closing.{formals_at, is_attribute, array_term, behind_dot, close, close_actuals, close_all, close_place, constant_term, declared_term, dot_term, formal_term, home_of, in_instance, is_variable, name_term, named_term, standard_term, stream_of, sysout, variable_term}
+use Rattle.sim_meaning.specs.Attributes.{array_attribute, attribute, attribute_place, connected_object, connection_at, declared_attribute, entry_attribute, generation, if_any, parameter_attribute, variable_attribute}
+use Rattle.sim_meaning.specs.Closing.{formals_at, is_attribute, array_term, behind_dot, close, close_actuals, close_all, close_place, constant_term, declared_term, dot_term, formal_term, home_of, home_of_class, in_instance, is_variable, name_term, named_term, standard_term, stream_of, sysout, variable_term}
+use Rattle.sim_meaning.specs.Levels.{class_at}
 use Rattle.sim_meaning.specs.Names.{procedure_named}
 use Rattle.sim_meaning.specs.Pending.{Instances, Term, Terms}
 use Rattle.sim_meaning.specs.Texts.{constant_of}
-use Rattle.sim_relate.proofs.Relation.{Kind, given, gives, leaving}
+use Rattle.sim_relate.proofs.Known.{Kind, given, gives, leaving}
 
 module _ (s : Source) (m : Instances) (i : ℕ) where
   abbrev pub Leaves : Term → Type 0
@@ -138,3 +139,11 @@ module _ (s : Source) (m : Instances) (i : ℕ) where
       let line = line_at s name.token.0 in
       any_leaves (declared_attribute (denoted s name.token.0)) _ _ (attribute_leaves line (close s m i e) es (close_all s m i es) (λ d. close_actuals s m i line es (formals_at s d)))
       (dot_leaves (denoted s name.token.0) (stream_of s e) (is_variable s e || is_attribute s e) line (close_place s m i e) (close s m i e) (close_all s m i es))
+
+  generation_leaves : (o c : Option ℕ) (terms : Terms) (line : ℕ) → Leaves (generation o c terms line)
+  generation_leaves (Some j) (Some k) terms line = λ ks. refl
+  generation_leaves (Some j) None terms line = λ ks. refl
+  generation_leaves None c terms line = λ ks. refl
+
+  pub new_leaves : (token : ℕ) (class : Identifier) (es : Expressions) → Leaves (close s m i (syntax.New token class es))
+  new_leaves token class es = generation_leaves (home_of_class s m i (denoted s class.token.0)) (class_at s class.token.0) _ (line_at s token)

@@ -3,10 +3,10 @@ use Rattle.std.proofs.Common.{◌≡◌, ◌≤◌, ℕ, zero, suc, Bool, true, 
 use Rattle.std.specs.Prelude.{pos}
 use Rattle.sim_base.specs.declared.limits.Limits.{Limits}
 use Rattle.sim_scope.specs.Source.{Source, block_around, line_at}
-use Rattle.sim_tree.specs.Syntax.{Also, Begin, Block, Element, Expression, NoDeclaration, NoMore, NoStatement, RightSide, Statement, Statements, With}
+use Rattle.sim_tree.specs.Syntax.{Also, Arms, Begin, Block, Expression, NoDeclaration, NoStatement, RightSide, Statement, Statements, With}
 use Rattle.sim_tree.specs.Syntax as syntax
 use Rattle.sim_code.specs.declared.instr.Instr.TheVariants as i
-use Rattle.sim_code.specs.Code.{BlockOf, CodeOf}
+use Rattle.sim_code.specs.Code.{CodeOf}
 use Rattle.sim_code.specs.Outcome.{Going, Run, World}
 use Rattle.sim_code.specs.Events.{choosing, pop_truth, ticking}
 use Rattle.sim_code.specs.Machine.{Frames, Machine, Value}
@@ -16,16 +16,17 @@ use Rattle.sim_code.proofs.Lifts.{alike_choosing, alike_ticking}
 use Rattle.sim_code.proofs.Simulation.{Alike}
 use Rattle.sim_meaning.specs.Closing.{close}
 use Rattle.sim_meaning.specs.Meaning.{do_op}
-use Rattle.sim_meaning.specs.Pending.{Activation, BackOp, BranchOp, ChooseOp, Configuration, Do, DropOp, EnterOp, Eval, Exec, Execs, Instances, Item, Op, PastOp, TestOp, Val, plain}
+use Rattle.sim_meaning.specs.Pending.{Activation, BackOp, BranchOp, ChooseOp, Configuration, ConnectOp, Do, DropOp, EnterOp, Eval, Exec, Execs, Instances, Item, Op, PastOp, TestOp, Val, WhenOp, plain}
 use Rattle.sim_meaning.specs.Statements.{assigned, assigning, compound, dropping, entered_at, leaves, lefts}
 use Rattle.sim_meaning.specs.Steps.{go}
-use Rattle.sim_meaning.specs.Texts.{text}
-use Rattle.codegen_expr.specs.Sites.{Ahead, Inside, Is, cells_in}
+use Rattle.codegen_expr.specs.Sites.{Ahead, Inside, Is, own_part, frame_text}
 use Rattle.codegen_expr.specs.CodeExpr.{ExprAt}
 use Rattle.sim_relate.proofs.Plainly.{Agrees}
 use Rattle.codegen.specs.CodeLeft.{AssignAt, GoesAt, each_stored}
 use Rattle.codegen.specs.CodeStm.{BlockAt, CalledAt, DropsAt, EnterAt, StmAt, StmsAt}
-use Rattle.sim_relate.proofs.Relation.{Any, BeginsAt, ChainAt, Finds, HandAt, Kind, OpAt, StateAt, WorkAt, anys, given, site_at, straight, TermAt, gives}
+use Rattle.sim_relate.proofs.Known.{Any, Finds, HandAt, Kind, anys, given, site_at, gives, leaves_as, Runs}
+use Rattle.sim_relate.proofs.Trees.{TermAt}
+use Rattle.sim_relate.proofs.Relation.{BeginsAt, ChainAt, OpAt, StateAt, WorkAt, straight}
 use Rattle.sim_relate.proofs.Closing.{call_named_at, close_at, call_dot_at}
 use Rattle.sim_relate.proofs.Hands.{hand_truth}
 use Rattle.sim_relate.proofs.Here.{Here, act, at_row, goes, kinds_as, there_of, with_values}
@@ -34,14 +35,14 @@ use Rattle.sim_relate.proofs.Living.{reach_found}
 use Rattle.sim_relate.proofs.Operators.{jumps_ahead, jumps_back, same_plain}
 use Rattle.sim_relate.proofs.Pending.{evals, pends}
 use Rattle.sim_scope.specs.Assignments.{last_value, left_sides}
-use Rattle.sim_relate.proofs.Shapes.{Leaves, dot_call_leaves, named_call_leaves}
+use Rattle.sim_relate.proofs.Shapes.{Leaves, dot_call_leaves, named_call_leaves, new_leaves}
 
-module _ (s : Source) (code : CodeOf) (l : Limits) (agrees : Agrees s) (o : World) (m : Instances) (inst : ℕ) (w : List Item) (vals : List Val) (rest : List Activation) (fs : Frames) (t : ℕ) (b : BlockOf) (pc : ℕ) (stack : List Value) (below : List machine.Activation) (ks : List Kind) (here : Here s code m fs inst rest t b ks vals stack) (u q : ℕ) (ks' : List Kind) (low : length (cells_in s t (text s t)) ≤ u) (k : WorkAt s code m fs (λ v. ChainAt s code m fs rest v below) inst t b u w q ks') where
+module _ (s : Source) (code : CodeOf) (l : Limits) (agrees : Agrees s) (o : World) (m : Instances) (inst : ℕ) (w : List Item) (vals : List Val) (rest : List Activation) (fs : Frames) (t : ℕ) (b : Runs) (pc : ℕ) (stack : List Value) (below : List machine.Activation) (ks : List Kind) (here : Here s code m fs inst rest t b ks vals stack) (u q : ℕ) (ks' : List Kind) (low : length (own_part s (frame_text s t)) ≤ u) (k : WorkAt s code m fs (λ v. ChainAt s code m fs rest v below) inst t b u w q ks') where
   abbrev pub R : Configuration → Machine → Type 0
   R = StateAt s code
 
   abbrev pub top : machine.Activation
-  top = act inst pc stack b.room
+  top = act inst pc stack b
 
   abbrev pub Follows : Op → Type 0
   Follows op = OpAt s code m fs inst (site_at t b u) op pc q ks ks' → Alike R (do_op s l o m inst w vals rest op) (on_top code l o fs top below)
@@ -66,20 +67,20 @@ module _ (s : Source) (code : CodeOf) (l : Limits) (agrees : Agrees s) (o : Worl
   rests_as e = subst (λ z. Rests w q z) e k
 
   -- where the machine stands at p, with the same values in hand
-  pub stays : {p : World} (x : List Item) (place : ℕ) {next : ℕ} → Rests x place ks → place ≡ next → Alike R (go p m inst x vals rest) (Going p (record { chain = act inst next stack b.room ∷ below; memory = fs }))
+  pub stays : {p : World} (x : List Item) (place : ℕ) {next : ℕ} → Rests x place ks → place ≡ next → Alike R (go p m inst x vals rest) (Going p (record { chain = act inst next stack b ∷ below; memory = fs }))
   stays x place r e = goes s code u place (there_of s code here) r e
 
   -- a tick, and then
-  pub ticks : (r : World → Run Configuration) (p : ℕ) → Is code i.Tick pc p → ((x : World) → Alike R (r x) (Going x (record { chain = act inst p stack b.room ∷ below; memory = fs }))) → Alike R (ticking l o r) (on_top code l o fs top below)
+  pub ticks : (r : World → Run Configuration) (p : ℕ) → Is code i.Tick pc p → ((x : World) → Alike R (r x) (Going x (record { chain = act inst p stack b ∷ below; memory = fs }))) → Alike R (ticking l o r) (on_top code l o fs top below)
   ticks r p a f = at_row s code l o fs top below _ i.Tick a.line p a.is
-      (alike_ticking Configuration Machine R l o _ _ (λ x. subst (λ z. Alike R (r x) (Going x (record { chain = act inst z stack b.room ∷ below; memory = fs }))) a.is.on (f x)))
+      (alike_ticking Configuration Machine R l o _ _ (λ x. subst (λ z. Alike R (r x) (Going x (record { chain = act inst z stack b ∷ below; memory = fs }))) a.is.on (f x)))
 
   -- a test: the jump is taken where it is false
   pub tests : (left : List Kind) (z x : ℕ) (on_true on_false : List Item) → ks ≡ anys 1 left → Is code (i.JumpF (pos x)) pc z → Ahead code pc x → Rests on_true z left → Rests on_false x left → (r : Bool → List Val → Run Configuration) → ((c : Bool) (vals' : List Val) → r c vals' ≡ choosing c (go o m inst on_true vals' rest) (go o m inst on_false vals' rest))
       → Alike R (pop_truth plain vals o r) (on_top code l o fs top below)
   tests left z x on_true on_false e jump ahead ryes rno r same =
       at_row s code l o fs top below _ (i.JumpF (pos x)) jump.line z jump.is
-      (hand_truth Configuration Machine R Val Value (HandAt s m) plain machine.plain same_plain left vals stack o r _ (kinds_as s code e here.values)
+      (hand_truth Configuration Machine R Val Value (HandAt s code m) plain machine.plain same_plain left vals stack o r _ (kinds_as s code e here.values)
       (λ c vals' stack' h. subst (λ y. Alike R y (choosing c (machine.on o fs top stack' below) (machine.jumping code pc (pos x) o (λ q. machine.at o fs top q stack' below)))) (sym (same c vals'))
       (alike_choosing Configuration Machine R c _ _ _ _
       (goes s code u z (with_values s code here h) ryes jump.is.on)
@@ -91,12 +92,12 @@ module _ (s : Source) (code : CodeOf) (l : Limits) (agrees : Agrees s) (o : Worl
   drops true x a e = pending w DropOp x q (Any ∷ ks) ks' (record { line = a.line; works = record { is = a.is; left = ks; «in» = refl; out = e } }) k
   drops false x a e = subst (λ z. Rests w z ks) a (rests_as e)
 
-  calls : (p : World) (e : Expression) (y x : ℕ) → TermAt s code m inst (site_at t b u) (length ks) (close s m inst e) y x → leaves s e ≡ gives s (close s m inst e) → Leaves s m inst (close s m inst e) → DropsAt code (leaves s e) x q → ks' ≡ ks → Alike R (go p m inst (Do (Eval (close s m inst e)) ∷ dropping (leaves s e) w) vals rest) (Going p (record { chain = act inst y stack b.room ∷ below; memory = fs }))
+  calls : (p : World) (e : Expression) (y x : ℕ) → TermAt s code m inst (site_at t b u) (length ks) (close s m inst e) y x → leaves s e ≡ gives s (close s m inst e) → Leaves s m inst (close s m inst e) → DropsAt code (leaves s e) x q → ks' ≡ ks → Alike R (go p m inst (Do (Eval (close s m inst e)) ∷ dropping (leaves s e) w) vals rest) (Going p (record { chain = act inst y stack b ∷ below; memory = fs }))
   calls p e y x c same so d out =
       stays (Do (Eval (close s m inst e)) ∷ dropping (leaves s e) w) y
-      (pending (dropping (leaves s e) w) (Eval (close s m inst e)) y x ks (given (leaves s e) ks) (c, ap (λ g. given g ks) same ∙ sym (so ks)) (drops (leaves s e) x d out)) refl
+      (pending (dropping (leaves s e) w) (Eval (close s m inst e)) y x ks (given (leaves s e) ks) (c, leaves_as s (close s m inst e) ks (given (leaves s e) ks) (ap (λ g. given g ks) same ∙ sym (so ks))) (drops (leaves s e) x d out)) refl
 
-  called : (p : World) (e : Expression) (y x : ℕ) → CalledAt s code (site_at t b u) (length ks) e y x → DropsAt code (leaves s e) x q → ks' ≡ ks → Alike R (go p m inst (Do (Eval (close s m inst e)) ∷ dropping (leaves s e) w) vals rest) (Going p (record { chain = act inst y stack b.room ∷ below; memory = fs }))
+  called : (p : World) (e : Expression) (y x : ℕ) → CalledAt s code (site_at t b u) (length ks) e y x → DropsAt code (leaves s e) x q → ks' ≡ ks → Alike R (go p m inst (Do (Eval (close s m inst e)) ∷ dropping (leaves s e) w) vals rest) (Going p (record { chain = act inst y stack b ∷ below; memory = fs }))
   called p (syntax.Named name es) y x a d e =
       let c = call_named_at s code m inst (site_at t b u) agrees reaching name es (length ks) y x a.1 in
       calls p (syntax.Named name es) y x c.0 (a.0 ∙ sym c.1) (named_call_leaves s m inst name es) d e
@@ -111,7 +112,9 @@ module _ (s : Source) (code : CodeOf) (l : Limits) (agrees : Agrees s) (o : Worl
   called p (syntax.Qua token z class) y x a d e = absurd a
   called p (syntax.Constant z token) y x a d e = absurd a
   called p (syntax.This token class) y x a d e = absurd a
-  called p (syntax.New token class es) y x a d e = absurd a
+  called p (syntax.New token class es) y x a d e =
+      let c = close_at s code m inst (site_at t b u) agrees reaching (syntax.New token class es) (length ks) y x a in
+      calls p (syntax.New token class es) y x c.0 (sym c.1) (new_leaves s m inst token class es) d e
   called p (syntax.Parentheses token z) y x a d e = absurd a
 
   pub call_statement : (e : Expression) → FollowsStatement (syntax.Call e)
@@ -120,26 +123,26 @@ module _ (s : Source) (code : CodeOf) (l : Limits) (agrees : Agrees s) (o : Worl
   -- ---- assignments
 
   assigned_at : (p : World) (left : Expression) (rs : List RightSide) (y : ℕ) → AssignAt s code (site_at t b u) (length ks) (each_stored s (left_sides left rs)) (last_value left rs) y q → ks' ≡ ks
-      → Alike R (assigned s p m inst w vals rest (lefts s m inst (left_sides left rs)) (last_value left rs)) (Going p (record { chain = act inst y stack b.room ∷ below; memory = fs }))
+      → Alike R (assigned s p m inst w vals rest (lefts s m inst (left_sides left rs)) (last_value left rs)) (Going p (record { chain = act inst y stack b ∷ below; memory = fs }))
   assigned_at p left rs y a e =
       let es = left_sides left rs in
       let x = last_value left rs in
       let r = lefts_at s code m inst t b u agrees reaching fs (λ v. ChainAt s code m fs rest v below) low es (GoesAt s code (site_at t b u) x (each_stored s es)) ks y q a in
-      subst (λ z. Alike R (assigned s p m inst w vals rest z x) (Going p (record { chain = act inst y stack b.room ∷ below; memory = fs }))) (sym r.is)
+      subst (λ z. Alike R (assigned s p m inst w vals rest z x) (Going p (record { chain = act inst y stack b ∷ below; memory = fs }))) (sym r.is)
       (stays _ y (r.works (Do (Eval (close s m inst x)) ∷ Do (assigning r.found.targets) ∷ w)
-      (goes_at s code m inst t b u agrees reaching fs (λ v. ChainAt s code m fs rest v below) low x (each_stored s es) r.found.targets w r.y q ks r.fit r.ends (rests_as e))) refl)
+      (goes_at s code m inst t b u agrees reaching fs (λ v. ChainAt s code m fs rest v below) low x (each_stored s es) r.found.targets r.kinds w r.y q ks r.fit r.ends (rests_as e))) refl)
 
   pub assign_statement : (left : Expression) (rs : List RightSide) → FollowsStatement (syntax.Assign left rs)
   assign_statement left rs a = let x = a.0 in ticks _ x.0 x.1 (λ p. assigned_at p left rs x.0 x.2 a.1)
 
   -- ---- blocks
 
-  entered : (p : World) (o' : Option ℕ) (line y : ℕ) → EnterAt s code (site_at t b u) line o' y q → ks' ≡ ks → Alike R (entered_at p m inst w vals rest o' line) (Going p (record { chain = act inst y stack b.room ∷ below; memory = fs }))
+  entered : (p : World) (o' : Option ℕ) (line y : ℕ) → EnterAt s code (site_at t b u) line o' y q → ks' ≡ ks → Alike R (entered_at p m inst w vals rest o' line) (Going p (record { chain = act inst y stack b ∷ below; memory = fs }))
   entered p None line y a e = absurd a
   entered p (Some zero) line y a e = absurd a
   entered p (Some (suc n)) line y a e = stays (Do (EnterOp (suc n) line) ∷ w) y (pending w (EnterOp (suc n) line) y q ks ks' (a.1, a.0, e) k) refl
 
-  block_at : (p : World) (x : Block) (y : ℕ) → BlockAt s code (site_at t b u) (length ks) x y q → ks' ≡ ks → Alike R (compound s p m inst w vals rest x) (Going p (record { chain = act inst y stack b.room ∷ below; memory = fs }))
+  block_at : (p : World) (x : Block) (y : ℕ) → BlockAt s code (site_at t b u) (length ks) x y q → ks' ≡ ks → Alike R (compound s p m inst w vals rest x) (Going p (record { chain = act inst y stack b ∷ below; memory = fs }))
   block_at p (Begin token NoDeclaration ss end) y a e = stays (Do (Execs ss) ∷ w) y (pending w (Execs ss) y q ks ks' (a, e) k) refl
   block_at p (Begin token (With d ds) ss end) y a e = entered p (block_around s token) (line_at s token) y a e
 
@@ -174,6 +177,46 @@ module _ (s : Source) (code : CodeOf) (l : Limits) (agrees : Agrees s) (o : Worl
       let h = a.chosen in
       tests ks' h.z h.x (Do (Exec x) ∷ Do PastOp ∷ w) (Do (Execs (Also y more)) ∷ w) a.«in» h.jump h.leads
       (pending (Do PastOp ∷ w) (Exec x) h.z h.w ks' ks' (straight h.first, refl) (pending w PastOp h.w q ks' ks' (h.x, h.over, h.past, refl) k)) (pending w (Execs (Also y more)) h.x q ks' ks' (h.second, refl) k) _ (λ c vals'. refl)
+
+  -- ---- connections
+
+  pub inspect_statement : (token : ℕ) (e : Expression) (opening : ℕ) (x : Statement) (end : ℕ) (other : Statements) → FollowsStatement (syntax.Inspect token e opening x end other)
+  inspect_statement token e opening x end other a =
+      let z = a.0 in
+      let h = z.2 in
+      ticks _ z.0 z.1 (λ p. stays (Do (Eval (close s m inst e)) ∷ Do (ConnectOp opening x other) ∷ w) z.0
+      (closing (Do (ConnectOp opening x other) ∷ w) e z.0 h.a ks h.object
+      (pending w (ConnectOp opening x other) h.a q (Any ∷ ks) ks' (record {
+        left = ks;
+        b = h.b;
+        c = h.c;
+        d = h.d;
+        e = h.e;
+        f = h.f;
+        g = h.g;
+        y = h.y;
+        z = h.z;
+        again = h.again;
+        none = h.none;
+        same = h.same;
+        other_than = h.other;
+        jump = h.jump;
+        leads = h.leads;
+        connected = h.connected;
+        over = h.over;
+        past = h.past;
+        dropped = h.dropped;
+        otherwise = h.otherwise;
+        «in» = refl;
+        out = a.1;
+      }) k)) refl)
+
+  pub inspect_when_statement : (token : ℕ) (e : Expression) (arms : Arms) (other : Statements) → FollowsStatement (syntax.InspectWhen token e arms other)
+  inspect_when_statement token e arms other a =
+      let z = a.0 in
+      ticks _ z.0 z.2 (λ p. stays (Do (Eval (close s m inst e)) ∷ Do (WhenOp arms other) ∷ w) z.0
+      (closing (Do (WhenOp arms other) ∷ w) e z.0 z.1 ks z.3
+      (pending w (WhenOp arms other) z.1 q (Any ∷ ks) ks' (record { left = ks; tried = z.4; «in» = refl; out = a.1 }) k)) refl)
 
   -- ---- loops
 

@@ -1,29 +1,31 @@
 -- Both stores alike: reading, writing, entries, ends, and instances that are kept.
-use Rattle.std.proofs.Common.{◌≡◌, ◌≢◌, ℕ, zero, suc, ◌+◌, ◌<◌, ◌≤◌, List, [], ◌∷◌, length, Option, Some, None, Bool, true, false, ⊎_elim, refl, sym, ap, ◌∙◌, subst, arith, length-append}
+use Rattle.std.proofs.Common.{◌≡◌, ◌≢◌, ◌⊎◌, inl, inr, ℕ, zero, suc, ◌+◌, ◌<◌, ◌≤◌, List, [], ◌∷◌, ◌++◌, length, Option, Some, None, Bool, true, false, ⊎_elim, refl, sym, ap, ◌∙◌, subst, arith, length-append}
 use Rattle.std.proofs.lemmas.Bool.{cases_eq}
 use Rattle.std.proofs.lemmas.List.{length-set}
 use Rattle.std.proofs.lemmas.Option.{slice_get_within}
-use Rattle.std.specs.Prelude.{◌==◌, ◌&&◌, not, if◌then◌else◌, map, nat_lt, slice_get, slice_set}
+use Rattle.std.specs.Prelude.{◌==◌, ◌&&◌, not, if◌then◌else◌, nat_lt, slice_get, slice_set}
 use Rattle.sim_chains.specs.Components.{Standing}
 use Rattle.sim_scope.specs.Access.{encloser}
 use Rattle.sim_scope.specs.Source.{Source, level_of}
-use Rattle.sim_code.specs.Code.{BlockOf, CodeOf}
+use Rattle.sim_code.specs.Code.{CodeOf}
 use Rattle.sim_code.specs.Instances.{Instance, at_level, cells_in as cells_of_live, cells_put, ends_in, entered, found_at, given, given_in, is_given_at_end, is_live, is_live_in, kept_at, kept_further, kept_on, level_within, live, outward, with_instance}
 use Rattle.sim_code.specs.Machine.{Cells, Frames, Value, joined}
 use Rattle.sim_code.specs.Machine as machine
 use Rattle.sim_code.proofs.Lifts.{Both}
-use Rattle.sim_meaning.specs.Pending.{Activation, Held, Instances, Key, Val, held, held_set}
+use Rattle.sim_meaning.specs.Pending.{Activation, Held, Instances, Key, Val, held, same_key}
 use Rattle.sim_meaning.specs.Pending as meaning
 use Rattle.sim_meaning.specs.Texts.{text}
 use Rattle.sim_meaning.specs.Sane.{Lives, Other}
-use Rattle.codegen_expr.specs.CodeExpr.{block_number}
-use Rattle.codegen_expr.specs.Sites.{HasCell, cells_in, place_of, slot_of}
+use Rattle.codegen_expr.specs.Sites.{HasCell, block_number, frame_text, own_part, place_of, slot_of, start_of}
+use Rattle.sim_relate.proofs.Frames.{bool_cases}
 use Rattle.sim_relate.proofs.Heads.{Heads, Same, both_found, both_heads, entered_same, given_both, given_same, heads_refl, is_live_at, kept_same, later_all, later_heads, later_itself, set_self}
-use Rattle.sim_relate.proofs.Lists.{append_at, append_both, both_as, set_both, set_other, set_same, there_get}
+use Rattle.sim_relate.proofs.Layouts.{less_or}
+use Rattle.sim_relate.proofs.Lists.{append_at, append_before, append_both, both_as, set_both, set_other, set_same, there_get}
 use Rattle.sim_relate.proofs.Living.{lives_now}
 use Rattle.sim_relate.proofs.Reach.{if_true, is_there, same_some}
-use Rattle.sim_relate.proofs.Relation.{CellsAt, Changed, Every, InstanceAt, Keeps, Later, Stands, StoreAt, ValAt, inside, key_of, outermost, placed, placed_in, value_of}
-use Rattle.sim_relate.proofs.Slots.{cells_fit, cells_read, cells_write, keys_length, keys_place, less_true, temp_write}
+use Rattle.sim_relate.proofs.Known.{Every, Keeps, Later, Runs, SlotAt, Stands, ValAt, fixed_value, inside, is_declared, is_fixed, outermost, placed, placed_in}
+use Rattle.sim_relate.proofs.Relation.{Changed, InstanceAt, StoreAt}
+use Rattle.sim_relate.proofs.Slots.{less_true, place_injective, put_in, same_is, same_self, set_in}
 
 -- ---- frames after a value is put into a cell of one of them
 
@@ -60,13 +62,35 @@ module _ (fs : Frames) (j : ℕ) (y : Instance Cells) (lives : live fs j ≡ Som
 
 module _ (s : Source) (code : CodeOf) where
   pub instance_kept : {x : Instance (List Held)} {y : Instance Cells} → InstanceAt s code x y → InstanceAt s code (record x { kept = true }) (record y { kept = true })
-  instance_kept a = record { number = a.number; level = a.level; encloser = a.encloser; passing = a.passing; kept = refl; given_back = a.given_back; cells = a.cells; keys = a.keys; size = a.size }
+  instance_kept a = record { number = a.number; level = a.level; encloser = a.encloser; passing = a.passing; kept = refl; given_back = a.given_back; own = a.own; start = a.start; alone = a.alone; cells = a.cells; there = a.there; fits = a.fits; size = a.size }
 
   pub instance_given : {x : Instance (List Held)} {y : Instance Cells} → InstanceAt s code x y → InstanceAt s code (record x { given_back = true }) (record y { given_back = true })
-  instance_given a = record { number = a.number; level = a.level; encloser = a.encloser; passing = a.passing; kept = a.kept; given_back = refl; cells = a.cells; keys = a.keys; size = a.size }
+  instance_given a = record { number = a.number; level = a.level; encloser = a.encloser; passing = a.passing; kept = a.kept; given_back = refl; own = a.own; start = a.start; alone = a.alone; cells = a.cells; there = a.there; fits = a.fits; size = a.size }
 
-  pub store_put : {m : Instances} {fs : Frames} → StoreAt s code m fs → (j : ℕ) (x : Instance (List Held)) (y : Instance Cells) → InstanceAt s code x y → StoreAt s code (with_instance m j x) (with_instance fs j y)
-  store_put {m} {fs} a j x y p = record { as_many = length-set m.instances j x ∙ a.as_many ∙ sym (length-set fs.instances j y); at = set_both (InstanceAt s code) m.instances fs.instances j x y a.at p }
+  -- each instance still stands for its own text
+  all_heads : (m m' : Instances) → ((k : ℕ) → Both Heads (slice_get m.instances k) (slice_get m'.instances k)) → ((j : ℕ) (x : Instance (List Held)) → slice_get m.instances j ≡ Some x → Stands s m j x.text) → (j : ℕ) (x : Instance (List Held)) → slice_get m'.instances j ≡ Some x → Stands s m' j x.text
+  all_heads m m' both all j x e = back (slice_get m.instances j) refl (subst (λ z. Both Heads (slice_get m.instances j) z) e (both j))
+    where
+      back : (o : Option (Instance (List Held))) → slice_get m.instances j ≡ o → Both Heads (slice_get m.instances j) (Some x) → Stands s m' j x.text
+      back None eo b = absurd (subst (λ z. Both Heads z (Some x)) eo b)
+      back (Some y) eo b =
+          let h : Heads y x = subst (λ z. Both Heads z (Some x)) eo b in
+          subst (λ z. Stands s m' j z) (sym h.text) ((later_all s m m' both).stands j y.text (all j y eo))
+
+  pub store_put : {m : Instances} {fs : Frames} → StoreAt s code m fs → (j : ℕ) (old x : Instance (List Held)) (y : Instance Cells) → slice_get m.instances j ≡ Some old → Heads old x → InstanceAt s code x y → StoreAt s code (with_instance m j x) (with_instance fs j y)
+  store_put {m} {fs} a j old x y there h p = record {
+    as_many = length-set m.instances j x ∙ a.as_many ∙ sym (length-set fs.instances j y);
+    at = set_both (InstanceAt s code) m.instances fs.instances j x y a.at p;
+    all = all_heads m (with_instance m j x) (λ k. set_self Heads heads_refl m.instances j old x there h k) a.all;
+  }
+
+  slot_both : (f : Bool) (key : Key) (v : Option Val) (c : Option Value) → f ≡ false → SlotAt s f key v c → Both ValAt v c
+  slot_both true key v c e a = absurd (cc)
+  slot_both false key v c e a = a
+
+  slot_apart : (t : ℕ) (k l : Key) → HasCell s t k → slot_of s code t l ≡ slot_of s code t k → k ≡ l
+  unfolding slot_of
+  slot_apart t k l has e = place_injective (own_part s t) k l (omega (arith, e)) has
 
   module _ (m : Instances) (fs : Frames) (a : StoreAt s code m fs) where
     pub live_pair : (j : ℕ) → Both (InstanceAt s code) (live m j) (live fs j)
@@ -79,93 +103,141 @@ module _ (s : Source) (code : CodeOf) where
       pub frame : Instance Cells
       pub frame_lives : live fs j ≡ Some frame
       pub pair : InstanceAt s code now frame
-      pub of_text : now.text ≡ t
-      pub keys : map key_of now.cells ≡ map key_of (cells_in s t (text s t))
+      pub of_text : now.text ≡ frame_text s t
 
     pub framed : {j t : ℕ} → Stands s m j t → (now : Instance (List Held)) → live m j ≡ Some now → Framed j t
     framed {j} {t} st now lives =
         let x = is_there s m st in
         let same : x.now ≡ now = same_some (slice_get m.instances j) x.now now x.is (is_live_at (slice_get m.instances j) now lives).there in
         let y = both_found (InstanceAt s code) (live m j) (live fs j) now lives (live_pair j) in
-        let of_text : now.text ≡ t = sym (ap (λ z. z.text) same) ∙ x.text in
-        record { now = now; lives = lives; frame = y.it; frame_lives = y.is; pair = y.related; of_text = of_text; keys = subst (λ k. map key_of now.cells ≡ map key_of (cells_in s k (text s k))) of_text (y.related).keys }
+        record { now = now; lives = lives; frame = y.it; frame_lives = y.is; pair = y.related; of_text = sym (ap (λ z. z.text) same) ∙ x.text }
 
-    pub slot_here : (j t : ℕ) (key : Key) (f : Framed j t) → slot_of s t key ≡ place_of key f.now.cells
+    -- the slot of a cell is one of the frame
+    slot_fits : (j t : ℕ) (key : Key) (f : Framed j t) → f.now.text ≡ t → HasCell s t key → slot_of s code t key < length f.frame.cells
     unfolding slot_of
-    slot_here j t key f = sym (keys_place key f.now.cells (cells_in s t (text s t)) f.keys)
-
-    pub count_here : (j t : ℕ) (f : Framed j t) → length f.now.cells ≡ length (cells_in s t (text s t))
-    count_here j t f = keys_length f.now.cells (cells_in s t (text s t)) f.keys
-
-    fits_here : (j t : ℕ) (key : Key) (f : Framed j t) → HasCell s t key → place_of key f.now.cells < length f.now.cells
-    fits_here j t key f has = let e = slot_here j t key f in let n = count_here j t f in omega (arith, has, e, n)
+    slot_fits j t key f is has =
+        let fits : length (own_part s t) ≤ length f.frame.cells = subst (λ z. length (own_part s z) ≤ length f.frame.cells) is (f.pair).fits in
+        let start : start_of s code t ≡ 0 = ap (start_of s code) (sym is) ∙ (f.pair).start in
+        omega (arith, has, fits, start)
 
     -- reading a cell
-    cell_live_read : (j t : ℕ) (key : Key) → Framed j t → HasCell s t key → Both ValAt (meaning.cell m j key) (machine.cell fs j (slot_of s t key))
-    cell_live_read j t key f has =
-        both_as ValAt (held key f.now.cells) (meaning.cell m j key) (joined (slice_get f.frame.cells (place_of key f.now.cells))) (machine.cell fs j (slot_of s t key))
+    cell_live_read : (j t : ℕ) (key : Key) → Framed j t → frame_text s t ≡ t → HasCell s t key → is_fixed s key ≡ false → Both ValAt (meaning.cell m j key) (machine.cell fs j (slot_of s code t key))
+    cell_live_read j t key f own has varies =
+        let is : f.now.text ≡ t = f.of_text ∙ own in
+        let has' : HasCell s f.now.text key = subst (λ z. HasCell s z key) (sym is) has in
+        let read = (f.pair).cells key has' in
+        let read' = subst (λ z. SlotAt s (is_fixed s key) key (held key f.now.cells) (joined (slice_get f.frame.cells (slot_of s code z key)))) is read in
+        both_as ValAt (held key f.now.cells) (meaning.cell m j key) (joined (slice_get f.frame.cells (slot_of s code t key))) (machine.cell fs j (slot_of s code t key))
         (ap (λ z. meaning.value_in (cells_of_live z) key) f.lives)
-        (ap (λ z. machine.value_in (cells_of_live z) (slot_of s t key)) f.frame_lives ∙ ap (λ c. joined (slice_get f.frame.cells c)) (slot_here j t key f))
-        (cells_read ValAt key f.now.cells f.frame.cells (f.pair).cells (fits_here j t key f has))
+        (ap (λ z. machine.value_in (cells_of_live z) (slot_of s code t key)) f.frame_lives)
+        (slot_both (is_fixed s key) key _ _ varies read')
 
     -- of an instance that was given back neither side has cells
-    pub cell_here_read : (j t : ℕ) (key : Key) → Stands s m j t → HasCell s t key → Both ValAt (meaning.cell m j key) (machine.cell fs j (slot_of s t key))
-    cell_here_read j t key st has = read_pair (live m j) (live fs j) refl refl (live_pair j)
+    pub cell_here_read : (j t : ℕ) (key : Key) → Stands s m j t → frame_text s t ≡ t → HasCell s t key → is_fixed s key ≡ false → Both ValAt (meaning.cell m j key) (machine.cell fs j (slot_of s code t key))
+    cell_here_read j t key st own has varies = read_pair (live m j) (live fs j) refl refl (live_pair j)
       where
-        read_pair : (x : Option (Instance (List Held))) (y : Option (Instance Cells)) → live m j ≡ x → live fs j ≡ y → Both (InstanceAt s code) x y → Both ValAt (meaning.cell m j key) (machine.cell fs j (slot_of s t key))
-        read_pair None None ex ey p = both_as ValAt None (meaning.cell m j key) None (machine.cell fs j (slot_of s t key)) (ap (λ z. meaning.value_in (cells_of_live z) key) ex) (ap (λ z. machine.value_in (cells_of_live z) (slot_of s t key)) ey) tt
+        read_pair : (x : Option (Instance (List Held))) (y : Option (Instance Cells)) → live m j ≡ x → live fs j ≡ y → Both (InstanceAt s code) x y → Both ValAt (meaning.cell m j key) (machine.cell fs j (slot_of s code t key))
+        read_pair None None ex ey p = both_as ValAt None (meaning.cell m j key) None (machine.cell fs j (slot_of s code t key)) (ap (λ z. meaning.value_in (cells_of_live z) key) ex) (ap (λ z. machine.value_in (cells_of_live z) (slot_of s code t key)) ey) tt
         read_pair None (Some y) ex ey p = absurd p
         read_pair (Some x) None ex ey p = absurd p
-        read_pair (Some x) (Some y) ex ey p = cell_live_read j t key (framed st x ex) has
+        read_pair (Some x) (Some y) ex ey p = cell_live_read j t key (framed st x ex) own has varies
+
+    -- what a constant's cell holds, if it is there
+    pub fixed_read : (j t : ℕ) (key : Key) → Stands s m j t → frame_text s t ≡ t → HasCell s t key → is_fixed s key ≡ true → (meaning.cell m j key ≡ None) ⊎ (meaning.cell m j key ≡ fixed_value s key)
+    unfolding framed
+    fixed_read j t key st own has fixed = read_one (live m j) refl
+      where
+        fixed_slot : (f : Bool) (v : Option Val) (c : Option Value) → f ≡ true → SlotAt s f key v c → (v ≡ None) ⊎ (v ≡ fixed_value s key)
+        fixed_slot true v c e a = a
+        fixed_slot false v c e a = absurd (cc)
+
+        read_one : (x : Option (Instance (List Held))) → live m j ≡ x → (meaning.cell m j key ≡ None) ⊎ (meaning.cell m j key ≡ fixed_value s key)
+        read_one None ex = inl (ap (λ z. meaning.value_in (cells_of_live z) key) ex)
+        read_one (Some x) ex =
+            let f = framed st x ex in
+            let is : x.text ≡ t = f.of_text ∙ own in
+            let there : meaning.cell m j key ≡ held key x.cells = ap (λ z. meaning.value_in (cells_of_live z) key) ex in
+            ⊎_elim (λ e. inl (there ∙ e)) (λ e. inr (there ∙ e)) (fixed_slot (is_fixed s key) (held key x.cells) _ fixed ((f.pair).cells key (subst (λ z. HasCell s z key) (sym is) has)))
 
     -- writing a cell
-    record Wrote (j t : ℕ) (key : Key) (v : Val) (y : Value) : Type 0 where
+    record Wrote (o : Option Instances) (j t : ℕ) (key : Key) (y : Value) : Type 0 where
       now : Instances
       frames : Frames
-      is : meaning.cell_set m j key v ≡ Some now
-      is_frames : machine.cell_set fs j (slot_of s t key) y ≡ Some frames
+      is : o ≡ Some now
+      is_frames : machine.cell_set fs j (slot_of s code t key) y ≡ Some frames
       changed : Changed s code Every m fs now frames
 
-    one_text : {j t u : ℕ} → Stands s m j t → Stands s m j u → u ≡ t
+    one_text : {j t u : ℕ} → Stands s m j t → Stands s m j u → frame_text s u ≡ frame_text s t
     one_text {j} p q =
         let x = is_there s m p in
         let y = is_there s m q in
         let same : x.now ≡ y.now = same_some (slice_get m.instances j) x.now y.now x.is y.is in
         sym y.text ∙ sym (ap (λ z. z.text) same) ∙ x.text
 
-    store_write : (j t : ℕ) (key : Key) (v : Val) (y : Value) → Stands s m j t → Framed j t → HasCell s t key → ValAt v y → Wrote j t key v y
-    store_write j t key v y st f has w =
-        let slot = slot_of s t key in
-        let place = slot_here j t key f in
-        let n = count_here j t f in
-        let p = f.pair in
-        let hs = f.now.cells in
-        let cs = f.frame.cells in
-        let fits = cells_fit ValAt hs cs p.cells in
-        let lt : slot < length cs = omega (arith, fits, has, n) in
-        let x = cells_write ValAt key v y hs cs p.cells w (fits_here j t key f has) in
-        let new : Instance (List Held) = record f.now { cells = x.now } in
-        let new' : Instance Cells = frame_put fs j f.frame f.frame_lives slot y in
-        let pair : InstanceAt s code new new' = record {
-          number = p.number;
-          level = p.level;
-          encloser = p.encloser;
-          passing = p.passing;
-          kept = p.kept;
-          given_back = p.given_back;
-          cells = subst (λ c. CellsAt ValAt (map value_of x.now) (slice_set cs c (Some y))) (sym place) x.at;
-          keys = x.keys ∙ p.keys;
-          size = λ b e. length-set cs slot (Some y) ∙ p.size b e;
-        } in
-        let there = is_live_at (slice_get m.instances j) f.now f.lives in
-        let heads : Heads f.now new = record { text = refl; level = refl; encloser = refl } in
-        record {
-          now = with_instance m j new;
-          frames = frames_put fs j f.frame f.frame_lives slot y;
-          is = ap (λ z. cells_put m j z (meaning.put_in (cells_of_live z) key v)) f.lives ∙ ap (cells_put m j (Some f.now)) x.is;
-          is_frames = frame_set fs j f.frame f.frame_lives slot y lt;
-          changed = record {
-            store = store_put a j new new' pair;
+    -- other cells of an instance: one has another value, and all others are as they were
+    module _ (j t : ℕ) (key : Key) (v : Val) (y : Value) (st : Stands s m j t) (f : Framed j t) (own : frame_text s t ≡ t) (has : HasCell s t key) (varies : is_fixed s key ≡ false) (w : ValAt v y) (cells : List Held) (here : held key cells ≡ Some v) (others : (k : Key) → same_key key k ≡ false → held k cells ≡ held k f.now.cells) (stay : (k : Key) → place_of k f.now.cells < length f.now.cells → place_of k cells < length cells) where
+      abbrev slot : ℕ
+      slot = slot_of s code t key
+
+      abbrev new : Instance (List Held)
+      new = record f.now { cells = cells }
+
+      abbrev new_frame : Instance Cells
+      new_frame = frame_put fs j f.frame f.frame_lives slot y
+
+      text_is : f.now.text ≡ t
+      text_is = f.of_text ∙ own
+
+      fits : slot < length f.frame.cells
+      fits = slot_fits j t key f text_is has
+
+      slot_written : (f2 : Bool) (k : Key) → f2 ≡ false → (a : Option Val) (c : Option Value) → a ≡ Some v → c ≡ Some y → SlotAt s f2 k a c
+      slot_written true k e a c ea ec = absurd (cc)
+      slot_written false k e a c ea ec = subst (λ z. Both ValAt z c) (sym ea) (subst (λ z. Both ValAt (Some v) z) (sym ec) w)
+
+      cells_then : (k : Key) → HasCell s f.now.text k → SlotAt s (is_fixed s k) k (held k cells) (joined (slice_get (slice_set f.frame.cells slot (Some y)) (slot_of s code f.now.text k)))
+      cells_then k hask =
+          let slots : slot_of s code f.now.text k ≡ slot_of s code t k = ap (λ z. slot_of s code z k) text_is in
+          bool_cases (same_key key k)
+          (λ e. let same : key ≡ k = same_is key k e in
+          let place : slot_of s code f.now.text k ≡ slot = slots ∙ sym (ap (slot_of s code t) same) in
+          let x = there_get f.frame.cells slot fits in
+          slot_written (is_fixed s k) k (ap (is_fixed s) (sym same) ∙ varies) _ _ (ap (λ z. held z cells) (sym same) ∙ here) (ap (λ c. joined (slice_get (slice_set f.frame.cells slot (Some y)) c)) place ∙ ap joined (set_same f.frame.cells slot x.0 (Some y) x.1)))
+          (λ e. let apart : slot_of s code f.now.text k ≢ slot = λ at. (let same : key ≡ k = slot_apart t key k has (sym slots ∙ at) in let yes : same_key key k ≡ true = ap (same_key key) (sym same) ∙ same_self key in let no : ⊥ = absurd (cc (e, yes)) in no) in
+          subst (λ z. SlotAt s (is_fixed s k) k z (joined (slice_get (slice_set f.frame.cells slot (Some y)) (slot_of s code f.now.text k)))) (sym (others k e))
+          (subst (λ z. SlotAt s (is_fixed s k) k (held k f.now.cells) (joined z)) (sym (set_other f.frame.cells slot (slot_of s code f.now.text k) (Some y) apart)) ((f.pair).cells k hask)))
+
+      pair_then : InstanceAt s code new new_frame
+      pair_then =
+          let p = f.pair in
+          let long = length-set f.frame.cells slot (Some y) in
+          let room = p.fits in
+          record {
+            number = p.number;
+            level = p.level;
+            encloser = p.encloser;
+            passing = p.passing;
+            kept = p.kept;
+            given_back = p.given_back;
+            own = p.own;
+            start = p.start;
+            alone = p.alone;
+            cells = cells_then;
+            there = λ k hask d. stay k (p.there k hask d);
+            fits = omega (arith, long, room);
+            size = λ b e. long ∙ p.size b e;
+          }
+
+      past : (c : ℕ) → length (own_part s t) ≤ c → c ≡ slot → ⊥
+      unfolding slot_of
+      past c behind e = let start : start_of s code t ≡ 0 = ap (start_of s code) (sym text_is) ∙ (f.pair).start in omega (arith, has, behind, e, start)
+
+      changed_then : Changed s code Every m fs (with_instance m j new) (frames_put fs j f.frame f.frame_lives slot y)
+      changed_then =
+          let there = is_live_at (slice_get m.instances j) f.now f.lives in
+          let heads : Heads f.now new = record { text = refl; level = refl; encloser = refl } in
+          record {
+            store = store_put a j f.now new new_frame there.there heads pair_then;
             standings = refl;
             frame_standings = refl;
             later = later_all s m (with_instance m j new) (λ k. set_self Heads heads_refl m.instances j f.now new there.there heads k);
@@ -173,12 +245,37 @@ module _ (s : Source) (code : CodeOf) where
               temps = λ k u c _ stands le.
                   placed_other fs j f.frame f.frame_lives slot y k c
                   (λ same.
-                  let here : Stands s m j u = subst (λ z. Stands s m z u) same stands in
-                  let texts : u ≡ t = one_text st here in
-                  let behind : length (cells_in s t (text s t)) ≤ c = subst (λ z. length (cells_in s z (text s z)) ≤ c) texts le in
-                  λ e. (let no : ⊥ = omega (arith, behind, has, e) in no));
+                  let here2 : Stands s m j u = subst (λ z. Stands s m z u) same stands in
+                  let texts : frame_text s u ≡ t = one_text st here2 ∙ own in
+                  let behind : length (own_part s t) ≤ c = subst (λ z. length (own_part s z) ≤ c) texts le in
+                  λ e. past c behind e);
             };
-          };
+          }
+
+    store_write : (j t : ℕ) (key : Key) (v : Val) (y : Value) → Stands s m j t → Framed j t → frame_text s t ≡ t → HasCell s t key → is_fixed s key ≡ false → is_declared key ≡ true → ValAt v y → Wrote (meaning.cell_set m j key v) j t key y
+    store_write j t key v y st f own has varies declared w =
+        let is = f.of_text ∙ own in
+        let there = (f.pair).there key (subst (λ z. HasCell s z key) (sym is) has) declared in
+        let x = set_in key v f.now.cells there in
+        record {
+          now = with_instance m j (record f.now { cells = x.now });
+          frames = frames_put fs j f.frame f.frame_lives (slot_of s code t key) y;
+          is = ap (λ z. cells_put m j z (meaning.put_in (cells_of_live z) key v)) f.lives ∙ ap (cells_put m j (Some f.now)) x.is;
+          is_frames = frame_set fs j f.frame f.frame_lives (slot_of s code t key) y (slot_fits j t key f is has);
+          changed = changed_then j t key v y st f own has varies w x.now x.here x.others (λ k lt. let e = x.places k in let n = x.long in omega (arith, lt, e, n));
+        }
+
+    -- a cell that need not have been there
+    store_made : (j t : ℕ) (key : Key) (v : Val) (y : Value) → Stands s m j t → Framed j t → frame_text s t ≡ t → HasCell s t key → is_fixed s key ≡ false → ValAt v y → Wrote (meaning.cell_made m j key v) j t key y
+    store_made j t key v y st f own has varies w =
+        let is = f.of_text ∙ own in
+        let x = put_in key v f.now.cells in
+        record {
+          now = with_instance m j (record f.now { cells = meaning.held_put key v f.now.cells });
+          frames = frames_put fs j f.frame f.frame_lives (slot_of s code t key) y;
+          is = ap (λ z. cells_put m j z (meaning.made_in (cells_of_live z) key v)) f.lives;
+          is_frames = frame_set fs j f.frame f.frame_lives (slot_of s code t key) y (slot_fits j t key f is has);
+          changed = changed_then j t key v y st f own has varies w (meaning.held_put key v f.now.cells) x.here x.others x.stay;
         }
 
     -- what lies in the frame of an instance that lives is in its cells
@@ -206,15 +303,19 @@ module _ (s : Source) (code : CodeOf) where
       holds : placed frames j temp ≡ Some y
       others : (c : ℕ) → c ≢ temp → placed frames j c ≡ placed fs j c
 
-    store_temp : (j t temp : ℕ) (y : Value) (b : BlockOf) → Framed j t → slice_get code.blocks (block_number s t) ≡ Some b → length (cells_in s t (text s t)) ≤ temp → temp < length b.types → WroteTemp j temp y
+    before_temp : (x t temp : ℕ) (k : Key) → start_of s code x ≡ 0 → x ≡ frame_text s t → HasCell s x k → length (own_part s (frame_text s t)) ≤ temp → slot_of s code x k ≡ temp → ⊥
+    unfolding slot_of
+    before_temp x t temp k start is has behind e = let long : length (own_part s x) ≤ temp = subst (λ z. length (own_part s z) ≤ temp) (sym is) behind in omega (arith, start, has, long, e)
+
+    store_temp : (j t temp : ℕ) (y : Value) (b : Runs) → Framed j t → slice_get code.blocks (block_number s (frame_text s t)) ≡ Some b.block → length (own_part s (frame_text s t)) ≤ temp → temp < length b.block.types → WroteTemp j temp y
     store_temp j t temp y b f found behind within =
-        let n = count_here j t f in
         let p = f.pair in
         let cs = f.frame.cells in
-        let size : length cs ≡ length b.types = p.size b (ap (λ k. slice_get code.blocks (block_number s k)) f.of_text ∙ found) in
+        let size : length cs ≡ length b.block.types = p.size b.block (ap (λ k. slice_get code.blocks (block_number s k)) f.of_text ∙ found) in
         let lt : temp < length cs = omega (arith, within, size) in
-        let past : length f.now.cells ≤ temp = omega (arith, behind, n) in
         let new : Instance Cells = frame_put fs j f.frame f.frame_lives temp y in
+        let long = length-set cs temp (Some y) in
+        let room = p.fits in
         let pair : InstanceAt s code f.now new = record {
           number = p.number;
           level = p.level;
@@ -222,9 +323,13 @@ module _ (s : Source) (code : CodeOf) where
           passing = p.passing;
           kept = p.kept;
           given_back = p.given_back;
-          cells = temp_write ValAt temp (Some y) f.now.cells cs p.cells past;
-          keys = p.keys;
-          size = λ b e. length-set cs temp (Some y) ∙ p.size b e;
+          own = p.own;
+          start = p.start;
+          alone = p.alone;
+          cells = λ k hask. subst (λ z. SlotAt s (is_fixed s k) k (held k f.now.cells) (joined z)) (sym (set_other cs temp (slot_of s code f.now.text k) (Some y) (λ e. before_temp f.now.text t temp k p.start f.of_text hask behind e))) (p.cells k hask);
+          there = p.there;
+          fits = omega (arith, long, room);
+          size = λ b e. long ∙ p.size b e;
         } in
         let there = is_live_at (slice_get m.instances j) f.now f.lives in
         let others = placed_other fs j f.frame f.frame_lives temp y in
@@ -232,7 +337,7 @@ module _ (s : Source) (code : CodeOf) where
           frames = frames_put fs j f.frame f.frame_lives temp y;
           is = frame_set fs j f.frame f.frame_lives temp y lt;
           changed = record {
-            store = record { as_many = a.as_many ∙ sym (length-set fs.instances j new); at = set_right (InstanceAt s code) m.instances fs.instances j f.now new a.at there.there pair };
+            store = record { as_many = a.as_many ∙ sym (length-set fs.instances j new); at = set_right (InstanceAt s code) m.instances fs.instances j f.now new a.at there.there pair; all = a.all };
             later = later_itself s m;
             keeps = record { temps = λ k u c other st le. others k c (λ same. absurd (other same)) };
             standings = refl;
@@ -264,22 +369,32 @@ module _ (s : Source) (code : CodeOf) where
 
     -- ---- entries
 
-    pub store_entered : (x : Instance (List Held)) (y : Instance Cells) (p : Standing Activation) (q : Standing machine.Activation) → InstanceAt s code x y → StoreAt s code (entered m x p) (entered fs y q)
-    store_entered x y p q pair = record {
+    later_new : (x : Instance (List Held)) (p : Standing Activation) → Later s m (entered m x p)
+    later_new x p = later_heads s m (entered m x p) (λ k y e. both_found Heads (slice_get m.instances k) (slice_get (entered m x p).instances k) y e (both_heads (slice_get m.instances k) (slice_get (entered m x p).instances k) (entered_same m x p k (slice_get_within m.instances k y e))))
+
+    pub store_entered : (x : Instance (List Held)) (y : Instance Cells) (p : Standing Activation) (q : Standing machine.Activation) → InstanceAt s code x y → Stands s (entered m x p) (length m.instances) x.text → StoreAt s code (entered m x p) (entered fs y q)
+    store_entered x y p q pair st = record {
       as_many = length-append m.instances (x ∷ []) ∙ ap (λ n. n + 1) a.as_many ∙ sym (length-append fs.instances (y ∷ []));
       at = append_both (InstanceAt s code) m.instances fs.instances x y a.at pair;
+      all = λ j z e. less_or j (length m.instances)
+          (λ lt. (later_new x p).stands j z.text (a.all j z (sym (append_before m.instances x j lt) ∙ e)))
+          (λ le. let n = slice_get_within (m.instances ++ x ∷ []) j z e in
+          let long = length-append m.instances (x ∷ []) in
+          let last : j ≡ length m.instances = omega (arith, le, n, long) in
+          let same : x ≡ z = same_some (slice_get (m.instances ++ x ∷ []) (length m.instances)) x z (append_at m.instances x) (ap (slice_get (m.instances ++ x ∷ [])) (sym last) ∙ e) in
+          subst (λ k. Stands s (entered m x p) k z.text) (sym last) (subst (λ k. Stands s (entered m x p) (length m.instances) (k.text)) same st));
     }
 
     -- ---- ends
 
-    given_pair : (i : ℕ) (x : Option (Instance (List Held))) (y : Option (Instance Cells)) → Both (InstanceAt s code) x y → StoreAt s code (given_in m i x) (given_in fs i y)
-    given_pair i None None b = a
-    given_pair i None (Some y) b = absurd b
-    given_pair i (Some x) None b = absurd b
-    given_pair i (Some x) (Some y) b = store_put a i (record x { given_back = true }) (record y { given_back = true }) (instance_given b)
+    given_pair : (i : ℕ) (x : Option (Instance (List Held))) (y : Option (Instance Cells)) → slice_get m.instances i ≡ x → Both (InstanceAt s code) x y → StoreAt s code (given_in m i x) (given_in fs i y)
+    given_pair i None None e b = a
+    given_pair i None (Some y) e b = absurd b
+    given_pair i (Some x) None e b = absurd b
+    given_pair i (Some x) (Some y) e b = store_put a i x (record x { given_back = true }) (record y { given_back = true }) e (record { text = refl; level = refl; encloser = refl }) (instance_given b)
 
     pub store_given : (i : ℕ) → StoreAt s code (given m i) (given fs i)
-    store_given i = given_pair i (slice_get m.instances i) (slice_get fs.instances i) (a.at i)
+    store_given i = given_pair i (slice_get m.instances i) (slice_get fs.instances i) refl (a.at i)
 
   -- ---- instances that are kept
 
@@ -293,18 +408,18 @@ module _ (s : Source) (code : CodeOf) where
   abbrev KeptAlike : (Instances → Instances) → (Frames → Frames) → Type 0
   KeptAlike go go' = (m : Instances) (fs : Frames) → StoreAt s code m fs → StoreAt s code (go m) (go' fs)
 
-  kept_flag : (go : Instances → Instances) (go' : Frames → Frames) → KeptAlike go go' → (m : Instances) (fs : Frames) → StoreAt s code m fs → (j : ℕ) (x : Instance (List Held)) (y : Instance Cells) → InstanceAt s code x y → (b b' : Bool) → b' ≡ b
+  kept_flag : (go : Instances → Instances) (go' : Frames → Frames) → KeptAlike go go' → (m : Instances) (fs : Frames) → StoreAt s code m fs → (j : ℕ) (x : Instance (List Held)) (y : Instance Cells) → slice_get m.instances j ≡ Some x → InstanceAt s code x y → (b b' : Bool) → b' ≡ b
       → StoreAt s code (if b then go (with_instance m j (record x { kept = true })) else m) (if b' then go' (with_instance fs j (record y { kept = true })) else fs)
-  kept_flag go go' f m fs a j x y p true true e = f _ _ (store_put a j (record x { kept = true }) (record y { kept = true }) (instance_kept p))
-  kept_flag go go' f m fs a j x y p true false e = absurd (cc)
-  kept_flag go go' f m fs a j x y p false true e = absurd (cc)
-  kept_flag go go' f m fs a j x y p false false e = a
+  kept_flag go go' f m fs a j x y ex p true true e = f _ _ (store_put a j x (record x { kept = true }) (record y { kept = true }) ex (record { text = refl; level = refl; encloser = refl }) (instance_kept p))
+  kept_flag go go' f m fs a j x y ex p true false e = absurd (cc)
+  kept_flag go go' f m fs a j x y ex p false true e = absurd (cc)
+  kept_flag go go' f m fs a j x y ex p false false e = a
 
-  kept_pair : (go : Instances → Instances) (go' : Frames → Frames) → KeptAlike go go' → (m : Instances) (fs : Frames) → StoreAt s code m fs → (j : ℕ) (x : Option (Instance (List Held))) (y : Option (Instance Cells)) → Both (InstanceAt s code) x y → StoreAt s code (kept_further go m j x) (kept_further go' fs j y)
-  kept_pair go go' f m fs a j None None b = a
-  kept_pair go go' f m fs a j None (Some y) b = absurd b
-  kept_pair go go' f m fs a j (Some x) None b = absurd b
-  kept_pair go go' f m fs a j (Some x) (Some y) b = kept_flag go go' f m fs a j x y b x.passing y.passing b.passing
+  kept_pair : (go : Instances → Instances) (go' : Frames → Frames) → KeptAlike go go' → (m : Instances) (fs : Frames) → StoreAt s code m fs → (j : ℕ) (x : Option (Instance (List Held))) (y : Option (Instance Cells)) → slice_get m.instances j ≡ x → Both (InstanceAt s code) x y → StoreAt s code (kept_further go m j x) (kept_further go' fs j y)
+  kept_pair go go' f m fs a j None None e b = a
+  kept_pair go go' f m fs a j None (Some y) e b = absurd b
+  kept_pair go go' f m fs a j (Some x) None e b = absurd b
+  kept_pair go go' f m fs a j (Some x) (Some y) e b = kept_flag go go' f m fs a j x y e b x.passing y.passing b.passing
 
   pub store_kept : (chain : List Activation) (below : List machine.Activation) → SameOwners chain below → KeptAlike (kept_on meaning.owner chain) (kept_on machine.owner below)
   unfolding kept_on
@@ -313,7 +428,7 @@ module _ (s : Source) (code : CodeOf) where
   store_kept (c ∷ rest) [] e m fs a = absurd e
   store_kept (c ∷ rest) (x ∷ below) e m fs a =
       subst (λ o. StoreAt s code (kept_at (kept_on meaning.owner rest) m (Some c.instance)) (kept_at (kept_on machine.owner below) fs o)) (sym e.0)
-      (kept_pair (kept_on meaning.owner rest) (kept_on machine.owner below) (store_kept rest below e.1) m fs a c.instance (slice_get m.instances c.instance) (slice_get fs.instances c.instance) (a.at c.instance))
+      (kept_pair (kept_on meaning.owner rest) (kept_on machine.owner below) (store_kept rest below e.1) m fs a c.instance (slice_get m.instances c.instance) (slice_get fs.instances c.instance) refl (a.at c.instance))
 
 -- ---- what later stores keep
 
@@ -349,10 +464,10 @@ module _ (s : Source) (m : Instances) where
 
   -- ---- a new instance
 
-  pub new_outermost : (t : ℕ) (x : Instance (List Held)) (p : Standing Activation) → x.text ≡ t → x.level ≡ level_of s t → x.encloser ≡ None → encloser s.tables t ≡ None → Stands s (entered m x p) (length m.instances) t
+  pub new_outermost : (t : ℕ) (x : Instance (List Held)) (p : Standing Activation) → x.text ≡ frame_text s t → x.level ≡ level_of s t → x.encloser ≡ None → encloser s.tables (frame_text s t) ≡ None → Stands s (entered m x p) (length m.instances) t
   new_outermost t x p text level alone around = outermost (append_at m.instances x) text level alone around
 
-  pub new_inside : (t e u : ℕ) (x : Instance (List Held)) (p : Standing Activation) → x.text ≡ t → x.level ≡ level_of s t → x.encloser ≡ Some e → encloser s.tables t ≡ Some u → Stands s m e u → Stands s (entered m x p) (length m.instances) t
+  pub new_inside : (t e u : ℕ) (x : Instance (List Held)) (p : Standing Activation) → x.text ≡ frame_text s t → x.level ≡ level_of s t → x.encloser ≡ Some e → encloser s.tables (frame_text s t) ≡ Some u → Stands s m e u → Stands s (entered m x p) (length m.instances) t
   new_inside t e u x p text level out around st =
       let y = is_there s m st in
       inside (append_at m.instances x) text level out around (slice_get_within m.instances e y.now y.is) ((later_entered x p).stands e u st)
@@ -382,21 +497,38 @@ module _ (s : Source) (code : CodeOf) where
   unfolding at_level
   levels_same a level j = within_alike a (suc j) level j
 
-  pub cell_read : (m : Instances) (fs : Frames) (j u : ℕ) (key : Key) → StoreAt s code m fs → Stands s m j u → HasCell s u key → Both ValAt (meaning.cell m j key) (machine.cell fs j (slot_of s u key))
-  cell_read m fs j u key a st has = cell_here_read s code m fs a j u key st has
+  pub cell_read : (m : Instances) (fs : Frames) (j u : ℕ) (key : Key) → StoreAt s code m fs → Stands s m j u → frame_text s u ≡ u → HasCell s u key → is_fixed s key ≡ false → Both ValAt (meaning.cell m j key) (machine.cell fs j (slot_of s code u key))
+  cell_read m fs j u key a st own has varies = cell_here_read s code m fs a j u key st own has varies
 
-  pub cell_write : (m : Instances) (fs : Frames) (j u : ℕ) (key : Key) (v : Val) (x : Value) → StoreAt s code m fs → Stands s m j u → HasCell s u key → ValAt v x → Both (Changed s code Every m fs) (meaning.cell_set m j key v) (machine.cell_set fs j (slot_of s u key) x)
-  cell_write m fs j u key v x a st has w = write_pair (live m j) (live fs j) refl refl (live_pair s code m fs a j)
+  pub constant_read : (m : Instances) (fs : Frames) (j u : ℕ) (key : Key) → StoreAt s code m fs → Stands s m j u → frame_text s u ≡ u → HasCell s u key → is_fixed s key ≡ true → (meaning.cell m j key ≡ None) ⊎ (meaning.cell m j key ≡ fixed_value s key)
+  constant_read m fs j u key a st own has fixed = fixed_read s code m fs a j u key st own has fixed
+
+  pub cell_write : (m : Instances) (fs : Frames) (j u : ℕ) (key : Key) (v : Val) (x : Value) → StoreAt s code m fs → Stands s m j u → frame_text s u ≡ u → HasCell s u key → is_fixed s key ≡ false → is_declared key ≡ true → ValAt v x → Both (Changed s code Every m fs) (meaning.cell_set m j key v) (machine.cell_set fs j (slot_of s code u key) x)
+  cell_write m fs j u key v x a st own has varies declared w = write_pair (live m j) (live fs j) refl refl (live_pair s code m fs a j)
     where
-      write_pair : (y : Option (Instance (List Held))) (z : Option (Instance Cells)) → live m j ≡ y → live fs j ≡ z → Both (InstanceAt s code) y z → Both (Changed s code Every m fs) (meaning.cell_set m j key v) (machine.cell_set fs j (slot_of s u key) x)
+      write_pair : (y : Option (Instance (List Held))) (z : Option (Instance Cells)) → live m j ≡ y → live fs j ≡ z → Both (InstanceAt s code) y z → Both (Changed s code Every m fs) (meaning.cell_set m j key v) (machine.cell_set fs j (slot_of s code u key) x)
       write_pair None None ey ez p =
-          both_as (Changed s code Every m fs) None (meaning.cell_set m j key v) None (machine.cell_set fs j (slot_of s u key) x)
-          (ap (λ z. cells_put m j z (meaning.put_in (cells_of_live z) key v)) ey) (ap (λ z. cells_put fs j z (machine.put_in (cells_of_live z) (slot_of s u key) x)) ez) tt
+          both_as (Changed s code Every m fs) None (meaning.cell_set m j key v) None (machine.cell_set fs j (slot_of s code u key) x)
+          (ap (λ z. cells_put m j z (meaning.put_in (cells_of_live z) key v)) ey) (ap (λ z. cells_put fs j z (machine.put_in (cells_of_live z) (slot_of s code u key) x)) ez) tt
       write_pair None (Some z) ey ez p = absurd p
       write_pair (Some y) None ey ez p = absurd p
       write_pair (Some y) (Some z) ey ez p =
-          let r = store_write s code m fs a j u key v x st (framed s code m fs a st y ey) has w in
-          both_as (Changed s code Every m fs) (Some r.now) (meaning.cell_set m j key v) (Some r.frames) (machine.cell_set fs j (slot_of s u key) x) r.is r.is_frames r.changed
+          let r = store_write s code m fs a j u key v x st (framed s code m fs a st y ey) own has varies declared w in
+          both_as (Changed s code Every m fs) (Some r.now) (meaning.cell_set m j key v) (Some r.frames) (machine.cell_set fs j (slot_of s code u key) x) r.is r.is_frames r.changed
+
+  -- the cell of a connection gets its object
+  pub record CellMade (m : Instances) (fs : Frames) (j u : ℕ) (key : Key) (v : Val) (x : Value) : Type 0 where
+    pub now : Instances
+    pub frames : Frames
+    pub is : meaning.cell_made m j key v ≡ Some now
+    pub is_frames : machine.cell_set fs j (slot_of s code u key) x ≡ Some frames
+    pub changed : Changed s code Every m fs now frames
+
+  pub cell_made_alike : (m : Instances) (fs : Frames) (j u : ℕ) (key : Key) (v : Val) (x : Value) → StoreAt s code m fs → Stands s m j u → Lives m j → frame_text s u ≡ u → HasCell s u key → is_fixed s key ≡ false → ValAt v x → CellMade m fs j u key v x
+  cell_made_alike m fs j u key v x a st lives own has varies w =
+      let now = lives_now m j lives in
+      let r = store_made s code m fs a j u key v x st (framed s code m fs a st now.0 now.1) own has varies w in
+      record { now = r.now; frames = r.frames; is = r.is; is_frames = r.is_frames; changed = r.changed }
 
   -- A temp of an instance that lives is written: what lies there then is what is read.
   pub record TempWritten (m : Instances) (fs : Frames) (inst temp : ℕ) (x : Value) : Type 0 where
@@ -408,7 +540,7 @@ module _ (s : Source) (code : CodeOf) where
     pub reads : machine.cell frames inst temp ≡ Some x
     pub reads_others : (c : ℕ) → c ≢ temp → machine.cell frames inst c ≡ machine.cell fs inst c
 
-  pub temp_written : (m : Instances) (fs : Frames) (inst t : ℕ) (b : BlockOf) (temp : ℕ) (x : Value) → StoreAt s code m fs → Stands s m inst t → Lives m inst → slice_get code.blocks (block_number s t) ≡ Some b → length (cells_in s t (text s t)) ≤ temp → temp < length b.types → TempWritten m fs inst temp x
+  pub temp_written : (m : Instances) (fs : Frames) (inst t : ℕ) (b : Runs) (temp : ℕ) (x : Value) → StoreAt s code m fs → Stands s m inst t → Lives m inst → slice_get code.blocks (block_number s (frame_text s t)) ≡ Some b.block → length (own_part s (frame_text s t)) ≤ temp → temp < length b.block.types → TempWritten m fs inst temp x
   temp_written m fs inst t b temp x a st lives found behind within =
       let now = lives_now m inst lives in
       let r = store_temp s code m fs a inst t temp x b (framed s code m fs a st now.0 now.1) found behind within in

@@ -1,9 +1,10 @@
 -- Codes of worked programs that stand for them.
-use Rattle.std.specs.Prelude.{codes, pos, [], ◌∷◌}
+use Rattle.std.specs.Prelude.{codes, false, pos, [], ◌∷◌}
 use Rattle.sim_code.specs.declared.code.BlockKind.TheVariants as block_kind
 use Rattle.sim_code.specs.declared.code.CodeType.TheVariants as type
 use Rattle.sim_code.specs.declared.instr.Instr.TheVariants as i
-use Rattle.sim_code.specs.Code.{CodeOf}
+use Rattle.sim_code.specs.Code.{ClassOf, CodeOf}
+use Rattle.sim_meaning.specs.ClassExamples.{objects_without_end}
 use Rattle.sim_meaning.specs.Examples.{factorial_20, for_list, sub_block}
 use Rattle.sim_meaning.specs.TextExamples.{parts}
 use Rattle.codegen.specs.Compiled.{Compiled}
@@ -17,10 +18,18 @@ sub_block_apart = code (block block_kind.SubBlock 1 2 1 0 type.Nothing (type.Int
 abbrev pub parts_code : CodeOf
 parts_code = record (code (block block_kind.SubBlock 1 2 3 0 type.Nothing (type.Text ∷ type.Text ∷ type.Nothing ∷ type.Nothing ∷ type.Nothing ∷ []) [] ∷ []) (at 1 (i.Jump (pos 1)) ∷ at 0 i.Tick ∷ at 0 (i.Int (pos 8)) ∷ at 2 (i.Std (pos 14)) ∷ at 0 (i.Store (pos 1) (pos 0)) ∷ at 0 i.Tick ∷ at 0 (i.Addr (pos 1) (pos 0) (pos 0)) ∷ at 0 (i.Int (pos 42)) ∷ at 2 i.Neg ∷ at 2 (i.Std (pos 30)) ∷ at 0 i.Tick ∷ at 0 (i.Load (pos 1) (pos 0)) ∷ at 0 (i.Int (pos 6)) ∷ at 0 (i.Int (pos 3)) ∷ at 2 (i.Std (pos 27)) ∷ at 0 (i.Store (pos 1) (pos 1)) ∷ at 0 i.Tick ∷ at 0 (i.Load (pos 1) (pos 1)) ∷ at 0 (i.TextK (pos 0)) ∷ at 2 i.AssignT ∷ at 0 i.Tick ∷ at 0 (i.Load (pos 1) (pos 0)) ∷ at 3 (i.Std (pos 39)) ∷ at 0 i.Tick ∷ at 0 (i.Char (pos 124)) ∷ at 3 (i.Std (pos 38)) ∷ at 0 i.Tick ∷ at 0 (i.Load (pos 1) (pos 0)) ∷ at 3 (i.Std (pos 21)) ∷ at 0 (i.Int (pos 2)) ∷ at 3 (i.Std (pos 40)) ∷ at 0 i.Tick ∷ at 0 (i.Char (pos 124)) ∷ at 3 (i.Std (pos 38)) ∷ at 0 i.Tick ∷ at 0 (i.Load (pos 1) (pos 0)) ∷ at 4 (i.Std (pos 28)) ∷ at 4 (i.Std (pos 15)) ∷ at 0 (i.TextK (pos 1)) ∷ at 4 (i.Store (pos 1) (pos 3)) ∷ at 4 (i.Store (pos 1) (pos 2)) ∷ at 4 (i.Load (pos 1) (pos 2)) ∷ at 4 (i.Load (pos 1) (pos 3)) ∷ at 4 i.SameT ∷ at 4 i.Pop ∷ at 4 (i.Load (pos 1) (pos 2)) ∷ at 4 (i.Std (pos 20)) ∷ at 4 (i.Load (pos 1) (pos 3)) ∷ at 4 (i.Std (pos 20)) ∷ at 4 i.Add ∷ at 4 i.Dup ∷ at 4 (i.Int (pos 1)) ∷ at 4 i.Add ∷ at 4 i.Pop ∷ at 4 (i.Std (pos 14)) ∷ at 4 (i.Store (pos 1) (pos 4)) ∷ at 4 (i.Load (pos 1) (pos 4)) ∷ at 4 (i.Load (pos 1) (pos 2)) ∷ at 4 i.AssignT ∷ at 4 (i.Load (pos 1) (pos 4)) ∷ at 4 (i.Load (pos 1) (pos 2)) ∷ at 4 (i.Std (pos 20)) ∷ at 4 (i.Int (pos 1)) ∷ at 4 i.Add ∷ at 4 (i.Load (pos 1) (pos 3)) ∷ at 4 (i.Std (pos 20)) ∷ at 4 (i.Std (pos 27)) ∷ at 4 (i.Load (pos 1) (pos 3)) ∷ at 4 i.AssignT ∷ at 4 (i.Load (pos 1) (pos 4)) ∷ at 4 (i.Std (pos 39)) ∷ at 0 i.Tick ∷ at 4 (i.Std (pos 37)) ∷ at 0 (i.EndLevel (pos 0)) ∷ [])) { texts = codes "x" ∷ codes "AB" ∷ [] }
 
+-- the code of a program that makes objects without end: the class is the second block, with one level
+abbrev pub the_class : ClassOf
+the_class = record { prefix = 0; block = 1; declarations = 17; statements = 18; after_inner = 19; process = false; matches = [] }
+
+abbrev pub objects_code : CodeOf
+objects_code = record (code (record (block block_kind.SubBlock 1 1 0 0 type.Nothing (type.Integer ∷ []) []) { class_free = false } ∷ record (block block_kind.Object 2 2 0 17 type.Nothing (type.Integer ∷ type.Integer ∷ []) []) { class_free = false; class = 1 } ∷ []) (at 1 (i.Jump (pos 1)) ∷ at 0 i.Tick ∷ at 0 i.Tick ∷ at 0 (i.Bool (pos 1)) ∷ at 0 (i.JumpF (pos 16)) ∷ at 0 i.Tick ∷ at 0 i.Tick ∷ at 0 (i.Load (pos 1) (pos 0)) ∷ at 0 (i.Int (pos 1)) ∷ at 5 i.Add ∷ at 0 (i.Store (pos 1) (pos 0)) ∷ at 0 i.Tick ∷ at 0 (i.Link (pos 1)) ∷ at 6 (i.New (pos 1) (pos 0)) ∷ at 0 i.Pop ∷ at 0 (i.Jump (pos 2)) ∷ at 0 (i.EndLevel (pos 0)) ∷ at 0 (i.NextDecl (pos 0)) ∷ at 0 (i.Inner (pos 0)) ∷ at 0 (i.EndLevel (pos 0)) ∷ [])) { classes = the_class ∷ [] }
+
 -- a `for` list of three kinds of elements with one statement; a procedure that calls itself; a sub-block with arrays, an assignment to
--- several left sides, a choice; attributes of texts, assignments of texts, `&`
+-- several left sides, a choice; attributes of texts, assignments of texts, `&`; objects of a class
 pub record WorkedCodes : Type 0 where
   pub for_list_stands : Compiled for_list for_list_code
   pub factorial_20_stands : Compiled factorial_20 factorial_20_code
   pub sub_block_stands : Compiled sub_block sub_block_apart
   pub parts_stands : Compiled parts parts_code
+  pub objects_stand : Compiled objects_without_end objects_code

@@ -7,7 +7,7 @@ use Rattle.sim_code.specs.Outcome.{Ended, Ending, Going, Normal, NoRule, RunFaul
 use Rattle.sim_code.specs.Rows.{mrun, opening}
 use Rattle.sim_meaning.specs.Meaning.{run, step}
 use Rattle.sim_meaning.specs.Pending.{Configuration}
-use Rattle.sim_meaning.specs.Sane.{StaysSane}
+use Rattle.sim_meaning.specs.Sane.{NamesObjects, StaysSane}
 use Rattle.sim_ports.specs.Bytes.{AddsPrefix}
 use Rattle.sim_ports.specs.Faults.{Rose, StopsAt}
 use Rattle.sim_scope.specs.Source.{Source}
@@ -20,11 +20,12 @@ use Rattle.sim_run.specs.declared.running.RunEnd.TheVariants as end
 use Rattle.sim_run.specs.declared.running.RunFailure.{RunFailure}
 use Rattle.sim_run.specs.declared.running.RunFailure.TheVariants as failure
 
--- The program is built, and no run of it comes to where its meaning has no rule. At each moment of a run the instance that operates lives
--- with its enclosers, and stands at no other place of the chains.
+-- The program is built, and no run of it comes to where its meaning has no rule. At each moment of a run a reference that was taken last into
+-- a hand names an object, and the instance that operates lives with its enclosers, and stands at no other place of the chains.
 pub record IsRunnable (s : Source) : Type 0 where
   pub built : ProgramBuilt s
   pub ruled : (l : Limits) (input : List ℕ) (steps : ℕ) (world : World) → run s l input steps ≡ Ended world NoRule → ⊥
+  pub names_objects : NamesObjects s
   pub stays_sane : StaysSane s
 
 -- the end of a run, by how its meaning ends

@@ -1,5 +1,5 @@
 -- New arrays, copies and elements.
-use Rattle.std.proofs.Common.{◌≡◌, ℕ, zero, suc, ◌+◌, ◌*◌, ◌<◌, Bool, true, false, List, [], ◌∷◌, ◌++◌, length, Some, None, refl, sym, ap, ◌∙◌, subst, arith}
+use Rattle.std.proofs.Common.{◌≡◌, ℕ, zero, suc, ◌+◌, ◌*◌, ◌<◌, Bool, true, false, List, [], ◌∷◌, ◌++◌, length, Some, None, inr, refl, sym, ap, ◌∙◌, subst, arith}
 use Rattle.std.specs.Prelude.{ℤ, pos, ◌-ℤ◌, ◌+ℤ◌, int_le, not, ◌&&◌, Ok, Err, if◌then◌else◌, replicate, slice_get}
 use Rattle.std.proofs.lemmas.Int.{ints}
 use Rattle.sim_base.specs.declared.limits.Limits.{Limits}
@@ -10,11 +10,13 @@ use Rattle.sim_values.specs.declared.kind.Kind.TheVariants as kind
 use Rattle.sim_values.specs.Plain.{Plain, initial, kind_of}
 use Rattle.sim_values.specs.Words.{array_words, count_from, element_count, extent_of}
 use Rattle.sim_code.specs.Outcome.{ArrayOf as OneArray, Run, World}
+use Rattle.sim_code.specs.Instances.{ends_in}
+use Rattle.sim_base.specs.declared.numbering.DeclNo.{DeclNo}
 use Rattle.sim_code.specs.Arrays.{added, are_inside, as_many, copying_array, element_place, finding_element, is_inside, live_array, making_array, place_from, unless_given, words_of_array}
 use Rattle.sim_code.specs.Events.{computing, having, popping, taking}
 use Rattle.sim_meaning.specs.Pending.{Address, ArrayValue, Instances, Link, Of, ProcedureValue, Tree, Val, array_in, plain}
-use Rattle.sim_sound.specs.Typed.{ArrayOf}
-use Rattle.sim_sound.proofs.Sound.{AllArrays, ArrayFine, CopyFine, ElementFine, HandsFine, Hidden, Kinds, Open, Sight, ValFine, Value, integers, see}
+use Rattle.sim_sound.specs.Held.{ArrayOf, Holds, IsOfKind, Refers, Simply}
+use Rattle.sim_sound.proofs.Sound.{AllArrays, ArrayFine, CopyFine, ElementFine, HandsFine, Hidden, Kinds, NamesObject, Knows, Open, PlainFine, Present, Sight, StoreFine, ValFine, Value, earlier, integers, see, staying}
 use Rattle.sim_sound.proofs.Changes.{more}
 use Rattle.sim_sound.proofs.Lifts.{Goes, any_popped, computed, had, integers_popped, ran, took}
 use Rattle.sim_sound.proofs.Lists.{append_at}
@@ -77,10 +79,10 @@ place_there bs is n e = place_ok bs is (as_many bs is) (are_inside bs is) n refl
 
 -- ---- new arrays
 
-all_same : (n : ℕ) (v : Plain) (k : Kind) → kind_of v ≡ k → (i : ℕ) (p : Plain) → slice_get (replicate n v) i ≡ Some p → kind_of p ≡ k
-all_same zero v k is i p e = absurd (cc)
-all_same (suc n) v k is zero p e = let f : v ≡ p = cc in ap kind_of (sym f) ∙ is
-all_same (suc n) v k is (suc i) p e = all_same n v k is i p e
+all_same : (n : ℕ) (v : Plain) (i : ℕ) (p : Plain) → slice_get (replicate n v) i ≡ Some p → v ≡ p
+all_same zero v i p e = absurd (cc)
+all_same (suc n) v zero p e = cc
+all_same (suc n) v (suc i) p e = all_same n v i p e
 
 as_long : (n : ℕ) (v : Plain) → length (replicate n v) ≡ n
 as_long zero v = refl
@@ -93,12 +95,33 @@ initial_is kind.Character = refl
 initial_is kind.Text = refl
 initial_is kind.Reference = refl
 
+initial_known : (s : Source) (m : Instances) (k : Kind) → NamesObject s m (initial k)
+initial_known s m kind.Integer = tt
+initial_known s m kind.Boolean = tt
+initial_known s m kind.Character = tt
+initial_known s m kind.Text = tt
+initial_known s m kind.Reference = tt
+
+-- the initial value of a kind is held by what is of the kind
+pub initial_fine : (s : Source) (m : Instances) (h : Holds) (k : Kind) → IsOfKind h k → PlainFine s m h (initial k)
+initial_fine s m (Simply j) k is = (initial_is k ∙ sym is, initial_known s m k)
+initial_fine s m (Refers c) k is = subst (λ z. PlainFine s m (Refers c) (initial z)) is tt
+initial_fine s m (ArrayOf h) k is = absurd is
+
 -- a new array of an instance
-pub record NewArray (j : ℕ) (k : Kind) (x : OneArray) : Type 0 where
+pub record NewArray (s : Source) (m : Instances) (j : ℕ) (h : Holds) (x : OneArray) : Type 0 where
   pub owned : x.owner ≡ j
   pub back : x.given_back ≡ false
-  pub kinds : (i : ℕ) (p : Plain) → slice_get x.elements i ≡ Some p → kind_of p ≡ k
+  pub elements : (i : ℕ) (p : Plain) → slice_get x.elements i ≡ Some p → PlainFine s m h p
   pub count : length x.elements ≡ element_count x.bounds
+
+-- an instance knows what is its own
+pub knows_own : (s : Source) (m : Instances) (j t : ℕ) (todo : List DeclNo) → Present s m j t todo → Knows m j j
+knows_own s m j t todo p = by_end ((p.now).passing && not (p.now).kept) refl
+  where
+    by_end : (b : Bool) → ((p.now).passing && not (p.now).kept) ≡ b → Knows m j j
+    by_end true e = earlier (ap ends_in p.lives ∙ e) (omega arith)
+    by_end false e = staying (record { now = p.now; lives = p.lives; stays = e })
 
 lives_if : (x : OneArray) (b : Bool) → b ≡ false → (if b then None else Some x) ≡ Some x
 lives_if x true e = absurd (cc)
@@ -107,51 +130,50 @@ lives_if x false e = refl
 sight_at : (o : AllArrays) (z : Sight) (x : OneArray) → length o.sights ≡ length o.real → slice_get (more o z x).sights (length o.real) ≡ Some z
 sight_at o z x e = ap (slice_get (o.sights ++ z ∷ [])) (sym e) ∙ append_at o.sights z
 
-pub added_fine : (o : AllArrays) (j : ℕ) (k : Kind) (x : OneArray) → length o.sights ≡ length o.real → NewArray j k x → ArrayFine (more o Open x) j k (length o.real)
-added_fine o j k x e f = record {
+pub added_fine : (s : Source) (o : AllArrays) (m : Instances) (j : ℕ) (h : Holds) (x : OneArray) → length o.sights ≡ length o.real → Knows m j j → NewArray s m j h x → ArrayFine (more o (Open h) x) m j h (length o.real)
+added_fine s o m j h x e self f = record {
   it = x;
   lives = ap unless_given (append_at o.real x) ∙ lives_if x x.given_back f.back;
-  known = sight_at o Open x e;
-  owned = (let own = f.owned in omega (arith, own));
-  kinds = f.kinds;
+  known = sight_at o (Open h) x e;
+  owned = inr (subst (Knows m j) (sym f.owned) self);
   count = f.count;
 }
 
-pub copied_fine : (o : AllArrays) (j d : ℕ) (k : Kind) (x : OneArray) → length o.sights ≡ length o.real → NewArray j k x → CopyFine (more o (Hidden j d) x) j d k (length o.real)
-copied_fine o j d k x e f = record { it = x; lives = ap unless_given (append_at o.real x) ∙ lives_if x x.given_back f.back; hidden = sight_at o (Hidden j d) x e; owned = f.owned; kinds = f.kinds; count = f.count }
+pub copied_fine : (s : Source) (o : AllArrays) (m : Instances) (j d : ℕ) (h : Holds) (x : OneArray) → length o.sights ≡ length o.real → NewArray s m j h x → CopyFine (more o (Hidden h j d) x) j d h (length o.real)
+copied_fine s o m j d h x e f = record { it = x; lives = ap unless_given (append_at o.real x) ∙ lives_if x x.given_back f.back; hidden = sight_at o (Hidden h j d) x e; owned = f.owned; count = f.count }
 
 module _ {S : Type 0} (P : World → S → Type 0) where
-  pub made_array : (l : Limits) (line owner : ℕ) (k : Kind) (bounds : List (ℤ × ℤ)) (o : World) (f : ℕ → World → Run S) → ((t w : ℕ) (x : OneArray) → NewArray owner k x → Goes P (f (length o.arrays) (added (ran o t w) x))) → Goes P (making_array l line owner k bounds o f)
+  pub made_array : (l : Limits) (line owner : ℕ) (k : Kind) (bounds : List (ℤ × ℤ)) (o : World) (f : ℕ → World → Run S) (s : Source) (m : Instances) (h : Holds) → IsOfKind h k → ((t w : ℕ) (x : OneArray) → NewArray s m owner h x → Goes P (f (length o.arrays) (added (ran o t w) x))) → Goes P (making_array l line owner k bounds o f)
   unfolding making_array
-  made_array l line owner k bounds o f go =
+  made_array l line owner k bounds o f s m h is go =
       let x : OneArray = record { bounds = bounds; elements = replicate (element_count bounds) (initial k); owner = owner; kept = false; given_back = false } in
       computed P line (array_words bounds) o (λ wanted. taking l line wanted o (λ p. f (length p.arrays) (added p x))) (λ wanted e.
       took P l line wanted o (λ p. f (length p.arrays) (added p x)) (λ t w.
-      go t w x (record { owned = refl; back = refl; kinds = all_same (element_count bounds) (initial k) k (initial_is k); count = as_long (element_count bounds) (initial k) })))
+      go t w x (record { owned = refl; back = refl; elements = λ i p d. subst (PlainFine s m h) (all_same (element_count bounds) (initial k) i p d) (initial_fine s m h k is); count = as_long (element_count bounds) (initial k) })))
 
-  pub copied_array : (l : Limits) (line owner : ℕ) (k : Kind) (array : ℕ) (o : World) (g : List Sight) (f : ℕ → World → Run S) → ArrayFine (see g o) owner k array → ((t w : ℕ) (x : OneArray) → NewArray owner k x → Goes P (f (length o.arrays) (added (ran o t w) x))) → Goes P (copying_array l line owner array o f)
+  pub copied_array : (l : Limits) (line owner : ℕ) (h : Holds) (array : ℕ) (o : World) (g : List Sight) (f : ℕ → World → Run S) (s : Source) (m : Instances) → StoreFine s (see g o) m → ArrayFine (see g o) m owner h array → ((t w : ℕ) (x : OneArray) → NewArray s m owner h x → Goes P (f (length o.arrays) (added (ran o t w) x))) → Goes P (copying_array l line owner array o f)
   unfolding copying_array
-  copied_array l line owner k array o g f h go =
-      let x : OneArray = record { bounds = (h.it).bounds; elements = (h.it).elements; owner = owner; kept = false; given_back = false } in
-      had P (live_array o array) h.it o (λ a. taking l line (words_of_array a) o (λ p. f (length p.arrays) (added p (record { bounds = a.bounds; elements = a.elements; owner = owner; kept = false; given_back = false })))) h.lives (
-      took P l line (words_of_array h.it) o (λ p. f (length p.arrays) (added p x)) (λ t w.
-      go t w x (record { owned = refl; back = refl; kinds = h.kinds; count = h.count })))
+  copied_array l line owner h array o g f s m store y go =
+      let x : OneArray = record { bounds = (y.it).bounds; elements = (y.it).elements; owner = owner; kept = false; given_back = false } in
+      had P (live_array o array) y.it o (λ a. taking l line (words_of_array a) o (λ p. f (length p.arrays) (added p (record { bounds = a.bounds; elements = a.elements; owner = owner; kept = false; given_back = false })))) y.lives (
+      took P l line (words_of_array y.it) o (λ p. f (length p.arrays) (added p x)) (λ t w.
+      go t w x (record { owned = refl; back = refl; elements = λ i p e. store.elements array i y.it (Open h) p y.lives y.known e; count = y.count })))
 
   -- the array in hand
-  pub array_is : (s : Source) (a : AllArrays) (m : Instances) (j : ℕ) (k : Kind) (v : Val) (o : World) (f : ℕ → Run S) → ValFine s a m j (ArrayOf k) v → ((n : ℕ) → ArrayFine a j k n → v ≡ ArrayValue n → Goes P (f n)) → Goes P (having (array_in v) o f)
-  array_is s a m j k (ArrayValue n) o f h x = had P (Some n) n o f refl (x n h refl)
-  array_is s a m j k (Of i) o f h x = absurd h
-  array_is s a m j k (Link i) o f h x = absurd h
-  array_is s a m j k (Address i) o f h x = absurd h
-  array_is s a m j k (ProcedureValue t i) o f h x = absurd h
-  array_is s a m j k (Tree t) o f h x = absurd h
+  pub array_is : (s : Source) (a : AllArrays) (m : Instances) (j : ℕ) (h : Holds) (v : Val) (o : World) (f : ℕ → Run S) → ValFine s a m j (ArrayOf h) v → ((n : ℕ) → ArrayFine a m j h n → v ≡ ArrayValue n → Goes P (f n)) → Goes P (having (array_in v) o f)
+  array_is s a m j h (ArrayValue n) o f y x = had P (Some n) n o f refl (x n y refl)
+  array_is s a m j h (Of i) o f y x = absurd y
+  array_is s a m j h (Link i) o f y x = absurd y
+  array_is s a m j h (Address i) o f y x = absurd y
+  array_is s a m j h (ProcedureValue t i) o f y x = absurd y
+  array_is s a m j h (Tree t) o f y x = absurd y
 
-  pub found_element : (s : Source) (m : Instances) (j : ℕ) (k : Kind) (n line : ℕ) (left : List Kinds) (vals : List Val) (o : World) (g : List Sight) (f : ℕ → ℕ → List Val → Run S) → HandsFine s (see g o) m j (integers n (Value (ArrayOf k) ∷ left)) vals → ((array index : ℕ) (rest : List Val) → ElementFine (see g o) j k array index → HandsFine s (see g o) m j left rest → Goes P (f array index rest)) → Goes P (finding_element plain array_in n line vals o f)
+  pub found_element : (s : Source) (m : Instances) (j : ℕ) (h : Holds) (n line : ℕ) (left : List Kinds) (vals : List Val) (o : World) (g : List Sight) (f : ℕ → ℕ → List Val → Run S) → HandsFine s (see g o) m j (integers n (Value (ArrayOf h) ∷ left)) vals → ((array index : ℕ) (rest : List Val) → ElementFine (see g o) m j h array index → HandsFine s (see g o) m j left rest → Goes P (f array index rest)) → Goes P (finding_element plain array_in n line vals o f)
   unfolding finding_element
-  found_element s m j k n line left vals o g f h go =
-      integers_popped P s (see g o) m j n (Value (ArrayOf k) ∷ left) [] vals o (λ subscripts rest. popping rest o (λ v rest. having (array_in v) o (λ array. having (live_array o array) o (λ a. computing line (element_place a.bounds subscripts) o (λ index. f array index rest))))) h (λ zs rest more.
-      any_popped P s (see g o) m j (Value (ArrayOf k)) left rest o (λ v rest. having (array_in v) o (λ array. having (live_array o array) o (λ a. computing line (element_place a.bounds zs) o (λ index. f array index rest)))) more (λ v rest is here most.
-      array_is s (see g o) m j k v o (λ array. having (live_array o array) o (λ a. computing line (element_place a.bounds zs) o (λ index. f array index rest))) here (λ array fine same.
+  found_element s m j h n line left vals o g f hands go =
+      integers_popped P s (see g o) m j n (Value (ArrayOf h) ∷ left) [] vals o (λ subscripts rest. popping rest o (λ v rest. having (array_in v) o (λ array. having (live_array o array) o (λ a. computing line (element_place a.bounds subscripts) o (λ index. f array index rest))))) hands (λ zs rest more.
+      any_popped P s (see g o) m j (Value (ArrayOf h)) left rest o (λ v rest. having (array_in v) o (λ array. having (live_array o array) o (λ a. computing line (element_place a.bounds zs) o (λ index. f array index rest)))) more (λ v rest is here most.
+      array_is s (see g o) m j h v o (λ array. having (live_array o array) o (λ a. computing line (element_place a.bounds zs) o (λ index. f array index rest))) here (λ array fine same.
       had P (live_array o array) fine.it o (λ a. computing line (element_place a.bounds zs) o (λ index. f array index rest)) fine.lives (
       computed P line (element_place (fine.it).bounds zs) o (λ index. f array index rest) (λ index e.
       go array index rest (record { array = fine; there = subst (λ x. index < x) (sym fine.count) (place_there (fine.it).bounds zs index e) }) most)))))

@@ -1,23 +1,32 @@
 -- What a fine cell has in it.
-use Rattle.std.proofs.Common.{◌≡◌, ℕ, ◌≤◌, List, [], Option, Some, None, refl, ap, ◌∙◌, subst, arith}
+use Rattle.std.proofs.Common.{◌≡◌, ℕ, true, List, [], map, Option, Some, None, inl, inr, ⊎_elim, refl, sym, ap, ◌∙◌, subst}
 use Rattle.sim_base.specs.declared.numbering.DeclNo.{DeclNo}
-use Rattle.sim_scope.specs.Source.{Source}
-use Rattle.sim_values.specs.declared.kind.Kind.{Kind}
+use Rattle.sim_scope.specs.declared.types.SimType.{SimType}
+use Rattle.sim_scope.specs.declared.types.SimType.TheVariants as t
+use Rattle.sim_scope.specs.Levels.{base}
+use Rattle.sim_scope.specs.Source.{Source, block_around}
 use Rattle.sim_code.specs.Instances.{Instance, live}
-use Rattle.sim_meaning.specs.Pending.{ArrayValue, Connection, Declared, Held, Instances, Key, Of, Result, Val, cell, cell_set, held, held_set}
-use Rattle.sim_meaning.specs.Texts.{BlockText, ProcedureText, Text, text}
-use Rattle.sim_sound.specs.Typed.{Among, ArrayOf, Holds, Refers, Simply, key_holds, result_holds}
-use Rattle.sim_sound.proofs.Sound.{AllArrays, Begun, CellIs, CellTarget, InstanceFine, IsPlain, KeyAmong, Made, Present, StoreFine, ValFine, in_whole, keys_in, own_made}
-use Rattle.sim_sound.proofs.Changes.{held_fine, held_plain, set_there}
 use Rattle.sim_code.specs.Instances as instances
+use Rattle.sim_meaning.specs.Attributes.{cell_of_connection, is_connection}
+use Rattle.sim_meaning.specs.Entries.{first_cells}
+use Rattle.sim_meaning.specs.Levels.{qualification}
+use Rattle.sim_meaning.specs.Pending.{ArrayValue, Connection, Declared, Held, Instances, Key, Of, Result, Val, cell, cell_set, held, held_set}
+use Rattle.sim_meaning.specs.Texts.{BlockText, ClassText, ConnectionText, PrefixedText, ProcedureText, StandardText, Text, text}
+use Rattle.sim_sound.specs.Held.{Among, ArrayOf, Holds, Refers, Simply, connection_holds, given_by, held_by, key_holds, reference_to, result_type}
+use Rattle.sim_sound.specs.Typed.{ConnectionTyped, Typed}
+use Rattle.sim_sound.proofs.Sound.{AllArrays, Begun, CellIs, CellTarget, InstanceFine, IsPlain, KeyAmong, Knows, Made, Present, Site, StandsFor, StoreFine, ValFine, Whole, connected, in_connection, in_instance, key_of, keys_in, own_made, own_text}
+use Rattle.sim_sound.proofs.Changes.{held_fine, held_plain, set_there}
+use Rattle.sim_sound.proofs.Lists.{same_some}
+use Rattle.sim_sound.proofs.Moves.{knows_then}
 
-pub val_up : (s : Source) (o : AllArrays) (m : Instances) (j i : ℕ) → j ≤ i → (h : Holds) (v : Val) → ValFine s o m j h v → ValFine s o m i h v
-val_up s o m j i le (Simply k) (Of p) a = a
-val_up s o m j i le (Refers c) (Of p) a = a
-val_up s o m j i le (ArrayOf k) (ArrayValue n) a = record { it = a.it; lives = a.lives; known = a.known; owned = (let w = a.owned in omega (arith, w, le)); kinds = a.kinds; count = a.count }
-val_up s o m j i le (Simply k) _ a = absurd a
-val_up s o m j i le (Refers c) _ a = absurd a
-val_up s o m j i le (ArrayOf k) _ a = absurd a
+-- a value that another instance knows, which is known
+pub val_up : (s : Source) (o : AllArrays) (m : Instances) (i j : ℕ) → Knows m i j → (h : Holds) (v : Val) → ValFine s o m j h v → ValFine s o m i h v
+val_up s o m i j knows (Simply k) (Of p) a = a
+val_up s o m i j knows (Refers c) (Of p) a = a
+val_up s o m i j knows (ArrayOf k) (ArrayValue n) a = record { it = a.it; lives = a.lives; known = a.known; owned = ⊎_elim (λ k. inl k) (λ w. inr (knows_then m i j (a.it).owner knows w)) a.owned; count = a.count }
+val_up s o m i j knows (Simply k) _ a = absurd a
+val_up s o m i j knows (Refers c) _ a = absurd a
+val_up s o m i j knows (ArrayOf k) _ a = absurd a
 
 -- what a variable may hold is the same for all instances
 pub plain_anywhere : (s : Source) (o : AllArrays) (m : Instances) (j i : ℕ) (h : Holds) (v : Val) → IsPlain h → ValFine s o m j h v → ValFine s o m i h v
@@ -27,38 +36,104 @@ plain_anywhere s o m j i (Simply k) _ is a = absurd a
 plain_anywhere s o m j i (Refers c) _ is a = absurd a
 plain_anywhere s o m j i (ArrayOf k) v is a = absurd is
 
-result_simple : (x : Option Text) (k : Kind) → result_holds x ≡ Some (ArrayOf k) → ⊥
-result_simple (Some (ProcedureText (Some type) g a)) k e = cc
-result_simple (Some (ProcedureText None g a)) k e = cc
-result_simple (Some (BlockText b ds ss)) k e = cc
-result_simple (Some _) k e = cc
-result_simple None k e = cc
+-- ---- what is no array
+
+reference_no_array : (c : Option ℕ) (h : Holds) → reference_to c ≡ ArrayOf h → ⊥
+reference_no_array None h e = cc
+reference_no_array (Some k) h e = cc
+
+pub held_no_array : (s : Source) (type : SimType) (h : Holds) → held_by s type ≡ ArrayOf h → ⊥
+held_no_array s (t.Ref d) h e = reference_no_array (qualification s (Some (t.Ref d))) h e
+held_no_array s t.Integer h e = cc
+held_no_array s t.Boolean h e = cc
+held_no_array s t.Character h e = cc
+held_no_array s t.Text h e = cc
+held_no_array s t.NoneType h e = cc
+
+some_same : {A : Type 0} (a b : A) → Some a ≡ Some b → a ≡ b
+some_same a b e = cc
+
+pub given_no_array : (s : Source) (r : Option SimType) (h : Holds) → given_by s r ≡ Some (ArrayOf h) → ⊥
+given_no_array s None h e = cc
+given_no_array s (Some type) h e = held_no_array s type h (some_same (held_by s type) (ArrayOf h) e)
+
+pub connection_no_array : (s : Source) (c : Option ℕ) (h : Holds) → connection_holds s c ≡ Some (ArrayOf h) → ⊥
+connection_no_array s None h e = cc
+connection_no_array s (Some k) h e = reference_no_array (base s.tables k) h (some_same (reference_to (base s.tables k)) (ArrayOf h) e)
 
 -- an array is held by the cell of a declaration
-array_among : (s : Source) (t : ℕ) (todo : List DeclNo) (hs : List Held) (key : Key) (k : Kind) → Made s t todo hs → key_holds s t key ≡ Some (ArrayOf k) → KeyAmong key (keys_in s t (text s t)) → held key hs ≡ None → (d : DeclNo) × (key ≡ Declared d.0) × Among d todo
+array_among : (s : Source) (t : ℕ) (todo : List DeclNo) (hs : List Held) (key : Key) (k : Holds) → Made s t todo hs → key_holds s t key ≡ Some (ArrayOf k) → KeyAmong key (keys_in s t (text s t)) → held key hs ≡ None → (d : DeclNo) × (key ≡ Declared d.0) × Among d todo
 array_among s t todo hs (Declared d) k made e there f = (record { 0 = d }, refl, made (record { 0 = d }) k e there f)
-array_among s t todo hs Result k made e there f = absurd (result_simple (text s t) k e)
-array_among s t todo hs (Connection n) k made e there f = absurd (cc)
+array_among s t todo hs Result k made e there f = absurd (given_no_array s (result_type s t) k e)
+array_among s t todo hs (Connection n) k made e there f = absurd (connection_no_array s (block_around s n) k e)
 
-none_among : (d : DeclNo) → Among d [] → ⊥
+pub none_among : (d : DeclNo) → Among d [] → ⊥
 none_among d a = elim a [ ]
 
 -- ---- a cell is read
 
-pub fine_at : (s : Source) (o : AllArrays) (m : Instances) (j t : ℕ) (todo : List DeclNo) → StoreFine s o m → (p : Present s m j t todo) → InstanceFine s o m j t p.now
-fine_at s o m j t todo store p = subst (λ z. InstanceFine s o m j z p.now) p.of_text (store j p.now p.lives)
+pub fine_at : (s : Source) (o : AllArrays) (m : Instances) (j t : ℕ) (todo : List DeclNo) → StoreFine s o m → (p : Present s m j t todo) → InstanceFine s o m j p.now
+fine_at s o m j t todo store p = store.instances j p.now p.lives
 
-pub own_cell : (s : Source) (o : AllArrays) (m : Instances) (j t : ℕ) (todo : List DeclNo) (x : Instance (List Held)) (key : Key) (h : Holds) → live m j ≡ Some x → InstanceFine s o m j t x → Made s t todo x.cells → ((d : DeclNo) → key ≡ Declared d.0 → Among d todo → ⊥) → key_holds s t key ≡ Some h → KeyAmong key (keys_in s t (text s t)) → (v : Val) × (cell m j key ≡ Some v) × ValFine s o m j h v
-own_cell s o m j t todo x key h lives fine made not is there = by_held (held key x.cells) refl h is
+-- the text of a connection has no cells
+connection_text : (x : Option Text) → is_connection x ≡ true → x ≡ Some ConnectionText
+connection_text None e = absurd (cc)
+connection_text (Some ConnectionText) e = refl
+connection_text (Some (BlockText begin ds ss)) e = absurd (cc)
+connection_text (Some (ProcedureText result h a)) e = absurd (cc)
+connection_text (Some (ClassText prefix h ds ss)) e = absurd (cc)
+connection_text (Some (PrefixedText class arguments ds ss)) e = absurd (cc)
+connection_text (Some (StandardText which)) e = absurd (cc)
+
+pub is_connection_text : (s : Source) (t : ℕ) → is_connection (text s t) ≡ true → text s t ≡ Some ConnectionText
+is_connection_text s t e = connection_text (text s t) e
+
+no_key : (s : Source) (t : ℕ) (key : Key) → KeyAmong key (keys_in s t (Some ConnectionText)) → ⊥
+unfolding first_cells
+no_key s t key a = elim a [ ]
+
+-- a text with a cell, for which an instance stands, is its own
+pub own_key : (s : Source) (x : Instance (List Held)) (t : ℕ) (key : Key) → StandsFor s x t → KeyAmong key (keys_in s t (text s t)) → x.text ≡ t
+own_key s x t key (own_text is) there = is
+own_key s x t key (connected is around k a) there = absurd (no_key s t key (subst (λ z. KeyAmong key (keys_in s t z)) (is_connection_text s t is) there))
+
+pub own_cell : (s : Source) (o : AllArrays) (m : Instances) (j : ℕ) (x : Instance (List Held)) (key : Key) (h : Holds) → live m j ≡ Some x → InstanceFine s o m j x → ((k : Holds) → h ≡ ArrayOf k → held key x.cells ≡ None → ⊥) → key_holds s x.text key ≡ Some h → KeyAmong key (map key_of x.cells) → (v : Val) × (cell m j key ≡ Some v) × ValFine s o m j h v
+own_cell s o m j x key h lives fine made is there = by_held (held key x.cells) refl h made is
   where
     at : cell m j key ≡ held key x.cells
     at = ap (λ z. Rattle.sim_meaning.specs.Pending.value_in (instances.cells_in z) key) lives
 
-    by_held : (v : Option Val) → held key x.cells ≡ v → (h : Holds) → key_holds s t key ≡ Some h → (v : Val) × (cell m j key ≡ Some v) × ValFine s o m j h v
-    by_held (Some v) e h is = (v, at ∙ e, held_fine s o m j t key h x.cells v is fine.cells e)
-    by_held None e (Simply k) is = absurd (held_plain s o m j t key (Simply k) (λ a. a) (keys_in s t (text s t)) x.cells is fine.cells fine.keys there e)
-    by_held None e (Refers c) is = absurd (held_plain s o m j t key (Refers c) (λ a. a) (keys_in s t (text s t)) x.cells is fine.cells fine.keys there e)
-    by_held None e (ArrayOf k) is = let a = array_among s t todo x.cells key k made is there e in absurd (not a.0 a.1 a.2)
+    by_held : (v : Option Val) → held key x.cells ≡ v → (h : Holds) → ((k : Holds) → h ≡ ArrayOf k → held key x.cells ≡ None → ⊥) → key_holds s x.text key ≡ Some h → (v : Val) × (cell m j key ≡ Some v) × ValFine s o m j h v
+    by_held (Some v) e h made is = (v, at ∙ e, held_fine s o m j x.text key h x.cells v is fine.cells e)
+    by_held None e (Simply k) made is = absurd (held_plain s o m j x.text key (Simply k) (λ a. a) x.cells is fine.cells there e)
+    by_held None e (Refers c) made is = absurd (held_plain s o m j x.text key (Refers c) (λ a. a) x.cells is fine.cells there e)
+    by_held None e (ArrayOf k) made is = absurd (made k refl e)
+
+-- a cell that holds what it should
+pub target_cell : (s : Source) (o : AllArrays) (m : Instances) (i j : ℕ) (key : Key) (h : Holds) → StoreFine s o m → CellTarget s m i j key h → (v : Val) × (cell m j key ≡ Some v) × ValFine s o m j h v
+target_cell s o m i j key h store c =
+    let p = c.here in
+    let f = fine_at s o m j c.around c.todo store p in
+    let same : (p.now).text ≡ c.around = own_key s p.now c.around key p.stands c.there in
+    let there = subst (λ z. KeyAmong key (keys_in s z (text s z))) (sym same) c.there in
+    let holds = subst (λ z. key_holds s z key ≡ Some h) (sym same) c.holds in
+    own_cell s o m j p.now key h p.lives f
+    (λ k is none. let a = array_among s (p.now).text c.todo (p.now).cells key k p.made (holds ∙ ap Some is) there none in c.ready a.0 a.1 a.2) holds (f.keys key there)
+
+-- the cell of a connection
+connection_key : (s : Source) → Typed s → (c : ℕ) → is_connection (text s c) ≡ true → (t : ℕ) → key_holds s t (cell_of_connection s c) ≡ Some (reference_to (base s.tables c))
+connection_key s ok c is t = let typed : ConnectionTyped s c = ok.texts c ConnectionText (is_connection_text s c is) in ap (connection_holds s) typed.around
+
+pub connection_cell : (s : Source) → Typed s → (o : AllArrays) (m : Instances) (j c : ℕ) → StoreFine s o m → is_connection (text s c) ≡ true → (p : Present s m j c []) → (v : Val) × (cell m j (cell_of_connection s c) ≡ Some v) × ValFine s o m j (reference_to (base s.tables c)) v
+connection_cell s ok o m j c store is p =
+    own_cell s o m j p.now (cell_of_connection s c) (reference_to (base s.tables c)) p.lives (fine_at s o m j c [] store p) (λ k e none. reference_no_array (base s.tables c) k e) (connection_key s ok c is (p.now).text) (by_stands p.stands)
+  where
+    by_stands : StandsFor s p.now c → KeyAmong (cell_of_connection s c) (map key_of (p.now).cells)
+    by_stands (own_text same) =
+        let no = (fine_at s o m j c [] store p).solid in
+        let yes : is_connection (text s (p.now).text) ≡ true = ap (λ z. is_connection (text s z)) same ∙ is in
+        absurd (cc)
+    by_stands (connected a around there b) = there
 
 abbrev number : ℕ → DeclNo
 number a = record { 0 = a }
@@ -67,27 +142,40 @@ same_decl : (a b : ℕ) → Declared a ≡ Declared b → number a ≡ number b
 same_decl a b q = let r : a ≡ b = cc in ap number r
 
 same_among : (d e : DeclNo) (key : Key) (todo : List DeclNo) → key ≡ Declared d.0 → key ≡ Declared e.0 → Among e todo → Among d todo
-same_among d e key todo f g a = subst (λ z. Among z todo) (same_decl e.0 d.0 (cc)) a
+same_among d e key todo f g a = subst (λ z. Among z todo) (same_decl e.0 d.0 (sym g ∙ f)) a
 
-pub cell_found : (s : Source) (o : AllArrays) (m : Instances) (i t : ℕ) (todo : List DeclNo) (e : ℕ) (key : Key) (h : Holds) → Begun s o m i t todo → CellIs s m i t todo e key h → (v : Val) × (cell m e key ≡ Some v) × ValFine s o m i h v
-cell_found s o m i t todo e key h b (in_whole {u = u} le w is there) =
-    let x = own_cell s o m e u [] w.now key h w.lives (fine_at s o m e u [] b.store w) w.made (λ d f a. none_among d a) is there in
-    (x.0, x.1, val_up s o m e i le h x.0 x.2)
-cell_found s o m i t todo e key h b (own_made {d = d} same name is there not) =
+pub cell_found : (s : Source) → Typed s → (o : AllArrays) (m : Instances) (i t : ℕ) (todo : List DeclNo) (e : ℕ) (key : Key) (h : Holds) → Begun s o m i t todo → CellIs s m i t todo e key h → (v : Val) × (cell m e key ≡ Some v) × ValFine s o m i h v
+cell_found s ok o m i t todo e key h b (in_instance c) = let x = target_cell s o m i e key h b.store c in (x.0, x.1, val_up s o m i e c.near h x.0 x.2)
+cell_found s ok o m i t todo e key h b (own_made {d = d} same name is there free) =
     let p = b.here in
-    let x = own_cell s o m i t todo p.now key h p.lives (fine_at s o m i t todo b.store p) p.made (λ c f a. not (same_among d c key todo name f a)) is there in
+    let f = fine_at s o m i t todo b.store p in
+    let holds = subst (λ z. key_holds s z key ≡ Some h) (sym b.own) is in
+    let key_in = subst (λ z. KeyAmong key (keys_in s z (text s z))) (sym b.own) there in
+    let x = own_cell s o m i p.now key h p.lives f (λ k is none. let a = array_among s (p.now).text todo (p.now).cells key k p.made (holds ∙ ap Some is) key_in none in free (same_among d a.0 key todo name a.1 a.2)) holds (f.keys key key_in) in
     (x.0, ap (λ z. cell m z key) same ∙ x.1, x.2)
-
-pub target_cell : (s : Source) (o : AllArrays) (m : Instances) (i j : ℕ) (key : Key) (h : Holds) → StoreFine s o m → CellTarget s m i j key h → (v : Val) × (cell m j key ≡ Some v) × ValFine s o m j h v
-target_cell s o m i j key h store c = own_cell s o m j c.around [] (c.whole).now key h (c.whole).lives (fine_at s o m j c.around [] store c.whole) (c.whole).made (λ d f a. none_among d a) c.holds c.there
+cell_found s ok o m i t todo e key h b (in_connection {c = c} knows whole is same holds) =
+    let x = connection_cell s ok o m e c b.store is whole in
+    (x.0, ap (cell m e) same ∙ x.1, val_up s o m i e knows h x.0 (subst (λ z. ValFine s o m e z x.0) (sym holds) x.2))
 
 -- ---- a cell is set
 
-pub cell_put : (s : Source) (o : AllArrays) (m : Instances) (j t : ℕ) (x : Instance (List Held)) (key : Key) (v : Val) → live m j ≡ Some x → InstanceFine s o m j t x → KeyAmong key (keys_in s t (text s t)) → (hs : List Held) × (held_set key v x.cells ≡ Some hs) × (cell_set m j key v ≡ Some (instances.with_instance m j (record x { cells = hs })))
-cell_put s o m j t x key v lives fine there =
-    let r = set_there key v (keys_in s t (text s t)) x.cells fine.keys there in (
+pub cell_put : (s : Source) (m : Instances) (j : ℕ) (x : Instance (List Held)) (key : Key) (v : Val) → live m j ≡ Some x → KeyAmong key (map key_of x.cells) → (hs : List Held) × (held_set key v x.cells ≡ Some hs) × (cell_set m j key v ≡ Some (instances.with_instance m j (record x { cells = hs })))
+cell_put s m j x key v lives there =
+    let r = set_there key v x.cells there in (
       r.0,
       r.1,
       ap (λ z. instances.cells_put m j z (Rattle.sim_meaning.specs.Pending.put_in (instances.cells_in z) key v)) lives
           ∙ ap (λ z. instances.cells_put m j (Some x) z) r.1,
     )
+
+-- ---- where statements stand
+
+-- when all arrays are made, the text in which a statement stands is whole
+pub site_whole : (s : Source) (o : AllArrays) (m : Instances) (i t u : ℕ) → Begun s o m i t [] → Site s m i u → Whole s m i u
+site_whole s o m i t u b a =
+    let p = b.here in
+    record { now = p.now; lives = p.lives; stands = subst (λ z. StandsFor s z u) (same_some (live m i) a.now p.now a.lives p.lives) a.stands; words = p.words; has_text = p.has_text; made = p.made }
+
+-- and an instance stands in its own
+pub own_site : (s : Source) (o : AllArrays) (m : Instances) (i t : ℕ) (todo : List DeclNo) → Begun s o m i t todo → Site s m i t
+own_site s o m i t todo b = record { now = (b.here).now; lives = (b.here).lives; stands = (b.here).stands }

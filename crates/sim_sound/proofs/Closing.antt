@@ -1,6 +1,4 @@
 -- A typed expression that is closed is a fine tree.
-use Rattle.std.proofs.Common.{◌≡◌, ℕ, Bool, true, false, List, [], ◌∷◌, Option, Some, None, refl, sym, ap, ◌∙◌, subst}
-use Rattle.std.specs.Prelude.{slice_get, take, ◌&&◌, ◌||◌}
 use Rattle.sim_base.specs.declared.numbering.DeclNo.{DeclNo}
 use Rattle.sim_scope.specs.declared.scopes.Denotation.{Denotation}
 use Rattle.sim_scope.specs.declared.scopes.Denotation.TheVariants as denotation
@@ -12,14 +10,11 @@ use Rattle.sim_scope.specs.declared.types.FormalKind.TheVariants as shape
 use Rattle.sim_scope.specs.declared.types.Mode.{Mode}
 use Rattle.sim_scope.specs.declared.types.Mode.TheVariants as mode
 use Rattle.sim_scope.specs.declared.types.SimType.{SimType}
-use Rattle.sim_scope.specs.Scopes.{entry_of, formal_in}
 use Rattle.sim_scope.specs.Scopes as scopes
-use Rattle.sim_scope.specs.Source.{Source, block_of, denoted, line_at}
 use Rattle.sim_scope.specs.Tables.{BlockOf}
 use Rattle.sim_tree.specs.declared.expr.Identifier.{Identifier}
 use Rattle.sim_tree.specs.declared.expr.Sign.{Sign}
 use Rattle.sim_tree.specs.declared.expr.Sign.TheVariants as sign
-use Rattle.sim_tree.specs.declared.stmt.TypeName.{TypeName}
 use Rattle.sim_tree.specs.Syntax.{Expression, Expressions, Literal, NoMore, Then}
 use Rattle.sim_tree.specs.Syntax as syntax
 use Rattle.sim_values.specs.declared.kind.Kind.{Kind}
@@ -30,17 +25,34 @@ use Rattle.sim_scope.specs.declared.standard.StandardName.{StandardName}
 use Rattle.sim_scope.specs.declared.standard.StandardName.TheVariants as found
 use Rattle.sim_scope.specs.declared.types.SimType.TheVariants as type
 use Rattle.sim_values.specs.declared.standard.Standard.TheVariants as name_of
-use Rattle.sim_meaning.specs.Attributes.{connection_at, declared_attribute, fitting, if_any, parameter_qualification}
-use Rattle.sim_meaning.specs.Closing.{is_attribute, is_attribute_denoted, Joining, Lazily, Negated, Plainly, Sort, actual_term, array_place, array_term, behind_dot, close, close_actuals, close_all, close_place, constant_term, declared_place, declared_term, dot_term, formal_place, formal_term, home_of, image_place, in_instance, is_image_behind, is_text, is_text_type, is_variable, is_variable_denoted, is_variable_entry, literal_term, name_term, named_place, named_term, object_term, signed_term, sort_of, standard_term, stream_denoted, stream_of, sysout, two_term, variable_place, variable_term}
 use Rattle.sim_meaning.specs.Closing as closing
-use Rattle.sim_meaning.specs.Entries.{formal_before, formals_from, formals_of, is_array_by_value}
 use Rattle.sim_meaning.specs.Names.{procedure_named, stream_named}
-use Rattle.sim_meaning.specs.Pending.{Cell, CallOf, CopyOf, Declared, ElementOf, Further, ImageOf, Instances, NoTerm, PlaceOf, StandardOf, Term, Terms, ValueAt}
-use Rattle.sim_meaning.specs.Texts.{ProcedureText, Text, constant_of, kind_of_type, text}
-use Rattle.sim_sound.specs.Typed.{ActualFits, ActualsFit, AreIntegers, AreOf, ArrayNames, ArrayOf, BehindGives, CallGives, ConstantNames, DeclaredGives, DotGives, ExprIs, HeldNames, Holds, LiteralIs, NameGives, NamedGives, OfText, Sees, Simply, SortKinds, StandardGives, Typed, VariableNames, entry_holds, formal_holds, named_kind, result_holds, result_kind, some_holds}
-use Rattle.sim_sound.proofs.Sound.{AddressOf, Copied, ImageAddress, IntegersFine, IsImage, Kinds, OperandIs, OperandsAre, OperandsFine, TermFine, TermsFine, Value, formal_kinds, held_kinds, in_hand, in_whole, simple}
-use Rattle.sim_sound.proofs.Unclassed.{unconnected, unqualified}
-use Rattle.sim_sound.proofs.Reach.{Reaches, among_block, key_there}
+use Rattle.std.proofs.Common.{◌≡◌, ℕ, Bool, true, false, List, [], ◌∷◌, Option, Some, None, ◌⊎◌, inl, refl, sym, ap, ◌∙◌, subst}
+use Rattle.std.specs.Prelude.{slice_get, take, ◌&&◌, ◌||◌, not, if◌then◌else◌}
+use Rattle.sim_scope.specs.declared.scopes.Declaration.{Declaration}
+use Rattle.sim_scope.specs.Levels.{base, class_block, class_block_in, has_level}
+use Rattle.sim_scope.specs.Scopes.{entry_in, entry_of, formal_in}
+use Rattle.sim_scope.specs.Source.{Source, block_of, denoted, found_at, level_of, line_at}
+use Rattle.sim_tree.specs.declared.expr.Membership.{Membership}
+use Rattle.sim_values.specs.Plain.{Nothing, Object}
+use Rattle.sim_code.specs.Instances.{Instance, at_level}
+use Rattle.sim_meaning.specs.Attributes.{attribute, cell_of_connection, connected_object, connection_at, declared_attribute, fitting, generation, if_any, is_connection, kept_if, membership_term, parameter_qualification, place_of_attribute, qua_term, this_instance, this_term, with_arrays_kept}
+use Rattle.sim_meaning.specs.Closing.{Joining, Lazily, Negated, Plainly, Sort, actual_term, array_place, array_term, behind_dot, class_parameters, close, close_actuals, close_all, close_place, constant_term, declared_place, declared_term, dot_term, formal_place, formal_term, home_of, home_of_class, image_place, in_instance, is_attribute, is_attribute_denoted, is_image_behind, is_text, is_text_type, is_variable, is_variable_denoted, is_variable_entry, literal_term, name_term, named_place, named_term, object_term, signed_term, sort_of, standard_term, stream_denoted, stream_of, sysout, two_term, variable_place, variable_term}
+use Rattle.sim_meaning.specs.Constants.{text_constant}
+use Rattle.sim_meaning.specs.Entries.{formal_before, formals_from, formals_of, is_array_by_value}
+use Rattle.sim_meaning.specs.Levels.{class_at, class_denoted, class_text, is_class, qualification}
+use Rattle.sim_meaning.specs.Pending.{Cell, CallOf, CopyOf, Declared, ElementOf, FitsOf, Further, Held, ImageOf, Instances, KeptOf, Key, NoTerm, PlaceOf, StandardOf, Term, Terms, Unbuilt, ValueAt}
+use Rattle.sim_meaning.specs.Texts.{constant_of, is_class_free, text}
+use Rattle.sim_sound.specs.Held.{Among, ArrayOf, Fits, Holds, In, InBound, IsFixed, Place, Refers, Sees, SeesConnected, Simply, StandsAround, declared_holds, entry_holds, formal_holds, held_by, reference_to}
+use Rattle.sim_sound.specs.Expressions.{ActualFits, ActualsFit, AreIntegers, AreOf, ArrayNames, BehindGives, CallGives, ConstantNames, DeclaredGives, DotGives, ExprIs, HeldNames, IsReference, KnownAt, LiteralIs, NameGives, NamedGives, NewIs, ObjectHas, OfText, SortKinds, StandardGives, ThisFound, ThisIs, VariableNames, passed}
+use Rattle.sim_sound.specs.Statements.{LeftHeld}
+use Rattle.sim_sound.specs.Typed.{Typed}
+use Rattle.sim_sound.proofs.Attributes.{class_words, entry_fine, entry_lies, entry_there, gives_result, held_plain, known_of, left_known, left_variable_is, names_variable, no_left_variable, procedure_in, text_left}
+use Rattle.sim_sound.proofs.Constants.{constant_no_reference, text_no_reference, value_fine}
+use Rattle.sim_sound.proofs.Fitting.{level_itself, level_self, plain_fits}
+use Rattle.sim_sound.proofs.Lists.{if_true}
+use Rattle.sim_sound.proofs.Reach.{Reached, Reaches, ReachesText, among_block, key_there}
+use Rattle.sim_sound.proofs.Sound.{AddressOf, AllArrays, CellTarget, Copied, ImageAddress, IntegersFine, IsImage, IsPlain, Kinds, Lasting, ObjectOf, OperandIs, OperandsAre, OperandsFine, PlainFine, Present, StandsFor, StoreFine, TermFine, TermsFine, Value, Whole, class_kinds, connected, formal_kinds, held_kinds, in_connection, in_hand, in_instance as at_cell, kept_kinds, own_text, simple}
 
 -- ---- both words for the formal parameters
 
@@ -60,28 +72,92 @@ pub formals_same : (s : Source) (d : DeclNo) (result : Option SimType) (k : ℕ)
 unfolding scopes.formals_of
 formals_same s d result k e = ap (λ o. closing.formals_from s (scopes.formals_at s.tables (scopes.block_in o))) e ∙ block_same s k (slice_get s.tables.blocks k) refl
 
--- what a procedure gives is what its declaration says
-pub gives_same : (s : Source) (k : ℕ) (given : Option TypeName) (result : Option SimType) (x : Option Text) → named_kind given ≡ result_kind result → (g : syntax.Heading) (a : syntax.Statement) → x ≡ Some (ProcedureText given g a) → result_holds x ≡ some_holds (result_kind result)
-gives_same s k None None x e g a is = ap result_holds is
-gives_same s k None (Some t) x e g a is = absurd (cc)
-gives_same s k (Some type) None x e g a is = absurd (cc)
-gives_same s k (Some type) (Some t) x e g a is = ap result_holds is ∙ ap (λ z. some_holds z) e
+-- ---- actual parameters
 
-actual_fine : (Is : Holds → Type 0) (Fine : Term → Kinds → Type 0) (line : ℕ) (f : Mode) (g : FormalKind) (ty : Option SimType) (a : Term) → ((h : Holds) → Is h → Fine a (Value h)) → (Fine a (Value (Simply kind.Text)) → Fine (StandardOf name_of.Copy (Further a NoTerm) line) (Value (Simply kind.Text))) → ((k : Kind) → Fine a (Value (ArrayOf k)) → Fine (CopyOf line a) (Copied k)) → ActualFits f g ty Is → (h : Kinds) × (in_hand (is_array_by_value f g) (formal_holds f g ty) ≡ Some h) × Fine (actual_term line f g (is_text_type ty) a) h
-actual_fine Is Fine line mode.ByValue shape.Simple (Some type.Text) a go copied array x = (Value (Simply kind.Text), refl, copied (go (Simply kind.Text) x))
-actual_fine Is Fine line mode.ByValue shape.Simple (Some type.Integer) a go copied array x = (Value (Simply kind.Integer), refl, go (Simply kind.Integer) x)
-actual_fine Is Fine line mode.ByValue shape.Simple (Some type.Boolean) a go copied array x = (Value (Simply kind.Boolean), refl, go (Simply kind.Boolean) x)
-actual_fine Is Fine line mode.ByValue shape.Simple (Some type.Character) a go copied array x = (Value (Simply kind.Character), refl, go (Simply kind.Character) x)
-actual_fine Is Fine line mode.ByValue shape.Simple (Some (type.Ref c)) a go copied array x = (Value (Simply kind.Reference), refl, go (Simply kind.Reference) x)
-actual_fine Is Fine line mode.ByValue shape.Simple (Some type.NoneType) a go copied array x = (Value (Simply kind.Reference), refl, go (Simply kind.Reference) x)
-actual_fine Is Fine line mode.ByReference shape.Simple (Some t) a go copied array x = (Value (Simply (kind_of_type t)), refl, simple_term (is_text_type (Some t)))
+-- a class is one of its own levels
+class_itself : (s : Source) → Typed s → (k : ℕ) → is_class (text s k) ≡ true → has_level s.tables k k ≡ true
+class_itself s ok k is = level_itself s k ((class_words s ok k is).typed).stays
+
+class_is : (s : Source) (x : Option ℕ) (k : ℕ) → class_text s x ≡ Some k → is_class (text s k) ≡ true
+class_is s None k e = absurd (cc)
+class_is s (Some c) k e = by_class (is_class (text s c)) refl e
   where
-    simple_term : (b : Bool) → Fine (actual_term line mode.ByReference shape.Simple b a) (Value (Simply (kind_of_type t)))
-    simple_term true = go (Simply (kind_of_type t)) x
-    simple_term false = go (Simply (kind_of_type t)) x
-actual_fine Is Fine line mode.ByReference shape.Array (Some t) a go copied array x = (Value (ArrayOf (kind_of_type t)), refl, go (ArrayOf (kind_of_type t)) x)
-actual_fine Is Fine line mode.ByValue shape.Array (Some t) a go copied array x = (Copied (kind_of_type t), refl, array (kind_of_type t) (go (ArrayOf (kind_of_type t)) x))
-actual_fine Is Fine line _ _ _ a go copied array x = absurd x
+    by_class : (b : Bool) → is_class (text s c) ≡ b → (if b then Some c else None) ≡ Some k → is_class (text s k) ≡ true
+    by_class true f g = let same : c ≡ k = cc in ap (λ z. is_class (text s z)) (sym same) ∙ f
+    by_class false f g = absurd (cc)
+
+pub qualified_class : (s : Source) (ty : Option SimType) (k : ℕ) → qualification s ty ≡ Some k → is_class (text s k) ≡ true
+unfolding qualification
+qualified_class s (Some (type.Ref d)) k e = class_is s (class_block s.tables d) k e
+qualified_class s (Some type.Integer) k e = absurd (cc)
+qualified_class s (Some type.Boolean) k e = absurd (cc)
+qualified_class s (Some type.Character) k e = absurd (cc)
+qualified_class s (Some type.Text) k e = absurd (cc)
+qualified_class s (Some type.NoneType) k e = absurd (cc)
+qualified_class s None k e = absurd (cc)
+
+not_qualified : (s : Source) (ty : SimType) → (h : Kind) → held_by s ty ≡ Simply h → (qualification s (Some ty) ≡ None) ⊎ (h ≡ kind.Reference)
+unfolding qualification
+not_qualified s type.Integer h e = inl refl
+not_qualified s type.Boolean h e = inl refl
+not_qualified s type.Character h e = inl refl
+not_qualified s type.Text h e = inl refl
+not_qualified s type.NoneType h e = inl refl
+not_qualified s (type.Ref d) h e = by_class (class_text s (class_block s.tables d)) refl e
+  where
+    by_class : (x : Option ℕ) → class_text s (class_block s.tables d) ≡ x → reference_to x ≡ Simply h → (class_text s (class_block s.tables d) ≡ None) ⊎ (h ≡ kind.Reference)
+    by_class None f g = inl f
+    by_class (Some k) f g = absurd (cc)
+
+-- what an actual parameter is, with its term, by the term of the expression
+module _ (s : Source) (ok : Typed s) (Is : Holds → Type 0) (Fine : Term → Kinds → Type 0) (line : ℕ) (a : Term) (go : (h : Holds) → Is h → Fine a (Value h))
+    (text_copied : Fine a (Value (Simply kind.Text)) → Fine (StandardOf name_of.Copy (Further a NoTerm) line) (Value (Simply kind.Text)))
+    (array_copied : (k : Holds) → Fine a (Value (ArrayOf k)) → Fine (CopyOf line a) (Copied k))
+    (array_kept : (k : Holds) → Fine a (Value (ArrayOf k)) → Fine (KeptOf a) (Lasting k))
+    (held_against : (x : Term) (k : ℕ) → has_level s.tables k k ≡ true → Fine x (Value (Simply kind.Reference)) → Fine (FitsOf k line x) (Value (Refers k))) where
+  -- a reference that is passed: it is held against the qualification, if there is one
+  reference_passed : (x : Option ℕ) → ((k : ℕ) → x ≡ Some k → has_level s.tables k k ≡ true) → Is (passed (reference_to x)) → Fine (fitting x line a) (Value (reference_to x))
+  reference_passed None level y = go (Simply kind.Reference) y
+  reference_passed (Some k) level y = held_against a k (level k refl) (go (Simply kind.Reference) y)
+
+  type_level : (ty : SimType) (k : ℕ) → qualification s (Some ty) ≡ Some k → has_level s.tables k k ≡ true
+  type_level ty k e = class_itself s ok k (qualified_class s (Some ty) k e)
+
+  by_value : (ty : SimType) → Is (passed (held_by s ty)) → Fine (fitting (qualification s (Some ty)) line (actual_term line mode.ByValue shape.Simple (is_text_type (Some ty)) a)) (Value (held_by s ty))
+  unfolding qualification
+  by_value type.Text y = text_copied (go (Simply kind.Text) y)
+  by_value type.Integer y = go (Simply kind.Integer) y
+  by_value type.Boolean y = go (Simply kind.Boolean) y
+  by_value type.Character y = go (Simply kind.Character) y
+  by_value type.NoneType y = go (Simply kind.Reference) y
+  by_value (type.Ref d) y = reference_passed (class_text s (class_block s.tables d)) (λ k e. type_level (type.Ref d) k e) y
+
+  by_reference : (ty : SimType) → Is (passed (held_by s ty)) → Fine (fitting (qualification s (Some ty)) line a) (Value (held_by s ty))
+  unfolding qualification
+  by_reference type.Text y = go (Simply kind.Text) y
+  by_reference type.Integer y = go (Simply kind.Integer) y
+  by_reference type.Boolean y = go (Simply kind.Boolean) y
+  by_reference type.Character y = go (Simply kind.Character) y
+  by_reference type.NoneType y = go (Simply kind.Reference) y
+  by_reference (type.Ref d) y = reference_passed (class_text s (class_block s.tables d)) (λ k e. type_level (type.Ref d) k e) y
+
+  hand_plain : (h : Holds) → IsPlain h → in_hand false (Some h) ≡ Some (Value h)
+  hand_plain h is = refl
+
+  pub actual_fine : (f : Mode) (g : FormalKind) (ty : Option SimType) → ActualFits s f g ty Is → (h : Kinds) × (in_hand (is_array_by_value f g) (formal_holds s f g ty) ≡ Some h) × Fine (fitting (parameter_qualification s g ty) line (actual_term line f g (is_text_type ty) a)) h
+  actual_fine mode.ByValue shape.Simple (Some ty) y = (Value (held_by s ty), refl, by_value ty y)
+  actual_fine mode.ByReference shape.Simple (Some ty) y = (Value (held_by s ty), refl, by_reference ty y)
+  actual_fine mode.ByValue shape.Array (Some ty) y = (Copied (held_by s ty), refl, array_copied (held_by s ty) (go (ArrayOf (held_by s ty)) y))
+  actual_fine mode.ByReference shape.Array (Some ty) y = (Value (ArrayOf (held_by s ty)), refl, go (ArrayOf (held_by s ty)) y)
+  actual_fine _ _ _ y = absurd y
+
+  -- of a class, where an array by reference is kept
+  pub class_actual : (f : Mode) (g : FormalKind) (ty : Option SimType) → ActualFits s f g ty Is → (h : Kinds) × (kept_kinds f g (in_hand (is_array_by_value f g) (formal_holds s f g ty)) ≡ Some h) × Fine (kept_if f g (fitting (parameter_qualification s g ty) line (actual_term line f g (is_text_type ty) a))) h
+  class_actual mode.ByValue shape.Simple (Some ty) y = (Value (held_by s ty), refl, by_value ty y)
+  class_actual mode.ByReference shape.Simple (Some ty) y = (Value (held_by s ty), refl, by_reference ty y)
+  class_actual mode.ByValue shape.Array (Some ty) y = (Copied (held_by s ty), refl, array_copied (held_by s ty) (go (ArrayOf (held_by s ty)) y))
+  class_actual mode.ByReference shape.Array (Some ty) y = (Lasting (held_by s ty), refl, array_kept (held_by s ty) (go (ArrayOf (held_by s ty)) y))
+  class_actual _ _ _ y = absurd y
 
 -- operands that are values of these kinds
 abbrev pub value_kinds : List Kind → List Kinds
@@ -91,9 +167,6 @@ value_kinds (k ∷ ks) = Value (Simply k) ∷ value_kinds ks
 values_are : (ks : List Kind) → OperandsAre ks (value_kinds ks)
 values_are [] = tt
 values_are (k ∷ ks) = (refl, values_are ks)
-
-same_simple : (j k : Kind) → Simply j ≡ Simply k → j ≡ k
-same_simple j k e = cc
 
 and_second : (p q : Bool) → (p && q) ≡ true → q ≡ true
 and_second true q e = e
@@ -118,7 +191,60 @@ stream_denotes None = tt
 stream_denotes (Some (denotation.Declared d)) = tt
 stream_denotes (Some (denotation.Standard name)) = stream_found name
 
-module _ (s : Source) (ok : Typed s) (m : Instances) (i t : ℕ) (todo : List DeclNo) (from : Option ℕ) (reach : Reaches s m i from) where
+-- nothing lies where nothing is held
+nothing_left : (Known : Type 0) (es : Expressions) (Indices : Type 0) (h : Holds) → LeftHeld Known es Indices None h → ⊥
+nothing_left Known NoMore Indices h a = a
+nothing_left Known (Then e es) Indices h a = a
+
+attribute_entry : (s : Source) (stream : Option ℕ) (d : DeclNo) (es : Expressions) → (is_image_behind stream (Some (denotation.Declared d)) || is_attribute_denoted s (Some (denotation.Declared d)) es) ≡ true → is_variable_entry (entry_of s.tables d) es ≡ true
+attribute_entry s None d es v = v
+attribute_entry s (Some image) d es v = v
+
+-- the class that an identifier denotes
+row_class : (x : Option Declaration) (k : ℕ) → entry_in x ≡ Some (entry.Class k) → class_block_in (elim x [ None ↦ None | Some row ↦ Some row.entry ]) ≡ Some k
+row_class None k e = absurd (cc)
+row_class (Some row) k e = ap class_block_in e
+
+class_declared : (s : Source) (d : DeclNo) (k : ℕ) → entry_of s.tables d ≡ Some (entry.Class k) → class_block s.tables d ≡ Some k
+unfolding class_block entry_of
+class_declared s d k e = row_class (slice_get s.tables.declarations d.0) k e
+
+class_named : (s : Source) (token : ℕ) (d : DeclNo) (k : ℕ) → denoted s token ≡ Some (denotation.Declared d) → entry_of s.tables d ≡ Some (entry.Class k) → is_class (text s k) ≡ true → class_at s token ≡ Some k
+unfolding class_at
+class_named s token d k e declares is = ap (class_denoted s) e ∙ ap (class_text s) (class_declared s d k declares) ∙ if_true (is_class (text s k)) (Some k) None is
+
+abbrev number : ℕ → DeclNo
+number a = record { 0 = a }
+
+same_declared : (a b : ℕ) → Declared a ≡ Declared b → number b ≡ number a
+same_declared a b q = let r : b ≡ a = cc in ap number r
+
+own_of : (s : Source) (x : Instance (List Held)) (t : ℕ) → is_connection (text s t) ≡ false → StandsFor s x t → x.text ≡ t
+own_of s x t solid (own_text is) = is
+own_of s x t solid (connected is around there more) = absurd (cc)
+
+-- a declaration that is found has its cell, which holds what it should
+pub target_of : (s : Source) → Typed s → (m : Instances) (i : ℕ) (d : DeclNo) (h : Holds) → (x : Reached s m i d) → declared_holds s (block_of s d) d ≡ Some h → CellTarget s m i x.instance (Declared d.0) h
+target_of s ok m i d h x e =
+    let p = x.here in
+    let same : (p.now).text ≡ block_of s d = own_of s p.now (block_of s d) x.solid p.stands in
+    let is : text s (block_of s d) ≡ Some p.words = ap (text s) (sym same) ∙ p.has_text in
+    let at = entry_there s (entry_of s.tables d) (is_class (text s (block_of s d))) h e in
+    record {
+      around = block_of s d;
+      near = x.near;
+      todo = x.todo;
+      here = p;
+      ready = λ c f a. x.ready (subst (λ z. Among z x.todo) (same_declared d.0 c.0 f) a);
+      holds = e;
+      there = key_there s ok (block_of s d) p.words d h (is_class (text s (block_of s d))) x.solid is e (among_block s ok d at.0 at.1);
+    }
+
+-- the same instance, whole
+pub whole_of : (s : Source) (m : Instances) (i : ℕ) (d : DeclNo) → (x : Reached s m i d) → (IsFixed (entry_of s.tables d) → ⊥) → Whole s m x.instance (block_of s d)
+whole_of s m i d x free = subst (λ z. Present s m x.instance (block_of s d) z) (x.whole free) x.here
+
+module _ (s : Source) (ok : Typed s) (o : AllArrays) (m : Instances) (store : StoreFine s o m) (i t : ℕ) (todo : List DeclNo) (from : Place) (reach : Reaches s m i from) (around : ReachesText s m i from) where
   stream_is : (a : Expression) → StreamIs (stream_of s a)
   unfolding stream_of
   stream_is (syntax.Named name es) = stream_denotes (denoted s name.token.0)
@@ -131,54 +257,50 @@ module _ (s : Source) (ok : Typed s) (m : Instances) (i t : ℕ) (todo : List De
   found_in x j f g e a = subst (λ y. Fine (in_instance y f) g) (sym e) a
 
   -- a cell of what is seen
-  pub cell_seen : (d : DeclNo) (h : Holds) (f : ℕ → Term) (g : Option Kinds) → entry_holds (entry_of s.tables d) ≡ Some h → Sees s.tables from (block_of s d) → ((j : ℕ) → Fine (Cell j (Declared d.0)) (Some (Value h)) → Fine (f j) g) → Fine (in_instance (home_of s m i d) f) g
-  unfolding home_of
-  cell_seen d h f g e sees go =
-      let x = reach (block_of s d) sees in
-      let w = x.3 in
-      found_in (home_of s m i d) x.0 f g x.1 (go x.0 (h, refl, in_whole x.2 w e (key_there s ok (block_of s d) w.words d h w.has_text e (among_block s ok d h e))))
+  cell_seen : (d : DeclNo) (h : Holds) (f : ℕ → Term) (g : Option Kinds) → declared_holds s (block_of s d) d ≡ Some h → Sees s from d → ((j : ℕ) → CellTarget s m i j (Declared d.0) h → Fine (f j) g) → Fine (in_instance (home_of s m i d) f) g
+  cell_seen d h f g e sees go = let x = reach d sees in found_in (home_of s m i d) x.instance f g x.found (go x.instance (target_of s ok m i d h x e))
 
-  variable_fine : (d : DeclNo) (es : Expressions) (k : Kind) (h : Holds) → entry_holds (entry_of s.tables d) ≡ Some (Simply k) → VariableNames s from d es (Simply k) h → Fine (variable_term s m i d es) (Some (Value h))
-  variable_fine d NoMore k h e a = cell_seen d (Simply k) (λ j. Cell j (Declared d.0)) (Some (Value h)) e a.1 (λ j c. subst (λ z. Fine (Cell j (Declared d.0)) (Some (Value z))) a.0 c)
-  variable_fine d (Then x es) k h e a = absurd a
+  -- what a cell holds is given where it fits
+  cell_given : (j : ℕ) (key : Key) (held h : Holds) → Fits s held h → CellTarget s m i j key held → Fine (Cell j key) (Some (Value h))
+  cell_given j key held h fits c = (held, (h, fits, refl), at_cell c)
 
-  array_fine : (d : DeclNo) (line : ℕ) (es : Expressions) (ts : Terms) (Indices : Type 0) (k : Kind) (h : Holds) → entry_holds (entry_of s.tables d) ≡ Some (ArrayOf k) → (Indices → IntegersFine s m i t todo ts) → ArrayNames s from d es Indices k h → Fine (array_term s m i line d es ts) (Some (Value h))
-  array_fine d line NoMore ts Indices k h e go a = cell_seen d (ArrayOf k) (λ j. Cell j (Declared d.0)) (Some (Value h)) e a.1 (λ j c. subst (λ z. Fine (Cell j (Declared d.0)) (Some (Value z))) a.0 c)
+  array_given : (j : ℕ) (key : Key) (k h : Holds) → ArrayOf k ≡ h → CellTarget s m i j key (ArrayOf k) → Fine (Cell j key) (Some (Value h))
+  array_given j key k h same c = cell_given j key (ArrayOf k) h (subst (Fits s (ArrayOf k)) same refl) c
+
+  variable_fine : (d : DeclNo) (es : Expressions) (held h : Holds) → declared_holds s (block_of s d) d ≡ Some held → VariableNames s (Sees s from d) es held h → Fine (variable_term s m i d es) (Some (Value h))
+  variable_fine d NoMore held h e a = cell_seen d held (λ j. Cell j (Declared d.0)) (Some (Value h)) e a.1 (λ j c. cell_given j (Declared d.0) held h a.0 c)
+  variable_fine d (Then x es) held h e a = absurd a
+
+  array_fine : (d : DeclNo) (line : ℕ) (es : Expressions) (ts : Terms) (Indices : Type 0) (k h : Holds) → declared_holds s (block_of s d) d ≡ Some (ArrayOf k) → (Indices → IntegersFine s m i t todo ts) → ArrayNames s (Sees s from d) es Indices k h → Fine (array_term s m i line d es ts) (Some (Value h))
+  array_fine d line NoMore ts Indices k h e go a = cell_seen d (ArrayOf k) (λ j. Cell j (Declared d.0)) (Some (Value h)) e a.1 (λ j c. array_given j (Declared d.0) k h a.0 c)
   array_fine d line (Then x es) ts Indices k h e go a =
-      cell_seen d (ArrayOf k) (λ j. ValueAt (ElementOf line (Cell j (Declared d.0)) ts)) (Some (Value h)) e a.1 (λ j c. (Simply k, AddressOf (Simply k), refl, ap (λ z. Some (Value z)) a.0, (k, refl, c, go a.2)))
+      cell_seen d (ArrayOf k) (λ j. ValueAt (ElementOf line (Cell j (Declared d.0)) ts)) (Some (Value h)) e a.1 (λ j c. (h, AddressOf k, a.0, refl, (k, refl, array_given j (Declared d.0) k (ArrayOf k) refl c, go a.2)))
 
-  formal_fine : (d : DeclNo) (f : Mode) (g : FormalKind) (ty : Option SimType) (line : ℕ) (es : Expressions) (ts : Terms) (Indices : Type 0) (h : Holds) → entry_holds (entry_of s.tables d) ≡ formal_holds f g ty → (Indices → IntegersFine s m i t todo ts) → HeldNames s from d es Indices (formal_holds f g ty) h → Fine (formal_term s m i line d f g es ts) (Some (Value h))
-  formal_fine d mode.ByValue shape.Simple (Some ty) line es ts Indices h e go a = variable_fine d es (kind_of_type ty) h e a
-  formal_fine d mode.ByReference shape.Simple (Some ty) line es ts Indices h e go a = variable_fine d es (kind_of_type ty) h e a
-  formal_fine d mode.ByValue shape.Array (Some ty) line es ts Indices h e go a = array_fine d line es ts Indices (kind_of_type ty) h e go a
-  formal_fine d mode.ByReference shape.Array (Some ty) line es ts Indices h e go a = array_fine d line es ts Indices (kind_of_type ty) h e go a
+  formal_fine : (d : DeclNo) (f : Mode) (g : FormalKind) (ty : Option SimType) (line : ℕ) (es : Expressions) (ts : Terms) (Indices : Type 0) (h : Holds) → declared_holds s (block_of s d) d ≡ formal_holds s f g ty → (Indices → IntegersFine s m i t todo ts) → HeldNames s (Sees s from d) es Indices (formal_holds s f g ty) h → Fine (formal_term s m i line d f g es ts) (Some (Value h))
+  formal_fine d mode.ByValue shape.Simple (Some ty) line es ts Indices h e go a = variable_fine d es (held_by s ty) h e (names_variable s (Sees s from d) es Indices (held_by s ty) h (held_plain s ty) a)
+  formal_fine d mode.ByReference shape.Simple (Some ty) line es ts Indices h e go a = variable_fine d es (held_by s ty) h e (names_variable s (Sees s from d) es Indices (held_by s ty) h (held_plain s ty) a)
+  formal_fine d mode.ByValue shape.Array (Some ty) line es ts Indices h e go a = array_fine d line es ts Indices (held_by s ty) h e go a
+  formal_fine d mode.ByReference shape.Array (Some ty) line es ts Indices h e go a = array_fine d line es ts Indices (held_by s ty) h e go a
   formal_fine d _ _ _ line es ts Indices h e go a = absurd a
 
-  constant_fine : (d : DeclNo) (es : Expressions) (h : Holds) → ConstantNames s d es h → Fine (constant_term (constant_of s d) es) (Some (Value h))
-  constant_fine d NoMore h a = subst (λ z. Fine (constant_term z NoMore) (Some (Value h))) (sym a.1) (ap (λ z. Some (Value z)) a.2)
+  constant_fine : (d : DeclNo) (es : Expressions) (h : Holds) → ConstantNames s (Sees s from d) d es h → Fine (constant_term (constant_of s d) es) (Some (Value h))
+  constant_fine d NoMore h a = subst (λ z. Fine (constant_term z NoMore) (Some (Value h))) (sym a.1) (h, refl, subst (λ z. PlainFine s m z a.0) a.2 (value_fine s m (constant_of s d) a.0 (constant_no_reference s d) a.1))
   constant_fine d (Then x es) h a = absurd a
 
-  call_fine : (d : DeclNo) (result : Option SimType) (k line : ℕ) (Actuals : List Formal → Type 0) (acts : List Formal → Terms) (h : Option Holds) → entry_of s.tables d ≡ Some (entry.Procedure result k) → ((fs : List Formal) → Actuals fs → TermsFine s m i t todo (acts fs) (formal_kinds fs)) → Sees s.tables from (block_of s d) → Actuals (formals_of s k) → some_holds (result_kind result) ≡ h → Fine (in_instance (home_of s m i d) (λ j. CallOf j k (acts (closing.formals_at s d)) line)) (held_kinds h)
-  unfolding home_of
-  call_fine d result k line Actuals acts h e go sees a is =
-      let x = reach (block_of s d) sees in
-      let p = ok.procedures d result k e in
-      found_in (home_of s m i d) x.0 (λ j. CallOf j k (acts (closing.formals_at s d)) line) (held_kinds h) x.1 (record {
-        around = block_of s d;
-        before = x.2;
-        whole = x.3;
-        stands_in = p.around;
-        result = p.given;
-        heading = p.heading;
-        body = p.body;
-        is = p.is;
-        gives = ap held_kinds (gives_same s k p.given result (text s k) p.same p.heading p.body p.is ∙ is);
-        actuals = subst (λ fs. TermsFine s m i t todo (acts fs) (formal_kinds (formals_of s k))) (sym (formals_same s d result k e)) (go (formals_of s k) a);
-      })
+  not_fixed : (d : DeclNo) (result : Option SimType) (k : ℕ) → entry_of s.tables d ≡ Some (entry.Procedure result k) → IsFixed (entry_of s.tables d) → ⊥
+  not_fixed d result k e a = subst IsFixed e a
 
-  calls_fine : (d : DeclNo) (result : Option SimType) (k line : ℕ) (Actuals : List Formal → Type 0) (acts : List Formal → Terms) (h : Option Holds) → entry_of s.tables d ≡ Some (entry.Procedure result k) → ((fs : List Formal) → Actuals fs → TermsFine s m i t todo (acts fs) (formal_kinds fs)) → CallGives s from d result k Actuals h → Fine (in_instance (home_of s m i d) (λ j. CallOf j k (acts (closing.formals_at s d)) line)) (held_kinds h)
-  calls_fine d (Some ty) k line Actuals acts h e go a = call_fine d (Some ty) k line Actuals acts h e go a.1 a.2 a.0
-  calls_fine d None k line Actuals acts h e go a = call_fine d None k line Actuals acts h e go a.1 a.2 (sym a.0)
+  call_fine : (d : DeclNo) (result : Option SimType) (k line : ℕ) (Actuals : List Formal → Type 0) (acts : List Formal → Terms) (h : Option Holds) → entry_of s.tables d ≡ Some (entry.Procedure result k) → ((fs : List Formal) → Actuals fs → TermsFine s m i t todo (acts fs) (formal_kinds s fs)) → CallGives s (Sees s from d) result k Actuals h → Fine (in_instance (home_of s m i d) (λ j. CallOf j k (acts (closing.formals_at s d)) line)) (held_kinds h)
+  call_fine d result k line Actuals acts h e go a =
+      let x = reach d a.1 in
+      found_in (home_of s m i d) x.instance (λ j. CallOf j k (acts (closing.formals_at s d)) line) (held_kinds h) x.found (record {
+        around = block_of s d;
+        near = x.near;
+        whole = whole_of s m i d x (not_fixed d result k e);
+        procedure = procedure_in s ok d result k e;
+        gives = gives_result s ok d result k h e a.0;
+        actuals = subst (λ fs. TermsFine s m i t todo (acts fs) (formal_kinds s (formals_of s k))) (sym (formals_same s d result k e)) (go (formals_of s k) a.2);
+      })
 
   -- a name of texts behind its text
   of_text_fine : (line : ℕ) (ts : Terms) (Operands : List Kind → Type 0) → ((ks : List Kind) → Operands ks → OperandsFine s m i t todo ts (value_kinds ks)) → (n : Standard) (first : Term) (x : Kinds) (h : Option Holds) → Fine first (Some x) → OperandIs kind.Text x → OfText n Operands h → Fine (StandardOf n (Further first ts) line) (held_kinds h)
@@ -198,90 +320,174 @@ module _ (s : Source) (ok : Typed s) (m : Instances) (i t : ℕ) (todo : List De
   unfolding row_of
   copy_fine line a f = (refl, refl, Value (Simply kind.Text) ∷ [], (refl, tt), (Value (Simply kind.Text), [], refl, f, refl))
 
-  module _ (line : ℕ) (es : Expressions) (ts : Terms) (acts : List Formal → Terms) (Indices : Type 0) (Operands : List Kind → Type 0) (Actuals : List Formal → Type 0) (ints : Indices → IntegersFine s m i t todo ts) (ops : (ks : List Kind) → Operands ks → OperandsFine s m i t todo ts (value_kinds ks)) (go : (fs : List Formal) → Actuals fs → TermsFine s m i t todo (acts fs) (formal_kinds fs)) where
-    declared_fine : (d : DeclNo) (e : Option Entry) (h : Option Holds) → entry_of s.tables d ≡ e → DeclaredGives s from d es Indices Actuals e h → Fine (declared_term s m i line d e es ts acts) (held_kinds h)
-    declared_fine d (Some (entry.Procedure result k)) h e a = calls_fine d result k line Actuals acts h e go a
+  -- ---- what is connected, and `this`
+
+  -- the object of a connection that stands around
+  connected_fine : (k : ℕ) (h : Holds) → is_connection (text s k) ≡ true → StandsAround s from k → Fits s (reference_to (base s.tables k)) h → Fine (connected_object s m i k) (Some (Value h))
+  connected_fine k h is stands fits =
+      let x = around k stands in
+      subst (λ z. Fine (if_any z (λ j. Cell j (cell_of_connection s k)) Unbuilt) (Some (Value h))) (sym x.found) (reference_to (base s.tables k), (h, fits, refl), in_connection x.near x.whole is refl refl)
+
+  connected_around : (from : Place) (k : ℕ) (d : DeclNo) → SeesConnected s from k d → StandsAround s from k
+  connected_around (In t) k d a = a.around
+  connected_around (InBound t) k d a = record { next = a.around; stands_in = a.stands_in; around = (a.seen).around }
+
+  connected_by : (from : Place) (k : ℕ) (d : DeclNo) → SeesConnected s from k d → (u : ℕ) × (is_connection (text s k) ≡ true) × (base s.tables k ≡ Some u) × (has_level s.tables u (block_of s d) ≡ true)
+  connected_by (In t) k d a = (a.class, a.is, a.connects, a.level)
+  connected_by (InBound t) k d a = let b = a.seen in (b.class, b.is, b.connects, b.level)
+
+  -- the object through which an attribute is seen
+  object_seen : (k : ℕ) (d : DeclNo) → SeesConnected s from k d → (c : ℕ) × (has_level s.tables c (block_of s d) ≡ true) × Fine (connected_object s m i k) (Some (Value (Refers c)))
+  object_seen k d a =
+      let b = connected_by from k d a in
+      let itself : has_level s.tables b.0 b.0 ≡ true = level_self s b.0 (block_of s d) b.3 in
+      (b.0, b.3, connected_fine k (Refers b.0) b.1 (connected_around from k d a) (subst (λ z. Fits s (reference_to z) (Refers b.0)) (sym b.2) itself))
+
+  -- `this` is the object around, or what is connected
+  class_this : (k : ℕ) (h : Holds) → is_class (text s k) ≡ true → StandsAround s from k → Fits s (Refers k) h → Fine (this_instance (at_level m (level_of s k) i)) (Some (Value h))
+  class_this k h is stands fits =
+      let x = around k stands in
+      let p = x.whole in
+      let w = class_words s ok k is in
+      let same : (p.now).text ≡ k = own_of s p.now k (ap is_connection w.is) p.stands in
+      let free : is_class_free s (p.now).text ≡ false = ap (is_class_free s) same ∙ (w.typed).stays in
+      let f = store.instances x.instance p.now p.lives in
+      let object : ObjectOf s m x.instance k = record {
+        now = p.now;
+        lives = p.lives;
+        object = ap (λ z. is_class (text s z)) same ∙ is;
+        levels = ap (λ z. has_level s.tables z k) same ∙ level_itself s k (w.typed).stays;
+        stays = ap (λ z. z && not (p.now).kept) (f.ends ∙ free);
+        words = p.words;
+        has_text = p.has_text;
+        made = p.made;
+      } in
+      subst (λ z. Fine (this_instance z) (Some (Value h))) (sym x.found) (h, refl, plain_fits s ok o m store (Refers k) h (Object x.instance) fits object)
+
+  this_fine : (k : ℕ) (h : Holds) (c d : Bool) → is_connection (text s k) ≡ c → is_class (text s k) ≡ d → ThisIs s from c d k h → Fine (this_term s m i (Some k)) (Some (Value h))
+  this_fine k h true d is class a = subst (λ z. Fine (if_any (if z then Some k else None) (λ c. connected_object s m i c) (this_instance (at_level m (level_of s k) i))) (Some (Value h))) (sym is) (connected_fine k h is a.0 a.1)
+  this_fine k h false true is class a = subst (λ z. Fine (if_any (if z then Some k else None) (λ c. connected_object s m i c) (this_instance (at_level m (level_of s k) i))) (Some (Value h))) (sym is) (class_this k h class a.0 a.1)
+  this_fine k h false false is class a = absurd a
+
+  this_found : (x : Option ℕ) (h : Holds) → ThisFound s from x h → Fine (this_term s m i x) (Some (Value h))
+  this_found None h a = absurd a
+  this_found (Some k) h a = this_fine k h (is_connection (text s k)) (is_class (text s k)) refl refl a
+
+  -- ---- identifiers
+
+  module _ (line : ℕ) (es : Expressions) (ts : Terms) (acts : List Formal → Terms) (Indices : Type 0) (Operands : List Kind → Type 0) (Actuals : List Formal → Type 0) (ints : Indices → IntegersFine s m i t todo ts) (ops : (ks : List Kind) → Operands ks → OperandsFine s m i t todo ts (value_kinds ks)) (go : (fs : List Formal) → Actuals fs → TermsFine s m i t todo (acts fs) (formal_kinds s fs)) where
+    held_in : (d : DeclNo) (e : Entry) (h : Holds) → entry_of s.tables d ≡ Some e → ((c : Bool) → entry_holds s c (Some e) ≡ Some h) → declared_holds s (block_of s d) d ≡ Some h
+    held_in d e h is f = ap (entry_holds s (is_class (text s (block_of s d)))) is ∙ f (is_class (text s (block_of s d)))
+
+    declared_fine : (d : DeclNo) (e : Option Entry) (h : Option Holds) → entry_of s.tables d ≡ e → DeclaredGives s (Sees s from d) d es Indices Actuals e h → Fine (declared_term s m i line d e es ts acts) (held_kinds h)
+    declared_fine d (Some (entry.Procedure result k)) h e a = call_fine d result k line Actuals acts h e go a
     declared_fine d (Some (entry.Constant ty)) (Some h) e a = constant_fine d es h a
-    declared_fine d (Some (entry.Variable ty)) (Some h) e a = variable_fine d es (kind_of_type ty) h (ap entry_holds e) a
-    declared_fine d (Some (entry.Array ty n)) (Some h) e a = array_fine d line es ts Indices (kind_of_type ty) h (ap entry_holds e) ints a
-    declared_fine d (Some (entry.Formal f)) (Some h) e a = formal_fine d f.mode f.kind f.ty line es ts Indices h (ap entry_holds e) ints a
+    declared_fine d (Some (entry.Variable ty)) (Some h) e a = variable_fine d es (held_by s ty) h (held_in d (entry.Variable ty) (held_by s ty) e (λ c. refl)) (names_variable s (Sees s from d) es Indices (held_by s ty) h (held_plain s ty) a)
+    declared_fine d (Some (entry.Array ty n)) (Some h) e a = array_fine d line es ts Indices (held_by s ty) h (held_in d (entry.Array ty n) (ArrayOf (held_by s ty)) e (λ c. refl)) ints a
+    declared_fine d (Some (entry.Formal f)) (Some h) e a = formal_fine d f.mode f.kind f.ty line es ts Indices h (ap (entry_holds s (is_class (text s (block_of s d)))) e) ints a
     declared_fine d None h e a = absurd a
     declared_fine d (Some _) None e a = absurd a
     declared_fine d (Some _) (Some h) e a = absurd a
 
-    pub standard_fine : (n : Option Standard) (image : ℕ) (h : Option Holds) → IsImage image → StandardGives n Operands h → Fine (standard_term n image line ts) (held_kinds h)
+    standard_fine : (n : Option Standard) (image : ℕ) (h : Option Holds) → IsImage image → StandardGives n Operands h → Fine (standard_term n image line ts) (held_kinds h)
     standard_fine None image h is a = absurd a
     standard_fine (Some n) image h is a = name_fine line ts Operands ops (is_image n) (on_image n) n image h is a
 
-    named_fine : (x : Option Denotation) (h : Option Holds) → NamedGives s from x es Indices Operands Actuals h → Fine (named_term s m i line x es ts acts) (held_kinds h)
-    named_fine None h a = absurd a
-    named_fine (Some (denotation.Declared d)) h a = declared_fine d (entry_of s.tables d) h refl a
-    named_fine (Some (denotation.Standard n)) h a = standard_fine (procedure_named n) sysout h tt a
+    -- an attribute of an object that a tree gives
+    attribute_of : (object : Term) (c : ℕ) (Known : Type 0) (d : DeclNo) (h : Option Holds) → has_level s.tables c (block_of s d) ≡ true → Fine object (Some (Value (Refers c))) → DeclaredGives s Known d es Indices Actuals (entry_of s.tables d) h → Fine (attribute s line object es ts (λ d. acts (closing.formals_at s d)) d) (held_kinds h)
+    attribute_of object c Known d h level fine a =
+        entry_fine s ok d c level m i t todo line object fine Known es ts (acts (closing.formals_at s d)) Indices Actuals (entry_of s.tables d) h refl ints
+        (λ result k e actuals. subst (λ fs. TermsFine s m i t todo (acts fs) (formal_kinds s (formals_of s k))) (sym (formals_same s d result k e)) (go (formals_of s k) actuals)) a
+
+    -- the tree of an identifier
+    abbrev identifier_term : Option ℕ → Option Denotation → Term
+    identifier_term c x = if_any c (λ k. if_any (declared_attribute x) (attribute s line (connected_object s m i k) es ts (λ d. acts (closing.formals_at s d))) Unbuilt) (named_term s m i line x es ts acts)
+
+    named_fine : (c : Option ℕ) (x : Option Denotation) (h : Option Holds) → NamedGives s from c x es Indices Operands Actuals h → Fine (identifier_term c x) (held_kinds h)
+    named_fine None (Some (denotation.Declared d)) h a = declared_fine d (entry_of s.tables d) h refl a
+    named_fine (Some k) (Some (denotation.Declared d)) h a = let b = object_seen k d (known_of s (SeesConnected s from k d) d es Indices Actuals (entry_of s.tables d) h a) in attribute_of (connected_object s m i k) b.0 (SeesConnected s from k d) d h b.1 b.2 a
+    named_fine None (Some (denotation.Standard n)) h a = standard_fine (procedure_named n) sysout h tt a
+    named_fine None None h a = absurd a
+    named_fine (Some k) None h a = absurd a
+    named_fine (Some k) (Some (denotation.Standard n)) h a = absurd a
+
+    -- ---- where they lie
+
+    variable_lies : (d : DeclNo) (ys : Expressions) (held h : Holds) → IsPlain held → declared_holds s (block_of s d) d ≡ Some held → LeftHeld (Sees s from d) ys Indices (Some held) h → Fine (variable_place s m i d ys) (Some (AddressOf h))
+    variable_lies d NoMore held h plain e a =
+        let x = left_variable_is (Sees s from d) Indices held h plain a in
+        cell_seen d held (λ j. PlaceOf j (Declared d.0)) (Some (AddressOf h)) e x.1 (λ j c. (held, ap (λ z. Some (AddressOf z)) x.0, c))
+    variable_lies d (Then y ys) held h plain e a = absurd (no_left_variable (Sees s from d) Indices y ys held h plain a)
+
+    element_lies : (d : DeclNo) (ys : Expressions) (k h : Holds) → declared_holds s (block_of s d) d ≡ Some (ArrayOf k) → LeftHeld (Sees s from d) ys Indices (Some (ArrayOf k)) h → Fine (array_place s m i line d ys ts) (Some (AddressOf h))
+    element_lies d NoMore k h e a = absurd a
+    element_lies d (Then y ys) k h e a = cell_seen d (ArrayOf k) (λ j. ElementOf line (Cell j (Declared d.0)) ts) (Some (AddressOf h)) e a.1 (λ j c. (k, ap (λ z. Some (AddressOf z)) a.0, array_given j (Declared d.0) k (ArrayOf k) refl c, ints a.2))
+
+    formal_lies : (d : DeclNo) (f : Mode) (g : FormalKind) (ty : Option SimType) (ys : Expressions) (h : Holds) → declared_holds s (block_of s d) d ≡ formal_holds s f g ty → LeftHeld (Sees s from d) ys Indices (formal_holds s f g ty) h → Fine (formal_place s m i line d f g ys ts) (Some (AddressOf h))
+    formal_lies d mode.ByValue shape.Simple (Some ty) ys h e a = variable_lies d ys (held_by s ty) h (held_plain s ty) e a
+    formal_lies d mode.ByReference shape.Simple (Some ty) ys h e a = variable_lies d ys (held_by s ty) h (held_plain s ty) e a
+    formal_lies d mode.ByValue shape.Array (Some ty) ys h e a = element_lies d ys (held_by s ty) h e a
+    formal_lies d mode.ByReference shape.Array (Some ty) ys h e a = element_lies d ys (held_by s ty) h e a
+    formal_lies d _ _ _ ys h e a = absurd (nothing_left (Sees s from d) ys Indices h a)
+
+    declared_lies : (d : DeclNo) (e : Option Entry) (h : Holds) → entry_of s.tables d ≡ e → LeftHeld (Sees s from d) es Indices (entry_holds s false e) h → Fine (declared_place s m i line d e es ts) (Some (AddressOf h))
+    declared_lies d (Some (entry.Variable ty)) h e a = variable_lies d es (held_by s ty) h (held_plain s ty) (held_in d (entry.Variable ty) (held_by s ty) e (λ c. refl)) a
+    declared_lies d (Some (entry.Array ty n)) h e a = element_lies d es (held_by s ty) h (held_in d (entry.Array ty n) (ArrayOf (held_by s ty)) e (λ c. refl)) a
+    declared_lies d (Some (entry.Formal f)) h e a = formal_lies d f.mode f.kind f.ty es h (ap (entry_holds s (is_class (text s (block_of s d)))) e) a
+    declared_lies d None h e a = absurd (nothing_left (Sees s from d) es Indices h a)
+    declared_lies d (Some _) h e a = absurd (nothing_left (Sees s from d) es Indices h a)
+
+    abbrev identifier_place : Option ℕ → Option Denotation → Term
+    identifier_place c x = if_any c (λ k. if_any (declared_attribute x) (place_of_attribute s line (connected_object s m i k) es ts) Unbuilt) (named_place s m i line x es ts)
+
+    -- where what is declared lies, seen through a connection or not
+    pub lies_at : (c : Option ℕ) (d : DeclNo) (h : Holds) → LeftHeld (KnownAt s from c d) es Indices (entry_holds s false (entry_of s.tables d)) h → Fine (identifier_place c (Some (denotation.Declared d))) (Some (AddressOf h))
+    lies_at None d h a = declared_lies d (entry_of s.tables d) h refl a
+    lies_at (Some k) d h a =
+        let b = object_seen k d (left_known s (SeesConnected s from k d) d es Indices (entry_holds s false (entry_of s.tables d)) h a) in
+        entry_lies s ok d b.0 b.1 m i t todo line (connected_object s m i k) b.2 (SeesConnected s from k d) es ts Indices (entry_of s.tables d) h refl ints a
+
+    variable_left : (Known : Type 0) (d : DeclNo) (e : Option Entry) → is_variable_entry e es ≡ true → DeclaredGives s Known d es Indices Actuals e (Some (Simply kind.Text)) → LeftHeld Known es Indices (entry_holds s false e) (Simply kind.Text)
+    variable_left Known d (Some (entry.Variable ty)) v a = text_left s Known d es Indices (Some (held_by s ty)) a
+    variable_left Known d (Some (entry.Array ty n)) v a = text_left s Known d es Indices (Some (ArrayOf (held_by s ty))) a
+    variable_left Known d (Some (entry.Formal f)) v a = text_left s Known d es Indices (formal_holds s f.mode f.kind f.ty) a
+    variable_left Known d None v a = absurd (cc)
+    variable_left Known d (Some _) v a = absurd (cc)
+
+    -- a text variable before a dot
+    text_lies : (c : Option ℕ) (x : Option Denotation) → is_variable_denoted s x es ≡ true → NamedGives s from c x es Indices Operands Actuals (Some (Simply kind.Text)) → (y : Kinds) × Fine (identifier_place c x) (Some y) × OperandIs kind.Text y
+    text_lies None (Some (denotation.Declared d)) v a = (AddressOf (Simply kind.Text), lies_at None d (Simply kind.Text) (variable_left (Sees s from d) d (entry_of s.tables d) v a), (refl, refl))
+    text_lies (Some k) (Some (denotation.Declared d)) v a = (AddressOf (Simply kind.Text), lies_at (Some k) d (Simply kind.Text) (variable_left (SeesConnected s from k d) d (entry_of s.tables d) v a), (refl, refl))
+    text_lies None (Some (denotation.Standard n)) v a = (ImageAddress, (refl, tt), refl)
+    text_lies (Some k) (Some (denotation.Standard n)) v a = absurd a
+    text_lies None None v a = absurd a
+    text_lies (Some k) None v a = absurd a
+
+    -- an attribute of the object that a tree gives
+    pub attribute_lies : (object : Term) (c : ℕ) (Known : Type 0) (d : DeclNo) (h : Holds) → has_level s.tables c (block_of s d) ≡ true → Fine object (Some (Value (Refers c))) → LeftHeld Known es Indices (entry_holds s false (entry_of s.tables d)) h → Fine (place_of_attribute s line object es ts d) (Some (AddressOf h))
+    attribute_lies object c Known d h level fine a = entry_lies s ok d c level m i t todo line object fine Known es ts Indices (entry_of s.tables d) h refl ints a
+
+  no_object : (h : Holds) → IsReference h → PlainFine s m h Nothing
+  no_object (Simply k) e = (e, tt)
+  no_object (Refers c) e = tt
+  no_object (ArrayOf k) e = absurd e
 
   literal_fine : (token : ℕ) (x : Literal) (h : Holds) → LiteralIs s token x h → Fine (literal_term s token x) (Some (Value h))
-  literal_fine token (syntax.IntegerValue z) h e = ap held_kinds e
-  literal_fine token (syntax.CharacterValue z) h e = ap held_kinds e
-  literal_fine token (syntax.BooleanValue z) h e = ap held_kinds e
-  literal_fine token syntax.NoObject h e = ap held_kinds e
-  literal_fine token syntax.NoText h e = ap held_kinds e
-  literal_fine token (syntax.TextValue bytes) h e = subst (λ z. Fine (closing.given_term z) (Some (Value h))) (sym e.1) (ap (λ z. Some (Value z)) e.2)
-
-  -- ---- what is before a dot
-
-  variable_place_fine : (d : DeclNo) (es : Expressions) (k : Kind) → entry_holds (entry_of s.tables d) ≡ Some (Simply k) → VariableNames s from d es (Simply k) (Simply kind.Text) → Fine (variable_place s m i d es) (Some (AddressOf (Simply kind.Text)))
-  unfolding home_of
-  variable_place_fine d NoMore k e a =
-      let x = reach (block_of s d) a.1 in
-      let w = x.3 in
-      found_in (home_of s m i d) x.0 (λ j. PlaceOf j (Declared d.0)) (Some (AddressOf (Simply kind.Text))) x.1 (
-        Simply kind.Text,
-        refl,
-        record {
-          around = block_of s d;
-          before = x.2;
-          whole = w;
-          holds = e ∙ ap Some a.0;
-          plain = tt;
-          there = key_there s ok (block_of s d) w.words d (Simply k) w.has_text e (among_block s ok d (Simply k) e);
-        },
-      )
-  variable_place_fine d (Then x es) k e a = absurd a
-
-  array_place_fine : (d : DeclNo) (line : ℕ) (es : Expressions) (ts : Terms) (Indices : Type 0) (k : Kind) → entry_holds (entry_of s.tables d) ≡ Some (ArrayOf k) → (Indices → IntegersFine s m i t todo ts) → ArrayNames s from d es Indices k (Simply kind.Text) → Fine (array_place s m i line d es ts) (Some (AddressOf (Simply kind.Text)))
-  array_place_fine d line NoMore ts Indices k e go a = let f = a.0 in absurd (cc)
-  array_place_fine d line (Then x es) ts Indices k e go a =
-      cell_seen d (ArrayOf k) (λ j. ElementOf line (Cell j (Declared d.0)) ts) (Some (AddressOf (Simply kind.Text))) e a.1 (λ j c. (k, ap (λ z. Some (AddressOf (Simply z))) (same_simple k kind.Text a.0), c, go a.2))
-
-  formal_place_fine : (d : DeclNo) (f : Mode) (g : FormalKind) (ty : Option SimType) (line : ℕ) (es : Expressions) (ts : Terms) (Indices : Type 0) → entry_holds (entry_of s.tables d) ≡ formal_holds f g ty → (Indices → IntegersFine s m i t todo ts) → HeldNames s from d es Indices (formal_holds f g ty) (Simply kind.Text) → Fine (formal_place s m i line d f g es ts) (Some (AddressOf (Simply kind.Text)))
-  formal_place_fine d mode.ByValue shape.Simple (Some ty) line es ts Indices e go a = variable_place_fine d es (kind_of_type ty) e a
-  formal_place_fine d mode.ByReference shape.Simple (Some ty) line es ts Indices e go a = variable_place_fine d es (kind_of_type ty) e a
-  formal_place_fine d mode.ByValue shape.Array (Some ty) line es ts Indices e go a = array_place_fine d line es ts Indices (kind_of_type ty) e go a
-  formal_place_fine d mode.ByReference shape.Array (Some ty) line es ts Indices e go a = array_place_fine d line es ts Indices (kind_of_type ty) e go a
-  formal_place_fine d _ _ _ line es ts Indices e go a = absurd a
-
-  module _ (line : ℕ) (es : Expressions) (ts : Terms) (Indices : Type 0) (Operands : List Kind → Type 0) (Actuals : List Formal → Type 0) (ints : Indices → IntegersFine s m i t todo ts) where
-    declared_place_fine : (d : DeclNo) (e : Option Entry) → entry_of s.tables d ≡ e → is_variable_entry e es ≡ true → DeclaredGives s from d es Indices Actuals e (Some (Simply kind.Text)) → Fine (declared_place s m i line d e es ts) (Some (AddressOf (Simply kind.Text)))
-    declared_place_fine d (Some (entry.Variable ty)) e v a = variable_place_fine d es (kind_of_type ty) (ap entry_holds e) a
-    declared_place_fine d (Some (entry.Array ty n)) e v a = array_place_fine d line es ts Indices (kind_of_type ty) (ap entry_holds e) ints a
-    declared_place_fine d (Some (entry.Formal f)) e v a = formal_place_fine d f.mode f.kind f.ty line es ts Indices (ap entry_holds e) ints a
-    declared_place_fine d (Some (entry.Procedure result k)) e v a = absurd (cc)
-    declared_place_fine d (Some (entry.Constant ty)) e v a = absurd (cc)
-    declared_place_fine d None e v a = absurd a
-    declared_place_fine d (Some _) e v a = absurd a
-
-    named_place_fine : (x : Option Denotation) → is_variable_denoted s x es ≡ true → NamedGives s from x es Indices Operands Actuals (Some (Simply kind.Text)) → (y : Kinds) × Fine (named_place s m i line x es ts) (Some y) × OperandIs kind.Text y
-    named_place_fine None v a = absurd a
-    named_place_fine (Some (denotation.Declared d)) v a = (AddressOf (Simply kind.Text), declared_place_fine d (entry_of s.tables d) refl v a, (refl, refl))
-    named_place_fine (Some (denotation.Standard n)) v a = (ImageAddress, (refl, tt), refl)
+  literal_fine token (syntax.IntegerValue z) h e = (Simply kind.Integer, ap held_kinds e, (refl, tt))
+  literal_fine token (syntax.CharacterValue z) h e = (Simply kind.Character, ap held_kinds e, (refl, tt))
+  literal_fine token (syntax.BooleanValue z) h e = (Simply kind.Boolean, ap held_kinds e, (refl, tt))
+  literal_fine token syntax.NoObject h e = (h, refl, no_object h e)
+  literal_fine token syntax.NoText h e = (Simply kind.Text, ap held_kinds e, (refl, tt))
+  literal_fine token (syntax.TextValue bytes) h e = subst (λ z. Fine (closing.given_term z) (Some (Value h))) (sym e.1) (h, refl, subst (λ z. PlainFine s m z e.0) e.2 (value_fine s m (text_constant s token) e.0 (text_no_reference s token) e.1))
 
   two_fine : (x : Sort) (line : ℕ) (k v : Kind) (a b : Term) (h : Holds) → SortKinds x k v → Simply v ≡ h → Fine a (simple k) → Fine b (simple k) → Fine (two_term x line a b) (Some (Value h))
   two_fine (Plainly op) line k v a b h x e f g = (k, v, x, ap (λ z. Some (Value z)) e, f, g)
   two_fine (Lazily true) line k v a b h x e f g =
       let is : Value (Simply kind.Boolean) ≡ Value h = ap (λ z. Value (Simply z)) (sym x.1) ∙ ap Value e in
-      (Value h, refl, subst (λ z. Fine a (simple z)) x.0 f, ap Some is, subst (λ z. Fine b (Some z)) (ap (λ z. Value (Simply z)) x.0 ∙ is) g)
+      (Value h, refl, subst (λ z. Fine a (simple z)) x.0 f, (Simply kind.Boolean, ap Some is, (refl, tt)), subst (λ z. Fine b (Some z)) (ap (λ z. Value (Simply z)) x.0 ∙ is) g)
   two_fine (Lazily false) line k v a b h x e f g =
       let is : Value (Simply kind.Boolean) ≡ Value h = ap (λ z. Value (Simply z)) (sym x.1) ∙ ap Value e in
-      (Value h, refl, subst (λ z. Fine a (simple z)) x.0 f, subst (λ z. Fine b (Some z)) (ap (λ z. Value (Simply z)) x.0 ∙ is) g, ap Some is)
+      (Value h, refl, subst (λ z. Fine a (simple z)) x.0 f, subst (λ z. Fine b (Some z)) (ap (λ z. Value (Simply z)) x.0 ∙ is) g, (Simply kind.Boolean, ap Some is, (refl, tt)))
   two_fine (Negated op) line k v a b h x e f g =
       (kind.Boolean, refl, ap (λ z. Some (Value (Simply z))) (sym x.1) ∙ ap (λ z. Some (Value z)) e, (k, kind.Boolean, x.0, refl, f, g))
   two_fine Joining line k v a b h x e f g =
@@ -291,70 +497,120 @@ module _ (s : Source) (ok : Typed s) (m : Instances) (i t : ℕ) (todo : List De
   signed_fine sign.Plus line a h e f = subst (λ z. Fine a (Some (Value z))) e f
   signed_fine sign.Minus line a h e f = (kind.Integer, refl, ap (λ z. Some (Value z)) e, f)
 
-  -- an attribute of an object is typed by no rule, and nothing is seen in a connection
-  dotted_none : (u : Option Denotation) (es : Expressions) (stream : Option ℕ) (Object : Type 0) (Operands : List Kind → Type 0) (h : Option Holds) → DotGives u stream Object Operands h → is_attribute_denoted s u es ≡ false
-  dotted_none (Some (denotation.Standard n)) es stream Object Operands h x = refl
-  dotted_none (Some (denotation.Declared d)) es stream Object Operands h x = absurd x
-  dotted_none None es stream Object Operands h x = absurd x
+  -- ---- what is before a dot
 
-  no_attribute : (e : Expression) (h : Holds) → ExprIs s from e h → is_attribute s e ≡ false
-  unfolding is_attribute
-  no_attribute (syntax.Dot token a name es) h x = dotted_none (denoted s name.token.0) es (stream_of s a) (ExprIs s from a (Simply kind.Text)) (λ ks. AreOf s from es ks) (Some h) x
-  no_attribute _ h x = refl
+  -- sysin and sysout are no values
+  stream_no_value : (n : StandardName) (Operands : List Kind → Type 0) (h : Option Holds) → StandardGives (procedure_named n) Operands h → stream_named n ≡ None
+  stream_no_value (found.Procedure name) Operands h a = refl
+  stream_no_value found.Sysin Operands h a = absurd a
+  stream_no_value found.Sysout Operands h a = absurd a
+  stream_no_value _ Operands h a = absurd a
 
-  undeclared : (u : Option Denotation) (stream : Option ℕ) (Object : Type 0) (Operands : List Kind → Type 0) (h : Option Holds) → DotGives u stream Object Operands h → declared_attribute u ≡ None
-  undeclared (Some (denotation.Standard n)) stream Object Operands h x = refl
-  undeclared (Some (denotation.Declared d)) stream Object Operands h x = absurd x
-  undeclared None stream Object Operands h x = absurd x
+  named_no_stream : (c : Option ℕ) (x : Option Denotation) (es : Expressions) (Indices : Type 0) (Operands : List Kind → Type 0) (Actuals : List Formal → Type 0) (h : Option Holds) → NamedGives s from c x es Indices Operands Actuals h → stream_denoted x ≡ None
+  named_no_stream None (Some (denotation.Standard n)) es Indices Operands Actuals h a = stream_no_value n Operands h a
+  named_no_stream (Some k) (Some (denotation.Standard n)) es Indices Operands Actuals h a = absurd a
+  named_no_stream c (Some (denotation.Declared d)) es Indices Operands Actuals h a = refl
+  named_no_stream c None es Indices Operands Actuals h a = refl
 
-  other_fine : {A : Type 0} (x : Option A) (f : A → Term) (other : Term) (g : Option Kinds) → x ≡ None → Fine other g → Fine (if_any x f other) g
-  other_fine x f other g e a = subst (λ z. Fine (if_any z f other) g) (sym e) a
-
-  -- no parameter is qualified
-  qualification_none : (kind : FormalKind) (ty : Option SimType) → parameter_qualification s kind ty ≡ None
-  qualification_none shape.Simple ty = unqualified s ok ty
-  qualification_none shape.Array ty = refl
-  qualification_none shape.Procedure ty = refl
-
-  behind_fine : (line : ℕ) (a : Expression) (es : Expressions) (h : Option Holds) (Object : Type 0) (Operands : List Kind → Type 0) → (Object → is_attribute s a ≡ false) → (Object → Fine (close s m i a) (simple kind.Text)) → (is_variable s a ≡ true → Object → (y : Kinds) × Fine (close_place s m i a) (Some y) × OperandIs kind.Text y) → ((ks : List Kind) → Operands ks → OperandsFine s m i t todo (close_all s m i es) (value_kinds ks))
-      → (stream : Option ℕ) (n : Option Standard) → StreamIs stream → BehindGives stream n Object Operands h → Fine (behind_dot stream n (is_variable s a || is_attribute s a) line (close_place s m i a) (close s m i a) (close_all s m i es)) (held_kinds h)
-  behind_fine line a es h Object Operands other value place ops (Some image) None is x = absurd x
-  behind_fine line a es h Object Operands other value place ops (Some image) (Some n) is x = name_fine line (close_all s m i es) Operands ops (is_image n) (on_image n) n image h is x
-  behind_fine line a es h Object Operands other value place ops None None is x = absurd x
-  behind_fine line a es h Object Operands other value place ops None (Some n) is x = by_place (moves_position n && (is_variable s a || is_attribute s a)) (λ e. or_first (is_variable s a) (is_attribute s a) (other x.0) (and_second (moves_position n) (is_variable s a || is_attribute s a) e))
-    where
-      by_place : (b : Bool) → (b ≡ true → is_variable s a ≡ true) → Fine (StandardOf n (Further (object_term b (close_place s m i a) (close s m i a)) (close_all s m i es)) line) (held_kinds h)
-      by_place true v = let y = place (v refl) x.0 in of_text_fine line (close_all s m i es) Operands ops n (close_place s m i a) y.0 h y.1 y.2 x.1
-      by_place false v = of_text_fine line (close_all s m i es) Operands ops n (close s m i a) (Value (Simply kind.Text)) h (value x.0) refl x.1
-
-  dot_denoted : (line : ℕ) (a : Expression) (es : Expressions) (h : Option Holds) → (ExprIs s from a (Simply kind.Text) → Fine (close s m i a) (simple kind.Text)) → (is_variable s a ≡ true → ExprIs s from a (Simply kind.Text) → (y : Kinds) × Fine (close_place s m i a) (Some y) × OperandIs kind.Text y) → ((ks : List Kind) → AreOf s from es ks → OperandsFine s m i t todo (close_all s m i es) (value_kinds ks))
-      → (d : Option Denotation) → DotGives d (stream_of s a) (ExprIs s from a (Simply kind.Text)) (λ ks. AreOf s from es ks) h → Fine (dot_term d (stream_of s a) (is_variable s a || is_attribute s a) line (close_place s m i a) (close s m i a) (close_all s m i es)) (held_kinds h)
-  dot_denoted line a es h value place ops None x = absurd x
-  dot_denoted line a es h value place ops (Some (denotation.Declared d)) x = absurd x
-  dot_denoted line a es h value place ops (Some (denotation.Standard n)) x = behind_fine line a es h (ExprIs s from a (Simply kind.Text)) (λ ks. AreOf s from es ks) (λ y. no_attribute a (Simply kind.Text) y) value place ops (stream_of s a) (procedure_named n) (stream_is a) x
+  pub value_no_stream : (a : Expression) (h : Holds) → ExprIs s from a h → stream_of s a ≡ None
+  unfolding stream_of
+  value_no_stream (syntax.Named name es) h x = named_no_stream (connection_at s name.token.0) (denoted s name.token.0) es (AreIntegers s from es) (λ ks. AreOf s from es ks) (λ fs. ActualsFit s from es fs) (Some h) x
+  value_no_stream _ h x = refl
 
   image_place_fine : (stream : Option ℕ) (other : Term) (d : Option Denotation) → StreamIs stream → is_image_behind stream d ≡ true → (y : Kinds) × Fine (image_place stream other) (Some y) × OperandIs kind.Text y
   image_place_fine None other d is v = absurd (cc)
   image_place_fine (Some image) other d is v = (ImageAddress, (refl, is), refl)
 
-  variable_named : (name : Identifier) (es : Expressions) → is_variable s (syntax.Named name es) ≡ true → is_variable_denoted s (denoted s name.token.0) es ≡ true
-  unfolding is_variable
-  variable_named name es v = v
+  -- a name behind a text
+  behind_fine : (line : ℕ) (a : Expression) (es : Expressions) (h : Option Holds) (Front : Type 0) (Operands : List Kind → Type 0) → (Front → Fine (close s m i a) (simple kind.Text)) → ((is_variable s a || is_attribute s a) ≡ true → Front → (y : Kinds) × Fine (close_place s m i a) (Some y) × OperandIs kind.Text y) → ((ks : List Kind) → Operands ks → OperandsFine s m i t todo (close_all s m i es) (value_kinds ks))
+      → (stream : Option ℕ) (n : Option Standard) → StreamIs stream → BehindGives stream n Front Operands h → Fine (behind_dot stream n (is_variable s a || is_attribute s a) line (close_place s m i a) (close s m i a) (close_all s m i es)) (held_kinds h)
+  behind_fine line a es h Front Operands value place ops (Some image) None is x = absurd x
+  behind_fine line a es h Front Operands value place ops (Some image) (Some n) is x = name_fine line (close_all s m i es) Operands ops (is_image n) (on_image n) n image h is x
+  behind_fine line a es h Front Operands value place ops None None is x = absurd x
+  behind_fine line a es h Front Operands value place ops None (Some n) is x = by_place (moves_position n && (is_variable s a || is_attribute s a)) (λ e. and_second (moves_position n) (is_variable s a || is_attribute s a) e)
+    where
+      by_place : (b : Bool) → (b ≡ true → (is_variable s a || is_attribute s a) ≡ true) → Fine (StandardOf n (Further (object_term b (close_place s m i a) (close s m i a)) (close_all s m i es)) line) (held_kinds h)
+      by_place true v = let y = place (v refl) x.0 in of_text_fine line (close_all s m i es) Operands ops n (close_place s m i a) y.0 h y.1 y.2 x.1
+      by_place false v = of_text_fine line (close_all s m i es) Operands ops n (close s m i a) (Value (Simply kind.Text)) h (value x.0) refl x.1
 
-  variable_dot : (token : ℕ) (a : Expression) (name : Identifier) (es : Expressions) → is_variable s (syntax.Dot token a name es) ≡ true → is_image_behind (stream_of s a) (denoted s name.token.0) ≡ true
-  unfolding is_variable
-  variable_dot token a name es v = v
+  -- behind a dot: a name of texts, or an attribute of an object
+  abbrev dotted_term : (line : ℕ) → Expression → Expressions → Option Denotation → Term
+  dotted_term line a es x =
+      if_any (declared_attribute x) (attribute s line (close s m i a) es (close_all s m i es) (λ d. close_actuals s m i line es (closing.formals_at s d)))
+      (dot_term x (stream_of s a) (is_variable s a || is_attribute s a) line (close_place s m i a) (close s m i a) (close_all s m i es))
+
+  dot_denoted : (line : ℕ) (a : Expression) (es : Expressions) (h : Option Holds) → ((h : Holds) → ExprIs s from a h → Fine (close s m i a) (Some (Value h))) → ((is_variable s a || is_attribute s a) ≡ true → ExprIs s from a (Simply kind.Text) → (y : Kinds) × Fine (close_place s m i a) (Some y) × OperandIs kind.Text y) → (AreIntegers s from es → IntegersFine s m i t todo (close_all s m i es)) → ((ks : List Kind) → AreOf s from es ks → OperandsFine s m i t todo (close_all s m i es) (value_kinds ks))
+      → ((fs : List Formal) → ActualsFit s from es fs → TermsFine s m i t todo (close_actuals s m i line es fs) (formal_kinds s fs)) → (x : Option Denotation) → DotGives s x (stream_of s a) (ExprIs s from a (Simply kind.Text)) (λ c. ExprIs s from a (Refers c)) es (AreIntegers s from es) (λ ks. AreOf s from es ks) (λ fs. ActualsFit s from es fs) h → Fine (dotted_term line a es x) (held_kinds h)
+  dot_denoted line a es h value place ints ops acts None x = absurd x
+  dot_denoted line a es h value place ints ops acts (Some (denotation.Declared d)) x =
+      let known = known_of s (ObjectHas s (λ c. ExprIs s from a (Refers c)) d) d es (AreIntegers s from es) (λ fs. ActualsFit s from es fs) (entry_of s.tables d) h x in
+      attribute_of line es (close_all s m i es) (λ fs. close_actuals s m i line es fs) (AreIntegers s from es) (λ ks. AreOf s from es ks) (λ fs. ActualsFit s from es fs) ints ops acts (close s m i a) known.0 (ObjectHas s (λ c. ExprIs s from a (Refers c)) d) d h known.2 (value (Refers known.0) known.3) x
+  dot_denoted line a es h value place ints ops acts (Some (denotation.Standard n)) x = behind_fine line a es h (ExprIs s from a (Simply kind.Text)) (λ ks. AreOf s from es ks) (λ y. value (Simply kind.Text) y) place ops (stream_of s a) (procedure_named n) (stream_is a) x
+
+  variable_named : (name : Identifier) (es : Expressions) → (is_variable s (syntax.Named name es) || is_attribute s (syntax.Named name es)) ≡ true → is_variable_denoted s (denoted s name.token.0) es ≡ true
+  unfolding is_variable is_attribute
+  variable_named name es v = or_first (is_variable_denoted s (denoted s name.token.0) es) false refl v
+
+  -- where a text behind a dot lies: an image, or an attribute
+  dot_lies : (line : ℕ) (a : Expression) (es : Expressions) (x : Option Denotation) → ((c : ℕ) → ExprIs s from a (Refers c) → Fine (close s m i a) (Some (Value (Refers c)))) → (AreIntegers s from es → IntegersFine s m i t todo (close_all s m i es)) → ((ks : List Kind) → AreOf s from es ks → OperandsFine s m i t todo (close_all s m i es) (value_kinds ks)) → ((fs : List Formal) → ActualsFit s from es fs → TermsFine s m i t todo (close_actuals s m i line es fs) (formal_kinds s fs)) → (is_image_behind (stream_of s a) x || is_attribute_denoted s x es) ≡ true
+      → DotGives s x (stream_of s a) (ExprIs s from a (Simply kind.Text)) (λ c. ExprIs s from a (Refers c)) es (AreIntegers s from es) (λ ks. AreOf s from es ks) (λ fs. ActualsFit s from es fs) (Some (Simply kind.Text)) → (y : Kinds) × Fine (image_place (stream_of s a) (if_any (declared_attribute x) (place_of_attribute s line (close s m i a) es (close_all s m i es)) Unbuilt)) (Some y) × OperandIs kind.Text y
+  dot_lies line a es None value ints ops acts v x = absurd x
+  dot_lies line a es (Some (denotation.Standard n)) value ints ops acts v x = image_place_fine (stream_of s a) Unbuilt (Some (denotation.Standard n)) (stream_is a) (or_first (is_image_behind (stream_of s a) (Some (denotation.Standard n))) false refl v)
+  dot_lies line a es (Some (denotation.Declared d)) value ints ops acts v x =
+      let known = known_of s (ObjectHas s (λ c. ExprIs s from a (Refers c)) d) d es (AreIntegers s from es) (λ fs. ActualsFit s from es fs) (entry_of s.tables d) (Some (Simply kind.Text)) x in
+      let held = variable_left line es (close_all s m i es) (λ fs. close_actuals s m i line es fs) (AreIntegers s from es) (λ ks. AreOf s from es ks) (λ fs. ActualsFit s from es fs) ints ops acts (ObjectHas s (λ c. ExprIs s from a (Refers c)) d) d (entry_of s.tables d) (attribute_entry s (stream_of s a) d es v) x in (
+        AddressOf (Simply kind.Text),
+        subst (λ z. Fine (image_place z (place_of_attribute s line (close s m i a) es (close_all s m i es) d)) (Some (AddressOf (Simply kind.Text)))) (sym (value_no_stream a (Refers known.0) known.3))
+            (entry_lies s ok d known.0 known.2 m i t todo line (close s m i a) (value known.0 known.3) (ObjectHas s (λ c. ExprIs s from a (Refers c)) d) es (close_all s m i es) (AreIntegers s from es) (entry_of s.tables d) (Simply kind.Text) refl ints held),
+        (refl, refl),
+      )
 
   abbrev NoPlace : Expression → Type 0
   NoPlace (syntax.Named name es) = ⊥
   NoPlace (syntax.Dot token a name es) = ⊥
   NoPlace _ = Unit {0}
 
-  not_variable : (e : Expression) → NoPlace e → is_variable s e ≡ true → ⊥
-  unfolding is_variable
+  not_variable : (e : Expression) → NoPlace e → (is_variable s e || is_attribute s e) ≡ true → ⊥
+  unfolding is_variable is_attribute
   not_variable (syntax.Named name es) n v = n
   not_variable (syntax.Dot token a name es) n v = n
   not_variable _ n v = cc
+
+  dot_variable : (token : ℕ) (a : Expression) (name : Identifier) (es : Expressions) → (is_variable s (syntax.Dot token a name es) || is_attribute s (syntax.Dot token a name es)) ≡ true → (is_image_behind (stream_of s a) (denoted s name.token.0) || is_attribute_denoted s (denoted s name.token.0) es) ≡ true
+  unfolding is_variable is_attribute
+  dot_variable token a name es v = v
+
+  -- ---- classes
+
+  member_fine : (member : Membership) (x : Option ℕ) (k : ℕ) (a : Term) (h : Holds) → x ≡ Some k → Simply kind.Boolean ≡ h → Fine a (simple kind.Reference) → Fine (membership_term member x a) (Some (Value h))
+  member_fine member x k a h e is f = subst (λ z. Fine (membership_term member z a) (Some (Value h))) (sym e) (ap (λ z. Some (Value z)) is, f)
+
+  qua_fine : (x : Option ℕ) (k line : ℕ) (a : Term) (h : Holds) → x ≡ Some k → Fits s (Refers k) h → Fine a (simple kind.Reference) → Fine (qua_term x line a) (Some (Value h))
+  qua_fine x k line a h e fits f = subst (λ z. Fine (qua_term z line a) (Some (Value h))) (sym e) ((h, fits, refl), f)
+
+  class_fixed : (d : DeclNo) (k : ℕ) → entry_of s.tables d ≡ Some (entry.Class k) → IsFixed (entry_of s.tables d) → ⊥
+  class_fixed d k e a = subst IsFixed e a
+
+  -- `new`
+  new_fine : (token line other : ℕ) (es : Expressions) (h : Holds) → ((fs : List Formal) → ActualsFit s from es fs → TermsFine s m i t todo (with_arrays_kept fs (close_actuals s m i line es fs)) (class_kinds s fs)) → NewIs s from token (λ fs. ActualsFit s from es fs) h
+      → Fine (generation (home_of_class s m i (denoted s token)) (class_at s token) (with_arrays_kept (class_parameters s (class_at s token)) (close_actuals s m i line es (class_parameters s (class_at s token)))) other) (Some (Value h))
+  new_fine token line other es h acts a =
+      let n = a.0 in
+      let x = reach n.declaration n.seen in
+      let w = ok.classes n.declaration n.class n.declares in
+      let home : home_of_class s m i (denoted s token) ≡ Some x.instance = ap (home_of_class s m i) n.denotes ∙ x.found in
+      let class : class_at s token ≡ Some n.class = class_named s token n.declaration n.class n.denotes n.declares (ap is_class w.is) in
+      subst (λ z. Fine (generation z (class_at s token) (with_arrays_kept (class_parameters s (class_at s token)) (close_actuals s m i line es (class_parameters s (class_at s token)))) other) (Some (Value h))) (sym home)
+      (subst (λ z. Fine (generation (Some x.instance) z (with_arrays_kept (class_parameters s z) (close_actuals s m i line es (class_parameters s z))) other) (Some (Value h))) (sym class) (record {
+        around = block_of s n.declaration;
+        near = x.near;
+        whole = whole_of s m i n.declaration x (class_fixed n.declaration n.class n.declares);
+        class = record { stands_in = w.around; prefix = w.prefix; heading = w.heading; declarations = w.declarations; statements = w.statements; is = w.is };
+        holds = h;
+        fits = a.1;
+        gives = refl;
+        actuals = acts (class_parameters s (Some n.class)) n.actuals;
+      }))
 
   mutual
     pub expr_fine : (e : Expression) (h : Holds) → ExprIs s from e h → Fine (close s m i e) (Some (Value h))
@@ -363,33 +619,36 @@ module _ (s : Source) (ok : Typed s) (m : Instances) (i t : ℕ) (todo : List De
         two_fine (sort_of (is_text s a) op) (line_at s token) x.0 x.1 (close s m i a) (close s m i b) h x.2 x.3 (expr_fine a (Simply x.0) x.4) (expr_fine b (Simply x.0) x.5)
     expr_fine (syntax.Not token a) h x = (kind.Boolean, refl, ap (λ z. Some (Value z)) x.0, expr_fine a (Simply kind.Boolean) x.1)
     expr_fine (syntax.Signed sign token a) h x = signed_fine sign (line_at s token) (close s m i a) h x.0 (expr_fine a (Simply kind.Integer) x.1)
+    expr_fine (syntax.Member member token a class) h x = let c = x.1 in member_fine member (class_at s class.token.0) c.class (close s m i a) h c.is x.0 (expr_fine a (Simply kind.Reference) x.2)
+    expr_fine (syntax.Qua token a class) h x = let c = x.0 in qua_fine (class_at s class.token.0) c.class (line_at s token) (close s m i a) h c.is x.1 (expr_fine a (Simply kind.Reference) x.2)
     expr_fine (syntax.Constant literal token) h x = literal_fine token literal h x
     expr_fine (syntax.Dot token a name es) h x =
-        other_fine (declared_attribute (denoted s name.token.0)) _ _ (Some (Value h)) (undeclared (denoted s name.token.0) (stream_of s a) (ExprIs s from a (Simply kind.Text)) (λ ks. AreOf s from es ks) (Some h) x)
-        (dot_denoted (line_at s name.token.0) a es (Some h) (λ y. expr_fine a (Simply kind.Text) y) (λ v y. place_fine a v y) (λ ks y. of_fine es ks y) (denoted s name.token.0) x)
+        dot_denoted (line_at s name.token.0) a es (Some h) (λ h y. expr_fine a h y) (λ v y. place_fine a v y) (λ y. integers_fine es y) (λ ks y. of_fine es ks y) (λ fs y. actuals_fine (line_at s name.token.0) es fs y) (denoted s name.token.0) x
     expr_fine (syntax.Named name es) h x =
-        other_fine (connection_at s name.token.0) _ _ (Some (Value h)) (unconnected s ok name.token.0)
-        (named_fine (line_at s name.token.0) es (close_all s m i es) (λ fs. close_actuals s m i (line_at s name.token.0) es fs) (AreIntegers s from es) (λ ks. AreOf s from es ks) (λ fs. ActualsFit s from es fs) (λ a. integers_fine es a) (λ ks a. of_fine es ks a) (λ fs a. actuals_fine (line_at s name.token.0) es fs a) (denoted s name.token.0) (Some h) x)
+        named_fine (line_at s name.token.0) es (close_all s m i es) (λ fs. close_actuals s m i (line_at s name.token.0) es fs) (AreIntegers s from es) (λ ks. AreOf s from es ks) (λ fs. ActualsFit s from es fs) (λ a. integers_fine es a) (λ ks a. of_fine es ks a) (λ fs a. actuals_fine (line_at s name.token.0) es fs a) (connection_at s name.token.0) (denoted s name.token.0) (Some h) x
+    expr_fine (syntax.This token class) h x = this_found (found_at s token) h x
+    expr_fine (syntax.New token class es) h x = new_fine class.token.0 (line_at s class.token.0) (line_at s token) es h (λ fs a. class_fine (line_at s class.token.0) es fs a) x
     expr_fine (syntax.Parentheses token a) h x = expr_fine a h x
-    expr_fine _ h x = absurd x
 
     pub integers_fine : (es : Expressions) → AreIntegers s from es → IntegersFine s m i t todo (close_all s m i es)
     integers_fine NoMore x = x
     integers_fine (Then e es) x = (expr_fine e (Simply kind.Integer) x.0, integers_fine es x.1)
 
     -- where a text variable before a dot lies
-    place_fine : (e : Expression) → is_variable s e ≡ true → ExprIs s from e (Simply kind.Text) → (y : Kinds) × Fine (close_place s m i e) (Some y) × OperandIs kind.Text y
+    place_fine : (e : Expression) → (is_variable s e || is_attribute s e) ≡ true → ExprIs s from e (Simply kind.Text) → (y : Kinds) × Fine (close_place s m i e) (Some y) × OperandIs kind.Text y
     place_fine (syntax.Named name es) v x =
-        let y = named_place_fine (line_at s name.token.0) es (close_all s m i es) (AreIntegers s from es) (λ ks. AreOf s from es ks) (λ fs. ActualsFit s from es fs) (λ y. integers_fine es y) (denoted s name.token.0) (variable_named name es v) x in
-        (y.0, other_fine (connection_at s name.token.0) _ _ (Some y.0) (unconnected s ok name.token.0) y.1, y.2)
-    place_fine (syntax.Dot token a name es) v x = image_place_fine (stream_of s a) _ (denoted s name.token.0) (stream_is a) (variable_dot token a name es v)
+        text_lies (line_at s name.token.0) es (close_all s m i es) (λ fs. close_actuals s m i (line_at s name.token.0) es fs) (AreIntegers s from es) (λ ks. AreOf s from es ks) (λ fs. ActualsFit s from es fs) (λ y. integers_fine es y) (λ ks a. of_fine es ks a) (λ fs a. actuals_fine (line_at s name.token.0) es fs a) (connection_at s name.token.0) (denoted s name.token.0) (variable_named name es v) x
+    place_fine (syntax.Dot token a name es) v x = dot_lies (line_at s name.token.0) a es (denoted s name.token.0) (λ c y. expr_fine a (Refers c) y) (λ y. integers_fine es y) (λ ks y. of_fine es ks y) (λ fs y. actuals_fine (line_at s name.token.0) es fs y) (dot_variable token a name es v) x
     place_fine (syntax.If token c a b) v x = absurd (not_variable (syntax.If token c a b) tt v)
     place_fine (syntax.Binary op token a b) v x = absurd (not_variable (syntax.Binary op token a b) tt v)
     place_fine (syntax.Not token a) v x = absurd (not_variable (syntax.Not token a) tt v)
     place_fine (syntax.Signed sign token a) v x = absurd (not_variable (syntax.Signed sign token a) tt v)
     place_fine (syntax.Constant literal token) v x = absurd (not_variable (syntax.Constant literal token) tt v)
     place_fine (syntax.Parentheses token a) v x = absurd (not_variable (syntax.Parentheses token a) tt v)
-    place_fine _ v x = absurd x
+    place_fine (syntax.Member member token a class) v x = absurd (not_variable (syntax.Member member token a class) tt v)
+    place_fine (syntax.Qua token a class) v x = absurd (not_variable (syntax.Qua token a class) tt v)
+    place_fine (syntax.This token class) v x = absurd (not_variable (syntax.This token class) tt v)
+    place_fine (syntax.New token class es) v x = absurd (not_variable (syntax.New token class es) tt v)
 
     pub of_fine : (es : Expressions) (ks : List Kind) → AreOf s from es ks → OperandsFine s m i t todo (close_all s m i es) (value_kinds ks)
     of_fine NoMore [] x = refl
@@ -397,21 +656,27 @@ module _ (s : Source) (ok : Typed s) (m : Instances) (i t : ℕ) (todo : List De
     of_fine (Then e es) [] x = absurd x
     of_fine (Then e es) (k ∷ ks) x = (Value (Simply k), value_kinds ks, refl, expr_fine e (Simply k) x.0, of_fine es ks x.1)
 
-    pub actuals_fine : (line : ℕ) (es : Expressions) (fs : List Formal) → ActualsFit s from es fs → TermsFine s m i t todo (close_actuals s m i line es fs) (formal_kinds fs)
+    pub actuals_fine : (line : ℕ) (es : Expressions) (fs : List Formal) → ActualsFit s from es fs → TermsFine s m i t todo (close_actuals s m i line es fs) (formal_kinds s fs)
     actuals_fine line NoMore [] x = refl
     actuals_fine line NoMore (f ∷ fs) x = absurd x
     actuals_fine line (Then e es) [] x = absurd x
     actuals_fine line (Then e es) (f ∷ fs) x =
-        let a = actual_fine (ExprIs s from e) (λ z h. Fine z (Some h)) line f.mode f.kind f.ty (close s m i e) (λ h y. expr_fine e h y) (λ y. copy_fine line (close s m i e) y) (λ k y. (k, refl, y)) x.0 in
-        (a.0, formal_kinds fs, ap (λ z. z ∷ formal_kinds fs) a.1, subst (λ z. Fine (fitting z line (actual_term line f.mode f.kind (is_text_type f.ty) (close s m i e))) (Some a.0)) (sym (qualification_none f.kind f.ty)) a.2, actuals_fine line es fs x.1)
+        let a = actual_fine s ok (ExprIs s from e) (λ z h. Fine z (Some h)) line (close s m i e) (λ h y. expr_fine e h y) (λ y. copy_fine line (close s m i e) y) (λ k y. (k, refl, y)) (λ k y. (k, refl, y)) (λ z k level y. ((Refers k, level, refl), y)) f.mode f.kind f.ty x.0 in
+        (a.0, formal_kinds s fs, ap (λ z. z ∷ formal_kinds s fs) a.1, a.2, actuals_fine line es fs x.1)
+
+    class_fine : (line : ℕ) (es : Expressions) (fs : List Formal) → ActualsFit s from es fs → TermsFine s m i t todo (with_arrays_kept fs (close_actuals s m i line es fs)) (class_kinds s fs)
+    class_fine line NoMore [] x = refl
+    class_fine line NoMore (f ∷ fs) x = absurd x
+    class_fine line (Then e es) [] x = absurd x
+    class_fine line (Then e es) (f ∷ fs) x =
+        let a = class_actual s ok (ExprIs s from e) (λ z h. Fine z (Some h)) line (close s m i e) (λ h y. expr_fine e h y) (λ y. copy_fine line (close s m i e) y) (λ k y. (k, refl, y)) (λ k y. (k, refl, y)) (λ z k level y. ((Refers k, level, refl), y)) f.mode f.kind f.ty x.0 in
+        (a.0, class_kinds s fs, ap (λ z. z ∷ class_kinds s fs) a.1, a.2, class_fine line es fs x.1)
 
   -- a call that stands as a statement
-  pub given_fine : (name : Identifier) (es : Expressions) (h : Option Holds) → NamedGives s from (denoted s name.token.0) es (AreIntegers s from es) (λ ks. AreOf s from es ks) (λ fs. ActualsFit s from es fs) h → Fine (close s m i (syntax.Named name es)) (held_kinds h)
+  pub given_fine : (name : Identifier) (es : Expressions) (h : Option Holds) → NamedGives s from (connection_at s name.token.0) (denoted s name.token.0) es (AreIntegers s from es) (λ ks. AreOf s from es ks) (λ fs. ActualsFit s from es fs) h → Fine (close s m i (syntax.Named name es)) (held_kinds h)
   given_fine name es h x =
-      other_fine (connection_at s name.token.0) _ _ (held_kinds h) (unconnected s ok name.token.0)
-      (named_fine (line_at s name.token.0) es (close_all s m i es) (λ fs. close_actuals s m i (line_at s name.token.0) es fs) (AreIntegers s from es) (λ ks. AreOf s from es ks) (λ fs. ActualsFit s from es fs) (λ a. integers_fine es a) (λ ks a. of_fine es ks a) (λ fs a. actuals_fine (line_at s name.token.0) es fs a) (denoted s name.token.0) h x)
+      named_fine (line_at s name.token.0) es (close_all s m i es) (λ fs. close_actuals s m i (line_at s name.token.0) es fs) (AreIntegers s from es) (λ ks. AreOf s from es ks) (λ fs. ActualsFit s from es fs) (λ a. integers_fine es a) (λ ks a. of_fine es ks a) (λ fs a. actuals_fine (line_at s name.token.0) es fs a) (connection_at s name.token.0) (denoted s name.token.0) h x
 
-  pub dot_fine : (token : ℕ) (a : Expression) (name : Identifier) (es : Expressions) (h : Option Holds) → DotGives (denoted s name.token.0) (stream_of s a) (ExprIs s from a (Simply kind.Text)) (λ ks. AreOf s from es ks) h → Fine (close s m i (syntax.Dot token a name es)) (held_kinds h)
+  pub dot_fine : (token : ℕ) (a : Expression) (name : Identifier) (es : Expressions) (h : Option Holds) → DotGives s (denoted s name.token.0) (stream_of s a) (ExprIs s from a (Simply kind.Text)) (λ c. ExprIs s from a (Refers c)) es (AreIntegers s from es) (λ ks. AreOf s from es ks) (λ fs. ActualsFit s from es fs) h → Fine (close s m i (syntax.Dot token a name es)) (held_kinds h)
   dot_fine token a name es h x =
-      other_fine (declared_attribute (denoted s name.token.0)) _ _ (held_kinds h) (undeclared (denoted s name.token.0) (stream_of s a) (ExprIs s from a (Simply kind.Text)) (λ ks. AreOf s from es ks) h x)
-      (dot_denoted (line_at s name.token.0) a es h (λ y. expr_fine a (Simply kind.Text) y) (λ v y. place_fine a v y) (λ ks y. of_fine es ks y) (denoted s name.token.0) x)
+      dot_denoted (line_at s name.token.0) a es h (λ h y. expr_fine a h y) (λ v y. place_fine a v y) (λ y. integers_fine es y) (λ ks y. of_fine es ks y) (λ fs y. actuals_fine (line_at s name.token.0) es fs y) (denoted s name.token.0) x

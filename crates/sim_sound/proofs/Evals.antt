@@ -4,23 +4,25 @@ use Rattle.sim_base.specs.declared.numbering.DeclNo.{DeclNo}
 use Rattle.sim_scope.specs.declared.types.Formal.{Formal}
 use Rattle.sim_scope.specs.Source.{Source}
 use Rattle.sim_values.specs.declared.kind.Kind.TheVariants as kind
-use Rattle.sim_values.specs.Plain.{kind_of}
 use Rattle.sim_code.specs.Instances.{CellPlace, ImagePlace}
 use Rattle.sim_code.specs.Outcome.{World}
 use Rattle.sim_meaning.specs.Entries.{formals_of}
-use Rattle.sim_meaning.specs.Pending.{Activation, Address, CallOf, CallOp, Cell, Configuration, CopyOf, CopyOp, Do, Either, ElementOf, ElementOp, Eval, FetchOp, Further, Given, IfOp, ImageOf, Instances, Item, JoinOp, Joined, Link, NoTerm, Of, One, OneOp, PlaceOf, StandardOf, StandardOp, Term, Terms, Two, TwoOp, Unbuilt, Val, ValueAt, cell}
+use Rattle.sim_meaning.specs.Closing.{class_parameters}
+use Rattle.sim_meaning.specs.Pending.{Activation, Address, AttributeOf, AttributeOp, CallOf, CallOp, Cell, Configuration, CopyOf, CopyOp, Do, Either, ElementOf, ElementOp, Eval, FetchOp, FitsOf, FitsOp, Further, Given, IfOp, ImageOf, Instances, Item, JoinOp, Joined, KeepOp, KeptOf, Link, MemberOf, MemberOp, NewOf, NewOp, NoTerm, ObjectOp, Of, One, OneOp, PlaceOf, QuaOf, QuaOp, QualifiedElementOf, QualifiedElementOp, QualifiedPlaceOf, RemoteCallOf, StandardOf, StandardOp, Term, Terms, Two, TwoOp, Unbuilt, Val, ValueAt, cell}
 use Rattle.sim_meaning.specs.Steps.{count, each, eval, go}
-use Rattle.sim_sound.specs.Typed.{ArrayOf, Simply}
+use Rattle.sim_sound.specs.Held.{ArrayOf, Refers, Simply}
+use Rattle.sim_sound.specs.Typed.{Typed}
 use Rattle.sim_sound.proofs.Cells.{cell_found}
 use Rattle.sim_sound.proofs.Lifts.{Goes, had}
-use Rattle.sim_sound.proofs.Sound.{AddressOf, Begun, ChainFine, Copied, Fine, HandsFine, ImageAddress, IntegersFine, Kinds, LinkTo, OperandsFine, Operates, TermFine, Sight, TermsFine, Value, WorkFine, formal_kinds, given, integers, onto, pushed, runs, see, simple}
+use Rattle.sim_sound.proofs.Fitting.{plain_val, val_fits}
+use Rattle.sim_sound.proofs.Sound.{AddressOf, Begun, ChainFine, Copied, Fine, GivesResult, HandsFine, ImageAddress, IntegersFine, Kinds, Lasting, LinkTo, OperandsFine, Operates, ProcedureIn, ReferenceAddress, Sight, TermFine, TermsFine, Value, Waits, WorkFine, class_kinds, formal_kinds, given, integers, onto, pushed, runs, see, simple}
 
 -- the configurations that are fine
 abbrev pub IsFine : Source → World → Configuration → Type 0
 IsFine s o c = (g : List Sight) × (length g ≡ length o.arrays) × Fine s (see g o) c
 
 module _ (s : Source) (o : World) (g : List Sight) (long : length g ≡ length o.arrays) (m : Instances) (i t : ℕ) (rest : List Activation) (top : Operates m i rest) where
-  abbrev pub Rest : Option Kinds → Type 0
+  abbrev pub Rest : Waits → Type 0
   Rest v = ChainFine s (see g o) m i rest v
 
   abbrev pub Work : List Item → List DeclNo → List Kinds → Type 0
@@ -31,7 +33,8 @@ module _ (s : Source) (o : World) (g : List Sight) (long : length g ≡ length o
 
   -- the instance goes on
   pub goes_on : (w : List Item) (vals : List Val) (todo : List DeclNo) (ks : List Kinds) → Begun s (see g o) m i t todo → Hands ks vals → Work w todo ks → IsFine s o (record { chain = record { instance = i; work = w; values = vals } ∷ rest; memory = m })
-  goes_on w vals todo ks b h work = (g, long, runs b.store top.all top.parked (record { before = top.before; of_text = t; todo = todo; here = b.here; kinds = ks; hands = h; goes = work }))
+  goes_on w vals todo ks b h work =
+      (g, long, runs b.store top.all top.parked (record { before = top.before; of_text = t; todo = todo; here = b.here; own = b.own; vals = vals; shown = refl; kinds = ks; hands = h; expected = ks; expects = refl; goes = work }))
 
   -- operands one after the other
   integers_more : (n : ℕ) (ks : List Kinds) → integers n (Value (Simply kind.Integer) ∷ ks) ≡ Value (Simply kind.Integer) ∷ integers n ks
@@ -57,21 +60,48 @@ module _ (s : Source) (o : World) (g : List Sight) (long : length g ≡ length o
   many NoTerm hs todo a = ap length (sym a)
   many (Further x xs) hs todo a = ap suc (many xs a.1 todo a.4) ∙ ap length (sym a.2)
 
-  formals_many : (fs : List Formal) → length (formal_kinds fs) ≡ length fs
+  formals_many : (fs : List Formal) → length (formal_kinds s fs) ≡ length fs
   formals_many [] = refl
   formals_many (f ∷ fs) = ap suc (formals_many fs)
 
-  pub eval_goes : (x : Term) (r : Option Kinds) (w : List Item) (vals : List Val) (todo : List DeclNo) (ks : List Kinds) → Begun s (see g o) m i t todo → Hands ks vals → TermFine s m i t todo x r → Work w todo (given r ks) → Goes (IsFine s) (eval o m i w vals rest x)
-  eval_goes (Given p) r w vals todo ks b h a work =
-      goes_on w (Of p ∷ vals) todo (Value (Simply (kind_of p)) ∷ ks) b (refl, h) (subst (λ z. Work w todo (given z ks)) (sym a) work)
-  eval_goes (Cell e key) r w vals todo ks b h a work =
-      let v = cell_found s (see g o) m i t todo e key a.0 b a.2 in
-      had (IsFine s) (cell m e key) v.0 o (λ v. go o m i w (v ∷ vals) rest) v.1 (goes_on w (v.0 ∷ vals) todo (Value a.0 ∷ ks) b (v.2, h) (subst (λ z. Work w todo (given z ks)) (sym a.1) work))
-  eval_goes (One op line x) r w vals todo ks b h a work =
+  class_many : (fs : List Formal) → length (class_kinds s fs) ≡ length fs
+  class_many [] = refl
+  class_many (f ∷ fs) = ap suc (class_many fs)
+
+  -- the actuals of a call, behind the instance in which the procedure is declared
+  call_work : (k : ℕ) (ts : Terms) (line around : ℕ) (r : Option Kinds) (w : List Item) (todo : List DeclNo) (ks : List Kinds) → ProcedureIn s k around → GivesResult s k r → TermsFine s m i t todo ts (formal_kinds s (formals_of s k)) → Work w todo (given r ks) → Work (each ts (Do (CallOp k (count ts) line) ∷ w)) todo (LinkTo around ∷ ks)
+  call_work k ts line around r w todo ks procedure gives actuals work =
+      each_fine ts (formal_kinds s (formals_of s k)) (Do (CallOp k (count ts) line) ∷ w) todo (LinkTo around ∷ ks) actuals (
+        todo,
+        given r ks,
+        (
+          record {
+            around = around;
+            procedure = procedure;
+            left = ks;
+            «in» = refl;
+            count = many ts (formal_kinds s (formals_of s k)) todo actuals ∙ formals_many (formals_of s k);
+            gives = r;
+            result = gives;
+            out = refl;
+          },
+          refl,
+        ),
+        work,
+      )
+
+  pub eval_goes : Typed s → (x : Term) (r : Option Kinds) (w : List Item) (vals : List Val) (todo : List DeclNo) (ks : List Kinds) → Begun s (see g o) m i t todo → Hands ks vals → TermFine s m i t todo x r → Work w todo (given r ks) → Goes (IsFine s) (eval o m i w vals rest x)
+  eval_goes ok (Given p) r w vals todo ks b h a work =
+      goes_on w (Of p ∷ vals) todo (Value a.0 ∷ ks) b (plain_val s (see g o) m i a.0 p a.2, h) (subst (λ z. Work w todo (given z ks)) (sym a.1) work)
+  eval_goes ok (Cell e key) r w vals todo ks b h a work =
+      let v = cell_found s ok (see g o) m i t todo e key a.0 b a.2 in
+      let c = a.1 in
+      had (IsFine s) (cell m e key) v.0 o (λ v. go o m i w (v ∷ vals) rest) v.1 (goes_on w (v.0 ∷ vals) todo (Value c.0 ∷ ks) b (val_fits s ok (see g o) m b.store i a.0 c.0 v.0 c.1 v.2, h) (subst (λ z. Work w todo (given z ks)) (sym c.2) work))
+  eval_goes ok (One op line x) r w vals todo ks b h a work =
       let k = a.0 in
       goes_on (Do (Eval x) ∷ Do (OneOp op line) ∷ w) vals todo ks b h
       (todo, Value (Simply k) ∷ ks, (simple k, a.3, refl, refl), (todo, Value (Simply k) ∷ ks, (k, ks, a.1, refl, refl, refl), subst (λ z. Work w todo (given z ks)) (sym a.2) work))
-  eval_goes (Two op line x y) r w vals todo ks b h a work =
+  eval_goes ok (Two op line x y) r w vals todo ks b h a work =
       let k = a.0 in
       let v = a.1 in
       goes_on (Do (Eval x) ∷ Do (Eval y) ∷ Do (TwoOp op line) ∷ w) vals todo ks b h (
@@ -85,23 +115,23 @@ module _ (s : Source) (o : World) (g : List Sight) (long : length g ≡ length o
           (todo, Value (Simply v) ∷ ks, (k, v, ks, a.2, refl, refl, refl), subst (λ z. Work w todo (given z ks)) (sym a.3) work),
         ),
       )
-  eval_goes (Either c x y) r w vals todo ks b h a work =
+  eval_goes ok (Either c x y) r w vals todo ks b h a work =
       goes_on (Do (Eval c) ∷ Do (IfOp x y) ∷ w) vals todo ks b h (
         todo,
         Value (Simply kind.Boolean) ∷ ks,
         (simple kind.Boolean, a.2, refl, refl),
         (todo, a.0 ∷ ks, (a.0, ks, subst (TermFine s m i t todo x) (sym a.1) a.3, subst (TermFine s m i t todo y) (sym a.1) a.4, refl, refl, refl), subst (λ z. Work w todo (given z ks)) (sym a.1) work),
       )
-  eval_goes (ElementOf line x ts) r w vals todo ks b h a work =
+  eval_goes ok (ElementOf line x ts) r w vals todo ks b h a work =
       let k = a.0 in
       goes_on (Do (Eval x) ∷ each ts (Do (ElementOp (count ts) line) ∷ w)) vals todo ks b h (
         todo,
         Value (ArrayOf k) ∷ ks,
         (Some (Value (ArrayOf k)), a.2, refl, refl),
         each_integers ts (Do (ElementOp (count ts) line) ∷ w) todo (Value (ArrayOf k) ∷ ks) a.3
-            (todo, AddressOf (Simply k) ∷ ks, (k, ks, refl, refl, refl), subst (λ z. Work w todo (given z ks)) (sym a.1) work),
+            (todo, AddressOf k ∷ ks, (k, ks, refl, refl, refl), subst (λ z. Work w todo (given z ks)) (sym a.1) work),
       )
-  eval_goes (ValueAt x) r w vals todo ks b h a work =
+  eval_goes ok (ValueAt x) r w vals todo ks b h a work =
       let k = a.0 in
       goes_on (Do (Eval x) ∷ Do FetchOp ∷ w) vals todo ks b h (
         todo,
@@ -109,11 +139,11 @@ module _ (s : Source) (o : World) (g : List Sight) (long : length g ≡ length o
         (Some a.1, a.4, refl, refl),
         (todo, Value k ∷ ks, (k, a.1, ks, a.2, refl, refl, refl), subst (λ z. Work w todo (given z ks)) (sym a.3) work),
       )
-  eval_goes (PlaceOf e key) r w vals todo ks b h a work =
+  eval_goes ok (PlaceOf e key) r w vals todo ks b h a work =
       goes_on w (Address (CellPlace e key None) ∷ vals) todo (AddressOf a.0 ∷ ks) b (a.2, h) (subst (λ z. Work w todo (given z ks)) (sym a.1) work)
-  eval_goes (ImageOf n) r w vals todo ks b h a work =
+  eval_goes ok (ImageOf n) r w vals todo ks b h a work =
       goes_on w (Address (ImagePlace n) ∷ vals) todo (ImageAddress ∷ ks) b (a.1, h) (subst (λ z. Work w todo (given z ks)) (sym a.0) work)
-  eval_goes (Joined line x y) r w vals todo ks b h a work =
+  eval_goes ok (Joined line x y) r w vals todo ks b h a work =
       goes_on (Do (Eval x) ∷ Do (Eval y) ∷ Do (JoinOp line) ∷ w) vals todo ks b h (
         todo,
         Value (Simply kind.Text) ∷ ks,
@@ -125,7 +155,7 @@ module _ (s : Source) (o : World) (g : List Sight) (long : length g ≡ length o
           (todo, Value (Simply kind.Text) ∷ ks, (ks, refl, refl, refl), subst (λ z. Work w todo (given z ks)) (sym a.0) work),
         ),
       )
-  eval_goes (CopyOf line x) r w vals todo ks b h a work =
+  eval_goes ok (CopyOf line x) r w vals todo ks b h a work =
       let k = a.0 in
       goes_on (Do (Eval x) ∷ Do (CopyOp line) ∷ w) vals todo ks b h (
         todo,
@@ -133,30 +163,91 @@ module _ (s : Source) (o : World) (g : List Sight) (long : length g ≡ length o
         (Some (Value (ArrayOf k)), a.2, refl, refl),
         (todo, Copied k ∷ ks, (k, ks, Copied k, refl, refl, refl, refl), subst (λ z. Work w todo (given z ks)) (sym a.1) work),
       )
-  eval_goes (CallOf e k ts line) r w vals todo ks b h a work =
-      goes_on (each ts (Do (CallOp k (count ts) line) ∷ w)) (Link e ∷ vals) todo (LinkTo a.around ∷ ks) b ((a.before, a.whole), h)
-      (each_fine ts (formal_kinds (formals_of s k)) (Do (CallOp k (count ts) line) ∷ w) todo (LinkTo a.around ∷ ks) a.actuals (
-        todo,
-        given r ks,
-        (
-          record {
-            around = a.around;
-            stands_in = a.stands_in;
-            result = a.result;
-            heading = a.heading;
-            body = a.body;
-            is = a.is;
-            left = ks;
-            «in» = refl;
-            count = many ts (formal_kinds (formals_of s k)) todo a.actuals ∙ formals_many (formals_of s k);
-            out = ap (λ z. given z ks) (sym a.gives);
-          },
-          refl,
-        ),
-        work,
-      ))
-  eval_goes (StandardOf name ts line) r w vals todo ks b h a work =
+  eval_goes ok (CallOf e k ts line) r w vals todo ks b h a work =
+      goes_on (each ts (Do (CallOp k (count ts) line) ∷ w)) (Link e ∷ vals) todo (LinkTo a.around ∷ ks) b ((a.near, a.whole), h)
+      (call_work k ts line a.around r w todo ks a.procedure a.gives a.actuals work)
+  eval_goes ok (StandardOf name ts line) r w vals todo ks b h a work =
       goes_on (each ts (Do (StandardOp name line) ∷ w)) vals todo ks b h
       (each_operand ts a.2 (Do (StandardOp name line) ∷ w) todo ks a.4
       (todo, given r ks, (ks, a.2, a.0, a.3, refl, ap (λ z. given z ks) (sym a.1), refl), work))
-  eval_goes _ r w vals todo ks b h a work = absurd a
+  -- what objects have
+  eval_goes ok (NewOf e k ts line) r w vals todo ks b h a work =
+      goes_on (each ts (Do (NewOp k (count ts) line) ∷ w)) (Link e ∷ vals) todo (LinkTo a.around ∷ ks) b ((a.near, a.whole), h)
+      (each_fine ts (class_kinds s (class_parameters s (Some k))) (Do (NewOp k (count ts) line) ∷ w) todo (LinkTo a.around ∷ ks) a.actuals (
+        todo,
+        Value a.holds ∷ ks,
+        (
+          record {
+            around = a.around;
+            class = a.class;
+            left = ks;
+            «in» = refl;
+            count = many ts (class_kinds s (class_parameters s (Some k))) todo a.actuals ∙ class_many (class_parameters s (Some k));
+            holds = a.holds;
+            fits = a.fits;
+            out = refl;
+          },
+          refl,
+        ),
+        subst (λ z. Work w todo (given z ks)) (sym a.gives) work,
+      ))
+  eval_goes ok (AttributeOf u key class line x) r w vals todo ks b h a work =
+      goes_on (Do (Eval x) ∷ Do (AttributeOp u key class line) ∷ w) vals todo ks b h (
+        todo,
+        Value (Refers a.0) ∷ ks,
+        (Some (Value (Refers a.0)), a.6, refl, refl),
+        (todo, a.2 ∷ ks, (a.0, a.1, a.2, ks, a.3, a.4, refl, refl, refl), subst (λ z. Work w todo (given z ks)) (sym a.5) work),
+      )
+  eval_goes ok (RemoteCallOf x k ts line) r w vals todo ks b h a work =
+      goes_on (Do (Eval x) ∷ Do (ObjectOp k line) ∷ each ts (Do (CallOp k (count ts) line) ∷ w)) vals todo ks b h (
+        todo,
+        Value (Refers a.0) ∷ ks,
+        (Some (Value (Refers a.0)), a.5, refl, refl),
+        (
+          todo,
+          LinkTo a.1 ∷ ks,
+          (a.0, a.1, ks, a.2, (a.3).stands_in, refl, refl, refl),
+          call_work k ts line a.1 r w todo ks a.3 a.4 a.6 work,
+        ),
+      )
+  eval_goes ok (QualifiedPlaceOf e key c) r w vals todo ks b h a work =
+      goes_on w (Address (CellPlace e key (Some c)) ∷ vals) todo (ReferenceAddress c ∷ ks) b ((refl, a.1), h) (subst (λ z. Work w todo (given z ks)) (sym a.0) work)
+  eval_goes ok (QualifiedElementOf line c x ts) r w vals todo ks b h a work =
+      goes_on (Do (Eval x) ∷ each ts (Do (QualifiedElementOp (count ts) line c) ∷ w)) vals todo ks b h (
+        todo,
+        Value (ArrayOf (Refers c)) ∷ ks,
+        (Some (Value (ArrayOf (Refers c))), a.1, refl, refl),
+        each_integers ts (Do (QualifiedElementOp (count ts) line c) ∷ w) todo (Value (ArrayOf (Refers c)) ∷ ks) a.2
+            (todo, ReferenceAddress c ∷ ks, (ks, refl, refl, refl), subst (λ z. Work w todo (given z ks)) (sym a.0) work),
+      )
+  eval_goes ok (MemberOf member c x) r w vals todo ks b h a work =
+      goes_on (Do (Eval x) ∷ Do (MemberOp member c) ∷ w) vals todo ks b h (
+        todo,
+        Value (Simply kind.Reference) ∷ ks,
+        (simple kind.Reference, a.1, refl, refl),
+        (todo, Value (Simply kind.Boolean) ∷ ks, (ks, refl, refl, refl), subst (λ z. Work w todo (given z ks)) (sym a.0) work),
+      )
+  eval_goes ok (QuaOf c line x) r w vals todo ks b h a work =
+      let y = a.0 in
+      goes_on (Do (Eval x) ∷ Do (QuaOp c line) ∷ w) vals todo ks b h (
+        todo,
+        Value (Simply kind.Reference) ∷ ks,
+        (simple kind.Reference, a.1, refl, refl),
+        (todo, Value y.0 ∷ ks, (y.0, ks, y.1, refl, refl, refl), subst (λ z. Work w todo (given z ks)) (sym y.2) work),
+      )
+  eval_goes ok (FitsOf c line x) r w vals todo ks b h a work =
+      let y = a.0 in
+      goes_on (Do (Eval x) ∷ Do (FitsOp c line) ∷ w) vals todo ks b h (
+        todo,
+        Value (Simply kind.Reference) ∷ ks,
+        (simple kind.Reference, a.1, refl, refl),
+        (todo, Value y.0 ∷ ks, (y.0, ks, y.1, refl, refl, refl), subst (λ z. Work w todo (given z ks)) (sym y.2) work),
+      )
+  eval_goes ok (KeptOf x) r w vals todo ks b h a work =
+      goes_on (Do (Eval x) ∷ Do KeepOp ∷ w) vals todo ks b h (
+        todo,
+        Value (ArrayOf a.0) ∷ ks,
+        (Some (Value (ArrayOf a.0)), a.2, refl, refl),
+        (todo, Lasting a.0 ∷ ks, (a.0, ks, refl, refl, refl), subst (λ z. Work w todo (given z ks)) (sym a.1) work),
+      )
+  eval_goes ok Unbuilt r w vals todo ks b h a work = absurd a

@@ -15,26 +15,62 @@ use Rattle.sim_code.specs.Outcome.{Run, World}
 use Rattle.sim_meaning.specs.Entries.{cells_from, filled, filled_behind, first_cells, held_before, is_array_by_value, numbers_of, with_cell, with_result}
 use Rattle.sim_meaning.specs.Pending.{Declared, Held, Instances, Key, Of, Result, Val, held, same_key}
 use Rattle.sim_meaning.specs.Texts.{BlockText, ProcedureText, kind_named, kind_of_type, text}
-use Rattle.sim_sound.specs.Typed.{Among, ArrayOf, FormalsAre, Holds, NoFormal, NoFormals, entry_holds, first, formal_holds, key_holds, later, result_holds, Refers, Simply}
-use Rattle.sim_sound.proofs.ArrayEvents.{initial_is}
+use Rattle.sim_scope.specs.declared.types.SimType.{SimType}
+use Rattle.sim_scope.specs.declared.types.SimType.TheVariants as t
+use Rattle.sim_values.specs.declared.kind.Kind.{Kind}
+use Rattle.sim_values.specs.declared.kind.Kind.TheVariants as kind
+use Rattle.sim_meaning.specs.Levels.{is_class, qualification}
+use Rattle.sim_sound.specs.Held.{Among, ArrayOf, Holds, IsOfKind, Refers, Simply, entry_holds, first, formal_holds, held_by, key_holds, later, reference_to, result_holds}
+use Rattle.sim_sound.specs.Typed.{FormalsAre, NoFormal, NoFormals, ResultWritten}
 use Rattle.sim_sound.proofs.Changes.{cell_of, equal_same}
 use Rattle.sim_sound.proofs.Sound.{AllArrays, CellFine, CellsFine, DeepFine, HandsFine, KeyAmong, Kinds, ValFine, first_key, formal_kinds, holds_of, in_hand, key_of, later_key, onto}
 
+-- the first value of a kind names no object
+pub first_value : (s : Source) (o : AllArrays) (m : Instances) (j : ℕ) (k : Kind) (h : Holds) → IsOfKind h k → ValFine s o m j h (Of (initial k))
+first_value s o m j kind.Integer (Simply k) e = (sym e, tt)
+first_value s o m j kind.Boolean (Simply k) e = (sym e, tt)
+first_value s o m j kind.Character (Simply k) e = (sym e, tt)
+first_value s o m j kind.Text (Simply k) e = (sym e, tt)
+first_value s o m j kind.Reference (Simply k) e = (sym e, tt)
+first_value s o m j kind.Reference (Refers c) e = tt
+first_value s o m j kind.Integer (Refers c) e = absurd (cc)
+first_value s o m j kind.Boolean (Refers c) e = absurd (cc)
+first_value s o m j kind.Character (Refers c) e = absurd (cc)
+first_value s o m j kind.Text (Refers c) e = absurd (cc)
+first_value s o m j k (ArrayOf h) e = absurd e
+
+reference_kind : (c : Option ℕ) → IsOfKind (reference_to c) kind.Reference
+reference_kind None = refl
+reference_kind (Some k) = refl
+
+pub held_kind : (s : Source) (type : SimType) → IsOfKind (held_by s type) (kind_of_type type)
+held_kind s (t.Ref d) = reference_kind (qualification s (Some (t.Ref d)))
+held_kind s t.Integer = refl
+held_kind s t.Boolean = refl
+held_kind s t.Character = refl
+held_kind s t.Text = refl
+held_kind s t.NoneType = refl
+
 module _ (s : Source) (o : AllArrays) (m : Instances) (j k : ℕ) where
-  cell_first : (d : DeclNo) (e : Option Entry) (hs : List Held) → entry_of s.tables d ≡ e → NoFormal e → CellsFine s o m j k hs → CellsFine s o m j k (with_cell d e hs)
-  cell_first d (Some (entry.Variable ty)) hs e n a = (subst (λ z. CellFine s o m j (entry_holds z) (Some (Of (initial (kind_of_type ty))))) (sym e) (initial_is (kind_of_type ty)), a)
-  cell_first d (Some (entry.Constant ty)) hs e n a = (subst (λ z. CellFine s o m j (entry_holds z) None) (sym e) tt, a)
-  cell_first d (Some (entry.Array ty dimensions)) hs e n a = (subst (λ z. CellFine s o m j (entry_holds z) None) (sym e) tt, a)
-  cell_first d (Some (entry.Formal f)) hs e n a = absurd n
-  cell_first d _ hs e n a = a
+  module _ (plain : is_class (text s k) ≡ false) where
+    here : (d : DeclNo) (e : Option Entry) → entry_of s.tables d ≡ e → key_holds s k (Declared d.0) ≡ entry_holds s false e
+    here d e at = ap (λ z. entry_holds s z (entry_of s.tables d)) plain ∙ ap (entry_holds s false) at
 
-  cells_first : (ds : List DeclNo) → NoFormals s ds → CellsFine s o m j k (cells_from s ds)
-  cells_first [] n = tt
-  cells_first (d ∷ ds) n = cell_first d (entry_of s.tables d) (cells_from s ds) refl n.0 (cells_first ds n.1)
+    cell_first : (d : DeclNo) (e : Option Entry) (hs : List Held) → entry_of s.tables d ≡ e → NoFormal e → CellsFine s o m j k hs → CellsFine s o m j k (with_cell d e hs)
+    cell_first d (Some (entry.Variable ty)) hs e n a =
+        (subst (λ z. CellFine s o m j z (Some (Of (initial (kind_of_type ty))))) (sym (here d (Some (entry.Variable ty)) e)) (cell_of s o m j (held_by s ty) (Of (initial (kind_of_type ty))) (first_value s o m j (kind_of_type ty) (held_by s ty) (held_kind s ty))), a)
+    cell_first d (Some (entry.Constant ty)) hs e n a = (subst (λ z. CellFine s o m j z None) (sym (here d (Some (entry.Constant ty)) e)) tt, a)
+    cell_first d (Some (entry.Array ty dimensions)) hs e n a = (subst (λ z. CellFine s o m j z None) (sym (here d (Some (entry.Array ty dimensions)) e)) tt, a)
+    cell_first d (Some (entry.Formal f)) hs e n a = absurd n
+    cell_first d _ hs e n a = a
 
-  pub block_cells : (begin : ℕ) (ds : Declarations) (ss : Statements) → NoFormals s (numbers_of s k) → CellsFine s o m j k (first_cells s k (BlockText begin ds ss))
+    cells_first : (ds : List DeclNo) → NoFormals s ds → CellsFine s o m j k (cells_from s ds)
+    cells_first [] n = tt
+    cells_first (d ∷ ds) n = cell_first d (entry_of s.tables d) (cells_from s ds) refl n.0 (cells_first ds n.1)
+
+  pub block_cells : (begin : ℕ) (ds : Declarations) (ss : Statements) → text s k ≡ Some (BlockText begin ds ss) → NoFormals s (numbers_of s k) → CellsFine s o m j k (first_cells s k (BlockText begin ds ss))
   unfolding first_cells
-  block_cells begin ds ss n = cells_first (numbers_of s k) n
+  block_cells begin ds ss is n = cells_first (ap is_class is) (numbers_of s k) n
 
   -- ---- values fill the cells of formal parameters
 
@@ -59,9 +95,9 @@ module _ (s : Source) (o : AllArrays) (m : Instances) (j k : ℕ) where
     pub fine : CellsFine s o m j k cells
     pub held_all : AllHeld cells
 
-  fill_one : (d : DeclNo) (e : Option Entry) (f : Formal) (h : Holds) (v : Val) (vs : List Val) (hs : List Held) → entry_of s.tables d ≡ e → e ≡ Some (entry.Formal f) → formal_holds f.mode f.kind f.ty ≡ Some h → ValFine s o m j h v → Filled vs hs → Filled (v ∷ vs) (with_cell d e hs)
+  fill_one : (d : DeclNo) (e : Option Entry) (f : Formal) (h : Holds) (v : Val) (vs : List Val) (hs : List Held) → entry_of s.tables d ≡ e → e ≡ Some (entry.Formal f) → formal_holds s f.mode f.kind f.ty ≡ Some h → ValFine s o m j h v → Filled vs hs → Filled (v ∷ vs) (with_cell d e hs)
   fill_one d e f h v vs hs at is holds a r =
-      let key : key_holds s k (Declared d.0) ≡ Some h = ap entry_holds (at ∙ is) ∙ holds in
+      let key : key_holds s k (Declared d.0) ≡ Some h = ap (entry_holds s (is_class (text s k))) (at ∙ is) ∙ holds in
       subst (λ z. Filled (v ∷ vs) (with_cell d z hs)) (sym is) (record {
         cells = record { key = Declared d.0; value = Some v } ∷ r.cells;
         filled_is = ap (held_before (record { key = Declared d.0; value = Some v })) r.filled_is;
@@ -70,7 +106,7 @@ module _ (s : Source) (o : AllArrays) (m : Instances) (j k : ℕ) where
         held_all = (v, refl, r.held_all);
       })
 
-  fill_all : (ds : List DeclNo) (fs : List Formal) (vs : List Val) → FormalsAre s ds fs → ValsFine (holds_of fs) vs → Filled vs (cells_from s ds)
+  fill_all : (ds : List DeclNo) (fs : List Formal) (vs : List Val) → FormalsAre s ds fs → ValsFine (holds_of s fs) vs → Filled vs (cells_from s ds)
   fill_all [] [] [] a b = record { cells = []; filled_is = refl; same_keys = refl; fine = tt; held_all = tt }
   fill_all [] [] (v ∷ vs) a b = absurd b
   fill_all [] (f ∷ fs) vs a b = absurd a
@@ -85,19 +121,23 @@ module _ (s : Source) (o : AllArrays) (m : Instances) (j k : ℕ) where
     pub fine : CellsFine s o m j k cells
     pub held_all : AllHeld cells
 
-  behind_result : (result : Option TypeName) (h : Heading) (a : Statement) (vs : List Val) (hs : List Held) → text s k ≡ Some (ProcedureText result h a) → Filled vs hs → FilledBehind result vs (with_result result hs)
-  behind_result None h a vs hs is r = record { cells = r.cells; filled_is = r.filled_is; same_keys = r.same_keys; fine = r.fine; held_all = r.held_all }
-  behind_result (Some type) h a vs hs is r = record {
+  written : (type : TypeName) (r : Option Holds) → ResultWritten (Some type) r → CellFine s o m j r (Some (Of (initial (kind_named type))))
+  written type None w = absurd w
+  written type (Some x) w = cell_of s o m j x (Of (initial (kind_named type))) (first_value s o m j (kind_named type) x w)
+
+  behind_result : (result : Option TypeName) (vs : List Val) (hs : List Held) → ResultWritten result (result_holds s k) → Filled vs hs → FilledBehind result vs (with_result result hs)
+  behind_result None vs hs is r = record { cells = r.cells; filled_is = r.filled_is; same_keys = r.same_keys; fine = r.fine; held_all = r.held_all }
+  behind_result (Some type) vs hs is r = record {
     cells = record { key = Result; value = Some (Of (initial (kind_named type))) } ∷ r.cells;
     filled_is = ap (held_before (record { key = Result; value = Some (Of (initial (kind_named type))) })) r.filled_is;
     same_keys = ap (λ z. Result ∷ z) r.same_keys;
-    fine = (subst (λ z. CellFine s o m j z (Some (Of (initial (kind_named type))))) (sym (ap result_holds is)) (initial_is (kind_named type)), r.fine);
+    fine = (written type (result_holds s k) is, r.fine);
     held_all = (Of (initial (kind_named type)), refl, r.held_all);
   }
 
-  pub procedure_cells : (result : Option TypeName) (h : Heading) (a : Statement) (fs : List Formal) (vs : List Val) → text s k ≡ Some (ProcedureText result h a) → FormalsAre s (numbers_of s k) fs → ValsFine (holds_of fs) vs → FilledBehind result vs (first_cells s k (ProcedureText result h a))
+  pub procedure_cells : (result : Option TypeName) (h : Heading) (a : Statement) (fs : List Formal) (vs : List Val) → ResultWritten result (result_holds s k) → FormalsAre s (numbers_of s k) fs → ValsFine (holds_of s fs) vs → FilledBehind result vs (first_cells s k (ProcedureText result h a))
   unfolding first_cells
-  procedure_cells result h a fs vs is f v = behind_result result h a vs (cells_from s (numbers_of s k)) is (fill_all (numbers_of s k) fs vs f v)
+  procedure_cells result h a fs vs is f v = behind_result result vs (cells_from s (numbers_of s k)) is (fill_all (numbers_of s k) fs vs f v)
 
   key_later : (key x : Key) (ks : List Key) → KeyAmong key (x ∷ ks) → (x ≡ key → ⊥) → KeyAmong key ks
   key_later key x ks first_key f = absurd (f refl)
@@ -121,10 +161,10 @@ number n = record { 0 = n }
 same_decl : (a b : ℕ) → Declared a ≡ Declared b → a ≡ b
 same_decl a b q = cc
 
-first_of : (d x : DeclNo) (ds : List DeclNo) → d.0 ≡ x.0 → Among d (x ∷ ds)
+pub first_of : (d x : DeclNo) (ds : List DeclNo) → d.0 ≡ x.0 → Among d (x ∷ ds)
 first_of d x ds g = subst (λ z. Among d (z ∷ ds)) (ap number g) first
 
-one_more : (d x : DeclNo) (ds : List DeclNo) (key : Key) (ks : List Key) → key ≡ Declared d.0 → (KeyAmong key ks → Among d ds) → (y : Key) → y ≡ Declared x.0 → KeyAmong key (y ∷ ks) → Among d (x ∷ ds)
+pub one_more : (d x : DeclNo) (ds : List DeclNo) (key : Key) (ks : List Key) → key ≡ Declared d.0 → (KeyAmong key ks → Among d ds) → (y : Key) → y ≡ Declared x.0 → KeyAmong key (y ∷ ks) → Among d (x ∷ ds)
 one_more d x ds key ks is f y e first_key = first_of d x ds (same_decl d.0 x.0 (sym is ∙ e))
 one_more d x ds key ks is f y e (later_key b) = later (f b)
 
@@ -192,11 +232,11 @@ some_first true (Simply k) hs a = a
 some_first true (Refers c) hs a = a
 some_first false h hs a = a
 
-pub formals_some : (s : Source) (ds : List DeclNo) (fs : List Formal) → FormalsAre s ds fs → AllSome (formal_kinds fs)
+pub formals_some : (s : Source) (ds : List DeclNo) (fs : List Formal) → FormalsAre s ds fs → AllSome (formal_kinds s fs)
 formals_some s [] [] a = tt
 formals_some s [] (f ∷ fs) a = absurd a
 formals_some s (d ∷ ds) [] a = absurd a
-formals_some s (d ∷ ds) (f ∷ fs) a = subst (λ z. AllSome (in_hand (is_array_by_value f.mode f.kind) z ∷ formal_kinds fs)) (sym a.2) (some_first (is_array_by_value f.mode f.kind) a.0 (formal_kinds fs) (formals_some s ds fs a.3))
+formals_some s (d ∷ ds) (f ∷ fs) a = subst (λ z. AllSome (in_hand (is_array_by_value f.mode f.kind) z ∷ formal_kinds s fs)) (sym a.2) (some_first (is_array_by_value f.mode f.kind) a.0 (formal_kinds s fs) (formals_some s ds fs a.3))
 
 -- as many values are taken in the order in which they came
 many_from : {S : Type 0} (n : ℕ) (vs got rest : List Val) (o : World) (f : List Val → List Val → Run S) → pop_many (length vs + n) got (back vs rest) o f ≡ pop_many n (vs ++ got) rest o f

@@ -1,19 +1,28 @@
--- The copies that are actuals of a procedure go over to its instance.
-use Rattle.std.proofs.Common.{◌≡◌, ℕ, suc, ◌<◌, Bool, true, false, List, [], ◌∷◌, length, Option, Some, None, sym, ap, ◌∙◌, subst, arith}
-use Rattle.std.specs.Prelude.{if◌then◌else◌, slice_get, slice_set}
+-- The copies that are actuals of a procedure or a class go over to its instance.
+use Rattle.std.proofs.Common.{◌≡◌, ℕ, suc, ◌<◌, Bool, true, false, List, [], ◌∷◌, length, Option, Some, None, inl, refl, sym, ap, ◌∙◌, subst, arith}
+use Rattle.std.specs.Prelude.{◌||◌, if◌then◌else◌, slice_get, slice_set}
+use Rattle.std.specs.List.{list_any}
+use Rattle.sim_base.specs.declared.numbering.DeclNo.{DeclNo}
 use Rattle.sim_scope.specs.declared.types.Formal.{Formal}
+use Rattle.sim_scope.specs.declared.types.FormalKind.{FormalKind}
+use Rattle.sim_scope.specs.declared.types.FormalKind.TheVariants as shape
+use Rattle.sim_scope.specs.declared.types.Mode.{Mode}
+use Rattle.sim_scope.specs.declared.types.Mode.TheVariants as mode
+use Rattle.sim_scope.specs.declared.types.SimType.{SimType}
+use Rattle.sim_scope.specs.declared.types.SimType.TheVariants as t
 use Rattle.sim_scope.specs.Source.{Source}
-use Rattle.sim_values.specs.declared.kind.Kind.{Kind}
 use Rattle.sim_code.specs.Arrays.{handed_over, owned_by}
 use Rattle.sim_code.specs.Outcome.{ArrayOf as OneArray, World}
-use Rattle.sim_meaning.specs.Entries.{arrays_by_value, is_array_by_value, with_array_of}
+use Rattle.sim_meaning.specs.Entries.{arrays_by_value, is_array_by_value, is_held, with_array_of}
+use Rattle.sim_meaning.specs.Levels.{qualification}
 use Rattle.sim_meaning.specs.Pending.{Address, ArrayValue, Instances, Link, Of, ProcedureValue, Tree, Val}
-use Rattle.sim_sound.specs.Typed.{ArrayOf, Holds, Refers, Simply, formal_holds}
-use Rattle.sim_sound.proofs.Cells.{val_up}
-use Rattle.sim_sound.proofs.Changes.{handed_copy, handed_is, handed_later, handed_long, handed_over_array, handed_sights, handed_world}
+use Rattle.sim_sound.specs.Held.{ArrayOf, Holds, formal_holds, held_by, reference_to}
+use Rattle.sim_sound.specs.Typed.{FormalsAre}
+use Rattle.sim_sound.proofs.Cells.{plain_anywhere, val_up}
+use Rattle.sim_sound.proofs.Changes.{ElementsFine, handed_copy, handed_elements, handed_is, handed_later, handed_long, handed_over_array, handed_sights, handed_world}
 use Rattle.sim_sound.proofs.FirstCells.{ActualsAre, SomeDeep, SomeFine, ValsFine}
-use Rattle.sim_sound.proofs.Later.{Later, hand_later, later_none, later_then, val_later}
-use Rattle.sim_sound.proofs.Sound.{AddressOf, AllArrays, Copied, CopyFine, DeepFine, ImageAddress, Kinds, LinkTo, Sight, ValFine, Value, formal_kinds, holds_of, in_hand, see}
+use Rattle.sim_sound.proofs.Later.{All, Later, hand_later, later_none, later_then, val_later}
+use Rattle.sim_sound.proofs.Sound.{AddressOf, AllArrays, Copied, CopyFine, DeepFine, ImageAddress, IsPlain, Kinds, Knows, Lasting, LinkTo, ReferenceAddress, Sight, ValFine, Value, class_kinds, formal_kinds, holds_of, in_hand, kept_kinds, see}
 
 -- what is handed over is arrays alone
 owned_same : (n a : ℕ) (x : Option OneArray) (o p : World) → o.arrays ≡ p.arrays → (owned_by n x o a).arrays ≡ (owned_by n x p a).arrays
@@ -25,31 +34,118 @@ unfolding handed_over
 handed_same n [] o p e = e
 handed_same n (a ∷ ns) o p e = handed_same n ns (owned_by n (slice_get o.arrays a) o a) (owned_by n (slice_get p.arrays a) p a) (owned_same n a (slice_get o.arrays a) o p e ∙ ap (λ z. (owned_by n (slice_get z a) p a).arrays) e)
 
-module _ (s : Source) (m : Instances) (i n : ℕ) (lt : i < n) where
+-- ---- what is in hand for a formal parameter, and what its cell holds
+
+-- a value; an array that the new instance may know; a copy; an array that is kept
+pub data HandsTo (Known : Type 0) : (by_value : Bool) → Option Kinds → Option Holds → Type 0 where
+  as_value : {h : Holds} → IsPlain h → HandsTo Known false (Some (Value h)) (Some h)
+  as_array : {h : Holds} → Known → HandsTo Known false (Some (Value (ArrayOf h))) (Some (ArrayOf h))
+  as_copy : {h : Holds} → HandsTo Known true (Some (Copied h)) (Some (ArrayOf h))
+  as_kept : {h : Holds} → HandsTo Known false (Some (Lasting h)) (Some (ArrayOf h))
+
+abbrev pub AllHandTo : Source → (Known : Type 0) → List Formal → List (Option Kinds) → Type 0
+AllHandTo s Known [] [] = Unit {0}
+AllHandTo s Known [] (x ∷ xs) = ⊥
+AllHandTo s Known (f ∷ fs) [] = ⊥
+AllHandTo s Known (f ∷ fs) (x ∷ xs) = HandsTo Known (is_array_by_value f.mode f.kind) x (formal_holds s f.mode f.kind f.ty) × AllHandTo s Known fs xs
+
+reference_plain : (c : Option ℕ) → IsPlain (reference_to c)
+reference_plain None = tt
+reference_plain (Some k) = tt
+
+pub held_plain : (s : Source) (type : SimType) → IsPlain (held_by s type)
+held_plain s (t.Ref d) = reference_plain (qualification s (Some (t.Ref d)))
+held_plain s t.Integer = tt
+held_plain s t.Boolean = tt
+held_plain s t.Character = tt
+held_plain s t.Text = tt
+held_plain s t.NoneType = tt
+
+-- of a procedure, which knows what its arrays by reference need
+formal_hands : (s : Source) (Known : Type 0) (f : Mode) (g : FormalKind) (ty : Option SimType) (h : Holds) → formal_holds s f g ty ≡ Some h → (is_held (record { mode = f; kind = g; ty = ty }) ≡ true → Known) → HandsTo Known (is_array_by_value f g) (in_hand (is_array_by_value f g) (formal_holds s f g ty)) (formal_holds s f g ty)
+formal_hands s Known mode.ByValue shape.Simple (Some type) h e k = as_value (held_plain s type)
+formal_hands s Known mode.ByReference shape.Simple (Some type) h e k = as_value (held_plain s type)
+formal_hands s Known mode.ByValue shape.Array (Some type) h e k = as_copy
+formal_hands s Known mode.ByReference shape.Array (Some type) h e k = as_array (k refl)
+formal_hands s Known mode.ByValue shape.Simple None h e k = absurd (cc)
+formal_hands s Known mode.ByReference shape.Simple None h e k = absurd (cc)
+formal_hands s Known mode.ByValue shape.Array None h e k = absurd (cc)
+formal_hands s Known mode.ByReference shape.Array None h e k = absurd (cc)
+formal_hands s Known mode.ByValue shape.Procedure ty h e k = absurd (cc)
+formal_hands s Known mode.ByReference shape.Procedure ty h e k = absurd (cc)
+formal_hands s Known mode.ByName g ty h e k = absurd (cc)
+
+-- of a class, whose arrays by reference are kept
+class_hands : (s : Source) (Known : Type 0) (f : Mode) (g : FormalKind) (ty : Option SimType) (h : Holds) → formal_holds s f g ty ≡ Some h → HandsTo Known (is_array_by_value f g) (kept_kinds f g (in_hand (is_array_by_value f g) (formal_holds s f g ty))) (formal_holds s f g ty)
+class_hands s Known mode.ByValue shape.Simple (Some type) h e = as_value (held_plain s type)
+class_hands s Known mode.ByReference shape.Simple (Some type) h e = as_value (held_plain s type)
+class_hands s Known mode.ByValue shape.Array (Some type) h e = as_copy
+class_hands s Known mode.ByReference shape.Array (Some type) h e = as_kept
+class_hands s Known mode.ByValue shape.Simple None h e = absurd (cc)
+class_hands s Known mode.ByReference shape.Simple None h e = absurd (cc)
+class_hands s Known mode.ByValue shape.Array None h e = absurd (cc)
+class_hands s Known mode.ByReference shape.Array None h e = absurd (cc)
+class_hands s Known mode.ByValue shape.Procedure ty h e = absurd (cc)
+class_hands s Known mode.ByReference shape.Procedure ty h e = absurd (cc)
+class_hands s Known mode.ByName g ty h e = absurd (cc)
+
+-- where one of them is held, what holds it is known
+either_first : (p q : Bool) → p ≡ true → (p || q) ≡ true
+either_first true q e = refl
+either_first false q e = absurd (cc)
+
+either_second : (p q : Bool) → q ≡ true → (p || q) ≡ true
+either_second true q e = refl
+either_second false q e = e
+
+pub formals_hand : (s : Source) (Known : Type 0) (ds : List DeclNo) (fs : List Formal) → FormalsAre s ds fs → (list_any is_held fs ≡ true → Known) → AllHandTo s Known fs (formal_kinds s fs)
+formals_hand s Known [] [] a k = tt
+formals_hand s Known [] (f ∷ fs) a k = absurd a
+formals_hand s Known (d ∷ ds) [] a k = absurd a
+formals_hand s Known (d ∷ ds) (f ∷ fs) a k = (
+  formal_hands s Known f.mode f.kind f.ty a.0 a.2 (λ e. k (either_first (is_held f) (list_any is_held fs) e)),
+  formals_hand s Known ds fs a.3 (λ e. k (either_second (is_held f) (list_any is_held fs) e)),
+)
+
+pub classes_hand : (s : Source) (Known : Type 0) (ds : List DeclNo) (fs : List Formal) → FormalsAre s ds fs → AllHandTo s Known fs (class_kinds s fs)
+classes_hand s Known [] [] a = tt
+classes_hand s Known [] (f ∷ fs) a = absurd a
+classes_hand s Known (d ∷ ds) [] a = absurd a
+classes_hand s Known (d ∷ ds) (f ∷ fs) a = (class_hands s Known f.mode f.kind f.ty a.0 a.2, classes_hand s Known ds fs a.3)
+
+-- ---- they are handed over, from the instance i to the new one n among the instances then
+
+module _ (s : Source) (m m' : Instances) (i n : ℕ) (lt : i < n) (enter : (o : AllArrays) → Later s o m o m' All) (itself : Knows m' n n) where
   -- what is left after that: the values are those of the new instance, and the copies that have fewer values below them stay
   pub record Handed (o : World) (g : List Sight) (d : ℕ) (o' : World) (Values : AllArrays → Type 0) : Type 0 where
     pub sights : List Sight
     pub long : length sights ≡ length o'.arrays
-    pub later : (bound : ℕ) → Later s (see g o) m (see sights o') m bound
-    pub copies : (j e : ℕ) (k : Kind) (a : ℕ) → (j ≡ i → e < d) → CopyFine (see g o) j e k a → CopyFine (see sights o') j e k a
+    pub later : (mm : Instances) → Later s (see g o) mm (see sights o') mm All
+    pub copies : (j e : ℕ) (h : Holds) (a : ℕ) → (j ≡ i → e < d) → CopyFine (see g o) j e h a → CopyFine (see sights o') j e h a
+    pub elements : ElementsFine s (see g o) m → ElementsFine s (see sights o') m
     pub values : Values (see sights o')
 
   -- one copy is handed over, and the actuals above it stay
-  module _ (o : World) (g : List Sight) (d : ℕ) (k0 : Kind) (a0 : ℕ) (copy : CopyFine (see g o) i d k0 a0) where
+  module _ (o : World) (g : List Sight) (d : ℕ) (h0 : Holds) (a0 : ℕ) (copy : CopyFine (see g o) i d h0 a0) where
     abbrev Now : AllArrays
-    Now = see (handed_sights o g i d k0 a0 copy n) (handed_world o g i d k0 a0 copy n)
+    Now = see (handed_sights o g m i d h0 a0 copy n) (handed_world o g m i d h0 a0 copy n)
+
+    e0 : Later s (see g o) m Now m All
+    e0 = handed_later o g m i d h0 a0 copy n s
 
     deep_moved : (e : ℕ) → d < e → (x : Kinds) (v : Val) → DeepFine s (see g o) m i e x v → DeepFine s Now m i e x v
-    deep_moved e less (Copied k) (ArrayValue a) f = handed_copy o g i d k0 a0 copy n i e k a (λ q same. omega (arith, same, less)) f
+    deep_moved e less (Copied k) (ArrayValue a) f = handed_copy o g m i d h0 a0 copy n i e k a (λ q same. omega (arith, same, less)) f
     deep_moved e less (Copied k) (Of p) f = absurd f
     deep_moved e less (Copied k) (Link z) f = absurd f
     deep_moved e less (Copied k) (Address z) f = absurd f
     deep_moved e less (Copied k) (ProcedureValue z y) f = absurd f
     deep_moved e less (Copied k) (Tree z) f = absurd f
-    deep_moved e less (Value h) v f = val_later s (see g o) m Now m n (handed_later o g i d k0 a0 copy n s m n) i lt h v f
-    deep_moved e less (AddressOf k) v f = hand_later s (see g o) m Now m n (handed_later o g i d k0 a0 copy n s m n) i lt (AddressOf k) v f
-    deep_moved e less ImageAddress v f = hand_later s (see g o) m Now m n (handed_later o g i d k0 a0 copy n s m n) i lt ImageAddress v f
-    deep_moved e less (LinkTo u) v f = hand_later s (see g o) m Now m n (handed_later o g i d k0 a0 copy n s m n) i lt (LinkTo u) v f
+    deep_moved e less (Value h) v f = val_later s (see g o) m Now m All e0 i tt h v f
+    deep_moved e less (AddressOf k) v f = hand_later s (see g o) m Now m All e0 i tt (AddressOf k) v f
+    deep_moved e less (ReferenceAddress k) v f = hand_later s (see g o) m Now m All e0 i tt (ReferenceAddress k) v f
+    deep_moved e less ImageAddress v f = hand_later s (see g o) m Now m All e0 i tt ImageAddress v f
+    deep_moved e less (LinkTo u) v f = hand_later s (see g o) m Now m All e0 i tt (LinkTo u) v f
+    deep_moved e less (Lasting h) v f = hand_later s (see g o) m Now m All e0 i tt (Lasting h) v f
 
     some_moved : (e : ℕ) → d < e → (x : Option Kinds) (v : Val) → SomeDeep s (see g o) m i e x v → SomeDeep s Now m i e x v
     some_moved e less None v f = f
@@ -61,60 +157,68 @@ module _ (s : Source) (m : Instances) (i n : ℕ) (lt : i < n) where
     actuals_moved e less (x ∷ xs) [] a = absurd a
     actuals_moved e less (x ∷ xs) (v ∷ vs) a = (some_moved e less x v a.0, actuals_moved (suc e) (omega (arith, less)) xs vs a.1)
 
-  module _ (fs : List Formal) (vs : List Val) (o : World) (g : List Sight) (long : length g ≡ length o.arrays) (d : ℕ) where
+  module _ (fs : List Formal) (vs : List Val) (o : World) (g : List Sight) (d : ℕ) where
+    abbrev Rest : World → List Sight → Type 0
+    Rest p z = Handed p z (suc d) (handed_over n (arrays_by_value fs vs) p) (λ y. (kk : ℕ) → ValsFine s y m' n kk (holds_of s fs) vs)
+
+    abbrev Whole : Option Holds → Val → List ℕ → Type 0
+    Whole h v ns = Handed o g d (handed_over n ns o) (λ z. (kk : ℕ) → SomeFine s z m' n kk h v × ValsFine s z m' n kk (holds_of s fs) vs)
+
     -- a value that is no copy
-    kept_value : (h : Holds) (v : Val) → ValFine s (see g o) m i h v → Handed o g (suc d) (handed_over n (arrays_by_value fs vs) o) (λ z. (kk : ℕ) → ValsFine s z m n kk (holds_of fs) vs) → Handed o g d (handed_over n (arrays_by_value fs vs) o) (λ z. (kk : ℕ) → SomeFine s z m n kk (Some h) v × ValsFine s z m n kk (holds_of fs) vs)
-    kept_value h v f r = record {
+    other_value : (h : Holds) (v : Val) → ((z : AllArrays) → Later s (see g o) m z m All → ValFine s z m' n h v) → Rest o g → Whole (Some h) v (arrays_by_value fs vs)
+    other_value h v up r = record {
       sights = r.sights;
       long = r.long;
       later = r.later;
       copies = λ j e k a less c. r.copies j e k a (λ q. let x = less q in omega (arith, x)) c;
-      values = λ kk. (val_up s (see r.sights (handed_over n (arrays_by_value fs vs) o)) m i n (omega (arith, lt)) h v (val_later s (see g o) m (see r.sights (handed_over n (arrays_by_value fs vs) o)) m n (r.later n) i lt h v f), r.values kk);
+      elements = r.elements;
+      values = λ kk. (up (see r.sights (handed_over n (arrays_by_value fs vs) o)) (r.later m), r.values kk);
     }
 
-    copy_handed : (k : Kind) (a0 : ℕ) (copy : CopyFine (see g o) i d k a0) → Handed (handed_world o g i d k a0 copy n) (handed_sights o g i d k a0 copy n) (suc d) (handed_over n (arrays_by_value fs vs) (handed_world o g i d k a0 copy n)) (λ z. (kk : ℕ) → ValsFine s z m n kk (holds_of fs) vs) → Handed o g d (handed_over n (a0 ∷ arrays_by_value fs vs) o) (λ z. (kk : ℕ) → SomeFine s z m n kk (Some (ArrayOf k)) (ArrayValue a0) × ValsFine s z m n kk (holds_of fs) vs)
+    copy_handed : (h : Holds) (a0 : ℕ) (copy : CopyFine (see g o) i d h a0) → Rest (handed_world o g m i d h a0 copy n) (handed_sights o g m i d h a0 copy n) → Whole (Some (ArrayOf h)) (ArrayValue a0) (a0 ∷ arrays_by_value fs vs)
     unfolding handed_over
-    copy_handed k a0 copy r =
-        let now = handed_world o g i d k a0 copy n in
-        let seen = handed_sights o g i d k a0 copy n in
+    copy_handed h a0 copy r =
+        let now = handed_world o g m i d h a0 copy n in
+        let seen = handed_sights o g m i d h a0 copy n in
         let end = handed_over n (arrays_by_value fs vs) now in
-        subst (λ w. Handed o g d (handed_over n (arrays_by_value fs vs) w) (λ z. (kk : ℕ) → SomeFine s z m n kk (Some (ArrayOf k)) (ArrayValue a0) × ValsFine s z m n kk (holds_of fs) vs)) (sym (handed_is o g i d k a0 copy n)) (record {
+        subst (λ w. Handed o g d (handed_over n (arrays_by_value fs vs) w) (λ z. (kk : ℕ) → SomeFine s z m' n kk (Some (ArrayOf h)) (ArrayValue a0) × ValsFine s z m' n kk (holds_of s fs) vs)) (sym (handed_is o g m i d h a0 copy n)) (record {
           sights = r.sights;
           long = r.long;
-          later = λ bound. later_then s (see g o) m (see seen now) m (see r.sights end) m bound (handed_later o g i d k a0 copy n s m bound) (r.later bound);
-          copies = λ j e kd a less c. r.copies j e kd a (λ q. let x = less q in omega (arith, x)) (handed_copy o g i d k a0 copy n j e kd a (λ q same. let x = less q in omega (arith, x, same)) c);
-          values = λ kk. ((r.later (suc n)).arrays n k a0 (omega arith) (handed_over_array o g i d k a0 copy n), r.values kk);
+          later = λ mm. later_then s (see g o) mm (see seen now) mm (see r.sights end) mm (handed_later o g mm i d h a0 copy n s) (r.later mm);
+          copies = λ j e kd a less c. r.copies j e kd a (λ q. let x = less q in omega (arith, x)) (handed_copy o g m i d h a0 copy n j e kd a (λ q same. let x = less q in omega (arith, x, same)) c);
+          elements = λ all. r.elements (handed_elements o g m i d h a0 copy n s all);
+          values = λ kk. ((r.later m').arrays n h a0 tt (handed_over_array o g m i d h a0 copy n m' itself), r.values kk);
         })
 
-    by_kind : ((o' : World) (g' : List Sight) → length g' ≡ length o'.arrays → ActualsAre s (see g' o') m i (suc d) (formal_kinds fs) vs → Handed o' g' (suc d) (handed_over n (arrays_by_value fs vs) o') (λ z. (kk : ℕ) → ValsFine s z m n kk (holds_of fs) vs))
-        → ActualsAre s (see g o) m i (suc d) (formal_kinds fs) vs → (b : Bool) (h : Option Holds) (v : Val) → SomeDeep s (see g o) m i d (in_hand b h) v
-        → Handed o g d (handed_over n (if b then with_array_of v (arrays_by_value fs vs) else arrays_by_value fs vs) o) (λ z. (kk : ℕ) → SomeFine s z m n kk h v × ValsFine s z m n kk (holds_of fs) vs)
-    by_kind ih a false None v f = absurd f
-    by_kind ih a false (Some h) v f = kept_value h v f (ih o g long a)
-    by_kind ih a true None v f = absurd f
-    by_kind ih a true (Some (Simply k)) (Of p) f = kept_value (Simply k) (Of p) f (ih o g long a)
-    by_kind ih a true (Some (Simply k)) (Link z) f = absurd f
-    by_kind ih a true (Some (Simply k)) (Address z) f = absurd f
-    by_kind ih a true (Some (Simply k)) (ArrayValue z) f = absurd f
-    by_kind ih a true (Some (Simply k)) (ProcedureValue z y) f = absurd f
-    by_kind ih a true (Some (Simply k)) (Tree z) f = absurd f
-    by_kind ih a true (Some (Refers c)) (Of p) f = kept_value (Refers c) (Of p) f (ih o g long a)
-    by_kind ih a true (Some (Refers c)) (Link z) f = absurd f
-    by_kind ih a true (Some (Refers c)) (Address z) f = absurd f
-    by_kind ih a true (Some (Refers c)) (ArrayValue z) f = absurd f
-    by_kind ih a true (Some (Refers c)) (ProcedureValue z y) f = absurd f
-    by_kind ih a true (Some (Refers c)) (Tree z) f = absurd f
-    by_kind ih a true (Some (ArrayOf k)) (ArrayValue a0) f =
-        copy_handed k a0 f (ih (handed_world o g i d k a0 f n) (handed_sights o g i d k a0 f n) (handed_long o g i d k a0 f n long) (actuals_moved o g d k a0 f (suc d) (omega arith) (formal_kinds fs) vs a))
-    by_kind ih a true (Some (ArrayOf k)) (Of p) f = absurd f
-    by_kind ih a true (Some (ArrayOf k)) (Link z) f = absurd f
-    by_kind ih a true (Some (ArrayOf k)) (Address z) f = absurd f
-    by_kind ih a true (Some (ArrayOf k)) (ProcedureValue z y) f = absurd f
-    by_kind ih a true (Some (ArrayOf k)) (Tree z) f = absurd f
+    by_kind : Rest o g → ((h : Holds) (a0 : ℕ) (copy : CopyFine (see g o) i d h a0) → Rest (handed_world o g m i d h a0 copy n) (handed_sights o g m i d h a0 copy n))
+        → (b : Bool) (x : Option Kinds) (h : Option Holds) (v : Val) → HandsTo (Knows m' n i) b x h → SomeDeep s (see g o) m i d x v
+        → Whole h v (if b then with_array_of v (arrays_by_value fs vs) else arrays_by_value fs vs)
+    by_kind r copied false _ _ v (as_value {h = h} plain) f =
+        other_value h v (λ z e. plain_anywhere s z m' i n h v plain (val_later s z m z m' All (enter z) i tt h v (val_later s (see g o) m z m All e i tt h v f))) r
+    by_kind r copied false _ _ v (as_array {h = h} knows) f =
+        other_value (ArrayOf h) v (λ z e. val_up s z m' n i knows (ArrayOf h) v (val_later s z m z m' All (enter z) i tt (ArrayOf h) v (val_later s (see g o) m z m All e i tt (ArrayOf h) v f))) r
+    by_kind r copied true _ _ (ArrayValue a0) (as_copy {h = h}) f = copy_handed h a0 f (copied h a0 f)
+    by_kind r copied true _ _ (Of p) as_copy f = absurd f
+    by_kind r copied true _ _ (Link z) as_copy f = absurd f
+    by_kind r copied true _ _ (Address z) as_copy f = absurd f
+    by_kind r copied true _ _ (ProcedureValue z y) as_copy f = absurd f
+    by_kind r copied true _ _ (Tree z) as_copy f = absurd f
+    by_kind r copied false _ _ (ArrayValue a0) (as_kept {h = h}) f =
+        other_value (ArrayOf h) (ArrayValue a0) (λ z e. let k = e.kept h a0 f in record { it = k.it; lives = k.lives; known = k.known; owned = inl k.keeps; count = k.count }) r
+    by_kind r copied false _ _ (Of p) as_kept f = absurd f
+    by_kind r copied false _ _ (Link z) as_kept f = absurd f
+    by_kind r copied false _ _ (Address z) as_kept f = absurd f
+    by_kind r copied false _ _ (ProcedureValue z y) as_kept f = absurd f
+    by_kind r copied false _ _ (Tree z) as_kept f = absurd f
 
-  pub hand_all : (fs : List Formal) (vs : List Val) (o : World) (g : List Sight) → length g ≡ length o.arrays → (d : ℕ) → ActualsAre s (see g o) m i d (formal_kinds fs) vs → Handed o g d (handed_over n (arrays_by_value fs vs) o) (λ z. (kk : ℕ) → ValsFine s z m n kk (holds_of fs) vs)
+  pub hand_all : (fs : List Formal) (xs : List (Option Kinds)) → AllHandTo s (Knows m' n i) fs xs → (vs : List Val) (o : World) (g : List Sight) → length g ≡ length o.arrays → (d : ℕ) → ActualsAre s (see g o) m i d xs vs → Handed o g d (handed_over n (arrays_by_value fs vs) o) (λ z. (kk : ℕ) → ValsFine s z m' n kk (holds_of s fs) vs)
   unfolding handed_over
-  hand_all [] [] o g long d a = record { sights = g; long = long; later = λ bound. later_none s (see g o) m bound; copies = λ j e k a less c. c; values = λ kk. tt }
-  hand_all [] (v ∷ vs) o g long d a = absurd a
-  hand_all (f ∷ fs) [] o g long d a = absurd a
-  hand_all (f ∷ fs) (v ∷ vs) o g long d a = by_kind fs vs o g long d (λ o' g' long' b. hand_all fs vs o' g' long' (suc d) b) a.1 (is_array_by_value f.mode f.kind) (formal_holds f.mode f.kind f.ty) v a.0
+  hand_all [] [] b [] o g long d a = record { sights = g; long = long; later = λ mm. later_none s (see g o) mm; copies = λ j e k a less c. c; elements = λ all. all; values = λ kk. tt }
+  hand_all [] [] b (v ∷ vs) o g long d a = absurd a
+  hand_all [] (x ∷ xs) b vs o g long d a = absurd b
+  hand_all (f ∷ fs) [] b vs o g long d a = absurd b
+  hand_all (f ∷ fs) (x ∷ xs) b [] o g long d a = absurd a
+  hand_all (f ∷ fs) (x ∷ xs) b (v ∷ vs) o g long d a =
+      by_kind fs vs o g d (hand_all fs xs b.1 vs o g long (suc d) a.1)
+      (λ h a0 copy. hand_all fs xs b.1 vs (handed_world o g m i d h a0 copy n) (handed_sights o g m i d h a0 copy n) (handed_long o g m i d h a0 copy n long) (suc d) (actuals_moved o g d h a0 copy (suc d) (omega arith) xs vs a.1))
+      (is_array_by_value f.mode f.kind) x (formal_holds s f.mode f.kind f.ty) v b.0 a.0

@@ -1,145 +1,244 @@
 -- What is fine stays so in later stores.
-use Rattle.std.proofs.Common.{◌≡◌, ◌<◌, ◌≤◌, ℕ, suc, List, [], ◌∷◌, length, Option, Some, None, refl, arith}
-use Rattle.std.specs.Prelude.{slice_get}
+use Rattle.std.proofs.Common.{◌≡◌, ◌<◌, ◌≤◌, ℕ, suc, true, false, List, [], ◌∷◌, length, map, Option, Some, None, refl, sym, ap, ◌∙◌, subst, arith}
+use Rattle.std.specs.Prelude.{slice_get, ◌&&◌, not}
 use Rattle.sim_base.specs.declared.numbering.DeclNo.{DeclNo}
+use Rattle.sim_scope.specs.Levels.{has_level}
 use Rattle.sim_scope.specs.Source.{Source}
 use Rattle.sim_values.specs.declared.kind.Kind.{Kind}
 use Rattle.sim_values.specs.Plain.{Nothing, Object, Plain}
-use Rattle.sim_code.specs.Instances.{CellPlace, ElementPlace, ImagePlace, Instance, live, unless_given}
-use Rattle.sim_meaning.specs.Pending.{Activation, Address, ArrayValue, BackOp, BranchOp, CallOf, Cell, CopyOf, Do, Either, ElementOf, ElementsOp, EndBlock, EndProcedure, EndProgram, Eval, Further, Given, GiveOp, Held, IfOp, ImageOf, Instances, Item, Joined, Key, Link, NoTerm, Of, One, Op, PlaceOf, ProcedureValue, RaiseOp, ShareOp, StandardOf, StepTestOp, StoreOp, Target, Term, Terms, ToAddress, ToCell, ToText, ToTextOf, Tree, Two, Unbuilt, Val, ValueAt, WhileElementOp}
-use Rattle.sim_sound.specs.Typed.{ArrayOf, Holds, Refers, Simply, key_holds}
+use Rattle.sim_code.specs.Instances.{CellPlace, ElementPlace, ImagePlace, Instance, ends_in, is_given_at_end, live, unless_given}
+use Rattle.sim_meaning.specs.Pending.{Activation, Address, ArrayValue, AttributeOf, BackOp, BranchOp, CallOf, Cell, ChooseOp, ConnectOp, CopyOf, Declared, Do, Either, ElementOf, ElementsOp, EndBlock, EndLevel, EndObject, EndPrefixed, EndProcedure, EndProgram, EnterOp, Eval, Exec, Execs, FitsOf, Further, Given, GiveOp, Held, IfOp, ImageOf, InnerOp, Instances, Item, Joined, KeptOf, Key, Level, Link, MemberOf, NewOf, NoTerm, Of, One, Op, PlaceOf, ProcedureValue, QuaOf, QualifiedElementOf, QualifiedPlaceOf, RaiseOp, RemoteCallOf, ShareOp, StandardOf, StepTestOp, StoreOp, Target, Term, Terms, TestOp, ToAddress, ToCell, ToPlace, ToReference, ToReferenceAt, ToText, ToTextAt, ToTextOf, Tree, Two, Unbuilt, Val, ValueAt, WhenOp, WhileElementOp, held}
+use Rattle.sim_meaning.specs.Levels.{is_class}
+use Rattle.sim_meaning.specs.Texts.{text}
+use Rattle.sim_sound.specs.Held.{ArrayOf, Holds, Refers, Simply, key_holds}
 use Rattle.sim_sound.proofs.Lists.{there_is}
-use Rattle.sim_sound.proofs.Sound.{AddressOf, AllArrays, ArrayFine, CellFine, CellIs, CellTarget, CellsFine, ChainFine, Copied, CopyFine, DeepFine, ElementFine, ElementHolds, Enclosed, HandFine, HandsFine, ImageAddress, InstanceFine, IntegersFine, Kinds, LinkTo, ObjectOf, OpFine, OperandsFine, Present, ReferenceFine, StoreFine, StoreOpFine, TargetFine, TargetsFine, TermFine, TermsFine, ValFine, Value, VariableFine, WorkFine, alone, array_stored, in_whole, own_made, value_stored, within}
+use Rattle.sim_sound.proofs.Sound.{AddressOf, AllArrays, ArrayFine, CellFine, CellIs, CellTarget, CellsFine, ChainFine, Copied, CopyFine, DeepFine, ElementFine, Enclosed, HandFine, HandsFine, ImageAddress, InstanceFine, IntegersFine, KeptFine, KeyAmong, Kinds, Knows, Lasting, LevelsFine, LinkTo, NamesObject, ObjectOf, ObjectStands, OpFine, OperandsFine, PlainFine, Present, ReferenceAddress, ReferenceFine, Site, Sited, StandsFor, Stays, StoreOpFine, TargetFine, TargetsFine, TermFine, TermsFine, ValFine, Value, VariableFine, Waits, WorkFine, alone, array_stored, connected, earlier, in_connection, in_instance, key_of, own_made, own_text, staying, value_stored, within}
 
--- values and cells of an instance, where its arrays and all objects are still there
-module _ (s : Source) (o : AllArrays) (m : Instances) (o' : AllArrays) (m' : Instances) (j : ℕ) (arrays : (k : Kind) (a : ℕ) → ArrayFine o j k a → ArrayFine o' j k a) (objects : (i class : ℕ) → ObjectOf s m i class → ObjectOf s m' i class) where
-  reference_map : (c : ℕ) (p : Plain) → ReferenceFine s m c p → ReferenceFine s m' c p
-  reference_map c Nothing a = a
-  reference_map c (Object i) a = objects i c a
-  reference_map c _ a = absurd a
+-- an instance that is as it was, but for values of cells, and cells of connections that are new
+pub record Grown (x y : Instance (List Held)) : Type 0 where
+  pub text : y.text ≡ x.text
+  pub level : y.level ≡ x.level
+  pub encloser : y.encloser ≡ x.encloser
+  pub passing : y.passing ≡ x.passing
+  pub kept : y.kept ≡ x.kept
+  pub keys : (key : Key) → KeyAmong key (map key_of x.cells) → KeyAmong key (map key_of y.cells)
+  pub holds : (key : Key) → held key y.cells ≡ None → held key x.cells ≡ None
 
-  pub val_map : (h : Holds) (v : Val) → ValFine s o m j h v → ValFine s o' m' j h v
-  val_map (Simply k) (Of p) a = a
-  val_map (Refers c) (Of p) a = reference_map c p a
-  val_map (ArrayOf k) (ArrayValue n) a = arrays k n a
-  val_map (Simply k) _ a = absurd a
-  val_map (Refers c) _ a = absurd a
-  val_map (ArrayOf k) _ a = absurd a
+pub as_it_was : (x : Instance (List Held)) → Grown x x
+as_it_was x = record { text = refl; level = refl; encloser = refl; passing = refl; kept = refl; keys = λ key a. a; holds = λ key a. a }
 
-  cell_map : (h : Option Holds) (v : Option Val) → CellFine s o m j h v → CellFine s o' m' j h v
-  cell_map None v a = a
-  cell_map (Some (Simply k)) None a = a
-  cell_map (Some (Refers c)) None a = a
-  cell_map (Some (ArrayOf k)) None a = a
-  cell_map (Some h) (Some v) a = val_map h v a
+pub record StillThere (m : Instances) (j : ℕ) (x : Instance (List Held)) : Type 0 where
+  pub now : Instance (List Held)
+  pub lives : live m j ≡ Some now
+  pub grown : Grown x now
 
-  pub cells_map : (t : ℕ) (hs : List Held) → CellsFine s o m j t hs → CellsFine s o' m' j t hs
-  cells_map t [] a = a
-  cells_map t (h ∷ hs) a = (cell_map (key_holds s t h.key) h.value a.0, cells_map t hs a.1)
-
--- What the instances below a bound know is still there.
-pub record Later (s : Source) (o : AllArrays) (m : Instances) (o' : AllArrays) (m' : Instances) (bound : ℕ) : Type 0 where
-  pub arrays : (j : ℕ) (k : Kind) (a : ℕ) → j < bound → ArrayFine o j k a → ArrayFine o' j k a
-  pub elements : (j : ℕ) (k : Kind) (a n : ℕ) → j < bound → ElementFine o j k a n → ElementFine o' j k a n
-  pub present : (j t : ℕ) (todo : List DeclNo) → j < bound → Present s m j t todo → Present s m' j t todo
-  pub objects : (j class : ℕ) → ObjectOf s m j class → ObjectOf s m' j class
+-- What the instances know is still there, but for what one knows that is given back. `Apart` says that it is not that one.
+pub record Later (s : Source) (o : AllArrays) (m : Instances) (o' : AllArrays) (m' : Instances) (Apart : ℕ → Type 0) : Type 0 where
+  pub arrays : (j : ℕ) (h : Holds) (a : ℕ) → Apart j → ArrayFine o m j h a → ArrayFine o' m' j h a
+  pub elements : (j : ℕ) (h : Holds) (a n : ℕ) → Apart j → ElementFine o m j h a n → ElementFine o' m' j h a n
+  pub kept : (h : Holds) (a : ℕ) → KeptFine o h a → KeptFine o' h a
+  pub there : (j : ℕ) (x : Instance (List Held)) → Apart j → live m j ≡ Some x → StillThere m' j x
+  pub stays : (j : ℕ) → Stays m j → Apart j
+  pub apart : (j e : ℕ) → Apart j → Knows m j e → Apart e
+  pub objects : (j : ℕ) → ObjectStands m j → ObjectStands m' j
 
 -- the copies in hand of an instance that have fewer values below them than d
 abbrev pub Copies : AllArrays → AllArrays → (j d : ℕ) → Type 0
-Copies o o' j d = (e : ℕ) (k : Kind) (a : ℕ) → e < d → CopyFine o j e k a → CopyFine o' j e k a
+Copies o o' j d = (e : ℕ) (h : Holds) (a : ℕ) → e < d → CopyFine o j e h a → CopyFine o' j e h a
 
-module _ (s : Source) (o : AllArrays) (m : Instances) (o' : AllArrays) (m' : Instances) (bound : ℕ) (e : Later s o m o' m' bound) where
-  pub val_later : (j : ℕ) → j < bound → (h : Holds) (v : Val) → ValFine s o m j h v → ValFine s o' m' j h v
-  val_later j lt h v a = val_map s o m o' m' j (λ k n. e.arrays j k n lt) e.objects h v a
+-- ---- instances
+
+stands_grown : (s : Source) (x y : Instance (List Held)) → Grown x y → (t : ℕ) → StandsFor s x t → StandsFor s y t
+stands_grown s x y g t (own_text is) = own_text (g.text ∙ is)
+stands_grown s x y g t (connected {u = u} is around there a) = connected is around (g.keys _ there) (stands_grown s x y g u a)
+
+pub flags_grown : (x y : Instance (List Held)) → Grown x y → (y.passing && not y.kept) ≡ (x.passing && not x.kept)
+flags_grown x y g = ap (λ z. z && not y.kept) g.passing ∙ ap (λ z. x.passing && not z) g.kept
+
+module _ (s : Source) (o : AllArrays) (m : Instances) (o' : AllArrays) (m' : Instances) (Apart : ℕ → Type 0) (e : Later s o m o' m' Apart) where
+  pub stays_later : (j : ℕ) → Stays m j → Stays m' j
+  stays_later j a = let y = e.there j a.now (e.stays j a) a.lives in record { now = y.now; lives = y.lives; stays = flags_grown a.now y.now y.grown ∙ a.stays }
+
+  pub ends_later : (j : ℕ) → Apart j → is_given_at_end m j ≡ true → is_given_at_end m' j ≡ true
+  ends_later j ok a = by_live (live m j) refl (a)
+    where
+      by_live : (x : Option (Instance (List Held))) → live m j ≡ x → ends_in (live m j) ≡ true → is_given_at_end m' j ≡ true
+      by_live None is f = let no : ends_in (live m j) ≡ false = ap ends_in is in cc
+      by_live (Some x) is f =
+          let y = e.there j x ok is in
+          let were : (x.passing && not x.kept) ≡ true = sym (ap ends_in is) ∙ f in
+          ap ends_in y.lives ∙ flags_grown x y.now y.grown ∙ were
+
+  pub knows_later : (j k : ℕ) → Apart j → Knows m j k → Knows m' j k
+  knows_later j k ok (staying a) = staying (stays_later k a)
+  knows_later j k ok (earlier a le) = earlier (ends_later j ok a) le
+
+  pub present_later : (j t : ℕ) (todo : List DeclNo) → Apart j → Present s m j t todo → Present s m' j t todo
+  present_later j t todo ok p =
+      let y = e.there j p.now ok p.lives in
+      record {
+        now = y.now;
+        lives = y.lives;
+        stands = stands_grown s p.now y.now y.grown t p.stands;
+        words = p.words;
+        has_text = ap (text s) (y.grown).text ∙ p.has_text;
+        made = λ d k holds there none. p.made d k (subst (λ z. key_holds s z (Declared d.0) ≡ Some (ArrayOf k)) (y.grown).text holds) (subst (λ z. KeyAmong (Declared d.0) (Rattle.sim_sound.proofs.Sound.keys_in s z (text s z))) (y.grown).text there) ((y.grown).holds (Declared d.0) none);
+      }
+
+  pub object_later : (j class : ℕ) → ObjectOf s m j class → ObjectOf s m' j class
+  object_later j class p =
+      let y = e.there j p.now (e.stays j (record { now = p.now; lives = p.lives; stays = p.stays })) p.lives in
+      record {
+        now = y.now;
+        lives = y.lives;
+        object = ap (λ z. is_class (text s z)) (y.grown).text ∙ p.object;
+        levels = ap (λ z. has_level s.tables z class) (y.grown).text ∙ p.levels;
+        stays = flags_grown p.now y.now y.grown ∙ p.stays;
+        words = p.words;
+        has_text = ap (text s) (y.grown).text ∙ p.has_text;
+        made = λ d k holds there none. p.made d k (subst (λ z. key_holds s z (Declared d.0) ≡ Some (ArrayOf k)) (y.grown).text holds) (subst (λ z. KeyAmong (Declared d.0) (Rattle.sim_sound.proofs.Sound.keys_in s z (text s z))) (y.grown).text there) ((y.grown).holds (Declared d.0) none);
+      }
+
+  -- ---- values and cells
+
+  reference_later : (c : ℕ) (p : Plain) → ReferenceFine s m c p → ReferenceFine s m' c p
+  reference_later c Nothing a = a
+  reference_later c (Object i) a = object_later i c a
+  reference_later c _ a = absurd a
+
+  names_later : (p : Plain) → NamesObject s m p → NamesObject s m' p
+  names_later (Object i) a = (a.0, object_later i a.0 a.1)
+  names_later _ a = a
+
+  pub plain_later : (h : Holds) (p : Plain) → PlainFine s m h p → PlainFine s m' h p
+  plain_later (Simply k) p a = (a.0, names_later p a.1)
+  plain_later (Refers c) p a = reference_later c p a
+  plain_later (ArrayOf h) p a = absurd a
+
+  pub val_later : (j : ℕ) → Apart j → (h : Holds) (v : Val) → ValFine s o m j h v → ValFine s o' m' j h v
+  val_later j ok (Simply k) (Of p) a = (a.0, names_later p a.1)
+  val_later j ok (Refers c) (Of p) a = reference_later c p a
+  val_later j ok (ArrayOf h) (ArrayValue n) a = e.arrays j h n ok a
+  val_later j ok (Simply k) _ a = absurd a
+  val_later j ok (Refers c) _ a = absurd a
+  val_later j ok (ArrayOf h) _ a = absurd a
+
+  cell_later : (j : ℕ) → Apart j → (h : Option Holds) (v : Option Val) → CellFine s o m j h v → CellFine s o' m' j h v
+  cell_later j ok None v a = a
+  cell_later j ok (Some (Simply k)) None a = a
+  cell_later j ok (Some (Refers c)) None a = a
+  cell_later j ok (Some (ArrayOf k)) None a = a
+  cell_later j ok (Some h) (Some v) a = val_later j ok h v a
+
+  pub cells_later : (j t : ℕ) → Apart j → (hs : List Held) → CellsFine s o m j t hs → CellsFine s o' m' j t hs
+  cells_later j t ok [] a = a
+  cells_later j t ok (h ∷ hs) a = (cell_later j ok (key_holds s t h.key) h.value a.0, cells_later j t ok hs a.1)
 
   -- ---- an instance that is not changed
 
-  pub cells_later : (j t : ℕ) → j < bound → (hs : List Held) → CellsFine s o m j t hs → CellsFine s o' m' j t hs
-  cells_later j t lt hs a = cells_map s o m o' m' j (λ k n. e.arrays j k n lt) e.objects t hs a
+  pub enclosed_later : (j t : ℕ) (out : Option ℕ) → Apart j → Enclosed s m j t out → Enclosed s m' j t out
+  enclosed_later j t out ok (alone is around) = alone is around
+  enclosed_later j t out ok (within {e = n} {u = u} is around less knows whole) = within is around less (knows_later j n ok knows) (present_later n u [] (e.apart j n ok knows) whole)
 
-  pub enclosed_later : (j t : ℕ) (out : Option ℕ) → j < bound → Enclosed s m j t out → Enclosed s m' j t out
-  enclosed_later j t out lt (alone is around) = alone is around
-  enclosed_later j t out lt (within {e = n} {u = u} is around before whole) = within is around before (e.present n u [] (omega (arith, before, lt)) whole)
-
-  pub instance_later : (j t : ℕ) (x : Instance (List Held)) → j < bound → InstanceFine s o m j t x → InstanceFine s o' m' j t x
-  instance_later j t x lt f = record { level = f.level; keys = f.keys; cells = cells_later j t lt x.cells f.cells; ends = f.ends; out = enclosed_later j t x.encloser lt f.out }
+  pub instance_later : (j : ℕ) (x : Instance (List Held)) → Apart j → InstanceFine s o m j x → InstanceFine s o' m' j x
+  instance_later j x ok f = record { level = f.level; solid = f.solid; keys = f.keys; cells = cells_later j x.text ok x.cells f.cells; ends = f.ends; not_kept = f.not_kept; out = enclosed_later j x.text x.encloser ok f.out }
 
   -- ---- what is in hand, and what is pending
 
-  element_later : (j : ℕ) → j < bound → (h : Holds) (n i : ℕ) → ElementHolds o j h n i → ElementHolds o' j h n i
-  element_later j lt (Simply k) n i a = e.elements j k n i lt a
-  element_later j lt (Refers c) n i a = absurd a
-  element_later j lt (ArrayOf k) n i a = absurd a
+  pub cell_target_later : (j : ℕ) → Apart j → (n : ℕ) (key : Key) (h : Holds) → CellTarget s m j n key h → CellTarget s m' j n key h
+  cell_target_later j ok n key h a = record { around = a.around; todo = a.todo; near = knows_later j n ok a.near; here = present_later n a.around a.todo (e.apart j n ok a.near) a.here; ready = a.ready; holds = a.holds; there = a.there }
 
-  pub hand_later : (j : ℕ) → j < bound → (k : Kinds) (v : Val) → HandFine s o m j k v → HandFine s o' m' j k v
-  hand_later j lt (Value h) v a = val_later j lt h v a
-  hand_later j lt (AddressOf h) (Address (ElementPlace n i None)) a = element_later j lt h n i a
-  hand_later j lt (LinkTo u) (Link n) a = let less : n < bound = omega (arith, a.0, lt) in (a.0, e.present n u [] less a.1)
-  hand_later j lt (AddressOf k) (Address (ElementPlace n i (Some c))) a = absurd a
-  hand_later j lt (AddressOf k) (Address (CellPlace n key None)) a = let less : n < bound = omega (arith, a.before, lt) in record { around = a.around; before = a.before; whole = e.present n a.around [] less a.whole; holds = a.holds; plain = a.plain; there = a.there }
-  hand_later j lt (AddressOf k) (Address (CellPlace n key (Some c))) a = absurd a
-  hand_later j lt ImageAddress (Address (ImagePlace n)) a = a
-  hand_later j lt ImageAddress (Address (CellPlace n key c)) a = absurd a
-  hand_later j lt ImageAddress (Address (ElementPlace n i c)) a = absurd a
-  hand_later j lt ImageAddress _ a = absurd a
-  hand_later j lt (AddressOf k) (Address (ImagePlace n)) a = absurd a
-  hand_later j lt (AddressOf k) _ a = absurd a
-  hand_later j lt (LinkTo u) _ a = absurd a
-  hand_later j lt (Copied k) v a = absurd a
+  pub hand_later : (j : ℕ) → Apart j → (k : Kinds) (v : Val) → HandFine s o m j k v → HandFine s o' m' j k v
+  hand_later j ok (Value h) v a = val_later j ok h v a
+  hand_later j ok (AddressOf h) (Address (ElementPlace n i None)) a = e.elements j h n i ok a
+  hand_later j ok (AddressOf h) (Address (CellPlace n key None)) a = cell_target_later j ok n key h a
+  hand_later j ok (AddressOf h) (Address (ElementPlace n i (Some c))) a = absurd a
+  hand_later j ok (AddressOf h) (Address (CellPlace n key (Some c))) a = absurd a
+  hand_later j ok (AddressOf h) (Address (ImagePlace n)) a = absurd a
+  hand_later j ok (AddressOf h) _ a = absurd a
+  hand_later j ok (ReferenceAddress c) (Address (ElementPlace n i (Some k))) a = (a.0, e.elements j (Refers c) n i ok a.1)
+  hand_later j ok (ReferenceAddress c) (Address (CellPlace n key (Some k))) a = (a.0, cell_target_later j ok n key (Refers c) a.1)
+  hand_later j ok (ReferenceAddress c) (Address (ElementPlace n i None)) a = absurd a
+  hand_later j ok (ReferenceAddress c) (Address (CellPlace n key None)) a = absurd a
+  hand_later j ok (ReferenceAddress c) (Address (ImagePlace n)) a = absurd a
+  hand_later j ok (ReferenceAddress c) _ a = absurd a
+  hand_later j ok (LinkTo u) (Link n) a = (knows_later j n ok a.0, present_later n u [] (e.apart j n ok a.0) a.1)
+  hand_later j ok (LinkTo u) _ a = absurd a
+  hand_later j ok ImageAddress (Address (ImagePlace n)) a = a
+  hand_later j ok ImageAddress (Address (CellPlace n key c)) a = absurd a
+  hand_later j ok ImageAddress (Address (ElementPlace n i c)) a = absurd a
+  hand_later j ok ImageAddress _ a = absurd a
+  hand_later j ok (Lasting h) (ArrayValue n) a = e.kept h n a
+  hand_later j ok (Lasting h) _ a = absurd a
+  hand_later j ok (Copied k) v a = absurd a
 
-  pub deep_later : (j : ℕ) → j < bound → (d : ℕ) → Copies o o' j (suc d) → (k : Kinds) (v : Val) → DeepFine s o m j d k v → DeepFine s o' m' j d k v
-  deep_later j lt d c (Copied k) (ArrayValue a) f = c d k a (omega arith) f
-  deep_later j lt d c (Copied k) (Of p) f = absurd f
-  deep_later j lt d c (Copied k) (Link z) f = absurd f
-  deep_later j lt d c (Copied k) (Address z) f = absurd f
-  deep_later j lt d c (Copied k) (ProcedureValue z y) f = absurd f
-  deep_later j lt d c (Copied k) (Tree z) f = absurd f
-  deep_later j lt d c (Value h) v f = val_later j lt h v f
-  deep_later j lt d c (AddressOf k) v f = hand_later j lt (AddressOf k) v f
-  deep_later j lt d c ImageAddress v f = hand_later j lt ImageAddress v f
-  deep_later j lt d c (LinkTo u) v f = hand_later j lt (LinkTo u) v f
+  pub deep_later : (j : ℕ) → Apart j → (d : ℕ) → Copies o o' j (suc d) → (k : Kinds) (v : Val) → DeepFine s o m j d k v → DeepFine s o' m' j d k v
+  deep_later j ok d c (Copied k) (ArrayValue a) f = c d k a (omega arith) f
+  deep_later j ok d c (Copied k) (Of p) f = absurd f
+  deep_later j ok d c (Copied k) (Link z) f = absurd f
+  deep_later j ok d c (Copied k) (Address z) f = absurd f
+  deep_later j ok d c (Copied k) (ProcedureValue z y) f = absurd f
+  deep_later j ok d c (Copied k) (Tree z) f = absurd f
+  deep_later j ok d c (Value h) v f = val_later j ok h v f
+  deep_later j ok d c (AddressOf k) v f = hand_later j ok (AddressOf k) v f
+  deep_later j ok d c (ReferenceAddress k) v f = hand_later j ok (ReferenceAddress k) v f
+  deep_later j ok d c ImageAddress v f = hand_later j ok ImageAddress v f
+  deep_later j ok d c (LinkTo u) v f = hand_later j ok (LinkTo u) v f
+  deep_later j ok d c (Lasting h) v f = hand_later j ok (Lasting h) v f
 
-  pub hands_later : (j : ℕ) → j < bound → (ks : List Kinds) (vs : List Val) → Copies o o' j (length vs) → HandsFine s o m j ks vs → HandsFine s o' m' j ks vs
-  hands_later j lt [] [] c a = a
-  hands_later j lt [] (v ∷ vs) c a = absurd a
-  hands_later j lt (k ∷ ks) [] c a = absurd a
-  hands_later j lt (k ∷ ks) (v ∷ vs) c a = (deep_later j lt (length vs) c k v a.0, hands_later j lt ks vs (λ d x n less f. c d x n (omega (arith, less)) f) a.1)
+  pub hands_later : (j : ℕ) → Apart j → (ks : List Kinds) (vs : List Val) → Copies o o' j (length vs) → HandsFine s o m j ks vs → HandsFine s o' m' j ks vs
+  hands_later j ok [] [] c a = a
+  hands_later j ok [] (v ∷ vs) c a = absurd a
+  hands_later j ok (k ∷ ks) [] c a = absurd a
+  hands_later j ok (k ∷ ks) (v ∷ vs) c a = (deep_later j ok (length vs) c k v a.0, hands_later j ok ks vs (λ d x n less f. c d x n (omega (arith, less)) f) a.1)
 
-  module _ (j t : ℕ) (lt : j < bound) where
+  module _ (j t : ℕ) (ok : Apart j) where
     read_later : (todo : List DeclNo) (n : ℕ) (key : Key) (h : Holds) → CellIs s m j t todo n key h → CellIs s m' j t todo n key h
-    read_later todo n key h (in_whole {u = u} le b holds there) = let less : n < bound = omega (arith, le, lt) in in_whole le (e.present n u [] less b) holds there
-    read_later todo n key h (own_made is same holds there not) = own_made is same holds there not
-
-    pub cell_target_later : (n : ℕ) (key : Key) (h : Holds) → CellTarget s m j n key h → CellTarget s m' j n key h
-    cell_target_later n key h a = let less : n < bound = omega (arith, a.before, lt) in record { around = a.around; before = a.before; whole = e.present n a.around [] less a.whole; holds = a.holds; plain = a.plain; there = a.there }
+    read_later todo n key h (in_instance c) = in_instance (cell_target_later j ok n key h c)
+    read_later todo n key h (own_made is same holds there free) = own_made is same holds there free
+    read_later todo n key h (in_connection {c = c} knows whole is same holds) = in_connection (knows_later j n ok knows) (present_later n c [] (e.apart j n ok knows) whole) is same holds
 
     mutual
       pub term_later : (todo : List DeclNo) (x : Term) (g : Option Kinds) → TermFine s m j t todo x g → TermFine s m' j t todo x g
-      term_later todo (Given p) g a = a
+      term_later todo (Given p) g a = (a.0, a.1, plain_later a.0 p a.2)
       term_later todo (Cell n key) g a = (a.0, a.1, read_later todo n key a.0 a.2)
       term_later todo (One op line x) g a = (a.0, a.1, a.2, term_later todo x _ a.3)
       term_later todo (Two op line x y) g a = (a.0, a.1, a.2, a.3, term_later todo x _ a.4, term_later todo y _ a.5)
       term_later todo (Either c x y) g a = (a.0, a.1, term_later todo c _ a.2, term_later todo x g a.3, term_later todo y g a.4)
       term_later todo (ElementOf line x ts) g a = (a.0, a.1, term_later todo x _ a.2, integers_later todo ts a.3)
       term_later todo (ValueAt x) g a = (a.0, a.1, a.2, a.3, term_later todo x _ a.4)
-      term_later todo (PlaceOf n key) g a = (a.0, a.1, cell_target_later n key a.0 a.2)
+      term_later todo (PlaceOf n key) g a = (a.0, a.1, cell_target_later j ok n key a.0 a.2)
       term_later todo (ImageOf n) g a = a
       term_later todo (Joined line x y) g a = (a.0, term_later todo x _ a.1, term_later todo y _ a.2)
       term_later todo (CopyOf line x) g a = (a.0, a.1, term_later todo x _ a.2)
-      term_later todo (CallOf n k ts line) g a = let less : n < bound = omega (arith, a.before, lt) in record {
+      term_later todo (CallOf n k ts line) g a = record {
         around = a.around;
-        before = a.before;
-        whole = e.present n a.around [] less a.whole;
-        stands_in = a.stands_in;
-        result = a.result;
-        heading = a.heading;
-        body = a.body;
-        is = a.is;
+        near = knows_later j n ok a.near;
+        whole = present_later n a.around [] (e.apart j n ok a.near) a.whole;
+        procedure = a.procedure;
         gives = a.gives;
         actuals = terms_later todo ts _ a.actuals;
       }
       term_later todo (StandardOf name ts line) g a = (a.0, a.1, a.2, a.3, operands_later todo ts a.2 a.4)
-      term_later todo _ g a = absurd a
+      term_later todo (NewOf n k ts line) g a = record {
+        around = a.around;
+        near = knows_later j n ok a.near;
+        whole = present_later n a.around [] (e.apart j n ok a.near) a.whole;
+        class = a.class;
+        holds = a.holds;
+        fits = a.fits;
+        gives = a.gives;
+        actuals = terms_later todo ts _ a.actuals;
+      }
+      term_later todo (AttributeOf u key class line x) g a = (a.0, a.1, a.2, a.3, a.4, a.5, term_later todo x _ a.6)
+      term_later todo (RemoteCallOf x k ts line) g a = (a.0, a.1, a.2, a.3, a.4, term_later todo x _ a.5, terms_later todo ts _ a.6)
+      term_later todo (QualifiedPlaceOf n key c) g a = (a.0, cell_target_later j ok n key (Refers c) a.1)
+      term_later todo (QualifiedElementOf line c x ts) g a = (a.0, term_later todo x _ a.1, integers_later todo ts a.2)
+      term_later todo (MemberOf member c x) g a = (a.0, term_later todo x _ a.1)
+      term_later todo (QuaOf c line x) g a = (a.0, term_later todo x _ a.1)
+      term_later todo (FitsOf c line x) g a = (a.0, term_later todo x _ a.1)
+      term_later todo (KeptOf x) g a = (a.0, a.1, term_later todo x _ a.2)
+      term_later todo Unbuilt g a = absurd a
 
       pub integers_later : (todo : List DeclNo) (ts : Terms) → IntegersFine s m j t todo ts → IntegersFine s m' j t todo ts
       integers_later todo NoTerm a = a
@@ -153,85 +252,147 @@ module _ (s : Source) (o : AllArrays) (m : Instances) (o' : AllArrays) (m' : Ins
       terms_later todo NoTerm hs a = a
       terms_later todo (Further x xs) hs a = (a.0, a.1, a.2, term_later todo x _ a.3, terms_later todo xs a.1 a.4)
 
-    target_later : (x : Target) (k : Holds) (before behind : List Kinds) → TargetFine s m j x k before behind → TargetFine s m' j x k before behind
-    target_later (ToCell n key) k before behind a = (cell_target_later n key k a.0, a.1)
+    target_later : (x : Target) (k : Holds) (before behind : List Kinds) → TargetFine s m j t x k before behind → TargetFine s m' j t x k before behind
+    target_later (ToCell n key) k before behind a = (cell_target_later j ok n key k a.0, a.1)
     target_later ToAddress k before behind a = a
     target_later (ToText line) k before behind a = a
     target_later (ToTextOf n key line) k before behind a = a
-    target_later _ k before behind a = absurd a
+    target_later (ToReference line) k before behind a = a
+    target_later (ToPlace x) k before behind a = (term_later [] x _ a.0, a.1)
+    target_later (ToTextAt x line) k before behind a = a
+    target_later (ToReferenceAt x line) k before behind a = (a.0, a.1, a.2, term_later [] x _ a.3)
 
-    targets_later : (ts : List Target) (k : Holds) (before behind : List Kinds) → TargetsFine s m j ts k before behind → TargetsFine s m' j ts k before behind
+    targets_later : (ts : List Target) (k : Holds) (before behind : List Kinds) → TargetsFine s m j t ts k before behind → TargetsFine s m' j t ts k before behind
     targets_later [] k before behind a = a
     targets_later (x ∷ xs) k before behind a = (a.0, target_later x k before a.0 a.1, targets_later xs k a.0 behind a.2)
 
-    variable_later : (x : Target) (k : Kind) → VariableFine s m j x k → VariableFine s m' j x k
-    variable_later (ToCell n key) k a = cell_target_later n key (Simply k) a
+    variable_later : (x : Target) (k : Kind) → VariableFine s m j t x k → VariableFine s m' j t x k
+    variable_later (ToCell n key) k a = cell_target_later j ok n key (Simply k) a
     variable_later ToAddress k a = a
     variable_later (ToText line) k a = a
-    variable_later (ToTextOf n key line) k a = (cell_target_later n key (Simply k) a.0, a.1)
-    variable_later _ k a = absurd a
+    variable_later (ToTextOf n key line) k a = (cell_target_later j ok n key (Simply k) a.0, a.1)
+    variable_later (ToReference line) k a = a
+    variable_later (ToPlace x) k a = term_later [] x _ a
+    variable_later (ToTextAt x line) k a = (term_later [] x _ a.0, a.1)
+    variable_later (ToReferenceAt x line) k a = (a.0, a.1, term_later [] x _ a.2)
 
     stored_later : (todo todo' : List DeclNo) (x : Target) (before behind : List Kinds) → StoreOpFine s o m j t todo todo' x before behind → StoreOpFine s o' m' j t todo todo' x before behind
-    stored_later todo todo' x before behind (value_stored k next is a same) = value_stored k next is (target_later x k next behind a) same
+    stored_later todo todo' x before behind (value_stored k next is a none same) = value_stored k next is (target_later x (Simply k) next behind a) none same
     stored_later todo todo' x before behind (array_stored a) = array_stored a
+
+    site_later : (u : ℕ) → Site s m j u → Site s m' j u
+    site_later u a = let y = e.there j a.now ok a.lives in record { now = y.now; lives = y.lives; stands = stands_grown s a.now y.now y.grown u a.stands }
+
+    sited_later : (Is Is' : ℕ → Type 0) → ((u : ℕ) → Is u → Is' u) → Sited s m j Is → Sited s m' j Is'
+    sited_later Is Is' f a = (a.0, site_later a.0 a.1, f a.0 a.2)
+
+    levels_later : (xs : List Level) → LevelsFine s m j xs → LevelsFine s m' j xs
+    levels_later [] a = a
+    levels_later (x ∷ xs) a = (site_later x.text a.0, a.1, levels_later xs a.2)
 
     pub op_later : (op : Op) (todo todo' : List DeclNo) (before behind : List Kinds) → OpFine s o m j t op todo todo' before behind → OpFine s o' m' j t op todo todo' before behind
     op_later (Eval x) todo todo' before behind a = (a.0, term_later todo x a.0 a.1, a.2, a.3)
     op_later (IfOp x y) todo todo' before behind a = (a.0, a.1, term_later todo x _ a.2, term_later todo y _ a.3, a.4, a.5, a.6)
     op_later (StoreOp x) todo todo' before behind a = stored_later todo todo' x before behind a
-    op_later (ShareOp ts) todo todo' before behind a = (a.0, a.1, a.2, targets_later ts a.0 a.1 behind a.3, a.4)
-    op_later (GiveOp v ts) todo todo' before behind a = (a.0, val_later j lt a.0 v a.1, targets_later ts a.0 before behind a.2, a.3)
-    op_later (BranchOp x next) todo todo' before behind a = (a.0, a.1, a.2, a.3, op_later next [] [] behind behind a.4)
+    op_later (ShareOp ts) todo todo' before behind a = (a.0, a.1, a.2, targets_later ts (Simply a.0) a.1 behind a.3, a.4, a.5)
+    op_later (GiveOp v ts) todo todo' before behind a = (a.0, val_later j ok (Simply a.0) v a.1, targets_later ts (Simply a.0) before behind a.2, a.3, a.4)
+    op_later (BranchOp x next) todo todo' before behind a = (a.0, a.1, a.2, sited_later _ _ (λ u z. z) a.3, op_later next [] [] behind behind a.4)
     op_later (BackOp op) todo todo' before behind a = op_later op todo todo' before behind a
-    op_later (ElementsOp x es y) todo todo' before behind a = (a.0, a.1, a.2, (let r = a.3 in (r.0, variable_later x r.0 r.1, r.2, r.3)))
-    op_later (WhileElementOp x f c y) todo todo' before behind a = (a.0, a.1, a.2, (let r = a.3 in (r.0, variable_later x r.0 r.1, r.2, r.3, r.4)))
-    op_later (StepTestOp x line f c y) todo todo' before behind a = (a.0, a.1, a.2, variable_later x _ a.3, a.4, a.5, a.6)
-    op_later (RaiseOp x line f c y) todo todo' before behind a = (a.0, a.1, a.2, (let r = a.3 in (variable_later x _ r.0, r.1, r.2, r.3)))
+    op_later (ElementsOp x es y) todo todo' before behind a = (a.0, a.1, a.2, sited_later _ _ (λ u r. (r.0, variable_later x r.0 r.1, r.2, r.3)) a.3)
+    op_later (WhileElementOp x f c y) todo todo' before behind a = (a.0, a.1, a.2, sited_later _ _ (λ u r. (r.0, variable_later x r.0 r.1, r.2, r.3, r.4)) a.3)
+    op_later (StepTestOp x line f c y) todo todo' before behind a = (a.0, a.1, a.2, sited_later _ _ (λ u r. (variable_later x _ r.0, r.1, r.2, r.3)) a.3)
+    op_later (RaiseOp x line f c y) todo todo' before behind a = (a.0, a.1, a.2, sited_later _ _ (λ u r. (variable_later x _ r.0, r.1, r.2, r.3)) a.3)
+    op_later (Exec x) todo todo' before behind a = (a.0, a.1, a.2, sited_later _ _ (λ u z. z) a.3)
+    op_later (Execs x) todo todo' before behind a = (a.0, a.1, a.2, sited_later _ _ (λ u z. z) a.3)
+    op_later (EnterOp k line) todo todo' before behind a = (a.0, a.1, a.2, sited_later _ _ (λ u z. z) a.3)
+    op_later (InnerOp xs) todo todo' before behind a = (a.0, a.1, a.2, levels_later xs a.3)
+    op_later (ConnectOp k x other) todo todo' before behind a = (a.0, a.1, sited_later _ _ (λ u z. z) a.2)
+    op_later (WhenOp arms other) todo todo' before behind a = (a.0, a.1, a.2, sited_later _ _ (λ u z. z) a.3)
+    op_later (ChooseOp x y) todo todo' before behind a = (a.0, a.1, a.2, sited_later _ _ (λ u z. z) a.3)
+    op_later (TestOp c x) todo todo' before behind a = (a.0, a.1, a.2, sited_later _ _ (λ u z. z) a.3)
     op_later _ todo todo' before behind a = a
 
-    pub work_later : (Outermost : Type 0) (Below Below' : Option Kinds → Type 0) → ((v : Option Kinds) → Below v → Below' v) → (w : List Item) (todo : List DeclNo) (before : List Kinds) → WorkFine s o m Below Outermost j t w todo before → WorkFine s o' m' Below' Outermost j t w todo before
+    pub work_later : (Outermost : Type 0) (Below Below' : Waits → Type 0) → ((v : Waits) → Below v → Below' v) → (w : List Item) (todo : List DeclNo) (before : List Kinds) → WorkFine s o m Below Outermost j t w todo before → WorkFine s o' m' Below' Outermost j t w todo before
     work_later Outermost Below Below' f [] todo before a = a
     work_later Outermost Below Below' f (Do op ∷ w) todo before a = (a.0, a.1, op_later op todo a.0 before a.1 a.2, work_later Outermost Below Below' f w a.0 a.1 a.3)
-    work_later Outermost Below Below' f (EndBlock ∷ w) todo before a = f None a
-    work_later Outermost Below Below' f (EndProcedure leaves ∷ w) todo before a = (a.0, a.1, a.2, a.3, a.4, f _ a.5)
+    work_later Outermost Below Below' f (EndBlock ∷ w) todo before a = f _ a
+    work_later Outermost Below Below' f (EndProcedure leaves ∷ w) todo before a = (a.0, a.1, a.2, a.3, a.4, a.5, a.6, f _ a.7)
+    work_later Outermost Below Below' f (EndLevel k ∷ w) todo before a = work_later Outermost Below Below' f w todo before a
+    work_later Outermost Below Below' f (EndObject ∷ w) todo before a = (a.0, a.1, a.2, e.objects j a.3, f _ a.4)
+    work_later Outermost Below Below' f (EndPrefixed ∷ w) todo before a = absurd a
     work_later Outermost Below Below' f (EndProgram ∷ w) todo before a = a
-    work_later Outermost Below Below' f (_ ∷ w) todo before a = absurd a
 
-pub later_under : (s : Source) (o : AllArrays) (m : Instances) (o' : AllArrays) (m' : Instances) (bound less : ℕ) → less ≤ bound → Later s o m o' m' bound → Later s o m o' m' less
-later_under s o m o' m' bound less le e = record {
-  arrays = λ j k a lt. e.arrays j k a (omega (arith, lt, le));
-  elements = λ j k a n lt. e.elements j k a n (omega (arith, lt, le));
-  present = λ j t todo lt. e.present j t todo (omega (arith, lt, le));
-  objects = e.objects;
-}
+-- the instances on a chain are others than the one that is given back
+abbrev pub AllApart : (Apart : ℕ → Type 0) → List Activation → Type 0
+AllApart Apart [] = Unit {0}
+AllApart Apart (a ∷ rest) = Apart a.instance × AllApart Apart rest
 
-pub chain_later : (s : Source) (o : AllArrays) (m : Instances) (o' : AllArrays) (m' : Instances) (bound : ℕ) → Later s o m o' m' bound → ((j d : ℕ) → j < bound → Copies o o' j d) → (chain : List Activation) (v : Option Kinds) → ChainFine s o m bound chain v → ChainFine s o' m' bound chain v
-chain_later s o m o' m' bound e all [] v c = c
-chain_later s o m o' m' bound e all (a ∷ rest) v c =
+pub chain_later : (s : Source) (o : AllArrays) (m : Instances) (o' : AllArrays) (m' : Instances) (Apart : ℕ → Type 0) → Later s o m o' m' Apart → (bound : ℕ) → ((j d : ℕ) → j < bound → Copies o o' j d) → (chain : List Activation) → AllApart Apart chain → (v : Waits) → ChainFine s o m bound chain v → ChainFine s o' m' bound chain v
+unfolding present_later
+chain_later s o m o' m' Apart e bound all [] apart v c = c
+chain_later s o m o' m' Apart e bound all (a ∷ rest) apart v c =
     let le : a.instance ≤ bound = omega (arith, c.before) in
+    let y = e.there a.instance (c.here).now apart.0 (c.here).lives in
     record {
       before = c.before;
       of_text = c.of_text;
       todo = c.todo;
-      here = e.present a.instance c.of_text c.todo c.before c.here;
+      here = present_later s o m o' m' Apart e a.instance c.of_text c.todo apart.0 c.here;
+      own = (y.grown).text ∙ c.own;
+      vals = c.vals;
+      shown = c.shown;
       kinds = c.kinds;
-      hands = hands_later s o m o' m' bound e a.instance c.before c.kinds a.values (all a.instance (length a.values) c.before) c.hands;
-      goes = work_later s o m o' m' bound e a.instance c.of_text c.before (rest ≡ []) (λ w. ChainFine s o m a.instance rest w) (λ w. ChainFine s o' m' a.instance rest w) (λ w b. chain_later s o m o' m' a.instance (later_under s o m o' m' bound a.instance le e) (λ j d less. all j d (omega (arith, less, le))) rest w b) a.work c.todo _ c.goes;
+      hands = hands_later s o m o' m' Apart e a.instance apart.0 c.kinds c.vals (all a.instance (length c.vals) c.before) c.hands;
+      expected = c.expected;
+      expects = c.expects;
+      goes = work_later s o m o' m' Apart e a.instance c.of_text apart.0 (rest ≡ []) (λ w. ChainFine s o m a.instance rest w) (λ w. ChainFine s o' m' a.instance rest w) (λ w b. chain_later s o m o' m' Apart e a.instance (λ j d less. all j d (omega (arith, less, le))) rest apart.1 w b) a.work c.todo c.expected c.goes;
     }
 
+-- ---- a step that gives nothing back
+
+-- all instances are apart from none
+abbrev pub All : ℕ → Type 0
+All j = Unit {0}
+
+pub all_apart : (chain : List Activation) → AllApart All chain
+all_apart [] = tt
+all_apart (a ∷ rest) = (tt, all_apart rest)
+
 -- one after the other
-pub later_then : (s : Source) (o : AllArrays) (m : Instances) (o' : AllArrays) (m' : Instances) (o'' : AllArrays) (m'' : Instances) (bound : ℕ) → Later s o m o' m' bound → Later s o' m' o'' m'' bound → Later s o m o'' m'' bound
-later_then s o m o' m' o'' m'' bound e f = record {
-  arrays = λ j k a lt x. f.arrays j k a lt (e.arrays j k a lt x);
-  elements = λ j k a n lt x. f.elements j k a n lt (e.elements j k a n lt x);
-  present = λ j t todo lt x. f.present j t todo lt (e.present j t todo lt x);
-  objects = λ j c x. f.objects j c (e.objects j c x);
+pub later_then : (s : Source) (o : AllArrays) (m : Instances) (o' : AllArrays) (m' : Instances) (o'' : AllArrays) (m'' : Instances) → Later s o m o' m' All → Later s o' m' o'' m'' All → Later s o m o'' m'' All
+later_then s o m o' m' o'' m'' e f = record {
+  arrays = λ j k a ok x. f.arrays j k a tt (e.arrays j k a tt x);
+  elements = λ j k a n ok x. f.elements j k a n tt (e.elements j k a n tt x);
+  kept = λ h a x. f.kept h a (e.kept h a x);
+  there = λ j x ok lives. (let y = e.there j x tt lives in let z = f.there j y.now tt y.lives in record { now = z.now; lives = z.lives; grown = grown_then x y.now z.now y.grown z.grown });
+  stays = λ j a. tt;
+  apart = λ j k a b. tt;
+  objects = λ j a. f.objects j (e.objects j a);
+}
+  where
+    grown_then : (x y z : Instance (List Held)) → Grown x y → Grown y z → Grown x z
+    grown_then x y z a b = record {
+      text = b.text ∙ a.text;
+      level = b.level ∙ a.level;
+      encloser = b.encloser ∙ a.encloser;
+      passing = b.passing ∙ a.passing;
+      kept = b.kept ∙ a.kept;
+      keys = λ key k. b.keys key (a.keys key k);
+      holds = λ key h. a.holds key (b.holds key h);
+    }
+
+pub later_none : (s : Source) (o : AllArrays) (m : Instances) → Later s o m o m All
+later_none s o m = record {
+  arrays = λ j k a ok x. x;
+  elements = λ j k a n ok x. x;
+  kept = λ h a x. x;
+  there = λ j x ok lives. record { now = x; lives = lives; grown = as_it_was x };
+  stays = λ j a. tt;
+  apart = λ j k a b. tt;
+  objects = λ j a. a;
 }
 
-pub later_none : (s : Source) (o : AllArrays) (m : Instances) (bound : ℕ) → Later s o m o m bound
-later_none s o m bound = record { arrays = λ j k a lt x. x; elements = λ j k a n lt x. x; present = λ j t todo lt x. x; objects = λ j c x. x }
-
--- ---- a store with the same instances
+-- ---- what lives has a number
 
 unless_there : (x : Option (Instance (List Held))) (it : Instance (List Held)) → unless_given x ≡ Some it → (y : Instance (List Held)) × (x ≡ Some y)
 unless_there None it e = absurd (cc)
@@ -239,6 +400,3 @@ unless_there (Some y) it e = (y, refl)
 
 pub live_less : (m : Instances) (j : ℕ) (x : Instance (List Held)) → live m j ≡ Some x → j < length m.instances
 live_less m j x e = let y = unless_there (slice_get m.instances j) x e in there_is m.instances j y.0 y.1
-
-pub store_later : (s : Source) (o : AllArrays) (m : Instances) (o' : AllArrays) → Later s o m o' m (length m.instances) → StoreFine s o m → StoreFine s o' m
-store_later s o m o' e store j x is = instance_later s o m o' m (length m.instances) e j x.text x (live_less m j x is) (store j x is)

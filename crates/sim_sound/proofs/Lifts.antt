@@ -19,8 +19,9 @@ use Rattle.sim_code.specs.Outcome.{Ended, Ending, Going, NoRule, Run, RunFault, 
 use Rattle.sim_code.specs.Events.{answering, applying_one, applying_two, assigning, choosing, computing, entering, having, integer_in, joining, making_text, pop_integers, pop_plain, pop_text, pop_truth, popping, stopping, taking, testing_step, text_val, ticking, truth_in, when, with_texts}
 use Rattle.sim_meaning.specs.Pending.{Address, ArrayValue, Instances, Link, Of, ProcedureValue, Tree, Val, plain}
 use Rattle.sim_scope.specs.Source.{Source}
-use Rattle.sim_sound.specs.Typed.{Simply, TwoKinds}
-use Rattle.sim_sound.proofs.Sound.{AllArrays, DeepFine, HandsFine, Kinds, OneKinds, ValFine, Value, integers}
+use Rattle.sim_sound.specs.Held.{Simply}
+use Rattle.sim_sound.specs.Expressions.{TwoKinds}
+use Rattle.sim_sound.proofs.Sound.{AllArrays, DeepFine, HandsFine, Kinds, OneKinds, PlainFine, ValFine, Value, integers}
 
 abbrev pub Goes : {S : Type 0} → (P : World → S → Type 0) → Run S → Type 0
 Goes P (Going o c) = P o c
@@ -82,7 +83,7 @@ module _ {S : Type 0} (P : World → S → Type 0) where
     any_popped k ks [] o f h x = absurd h
     any_popped k ks (v ∷ rest) o f h x = popped v rest o f (x v rest refl h.0 h.1)
 
-    simple_is : (k : Kind) (v : Val) (o : World) (f : Plain → Run S) → ValFine s a m j (Simply k) v → ((p : Plain) → kind_of p ≡ k → Goes P (f p)) → Goes P (having (plain v) o f)
+    simple_is : (k : Kind) (v : Val) (o : World) (f : Plain → Run S) → ValFine s a m j (Simply k) v → ((p : Plain) → PlainFine s m (Simply k) p → Goes P (f p)) → Goes P (having (plain v) o f)
     simple_is k (Of p) o f h x = had (Some p) p o f refl (x p h)
     simple_is k (Link i) o f h x = absurd h
     simple_is k (Address i) o f h x = absurd h
@@ -90,9 +91,13 @@ module _ {S : Type 0} (P : World → S → Type 0) where
     simple_is k (ProcedureValue t i) o f h x = absurd h
     simple_is k (Tree t) o f h x = absurd h
 
-    pub plain_popped : (k : Kind) (ks : List Kinds) (vals : List Val) (o : World) (f : Plain → List Val → Run S) → HandsFine s a m j (Value (Simply k) ∷ ks) vals → ((p : Plain) (rest : List Val) → kind_of p ≡ k → HandsFine s a m j ks rest → Goes P (f p rest)) → Goes P (pop_plain plain vals o f)
+    -- a value of a kind, and the object that it names
+    pub known_popped : (k : Kind) (ks : List Kinds) (vals : List Val) (o : World) (f : Plain → List Val → Run S) → HandsFine s a m j (Value (Simply k) ∷ ks) vals → ((p : Plain) (rest : List Val) → PlainFine s m (Simply k) p → HandsFine s a m j ks rest → Goes P (f p rest)) → Goes P (pop_plain plain vals o f)
     unfolding pop_plain
-    plain_popped k ks vals o f h x = any_popped (Value (Simply k)) ks vals o (λ v rest. having (plain v) o (λ p. f p rest)) h (λ v rest is here more. simple_is k v o (λ p. f p rest) here (λ p e. x p rest e more))
+    known_popped k ks vals o f h x = any_popped (Value (Simply k)) ks vals o (λ v rest. having (plain v) o (λ p. f p rest)) h (λ v rest is here more. simple_is k v o (λ p. f p rest) here (λ p e. x p rest e more))
+
+    pub plain_popped : (k : Kind) (ks : List Kinds) (vals : List Val) (o : World) (f : Plain → List Val → Run S) → HandsFine s a m j (Value (Simply k) ∷ ks) vals → ((p : Plain) (rest : List Val) → kind_of p ≡ k → HandsFine s a m j ks rest → Goes P (f p rest)) → Goes P (pop_plain plain vals o f)
+    plain_popped k ks vals o f h x = known_popped k ks vals o f h (λ p rest e more. x p rest e.0 more)
 
     pub truth_popped : (ks : List Kinds) (vals : List Val) (o : World) (f : Bool → List Val → Run S) → HandsFine s a m j (Value (Simply kind.Boolean) ∷ ks) vals → ((b : Bool) (rest : List Val) → HandsFine s a m j ks rest → Goes P (f b rest)) → Goes P (pop_truth plain vals o f)
     unfolding pop_truth

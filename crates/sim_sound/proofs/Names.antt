@@ -21,9 +21,11 @@ use Rattle.sim_code.specs.Outcome.{Run, World}
 use Rattle.sim_code.specs.Running.{name_runs}
 use Rattle.sim_meaning.specs.Pending.{Address, ArrayValue, Configuration, Instances, Link, Of, ProcedureValue, Tree, Val, cell}
 use Rattle.sim_meaning.specs.Steps.{of_plain, operand, plain_in, put_back}
-use Rattle.sim_sound.specs.Typed.{ArrayOf, Refers, Simply, standard_kind}
-use Rattle.sim_sound.proofs.Cells.{target_cell}
-use Rattle.sim_sound.proofs.Sound.{AddressOf, Copied, DeepFine, ElementFine, HandFine, HandsFine, ImageAddress, IsImage, Kinds, LinkTo, OperandIs, OperandsAre, Sight, StoreFine, ValFine, Value, pushed, see}
+use Rattle.sim_sound.specs.Held.{ArrayOf, Holds, Refers, Simply}
+use Rattle.sim_sound.specs.Expressions.{standard_kind}
+use Rattle.sim_sound.proofs.Cells.{target_cell, val_up}
+use Rattle.sim_sound.proofs.Constants.{NoReference}
+use Rattle.sim_sound.proofs.Sound.{AddressOf, Copied, DeepFine, ElementFine, HandFine, HandsFine, ImageAddress, IsImage, Kinds, Lasting, LinkTo, Open, OperandIs, OperandsAre, PlainFine, ReferenceAddress, Sight, StoreFine, ValFine, Value, pushed, see}
 use Rattle.sim_sound.proofs.Lifts.{Goes, Shape, a_char, a_text, an_int, any_popped, computed, had, ran, shape, took}
 use Rattle.sim_sound.proofs.Lists.{equal_numbers, there_get}
 
@@ -31,14 +33,14 @@ use Rattle.sim_sound.proofs.Lists.{equal_numbers, there_get}
 
 abbrev pub ValueIs : Option Kind → Option Plain → Type 0
 ValueIs None None = Unit {0}
-ValueIs (Some k) (Some p) = kind_of p ≡ k
+ValueIs (Some k) (Some p) = (kind_of p ≡ k) × NoReference (Some p)
 ValueIs _ _ = ⊥
 
 -- an answer that is no error has a value of this kind, or has none
 abbrev pub Valued : Option Kind → Result (Option Plain) RunError → Type 0
 Valued k r = (v : Option Plain) → r ≡ Ok v → ValueIs k v
 
-valued_is : (A : Type 0) (make : A → Plain) (k : Kind) (r : Result A RunError) → ((a : A) → kind_of (make a) ≡ k) → Valued (Some k) (valued make r)
+valued_is : (A : Type 0) (make : A → Plain) (k : Kind) (r : Result A RunError) → ((a : A) → (kind_of (make a) ≡ k) × NoReference (Some (make a))) → Valued (Some k) (valued make r)
 valued_is A make k (Ok a) f v e = let g : Some (make a) ≡ v = cc in subst (ValueIs (Some k)) g (f a)
 valued_is A make k (Err x) f v e = absurd (cc)
 
@@ -49,7 +51,7 @@ unvalued_is : (r : Result (Unit {0}) RunError) → Valued None (unvalued r)
 unvalued_is (Ok a) v e = no_value v (cc)
 unvalued_is (Err x) v e = absurd (cc)
 
-gives_is : (k : Kind) (p : Plain) → kind_of p ≡ k → Valued (Some k) (Ok (Some p))
+gives_is : (k : Kind) (p : Plain) → (kind_of p ≡ k) × NoReference (Some p) → Valued (Some k) (Ok (Some p))
 gives_is k p h v e = let f : Some p ≡ v = cc in subst (ValueIs (Some k)) f h
 
 writes_is : (r : Result OutputState RunError) (s : Store) → Valued None ((writes r s).answer)
@@ -130,43 +132,43 @@ RowIs n = AllFine (standard_kind (row_of n).result) (row_of n).function
 
 row_is : (n : Standard) → name_runs n ≡ true → RowIs n
 unfolding row_of
-row_is name.Abs e = λ i s. stays (valued_is ℤ Integer kind.Integer _ (λ a. refl)) refl
-row_is name.Sign e = λ i s. stays (gives_is kind.Integer _ refl) refl
-row_is name.Min e = λ i j s. stays (gives_is kind.Integer _ refl) refl
-row_is name.Max e = λ i j s. stays (gives_is kind.Integer _ refl) refl
-row_is name.Mod e = λ i j s. stays (valued_is ℤ Integer kind.Integer _ (λ a. refl)) refl
-row_is name.Rem e = λ i j s. stays (valued_is ℤ Integer kind.Integer _ (λ a. refl)) refl
-row_is name.Maxint e = λ s. stays (gives_is kind.Integer _ refl) refl
-row_is name.Minint e = λ s. stays (gives_is kind.Integer _ refl) refl
-row_is name.Char e = λ i s. stays (valued_is ℕ Character kind.Character _ (λ a. refl)) refl
-row_is name.Rank e = λ c s. stays (gives_is kind.Integer _ refl) refl
-row_is name.Isochar e = λ i s. stays (valued_is ℕ Character kind.Character _ (λ a. refl)) refl
-row_is name.Isorank e = λ c s. stays (gives_is kind.Integer _ refl) refl
-row_is name.Digit e = λ c s. stays (gives_is kind.Boolean _ refl) refl
-row_is name.Letter e = λ c s. stays (gives_is kind.Boolean _ refl) refl
-row_is name.Blanks e = λ i s. stays (valued_is TextVal Text kind.Text _ (λ a. refl)) refl
-row_is name.Copy e = λ t s. stays (valued_is TextVal Text kind.Text (copy s.frames t).answer (λ a. refl)) refl
-row_is name.Upcase e = λ t s. stays (valued_is TextVal Text kind.Text _ (λ a. refl)) refl
-row_is name.Lowcase e = λ t s. stays (valued_is TextVal Text kind.Text _ (λ a. refl)) refl
-row_is name.TextConstant e = λ t s. stays (gives_is kind.Boolean _ refl) refl
-row_is name.TextStart e = λ t s. stays (gives_is kind.Integer _ refl) refl
-row_is name.TextLength e = λ t s. stays (gives_is kind.Integer _ refl) refl
-row_is name.TextPos e = λ t s. stays (gives_is kind.Integer _ refl) refl
-row_is name.TextMore e = λ t s. stays (gives_is kind.Boolean _ refl) refl
-row_is name.TextMain e = λ t s. stays (gives_is kind.Text _ refl) refl
+row_is name.Abs e = λ i s. stays (valued_is ℤ Integer kind.Integer _ (λ a. (refl, tt))) refl
+row_is name.Sign e = λ i s. stays (gives_is kind.Integer _ (refl, tt)) refl
+row_is name.Min e = λ i j s. stays (gives_is kind.Integer _ (refl, tt)) refl
+row_is name.Max e = λ i j s. stays (gives_is kind.Integer _ (refl, tt)) refl
+row_is name.Mod e = λ i j s. stays (valued_is ℤ Integer kind.Integer _ (λ a. (refl, tt))) refl
+row_is name.Rem e = λ i j s. stays (valued_is ℤ Integer kind.Integer _ (λ a. (refl, tt))) refl
+row_is name.Maxint e = λ s. stays (gives_is kind.Integer _ (refl, tt)) refl
+row_is name.Minint e = λ s. stays (gives_is kind.Integer _ (refl, tt)) refl
+row_is name.Char e = λ i s. stays (valued_is ℕ Character kind.Character _ (λ a. (refl, tt))) refl
+row_is name.Rank e = λ c s. stays (gives_is kind.Integer _ (refl, tt)) refl
+row_is name.Isochar e = λ i s. stays (valued_is ℕ Character kind.Character _ (λ a. (refl, tt))) refl
+row_is name.Isorank e = λ c s. stays (gives_is kind.Integer _ (refl, tt)) refl
+row_is name.Digit e = λ c s. stays (gives_is kind.Boolean _ (refl, tt)) refl
+row_is name.Letter e = λ c s. stays (gives_is kind.Boolean _ (refl, tt)) refl
+row_is name.Blanks e = λ i s. stays (valued_is TextVal Text kind.Text _ (λ a. (refl, tt))) refl
+row_is name.Copy e = λ t s. stays (valued_is TextVal Text kind.Text (copy s.frames t).answer (λ a. (refl, tt))) refl
+row_is name.Upcase e = λ t s. stays (valued_is TextVal Text kind.Text _ (λ a. (refl, tt))) refl
+row_is name.Lowcase e = λ t s. stays (valued_is TextVal Text kind.Text _ (λ a. (refl, tt))) refl
+row_is name.TextConstant e = λ t s. stays (gives_is kind.Boolean _ (refl, tt)) refl
+row_is name.TextStart e = λ t s. stays (gives_is kind.Integer _ (refl, tt)) refl
+row_is name.TextLength e = λ t s. stays (gives_is kind.Integer _ (refl, tt)) refl
+row_is name.TextPos e = λ t s. stays (gives_is kind.Integer _ (refl, tt)) refl
+row_is name.TextMore e = λ t s. stays (gives_is kind.Boolean _ (refl, tt)) refl
+row_is name.TextMain e = λ t s. stays (gives_is kind.Text _ (refl, tt)) refl
 row_is name.TextSetpos e = λ t i s. moves_fine None unvalued t (setpos s.frames t i) s (unvalued_is (setpos s.frames t i).answer) (same_moved t i)
-row_is name.TextGetchar e = λ t s. moves_fine (Some kind.Character) (valued Character) t (getchar s.frames t) s (valued_is ℕ Character kind.Character _ (λ a. refl)) (same_unless (getchar_refusal t) s.frames t _ (same_self t))
+row_is name.TextGetchar e = λ t s. moves_fine (Some kind.Character) (valued Character) t (getchar s.frames t) s (valued_is ℕ Character kind.Character _ (λ a. (refl, tt))) (same_unless (getchar_refusal t) s.frames t _ (same_self t))
 row_is name.TextPutchar e = λ t c s. moves_fine None unvalued t (putchar s.frames t c) s (unvalued_is _) (same_unless (putchar_refusal s.frames t) s.frames t _ (same_self t))
-row_is name.TextSub e = λ t i j s. stays (valued_is TextVal Text kind.Text _ (λ a. refl)) refl
-row_is name.TextStrip e = λ t s. stays (gives_is kind.Text _ refl) refl
-row_is name.TextGetint e = λ t s. moves_fine (Some kind.Integer) (valued Integer) t (getint s.frames t) s (valued_is ℤ Integer kind.Integer _ (λ a. refl)) (same_taken s.frames t (integer_item (characters s.frames t)))
+row_is name.TextSub e = λ t i j s. stays (valued_is TextVal Text kind.Text _ (λ a. (refl, tt))) refl
+row_is name.TextStrip e = λ t s. stays (gives_is kind.Text _ (refl, tt)) refl
+row_is name.TextGetint e = λ t s. moves_fine (Some kind.Integer) (valued Integer) t (getint s.frames t) s (valued_is ℤ Integer kind.Integer _ (λ a. (refl, tt))) (same_taken s.frames t (integer_item (characters s.frames t)))
 row_is name.TextPutint e = λ t i s. moves_fine None unvalued t (putint s.frames t i) s (unvalued_is _) (same_unless (putint_refusal s.frames t) s.frames t _ (same_self t))
 row_is name.Inimage e = λ s. stays (unvalued_is _) refl
-row_is name.Inchar e = λ s. stays (valued_is ℕ Character kind.Character _ (λ a. refl)) refl
-row_is name.Inint e = λ s. stays (valued_is ℤ Integer kind.Integer _ (λ a. refl)) refl
-row_is name.Intext e = λ i s. stays (valued_is TextVal Text kind.Text _ (λ a. refl)) refl
-row_is name.Lastitem e = λ s. stays (valued_is Bool Truth kind.Boolean _ (λ a. refl)) refl
-row_is name.Endfile e = λ s. stays (gives_is kind.Boolean _ refl) refl
+row_is name.Inchar e = λ s. stays (valued_is ℕ Character kind.Character _ (λ a. (refl, tt))) refl
+row_is name.Inint e = λ s. stays (valued_is ℤ Integer kind.Integer _ (λ a. (refl, tt))) refl
+row_is name.Intext e = λ i s. stays (valued_is TextVal Text kind.Text _ (λ a. (refl, tt))) refl
+row_is name.Lastitem e = λ s. stays (valued_is Bool Truth kind.Boolean _ (λ a. (refl, tt))) refl
+row_is name.Endfile e = λ s. stays (gives_is kind.Boolean _ (refl, tt)) refl
 row_is name.Outimage e = λ s. stays (writes_is (Ok (outimage (output_of s))) s) refl
 row_is name.Outchar e = λ c s. stays (writes_is (Ok (outchar (output_of s) c)) s) refl
 row_is name.Outtext e = λ t s. stays (writes_is (Ok (outtext (output_of s) t)) s) refl
@@ -176,10 +178,10 @@ row_is _ e = absurd (cc)
 -- ---- operands
 
 -- an element that an address in hand leads to
-pub element_there : (g : List Sight) (o : World) (i a n : ℕ) (k : Kind) → ElementFine (see g o) i k a n → (p : Plain) × (element o a n ≡ Some p) × (kind_of p ≡ k)
-element_there g o i a n k f =
+pub element_there : (s : Source) (g : List Sight) (o : World) (m : Instances) (i a n : ℕ) (h : Holds) → StoreFine s (see g o) m → ElementFine (see g o) m i h a n → (p : Plain) × (element o a n ≡ Some p) × PlainFine s m h p
+element_there s g o m i a n h store f =
     let w = there_get (f.array.it).elements n f.there in
-    (w.0, ap (λ z. element_in z n) (f.array).lives ∙ w.1, (f.array).kinds n w.0 w.1)
+    (w.0, ap (λ z. element_in z n) (f.array).lives ∙ w.1, store.elements a n (f.array).it (Open h) w.0 (f.array).lives (f.array).known w.1)
 
 -- the image of a number
 pub image_there : (s : Store) (n : ℕ) → IsImage n → (t : TextVal) × (image_at s n ≡ Some t)
@@ -194,7 +196,7 @@ image_same s s' (suc (suc n)) e = refl
 
 -- a plain value of a kind
 pub plain_of : (s : Source) (g : List Sight) (o : World) (m : Instances) (j : ℕ) (k : Kind) (v : Val) → ValFine s (see g o) m j (Simply k) v → (p : Plain) × (v ≡ Of p) × (kind_of p ≡ k)
-plain_of s g o m j k (Of p) a = (p, refl, a)
+plain_of s g o m j k (Of p) a = (p, refl, a.0)
 plain_of s g o m j k (Link z) a = absurd a
 plain_of s g o m j k (Address z) a = absurd a
 plain_of s g o m j k (ArrayValue z) a = absurd a
@@ -223,16 +225,13 @@ module _ {S : Type 0} (P : World → S → Type 0) (s : Source) (o : World) (g :
       (p.0, ap (operand o m) p.1, p.2 ∙ (let f : k' ≡ k = cc in f), λ n f. absurd (cc))
   operand_read store k (Value (Refers c)) v is a = absurd (cc)
   operand_read store k (Value (ArrayOf k')) v is a = absurd (cc)
-  operand_read store k (AddressOf (Refers c)) (Address (ElementPlace a n None)) is f = absurd f
-  operand_read store k (AddressOf (ArrayOf c)) (Address (ElementPlace a n None)) is f = absurd f
-  operand_read store k (AddressOf (Simply k')) (Address (ElementPlace a n None)) is f =
-      let e = is.1 in
-      let text : k' ≡ kind.Text = cc in
-      let q = element_there g o j a n k' f in
-      place_read k (Address (ElementPlace a n None)) (plain_in (of_plain (element o a n))) q.0 is.0 (ap (λ z. plain_in (of_plain z)) q.1) (q.2 ∙ text) refl (λ i g. cc)
+  operand_read store k (AddressOf h) (Address (ElementPlace a n None)) is f =
+      let q = element_there s g o m j a n h store f in
+      let fine : PlainFine s m (Simply kind.Text) q.0 = subst (λ z. PlainFine s m z q.0) is.1 q.2 in
+      place_read k (Address (ElementPlace a n None)) (plain_in (of_plain (element o a n))) q.0 is.0 (ap (λ z. plain_in (of_plain z)) q.1) fine.0 refl (λ i g. cc)
   operand_read store k (AddressOf k') (Address (CellPlace e key None)) is c =
       let q = target_cell s (see g o) m j e key k' store c in
-      let p = plain_of s g o m e kind.Text q.0 (subst (λ z. ValFine s (see g o) m e z q.0) is.1 q.2) in
+      let p = plain_of s g o m j kind.Text q.0 (subst (λ z. ValFine s (see g o) m j z q.0) is.1 (val_up s (see g o) m j e c.near k' q.0 q.2)) in
       place_read k (Address (CellPlace e key None)) (plain_in (cell m e key)) p.0 is.0 (ap plain_in q.1 ∙ ap (λ z. plain_in (Some z)) p.1) p.2 refl (λ i g. cc)
   operand_read store k (AddressOf k') (Address (ElementPlace a n (Some c))) is f = absurd f
   operand_read store k (AddressOf k') (Address (CellPlace a n (Some c))) is f = absurd f
@@ -254,6 +253,8 @@ module _ {S : Type 0} (P : World → S → Type 0) (s : Source) (o : World) (g :
   operand_read store k ImageAddress (Tree z) is f = absurd f
   operand_read store k (LinkTo t) v is f = absurd is
   operand_read store k (Copied t) v is f = absurd is
+  operand_read store k (ReferenceAddress t) v is f = absurd is
+  operand_read store k (Lasting t) v is f = absurd is
 
   -- an operand is no copy of an array
   at_hand : (k : Kind) (x : Kinds) (d : ℕ) (v : Val) → OperandIs k x → DeepFine s (see g o) m j d x v → HandFine s (see g o) m j x v
@@ -262,6 +263,8 @@ module _ {S : Type 0} (P : World → S → Type 0) (s : Source) (o : World) (g :
   at_hand k ImageAddress d v is f = f
   at_hand k (LinkTo z) d v is f = f
   at_hand k (Copied z) d v is f = absurd is
+  at_hand k (ReferenceAddress z) d v is f = absurd is
+  at_hand k (Lasting z) d v is f = absurd is
 
   -- a text operand that is put back: the place that it came from, which if it is an image is still the same text
   pub record Back (store : Store) (v : Val) (t : TextVal) : Type 0 where

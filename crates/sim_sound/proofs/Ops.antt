@@ -1,30 +1,35 @@
 -- The operators of expressions and assignments.
-use Rattle.std.proofs.Common.{◌≡◌, ℕ, ◌<◌, true, List, [], ◌∷◌, length, Option, Some, None, ◌⊎◌, inl, inr, ⊎_elim, refl, sym, ap, ◌∙◌, subst, arith}
+use Rattle.std.proofs.Common.{◌≡◌, ℕ, ◌<◌, true, false, List, [], ◌∷◌, length, map, Option, Some, None, ◌⊎◌, inl, inr, ⊎_elim, refl, sym, ap, ◌∙◌, subst, arith}
 use Rattle.sim_base.specs.declared.limits.Limits.{Limits}
 use Rattle.sim_base.specs.declared.numbering.DeclNo.{DeclNo}
 use Rattle.sim_scope.specs.Source.{Source}
-use Rattle.sim_values.specs.declared.kind.Kind.{Kind}
 use Rattle.sim_values.specs.declared.kind.Kind.TheVariants as kind
 use Rattle.sim_values.specs.declared.value.TextVal.{TextVal}
-use Rattle.sim_values.specs.Plain.{Plain, Text, kind_of}
+use Rattle.sim_values.specs.Plain.{Plain, Text}
 use Rattle.sim_values.specs.Store.{Store, image_at, with_image}
 use Rattle.sim_values.specs.Texts.{same_text}
 use Rattle.sim_code.specs.Arrays.{element, element_set, element_set_in}
 use Rattle.sim_code.specs.Events.{having, image_moved, image_set, image_value, putting_back, text_of}
-use Rattle.sim_code.specs.Instances.{CellPlace, ElementPlace, ImagePlace}
+use Rattle.sim_code.specs.Instances.{CellPlace, ElementPlace, ImagePlace, Instance, with_instance}
 use Rattle.sim_code.specs.Outcome.{ArrayOf as OneArray, Run, World}
-use Rattle.sim_meaning.specs.Pending.{Activation, Address, AgainOp, ArrayOp, ArrayValue, Cell, Configuration, CopyOp, Declared, Do, DropOp, ElementOp, Eval, FetchOp, GiveOp, Held, IfOp, Instances, Item, Key, Link, Of, OneOp, Op, PastOp, ProcedureValue, ShareOp, StandardOp, StepOp, StoreOp, Target, Term, ToAddress, ToCell, Tree, TwoOp, Val, array_in, cell, cell_set, held, place_in, plain}
+use Rattle.sim_meaning.specs.Pending.{Activation, Address, ArrayValue, cell, cell_set, Configuration, Declared, Held, held, held_set, Instances, Item, Key, Link, Of, place_in, plain, ProcedureValue, Tree, Val}
 use Rattle.sim_meaning.specs.Steps.{go, of_plain, put_back, putting, value_at}
-use Rattle.sim_sound.specs.Typed.{Among, ArrayOf, Holds, Refers, Simply, Typed, first, key_holds, later}
-use Rattle.sim_sound.proofs.Cells.{cell_put, fine_at, plain_anywhere, target_cell}
-use Rattle.sim_sound.proofs.Changes.{changed, copies_element, held_now, held_stays, later_element}
+use Rattle.sim_meaning.specs.Attributes.{is_connection}
+use Rattle.sim_meaning.specs.Objects.{putting_reference}
+use Rattle.sim_meaning.specs.Texts.{text}
+use Rattle.sim_sound.specs.Held.{Among, ArrayOf, Fits, Holds, Refers, Simply, first, key_holds, later}
+use Rattle.sim_sound.specs.Typed.{Typed}
+use Rattle.sim_sound.proofs.Cells.{cell_found, cell_put, own_key, plain_anywhere}
+use Rattle.sim_sound.proofs.Changes.{ElementsFine, changed, copies_element, elements_changed, held_now, held_stays, keys_set, later_element, new}
 use Rattle.sim_sound.proofs.Evals.{IsFine, Work, goes_on}
-use Rattle.sim_sound.proofs.Later.{Copies, Later, chain_later, hands_later, later_under, store_later, work_later}
+use Rattle.sim_sound.proofs.Fitting.{plain_val, val_fits}
+use Rattle.sim_sound.proofs.Later.{All, Copies, Later, all_apart, chain_later, hands_later, instance_later, present_later, work_later}
 use Rattle.sim_sound.proofs.Lifts.{Goes, had, ran}
 use Rattle.sim_sound.proofs.Names.{AllBack, element_there, image_there}
 use Rattle.sim_sound.proofs.Lists.{if_true, no_some, set_len}
-use Rattle.sim_sound.proofs.Moves.{SameOnes, later_cell, operates_on, other, same_cell, same_ones, set_in, set_lives, store_cell}
-use Rattle.sim_sound.proofs.Sound.{AddressOf, AllArrays, ArrayFine, ArrayStored, Begun, CellTarget, ChainFine, Copied, ElementFine, Fine, HandFine, HandsFine, ImageAddress, Kinds, Leads, LinkTo, Made, OperandIs, Operates, Present, Sight, StoreFine, TargetFine, TargetsFine, ValFine, Value, Whole, WorkFine, array_stored, given, held_kinds, integers, runs, see, simple, value_stored}
+use Rattle.sim_sound.proofs.Moves.{SameOnes, later_cell, operates_on, same_cell, same_ones, set_lives, store_cell}
+use Rattle.sim_sound.proofs.References.{held_reference_goes}
+use Rattle.sim_sound.proofs.Sound.{AddressOf, AllArrays, Begun, CellTarget, ChainFine, Copied, ElementFine, HandFine, HandsFine, ImageAddress, IsPlain, KeyAmong, Kinds, Lasting, Leads, LinkTo, Made, OperandIs, Operates, PlainFine, Present, ReferenceAddress, Sight, StandsFor, StoreFine, ValFine, Value, Waits, WorkFine, connected, in_instance as at_cell, key_of, keys_in, own_text, see}
 
 among_cases : (e : DeclNo) (xs : List DeclNo) → Among e xs → (d : DeclNo) (ds : List DeclNo) → xs ≡ d ∷ ds → (e ≡ d) ⊎ Among e ds
 among_cases e xs (first {ds = es}) d ds f = inl (cc)
@@ -32,6 +37,18 @@ among_cases e xs (later {e = x} {ds = es} a) d ds f = inr (subst (Among e) (let 
 
 abbrev pub with_arrays : World → List OneArray → World
 with_arrays o a = record o { arrays = a }
+
+-- a store with other arrays
+pub store_with : (s : Source) (o o' : AllArrays) (m : Instances) → Later s o m o' m All → ElementsFine s o' m → StoreFine s o m → StoreFine s o' m
+store_with s o o' m e fine store = record { instances = λ j x lives. instance_later s o m o' m All e j x tt (store.instances j x lives); elements = fine }
+
+-- a text for which an instance stands that is no connection is its own
+pub own_there : (s : Source) (x : Instance (List Held)) (t : ℕ) → is_connection (text s t) ≡ false → StandsFor s x t → x.text ≡ t
+own_there s x t solid (own_text is) = is
+own_there s x t solid (connected is around there more) = absurd (cc)
+
+pub solid_text : (s : Source) (o : AllArrays) (m : Instances) (i t : ℕ) (todo : List DeclNo) → Begun s o m i t todo → is_connection (text s t) ≡ false
+solid_text s o m i t todo b = subst (λ z. is_connection (text s z) ≡ false) b.own (b.store.instances i (b.here).now (b.here).lives).solid
 
 module _ (s : Source) (ok : Typed s) (l : Limits) (o : World) (g : List Sight) (long : length g ≡ length o.arrays) (m : Instances) (i t : ℕ) (rest : List Activation) (top : Operates m i rest) where
   abbrev Wk : List Item → List DeclNo → List Kinds → Type 0
@@ -47,116 +64,140 @@ module _ (s : Source) (ok : Typed s) (l : Limits) (o : World) (g : List Sight) (
   Bg todo = Begun s (see g o) m i t todo
 
   -- where a store is later, with all else as it was
-  module _ (g' : List Sight) (o' : World) (long' : length g' ≡ length o'.arrays) (n : Instances) (e : Later s (see g o) m (see g' o') n (length m.instances)) (copies : (j d : ℕ) → j < length m.instances → Copies (see g o) (see g' o') j d) (same : SameOnes m n) (store : StoreFine s (see g' o') n) where
-    under : Later s (see g o) m (see g' o') n i
-    under = later_under s (see g o) m (see g' o') n (length m.instances) i (let less = top.before in omega (arith, less)) e
-
-    below_later : (v : Option Kinds) → ChainFine s (see g o) m i rest v → ChainFine s (see g' o') n i rest v
-    below_later v c = chain_later s (see g o) m (see g' o') n i under (λ j d less. copies j d (let up = top.before in omega (arith, less, up))) rest v c
+  module _ (g' : List Sight) (o' : World) (longer : length g' ≡ length o'.arrays) (n : Instances) (e : Later s (see g o) m (see g' o') n All) (copies : (j d : ℕ) → j < length m.instances → Copies (see g o) (see g' o') j d) (same : SameOnes m n) (store : StoreFine s (see g' o') n) where
+    below_later : (v : Waits) → ChainFine s (see g o) m i rest v → ChainFine s (see g' o') n i rest v
+    below_later v c = chain_later s (see g o) m (see g' o') n All e i (λ j d less. copies j d (let up = top.before in omega (arith, less, up))) rest (all_apart rest) v c
 
     pub later_work : (w : List Item) (todo : List DeclNo) (ks : List Kinds) → Wk w todo ks → WorkFine s (see g' o') n (λ v. ChainFine s (see g' o') n i rest v) (rest ≡ []) i t w todo ks
-    later_work w todo ks a = work_later s (see g o) m (see g' o') n (length m.instances) e i t top.before (rest ≡ []) (λ v. ChainFine s (see g o) m i rest v) (λ v. ChainFine s (see g' o') n i rest v) below_later w todo ks a
+    later_work w todo ks a = work_later s (see g o) m (see g' o') n All e i t tt (rest ≡ []) (λ v. ChainFine s (see g o) m i rest v) (λ v. ChainFine s (see g' o') n i rest v) below_later w todo ks a
 
     pub later_hands : (ks : List Kinds) (vals : List Val) → Hd ks vals → HandsFine s (see g' o') n i ks vals
-    later_hands ks vals h = hands_later s (see g o) m (see g' o') n (length m.instances) e i top.before ks vals (copies i (length vals) top.before) h
+    later_hands ks vals h = hands_later s (see g o) m (see g' o') n All e i tt ks vals (copies i (length vals) top.before) h
 
-    pub later_with : (w : List Item) (vals : List Val) (todo' : List DeclNo) (ks : List Kinds) → Present s n i t todo' → HandsFine s (see g' o') n i ks vals → Wk w todo' ks → IsFine s o' (record { chain = record { instance = i; work = w; values = vals } ∷ rest; memory = n })
-    later_with w vals todo' ks p h work = goes_on s o' g' long' n i t rest (operates_on m n i rest same top) w vals todo' ks (record { store = store; here = p }) h (later_work w todo' ks work)
+    pub later_with : (w : List Item) (vals : List Val) (todo' : List DeclNo) (ks : List Kinds) → is_connection (text s t) ≡ false → Present s n i t todo' → HandsFine s (see g' o') n i ks vals → Wk w todo' ks → IsFine s o' (record { chain = record { instance = i; work = w; values = vals } ∷ rest; memory = n })
+    later_with w vals todo' ks solid p h work = goes_on s o' g' longer n i t rest (operates_on m n i rest same top) w vals todo' ks (record { store = store; here = p; own = own_there s p.now t solid p.stands }) h (later_work w todo' ks work)
 
     pub later_goes : (w : List Item) (vals : List Val) (todo : List DeclNo) (ks : List Kinds) → Bg todo → Hd ks vals → Wk w todo ks → IsFine s o' (record { chain = record { instance = i; work = w; values = vals } ∷ rest; memory = n })
-    later_goes w vals todo ks b h work = later_with w vals todo ks (e.present i t todo top.before b.here) (later_hands ks vals h) work
+    later_goes w vals todo ks b h work = later_with w vals todo ks (solid_text s (see g o) m i t todo b) (present_later s (see g o) m (see g' o') n All e i t todo tt b.here) (later_hands ks vals h) work
 
   -- arrays stay as they are
-  same_copies : (j d : ℕ) → j < length m.instances → Copies (see g o) (see g o) j d
+  pub same_copies : (j d : ℕ) → j < length m.instances → Copies (see g o) (see g o) j d
   same_copies j d lt e k a less f = f
 
   -- ---- a cell is set
 
-  pub set_goes : (j u : ℕ) (key : Key) (q : Holds) (v : Val) (w : List Item) (vals : List Val) (todo : List DeclNo) (ks : List Kinds) → CellTarget s m i j key q → ValFine s (see g o) m i q v → Bg todo → Hd ks vals → Wk w todo ks → Go (having (cell_set m j key v) o (λ m. go o m i w vals rest))
-  set_goes j u key q v w vals todo ks c fine b h work =
-      let p = c.whole in
-      let here = plain_anywhere s (see g o) m i j q v c.plain fine in
+  pub set_goes : (j : ℕ) (key : Key) (q : Holds) (v : Val) (w : List Item) (vals : List Val) (todo : List DeclNo) (ks : List Kinds) → CellTarget s m i j key q → IsPlain q → ValFine s (see g o) m i q v → Bg todo → Hd ks vals → Wk w todo ks → Go (having (cell_set m j key v) o (λ m. go o m i w vals rest))
+  set_goes j key q v w vals todo ks c flat fine b h work =
+      let p = c.here in
       let x = p.now in
-      let f = fine_at s (see g o) m j c.around [] b.store p in
-      let r = cell_put s (see g o) m j c.around x key v p.lives f c.there in
-      had (IsFine s) (cell_set m j key v) (set_in s (see g o) m j c.around x p.lives p.of_text f key q v c.holds here r.0 r.1) o (λ m. go o m i w vals rest) r.2
-      (later_goes g o long (set_in s (see g o) m j c.around x p.lives p.of_text f key q v c.holds here r.0 r.1) (later_cell s (see g o) m j c.around x p.lives p.of_text f key q v c.holds here r.0 r.1 (length m.instances)) same_copies (same_cell s (see g o) m j c.around x p.lives p.of_text f key q v c.holds here r.0 r.1) (store_cell s (see g o) m j c.around x p.lives p.of_text f key q v c.holds here r.0 r.1 b.store) w vals todo ks b h work)
+      let f = b.store.instances j x p.lives in
+      let same : x.text ≡ c.around = own_key s x c.around key p.stands c.there in
+      let there : KeyAmong key (keys_in s x.text (text s x.text)) = subst (λ z. KeyAmong key (keys_in s z (text s z))) (sym same) c.there in
+      let holds : key_holds s x.text key ≡ Some q = subst (λ z. key_holds s z key ≡ Some q) (sym same) c.holds in
+      let r = cell_put s m j x key v p.lives (f.keys key there) in
+      had (IsFine s) (cell_set m j key v) (with_instance m j (record x { cells = r.0 })) o (λ m. go o m i w vals rest) r.2
+      (later_goes g o long (with_instance m j (record x { cells = r.0 })) (later_cell s (see g o) m j x p.lives key v r.0 r.1) same_copies (same_cell s (see g o) m j x p.lives key v r.0 r.1)
+      (store_cell s (see g o) m j x p.lives key v r.0 r.1 q holds (plain_anywhere s (see g o) m i j q v flat fine) b.store) w vals todo ks b h work)
 
-  made_now : (todo todo' : List DeclNo) (d : DeclNo) (v : Val) (hs cells : List Held) → Rattle.sim_meaning.specs.Pending.held_set (Declared d.0) v hs ≡ Some cells → todo ≡ d ∷ todo' → Made s t todo hs → Made s t todo' cells
-  made_now todo todo' d v hs cells set is made e k holds in_text none =
+  made_now : (t : ℕ) (todo todo' : List DeclNo) (d : DeclNo) (v : Val) (hs cells : List Held) → held_set (Declared d.0) v hs ≡ Some cells → todo ≡ d ∷ todo' → Made s t todo hs → Made s t todo' cells
+  made_now t todo todo' d v hs cells set is made e k holds in_text none =
       ⊎_elim
       (λ same. let now = held_now (Declared d.0) v hs cells set in let there : held (Declared d.0) cells ≡ None = ap (λ z. held (Declared z.0) cells) (sym same) ∙ none in absurd (no_some (held (Declared d.0) cells) v there now))
       (λ a. a)
       (among_cases e todo (made e k holds in_text (held_stays (Declared d.0) v (Declared e.0) hs cells set none)) d todo' is)
 
-  pub stored_array : (d : DeclNo) (k : Kind) (v : Val) (w : List Item) (vals : List Val) (todo todo' : List DeclNo) (ks : List Kinds) → key_holds s t (Declared d.0) ≡ Some (ArrayOf k) → Rattle.sim_sound.proofs.Sound.KeyAmong (Declared d.0) (Rattle.sim_sound.proofs.Sound.keys_in s t (Rattle.sim_meaning.specs.Texts.text s t)) → todo ≡ d ∷ todo' → ValFine s (see g o) m i (ArrayOf k) v → Bg todo → Hd ks vals → Wk w todo' ks → Go (having (cell_set m i (Declared d.0) v) o (λ m. go o m i w vals rest))
+  pub stored_array : (d : DeclNo) (k : Holds) (v : Val) (w : List Item) (vals : List Val) (todo todo' : List DeclNo) (ks : List Kinds) → key_holds s t (Declared d.0) ≡ Some (ArrayOf k) → KeyAmong (Declared d.0) (keys_in s t (text s t)) → todo ≡ d ∷ todo' → ValFine s (see g o) m i (ArrayOf k) v → Bg todo → Hd ks vals → Wk w todo' ks → Go (having (cell_set m i (Declared d.0) v) o (λ m. go o m i w vals rest))
   stored_array d k v w vals todo todo' ks holds there is fine b h work =
       let p = b.here in
       let x = p.now in
-      let f = fine_at s (see g o) m i t todo b.store p in
-      let r = cell_put s (see g o) m i t x (Declared d.0) v p.lives f there in
-      let n = set_in s (see g o) m i t x p.lives p.of_text f (Declared d.0) (ArrayOf k) v holds fine r.0 r.1 in
-      let e = later_cell s (see g o) m i t x p.lives p.of_text f (Declared d.0) (ArrayOf k) v holds fine r.0 r.1 (length m.instances) in
-      let same = same_cell s (see g o) m i t x p.lives p.of_text f (Declared d.0) (ArrayOf k) v holds fine r.0 r.1 in
-      let store = store_cell s (see g o) m i t x p.lives p.of_text f (Declared d.0) (ArrayOf k) v holds fine r.0 r.1 b.store in
+      let f = b.store.instances i x p.lives in
+      let own : KeyAmong (Declared d.0) (keys_in s x.text (text s x.text)) = subst (λ z. KeyAmong (Declared d.0) (keys_in s z (text s z))) (sym b.own) there in
+      let r = cell_put s m i x (Declared d.0) v p.lives (f.keys (Declared d.0) own) in
+      let n = with_instance m i (record x { cells = r.0 }) in
+      let e = later_cell s (see g o) m i x p.lives (Declared d.0) v r.0 r.1 in
+      let same = same_cell s (see g o) m i x p.lives (Declared d.0) v r.0 r.1 in
+      let store = store_cell s (see g o) m i x p.lives (Declared d.0) v r.0 r.1 (ArrayOf k) (subst (λ z. key_holds s z (Declared d.0) ≡ Some (ArrayOf k)) (sym b.own) holds) fine b.store in
+      let keys : (key : Key) → KeyAmong key (map key_of x.cells) → KeyAmong key (map key_of r.0) = λ key a. subst (KeyAmong key) (sym (keys_set (Declared d.0) v x.cells r.0 r.1)) a in
+      let stays : (key : Key) → held key r.0 ≡ None → held key x.cells ≡ None = λ key a. held_stays (Declared d.0) v key x.cells r.0 r.1 a in
       had (IsFine s) (cell_set m i (Declared d.0) v) n o (λ m. go o m i w vals rest) r.2
-      (later_with g o long n e same_copies same store w vals todo' ks (record {
-        now = other s (see g o) m i t x p.lives p.of_text f (Declared d.0) (ArrayOf k) v holds fine r.0 r.1;
-        lives = set_lives s (see g o) m i t x p.lives p.of_text f (Declared d.0) (ArrayOf k) v holds fine r.0 r.1;
-        of_text = p.of_text;
+      (later_with g o long n e same_copies same store w vals todo' ks (solid_text s (see g o) m i t todo b) (record {
+        now = record x { cells = r.0 };
+        lives = set_lives s (see g o) m i x p.lives r.0 keys stays;
+        stands = own_text b.own;
         words = p.words;
         has_text = p.has_text;
-        made = made_now todo todo' d v x.cells r.0 r.1 is p.made;
+        made = made_now x.text todo todo' d v x.cells r.0 r.1 is p.made;
       }) (later_hands g o long n e same_copies same store ks vals h) work)
 
   -- ---- an element is set
 
-  put_element : (a n : ℕ) (k : Kind) (p : Plain) (w : List Item) (vals : List Val) (todo : List DeclNo) (ks : List Kinds) → (f : ElementFine (see g o) i k a n) → kind_of p ≡ k → Bg todo → Hd ks vals → Wk w todo ks → Go (having (element_set o a n p) o (λ o. go o m i w vals rest))
-  put_element a n k p w vals todo ks f is b h work =
-      let q = element_there g o i a n k f in
-      let new = changed (see g o) i k a n p f is in
-      let set : element_set o a n p ≡ Some (with_arrays o new.real) = ap (λ z. element_set_in o a n p z (element o a n)) (f.array).lives ∙ ap (λ z. element_set_in o a n p (Some (f.array).it) z) q.1 in
-      had (IsFine s) (element_set o a n p) (with_arrays o new.real) o (λ o. go o m i w vals rest) set
-      (later_goes g (with_arrays o new.real) (long ∙ sym (set_len o.arrays a (Rattle.sim_sound.proofs.Changes.new (see g o) i k a n p f is))) m (later_element (see g o) i k a n p f is s m (length m.instances)) (λ j d less. copies_element (see g o) i k a n p f is j d) (same_ones m) (store_later s (see g o) m new (later_element (see g o) i k a n p f is s m (length m.instances)) b.store) w vals todo ks b h work)
+  pub put_element : (a n : ℕ) (h0 : Holds) (p : Plain) (w : List Item) (vals : List Val) (todo : List DeclNo) (ks : List Kinds) → (f : ElementFine (see g o) m i h0 a n) → PlainFine s m h0 p → Bg todo → Hd ks vals → Wk w todo ks → Go (having (element_set o a n p) o (λ o. go o m i w vals rest))
+  put_element a n h0 p w vals todo ks f is b h work =
+      let q = element_there s g o m i a n h0 b.store f in
+      let now = changed (see g o) m i h0 a n p f in
+      let e = later_element (see g o) m i h0 a n p f s in
+      let set : element_set o a n p ≡ Some (with_arrays o now.real) = ap (λ z. element_set_in o a n p z (element o a n)) (f.array).lives ∙ ap (λ z. element_set_in o a n p (Some (f.array).it) z) q.1 in
+      had (IsFine s) (element_set o a n p) (with_arrays o now.real) o (λ o. go o m i w vals rest) set
+      (later_goes g (with_arrays o now.real) (long ∙ sym (set_len o.arrays a (new (see g o) m i h0 a n p f))) m e (λ j d less. copies_element (see g o) m i h0 a n p f j d) (same_ones m)
+      (store_with s (see g o) now m e (elements_changed (see g o) m i h0 a n p f s is b.store.elements) b.store) w vals todo ks b h work)
 
-  pub putting_goes : (q : Holds) (p v : Val) (w : List Item) (vals : List Val) (todo : List DeclNo) (ks : List Kinds) → HandFine s (see g o) m i (AddressOf q) p → ValFine s (see g o) m i q v → Bg todo → Hd ks vals → Wk w todo ks → Go (having (place_in p) o (λ p. putting p v o m (λ o m. go o m i w vals rest)))
+  pub putting_goes : (q : Holds) (p v : Val) (w : List Item) (vals : List Val) (todo : List DeclNo) (ks : List Kinds) → IsPlain q → HandFine s (see g o) m i (AddressOf q) p → ValFine s (see g o) m i q v → Bg todo → Hd ks vals → Wk w todo ks → Go (having (place_in p) o (λ p. putting p v o m (λ o m. go o m i w vals rest)))
   unfolding putting
-  putting_goes (Simply k) (Address (ElementPlace a n None)) (Of p) w vals todo ks f is b h work =
-      had (IsFine s) (Some (ElementPlace a n None)) (ElementPlace a n None) o (λ z. putting z (Of p) o m (λ o m. go o m i w vals rest)) refl
-      (had (IsFine s) (Some p) p o (λ p. having (element_set o a n p) o (λ o. go o m i w vals rest)) refl (put_element a n k p w vals todo ks f is b h work))
-  putting_goes (Simply k) (Address (ElementPlace a n None)) (Link z) w vals todo ks f is b h work = absurd is
-  putting_goes (Simply k) (Address (ElementPlace a n None)) (Address z) w vals todo ks f is b h work = absurd is
-  putting_goes (Simply k) (Address (ElementPlace a n None)) (ArrayValue z) w vals todo ks f is b h work = absurd is
-  putting_goes (Simply k) (Address (ElementPlace a n None)) (ProcedureValue z y) w vals todo ks f is b h work = absurd is
-  putting_goes (Simply k) (Address (ElementPlace a n None)) (Tree z) w vals todo ks f is b h work = absurd is
-  putting_goes (Refers c) (Address (ElementPlace a n None)) v w vals todo ks f is b h work = absurd f
-  putting_goes (ArrayOf k) (Address (ElementPlace a n None)) v w vals todo ks f is b h work = absurd f
-  putting_goes q (Address (ElementPlace a n (Some c))) v w vals todo ks f is b h work = absurd f
-  putting_goes q (Address (CellPlace e key None)) v w vals todo ks c is b h work =
-      had (IsFine s) (Some (CellPlace e key None)) (CellPlace e key None) o (λ z. putting z v o m (λ o m. go o m i w vals rest)) refl (set_goes e e key q v w vals todo ks c is b h work)
-  putting_goes q (Address (CellPlace a n (Some c))) v w vals todo ks f is b h work = absurd f
-  putting_goes q (Address (ImagePlace a)) v w vals todo ks f is b h work = absurd f
-  putting_goes q (Of z) v w vals todo ks f is b h work = absurd f
-  putting_goes q (Link z) v w vals todo ks f is b h work = absurd f
-  putting_goes q (ArrayValue z) v w vals todo ks f is b h work = absurd f
-  putting_goes q (ProcedureValue z y) v w vals todo ks f is b h work = absurd f
-  putting_goes q (Tree z) v w vals todo ks f is b h work = absurd f
+  putting_goes q (Address (ElementPlace a n None)) v w vals todo ks flat f is b h work =
+      had (IsFine s) (Some (ElementPlace a n None)) (ElementPlace a n None) o (λ z. putting z v o m (λ o m. go o m i w vals rest)) refl (by_value q v flat f is)
+    where
+      by_value : (q : Holds) (v : Val) → IsPlain q → ElementFine (see g o) m i q a n → ValFine s (see g o) m i q v → Go (having (plain v) o (λ p. having (element_set o a n p) o (λ o. go o m i w vals rest)))
+      by_value (Simply k) (Of p) flat f is = had (IsFine s) (Some p) p o (λ p. having (element_set o a n p) o (λ o. go o m i w vals rest)) refl (put_element a n (Simply k) p w vals todo ks f is b h work)
+      by_value (Refers c) (Of p) flat f is = had (IsFine s) (Some p) p o (λ p. having (element_set o a n p) o (λ o. go o m i w vals rest)) refl (put_element a n (Refers c) p w vals todo ks f is b h work)
+      by_value (Simply k) _ flat f is = absurd is
+      by_value (Refers c) _ flat f is = absurd is
+      by_value (ArrayOf k) v flat f is = absurd flat
+  putting_goes q (Address (CellPlace e key None)) v w vals todo ks flat c is b h work =
+      had (IsFine s) (Some (CellPlace e key None)) (CellPlace e key None) o (λ z. putting z v o m (λ o m. go o m i w vals rest)) refl (set_goes e key q v w vals todo ks c flat is b h work)
+  putting_goes q (Address (ElementPlace a n (Some c))) v w vals todo ks flat f is b h work = absurd f
+  putting_goes q (Address (CellPlace a n (Some c))) v w vals todo ks flat f is b h work = absurd f
+  putting_goes q (Address (ImagePlace a)) v w vals todo ks flat f is b h work = absurd f
+  putting_goes q (Of z) v w vals todo ks flat f is b h work = absurd f
+  putting_goes q (Link z) v w vals todo ks flat f is b h work = absurd f
+  putting_goes q (ArrayValue z) v w vals todo ks flat f is b h work = absurd f
+  putting_goes q (ProcedureValue z y) v w vals todo ks flat f is b h work = absurd f
+  putting_goes q (Tree z) v w vals todo ks flat f is b h work = absurd f
 
-  pub fetched_goes : (q : Holds) (x : Kinds) (v : Val) (w : List Item) (vals : List Val) (todo : List DeclNo) (ks : List Kinds) → Leads x q → HandFine s (see g o) m i x v → Bg todo → Hd ks vals → Wk w todo (Value q ∷ ks) → Go (having (place_in v) o (λ p. having (value_at o m p) o (λ v. go o m i w (v ∷ vals) rest)))
-  fetched_goes q (AddressOf (Simply k)) (Address (ElementPlace a n None)) w vals todo ks is f b h work =
-      let x = element_there g o i a n k f in
+  -- a reference is put where an address leads, if it is none or in the class there
+  pub putting_reference_goes : (c line : ℕ) (v : Val) (p : Plain) (w : List Item) (vals : List Val) (todo : List DeclNo) (ks : List Kinds) → HandFine s (see g o) m i (ReferenceAddress c) v → PlainFine s m (Simply kind.Reference) p → Bg todo → Hd ks vals → Wk w todo ks → Go (having (place_in v) o (λ place. putting_reference s line place p o m (λ o m. go o m i w vals rest)))
+  unfolding putting_reference
+  putting_reference_goes c line (Address (ElementPlace a n (Some k))) p w vals todo ks f is b h work =
+      had (IsFine s) (Some (ElementPlace a n (Some k))) (ElementPlace a n (Some k)) o (λ place. putting_reference s line place p o m (λ o m. go o m i w vals rest)) refl
+      (held_reference_goes (IsFine s) s m k line p o (having (element_set o a n p) o (λ o. go o m i w vals rest)) is (λ fine. put_element a n (Refers c) p w vals todo ks f.1 (subst (λ z. PlainFine s m (Refers z) p) f.0 fine) b h work))
+  putting_reference_goes c line (Address (CellPlace e key (Some k))) p w vals todo ks f is b h work =
+      had (IsFine s) (Some (CellPlace e key (Some k))) (CellPlace e key (Some k)) o (λ place. putting_reference s line place p o m (λ o m. go o m i w vals rest)) refl
+      (held_reference_goes (IsFine s) s m k line p o (having (cell_set m e key (Of p)) o (λ m. go o m i w vals rest)) is (λ fine. set_goes e key (Refers c) (Of p) w vals todo ks f.1 tt (subst (λ z. PlainFine s m (Refers z) p) f.0 fine) b h work))
+  putting_reference_goes c line (Address (ElementPlace a n None)) p w vals todo ks f is b h work = absurd f
+  putting_reference_goes c line (Address (CellPlace a n None)) p w vals todo ks f is b h work = absurd f
+  putting_reference_goes c line (Address (ImagePlace a)) p w vals todo ks f is b h work = absurd f
+  putting_reference_goes c line (Of z) p w vals todo ks f is b h work = absurd f
+  putting_reference_goes c line (Link z) p w vals todo ks f is b h work = absurd f
+  putting_reference_goes c line (ArrayValue z) p w vals todo ks f is b h work = absurd f
+  putting_reference_goes c line (ProcedureValue z y) p w vals todo ks f is b h work = absurd f
+  putting_reference_goes c line (Tree z) p w vals todo ks f is b h work = absurd f
+
+  -- what is read where an address leads
+  read_goes : (q' q : Holds) (v : Val) (w : List Item) (vals : List Val) (todo : List DeclNo) (ks : List Kinds) → Fits s q' q → ValFine s (see g o) m i q' v → Bg todo → Hd ks vals → Wk w todo (Value q ∷ ks) → IsFine s o (record { chain = record { instance = i; work = w; values = v ∷ vals } ∷ rest; memory = m })
+  read_goes q' q v w vals todo ks fits fine b h work = goes_on s o g long m i t rest top w (v ∷ vals) todo (Value q ∷ ks) b (val_fits s ok (see g o) m b.store i q' q v fits fine, h) work
+
+  pub fetched_goes : (q : Holds) (x : Kinds) (v : Val) (w : List Item) (vals : List Val) (todo : List DeclNo) (ks : List Kinds) → Leads s x q → HandFine s (see g o) m i x v → Bg todo → Hd ks vals → Wk w todo (Value q ∷ ks) → Go (having (place_in v) o (λ p. having (value_at o m p) o (λ v. go o m i w (v ∷ vals) rest)))
+  fetched_goes q (AddressOf q') (Address (ElementPlace a n None)) w vals todo ks is f b h work =
+      let x = element_there s g o m i a n q' b.store f in
       had (IsFine s) (Some (ElementPlace a n None)) (ElementPlace a n None) o (λ p. having (value_at o m p) o (λ v. go o m i w (v ∷ vals) rest)) refl
-      (had (IsFine s) (of_plain (element o a n)) (Of x.0) o (λ v. go o m i w (v ∷ vals) rest) (ap of_plain x.1) (goes_on s o g long m i t rest top w (Of x.0 ∷ vals) todo (Value q ∷ ks) b (subst (λ z. ValFine s (see g o) m i z (Of x.0)) is x.2, h) work))
-  fetched_goes q (AddressOf (Refers c)) (Address (ElementPlace a n None)) w vals todo ks is f b h work = absurd f
-  fetched_goes q (AddressOf (ArrayOf k)) (Address (ElementPlace a n None)) w vals todo ks is f b h work = absurd f
+      (had (IsFine s) (of_plain (element o a n)) (Of x.0) o (λ v. go o m i w (v ∷ vals) rest) (ap of_plain x.1) (read_goes q' q (Of x.0) w vals todo ks is (plain_val s (see g o) m i q' x.0 x.2) b h work))
   fetched_goes q (AddressOf q') (Address (CellPlace e key None)) w vals todo ks is c b h work =
-      let x = target_cell s (see g o) m i e key q' b.store c in
+      let x = cell_found s ok (see g o) m i t todo e key q' b (at_cell c) in
       had (IsFine s) (Some (CellPlace e key None)) (CellPlace e key None) o (λ p. having (value_at o m p) o (λ v. go o m i w (v ∷ vals) rest)) refl
-      (had (IsFine s) (cell m e key) x.0 o (λ v. go o m i w (v ∷ vals) rest) x.1 (goes_on s o g long m i t rest top w (x.0 ∷ vals) todo (Value q ∷ ks) b (subst (λ z. ValFine s (see g o) m i z x.0) is (plain_anywhere s (see g o) m e i q' x.0 c.plain x.2), h) work))
+      (had (IsFine s) (cell m e key) x.0 o (λ v. go o m i w (v ∷ vals) rest) x.1 (read_goes q' q x.0 w vals todo ks is x.2 b h work))
   fetched_goes q ImageAddress (Address (ImagePlace n)) w vals todo ks is f b h work =
       let x = image_there o.store n f in
       had (IsFine s) (Some (ImagePlace n)) (ImagePlace n) o (λ p. having (value_at o m p) o (λ v. go o m i w (v ∷ vals) rest)) refl
-      (had (IsFine s) (of_plain (image_value o n)) (Of (Text x.0)) o (λ v. go o m i w (v ∷ vals) rest) (ap (λ z. of_plain (text_of z)) x.1) (goes_on s o g long m i t rest top w (Of (Text x.0) ∷ vals) todo (Value q ∷ ks) b (subst (λ z. ValFine s (see g o) m i z (Of (Text x.0))) (sym is) refl, h) work))
+      (had (IsFine s) (of_plain (image_value o n)) (Of (Text x.0)) o (λ v. go o m i w (v ∷ vals) rest) (ap (λ z. of_plain (text_of z)) x.1) (goes_on s o g long m i t rest top w (Of (Text x.0) ∷ vals) todo (Value q ∷ ks) b (subst (λ z. ValFine s (see g o) m i z (Of (Text x.0))) (sym is) (refl, tt), h) work))
   fetched_goes q (AddressOf q') (Address (ElementPlace a n (Some c))) w vals todo ks is f b h work = absurd f
   fetched_goes q (AddressOf q') (Address (CellPlace a n (Some c))) w vals todo ks is f b h work = absurd f
   fetched_goes q (AddressOf q') (Address (ImagePlace a)) w vals todo ks is f b h work = absurd f
@@ -175,6 +216,8 @@ module _ (s : Source) (ok : Typed s) (l : Limits) (o : World) (g : List Sight) (
   fetched_goes q (Value z) v w vals todo ks is f b h work = absurd is
   fetched_goes q (Copied z) v w vals todo ks is f b h work = absurd is
   fetched_goes q (LinkTo z) v w vals todo ks is f b h work = absurd is
+  fetched_goes q (Lasting z) v w vals todo ks is f b h work = absurd is
+  fetched_goes q (ReferenceAddress z) v w vals todo ks is f b h work = absurd is
 
 -- ---- a text that is put back to where it came from
 
@@ -187,7 +230,10 @@ module _ (s : Source) (ok : Typed s) (l : Limits) (o : World) (g : List Sight) (
   stays_on = goes_on s o g long m i t rest top w vals todo ks b h work
 
   text_there : (q : Holds) (x : TextVal) → q ≡ Simply kind.Text → ValFine s (see g Then) m i q (Of (Text x))
-  text_there q x is = subst (λ z. ValFine s (see g Then) m i z (Of (Text x))) (sym is) refl
+  text_there q x is = subst (λ z. ValFine s (see g Then) m i z (Of (Text x))) (sym is) (refl, tt)
+
+  text_plain : (q : Holds) → q ≡ Simply kind.Text → IsPlain q
+  text_plain q is = subst IsPlain (sym is) tt
 
   put_text : (v : Val) (x : TextVal) (from : Kinds) → OperandIs kind.Text from → HandFine s (see g o) m i from v → ((n : ℕ) → v ≡ Address (ImagePlace n) → (y : TextVal) × (image_at store n ≡ Some y) × (same_text y x ≡ true)) → Goes (IsFine s) (put_back v x Then m (λ p m. go p m i w vals rest))
   unfolding put_back putting having
@@ -196,8 +242,8 @@ module _ (s : Source) (ok : Typed s) (l : Limits) (o : World) (g : List Sight) (
   put_text (ArrayValue z) x from is a image = stays_on
   put_text (ProcedureValue z y) x from is a image = stays_on
   put_text (Tree z) x from is a image = stays_on
-  put_text (Address (ElementPlace n e None)) x (AddressOf q) is a image = putting_goes s ok l Then g long m i t rest top q (Address (ElementPlace n e None)) (Of (Text x)) w vals todo ks a (text_there q x is.1) b h work
-  put_text (Address (CellPlace n e None)) x (AddressOf q) is a image = putting_goes s ok l Then g long m i t rest top q (Address (CellPlace n e None)) (Of (Text x)) w vals todo ks a (text_there q x is.1) b h work
+  put_text (Address (ElementPlace n e None)) x (AddressOf q) is a image = putting_goes s ok l Then g long m i t rest top q (Address (ElementPlace n e None)) (Of (Text x)) w vals todo ks (text_plain q is.1) a (text_there q x is.1) b h work
+  put_text (Address (CellPlace n e None)) x (AddressOf q) is a image = putting_goes s ok l Then g long m i t rest top q (Address (CellPlace n e None)) (Of (Text x)) w vals todo ks (text_plain q is.1) a (text_there q x is.1) b h work
   put_text (Address (ImagePlace n)) x ImageAddress is a image =
       let y = image n refl in
       had (IsFine s) (image_set Then n (Text x)) (record Then { store = with_image store n x }) Then (λ p. go p m i w vals rest) (ap (λ z. image_moved Then n z (Some x)) y.1 ∙ if_true (same_text y.0 x) (Some (record Then { store = with_image store n x })) None y.2) stays_on
@@ -211,6 +257,8 @@ module _ (s : Source) (ok : Typed s) (l : Limits) (o : World) (g : List Sight) (
   put_text (Address p) x (Value (ArrayOf k)) is a image = absurd a
   put_text (Address p) x (LinkTo u) is a image = absurd is
   put_text (Address p) x (Copied u) is a image = absurd is
+  put_text (Address p) x (ReferenceAddress u) is a image = absurd is
+  put_text (Address p) x (Lasting u) is a image = absurd is
 
   pub back_goes : (first : Option Val) (moved : Option TextVal) → AllBack (IsFine s) s o g m i store first moved → Goes (IsFine s) (putting_back put_back first moved Then m (λ p m. go p m i w vals rest))
   unfolding putting_back

@@ -2,11 +2,16 @@
 use Rattle.std.proofs.Common.{◌≡◌, ◌<◌, ◌≤◌, ℕ, zero, suc, Bool, true, false, List, [], ◌∷◌, length, map, Option, Some, None, ◌⊎◌}
 use Rattle.std.specs.Prelude.{slice_get, ◌*◌, ◌&&◌, not}
 use Rattle.sim_base.specs.declared.numbering.DeclNo.{DeclNo}
-use Rattle.sim_chains.specs.Components.{DetachedObject, NoObject, Standing}
+use Rattle.sim_chains.specs.Components.{AttachedObject, DetachedObject, NoObject, Standing, TerminatedObject}
 use Rattle.sim_scope.specs.declared.types.Formal.{Formal}
+use Rattle.sim_scope.specs.declared.types.FormalKind.{FormalKind}
+use Rattle.sim_scope.specs.declared.types.FormalKind.TheVariants as shape
+use Rattle.sim_scope.specs.declared.types.Mode.{Mode}
+use Rattle.sim_scope.specs.declared.types.Mode.TheVariants as mode
 use Rattle.sim_scope.specs.Access.{encloser}
-use Rattle.sim_scope.specs.Levels.{has_level}
+use Rattle.sim_scope.specs.Levels.{base, has_level}
 use Rattle.sim_scope.specs.Source.{Source, level_of}
+use Rattle.sim_tree.specs.declared.expr.Identifier.{Identifier}
 use Rattle.sim_tree.specs.declared.stmt.TypeName.{TypeName}
 use Rattle.sim_tree.specs.Syntax.{Declarations, Heading, Statement, Statements}
 use Rattle.sim_values.specs.declared.kind.Kind.{Kind}
@@ -18,21 +23,45 @@ use Rattle.sim_values.specs.Standard.{operands_of, row_of}
 use Rattle.sim_values.specs.Words.{element_count}
 use Rattle.sim_code.specs.Outcome.{ArrayOf as OneArray, World}
 use Rattle.sim_code.specs.Arrays.{unless_given}
-use Rattle.sim_code.specs.Instances.{CellPlace, ElementPlace, ImagePlace, Instance, live}
+use Rattle.sim_code.specs.Instances.{CellPlace, ElementPlace, ImagePlace, Instance, is_given_at_end, live}
 use Rattle.sim_code.specs.Running.{name_runs}
-use Rattle.sim_meaning.specs.Entries.{first_cells, formals_of, is_array_by_value}
+use Rattle.sim_meaning.specs.Attributes.{cell_of_connection, is_connection}
+use Rattle.sim_meaning.specs.Closing.{class_parameters}
+use Rattle.sim_meaning.specs.Entries.{first_cells, formals_of, is_array_by_value, numbers_of}
+use Rattle.sim_meaning.specs.Levels.{is_class}
 use Rattle.sim_meaning.specs.Meaning.{has_result}
-use Rattle.sim_meaning.specs.Pending.{Activation, Address, AgainOp, ArrayOp, ArrayValue, BackOp, BranchOp, CallOf, CallOp, Cell, ChooseOp, Configuration, CopyOf, CopyOp, Declared, Do, DropOp, Either, ElementOf, ElementOp, ElementsOp, EndBlock, EndProcedure, EndProgram, EnterOp, Eval, Exec, Execs, FetchOp, Further, Given, GiveOp, Held, IfOp, ImageOf, Instances, Item, JoinOp, Joined, Key, Link, NoTerm, Of, One, OneOp, Op, PastOp, PlaceOf, RaiseOp, ShareOp, StandardOf, StandardOp, StepOp, StepTestOp, StoreOp, Target, Term, Terms, TestOp, ToAddress, ToCell, ToText, ToTextOf, Two, TwoOp, Unbuilt, Val, ValueAt, WhileElementOp, held}
-use Rattle.sim_meaning.specs.Texts.{BlockText, ProcedureText, Text, text}
-use Rattle.sim_sound.specs.Typed.{Among, ArrayOf, ElementsAre, ExprIs, Holds, Refers, Simply, StatementIs, StatementsAre, TwoKinds, formal_holds, key_holds, result_holds, some_holds, standard_kind}
+use Rattle.sim_meaning.specs.Objects.{attributes_from}
+use Rattle.sim_meaning.specs.Pending.{Activation, Address, AgainOp, ArrayOp, ArrayValue, AttributeOf, AttributeOp, BackOp, BranchOp, CallOf, CallOp, Cell, ChooseOp, Configuration, ConnectOp, CopyOf, CopyOp, Declared, DeclareOp, Do, DropOp, Either, ElementOf, ElementOp, ElementsOp, EndBlock, EndLevel, EndObject, EndPrefixed, EndProcedure, EndProgram, EnterOp, Eval, Exec, Execs, FetchOp, FitsOf, FitsOp, Further, Given, GiveOp, Held, IfOp, ImageOf, InnerOp, Instances, Item, JoinOp, Joined, KeepOp, KeptOf, Key, Level, LevelOp, Link, MemberOf, MemberOp, NewOf, NewOp, NoTerm, ObjectOp, Of, One, OneOp, Op, PastOp, PlaceOf, PrefixedOp, QuaOf, QuaOp, QualifiedElementOf, QualifiedElementOp, QualifiedPlaceOf, RaiseOp, ReferOp, RemoteCallOf, ShareOp, StandardOf, StandardOp, StepOp, StepTestOp, StoreOp, SwapOp, Target, Term, Terms, TestOp, ToAddress, ToCell, ToPlace, ToReference, ToReferenceAt, ToText, ToTextAt, ToTextOf, Two, TwoOp, Unbuilt, Val, ValueAt, WhenOp, WhileElementOp, held}
+use Rattle.sim_meaning.specs.Texts.{BlockText, ClassText, ProcedureText, Text, is_class_free, text}
+use Rattle.sim_sound.specs.Expressions.{ExprIs, TwoKinds, some_holds, standard_kind}
+use Rattle.sim_sound.specs.Held.{Among, ArrayOf, Fits, FitsIn, Holds, In, InBound, IsOfKind, Refers, Simply, formal_holds, key_holds, reference_to, result_holds}
+use Rattle.sim_sound.specs.Statements.{ArmsAre, ConnectionIs, ElementsAre, StatementIs, StatementsAre}
+use Rattle.sim_sound.specs.Typed.{ArraysTyped, Distinct, arrays_of_block}
 
--- ---- values
+-- ---- what stays
 
--- Who may know an array: all, or, of a copy for a parameter by value, one place alone, which is a value in hand of an instance, on top
--- of so many others.
+-- an instance that is not given back at its end, and one that is
+pub record Stays (m : Instances) (j : ℕ) : Type 0 where
+  pub now : Instance (List Held)
+  pub lives : live m j ≡ Some now
+  pub stays : (now.passing && not now.kept) ≡ false
+
+-- What an instance may know: what stays; and one that is given back at its end knows of all that was there before it.
+pub data Knows (m : Instances) (j e : ℕ) : Type 0 where
+  staying : Stays m e → Knows m j e
+  earlier : is_given_at_end m j ≡ true → e ≤ j → Knows m j e
+
+-- ---- arrays
+
+-- Who may know an array, and what its elements hold: all, or, of a copy for a parameter by value, one place alone, which is a value in hand of
+-- an instance, on top of so many others.
 pub data Sight : Type 0 where
-  Open : Sight
-  Hidden : (home depth : ℕ) → Sight
+  Open : (elements : Holds) → Sight
+  Hidden : (elements : Holds) → (home depth : ℕ) → Sight
+
+abbrev pub elements_of : Sight → Holds
+elements_of (Open h) = h
+elements_of (Hidden h home depth) = h
 
 -- the arrays of a run, and who may know them
 pub record AllArrays : Type 0 where
@@ -42,30 +71,81 @@ pub record AllArrays : Type 0 where
 abbrev pub see : List Sight → World → AllArrays
 see g o = record { sights = g; real = o.arrays }
 
--- an array that stays for as long as an instance, with its elements
-pub record ArrayFine (o : AllArrays) (j : ℕ) (k : Kind) (a : ℕ) : Type 0 where
+-- an array that stays for as long as an instance, as many elements as it has bounds for
+pub record ArrayFine (o : AllArrays) (m : Instances) (j : ℕ) (h : Holds) (a : ℕ) : Type 0 where
   pub it : OneArray
   pub lives : unless_given (slice_get o.real a) ≡ Some it
-  pub known : slice_get o.sights a ≡ Some Open
-  pub owned : it.owner ≤ j
-  pub kinds : (i : ℕ) (p : Plain) → slice_get it.elements i ≡ Some p → kind_of p ≡ k
+  pub known : slice_get o.sights a ≡ Some (Open h)
+  pub owned : (it.kept ≡ true) ⊎ Knows m j it.owner
+  pub count : length it.elements ≡ element_count it.bounds
+
+-- an array that is kept
+pub record KeptFine (o : AllArrays) (h : Holds) (a : ℕ) : Type 0 where
+  pub it : OneArray
+  pub lives : unless_given (slice_get o.real a) ≡ Some it
+  pub known : slice_get o.sights a ≡ Some (Open h)
+  pub keeps : it.kept ≡ true
   pub count : length it.elements ≡ element_count it.bounds
 
 -- a copy that is in hand in one place alone
-pub record CopyFine (o : AllArrays) (j d : ℕ) (k : Kind) (a : ℕ) : Type 0 where
+pub record CopyFine (o : AllArrays) (j d : ℕ) (h : Holds) (a : ℕ) : Type 0 where
   pub it : OneArray
   pub lives : unless_given (slice_get o.real a) ≡ Some it
-  pub hidden : slice_get o.sights a ≡ Some (Hidden j d)
+  pub hidden : slice_get o.sights a ≡ Some (Hidden h j d)
   pub owned : it.owner ≡ j
-  pub kinds : (i : ℕ) (p : Plain) → slice_get it.elements i ≡ Some p → kind_of p ≡ k
   pub count : length it.elements ≡ element_count it.bounds
 
--- an object that has the class among its levels, which is not given back at its end
+-- ---- cells
+
+abbrev pub key_of : Held → Key
+key_of h = h.key
+
+-- the cells of a text of its own
+abbrev pub own_cells : Source → ℕ → Text → List Held
+own_cells s t (ClassText prefix h ds ss) = attributes_from s (numbers_of s t)
+own_cells s t x = first_cells s t x
+
+abbrev pub keys_in : Source → ℕ → Option Text → List Key
+keys_in s t None = []
+keys_in s t (Some x) = map key_of (own_cells s t x)
+
+pub data KeyAmong (key : Key) : List Key → Type 0 where
+  first_key : {ks : List Key} → KeyAmong key (key ∷ ks)
+  later_key : {k : Key} {ks : List Key} → KeyAmong key ks → KeyAmong key (k ∷ ks)
+
+-- the arrays of an instance are made, but for these
+abbrev pub Made : Source → (text : ℕ) → List DeclNo → List Held → Type 0
+Made s t todo hs = (d : DeclNo) (k : Holds) → key_holds s t (Declared d.0) ≡ Some (ArrayOf k) → KeyAmong (Declared d.0) (keys_in s t (text s t)) → held (Declared d.0) hs ≡ None → Among d todo
+
+-- An instance stands for its own text, and for each connection in that whose object is there.
+pub data StandsFor (s : Source) (x : Instance (List Held)) : (t : ℕ) → Type 0 where
+  own_text : {t : ℕ} → x.text ≡ t → StandsFor s x t
+  connected : {t u : ℕ} → is_connection (text s t) ≡ true → encloser s.tables t ≡ Some u → KeyAmong (cell_of_connection s t) (map key_of x.cells) → StandsFor s x u → StandsFor s x t
+
+-- an instance that stands for a text and was not given back, whose arrays are made but for these
+pub record Present (s : Source) (m : Instances) (j t : ℕ) (todo : List DeclNo) : Type 0 where
+  pub now : Instance (List Held)
+  pub lives : live m j ≡ Some now
+  pub stands : StandsFor s now t
+  pub words : Text
+  pub has_text : text s now.text ≡ Some words
+  pub made : Made s now.text todo now.cells
+
+abbrev pub Whole : Source → Instances → (j t : ℕ) → Type 0
+Whole s m j t = Present s m j t []
+
+-- ---- values
+
+-- an object that has the class among its levels, with its arrays, which is not given back at its end
 pub record ObjectOf (s : Source) (m : Instances) (j class : ℕ) : Type 0 where
   pub now : Instance (List Held)
   pub lives : live m j ≡ Some now
+  pub object : is_class (text s now.text) ≡ true
   pub levels : has_level s.tables now.text class ≡ true
   pub stays : (now.passing && not now.kept) ≡ false
+  pub words : Text
+  pub has_text : text s now.text ≡ Some words
+  pub made : Made s now.text [] now.cells
 
 -- a reference to an object of a class, or to none
 abbrev pub ReferenceFine : Source → Instances → (class : ℕ) → Plain → Type 0
@@ -73,10 +153,20 @@ ReferenceFine s m c Nothing = Unit {0}
 ReferenceFine s m c (Object j) = ObjectOf s m j c
 ReferenceFine s m c _ = ⊥
 
+-- each reference is one to an object
+abbrev pub NamesObject : Source → Instances → Plain → Type 0
+NamesObject s m (Object j) = (c : ℕ) × ObjectOf s m j c
+NamesObject s m p = Unit {0}
+
+abbrev pub PlainFine : Source → Instances → Holds → Plain → Type 0
+PlainFine s m (Simply k) p = (kind_of p ≡ k) × NamesObject s m p
+PlainFine s m (Refers c) p = ReferenceFine s m c p
+PlainFine s m (ArrayOf h) p = ⊥
+
 abbrev pub ValFine : Source → AllArrays → Instances → ℕ → Holds → Val → Type 0
-ValFine s o m j (Simply k) (Of p) = kind_of p ≡ k
+ValFine s o m j (Simply k) (Of p) = (kind_of p ≡ k) × NamesObject s m p
 ValFine s o m j (Refers c) (Of p) = ReferenceFine s m c p
-ValFine s o m j (ArrayOf k) (ArrayValue a) = ArrayFine o j k a
+ValFine s o m j (ArrayOf h) (ArrayValue a) = ArrayFine o m j h a
 ValFine s o m j _ _ = ⊥
 
 -- what a variable may hold
@@ -84,8 +174,6 @@ abbrev pub IsPlain : Holds → Type 0
 IsPlain (Simply k) = Unit {0}
 IsPlain (Refers c) = Unit {0}
 IsPlain (ArrayOf k) = ⊥
-
--- ---- cells
 
 -- A cell has what it holds; one of an array may have nothing yet.
 abbrev pub CellFine : Source → AllArrays → Instances → ℕ → Option Holds → Option Val → Type 0
@@ -99,83 +187,59 @@ abbrev pub CellsFine : Source → AllArrays → Instances → (instance text : �
 CellsFine s o m j t [] = Unit {0}
 CellsFine s o m j t (h ∷ hs) = CellFine s o m j (key_holds s t h.key) h.value × CellsFine s o m j t hs
 
-abbrev pub key_of : Held → Key
-key_of h = h.key
-
-abbrev pub keys_in : Source → ℕ → Option Text → List Key
-keys_in s t None = []
-keys_in s t (Some x) = map key_of (first_cells s t x)
-
-pub data KeyAmong (key : Key) : List Key → Type 0 where
-  first_key : {ks : List Key} → KeyAmong key (key ∷ ks)
-  later_key : {k : Key} {ks : List Key} → KeyAmong key ks → KeyAmong key (k ∷ ks)
-
--- the arrays of an instance are made, but for these
-abbrev pub Made : Source → (text : ℕ) → List DeclNo → List Held → Type 0
-Made s t todo hs = (d : DeclNo) (k : Kind) → key_holds s t (Declared d.0) ≡ Some (ArrayOf k) → KeyAmong (Declared d.0) (keys_in s t (text s t)) → held (Declared d.0) hs ≡ None → Among d todo
-
 -- ---- the store
 
--- an instance of a text that was not given back, whose arrays are made but for these
-pub record Present (s : Source) (m : Instances) (j t : ℕ) (todo : List DeclNo) : Type 0 where
-  pub now : Instance (List Held)
-  pub lives : live m j ≡ Some now
-  pub of_text : now.text ≡ t
-  pub words : Text
-  pub has_text : text s t ≡ Some words
-  pub made : Made s t todo now.cells
-
-abbrev pub Whole : Source → Instances → (j t : ℕ) → Type 0
-Whole s m j t = Present s m j t []
-
--- The encloser of an instance of a text is older, and is a whole one of the text around.
+-- The encloser of an instance of a text is older, is known to it, and is a whole one of the text around.
 pub data Enclosed (s : Source) (m : Instances) (j t : ℕ) (out : Option ℕ) : Type 0 where
   alone : out ≡ None → encloser s.tables t ≡ None → Enclosed s m j t out
-  within : {e u : ℕ} → out ≡ Some e → encloser s.tables t ≡ Some u → e < j → Whole s m e u → Enclosed s m j t out
+  within : {e u : ℕ} → out ≡ Some e → encloser s.tables t ≡ Some u → e < j → Knows m j e → Whole s m e u → Enclosed s m j t out
 
--- An instance is as its text says: its cells are the text's and hold what they should, and it is given back at its end.
-pub record InstanceFine (s : Source) (o : AllArrays) (m : Instances) (j t : ℕ) (x : Instance (List Held)) : Type 0 where
-  pub level : x.level ≡ level_of s t
-  pub keys : map key_of x.cells ≡ keys_in s t (text s t)
-  pub cells : CellsFine s o m j t x.cells
-  pub ends : (x.passing && not x.kept) ≡ true
-  pub out : Enclosed s m j t x.encloser
+-- An instance is as its text says: it has the text's cells, each holds what it should, and it is given back at its end if the text is class-free.
+pub record InstanceFine (s : Source) (o : AllArrays) (m : Instances) (j : ℕ) (x : Instance (List Held)) : Type 0 where
+  pub level : x.level ≡ level_of s x.text
+  pub solid : is_connection (text s x.text) ≡ false
+  pub keys : (key : Key) → KeyAmong key (keys_in s x.text (text s x.text)) → KeyAmong key (map key_of x.cells)
+  pub cells : CellsFine s o m j x.text x.cells
+  pub ends : x.passing ≡ is_class_free s x.text
+  pub not_kept : x.kept ≡ false
+  pub out : Enclosed s m j x.text x.encloser
 
--- Each instance that was not given back is as its text says, wherever it stands.
-abbrev pub StoreFine : Source → AllArrays → Instances → Type 0
-StoreFine s o m = (j : ℕ) (x : Instance (List Held)) → live m j ≡ Some x → InstanceFine s o m j x.text x
+-- Each instance that was not given back is as its text says, wherever it stands, and each element of an array holds what the array's do.
+pub record StoreFine (s : Source) (o : AllArrays) (m : Instances) : Type 0 where
+  pub instances : (j : ℕ) (x : Instance (List Held)) → live m j ≡ Some x → InstanceFine s o m j x
+  pub elements : (a i : ℕ) (it : OneArray) (x : Sight) (p : Plain) → unless_given (slice_get o.real a) ≡ Some it → slice_get o.sights a ≡ Some x → slice_get it.elements i ≡ Some p → PlainFine s m (elements_of x) p
 
 -- an instance whose arrays are made but for these, in such a store
 pub record Begun (s : Source) (o : AllArrays) (m : Instances) (j t : ℕ) (todo : List DeclNo) : Type 0 where
   pub store : StoreFine s o m
   pub here : Present s m j t todo
+  pub own : (here.now).text ≡ t
 
 -- ---- values in hand
 
--- a value; where a variable or an element lies; where an image lies; an instance of a text; a copy for a parameter by value
+-- a value; where a variable or an element lies; where a reference lies, with its qualification; where an image lies; an instance of a text; a
+-- copy for a parameter by value; an array that is kept
 pub data Kinds : Type 0 where
   Value : Holds → Kinds
   AddressOf : Holds → Kinds
+  ReferenceAddress : (class : ℕ) → Kinds
   ImageAddress : Kinds
   LinkTo : (text : ℕ) → Kinds
-  Copied : Kind → Kinds
+  Copied : Holds → Kinds
+  Lasting : Holds → Kinds
 
-pub record ElementFine (o : AllArrays) (j : ℕ) (k : Kind) (a n : ℕ) : Type 0 where
-  pub array : ArrayFine o j k a
+pub record ElementFine (o : AllArrays) (m : Instances) (j : ℕ) (h : Holds) (a n : ℕ) : Type 0 where
+  pub array : ArrayFine o m j h a
   pub there : n < length (array.it).elements
 
--- an element of an array that holds this
-abbrev pub ElementHolds : AllArrays → ℕ → Holds → (array element : ℕ) → Type 0
-ElementHolds o j (Simply k) a n = ElementFine o j k a n
-ElementHolds o j _ a n = ⊥
-
--- a cell that a value is assigned to
+-- a cell that holds what it should: of an instance whose arrays are made, but for some others
 pub record CellTarget (s : Source) (m : Instances) (j e : ℕ) (key : Key) (h : Holds) : Type 0 where
   pub around : ℕ
-  pub before : e ≤ j
-  pub whole : Whole s m e around
+  pub todo : List DeclNo
+  pub near : Knows m j e
+  pub here : Present s m e around todo
+  pub ready : (d : DeclNo) → key ≡ Declared d.0 → Among d todo → ⊥
   pub holds : key_holds s around key ≡ Some h
-  pub plain : IsPlain h
   pub there : KeyAmong key (keys_in s around (text s around))
 
 abbrev pub IsImage : ℕ → Type 0
@@ -185,10 +249,13 @@ IsImage (suc (suc n)) = ⊥
 
 abbrev pub HandFine : Source → AllArrays → Instances → ℕ → Kinds → Val → Type 0
 HandFine s o m j (Value h) v = ValFine s o m j h v
-HandFine s o m j (AddressOf h) (Address (ElementPlace a n None)) = ElementHolds o j h a n
+HandFine s o m j (AddressOf h) (Address (ElementPlace a n None)) = ElementFine o m j h a n
 HandFine s o m j (AddressOf h) (Address (CellPlace e key None)) = CellTarget s m j e key h
+HandFine s o m j (ReferenceAddress c) (Address (ElementPlace a n (Some k))) = (k ≡ c) × ElementFine o m j (Refers c) a n
+HandFine s o m j (ReferenceAddress c) (Address (CellPlace e key (Some k))) = (k ≡ c) × CellTarget s m j e key (Refers c)
 HandFine s o m j ImageAddress (Address (ImagePlace n)) = IsImage n
-HandFine s o m j (LinkTo u) (Link e) = (e ≤ j) × Whole s m e u
+HandFine s o m j (LinkTo u) (Link e) = Knows m j e × Whole s m e u
+HandFine s o m j (Lasting h) (ArrayValue a) = KeptFine o h a
 HandFine s o m j _ _ = ⊥
 
 -- with so many values below
@@ -197,8 +264,10 @@ DeepFine s o m j d (Copied k) (ArrayValue a) = CopyFine o j d k a
 DeepFine s o m j d (Copied k) _ = ⊥
 DeepFine s o m j d (Value h) v = ValFine s o m j h v
 DeepFine s o m j d (AddressOf k) v = HandFine s o m j (AddressOf k) v
+DeepFine s o m j d (ReferenceAddress c) v = HandFine s o m j (ReferenceAddress c) v
 DeepFine s o m j d ImageAddress v = HandFine s o m j ImageAddress v
 DeepFine s o m j d (LinkTo u) v = HandFine s o m j (LinkTo u) v
+DeepFine s o m j d (Lasting h) v = HandFine s o m j (Lasting h) v
 
 abbrev pub HandsFine : Source → AllArrays → Instances → ℕ → List Kinds → List Val → Type 0
 HandsFine s o m j [] [] = Unit {0}
@@ -223,15 +292,16 @@ abbrev pub OneKinds : Monadic → Kind → Type 0
 OneKinds monadic.Negate k = k ≡ kind.Integer
 OneKinds monadic.Not k = k ≡ kind.Boolean
 
--- a cell of a whole instance, or one of its own that is made
+-- a cell of an instance; one of its own that is made by then; or that of a connection in which one stands
 pub data CellIs (s : Source) (m : Instances) (j t : ℕ) (todo : List DeclNo) (e : ℕ) (key : Key) (h : Holds) : Type 0 where
-  in_whole : {u : ℕ} → e ≤ j → Whole s m e u → key_holds s u key ≡ Some h → KeyAmong key (keys_in s u (text s u)) → CellIs s m j t todo e key h
+  in_instance : CellTarget s m j e key h → CellIs s m j t todo e key h
   own_made : {d : DeclNo} → e ≡ j → key ≡ Declared d.0 → key_holds s t key ≡ Some h → KeyAmong key (keys_in s t (text s t)) → (Among d todo → ⊥) → CellIs s m j t todo e key h
+  in_connection : {c : ℕ} → Knows m j e → Whole s m e c → is_connection (text s c) ≡ true → key ≡ cell_of_connection s c → h ≡ reference_to (base s.tables c) → CellIs s m j t todo e key h
 
 -- what the cells of formal parameters hold, and what is in hand for them: of an array by value a copy
-abbrev pub holds_of : List Formal → List (Option Holds)
-holds_of [] = []
-holds_of (f ∷ fs) = formal_holds f.mode f.kind f.ty ∷ holds_of fs
+abbrev pub holds_of : Source → List Formal → List (Option Holds)
+holds_of s [] = []
+holds_of s (f ∷ fs) = formal_holds s f.mode f.kind f.ty ∷ holds_of s fs
 
 abbrev pub in_hand : (by_value : Bool) → Option Holds → Option Kinds
 in_hand true (Some (ArrayOf k)) = Some (Copied k)
@@ -240,35 +310,80 @@ in_hand true (Some (Refers c)) = Some (Value (Refers c))
 in_hand true None = None
 in_hand false h = held_kinds h
 
-abbrev pub formal_kinds : List Formal → List (Option Kinds)
-formal_kinds [] = []
-formal_kinds (f ∷ fs) = in_hand (is_array_by_value f.mode f.kind) (formal_holds f.mode f.kind f.ty) ∷ formal_kinds fs
+abbrev pub formal_kinds : Source → List Formal → List (Option Kinds)
+formal_kinds s [] = []
+formal_kinds s (f ∷ fs) = in_hand (is_array_by_value f.mode f.kind) (formal_holds s f.mode f.kind f.ty) ∷ formal_kinds s fs
 
-pub record CallFine (s : Source) (m : Instances) (j e k : ℕ) (g : Option Kinds) (Actuals : List (Option Kinds) → Type 0) : Type 0 where
-  pub around : ℕ
-  pub before : e ≤ j
-  pub whole : Whole s m e around
+-- of a class: an array by reference is kept
+abbrev pub kept_kinds : Mode → FormalKind → Option Kinds → Option Kinds
+kept_kinds mode.ByReference shape.Array (Some (Value (ArrayOf h))) = Some (Lasting h)
+kept_kinds _ _ k = k
+
+abbrev pub class_kinds : Source → List Formal → List (Option Kinds)
+class_kinds s [] = []
+class_kinds s (f ∷ fs) = kept_kinds f.mode f.kind (in_hand (is_array_by_value f.mode f.kind) (formal_holds s f.mode f.kind f.ty)) ∷ class_kinds s fs
+
+-- a call gives what its procedure's result fits
+abbrev pub GivesResult : Source → (procedure : ℕ) → Option Kinds → Type 0
+GivesResult s k g = (h : Option Holds) × FitsIn s (result_holds s k) h × (held_kinds h ≡ g)
+
+-- a procedure that is declared in a text
+pub record ProcedureIn (s : Source) (k around : ℕ) : Type 0 where
   pub stands_in : encloser s.tables k ≡ Some around
   pub result : Option TypeName
   pub heading : Heading
   pub body : Statement
   pub is : text s k ≡ Some (ProcedureText result heading body)
-  pub gives : held_kinds (result_holds (text s k)) ≡ g
-  pub actuals : Actuals (formal_kinds (formals_of s k))
 
--- where something is read: what a variable or an element holds, or the text that an image is
-abbrev pub Leads : Kinds → Holds → Type 0
-Leads (AddressOf h') h = h' ≡ h
-Leads ImageAddress h = h ≡ Simply kind.Text
-Leads _ h = ⊥
+pub record ClassIn (s : Source) (k around : ℕ) : Type 0 where
+  pub stands_in : encloser s.tables k ≡ Some around
+  pub prefix : Option Identifier
+  pub heading : Heading
+  pub declarations : Declarations
+  pub statements : Statements
+  pub is : text s k ≡ Some (ClassText prefix heading declarations statements)
+
+pub record CallFine (s : Source) (m : Instances) (j e k : ℕ) (g : Option Kinds) (Actuals : List (Option Kinds) → Type 0) : Type 0 where
+  pub around : ℕ
+  pub near : Knows m j e
+  pub whole : Whole s m e around
+  pub procedure : ProcedureIn s k around
+  pub gives : GivesResult s k g
+  pub actuals : Actuals (formal_kinds s (formals_of s k))
+
+pub record NewFine (s : Source) (m : Instances) (j e k : ℕ) (g : Option Kinds) (Actuals : List (Option Kinds) → Type 0) : Type 0 where
+  pub around : ℕ
+  pub near : Knows m j e
+  pub whole : Whole s m e around
+  pub class : ClassIn s k around
+  pub holds : Holds
+  pub fits : Fits s (Refers k) holds
+  pub gives : Some (Value holds) ≡ g
+  pub actuals : Actuals (class_kinds s (class_parameters s (Some k)))
+
+-- an attribute that the class of a text declares, of an object of a class that has it among its levels
+pub record AttributeFine (s : Source) (text_of : ℕ) (key : Key) (holds : Holds) (class : ℕ) : Type 0 where
+  pub level : has_level s.tables class text_of ≡ true
+  pub is : is_class (text s text_of) ≡ true → key_holds s text_of key ≡ Some holds
+  pub there : is_class (text s text_of) ≡ true → KeyAmong key (keys_in s text_of (text s text_of))
+
+-- where it lies, with the qualification that is held against
+abbrev pub Addressed : (class : Option ℕ) → Holds → Kinds → Type 0
+Addressed None h x = AddressOf h ≡ x
+Addressed (Some k) h x = (h ≡ Refers k) × (ReferenceAddress k ≡ x)
+
+-- where something is read: what fits in what a variable or an element holds, or the text that an image is
+abbrev pub Leads : Source → Kinds → Holds → Type 0
+Leads s (AddressOf h') h = Fits s h' h
+Leads s ImageAddress h = h ≡ Simply kind.Text
+Leads s _ h = ⊥
 
 -- an operand of a kind: a value in hand, or where a text lies
 abbrev pub OperandIs : Kind → Kinds → Type 0
 OperandIs k (Value h) = h ≡ Simply k
 OperandIs k (AddressOf h) = (k ≡ kind.Text) × (h ≡ Simply kind.Text)
 OperandIs k ImageAddress = k ≡ kind.Text
-OperandIs k (LinkTo t) = ⊥
-OperandIs k (Copied k') = ⊥
+OperandIs k _ = ⊥
 
 abbrev pub OperandsAre : List Kind → List Kinds → Type 0
 OperandsAre [] [] = Unit {0}
@@ -276,23 +391,37 @@ OperandsAre [] (x ∷ xs) = ⊥
 OperandsAre (k ∷ ks) [] = ⊥
 OperandsAre (k ∷ ks) (x ∷ xs) = OperandIs k x × OperandsAre ks xs
 
+-- a value that comes to be held, which fits in what is wanted
+abbrev pub Comes : Source → Holds → Option Kinds → Type 0
+Comes s h g = (h' : Holds) × Fits s h h' × (Some (Value h') ≡ g)
+
 abbrev mutual
   -- in an instance j of the text t
   pub TermFine : Source → Instances → (j t : ℕ) → List DeclNo → Term → Option Kinds → Type 0
-  TermFine s m j t todo (Given p) g = simple (kind_of p) ≡ g
-  TermFine s m j t todo (Cell e key) g = (h : Holds) × (Some (Value h) ≡ g) × CellIs s m j t todo e key h
+  TermFine s m j t todo (Given p) g = (h : Holds) × (Some (Value h) ≡ g) × PlainFine s m h p
+  TermFine s m j t todo (Cell e key) g = (h : Holds) × Comes s h g × CellIs s m j t todo e key h
   TermFine s m j t todo (One op line a) g = (k : Kind) × OneKinds op k × (simple k ≡ g) × TermFine s m j t todo a (simple k)
   TermFine s m j t todo (Two op line a b) g = (k : Kind) × (v : Kind) × TwoKinds op k v × (simple v ≡ g) × TermFine s m j t todo a (simple k) × TermFine s m j t todo b (simple k)
   TermFine s m j t todo (Either c a b) g = (h : Kinds) × (Some h ≡ g) × TermFine s m j t todo c (simple kind.Boolean) × TermFine s m j t todo a g × TermFine s m j t todo b g
-  TermFine s m j t todo (ElementOf line a ts) g = (k : Kind) × (Some (AddressOf (Simply k)) ≡ g) × TermFine s m j t todo a (Some (Value (ArrayOf k))) × IntegersFine s m j t todo ts
-  TermFine s m j t todo (ValueAt a) g = (h : Holds) × (x : Kinds) × Leads x h × (Some (Value h) ≡ g) × TermFine s m j t todo a (Some x)
+  TermFine s m j t todo (ElementOf line a ts) g = (k : Holds) × (Some (AddressOf k) ≡ g) × TermFine s m j t todo a (Some (Value (ArrayOf k))) × IntegersFine s m j t todo ts
+  TermFine s m j t todo (ValueAt a) g = (h : Holds) × (x : Kinds) × Leads s x h × (Some (Value h) ≡ g) × TermFine s m j t todo a (Some x)
   TermFine s m j t todo (PlaceOf e key) g = (h : Holds) × (Some (AddressOf h) ≡ g) × CellTarget s m j e key h
   TermFine s m j t todo (ImageOf n) g = (Some ImageAddress ≡ g) × IsImage n
   TermFine s m j t todo (Joined line a b) g = (simple kind.Text ≡ g) × TermFine s m j t todo a (simple kind.Text) × TermFine s m j t todo b (simple kind.Text)
-  TermFine s m j t todo (CopyOf line a) g = (k : Kind) × (Some (Copied k) ≡ g) × TermFine s m j t todo a (Some (Value (ArrayOf k)))
+  TermFine s m j t todo (CopyOf line a) g = (k : Holds) × (Some (Copied k) ≡ g) × TermFine s m j t todo a (Some (Value (ArrayOf k)))
   TermFine s m j t todo (CallOf e k ts line) g = CallFine s m j e k g (TermsFine s m j t todo ts)
   TermFine s m j t todo (StandardOf name ts line) g = (name_runs name ≡ true) × (held_kinds (some_holds (standard_kind (row_of name).result)) ≡ g) × (xs : List Kinds) × OperandsAre (operands_of (row_of name).function) xs × OperandsFine s m j t todo ts xs
-  TermFine s m j t todo _ g = ⊥
+  -- objects and references
+  TermFine s m j t todo (NewOf e k ts line) g = NewFine s m j e k g (TermsFine s m j t todo ts)
+  TermFine s m j t todo (AttributeOf u key class line a) g = (c : ℕ) × (h : Holds) × (x : Kinds) × AttributeFine s u key h c × Addressed class h x × (Some x ≡ g) × TermFine s m j t todo a (Some (Value (Refers c)))
+  TermFine s m j t todo (RemoteCallOf a k ts line) g = (c : ℕ) × (u : ℕ) × (has_level s.tables c u ≡ true) × ProcedureIn s k u × GivesResult s k g × TermFine s m j t todo a (Some (Value (Refers c))) × TermsFine s m j t todo ts (formal_kinds s (formals_of s k))
+  TermFine s m j t todo (QualifiedPlaceOf e key c) g = (Some (ReferenceAddress c) ≡ g) × CellTarget s m j e key (Refers c)
+  TermFine s m j t todo (QualifiedElementOf line c a ts) g = (Some (ReferenceAddress c) ≡ g) × TermFine s m j t todo a (Some (Value (ArrayOf (Refers c)))) × IntegersFine s m j t todo ts
+  TermFine s m j t todo (MemberOf member c a) g = (simple kind.Boolean ≡ g) × TermFine s m j t todo a (simple kind.Reference)
+  TermFine s m j t todo (QuaOf c line a) g = Comes s (Refers c) g × TermFine s m j t todo a (simple kind.Reference)
+  TermFine s m j t todo (FitsOf c line a) g = Comes s (Refers c) g × TermFine s m j t todo a (simple kind.Reference)
+  TermFine s m j t todo (KeptOf a) g = (h : Holds) × (Some (Lasting h) ≡ g) × TermFine s m j t todo a (Some (Value (ArrayOf h)))
+  TermFine s m j t todo Unbuilt g = ⊥
 
   pub IntegersFine : Source → Instances → (j t : ℕ) → List DeclNo → Terms → Type 0
   IntegersFine s m j t todo NoTerm = Unit {0}
@@ -322,61 +451,102 @@ abbrev pub integers : ℕ → List Kinds → List Kinds
 integers zero ks = ks
 integers (suc n) ks = Value (Simply kind.Integer) ∷ integers n ks
 
--- what a value is assigned to
-abbrev pub TargetFine : Source → Instances → ℕ → Target → Holds → (before behind : List Kinds) → Type 0
-TargetFine s m j (ToCell e key) h before behind = CellTarget s m j e key h × (before ≡ behind)
-TargetFine s m j ToAddress h before behind = before ≡ AddressOf h ∷ behind
-TargetFine s m j (ToText line) h before behind = (h ≡ Simply kind.Text) × (before ≡ Value (Simply kind.Text) ∷ behind)
-TargetFine s m j (ToTextOf e key line) h before behind = (h ≡ Simply kind.Text) × (before ≡ Value (Simply kind.Text) ∷ behind)
-TargetFine s m j _ h before behind = ⊥
+-- what a value is assigned to, in a statement
+abbrev pub TargetFine : Source → Instances → (j t : ℕ) → Target → Holds → (before behind : List Kinds) → Type 0
+TargetFine s m j t (ToCell e key) h before behind = CellTarget s m j e key h × (before ≡ behind)
+TargetFine s m j t ToAddress h before behind = before ≡ AddressOf h ∷ behind
+TargetFine s m j t (ToText line) h before behind = (h ≡ Simply kind.Text) × (before ≡ Value (Simply kind.Text) ∷ behind)
+TargetFine s m j t (ToTextOf e key line) h before behind = (h ≡ Simply kind.Text) × (before ≡ Value (Simply kind.Text) ∷ behind)
+TargetFine s m j t (ToReference line) h before behind = (h ≡ Simply kind.Reference) × (c : ℕ) × (before ≡ ReferenceAddress c ∷ behind)
+TargetFine s m j t (ToPlace a) h before behind = TermFine s m j t [] a (Some (AddressOf h)) × (before ≡ behind)
+TargetFine s m j t (ToTextAt a line) h before behind = (h ≡ Simply kind.Text) × (before ≡ Value (Simply kind.Text) ∷ behind)
+TargetFine s m j t (ToReferenceAt a line) h before behind = (h ≡ Simply kind.Reference) × (before ≡ behind) × (c : ℕ) × TermFine s m j t [] a (Some (ReferenceAddress c))
 
-abbrev pub TargetsFine : Source → Instances → ℕ → List Target → Holds → (before behind : List Kinds) → Type 0
-TargetsFine s m j [] h before behind = behind ≡ before
-TargetsFine s m j (x ∷ xs) h before behind = (next : List Kinds) × TargetFine s m j x h before next × TargetsFine s m j xs h next behind
+abbrev pub TargetsFine : Source → Instances → (j t : ℕ) → List Target → Holds → (before behind : List Kinds) → Type 0
+TargetsFine s m j t [] h before behind = behind ≡ before
+TargetsFine s m j t (x ∷ xs) h before behind = (next : List Kinds) × TargetFine s m j t x h before next × TargetsFine s m j t xs h next behind
 
--- a target that is a cell, the variable of a `for` list
-abbrev pub VariableFine : Source → Instances → ℕ → Target → Kind → Type 0
-VariableFine s m j (ToCell e key) k = CellTarget s m j e key (Simply k)
-VariableFine s m j ToAddress k = ⊥
-VariableFine s m j (ToText line) k = ⊥
-VariableFine s m j (ToTextOf e key line) k = CellTarget s m j e key (Simply k) × (k ≡ kind.Text)
-VariableFine s m j _ k = ⊥
+-- the variable of a `for` list, which takes values of a kind
+abbrev pub VariableFine : Source → Instances → (j t : ℕ) → Target → Kind → Type 0
+VariableFine s m j t (ToCell e key) k = CellTarget s m j e key (Simply k)
+VariableFine s m j t ToAddress k = ⊥
+VariableFine s m j t (ToText line) k = ⊥
+VariableFine s m j t (ToTextOf e key line) k = CellTarget s m j e key (Simply k) × (k ≡ kind.Text)
+VariableFine s m j t (ToReference line) k = ⊥
+VariableFine s m j t (ToPlace a) k = TermFine s m j t [] a (Some (AddressOf (Simply k)))
+VariableFine s m j t (ToTextAt a line) k = TermFine s m j t [] a (Some (AddressOf (Simply k))) × (k ≡ kind.Text)
+VariableFine s m j t (ToReferenceAt a line) k = (k ≡ kind.Reference) × (c : ℕ) × TermFine s m j t [] a (Some (ReferenceAddress c))
 
 pub record CallOpFine (s : Source) (k n : ℕ) (before behind : List Kinds) : Type 0 where
   pub around : ℕ
-  pub stands_in : encloser s.tables k ≡ Some around
-  pub result : Option TypeName
-  pub heading : Heading
-  pub body : Statement
-  pub is : text s k ≡ Some (ProcedureText result heading body)
+  pub procedure : ProcedureIn s k around
   pub left : List Kinds
-  pub «in» : before ≡ onto (formal_kinds (formals_of s k)) (LinkTo around ∷ left)
+  pub «in» : before ≡ onto (formal_kinds s (formals_of s k)) (LinkTo around ∷ left)
   pub count : n ≡ length (formals_of s k)
-  pub out : behind ≡ given (held_kinds (result_holds (text s k))) left
+  pub gives : Option Kinds
+  pub result : GivesResult s k gives
+  pub out : behind ≡ given gives left
+
+pub record NewOpFine (s : Source) (k n : ℕ) (before behind : List Kinds) : Type 0 where
+  pub around : ℕ
+  pub class : ClassIn s k around
+  pub left : List Kinds
+  pub «in» : before ≡ onto (class_kinds s (class_parameters s (Some k))) (LinkTo around ∷ left)
+  pub count : n ≡ length (class_parameters s (Some k))
+  pub holds : Holds
+  pub fits : Fits s (Refers k) holds
+  pub out : behind ≡ Value holds ∷ left
 
 -- an array goes into the cell that waits for it
 pub record ArrayStored (s : Source) (j t : ℕ) (todo todo' : List DeclNo) (x : Target) (before behind : List Kinds) : Type 0 where
   pub declaration : DeclNo
-  pub kind : Kind
+  pub element : Holds
   pub is : x ≡ ToCell j (Declared declaration.0)
-  pub holds : key_holds s t (Declared declaration.0) ≡ Some (ArrayOf kind)
+  pub holds : key_holds s t (Declared declaration.0) ≡ Some (ArrayOf element)
   pub there : KeyAmong (Declared declaration.0) (keys_in s t (text s t))
   pub waits : todo ≡ declaration ∷ todo'
-  pub «in» : before ≡ Value (ArrayOf kind) ∷ behind
+  pub «in» : before ≡ Value (ArrayOf element) ∷ behind
 
 pub data StoreOpFine (s : Source) (o : AllArrays) (m : Instances) (j t : ℕ) (todo todo' : List DeclNo) (x : Target) (before behind : List Kinds) : Type 0 where
-  value_stored : (h : Holds) (next : List Kinds) → before ≡ Value h ∷ next → TargetFine s m j x h next behind → todo' ≡ todo → StoreOpFine s o m j t todo todo' x before behind
+  value_stored : (k : Kind) (next : List Kinds) → before ≡ Value (Simply k) ∷ next → TargetFine s m j t x (Simply k) next behind → todo ≡ [] → todo' ≡ todo → StoreOpFine s o m j t todo todo' x before behind
   array_stored : ArrayStored s j t todo todo' x before behind → StoreOpFine s o m j t todo todo' x before behind
 
 -- a statement, or part of one: all arrays are made
 abbrev pub Ready : (todo todo' : List DeclNo) → (before behind : List Kinds) → (Is : Type 0) → Type 0
 Ready todo todo' before behind Is = (todo ≡ []) × (todo' ≡ []) × (behind ≡ before) × Is
 
+-- it stands in a text for which the instance stands
+pub record Site (s : Source) (m : Instances) (j t : ℕ) : Type 0 where
+  pub now : Instance (List Held)
+  pub lives : live m j ≡ Some now
+  pub stands : StandsFor s now t
+
+abbrev pub Sited : Source → Instances → ℕ → (Is : ℕ → Type 0) → Type 0
+Sited s m j Is = (u : ℕ) × Site s m j u × Is u
+
 -- what a copy of an array is: one that all may know, or one for a parameter by value
-abbrev pub IsCopy : Kind → Kinds → Type 0
+abbrev pub IsCopy : Holds → Kinds → Type 0
 IsCopy k (Value h) = h ≡ ArrayOf k
 IsCopy k (Copied k') = k' ≡ k
 IsCopy k _ = ⊥
+
+-- what is held is a reference or a value of a kind
+abbrev pub IsAddress : Kinds → Type 0
+IsAddress (AddressOf h) = Unit {0}
+IsAddress (ReferenceAddress c) = Unit {0}
+IsAddress _ = ⊥
+
+-- the levels inside: each is one for which the instance stands
+abbrev pub LevelsFine : Source → Instances → ℕ → List Level → Type 0
+LevelsFine s m j [] = Unit {0}
+LevelsFine s m j (x ∷ xs) = Site s m j x.text × StatementsAre s x.text x.statements × LevelsFine s m j xs
+
+-- the arrays of the text are made, which are its own
+pub record DeclareFine (s : Source) (t : ℕ) (ds : Declarations) (todo : List DeclNo) : Type 0 where
+  pub waits : todo ≡ arrays_of_block s ds
+  pub arrays : ArraysTyped s (InBound t) ds
+  pub distinct : Distinct (arrays_of_block s ds)
+  pub own : (d : DeclNo) → Among d (arrays_of_block s ds) → Among d (numbers_of s t)
 
 -- An operator in an instance j of the text t: with values of these kinds in hand and these arrays still to be made, and behind it.
 abbrev pub OpFine : Source → AllArrays → Instances → (j t : ℕ) → Op → (todo todo' : List DeclNo) → (before behind : List Kinds) → Type 0
@@ -384,47 +554,89 @@ OpFine s o m j t (Eval x) todo todo' before behind = (g : Option Kinds) × TermF
 OpFine s o m j t (OneOp op line) todo todo' before behind = (k : Kind) × (left : List Kinds) × OneKinds op k × (before ≡ Value (Simply k) ∷ left) × (behind ≡ before) × (todo' ≡ todo)
 OpFine s o m j t (TwoOp op line) todo todo' before behind = (k : Kind) × (v : Kind) × (left : List Kinds) × TwoKinds op k v × (before ≡ Value (Simply k) ∷ Value (Simply k) ∷ left) × (behind ≡ Value (Simply v) ∷ left) × (todo' ≡ todo)
 OpFine s o m j t (IfOp a b) todo todo' before behind = (h : Kinds) × (left : List Kinds) × TermFine s m j t todo a (Some h) × TermFine s m j t todo b (Some h) × (before ≡ Value (Simply kind.Boolean) ∷ left) × (behind ≡ h ∷ left) × (todo' ≡ todo)
-OpFine s o m j t (ElementOp n line) todo todo' before behind = (k : Kind) × (left : List Kinds) × (before ≡ integers n (Value (ArrayOf k) ∷ left)) × (behind ≡ AddressOf (Simply k) ∷ left) × (todo' ≡ todo)
-OpFine s o m j t FetchOp todo todo' before behind = (h : Holds) × (x : Kinds) × (left : List Kinds) × Leads x h × (before ≡ x ∷ left) × (behind ≡ Value h ∷ left) × (todo' ≡ todo)
+OpFine s o m j t (ElementOp n line) todo todo' before behind = (k : Holds) × (left : List Kinds) × (before ≡ integers n (Value (ArrayOf k) ∷ left)) × (behind ≡ AddressOf k ∷ left) × (todo' ≡ todo)
+OpFine s o m j t FetchOp todo todo' before behind = (h : Holds) × (x : Kinds) × (left : List Kinds) × Leads s x h × (before ≡ x ∷ left) × (behind ≡ Value h ∷ left) × (todo' ≡ todo)
 OpFine s o m j t (JoinOp line) todo todo' before behind = (left : List Kinds) × (before ≡ Value (Simply kind.Text) ∷ Value (Simply kind.Text) ∷ left) × (behind ≡ Value (Simply kind.Text) ∷ left) × (todo' ≡ todo)
-OpFine s o m j t (CopyOp line) todo todo' before behind = (k : Kind) × (left : List Kinds) × (c : Kinds) × IsCopy k c × (before ≡ Value (ArrayOf k) ∷ left) × (behind ≡ c ∷ left) × (todo' ≡ todo)
+OpFine s o m j t (CopyOp line) todo todo' before behind = (k : Holds) × (left : List Kinds) × (c : Kinds) × IsCopy k c × (before ≡ Value (ArrayOf k) ∷ left) × (behind ≡ c ∷ left) × (todo' ≡ todo)
 OpFine s o m j t (CallOp k n line) todo todo' before behind = CallOpFine s k n before behind × (todo' ≡ todo)
 OpFine s o m j t (StandardOp name line) todo todo' before behind =
     (left : List Kinds) × (xs : List Kinds) × (name_runs name ≡ true) × OperandsAre (operands_of (row_of name).function) xs × (before ≡ pushed xs left) × (behind ≡ given (held_kinds (some_holds (standard_kind (row_of name).result))) left) × (todo' ≡ todo)
+-- objects and references
+OpFine s o m j t (NewOp k n line) todo todo' before behind = NewOpFine s k n before behind × (todo' ≡ todo)
+OpFine s o m j t (AttributeOp u key class line) todo todo' before behind =
+    (c : ℕ) × (h : Holds) × (x : Kinds) × (left : List Kinds) × AttributeFine s u key h c × Addressed class h x × (before ≡ Value (Refers c) ∷ left) × (behind ≡ x ∷ left) × (todo' ≡ todo)
+OpFine s o m j t (ObjectOp k line) todo todo' before behind =
+    (c : ℕ) × (u : ℕ) × (left : List Kinds) × (has_level s.tables c u ≡ true) × (encloser s.tables k ≡ Some u) × (before ≡ Value (Refers c) ∷ left) × (behind ≡ LinkTo u ∷ left) × (todo' ≡ todo)
+OpFine s o m j t (QualifiedElementOp n line c) todo todo' before behind = (left : List Kinds) × (before ≡ integers n (Value (ArrayOf (Refers c)) ∷ left)) × (behind ≡ ReferenceAddress c ∷ left) × (todo' ≡ todo)
+OpFine s o m j t (MemberOp member c) todo todo' before behind = (left : List Kinds) × (before ≡ Value (Simply kind.Reference) ∷ left) × (behind ≡ Value (Simply kind.Boolean) ∷ left) × (todo' ≡ todo)
+OpFine s o m j t (QuaOp c line) todo todo' before behind = (h : Holds) × (left : List Kinds) × Fits s (Refers c) h × (before ≡ Value (Simply kind.Reference) ∷ left) × (behind ≡ Value h ∷ left) × (todo' ≡ todo)
+OpFine s o m j t (FitsOp c line) todo todo' before behind = (h : Holds) × (left : List Kinds) × Fits s (Refers c) h × (before ≡ Value (Simply kind.Reference) ∷ left) × (behind ≡ Value h ∷ left) × (todo' ≡ todo)
+OpFine s o m j t KeepOp todo todo' before behind = (h : Holds) × (left : List Kinds) × (before ≡ Value (ArrayOf h) ∷ left) × (behind ≡ Lasting h ∷ left) × (todo' ≡ todo)
+-- values in hand, and assignments
 OpFine s o m j t DropOp todo todo' before behind = (k : Kinds) × (before ≡ k ∷ behind) × (todo' ≡ todo)
 OpFine s o m j t AgainOp todo todo' before behind = (k : Kind) × (left : List Kinds) × (before ≡ Value (Simply k) ∷ left) × (behind ≡ Value (Simply k) ∷ before) × (todo' ≡ todo)
+OpFine s o m j t SwapOp todo todo' before behind = (x : Kinds) × (k : Kind) × (left : List Kinds) × IsAddress x × (before ≡ x ∷ Value (Simply k) ∷ left) × (behind ≡ Value (Simply k) ∷ x ∷ left) × (todo' ≡ todo)
 OpFine s o m j t (StoreOp x) todo todo' before behind = StoreOpFine s o m j t todo todo' x before behind
-OpFine s o m j t (ShareOp ts) todo todo' before behind = (h : Holds) × (next : List Kinds) × (before ≡ Value h ∷ next) × TargetsFine s m j ts h next behind × (todo' ≡ todo)
-OpFine s o m j t (GiveOp v ts) todo todo' before behind = (h : Holds) × ValFine s o m j h v × TargetsFine s m j ts h before behind × (todo' ≡ todo)
-OpFine s o m j t (ArrayOp k n line) todo todo' before behind = (left : List Kinds) × (before ≡ integers (2 * n) left) × (behind ≡ Value (ArrayOf k) ∷ left) × (todo' ≡ todo)
-OpFine s o m j t (Exec a) todo todo' before behind = Ready todo todo' before behind (StatementIs s t a)
-OpFine s o m j t (Execs ss) todo todo' before behind = Ready todo todo' before behind (StatementsAre s t ss)
+OpFine s o m j t (ShareOp ts) todo todo' before behind = (k : Kind) × (next : List Kinds) × (before ≡ Value (Simply k) ∷ next) × TargetsFine s m j t ts (Simply k) next behind × (todo ≡ []) × (todo' ≡ todo)
+OpFine s o m j t (GiveOp v ts) todo todo' before behind = (k : Kind) × ValFine s o m j (Simply k) v × TargetsFine s m j t ts (Simply k) before behind × (todo ≡ []) × (todo' ≡ todo)
+OpFine s o m j t (ReferOp line) todo todo' before behind = (c : ℕ) × (before ≡ Value (Simply kind.Reference) ∷ ReferenceAddress c ∷ behind) × (todo' ≡ todo)
+OpFine s o m j t (ArrayOp k n line) todo todo' before behind = (h : Holds) × (left : List Kinds) × IsOfKind h k × (before ≡ integers (2 * n) left) × (behind ≡ Value (ArrayOf h) ∷ left) × (todo' ≡ todo)
+-- statements
+OpFine s o m j t (Exec a) todo todo' before behind = Ready todo todo' before behind (Sited s m j (λ u. StatementIs s u a))
+OpFine s o m j t (Execs ss) todo todo' before behind = Ready todo todo' before behind (Sited s m j (λ u. StatementsAre s u ss))
 OpFine s o m j t (EnterOp k line) todo todo' before behind =
-    Ready todo todo' before behind ((encloser s.tables k ≡ Some t) × (begin : ℕ) × (ds : Declarations) × (ss : Statements) × (text s k ≡ Some (BlockText begin ds ss)))
-OpFine s o m j t (ChooseOp a b) todo todo' before behind = (todo ≡ []) × (todo' ≡ []) × (before ≡ Value (Simply kind.Boolean) ∷ behind) × StatementIs s t a × StatementsAre s t b
-OpFine s o m j t (TestOp c a) todo todo' before behind = Ready todo todo' before behind (ExprIs s (Some t) c (Simply kind.Boolean) × StatementIs s t a)
-OpFine s o m j t (BranchOp a next) todo todo' before behind = (todo ≡ []) × (todo' ≡ []) × (before ≡ Value (Simply kind.Boolean) ∷ behind) × StatementIs s t a × OpFine s o m j t next [] [] behind behind
+    Ready todo todo' before behind (Sited s m j (λ u. (encloser s.tables k ≡ Some u) × (begin : ℕ) × (ds : Declarations) × (ss : Statements) × (text s k ≡ Some (BlockText begin ds ss))))
+OpFine s o m j t (DeclareOp ds) todo todo' before behind = DeclareFine s t ds todo × (todo' ≡ []) × (before ≡ []) × (behind ≡ [])
+OpFine s o m j t (LevelOp k) todo todo' before behind = (behind ≡ before) × (todo' ≡ todo)
+OpFine s o m j t (InnerOp xs) todo todo' before behind = Ready todo todo' before behind (LevelsFine s m j xs)
+OpFine s o m j t (ConnectOp k a other) todo todo' before behind =
+    (todo ≡ []) × (todo' ≡ []) × Sited s m j (λ u. (c : ConnectionIs s u k) × (before ≡ Value (reference_to (base s.tables c.number)) ∷ behind) × StatementIs s c.number a × StatementsAre s u other)
+OpFine s o m j t (WhenOp arms other) todo todo' before behind =
+    (todo ≡ []) × (todo' ≡ []) × (before ≡ Value (Simply kind.Reference) ∷ behind) × Sited s m j (λ u. ArmsAre s u arms × StatementsAre s u other)
+OpFine s o m j t (ChooseOp a b) todo todo' before behind = (todo ≡ []) × (todo' ≡ []) × (before ≡ Value (Simply kind.Boolean) ∷ behind) × Sited s m j (λ u. StatementIs s u a × StatementsAre s u b)
+OpFine s o m j t (TestOp c a) todo todo' before behind = Ready todo todo' before behind (Sited s m j (λ u. ExprIs s (In u) c (Simply kind.Boolean) × StatementIs s u a))
+OpFine s o m j t (BranchOp a next) todo todo' before behind = (todo ≡ []) × (todo' ≡ []) × (before ≡ Value (Simply kind.Boolean) ∷ behind) × Sited s m j (λ u. StatementIs s u a) × OpFine s o m j t next [] [] behind behind
 OpFine s o m j t (BackOp op) todo todo' before behind = OpFine s o m j t op todo todo' before behind
 OpFine s o m j t PastOp todo todo' before behind = (behind ≡ before) × (todo' ≡ todo)
-OpFine s o m j t (ElementsOp x es a) todo todo' before behind = Ready todo todo' before behind ((k : Kind) × VariableFine s m j x k × ElementsAre s t k es × StatementIs s t a)
-OpFine s o m j t (WhileElementOp x e c a) todo todo' before behind = Ready todo todo' before behind ((k : Kind) × VariableFine s m j x k × ExprIs s (Some t) e (Simply k) × ExprIs s (Some t) c (Simply kind.Boolean) × StatementIs s t a)
+-- `for` lists
+OpFine s o m j t (ElementsOp x es a) todo todo' before behind = Ready todo todo' before behind (Sited s m j (λ u. (k : Kind) × VariableFine s m j t x k × ElementsAre s u k es × StatementIs s u a))
+OpFine s o m j t (WhileElementOp x e c a) todo todo' before behind =
+    Ready todo todo' before behind (Sited s m j (λ u. (k : Kind) × VariableFine s m j t x k × ExprIs s (In u) e (Simply k) × ExprIs s (In u) c (Simply kind.Boolean) × StatementIs s u a))
 OpFine s o m j t (StepTestOp x line step limit a) todo todo' before behind =
-    (todo ≡ []) × (todo' ≡ []) × (before ≡ Value (Simply kind.Integer) ∷ behind) × VariableFine s m j x kind.Integer × ExprIs s (Some t) step (Simply kind.Integer) × ExprIs s (Some t) limit (Simply kind.Integer) × StatementIs s t a
+    (todo ≡ []) × (todo' ≡ []) × (before ≡ Value (Simply kind.Integer) ∷ behind) × Sited s m j (λ u. VariableFine s m j t x kind.Integer × ExprIs s (In u) step (Simply kind.Integer) × ExprIs s (In u) limit (Simply kind.Integer) × StatementIs s u a)
 OpFine s o m j t (StepOp line) todo todo' before behind = (left : List Kinds) × (before ≡ integers 3 left) × (behind ≡ Value (Simply kind.Boolean) ∷ left) × (todo' ≡ todo)
 OpFine s o m j t (RaiseOp x line step limit a) todo todo' before behind =
-    Ready todo todo' before behind (VariableFine s m j x kind.Integer × ExprIs s (Some t) step (Simply kind.Integer) × ExprIs s (Some t) limit (Simply kind.Integer) × StatementIs s t a)
-OpFine s o m j t _ todo todo' before behind = ⊥
+    Ready todo todo' before behind (Sited s m j (λ u. VariableFine s m j t x kind.Integer × ExprIs s (In u) step (Simply kind.Integer) × ExprIs s (In u) limit (Simply kind.Integer) × StatementIs s u a))
+OpFine s o m j t (PrefixedOp k n line) todo todo' before behind = ⊥
 
--- The pending work of an instance. `Below` tells what is below on the chain where it waits for such a value, or for none; `Outermost`
--- that nothing is.
-abbrev pub WorkFine : Source → AllArrays → Instances → (Below : Option Kinds → Type 0) → (Outermost : Type 0) → (j t : ℕ) → List Item → (todo : List DeclNo) → (before : List Kinds) → Type 0
+-- an instance that is an object's
+abbrev pub IsObject : Standing Activation → Type 0
+IsObject AttachedObject = Unit {0}
+IsObject TerminatedObject = Unit {0}
+IsObject _ = ⊥
+
+abbrev pub ObjectStands : Instances → ℕ → Type 0
+ObjectStands m j = (x : Standing Activation) × (slice_get m.standings j ≡ Some x) × IsObject x
+
+-- What an activation waits for: a value or none, which is put in its hand; or that the object ends, or lets go, that it generated, whose
+-- reference it has in hand already.
+pub data Waits : Type 0 where
+  Takes : Option Kinds → Waits
+  Generated : (object class : ℕ) → Waits
+
+-- The pending work of an instance. `Below` tells what is below on the chain where it waits for this; `Outermost` that nothing is.
+abbrev pub WorkFine : Source → AllArrays → Instances → (Below : Waits → Type 0) → (Outermost : Type 0) → (j t : ℕ) → List Item → (todo : List DeclNo) → (before : List Kinds) → Type 0
 WorkFine s o m Below Outermost j t [] todo before = ⊥
 WorkFine s o m Below Outermost j t (Do op ∷ w) todo before = (todo' : List DeclNo) × (behind : List Kinds) × OpFine s o m j t op todo todo' before behind × WorkFine s o m Below Outermost j t w todo' behind
-WorkFine s o m Below Outermost j t (EndBlock ∷ w) todo before = Below None
+WorkFine s o m Below Outermost j t (EndBlock ∷ w) todo before = Below (Takes None)
 WorkFine s o m Below Outermost j t (EndProcedure leaves ∷ w) todo before =
-    (result : Option TypeName) × (heading : Heading) × (body : Statement) × (text s t ≡ Some (ProcedureText result heading body)) × (has_result result ≡ leaves) × Below (held_kinds (result_holds (text s t)))
+    (result : Option TypeName) × (heading : Heading) × (body : Statement) × (text s t ≡ Some (ProcedureText result heading body)) × (has_result result ≡ leaves) × (g : Option Kinds) × GivesResult s t g × Below (Takes g)
+WorkFine s o m Below Outermost j t (EndLevel k ∷ w) todo before = WorkFine s o m Below Outermost j t w todo before
+-- an object that is attached, with its arrays
+WorkFine s o m Below Outermost j t (EndObject ∷ w) todo before =
+    (todo ≡ []) × (is_class_free s t ≡ false) × (is_class (text s t) ≡ true) × ObjectStands m j × Below (Generated j t)
+WorkFine s o m Below Outermost j t (EndPrefixed ∷ w) todo before = ⊥
 WorkFine s o m Below Outermost j t (EndProgram ∷ w) todo before = Outermost
-WorkFine s o m Below Outermost j t (_ ∷ w) todo before = ⊥
 
 -- ---- chains
 
@@ -434,39 +646,59 @@ KeepsNone (NoObject (Some chain)) = ⊥
 KeepsNone (DetachedObject chain) = ⊥
 KeepsNone _ = Unit {0}
 
-abbrev pub NothingKept : Instances → Type 0
-NothingKept m = (j : ℕ) (x : Standing Activation) → slice_get m.standings j ≡ Some x → KeepsNone x
+-- and each instance stands in some way
+pub record NothingKept (m : Instances) : Type 0 where
+  pub none : (j : ℕ) (x : Standing Activation) → slice_get m.standings j ≡ Some x → KeepsNone x
+  pub as_many : length m.standings ≡ length m.instances
 
 -- where an instance stands on a chain
 abbrev pub OnChain : ℕ → List Activation → Type 0
 OnChain j [] = ⊥
 OnChain j (a ∷ rest) = (j ≡ a.instance) ⊎ OnChain j rest
 
--- each instance that was not given back stands on the chain
-abbrev pub AllOn : Instances → List Activation → Type 0
-AllOn m chain = (j : ℕ) (x : Instance (List Held)) → live m j ≡ Some x → OnChain j chain
+-- each instance that is given back at its end, and was not, is on a chain; no object on it is terminated
+abbrev pub AllWhere : Instances → (On : ℕ → Type 0) → Type 0
+AllWhere m On = ((j : ℕ) → is_given_at_end m j ≡ true → On j) × ((j : ℕ) → On j → slice_get m.standings j ≡ Some TerminatedObject → ⊥)
 
--- The instance i operates, on top of the rest of the chain: there is no instance that is on neither, and no other chain.
+abbrev pub AllOn : Instances → List Activation → Type 0
+AllOn m chain = AllWhere m (λ j. OnChain j chain)
+
+-- The instance i operates, on top of the rest of the chain: no instance that is given back at its end is on neither, and there is no other chain.
 pub record Operates (m : Instances) (i : ℕ) (rest : List Activation) : Type 0 where
   pub before : i < length m.instances
-  pub all : (j : ℕ) (x : Instance (List Held)) → live m j ≡ Some x → (j ≡ i) ⊎ OnChain j rest
+  pub all : AllWhere m (λ j. (j ≡ i) ⊎ OnChain j rest)
   pub parked : NothingKept m
 
-pub record ActFine (s : Source) (o : AllArrays) (m : Instances) (bound : ℕ) (a : Activation) (waits : Option Kinds) (Below : Option Kinds → Type 0) (Outermost : Type 0) : Type 0 where
+-- the values in hand but for the reference to an object that was generated
+abbrev pub Shown : Waits → (all vals : List Val) → Type 0
+Shown (Takes g) all vals = all ≡ vals
+Shown (Generated j class) all vals = all ≡ Of (Object j) ∷ vals
+
+-- what is in hand when what is waited for comes
+abbrev pub Expected : Source → Waits → (kinds then : List Kinds) → Type 0
+Expected s (Takes g) ks xs = given g ks ≡ xs
+Expected s (Generated j class) ks xs = (h : Holds) × Fits s (Refers class) h × (Value h ∷ ks ≡ xs)
+
+pub record ActFine (s : Source) (o : AllArrays) (m : Instances) (bound : ℕ) (a : Activation) (waits : Waits) (Below : Waits → Type 0) (Outermost : Type 0) : Type 0 where
   pub before : a.instance < bound
   pub of_text : ℕ
   pub todo : List DeclNo
   pub here : Present s m a.instance of_text todo
+  pub own : (here.now).text ≡ of_text
+  pub vals : List Val
+  pub shown : Shown waits a.values vals
   pub kinds : List Kinds
-  pub hands : HandsFine s o m a.instance kinds a.values
-  pub goes : WorkFine s o m Below Outermost a.instance of_text a.work todo (given waits kinds)
+  pub hands : HandsFine s o m a.instance kinds vals
+  pub expected : List Kinds
+  pub expects : Expected s waits kinds expected
+  pub goes : WorkFine s o m Below Outermost a.instance of_text a.work todo expected
 
 -- the numbers of the instances on a chain fall; something is there
-abbrev pub ChainFine : Source → AllArrays → Instances → (bound : ℕ) → List Activation → (waits : Option Kinds) → Type 0
+abbrev pub ChainFine : Source → AllArrays → Instances → (bound : ℕ) → List Activation → (waits : Waits) → Type 0
 ChainFine s o m bound [] waits = ⊥
 ChainFine s o m bound (a ∷ rest) waits = ActFine s o m bound a waits (λ v. ChainFine s o m a.instance rest v) (rest ≡ [])
 
 -- before the first step there is nothing
 pub data Fine (s : Source) (o : AllArrays) (c : Configuration) : Type 0 where
-  opens : c.chain ≡ [] → (c.memory).instances ≡ [] → NothingKept c.memory → Fine s o c
-  runs : StoreFine s o c.memory → AllOn c.memory c.chain → NothingKept c.memory → ChainFine s o c.memory (length (c.memory).instances) c.chain None → Fine s o c
+  opens : c.chain ≡ [] → (c.memory).instances ≡ [] → o.sights ≡ [] → NothingKept c.memory → Fine s o c
+  runs : StoreFine s o c.memory → AllOn c.memory c.chain → NothingKept c.memory → ChainFine s o c.memory (length (c.memory).instances) c.chain (Takes None) → Fine s o c

@@ -1,6 +1,5 @@
 -- Each statement goes on.
 use Rattle.std.proofs.Common.{◌≡◌, ℕ, Bool, true, false, List, [], ◌∷◌, ◌++◌, length, Option, Some, None, refl, sym, ap, ◌∙◌, subst}
-use Rattle.sim_sound.proofs.Unclassed.{unconnected}
 use Rattle.sim_base.specs.declared.limits.Limits.{Limits}
 use Rattle.sim_base.specs.declared.numbering.DeclNo.{DeclNo}
 use Rattle.sim_scope.specs.declared.scopes.Denotation.{Denotation}
@@ -13,37 +12,48 @@ use Rattle.sim_scope.specs.declared.types.Mode.{Mode}
 use Rattle.sim_scope.specs.declared.types.Mode.TheVariants as mode
 use Rattle.sim_scope.specs.Assignments.{LeftSide, last_value, left_sides}
 use Rattle.sim_scope.specs.Scopes.{entry_of}
-use Rattle.sim_scope.specs.Source.{Source, denoted, level_of, line_at}
 use Rattle.sim_tree.specs.declared.expr.Identifier.{Identifier}
 use Rattle.sim_tree.specs.declared.stmt.Assignment.{Assignment}
 use Rattle.sim_tree.specs.declared.stmt.Assignment.TheVariants as assignment
-use Rattle.sim_tree.specs.Syntax.{Also, Begin, Block, Declarations, Element, Expression, NoDeclaration, NoMore, NoStatement, Statement, Statements, With}
+use Rattle.sim_tree.specs.Syntax.{Also, Begin, Block, Element, Expression, NoDeclaration, NoMore, NoStatement, Statement, Statements, With}
 use Rattle.sim_tree.specs.Syntax as syntax
 use Rattle.sim_values.specs.declared.kind.Kind.{Kind}
 use Rattle.sim_values.specs.declared.kind.Kind.TheVariants as kind
 use Rattle.sim_values.specs.declared.operators.Calculation.TheVariants as calculation
 use Rattle.sim_values.specs.declared.operators.Dyadic.TheVariants as dyadic
 use Rattle.sim_code.specs.Events.{choosing}
-use Rattle.sim_code.specs.Instances.{at_level}
 use Rattle.sim_code.specs.Outcome.{World}
-use Rattle.sim_meaning.specs.Closing.{Left, LeftAddress, LeftCell, LeftText, LeftUnbuilt, close, declared_left, formal_left, home_of, is_text, left_in, left_variable, named_left, close_place, left_found, LeftReference}
 use Rattle.sim_meaning.specs.Meaning.{do_op}
-use Rattle.sim_meaning.specs.Pending.{Activation, AgainOp, BackOp, BranchOp, ChooseOp, Configuration, Do, ElementsOp, EnterOp, Eval, Exec, Execs, Instances, Item, Key, Op, RaiseOp, StepOp, StepTestOp, StoreOp, Target, TestOp, ToAddress, ToCell, ToText, ToTextOf, TwoOp, Val, WhileElementOp}
-use Rattle.sim_meaning.specs.Statements.{assigned, assigning, compound, controlled, dropping, elements, entered_at, exec, execs, finding, first_branch, leaves, lefts, looping, raised, reading, step_tested, while_element, controlled_left}
 use Rattle.sim_meaning.specs.Steps.{go}
-use Rattle.sim_sound.specs.Typed.{CallIs, CompoundIs, ControlIs, ElementsAre, ExprIs, Holds, Simply, StatementIs, StatementsAre, Typed, is_given}
-use Rattle.sim_sound.proofs.Assigns.{addresses, assigning_fine, lefts_found, Found}
+use Rattle.sim_scope.specs.Levels.{base}
+use Rattle.sim_scope.specs.Source.{Source, block_around, denoted, level_of, line_at}
+use Rattle.sim_code.specs.Instances.{at_level}
+use Rattle.sim_meaning.specs.Attributes.{connection_at, is_connection}
+use Rattle.sim_meaning.specs.Closing.{Left, LeftAddress, LeftCell, LeftReference, LeftText, LeftUnbuilt, close, close_place, declared_left, formal_left, home_of, is_text, left_found, left_in, left_variable, named_left, reference_place}
+use Rattle.sim_meaning.specs.Levels.{levels_inside, text_at}
+use Rattle.sim_meaning.specs.Pending.{Activation, AgainOp, BackOp, BranchOp, ChooseOp, Configuration, ConnectOp, Do, DropOp, ElementsOp, EnterOp, Eval, Exec, Execs, InnerOp, Instances, Item, Key, Op, RaiseOp, StepOp, StepTestOp, StoreOp, Target, Term, TestOp, ToAddress, ToCell, ToPlace, ToReference, ToReferenceAt, ToText, ToTextAt, ToTextOf, TwoOp, Val, WhenOp, WhileElementOp}
+use Rattle.sim_meaning.specs.Statements.{assigned, assigning, compound, controlled, controlled_left, dropping, elements, entered_at, exec, execs, finding, first_branch, inner_begun, leaves, lefts, levels_of_instance, looping, raised, reading, step_tested, while_element}
+use Rattle.sim_sound.specs.Held.{Holds, In, Simply, reference_to}
+use Rattle.sim_sound.specs.Expressions.{ExprIs}
+use Rattle.sim_sound.specs.Statements.{CallIs, CompoundIs, ControlIs, ElementsAre, InnerIs, StatementIs, StatementsAre, is_given}
+use Rattle.sim_sound.specs.Typed.{Typed}
+use Rattle.sim_sound.proofs.Assigns.{Found, assigning_fine, lefts_found}
+use Rattle.sim_sound.proofs.Attributes.{class_words}
+use Rattle.sim_sound.proofs.Cells.{site_whole}
+use Rattle.sim_sound.proofs.ClassLevels.{class_levels, none_inside, one}
 use Rattle.sim_sound.proofs.Closing.{dot_fine, expr_fine, given_fine}
 use Rattle.sim_sound.proofs.Evals.{IsFine, Rest, Work, goes_on}
-use Rattle.sim_sound.proofs.Lefts.{LeftFine, variable_fine}
-use Rattle.sim_sound.proofs.Lifts.{Goes, chosen, ran, ticked, truth_popped}
-use Rattle.sim_sound.proofs.Reach.{reaches_whole}
-use Rattle.sim_sound.proofs.Sound.{Begun, HandsFine, Kinds, OpFine, Operates, Sight, TermFine, Value, VariableFine, given, held_kinds, in_whole, see, simple, value_stored}
+use Rattle.sim_sound.proofs.Fitting.{text_there}
+use Rattle.sim_sound.proofs.Lefts.{LeftFine, reference_is, variable_fine}
+use Rattle.sim_sound.proofs.Lifts.{Goes, chosen, had, ran, ticked, truth_popped}
+use Rattle.sim_sound.proofs.Ops.{own_there}
+use Rattle.sim_sound.proofs.Reach.{Reaches, ReachesText, reaches_in, text_in}
+use Rattle.sim_sound.proofs.Sound.{AddressOf, Begun, HandsFine, Kinds, OpFine, Operates, Sight, Site, TermFine, Value, VariableFine, Whole, given, held_kinds, in_instance as at_cell, see, simple, value_stored}
 
--- ---- a left side without operands is a cell
+-- ---- a variable as a left side is a cell, or is found by a tree
 
 abbrev IsCell : Left → Type 0
-IsCell (LeftAddress x) = ⊥
+IsCell (LeftReference line x) = ⊥
 IsCell (LeftText line x) = ⊥
 IsCell _ = Unit {0}
 
@@ -71,28 +81,41 @@ named_cell : (s : Source) (m : Instances) (i line : ℕ) (x : Option Denotation)
 named_cell s m i line (Some (denotation.Declared d)) = declared_cell s m i line d (entry_of s.tables d)
 named_cell s m i line _ = tt
 
-module _ (s : Source) (ok : Typed s) (l : Limits) (o : World) (sights : List Sight) (long : length sights ≡ length o.arrays) (m : Instances) (i t : ℕ) (rest : List Activation) (top : Operates m i rest) (w : List Item) (vals : List Val) (ks : List Kinds) (b : Begun s (see sights o) m i t []) (h : HandsFine s (see sights o) m i ks vals) (work : Work s o sights long m i t rest top w [] ks) where
+found_cell : (c : Option ℕ) (place : Term) (other : Left) → IsCell other → IsCell (left_found c place other)
+found_cell None place other a = a
+found_cell (Some k) place other a = tt
+
+module _ (s : Source) (ok : Typed s) (l : Limits) (o : World) (sights : List Sight) (long : length sights ≡ length o.arrays) (m : Instances) (i t : ℕ) (rest : List Activation) (top : Operates m i rest) (w : List Item) (vals : List Val) (ks : List Kinds) (b : Begun s (see sights o) m i t []) (h : HandsFine s (see sights o) m i ks vals) (work : Work s o sights long m i t rest top w [] ks) (u : ℕ) (site : Site s m i u) where
   abbrev P : World → Configuration → Type 0
   P = IsFine s
 
   abbrev Wk : List Item → List Kinds → Type 0
   Wk w ks = Work s o sights long m i t rest top w [] ks
 
+  here : Whole s m i u
+  here = site_whole s (see sights o) m i t u b site
+
+  reach : Reaches s m i (In u)
+  reach = reaches_in s ok (see sights o) m b.store i u here
+
+  around : ReachesText s m i (In u)
+  around = text_in s ok (see sights o) m b.store i u here
+
   goes : (w : List Item) → Wk w ks → IsFine s o (record { chain = record { instance = i; work = w; values = vals } ∷ rest; memory = m })
   goes w x = goes_on s o sights long m i t rest top w vals [] ks b h x
 
-  closed : (e : Expression) (g : Holds) → ExprIs s (Some t) e g → TermFine s m i t [] (close s m i e) (Some (Value g))
-  closed e g a = expr_fine s ok m i t [] (Some t) (reaches_whole s ok (see sights o) m i t b) e g a
+  closed : (e : Expression) (g : Holds) → ExprIs s (In u) e g → TermFine s m i t [] (close s m i e) (Some (Value g))
+  closed e g a = expr_fine s ok (see sights o) m b.store i t [] (In u) reach around e g a
 
-  evals : (e : Expression) (g : Holds) (w : List Item) (ks : List Kinds) → ExprIs s (Some t) e g → Wk w (Value g ∷ ks) → Wk (Do (Eval (close s m i e)) ∷ w) ks
+  evals : (e : Expression) (g : Holds) (w : List Item) (ks : List Kinds) → ExprIs s (In u) e g → Wk w (Value g ∷ ks) → Wk (Do (Eval (close s m i e)) ∷ w) ks
   evals e g w ks a x = ([], Value g ∷ ks, (Some (Value g), closed e g a, refl, refl), x)
 
   -- ---- statements
 
-  compound_goes : (a : Block) → CompoundIs s t a → (t' w' : ℕ) → Goes P (compound s (ran o t' w') m i w vals rest a)
-  compound_goes (Begin token NoDeclaration ss end) a t' w' = goes (Do (Execs ss) ∷ w) ([], ks, (refl, refl, refl, a), work)
+  compound_goes : (a : Block) → CompoundIs s u a → (t' w' : ℕ) → Goes P (compound s (ran o t' w') m i w vals rest a)
+  compound_goes (Begin token NoDeclaration ss end) a t' w' = goes (Do (Execs ss) ∷ w) ([], ks, (refl, refl, refl, (u, site, a)), work)
   compound_goes (Begin token (With d ds) ss end) a t' w' =
-      subst (λ z. Goes P (entered_at (ran o t' w') m i w vals rest z (line_at s token))) (sym a.around) (goes (Do (EnterOp a.number (line_at s token)) ∷ w) ([], ks, (refl, refl, refl, (a.stands_in, a.begin, a.declarations, a.statements, a.is)), work))
+      subst (λ z. Goes P (entered_at (ran o t' w') m i w vals rest z (line_at s token))) (sym a.around) (goes (Do (EnterOp a.number (line_at s token)) ∷ w) ([], ks, (refl, refl, refl, (u, site, (a.stands_in, a.begin, a.declarations, a.statements, a.is))), work))
 
   dropped : (g : Option Holds) (x : Bool) → x ≡ is_given g → Wk (dropping x w) (given (held_kinds g) ks)
   dropped None true e = absurd (cc)
@@ -100,165 +123,225 @@ module _ (s : Source) (ok : Typed s) (l : Limits) (o : World) (sights : List Sig
   dropped (Some g) true e = ([], ks, (Value g, refl, refl), work)
   dropped (Some g) false e = absurd (cc)
 
-  call_goes : (e : Expression) → CallIs s t e → Wk (Do (Eval (close s m i e)) ∷ dropping (leaves s e) w) ks
+  call_goes : (e : Expression) → CallIs s u e → Wk (Do (Eval (close s m i e)) ∷ dropping (leaves s e) w) ks
   call_goes (syntax.Named name es) a =
-      ([], given (held_kinds a.0) ks, (held_kinds a.0, given_fine s ok m i t [] (Some t) (reaches_whole s ok (see sights o) m i t b) name es a.0 a.1, refl, refl), dropped a.0 (leaves s (syntax.Named name es)) a.2)
+      ([], given (held_kinds a.0) ks, (held_kinds a.0, given_fine s ok (see sights o) m b.store i t [] (In u) reach around name es a.0 a.1, refl, refl), dropped a.0 (leaves s (syntax.Named name es)) a.2)
   call_goes (syntax.Dot token x name es) a =
-      ([], given (held_kinds a.0) ks, (held_kinds a.0, dot_fine s ok m i t [] (Some t) (reaches_whole s ok (see sights o) m i t b) token x name es a.0 a.1, refl, refl), dropped a.0 (leaves s (syntax.Dot token x name es)) a.2)
+      ([], given (held_kinds a.0) ks, (held_kinds a.0, dot_fine s ok (see sights o) m b.store i t [] (In u) reach around token x name es a.0 a.1, refl, refl), dropped a.0 (leaves s (syntax.Dot token x name es)) a.2)
+  call_goes (syntax.New token class es) a = evals (syntax.New token class es) (Simply kind.Reference) (Do DropOp ∷ w) ks a ([], ks, (Value (Simply kind.Reference), refl, refl), work)
   call_goes _ a = absurd a
 
-  assign_goes : (es : List LeftSide) (e : Expression) (k : Kind) → Found s ok (see sights o) m i t b (Rest s o sights long m i t rest top) (rest ≡ []) k es → ExprIs s (Some t) e (Simply k) → (t' w' : ℕ) → Goes P (assigned s (ran o t' w') m i w vals rest (lefts s m i es) e)
+  assign_goes : (es : List LeftSide) (e : Expression) (k : Kind) → Found s ok (see sights o) m b.store i t u here (Rest s o sights long m i t rest top) (rest ≡ []) k es → ExprIs s (In u) e (Simply k) → (t' w' : ℕ) → Goes P (assigned s (ran o t' w') m i w vals rest (lefts s m i es) e)
   assign_goes es e k f a t' w' =
       let ts = (f.is).targets in
       subst (λ z. Goes P (assigned s (ran o t' w') m i w vals rest z e)) (sym f.found)
       (goes ((f.is).work ++ Do (Eval (close s m i e)) ∷ Do (assigning ts) ∷ w)
       (f.works (Do (Eval (close s m i e)) ∷ Do (assigning ts) ∷ w) ks
-      (evals e (Simply k) (Do (assigning ts) ∷ w) (addresses s ok (see sights o) m i t b (Rest s o sights long m i t rest top) (rest ≡ []) k ts ks) a
-      ([], ks, assigning_fine s ok (see sights o) m i t b (Rest s o sights long m i t rest top) (rest ≡ []) k ts ks f.each, work))))
+      (evals e (Simply k) (Do (assigning ts) ∷ w) (f.kinds ks) a
+      ([], ks, assigning_fine s ok (see sights o) m b.store i t u here (Rest s o sights long m i t rest top) (rest ≡ []) k ts (f.kinds ks) ks (f.shared ks), work))))
 
-  loop_goes : (text : Bool) (sign : Assignment) (line : ℕ) (x : Left) (k : Kind) (es : List Element) (a : Statement) → ControlIs text sign k → IsCell x → LeftFine s ok (see sights o) m i t b x k → ElementsAre s t k es → StatementIs s t a → (t' w' : ℕ) → Goes P (looping (ran o t' w') m i w vals rest (controlled text sign line x) es a)
-  loop_goes true assignment.Value line (LeftCell j key) k es a v c x y z t' w' = goes (Do (ElementsOp (ToTextOf j key line) es a) ∷ w) ([], ks, (refl, refl, refl, (k, (x, v), y, z)), work)
-  loop_goes true assignment.Reference line (LeftCell j key) k es a v c x y z t' w' = goes (Do (ElementsOp (ToCell j key) es a) ∷ w) ([], ks, (refl, refl, refl, (k, x, y, z)), work)
-  loop_goes false assignment.Value line (LeftCell j key) k es a v c x y z t' w' = goes (Do (ElementsOp (ToCell j key) es a) ∷ w) ([], ks, (refl, refl, refl, (k, x, y, z)), work)
-  loop_goes false assignment.Reference line x k es a v c f y z t' w' = absurd v
-  loop_goes text sign line (LeftAddress r) k es a v c x y z t' w' = absurd c
-  loop_goes text sign line (LeftText n r) k es a v c x y z t' w' = absurd c
-  loop_goes text sign line LeftUnbuilt k es a v c x y z t' w' = absurd x
-  loop_goes text sign line (LeftReference n r) k es a v c x y z t' w' = absurd x
+  -- ---- the variable of a loop
 
-  -- a controlled variable is no reference
-  loop_left : (text : Bool) (sign : Assignment) (line : ℕ) (x : Expression) (k : Kind) (es : List Element) (a : Statement) → ControlIs text sign k → IsCell (left_variable s m i x) → LeftFine s ok (see sights o) m i t b (left_variable s m i x) k → ElementsAre s t k es → StatementIs s t a → (t' w' : ℕ)
-      → Goes P (looping (ran o t' w') m i w vals rest (controlled text sign line (controlled_left text sign s m i x)) es a)
-  loop_left true assignment.Value line x k es a v c f y z t' w' = loop_goes true assignment.Value line (left_variable s m i x) k es a v c f y z t' w'
-  loop_left true assignment.Reference line x k es a v c f y z t' w' = loop_goes true assignment.Reference line (left_variable s m i x) k es a v c f y z t' w'
-  loop_left false assignment.Value line x k es a v c f y z t' w' = loop_goes false assignment.Value line (left_variable s m i x) k es a v c f y z t' w'
-  loop_left false assignment.Reference line x k es a v c f y z t' w' = absurd v
+  loops : (x : Target) (k : Kind) (es : List Element) (a : Statement) → VariableFine s m i t x k → ElementsAre s u k es → StatementIs s u a → Wk (Do (ElementsOp x es a) ∷ w) ks
+  loops x k es a v y z = ([], ks, (refl, refl, refl, (u, site, (k, v, y, z))), work)
+
+  loop_goes : (text : Bool) (sign : Assignment) (line : ℕ) (x : Left) (k : Kind) (es : List Element) (a : Statement) → (text ≡ true → sign ≡ assignment.Value → k ≡ kind.Text) → (text ≡ false → sign ≡ assignment.Reference → ⊥) → IsCell x → LeftFine s ok (see sights o) m b.store i t u here x k → ElementsAre s u k es → StatementIs s u a → (t' w' : ℕ) → Goes P (looping (ran o t' w') m i w vals rest (controlled text sign line x) es a)
+  loop_goes true assignment.Value line (LeftCell j key) k es a v n c x y z t' w' = goes (Do (ElementsOp (ToTextOf j key line) es a) ∷ w) (loops (ToTextOf j key line) k es a (x, v refl refl) y z)
+  loop_goes true assignment.Reference line (LeftCell j key) k es a v n c x y z t' w' = goes (Do (ElementsOp (ToCell j key) es a) ∷ w) (loops (ToCell j key) k es a x y z)
+  loop_goes false assignment.Value line (LeftCell j key) k es a v n c x y z t' w' = goes (Do (ElementsOp (ToCell j key) es a) ∷ w) (loops (ToCell j key) k es a x y z)
+  loop_goes true assignment.Value line (LeftAddress r) k es a v n c x y z t' w' = goes (Do (ElementsOp (ToTextAt r line) es a) ∷ w) (loops (ToTextAt r line) k es a (x, v refl refl) y z)
+  loop_goes true assignment.Reference line (LeftAddress r) k es a v n c x y z t' w' = goes (Do (ElementsOp (ToPlace r) es a) ∷ w) (loops (ToPlace r) k es a x y z)
+  loop_goes false assignment.Value line (LeftAddress r) k es a v n c x y z t' w' = goes (Do (ElementsOp (ToPlace r) es a) ∷ w) (loops (ToPlace r) k es a x y z)
+  loop_goes false assignment.Reference line x k es a v n c f y z t' w' = absurd (n refl refl)
+  loop_goes text sign line (LeftText q r) k es a v n c x y z t' w' = absurd c
+  loop_goes text sign line LeftUnbuilt k es a v n c x y z t' w' = absurd x
+  loop_goes text sign line (LeftReference q r) k es a v n c x y z t' w' = absurd c
+
+  text_apart : true ≡ false → ⊥
+  text_apart e = cc
+
+  sign_apart : assignment.Reference ≡ assignment.Value → ⊥
+  sign_apart e = cc
+
+  other_apart : assignment.Value ≡ assignment.Reference → ⊥
+  other_apart e = cc
+
+  loop_left : (text : Bool) (sign : Assignment) (line : ℕ) (x : Identifier) (k : Kind) (es : List Element) (a : Statement) → ControlIs text sign s u (syntax.Named x NoMore) k → IsCell (left_variable s m i (syntax.Named x NoMore)) → ElementsAre s u k es → StatementIs s u a → (t' w' : ℕ)
+      → Goes P (looping (ran o t' w') m i w vals rest (controlled text sign line (controlled_left text sign s m i (syntax.Named x NoMore))) es a)
+  loop_left true assignment.Value line x k es a v c y z t' w' =
+      loop_goes true assignment.Value line (left_variable s m i (syntax.Named x NoMore)) k es a (λ e f. v.0) (λ e f. text_apart e) c (variable_fine s ok (see sights o) m b.store i t u here (syntax.Named x NoMore) k v.1) y z t' w'
+  loop_left true assignment.Reference line x k es a v c y z t' w' =
+      loop_goes true assignment.Reference line (left_variable s m i (syntax.Named x NoMore)) k es a (λ e f. absurd (sign_apart f)) (λ e f. text_apart e) c (variable_fine s ok (see sights o) m b.store i t u here (syntax.Named x NoMore) k v) y z t' w'
+  loop_left false assignment.Value line x k es a v c y z t' w' =
+      loop_goes false assignment.Value line (left_variable s m i (syntax.Named x NoMore)) k es a (λ e f. absurd (text_apart (sym e))) (λ e f. other_apart f) c (variable_fine s ok (see sights o) m b.store i t u here (syntax.Named x NoMore) k v) y z t' w'
+  loop_left false assignment.Reference line x k es a v c y z t' w' =
+      let r = reference_is s ok (see sights o) m b.store i t u here (syntax.Named x NoMore) v.1 in
+      goes (Do (ElementsOp (ToReferenceAt (reference_place s m i (syntax.Named x NoMore)) line) es a) ∷ w) (loops (ToReferenceAt (reference_place s m i (syntax.Named x NoMore)) line) k es a (v.0, r.0, r.1) y z)
 
   single_cell : (x : Identifier) → IsCell (left_variable s m i (syntax.Named x NoMore))
-  single_cell x =
-      subst (λ z. IsCell (left_found z (close_place s m i (syntax.Named x NoMore)) (named_left s m i (line_at s x.token.0) (denoted s x.token.0) NoMore))) (sym (unconnected s ok x.token.0))
-      (named_cell s m i (line_at s x.token.0) (denoted s x.token.0))
+  single_cell x = found_cell (connection_at s x.token.0) (close_place s m i (syntax.Named x NoMore)) (named_left s m i (line_at s x.token.0) (denoted s x.token.0) NoMore) (named_cell s m i (line_at s x.token.0) (denoted s x.token.0))
 
-  pub exec_goes : (a : Statement) → StatementIs s t a → Goes P (exec s l o m i w vals rest a)
+  -- ---- `inner`, in a class without prefix
+
+  inner_goes : (token : ℕ) → InnerIs s u token → (t' w' : ℕ) → Goes P (inner_begun s (ran o t' w') m i w vals rest (block_around s token))
+  inner_goes token a t' w' =
+      let c = class_words s ok u a.1 in
+      let p = here in
+      let own : (p.now).text ≡ u = own_there s p.now u (ap is_connection c.is) p.stands in
+      let at : text_at m i ≡ Some u = text_there s m i p.now p.lives ∙ ap Some own in
+      let levels_are = class_levels s ok u c.prefix c.heading c.declarations c.statements c.is in
+      let x = one s ok u c.prefix c.heading c.declarations c.statements c.is in
+      subst (λ z. Goes P (inner_begun s (ran o t' w') m i w vals rest z)) (sym a.0)
+      (had P (levels_of_instance s (text_at m i)) (x ∷ []) (ran o t' w') (λ xs. go (ran o t' w') m i (Do (InnerOp (levels_inside u xs)) ∷ w) vals rest) (ap (levels_of_instance s) at ∙ levels_are)
+      (subst (λ z. Goes P (go (ran o t' w') m i (Do (InnerOp z) ∷ w) vals rest)) (sym (none_inside s ok u c.prefix c.heading c.declarations c.statements c.is)) (goes (Do (InnerOp []) ∷ w) ([], ks, (refl, refl, refl, tt), work))))
+
+  pub exec_goes : (a : Statement) → StatementIs s u a → Goes P (exec s l o m i w vals rest a)
   exec_goes (syntax.Empty token) x = goes w work
   exec_goes (syntax.Compound a) x = ticked P l o (λ p. compound s p m i w vals rest a) (λ t' w'. compound_goes a (compound_is a x) t' w')
     where
-      compound_is : (a : Block) → StatementIs s t (syntax.Compound a) → CompoundIs s t a
+      compound_is : (a : Block) → StatementIs s u (syntax.Compound a) → CompoundIs s u a
       compound_is a x = x
   exec_goes (syntax.Call e) x = ticked P l o (λ p. go p m i (Do (Eval (close s m i e)) ∷ dropping (leaves s e) w) vals rest) (λ t' w'. goes (Do (Eval (close s m i e)) ∷ dropping (leaves s e) w) (call_goes e x))
   exec_goes (syntax.Assign left rs) x =
       ticked P l o (λ p. assigned s p m i w vals rest (lefts s m i (left_sides left rs)) (last_value left rs)) (λ t' w'.
-      assign_goes (left_sides left rs) (last_value left rs) x.0 (lefts_found s ok (see sights o) m i t b (Rest s o sights long m i t rest top) (rest ≡ []) x.0 (left_sides left rs) x.1) x.2 t' w')
+      assign_goes (left_sides left rs) (last_value left rs) x.0 (lefts_found s ok (see sights o) m b.store i t u here (Rest s o sights long m i t rest top) (rest ≡ []) x.0 (left_sides left rs) x.1) x.2 t' w')
   exec_goes (syntax.Choose token c a other) x =
       ticked P l o (λ p. go p m i (Do (Eval (close s m i c)) ∷ Do (ChooseOp a other) ∷ w) vals rest) (λ t' w'.
-      goes (Do (Eval (close s m i c)) ∷ Do (ChooseOp a other) ∷ w) (evals c (Simply kind.Boolean) (Do (ChooseOp a other) ∷ w) ks x.0 ([], ks, (refl, refl, refl, x.1, x.2), work)))
-  exec_goes (syntax.Repeat token c a) x = ticked P l o (λ p. go p m i (Do (TestOp c a) ∷ w) vals rest) (λ t' w'. goes (Do (TestOp c a) ∷ w) ([], ks, (refl, refl, refl, (x.0, x.1)), work))
+      goes (Do (Eval (close s m i c)) ∷ Do (ChooseOp a other) ∷ w) (evals c (Simply kind.Boolean) (Do (ChooseOp a other) ∷ w) ks x.0 ([], ks, (refl, refl, refl, (u, site, (x.1, x.2))), work)))
+  exec_goes (syntax.Repeat token c a) x = ticked P l o (λ p. go p m i (Do (TestOp c a) ∷ w) vals rest) (λ t' w'. goes (Do (TestOp c a) ∷ w) ([], ks, (refl, refl, refl, (u, site, (x.0, x.1))), work))
   exec_goes (syntax.For token x sign assign es a) f =
       ticked P l o (λ p. looping p m i w vals rest (controlled (is_text s (syntax.Named x NoMore)) sign (line_at s assign) (controlled_left (is_text s (syntax.Named x NoMore)) sign s m i (syntax.Named x NoMore))) es a) (λ t' w'.
-      loop_left (is_text s (syntax.Named x NoMore)) sign (line_at s assign) (syntax.Named x NoMore) f.0 es a f.1 (single_cell x) (variable_fine s ok (see sights o) m i t b (syntax.Named x NoMore) f.0 f.2) f.3 f.4 t' w')
+      loop_left (is_text s (syntax.Named x NoMore)) sign (line_at s assign) x f.0 es a f.1 (single_cell x) f.2 f.3 t' w')
+  exec_goes (syntax.Inner token) x = ticked P l o (λ p. inner_begun s p m i w vals rest (block_around s token)) (λ t' w'. inner_goes token x t' w')
+  exec_goes (syntax.Inspect token e opening a end other) x =
+      let c = x.0 in
+      ticked P l o (λ p. go p m i (Do (Eval (close s m i e)) ∷ Do (ConnectOp opening a other) ∷ w) vals rest) (λ t' w'.
+      goes (Do (Eval (close s m i e)) ∷ Do (ConnectOp opening a other) ∷ w) (evals e (reference_to (base s.tables c.number)) (Do (ConnectOp opening a other) ∷ w) ks x.1 ([], ks, (refl, refl, (u, site, (c, refl, x.2, x.3))), work)))
+  exec_goes (syntax.InspectWhen token e arms other) x =
+      ticked P l o (λ p. go p m i (Do (Eval (close s m i e)) ∷ Do (WhenOp arms other) ∷ w) vals rest) (λ t' w'.
+      goes (Do (Eval (close s m i e)) ∷ Do (WhenOp arms other) ∷ w) (evals e (Simply kind.Reference) (Do (WhenOp arms other) ∷ w) ks x.0 ([], ks, (refl, refl, refl, (u, site, (x.1, x.2))), work)))
   exec_goes _ x = absurd x
 
-  pub execs_goes : (ss : Statements) → StatementsAre s t ss → Goes P (execs o m i w vals rest ss)
+  pub execs_goes : (ss : Statements) → StatementsAre s u ss → Goes P (execs o m i w vals rest ss)
   execs_goes NoStatement x = goes w work
-  execs_goes (Also a more) x = goes (Do (Exec a) ∷ Do (Execs more) ∷ w) ([], ks, (refl, refl, refl, x.0), ([], ks, (refl, refl, refl, x.1), work))
+  execs_goes (Also a more) x = goes (Do (Exec a) ∷ Do (Execs more) ∷ w) ([], ks, (refl, refl, refl, (u, site, x.0)), ([], ks, (refl, refl, refl, (u, site, x.1)), work))
 
   -- ---- loops
 
-  test_fine : (c : Expression) (a : Statement) → ExprIs s (Some t) c (Simply kind.Boolean) → StatementIs s t a → OpFine s (see sights o) m i t (TestOp c a) [] [] ks ks
-  test_fine c a x y = (refl, refl, refl, (x, y))
+  test_fine : (c : Expression) (a : Statement) → ExprIs s (In u) c (Simply kind.Boolean) → StatementIs s u a → OpFine s (see sights o) m i t (TestOp c a) [] [] ks ks
+  test_fine c a x y = (refl, refl, refl, (u, site, (x, y)))
 
-  pub test_goes : (c : Expression) (a : Statement) → ExprIs s (Some t) c (Simply kind.Boolean) → StatementIs s t a → Goes P (do_op s l o m i w vals rest (TestOp c a))
+  pub test_goes : (c : Expression) (a : Statement) → ExprIs s (In u) c (Simply kind.Boolean) → StatementIs s u a → Goes P (do_op s l o m i w vals rest (TestOp c a))
   test_goes c a x y =
       ticked P l o (λ p. go p m i (Do (Eval (close s m i c)) ∷ Do (BranchOp a (BackOp (TestOp c a))) ∷ w) vals rest) (λ t' w'.
-      goes (Do (Eval (close s m i c)) ∷ Do (BranchOp a (BackOp (TestOp c a))) ∷ w) (evals c (Simply kind.Boolean) (Do (BranchOp a (BackOp (TestOp c a))) ∷ w) ks x ([], ks, (refl, refl, refl, y, test_fine c a x y), work)))
+      goes (Do (Eval (close s m i c)) ∷ Do (BranchOp a (BackOp (TestOp c a))) ∷ w) (evals c (Simply kind.Boolean) (Do (BranchOp a (BackOp (TestOp c a))) ∷ w) ks x ([], ks, (refl, refl, refl, (u, site, y), test_fine c a x y), work)))
 
   -- the text that a value is assigned to is found before
   abbrev found : Target → List Kinds → List Kinds
+  found (ToTextOf j key line) ks = Value (Simply kind.Text) ∷ ks
+  found (ToTextAt x line) ks = Value (Simply kind.Text) ∷ ks
   found (ToCell j key) ks = ks
   found ToAddress ks = ks
   found (ToText line) ks = ks
-  found (ToTextOf j key line) ks = Value (Simply kind.Text) ∷ ks
-  found _ ks = ks
+  found (ToReference line) ks = ks
+  found (ToPlace x) ks = ks
+  found (ToReferenceAt x line) ks = ks
 
-  finds : (x : Target) (k : Kind) (w : List Item) (ks : List Kinds) → VariableFine s m i x k → Wk w (found x ks) → Wk (finding x w) ks
+  finds : (x : Target) (k : Kind) (w : List Item) (ks : List Kinds) → VariableFine s m i t x k → Wk w (found x ks) → Wk (finding x w) ks
   finds (ToCell j key) k w ks c x = x
   finds ToAddress k w ks c x = absurd c
   finds (ToText line) k w ks c x = absurd c
-  finds (ToTextOf j key line) k w ks c x =
-      let y = c.0 in
-      ([], Value (Simply kind.Text) ∷ ks, (simple kind.Text, (Simply kind.Text, refl, in_whole y.before y.whole (y.holds ∙ ap (λ z. Some (Simply z)) c.1) y.there), refl, refl), x)
-  finds _ k w ks c x = absurd c
+  finds (ToReference line) k w ks c x = absurd c
+  finds (ToTextOf j key line) k w ks c x = ([], Value (Simply kind.Text) ∷ ks, (simple kind.Text, (Simply k, (Simply kind.Text, c.1, refl), at_cell c.0), refl, refl), x)
+  finds (ToPlace r) k w ks c x = x
+  finds (ToTextAt r line) k w ks c x = ([], Value (Simply kind.Text) ∷ ks, (simple kind.Text, (Simply kind.Text, AddressOf (Simply k), c.1, refl, c.0), refl, refl), x)
+  finds (ToReferenceAt r line) k w ks c x = x
 
-  stores : (x : Target) (k : Kind) (w : List Item) (ks : List Kinds) → VariableFine s m i x k → Wk w ks → Wk (Do (StoreOp x) ∷ w) (Value (Simply k) ∷ found x ks)
-  stores (ToCell j key) k w ks c x = ([], ks, value_stored (Simply k) ks refl (c, refl) refl, x)
+  stores : (x : Target) (k : Kind) (w : List Item) (ks : List Kinds) → VariableFine s m i t x k → Wk w ks → Wk (Do (StoreOp x) ∷ w) (Value (Simply k) ∷ found x ks)
+  stores (ToCell j key) k w ks c x = ([], ks, value_stored k ks refl (c, refl) refl refl, x)
   stores ToAddress k w ks c x = absurd c
   stores (ToText line) k w ks c x = absurd c
-  stores (ToTextOf j key line) k w ks c x = ([], ks, value_stored (Simply k) (Value (Simply kind.Text) ∷ ks) refl (ap Simply c.1, refl) refl, x)
-  stores _ k w ks c x = absurd c
+  stores (ToReference line) k w ks c x = absurd c
+  stores (ToTextOf j key line) k w ks c x = ([], ks, value_stored k (Value (Simply kind.Text) ∷ ks) refl (ap Simply c.1, refl) refl refl, x)
+  stores (ToPlace r) k w ks c x = ([], ks, value_stored k ks refl (c, refl) refl refl, x)
+  stores (ToTextAt r line) k w ks c x = ([], ks, value_stored k (Value (Simply kind.Text) ∷ ks) refl (ap Simply c.1, refl) refl refl, x)
+  stores (ToReferenceAt r line) k w ks c x = ([], ks, value_stored k ks refl (ap Simply c.0, refl, c.1, c.2) refl refl, x)
 
-  -- an integer is no text
-  stores_integer : (x : Target) (w : List Item) (ks : List Kinds) → VariableFine s m i x kind.Integer → Wk w ks → Wk (Do (StoreOp x) ∷ w) (Value (Simply kind.Integer) ∷ ks)
+  -- an integer is no text, and no reference
+  no_text : kind.Integer ≡ kind.Text → ⊥
+  no_text e = cc
+
+  no_reference : kind.Integer ≡ kind.Reference → ⊥
+  no_reference e = cc
+
+  stores_integer : (x : Target) (w : List Item) (ks : List Kinds) → VariableFine s m i t x kind.Integer → Wk w ks → Wk (Do (StoreOp x) ∷ w) (Value (Simply kind.Integer) ∷ ks)
   stores_integer (ToCell j key) w ks c x = stores (ToCell j key) kind.Integer w ks c x
+  stores_integer (ToPlace r) w ks c x = stores (ToPlace r) kind.Integer w ks c x
   stores_integer ToAddress w ks c x = absurd c
   stores_integer (ToText line) w ks c x = absurd c
-  stores_integer (ToTextOf j key line) w ks c x = let e = c.1 in absurd (cc)
-  stores_integer _ w ks c x = absurd c
+  stores_integer (ToReference line) w ks c x = absurd c
+  stores_integer (ToTextOf j key line) w ks c x = absurd (no_text c.1)
+  stores_integer (ToTextAt r line) w ks c x = absurd (no_text c.1)
+  stores_integer (ToReferenceAt r line) w ks c x = absurd (no_reference c.0)
 
-  reads : (x : Target) (k : Kind) (w : List Item) (ks : List Kinds) → VariableFine s m i x k → Wk w (Value (Simply k) ∷ ks) → Wk (reading x w) ks
-  reads (ToCell j key) k w ks c x = ([], Value (Simply k) ∷ ks, (simple k, (Simply k, refl, in_whole c.before c.whole c.holds c.there), refl, refl), x)
-  reads ToAddress k w ks c x = absurd c
-  reads (ToText line) k w ks c x = absurd c
-  reads (ToTextOf j key line) k w ks c x = let y = c.0 in ([], Value (Simply k) ∷ ks, (simple k, (Simply k, refl, in_whole y.before y.whole y.holds y.there), refl, refl), x)
-  reads _ k w ks c x = absurd c
+  reads : (x : Target) (w : List Item) (ks : List Kinds) → VariableFine s m i t x kind.Integer → Wk w (Value (Simply kind.Integer) ∷ ks) → Wk (reading x w) ks
+  reads (ToCell j key) w ks c x = ([], Value (Simply kind.Integer) ∷ ks, (simple kind.Integer, (Simply kind.Integer, (Simply kind.Integer, refl, refl), at_cell c), refl, refl), x)
+  reads (ToPlace r) w ks c x = ([], Value (Simply kind.Integer) ∷ ks, (simple kind.Integer, (Simply kind.Integer, AddressOf (Simply kind.Integer), refl, refl, c), refl, refl), x)
+  reads ToAddress w ks c x = absurd c
+  reads (ToText line) w ks c x = absurd c
+  reads (ToReference line) w ks c x = absurd c
+  reads (ToTextOf j key line) w ks c x = absurd (no_text c.1)
+  reads (ToTextAt r line) w ks c x = absurd (no_text c.1)
+  reads (ToReferenceAt r line) w ks c x = absurd (no_reference c.0)
 
-  pub elements_goes : (x : Target) (es : List Element) (a : Statement) (k : Kind) → VariableFine s m i x k → ElementsAre s t k es → StatementIs s t a → Goes P (elements s l o m i w vals rest x es a)
+  pub elements_goes : (x : Target) (es : List Element) (a : Statement) (k : Kind) → VariableFine s m i t x k → ElementsAre s u k es → StatementIs s u a → Goes P (elements s l o m i w vals rest x es a)
   elements_goes x [] a k v e y = goes w work
   elements_goes x (syntax.Once e ∷ es) a k v f y =
       ticked P l o (λ p. go p m i (finding x (Do (Eval (close s m i e)) ∷ Do (StoreOp x) ∷ Do (Exec a) ∷ Do (ElementsOp x es a) ∷ w)) vals rest) (λ t' w'.
       goes (finding x (Do (Eval (close s m i e)) ∷ Do (StoreOp x) ∷ Do (Exec a) ∷ Do (ElementsOp x es a) ∷ w)) (finds x k (Do (Eval (close s m i e)) ∷ Do (StoreOp x) ∷ Do (Exec a) ∷ Do (ElementsOp x es a) ∷ w) ks v
-      (evals e (Simply k) (Do (StoreOp x) ∷ Do (Exec a) ∷ Do (ElementsOp x es a) ∷ w) (found x ks) f.0 (stores x k (Do (Exec a) ∷ Do (ElementsOp x es a) ∷ w) ks v ([], ks, (refl, refl, refl, y), ([], ks, (refl, refl, refl, (k, v, f.1, y)), work))))))
+      (evals e (Simply k) (Do (StoreOp x) ∷ Do (Exec a) ∷ Do (ElementsOp x es a) ∷ w) (found x ks) f.0 (stores x k (Do (Exec a) ∷ Do (ElementsOp x es a) ∷ w) ks v ([], ks, (refl, refl, refl, (u, site, y)), loops x k es a v f.1 y)))))
   elements_goes x (syntax.While e token c ∷ es) a k v f y =
       let g = f.0 in
-      goes (Do (WhileElementOp x e c a) ∷ Do (ElementsOp x es a) ∷ w) ([], ks, (refl, refl, refl, (k, v, g.0, g.1, y)), ([], ks, (refl, refl, refl, (k, v, f.1, y)), work))
+      goes (Do (WhileElementOp x e c a) ∷ Do (ElementsOp x es a) ∷ w) ([], ks, (refl, refl, refl, (u, site, (k, v, g.0, g.1, y))), loops x k es a v f.1 y)
   elements_goes x (syntax.Step start token step limit ∷ es) a k v f y =
       let g = f.0 in
-      let v' = subst (VariableFine s m i x) g.0 v in
+      let v' = subst (VariableFine s m i t x) g.0 v in
       goes (Do (Eval (close s m i start)) ∷ Do (StoreOp x) ∷ Do (Eval (close s m i step)) ∷ Do (StepTestOp x (line_at s token) step limit a) ∷ Do (ElementsOp x es a) ∷ w)
       (evals start (Simply kind.Integer) (Do (StoreOp x) ∷ Do (Eval (close s m i step)) ∷ Do (StepTestOp x (line_at s token) step limit a) ∷ Do (ElementsOp x es a) ∷ w) ks g.1
       (stores_integer x (Do (Eval (close s m i step)) ∷ Do (StepTestOp x (line_at s token) step limit a) ∷ Do (ElementsOp x es a) ∷ w) ks v'
       (evals step (Simply kind.Integer) (Do (StepTestOp x (line_at s token) step limit a) ∷ Do (ElementsOp x es a) ∷ w) ks g.2
-      ([], ks, (refl, refl, refl, v', g.2, g.3, y), ([], ks, (refl, refl, refl, (k, v, f.1, y)), work)))))
+      ([], ks, (refl, refl, refl, (u, site, (v', g.2, g.3, y))), loops x k es a v f.1 y))))
 
-  pub while_goes : (x : Target) (e c : Expression) (a : Statement) (k : Kind) → VariableFine s m i x k → ExprIs s (Some t) e (Simply k) → ExprIs s (Some t) c (Simply kind.Boolean) → StatementIs s t a → Goes P (while_element s l o m i w vals rest x e c a)
+  pub while_goes : (x : Target) (e c : Expression) (a : Statement) (k : Kind) → VariableFine s m i t x k → ExprIs s (In u) e (Simply k) → ExprIs s (In u) c (Simply kind.Boolean) → StatementIs s u a → Goes P (while_element s l o m i w vals rest x e c a)
   while_goes x e c a k v f g y =
       ticked P l o (λ p. go p m i (finding x (Do (Eval (close s m i e)) ∷ Do (StoreOp x) ∷ Do (Eval (close s m i c)) ∷ Do (BranchOp a (BackOp (WhileElementOp x e c a))) ∷ w)) vals rest) (λ t' w'.
       goes (finding x (Do (Eval (close s m i e)) ∷ Do (StoreOp x) ∷ Do (Eval (close s m i c)) ∷ Do (BranchOp a (BackOp (WhileElementOp x e c a))) ∷ w)) (finds x k (Do (Eval (close s m i e)) ∷ Do (StoreOp x) ∷ Do (Eval (close s m i c)) ∷ Do (BranchOp a (BackOp (WhileElementOp x e c a))) ∷ w) ks v
       (evals e (Simply k) (Do (StoreOp x) ∷ Do (Eval (close s m i c)) ∷ Do (BranchOp a (BackOp (WhileElementOp x e c a))) ∷ w) (found x ks) f
       (stores x k (Do (Eval (close s m i c)) ∷ Do (BranchOp a (BackOp (WhileElementOp x e c a))) ∷ w) ks v
       (evals c (Simply kind.Boolean) (Do (BranchOp a (BackOp (WhileElementOp x e c a))) ∷ w) ks g
-      ([], ks, (refl, refl, refl, y, (refl, refl, refl, (k, v, f, g, y))), work))))))
+      ([], ks, (refl, refl, refl, (u, site, y), (refl, refl, refl, (u, site, (k, v, f, g, y)))), work))))))
 
-  pub step_goes : (x : Target) (line : ℕ) (step limit : Expression) (a : Statement) (left : List Kinds) → ks ≡ Value (Simply kind.Integer) ∷ left → VariableFine s m i x kind.Integer → ExprIs s (Some t) step (Simply kind.Integer) → ExprIs s (Some t) limit (Simply kind.Integer) → StatementIs s t a → (w : List Item) → Wk w left → Goes P (step_tested s l o m i w vals rest x line step limit a)
+  pub step_goes : (x : Target) (line : ℕ) (step limit : Expression) (a : Statement) (left : List Kinds) → ks ≡ Value (Simply kind.Integer) ∷ left → VariableFine s m i t x kind.Integer → ExprIs s (In u) step (Simply kind.Integer) → ExprIs s (In u) limit (Simply kind.Integer) → StatementIs s u a → (w : List Item) → Wk w left → Goes P (step_tested s l o m i w vals rest x line step limit a)
   step_goes x line step limit a left is v f g y w work =
       ticked P l o (λ p. go p m i (reading x (Do (Eval (close s m i limit)) ∷ Do (StepOp line) ∷ Do (BranchOp a (RaiseOp x line step limit a)) ∷ w)) vals rest) (λ t' w'.
       goes (reading x (Do (Eval (close s m i limit)) ∷ Do (StepOp line) ∷ Do (BranchOp a (RaiseOp x line step limit a)) ∷ w)) (subst (λ z. Wk (reading x (Do (Eval (close s m i limit)) ∷ Do (StepOp line) ∷ Do (BranchOp a (RaiseOp x line step limit a)) ∷ w)) z) (sym is)
-      (reads x kind.Integer (Do (Eval (close s m i limit)) ∷ Do (StepOp line) ∷ Do (BranchOp a (RaiseOp x line step limit a)) ∷ w) (Value (Simply kind.Integer) ∷ left) v
+      (reads x (Do (Eval (close s m i limit)) ∷ Do (StepOp line) ∷ Do (BranchOp a (RaiseOp x line step limit a)) ∷ w) (Value (Simply kind.Integer) ∷ left) v
       (evals limit (Simply kind.Integer) (Do (StepOp line) ∷ Do (BranchOp a (RaiseOp x line step limit a)) ∷ w) (Value (Simply kind.Integer) ∷ Value (Simply kind.Integer) ∷ left) g
-      ([], Value (Simply kind.Boolean) ∷ left, (left, refl, refl, refl), ([], left, (refl, refl, refl, y, (refl, refl, refl, (v, f, g, y))), work))))))
+      ([], Value (Simply kind.Boolean) ∷ left, (left, refl, refl, refl), ([], left, (refl, refl, refl, (u, site, y), (refl, refl, refl, (u, site, (v, f, g, y)))), work))))))
 
-  pub raise_goes : (x : Target) (line : ℕ) (step limit : Expression) (a : Statement) → VariableFine s m i x kind.Integer → ExprIs s (Some t) step (Simply kind.Integer) → ExprIs s (Some t) limit (Simply kind.Integer) → StatementIs s t a → Goes P (raised s o m i w vals rest x line step limit a)
+  pub raise_goes : (x : Target) (line : ℕ) (step limit : Expression) (a : Statement) → VariableFine s m i t x kind.Integer → ExprIs s (In u) step (Simply kind.Integer) → ExprIs s (In u) limit (Simply kind.Integer) → StatementIs s u a → Goes P (raised s o m i w vals rest x line step limit a)
   raise_goes x line step limit a v f g y =
       goes (Do (Eval (close s m i step)) ∷ Do AgainOp ∷ reading x (Do (TwoOp (dyadic.Calculate calculation.Add) line) ∷ Do (StoreOp x) ∷ Do (BackOp (StepTestOp x line step limit a)) ∷ w))
       (evals step (Simply kind.Integer) (Do AgainOp ∷ reading x (Do (TwoOp (dyadic.Calculate calculation.Add) line) ∷ Do (StoreOp x) ∷ Do (BackOp (StepTestOp x line step limit a)) ∷ w)) ks f (
         [],
         Value (Simply kind.Integer) ∷ Value (Simply kind.Integer) ∷ ks,
         (kind.Integer, ks, refl, refl, refl),
-        reads x kind.Integer (Do (TwoOp (dyadic.Calculate calculation.Add) line) ∷ Do (StoreOp x) ∷ Do (BackOp (StepTestOp x line step limit a)) ∷ w) (Value (Simply kind.Integer) ∷ Value (Simply kind.Integer) ∷ ks) v (
+        reads x (Do (TwoOp (dyadic.Calculate calculation.Add) line) ∷ Do (StoreOp x) ∷ Do (BackOp (StepTestOp x line step limit a)) ∷ w) (Value (Simply kind.Integer) ∷ Value (Simply kind.Integer) ∷ ks) v (
           [],
           Value (Simply kind.Integer) ∷ Value (Simply kind.Integer) ∷ ks,
           (kind.Integer, kind.Integer, Value (Simply kind.Integer) ∷ ks, (refl, refl), refl, refl, refl),
           stores_integer x (Do (BackOp (StepTestOp x line step limit a)) ∷ w) (Value (Simply kind.Integer) ∷ ks) v
-              ([], ks, (refl, refl, refl, v, f, g, y), work),
+              ([], ks, (refl, refl, refl, (u, site, (v, f, g, y))), work),
         ),
       ))
 
@@ -269,17 +352,17 @@ module _ (s : Source) (ok : Typed s) (l : Limits) (o : World) (sights : List Sig
   first_works (Also a more) = ([], ks, (refl, refl), work)
 
 -- what waits for a truth value
-module _ (s : Source) (ok : Typed s) (l : Limits) (o : World) (sights : List Sight) (long : length sights ≡ length o.arrays) (m : Instances) (i t : ℕ) (rest : List Activation) (top : Operates m i rest) (w : List Item) (vals : List Val) (ks : List Kinds) (b : Begun s (see sights o) m i t []) (h : HandsFine s (see sights o) m i (Value (Simply kind.Boolean) ∷ ks) vals) (work : Work s o sights long m i t rest top w [] ks) where
-  pub choose_goes : (a : Statement) (other : Statements) → StatementIs s t a → StatementsAre s t other → Goes (IsFine s) (do_op s l o m i w vals rest (ChooseOp a other))
+module _ (s : Source) (ok : Typed s) (l : Limits) (o : World) (sights : List Sight) (long : length sights ≡ length o.arrays) (m : Instances) (i t : ℕ) (rest : List Activation) (top : Operates m i rest) (w : List Item) (vals : List Val) (ks : List Kinds) (b : Begun s (see sights o) m i t []) (h : HandsFine s (see sights o) m i (Value (Simply kind.Boolean) ∷ ks) vals) (work : Work s o sights long m i t rest top w [] ks) (u : ℕ) (site : Site s m i u) where
+  pub choose_goes : (a : Statement) (other : Statements) → StatementIs s u a → StatementsAre s u other → Goes (IsFine s) (do_op s l o m i w vals rest (ChooseOp a other))
   choose_goes a other x y =
       truth_popped (IsFine s) s (see sights o) m i ks vals o (λ c vs. choosing c (go o m i (Do (Exec a) ∷ first_branch other w) vs rest) (go o m i (Do (Execs other) ∷ w) vs rest)) h (λ c vs more.
       chosen (IsFine s) c (go o m i (Do (Exec a) ∷ first_branch other w) vs rest) (go o m i (Do (Execs other) ∷ w) vs rest)
-      (goes_on s o sights long m i t rest top (Do (Exec a) ∷ first_branch other w) vs [] ks b more ([], ks, (refl, refl, refl, x), first_works s ok l o sights long m i t rest top w vs ks b more work other))
-      (goes_on s o sights long m i t rest top (Do (Execs other) ∷ w) vs [] ks b more ([], ks, (refl, refl, refl, y), work)))
+      (goes_on s o sights long m i t rest top (Do (Exec a) ∷ first_branch other w) vs [] ks b more ([], ks, (refl, refl, refl, (u, site, x)), first_works s ok l o sights long m i t rest top w vs ks b more work u site other))
+      (goes_on s o sights long m i t rest top (Do (Execs other) ∷ w) vs [] ks b more ([], ks, (refl, refl, refl, (u, site, y)), work)))
 
-  pub branch_goes : (a : Statement) (again : Op) → StatementIs s t a → OpFine s (see sights o) m i t again [] [] ks ks → Goes (IsFine s) (do_op s l o m i w vals rest (BranchOp a again))
+  pub branch_goes : (a : Statement) (again : Op) → StatementIs s u a → OpFine s (see sights o) m i t again [] [] ks ks → Goes (IsFine s) (do_op s l o m i w vals rest (BranchOp a again))
   branch_goes a again x y =
       truth_popped (IsFine s) s (see sights o) m i ks vals o (λ c vs. choosing c (go o m i (Do (Exec a) ∷ Do again ∷ w) vs rest) (go o m i w vs rest)) h (λ c vs more.
       chosen (IsFine s) c (go o m i (Do (Exec a) ∷ Do again ∷ w) vs rest) (go o m i w vs rest)
-      (goes_on s o sights long m i t rest top (Do (Exec a) ∷ Do again ∷ w) vs [] ks b more ([], ks, (refl, refl, refl, x), ([], ks, y, work)))
+      (goes_on s o sights long m i t rest top (Do (Exec a) ∷ Do again ∷ w) vs [] ks b more ([], ks, (refl, refl, refl, (u, site, x)), ([], ks, y, work)))
       (goes_on s o sights long m i t rest top w vs [] ks b more work))

@@ -1,2 +1,5 @@
+pub mod Held
+pub mod Expressions
+pub mod Statements
 pub mod Typed
 pub mod Examples

@@ -4,7 +4,7 @@ ghost use Rattle.sim_base.specs.declared.limits.Limits.{Limits};
 ghost use Rattle.sim_scope.specs.Source.{Source};
 ghost use Rattle.sim_code.specs.Outcome.{Ended, NoRule, World};
 ghost use Rattle.sim_meaning.specs.Meaning.{run};
-ghost use Rattle.sim_meaning.specs.Sane.{StaysSane};
+ghost use Rattle.sim_meaning.specs.Sane.{NamesObjects, StaysSane};
 ghost use Rattle.sim_sound.specs.Examples.{WorkedPrograms};
 ghost use Rattle.sim_sound.specs.Typed.{Typed};
 
@@ -20,9 +20,15 @@ pub fn typed_programs_stay_sane()
     ensures { (s : Source) → Typed s → StaysSane s }
 {}
 
-/// There are typed programs: a `for` list, a procedure that calls itself, a sub-block with arrays, texts, an array by value. So no part
+/// At each moment of a typed program's run a reference that was taken into the hand last names an object, which is there.
+#[tactic(auto, using(crate::proofs::Main::names_objects))]
+pub fn typed_programs_name_objects()
+    ensures { (s : Source) → Typed s → NamesObjects s }
+{}
+
+/// There are typed programs: a `for` list, a procedure that calls itself, a sub-block with arrays, texts, an array by value, a class. So no part
 /// of what is asked of a program speaks against another.
-#[tactic(auto, using(crate::proofs::Examples::worked_programs))]
+#[tactic(auto, using(crate::proofs::WorkedPrograms::worked_programs))]
 pub fn worked_programs_are_typed()
     ensures { WorkedPrograms }
 {}

@@ -1,5 +1,5 @@
 pub mod AssignmentSteps
-pub mod Needed
+pub mod Names
 pub mod Notings
 pub mod LastRound
 pub mod Simulations

@@ -1,7 +1,7 @@
--- The search for parameters that are code and for prefixes, construct by construct.
-use Rattle.std.proofs.Common.{◌≡◌, ◌<◌, Bool, true, false, ◌||◌, List, [], ◌∷◌, Option, Some, None, refl, sym, ap, ◌∙◌, map, length}
+-- The search for forms that are not built, construct by construct.
+use Rattle.std.proofs.Common.{◌≡◌, ◌<◌, ℕ, suc, arith, Bool, true, false, ◌||◌, List, [], ◌∷◌, Option, Some, None, refl, sym, ap, ◌∙◌, map, length}
 use Rattle.std.specs.List.{list_any}
-use Rattle.std.specs.Prelude.{is_some, option_map}
+use Rattle.std.specs.Prelude.{◌==◌, is_some, not, option_map}
 use Rattle.std.specs.declared.alloc.Global.{Global}
 use Rattle.std.specs.declared.boxed.Box.{Box}
 use Rattle.std.specs.declared.vec.Vec.{Vec}
@@ -30,13 +30,13 @@ use Rattle.sim_tree.specs.declared.stmt.Timing.{Timing}
 use Rattle.sim_tree.specs.declared.stmt.TypeName.{TypeName}
 use Rattle.sim_tree.specs.declared.stmt.Variable.{Variable}
 use Rattle.sim_tree.specs.declared.stmt.When.{When}
-use Rattle.sim_tree.specs.SyntaxOfProgram.{heading_syntax, mode_syntax, program_syntax, prefix_syntax, specification_syntax, specifier_syntax}
+use Rattle.sim_tree.specs.SyntaxOfProgram.{heading_syntax, interface_syntax, mode_syntax, prefix_syntax, program_syntax, protection_syntax, specification_syntax, specifier_syntax, virtual_syntax}
 use Rattle.sim_scope.specs.declared.types.Position.{Position}
 use Rattle.sim_scope.specs.declared.types.Position.TheVariants.{ClassBody, Inside}
 use Rattle.sim_scope.specs.Runs.{Runs, each, run}
 use Rattle.sim_scope.specs.Walk.{program_events, of_statement, of_branch, of_arm, of_block, of_whole, of_declaration}
-use Rattle.sim_scope.proofs.Walks.{runs_as, runs_none, runs_one, leads_all, leads_next, leads_end, run_empty, run_block, run_block_of_class, run_body_of_class, run_prefixed, run_inner, run_call, run_assignment, run_if, run_while, run_for, run_for_reference, run_inspect, run_inspect_when, run_activation, run_some, run_no_branch, run_arm, run_compound, run_whole_block, run_whole, run_class_body, run_variables, run_arrays, run_procedure, run_class, run_program}
-use Rattle.sim_static.specs.CodeParameters.{PassesCode, forms, has_code, is_by_name, is_prefixed, is_name_part, is_of_procedure, is_of_procedure_part, is_of_procedures, is_procedure, names_code, note, passes_code, yes}
+use Rattle.sim_scope.proofs.Walks.{runs_none, runs_one, leads_all, leads_next, leads_end, run_empty, run_block, run_block_of_class, run_body_of_class, run_prefixed, run_inner, run_call, run_assignment, run_if, run_while, run_for, run_for_reference, run_inspect, run_inspect_when, run_activation, run_some, run_no_branch, run_arm, run_compound, run_whole_block, run_whole, run_class_body, run_variables, run_arrays, run_procedure, run_class, run_program}
+use Rattle.sim_static.specs.UnbuiltForms.{HasUnbuiltForm, forms, has_code, has_some, has_unbuilt_form, is_by_name, is_name_part, is_of_procedure, is_of_procedure_part, is_of_procedures, is_procedure, is_unbuilt_class, names_code, names_unbuilt, note, yes}
 
 -- ---- a heading
 
@@ -59,11 +59,32 @@ unfolding names_code
 same_heading name formals modes specifications =
     ap (λ z. z || list_any is_of_procedures (map specification_syntax specifications)) (same_modes modes) ∙ ap (λ z. list_any is_name_part modes || z) (same_specifications specifications)
 
--- one heading more
+-- one procedure more
 heading : (b m : Bool) (name : Identifier) (formals : List Identifier) (modes ms : List ModePart) (specifications xs : List Specification) → ms ≡ modes → xs ≡ specifications
     → m ≡ (b || names_code ms xs) → Runs note b m (has_code (heading_syntax name formals modes specifications) ∷ [])
 heading b m name formals modes ms specifications xs same also_ now =
     runs_one note b m _ (now ∙ ap (λ z. b || z) (ap (λ z. names_code z xs) same ∙ ap (λ z. names_code modes z) also_ ∙ sym (same_heading name formals modes specifications)))
+
+no_zero : (n : ℕ) → (suc n == 0) ≡ false
+no_zero n = grind arith
+
+same_some : {A B : Type 0} (f : A → B) (xs : List A) → has_some (map f xs) ≡ not (length xs == 0)
+same_some f [] = refl
+same_some f (x ∷ xs) = ap not (sym (no_zero (length xs)))
+
+same_class : (prefix : Option Identifier) (q : Class)
+    → is_unbuilt_class prefix (heading_syntax q.name q.parameters.items q.modes.items q.specifications.items) (interface_syntax q.protections.items q.virtuals.items)
+    ≡ names_unbuilt prefix q.modes.items q.specifications.items q.protections.items q.virtuals.items
+unfolding names_unbuilt
+same_class prefix q =
+    ap (λ z. ((is_some prefix || z) || has_some (map protection_syntax q.protections.items)) || has_some (map virtual_syntax q.virtuals.items)) (same_heading q.name q.parameters.items q.modes.items q.specifications.items)
+    ∙ ap (λ z. ((is_some prefix || names_code q.modes.items q.specifications.items) || z) || has_some (map virtual_syntax q.virtuals.items)) (same_some protection_syntax q.protections.items)
+    ∙ ap (λ z. ((is_some prefix || names_code q.modes.items q.specifications.items) || not (length q.protections.items == 0)) || z) (same_some virtual_syntax q.virtuals.items)
+
+-- one class more
+classed : (b m : Bool) (prefix : Option Identifier) (q : Class) → m ≡ (b || names_unbuilt prefix q.modes.items q.specifications.items q.protections.items q.virtuals.items)
+    → Runs note b m (is_unbuilt_class prefix (heading_syntax q.name q.parameters.items q.modes.items q.specifications.items) (interface_syntax q.protections.items q.virtuals.items) ∷ [])
+classed b m prefix q now = runs_one note b m _ (now ∙ ap (λ z. b || z) (sym (same_class prefix q)))
 
 -- ---- statements
 
@@ -83,8 +104,8 @@ note_called b p x e is = run_call note forms b b p x e is (runs_none note b)
 pub note_assigned : (b : Bool) (p : Position) (x : Stmt) (e : Expr) (v : Vec Assigned Global) → x ≡ s.Assignment e v → Runs note b b (of_statement forms p x)
 note_assigned b p x e v is = run_assignment note forms b b p x e v is (runs_none note b)
 
-pub note_activation : (b : Bool) (p : Position) (x : Stmt) (i : TokenNo) (w : Activation) (e : Expr) (z : Option Timing) → x ≡ s.Activation i w e z → Runs note b b (of_statement forms p x)
-note_activation b p x i w e z is = run_activation note forms b b p x i w e z is (runs_none note b)
+pub note_activation : (b : Bool) (p : Position) (x : Stmt) (i : TokenNo) (w : Activation) (e : Expr) (z : Option Timing) → x ≡ s.Activation i w e z → Runs note b true (of_statement forms p x)
+note_activation b p x i w e z is = run_activation note forms b true p x i w e z is (runs_one note b true true (or_true b))
 
 pub note_if : (b m c : Bool) (p : Position) (x y : Stmt) (i : TokenNo) (e : Expr) (a : Box Stmt Global) (o : Option (Box Stmt Global)) → x ≡ s.If i e a o
     → y ≡ a.value → Runs note b m (of_statement forms Inside y) → Runs note m c (of_branch forms o) → Runs note b c (of_statement forms p x)
@@ -136,10 +157,9 @@ pub note_procedure : (b m c : Bool) (x : Decl) (r : Option TypeName) (i : TokenN
 note_procedure b m c x r i q ms xs y is modes specifications same now h =
     run_procedure note forms b m c c x r i q y is (heading b m q.name q.parameters.items q.modes.items ms q.specifications.items xs modes specifications now) same h (runs_none note c)
 
-pub note_class : (b m c : Bool) (x : Decl) (r : Option Identifier) (i : TokenNo) (q : Class) (ms : List ModePart) (xs : List Specification) (y : Stmt) → x ≡ d.Class r i q → ms ≡ q.modes.items → xs ≡ q.specifications.items → y ≡ q.body.value
-    → m ≡ (b || names_code ms xs) → Runs note m c (of_statement forms ClassBody y) → Runs note b c (of_declaration forms x)
-note_class b m c x r i q ms xs y is modes specifications same now h =
-    run_class note forms b m c c x r i q y is (heading b m q.name q.parameters.items q.modes.items ms q.specifications.items xs modes specifications now) same h (runs_none note c)
+pub note_class : (b m c : Bool) (x : Decl) (r : Option Identifier) (i : TokenNo) (q : Class) (y : Stmt) → x ≡ d.Class r i q → y ≡ q.body.value
+    → m ≡ (b || names_unbuilt r q.modes.items q.specifications.items q.protections.items q.virtuals.items) → Runs note m c (of_statement forms ClassBody y) → Runs note b c (of_declaration forms x)
+note_class b m c x r i q y is same now h = run_class note forms b m c c x r i q y is (classed b m r q now) same h (runs_none note c)
 
 pub ruleset notings = (run_empty, run_block, run_block_of_class, run_body_of_class, run_some, run_no_branch, run_compound, run_class_body, leads_all, leads_next, leads_end, note_prefixed, note_inner, note_called, note_assigned, note_activation, note_if, note_while, note_for, note_for_reference, note_inspect, note_inspect_when, note_arm, note_block, note_whole, note_variables, note_arrays, note_procedure, note_class)
 
@@ -158,13 +178,13 @@ unfolding run
 noted b [] = sym (or_false b)
 noted b (h ∷ hs) = noted (b || h) hs ∙ sym (or_or b h (list_any yes hs))
 
-prefixed_there : (o : Option BlockPrefix) → is_some o ≡ is_prefixed (option_map prefix_syntax o)
-prefixed_there None = refl
-prefixed_there (Some x) = refl
+prefix_there : (o : Option BlockPrefix) → is_some o ≡ is_some (option_map prefix_syntax o)
+prefix_there None = refl
+prefix_there (Some x) = refl
 
-pub whole_program : (tree : Tree) (b m : Bool) → m ≡ is_some tree.prefix → Runs note m b (of_whole forms tree.block) → PassesCode tree b
-unfolding PassesCode passes_code Runs
+pub whole_program : (tree : Tree) (b m : Bool) → m ≡ is_some tree.prefix → Runs note m b (of_whole forms tree.block) → HasUnbuiltForm tree b
+unfolding HasUnbuiltForm has_unbuilt_form Runs
 whole_program tree b m there h =
-    run_program note forms false m b tree (runs_one note false m (is_prefixed (option_map prefix_syntax tree.prefix)) (there ∙ prefixed_there tree.prefix)) h ∙ noted false (program_events forms (program_syntax tree))
+    run_program note forms false m b tree (runs_one note false m (is_some (option_map prefix_syntax tree.prefix)) (there ∙ prefix_there tree.prefix)) h ∙ noted false (program_events forms (program_syntax tree))
 
-pub ruleset passing = (whole_program)
+pub ruleset unbuilt = (whole_program)

@@ -1,5 +1,5 @@
 pub mod Check
-pub mod CodeParameters
 pub mod Examples
-pub mod NeedsClasses
 pub mod StatementWalk
+pub mod UnbuiltForms
+pub mod UnbuiltNames

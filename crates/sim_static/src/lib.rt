@@ -5,16 +5,16 @@
 mod activation;
 mod assignment;
 mod bounds;
-mod code_parameters;
 mod connection;
 mod control;
-mod forms;
 mod judging;
 pub mod laws;
 mod prefix;
 mod rounds;
 mod statement;
+mod unbuilt_forms;
+mod unbuilt_names;
 
-pub use code_parameters::passes_code;
-pub use forms::needs_classes;
 pub use rounds::check;
+pub use unbuilt_forms::has_unbuilt_form;
+pub use unbuilt_names::has_unbuilt_name;

@@ -16,17 +16,19 @@ use Rattle.sim_tree.specs.declared.stmt.ForElement.{ForElement}
 use Rattle.sim_tree.specs.declared.stmt.ReferenceElement.{ReferenceElement}
 use Rattle.sim_tree.specs.declared.stmt.Stmt.{Stmt}
 use Rattle.sim_tree.specs.declared.stmt.TypeName.{TypeName}
-use Rattle.sim_tree.specs.Filled.{Filled, FilledBlock, FilledDeclaration, FilledDeclarations, FilledSegments, FilledStatement, FilledStatements, SomeElement, SomeIdentifier, SomeSide}
+use Rattle.sim_tree.specs.declared.stmt.VirtualSpecification.{VirtualSpecification}
+use Rattle.sim_tree.specs.declared.stmt.When.{When}
+use Rattle.sim_tree.specs.Filled.{Filled, FilledArms, FilledBlock, FilledDeclaration, FilledDeclarations, FilledSegments, FilledStatement, FilledStatements, SomeElement, SomeIdentifier, SomeSide}
 use Rattle.sim_tree.specs.Grammar as g
 use Rattle.sim_tree.specs.Nesting.{has_token}
-use Rattle.sim_tree.specs.Reading.{Forest, done, node, bare_leaf}
+use Rattle.sim_tree.specs.Reading.{Forest, done, node, place, bare_leaf}
 use Rattle.sim_tree.specs.Derivation.{Derivation, arguments, row, derivation_of}
 use Rattle.sim_tree.specs.ProgramDerivation as d
-use Rattle.sim_tree.specs.ProgramDerivation.{Declared, Plain, Prefixed, block_derivation, contents, declaration_derivation, next_statement, program_derivation, statement_derivation}
+use Rattle.sim_tree.specs.ProgramDerivation.{Declared, Plain, Prefixed, block_derivation, contents, declaration_derivation, next_statement, program_derivation, statement_derivation, when_derivation}
 use Rattle.sim_tree.specs.Syntax.{Block as BlockSyntax}
 use Rattle.sim_tree.specs.Syntax.{Declaration, Statement, declarations, statements}
 use Rattle.sim_tree.specs.SyntaxOfProgram as t
-use Rattle.sim_tree.specs.SyntaxOfProgram.{Arm, Classed, Headed, block_syntax, declaration_syntax, program_syntax, statement_syntax}
+use Rattle.sim_tree.specs.SyntaxOfProgram.{Arm, Classed, Headed, arm_syntax, arms, block_syntax, declaration_syntax, program_syntax, statement_syntax}
 use Rattle.sim_tree.specs.Tree.{IsTree}
 use Rattle.sim_tree.proofs.Full.{reads_full}
 use Rattle.sim_tree.proofs.Induction as induction
@@ -51,7 +53,7 @@ abbrev Procedures : Forest → Headed → Type 0
 Procedures f e = Full f → (result : Option TypeName) (i : ℕ) → FilledDeclaration (e result i)
 
 abbrev Arms : Forest → Arm → Type 0
-Arms f e = Unit {0}
+Arms f e = Full f → FilledStatement e.body
 
 abbrev EachStatement : List Forest → List Statement → Type 0
 EachStatement = induction.EachStatement Says Declares Blocks Classes Procedures Arms
@@ -117,6 +119,24 @@ first_stmt x = x.0
 abbrev first_decl : DeclPair → Decl
 first_decl x = x.0
 
+abbrev WhenPair : Type 0
+WhenPair = induction.WhenPair Says Declares Blocks Classes Procedures Arms
+
+abbrev first_when : WhenPair → When
+first_when x = x.0
+
+arms_filled : (xs : List WhenPair) → Full (row g.WhenArm (map when_derivation (map first_when xs)) done) → FilledArms (arms (map arm_syntax (map first_when xs)))
+arms_filled [] full = tt
+arms_filled (x ∷ xs) full = (x.1 full.1, arms_filled xs full.2)
+
+row_full : (n : g.Part) (fs : List Forest) (f : Forest) → Full (row n fs f) → Full f
+row_full n [] f full = full
+row_full n (x ∷ xs) f full = row_full n xs f full.2
+
+virtuals_full : (vs : List VirtualSpecification) (f : Forest) → Full (d.virtuals_derivation vs f) → Full f
+virtuals_full [] f full = full
+virtuals_full (v ∷ vs) f full = full.2
+
 stmt_step : induction.StmtStep Says Declares Blocks Classes Procedures Arms
 stmt_step (Stmt-F.Empty i) token full = tt
 stmt_step (Stmt-F.Block b) token full = b.1 full.1
@@ -129,10 +149,10 @@ stmt_step (Stmt-F.If i e a (Some b)) token full = (a.value.1 full.2.0 full.2.1, 
 stmt_step (Stmt-F.While i e a) token full = a.value.1 full.2.0 full.2.1
 stmt_step (Stmt-F.For i x n v a) token full = (elements_filled n.0 v.items full.0, a.value.1 full.2.0 full.2.1)
 stmt_step (Stmt-F.ForReference i x n v a) token full = (reference_elements_filled n.0 v.items full.0, a.value.1 full.2.0 full.2.1)
-stmt_step (Stmt-F.Inspect i e n a m None) token full = tt
-stmt_step (Stmt-F.Inspect i e n a m (Some b)) token full = tt
-stmt_step (Stmt-F.InspectWhen i e v None) token full = tt
-stmt_step (Stmt-F.InspectWhen i e v (Some b)) token full = tt
+stmt_step (Stmt-F.Inspect i e n a m None) token full = (a.value.1 full.2.1.0 full.2.1.1, tt)
+stmt_step (Stmt-F.Inspect i e n a m (Some b)) token full = (a.value.1 full.2.1.0 full.2.1.1, (b.value.1 full.2.2.1.0 full.2.2.1.1, tt))
+stmt_step (Stmt-F.InspectWhen i e v None) token full = (arms_filled v.items full.2.1, tt)
+stmt_step (Stmt-F.InspectWhen i e v (Some b)) token full = (arms_filled v.items full.2.1, (b.value.1 full.2.2.1.0 full.2.2.1.1, tt))
 stmt_step (Stmt-F.Activation i w e o) token full = tt
 
 decl_step : induction.DeclStep Says Declares Blocks Classes Procedures Arms
@@ -149,13 +169,16 @@ block_step b full =
     (map statement_syntax (map first_stmt b.statements.items)) b.end.0 (induction.each_declaration Says Declares Blocks Classes Procedures Arms b.declarations.items) (induction.each_statement Says Declares Blocks Classes Procedures Arms b.statements.items) full.1
 
 class_step : induction.ClassStep Says Declares Blocks Classes Procedures Arms
-class_step c full prefix i = tt
+class_step c full prefix i =
+    let last = node g.Statement (statement_derivation c.body.value.0) (place c.end.0 done) in
+    let inside = virtuals_full c.virtuals.items last (row_full g.Protection (map d.protection_derivation c.protections.items) (d.virtuals_derivation c.virtuals.items last) full.2) in
+    c.body.value.1 inside.0 inside.1
 
 procedure_step : induction.ProcedureStep Says Declares Blocks Classes Procedures Arms
 procedure_step p full result i = p.body.value.1 full.2.0 full.2.1
 
 when_step : induction.WhenStep Says Declares Blocks Classes Procedures Arms
-when_step w = tt
+when_step w full = w.body.1 full.0 full.1
 
 block_filled : (b : Block) → Blocks (block_derivation b) (block_syntax b)
 block_filled = induction.each_block Says Declares Blocks Classes Procedures Arms stmt_step decl_step block_step class_step procedure_step when_step

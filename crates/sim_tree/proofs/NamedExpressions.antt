@@ -144,7 +144,7 @@ FactorClaim x = StepClaim (factor_derivation x) (factor_syntax x)
 
 abbrev selection_named : Selection → List ℕ → List ℕ
 selection_named (Take i name es) l = i ∷ name.token.0 ∷ all_named es l
-selection_named (Cast i class) l = i ∷ l
+selection_named (Cast i class) l = i ∷ class.token.0 ∷ l
 
 abbrev selections_named : List Selection → List ℕ → List ℕ
 selections_named [] l = l
@@ -317,7 +317,7 @@ expr_step (Expr-F.Or a v) = in_operated 8 k.Or o.Or g.NextOr (omega arith) a.val
 expr_step (Expr-F.And a v) = in_operated 7 k.And o.And g.NextAnd (omega arith) a.value.1 v.items
 expr_step (Expr-F.Not v a) = in_negated v.items a.value.1
 expr_step (Expr-F.Related a i r b) = record { known = λ bare full. both (leveled 5 (omega arith) a.value.1 full.0 full.1) (keep (leveled 5 (omega arith) b.value.1 full.2.1.0 full.2.1.1)) }
-expr_step (Expr-F.Member a i m x) = record { known = λ bare full. both (leveled 5 (omega arith) a.value.1 full.0 full.1) (keep (skip none)) }
+expr_step (Expr-F.Member a i m x) = record { known = λ bare full. both (leveled 5 (omega arith) a.value.1 full.0 full.1) (keep (keep none)) }
 expr_step (Expr-F.Concatenation a v) = in_operated 4 k.Ampersand o.Concatenate g.NextConcatenated (omega arith) a.value.1 v.items
 expr_step (Expr-F.Sum y a v) = in_summed y (map term_derivation (map first_term v.items)) (map term_syntax (map first_term v.items)) (each_term v.items) a.value.1
 expr_step (Expr-F.Product a v) = in_multiplied (map factor_derivation (map first_factor v.items)) (map factor_syntax (map first_factor v.items)) (each_factor v.items) a.value.1
@@ -331,8 +331,8 @@ expr_step (Expr-F.False i) = record { known = λ bare full. keep none }
 expr_step (Expr-F.NoObject i) = record { known = λ bare full. keep none }
 expr_step (Expr-F.Notext i) = record { known = λ bare full. keep none }
 expr_step (Expr-F.Named x v) = record { known = λ bare full. keep (actuals v.items full) }
-expr_step (Expr-F.This i x) = record { known = λ bare full. keep (skip none) }
-expr_step (Expr-F.New i x v) = record { known = λ bare full. keep (skip (actuals v.items full)) }
+expr_step (Expr-F.This i x) = record { known = λ bare full. keep (keep none) }
+expr_step (Expr-F.New i x v) = record { known = λ bare full. keep (keep (actuals v.items full)) }
 expr_step (Expr-F.Parentheses i a) = record { known = λ bare full. keep (valued a.value.1 full.0 full.1) }
 
 layer : (x : Expr-F Expr Selector Factor Operand Term) → LayerClaim x → ExprClaim (roll-Expr x)
@@ -350,7 +350,7 @@ SelectorLayer x =
 selector_step : (y : Selector-F ExprPair SelectorPair FactorPair OperandPair TermPair)
     → SelectorLayer (map-Selector ExprPair SelectorPair FactorPair OperandPair TermPair Expr Selector Factor Operand Term first_expr first_selector first_factor first_operand first_term y)
 selector_step (Selector-F.Dot i x v) full = keep (keep (actuals v.items full))
-selector_step (Selector-F.Qua i x) full = keep (skip none)
+selector_step (Selector-F.Qua i x) full = keep (keep none)
 
 selector_layer : (x : Selector-F Expr Selector Factor Operand Term) → SelectorLayer x → SelectorClaim (roll-Selector x)
 unfolding syntax_of operand_syntax term_syntax factor_syntax selector_syntax

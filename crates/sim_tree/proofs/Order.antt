@@ -1,5 +1,5 @@
--- The identifiers that a program declares, the tokens that name its expressions, and where its blocks begin and end are among the tokens and
--- places of its derivation, in its order; so they ascend.
+-- The identifiers that a program declares, the classes that it names, the tokens that name its expressions, and where its blocks and connections
+-- begin and end are among the tokens and places of its derivation, in its order; so they ascend.
 use Rattle.std.proofs.Common.{◌≡◌, arith, ℕ, length, true, List, [], ◌∷◌, Option, Some, None, map, refl, ap, ◌∙◌}
 use Rattle.std.proofs.lemmas.Bool.{false≢true}
 use Rattle.std.specs.Prelude.{not}
@@ -16,6 +16,7 @@ use Rattle.sim_tree.specs.declared.stmt.Decl.TheOpen.{Stmt-F, Decl-F}
 use Rattle.sim_tree.specs.declared.stmt.Procedure.{Procedure}
 use Rattle.sim_tree.specs.declared.stmt.Stmt.{Stmt}
 use Rattle.sim_tree.specs.declared.stmt.TypeName.{TypeName}
+use Rattle.sim_tree.specs.declared.stmt.TypeName.TheVariants as type_name
 use Rattle.sim_tree.specs.declared.stmt.When.{When}
 use Rattle.sim_tree.specs.Grammar as g
 use Rattle.sim_tree.specs.Reading.{Forest, done, leaf, place, node, bare_leaf}
@@ -25,12 +26,12 @@ use Rattle.sim_tree.proofs.Full.{reads_full}
 use Rattle.sim_tree.specs.Nesting.{has_token}
 use Rattle.sim_tree.specs.Derivation.{Derivation, argument, arguments, expression, raise, row, derivation_of, whole}
 use Rattle.sim_tree.specs.ProgramDerivation as d
-use Rattle.sim_tree.specs.ProgramDerivation.{Declared, Plain, Prefixed, joined, acted, begun, contents, next_statement, assigned_derivation, statement_derivation, declaration_derivation, block_derivation, class_derivation, procedure_derivation, when_derivation, program_derivation}
+use Rattle.sim_tree.specs.ProgramDerivation.{Declared, Plain, Prefixed, joined, acted, begun, contents, next_statement, assigned_derivation, statement_derivation, declaration_derivation, block_derivation, when_derivation, program_derivation}
 use Rattle.sim_tree.specs.Syntax.{Statement, Declaration, statements, declarations}
 use Rattle.sim_tree.specs.Syntax.{Block as BlockSyntax}
 use Rattle.sim_tree.specs.SyntaxOf.{syntax_of}
 use Rattle.sim_tree.specs.SyntaxOfProgram as t
-use Rattle.sim_tree.specs.SyntaxOfProgram.{Arm, arms, Classed, Headed, statement_syntax, declaration_syntax, block_syntax, class_syntax, procedure_syntax, arm_syntax, program_syntax}
+use Rattle.sim_tree.specs.SyntaxOfProgram.{Arm, arms, Classed, Headed, statement_syntax, declaration_syntax, block_syntax, arm_syntax, program_syntax}
 use Rattle.sim_base.specs.declared.token.Token.{Token}
 use Rattle.sim_tree.specs.declared.stmt.ModePart.{ModePart}
 use Rattle.sim_tree.specs.declared.stmt.Specification.{Specification}
@@ -42,8 +43,7 @@ use Rattle.sim_tree.specs.declared.stmt.ForElement.TheVariants as for_element
 use Rattle.sim_tree.specs.declared.stmt.ReferenceElement.{ReferenceElement}
 use Rattle.sim_tree.specs.declared.stmt.ReferenceElement.TheVariants as reference_element
 use Rattle.sim_tree.specs.declared.stmt.VirtualSpecification.{VirtualSpecification}
-use Rattle.sim_tree.specs.Grammar.{Symbol}
-use Rattle.sim_tree.specs.Order.{AllBelow, Behind, InOrder, Spot, Token as Mark, in_block, in_bounds, in_declaration, in_declarations, in_each, in_element, in_expression, in_name, in_segment, in_side, in_statement, in_statements, in_variable}
+use Rattle.sim_tree.specs.Order.{AllBelow, Behind, InOrder, Spot, Token as Mark, in_arms, in_block, in_bounds, in_declaration, in_declarations, in_each, in_element, in_expression, in_name, in_segment, in_side, in_statement, in_statements, in_type, in_variable}
 use Rattle.sim_tree.proofs.ReadExpressions.{Full, is_full-Full}
 use Rattle.sim_tree.proofs.ReadStatements.{acted_full}
 use Rattle.sim_tree.proofs.NamedExpressions.{name_expr, operand_named, valued}
@@ -63,11 +63,16 @@ Blocks f e = Full f → Lays (in_block e) (spots f)
 abbrev Classes : Forest → Classed → Type 0
 Classes f e = Full f → (prefix : Option Identifier) (i : ℕ) → Lays (in_declaration (e prefix i)) (spots f)
 
+-- in front of a procedure: the type of its result, and the word that declares it
+abbrev behind_result : Option TypeName → ℕ → List Spot → List Spot
+behind_result None i q = q
+behind_result (Some n) i q = spots (d.type_derivation n) (Mark i ∷ q)
+
 abbrev Procedures : Forest → Headed → Type 0
-Procedures f e = Full f → (result : Option TypeName) (i : ℕ) → Lays (in_declaration (e result i)) (spots f)
+Procedures f e = Full f → (result : Option TypeName) (i : ℕ) → Lays (in_declaration (e result i)) (λ q. behind_result result i (spots f q))
 
 abbrev Arms : Forest → Arm → Type 0
-Arms f e = Full f → Lays (in_statement e.body) (spots f)
+Arms f e = Full f → Lays (λ r. Mark e.class.token.0 ∷ (Mark e.opening ∷ in_statement e.body (Behind e.end ∷ r))) (spots f)
 
 abbrev EachStatement : List Forest → List Statement → Type 0
 EachStatement = induction.EachStatement Says Declares Blocks Classes Procedures Arms
@@ -132,6 +137,13 @@ more_ids (x ∷ xs) = keep (more_ids xs)
 ids_named : (xs : List Identifier) → Lays (in_each in_name xs) (spots (d.ids xs))
 ids_named [] = none
 ids_named (x ∷ xs) = keep (more_ids xs)
+
+type_named : (n : TypeName) → Lays (in_type n) (spots (d.type_derivation n))
+type_named (type_name.Integer i) = skip none
+type_named (type_name.Boolean i) = skip none
+type_named (type_name.Character i) = skip none
+type_named (type_name.Text i) = skip none
+type_named (type_name.Reference i class) = skip (keep none)
 
 variable_named : (x : Variable) → Lays (in_variable x) (spots (d.variable_derivation x))
 variable_named x = keep (lays_none (d.value_derivation x.value))
@@ -255,11 +267,16 @@ first_procedure x = x.0
 abbrev first_when : WhenPair → When
 first_when x = x.0
 
+arms_named : (xs : List WhenPair) → Full (row g.WhenArm (map when_derivation (map first_when xs)) done)
+    → Lays (in_arms (arms (map arm_syntax (map first_when xs)))) (spots (row g.WhenArm (map when_derivation (map first_when xs)) done))
+arms_named [] full = none
+arms_named (x ∷ xs) full = both (x.1 full.1) (arms_named xs full.2)
+
 stmt_step : induction.StmtStep Says Declares Blocks Classes Procedures Arms
 stmt_step (Stmt-F.Empty i) token full = skip none
 stmt_step (Stmt-F.Block b) token full = b.1 full.1
 stmt_step (Stmt-F.PrefixedBlock p b) token full = skip (behind_arguments (map derivation_of p.arguments.items) (node g.AfterFirstOperand (node g.Compound (block_derivation b.0) done) done) full (λ full. b.1 full.1.1))
-stmt_step (Stmt-F.Inner i) token full = skip none
+stmt_step (Stmt-F.Inner i) token full = keep none
 stmt_step (Stmt-F.Call e) token full = called e done full (λ full. none)
 stmt_step (Stmt-F.Assignment e v) token full = assigned_named e v.items token full
 stmt_step (Stmt-F.If i e a None) token full = skip (both (expr_named e full.0 full.1) (a.value.1 full.2.0 full.2.1))
@@ -267,17 +284,17 @@ stmt_step (Stmt-F.If i e a (Some b)) token full = skip (both (expr_named e full.
 stmt_step (Stmt-F.While i e a) token full = skip (both (expr_named e full.0 full.1) (a.value.1 full.2.0 full.2.1))
 stmt_step (Stmt-F.For i x n v a) token full = skip (keep (skip (both (elements_named v.items full.1) (a.value.1 full.2.0 full.2.1))))
 stmt_step (Stmt-F.ForReference i x n v a) token full = skip (keep (skip (both (reference_elements_named v.items full.1) (a.value.1 full.2.0 full.2.1))))
-stmt_step (Stmt-F.Inspect i e n a m None) token full = skip (both (lays_none (expression e)) (skip (both (a.value.1 full.2.1.0 full.2.1.1) (skip none))))
-stmt_step (Stmt-F.Inspect i e n a m (Some b)) token full = skip (both (lays_none (expression e)) (skip (both (a.value.1 full.2.1.0 full.2.1.1) (skip (b.value.1 full.2.2.1.0 full.2.2.1.1)))))
-stmt_step (Stmt-F.InspectWhen i e v None) token full = skip (both (lays_none (expression e)) (lays_none (row g.WhenArm (map when_derivation (map first_when v.items)) done)))
-stmt_step (Stmt-F.InspectWhen i e v (Some b)) token full = skip (both (lays_none (expression e)) (both (lays_none (row g.WhenArm (map when_derivation (map first_when v.items)) done)) (b.value.1 full.2.2.1.0 full.2.2.1.1)))
+stmt_step (Stmt-F.Inspect i e n a m None) token full = skip (both (expr_named e full.0 full.1) (keep (both (a.value.1 full.2.1.0 full.2.1.1) (keep none))))
+stmt_step (Stmt-F.Inspect i e n a m (Some b)) token full = skip (both (expr_named e full.0 full.1) (keep (both (a.value.1 full.2.1.0 full.2.1.1) (keep (b.value.1 full.2.2.1.0 full.2.2.1.1)))))
+stmt_step (Stmt-F.InspectWhen i e v None) token full = skip (both (expr_named e full.0 full.1) (arms_named v.items full.2.1))
+stmt_step (Stmt-F.InspectWhen i e v (Some b)) token full = skip (both (expr_named e full.0 full.1) (both (arms_named v.items full.2.1) (b.value.1 full.2.2.1.0 full.2.2.1.1)))
 stmt_step (Stmt-F.Activation i w e o) token full = skip (both (lays_none (expression e)) (lays_none (d.timing_derivation o)))
 
 decl_step : induction.DeclStep Says Declares Blocks Classes Procedures Arms
-decl_step (Decl-F.Variables n v) = λ full. both (lays_none (d.type_derivation n)) (variables_named v.items)
-decl_step (Decl-F.Arrays n i v) = λ full. both (lays_none (d.type_derivation n)) (skip (segments_named v.items full.2.1))
+decl_step (Decl-F.Variables n v) = λ full. both (type_named n) (variables_named v.items)
+decl_step (Decl-F.Arrays n i v) = λ full. both (type_named n) (skip (segments_named v.items full.2.1))
 decl_step (Decl-F.Procedure None i p) = λ full. skip (p.1 full.1 None i.0)
-decl_step (Decl-F.Procedure (Some n) i p) = λ full. both (lays_none (d.type_derivation n)) (skip (p.1 full.2.1.1 (Some n) i.0))
+decl_step (Decl-F.Procedure (Some n) i p) = λ full. p.1 full.2.1.1 (Some n) i.0
 decl_step (Decl-F.Class None i c) = λ full. skip (c.1 full.1 None i.0)
 decl_step (Decl-F.Class (Some x) i c) = λ full. c.1 full (Some x) i.0
 
@@ -296,10 +313,11 @@ class_step c full prefix i =
     (row_none g.Protection (map d.protection_derivation c.protections.items) middle full.2 (λ full. virtuals_none c.virtuals.items last full (λ full. both (c.body.value.1 full.0 full.1) (keep none)))))
 
 procedure_step : induction.ProcedureStep Says Declares Blocks Classes Procedures Arms
-procedure_step p full result i = keep (both (heading_named p.parameters.items p.modes.items p.specifications.items) (both (p.body.value.1 full.2.0 full.2.1) (keep none)))
+procedure_step p full None i = keep (both (heading_named p.parameters.items p.modes.items p.specifications.items) (both (p.body.value.1 full.2.0 full.2.1) (keep none)))
+procedure_step p full (Some n) i = both (type_named n) (skip (keep (both (heading_named p.parameters.items p.modes.items p.specifications.items) (both (p.body.value.1 full.2.0 full.2.1) (keep none)))))
 
 when_step : induction.WhenStep Says Declares Blocks Classes Procedures Arms
-when_step w full = skip (skip (skip (both (w.body.1 full.0 full.1) (skip none))))
+when_step w full = skip (keep (keep (both (w.body.1 full.0 full.1) (keep none))))
 
 name_block : (b : Block) → Blocks (block_derivation b) (block_syntax b)
 name_block = induction.each_block Says Declares Blocks Classes Procedures Arms stmt_step decl_step block_step class_step procedure_step when_step

@@ -15,13 +15,13 @@ mutual
   kept (s.Binary operator i a b) x l h = kept a x (i ∷ named b l) (inr (kept b x l h))
   kept (s.Not i a) x l h = inr (kept a x l h)
   kept (s.Signed sign i a) x l h = inr (kept a x l h)
-  kept (s.Member m i a class) x l h = kept a x (i ∷ l) (inr h)
+  kept (s.Member m i a class) x l h = kept a x (i ∷ class.token.0 ∷ l) (inr (inr h))
   kept (s.Dot i a name es) x l h = kept a x (i ∷ name.token.0 ∷ all_named es l) (inr (inr (all_kept es x l h)))
-  kept (s.Qua i a class) x l h = kept a x (i ∷ l) (inr h)
+  kept (s.Qua i a class) x l h = kept a x (i ∷ class.token.0 ∷ l) (inr (inr h))
   kept (s.Constant literal i) x l h = inr h
   kept (s.Named name es) x l h = inr (all_kept es x l h)
-  kept (s.This i class) x l h = inr h
-  kept (s.New i class es) x l h = inr (all_kept es x l h)
+  kept (s.This i class) x l h = inr (inr h)
+  kept (s.New i class es) x l h = inr (inr (all_kept es x l h))
   kept (s.Parentheses i a) x l h = inr (kept a x l h)
 
   all_kept : (es : Expressions) (x : ℕ) (l : List ℕ) → Has x l → Has x (all_named es l)
@@ -33,9 +33,9 @@ own (s.If i a b c) l = inl refl
 own (s.Binary operator i a b) l = kept a i (i ∷ named b l) (inl refl)
 own (s.Not i a) l = inl refl
 own (s.Signed sign i a) l = inl refl
-own (s.Member m i a class) l = kept a i (i ∷ l) (inl refl)
+own (s.Member m i a class) l = kept a i (i ∷ class.token.0 ∷ l) (inl refl)
 own (s.Dot i a name es) l = kept a i (i ∷ name.token.0 ∷ all_named es l) (inl refl)
-own (s.Qua i a class) l = kept a i (i ∷ l) (inl refl)
+own (s.Qua i a class) l = kept a i (i ∷ class.token.0 ∷ l) (inl refl)
 own (s.Constant literal i) l = inl refl
 own (s.Named name es) l = inl refl
 own (s.This i class) l = inl refl

@@ -2,7 +2,7 @@
 -- an element, each segment of arrays a name.
 use Rattle.std.specs.Prelude.{List, [], ◌∷◌}
 use Rattle.sim_tree.specs.declared.expr.Identifier.{Identifier}
-use Rattle.sim_tree.specs.Syntax.{Also, Arrayed, Arrays, Begin, Block, Declaration, Declarations, DeclareProcedure, Element, NoDeclaration, NoStatement, Program, RightSide, Statement, Statements, With}
+use Rattle.sim_tree.specs.Syntax.{Also, Arms, Arrayed, Arrays, Begin, Block, Declaration, Declarations, DeclareClass, DeclareProcedure, Element, NoArm, NoDeclaration, NoStatement, Program, RightSide, Statement, Statements, When, With}
 use Rattle.sim_tree.specs.Syntax as syntax
 
 abbrev pub SomeSide : List RightSide → Type 0
@@ -21,7 +21,7 @@ abbrev pub FilledSegments : List Arrayed → Type 0
 FilledSegments [] = Unit {0}
 FilledSegments (a ∷ more) = SomeIdentifier a.names × FilledSegments more
 
--- of the statements of programs without classes; of any other nothing is said
+-- of prefixed blocks and activations nothing is said
 abbrev mutual
   pub FilledStatement : Statement → Type 0
   FilledStatement (syntax.Compound b) = FilledBlock b
@@ -29,7 +29,13 @@ abbrev mutual
   FilledStatement (syntax.Choose token c a b) = FilledStatement a × FilledStatements b
   FilledStatement (syntax.Repeat token c a) = FilledStatement a
   FilledStatement (syntax.For token x sign assign es a) = SomeElement es × FilledStatement a
+  FilledStatement (syntax.Inspect token e opening a end other) = FilledStatement a × FilledStatements other
+  FilledStatement (syntax.InspectWhen token e arms other) = FilledArms arms × FilledStatements other
   FilledStatement _ = Unit {0}
+
+  pub FilledArms : Arms → Type 0
+  FilledArms NoArm = Unit {0}
+  FilledArms (When token class opening a end more) = FilledStatement a × FilledArms more
 
   pub FilledStatements : Statements → Type 0
   FilledStatements NoStatement = Unit {0}
@@ -44,6 +50,7 @@ abbrev mutual
 
   pub FilledDeclaration : Declaration → Type 0
   FilledDeclaration (DeclareProcedure result token h a end) = FilledStatement a
+  FilledDeclaration (DeclareClass prefix token h interface a end) = FilledStatement a
   FilledDeclaration (Arrays type token segments) = FilledSegments segments
   FilledDeclaration _ = Unit {0}
 

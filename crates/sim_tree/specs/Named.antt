@@ -1,4 +1,5 @@
--- The tokens that name the expressions of a program, and the attributes behind dots, in the order of the text, each in front of those behind it.
+-- The tokens that name the expressions of a program, the attributes behind dots and the classes in expressions, in the order of the text, each in
+-- front of those behind it.
 use Rattle.std.specs.Prelude.{◌<◌, ℕ, List, [], ◌∷◌, Option, Some, None}
 use Rattle.std.specs.List.{AllByRecursion}
 use Rattle.sim_tree.specs.Syntax as s
@@ -11,13 +12,13 @@ abbrev mutual
   named (s.Binary operator i a b) l = named a (i ∷ named b l)
   named (s.Not i a) l = i ∷ named a l
   named (s.Signed sign i a) l = i ∷ named a l
-  named (s.Member m i a class) l = named a (i ∷ l)
+  named (s.Member m i a class) l = named a (i ∷ class.token.0 ∷ l)
   named (s.Dot i a name es) l = named a (i ∷ name.token.0 ∷ all_named es l)
-  named (s.Qua i a class) l = named a (i ∷ l)
+  named (s.Qua i a class) l = named a (i ∷ class.token.0 ∷ l)
   named (s.Constant literal i) l = i ∷ l
   named (s.Named name es) l = name.token.0 ∷ all_named es l
-  named (s.This i class) l = i ∷ l
-  named (s.New i class es) l = i ∷ all_named es l
+  named (s.This i class) l = i ∷ class.token.0 ∷ l
+  named (s.New i class es) l = i ∷ class.token.0 ∷ all_named es l
   named (s.Parentheses i a) l = i ∷ named a l
 
   pub all_named : Expressions → List ℕ → List ℕ

@@ -1,10 +1,12 @@
--- The tokens of a program stand in the order of its text: the identifiers that it declares, the tokens that name its expressions, and where its
--- blocks begin and end.
-use Rattle.std.specs.Prelude.{◌≤◌, ◌<◌, ◌+◌, ℕ, List, [], ◌∷◌}
+-- The tokens of a program stand in the order of its text: the identifiers that it declares, the classes that it names, the tokens that name its
+-- expressions, each `inner`, and where its blocks and connections begin and end.
+use Rattle.std.specs.Prelude.{◌≤◌, ◌<◌, ◌+◌, ℕ, List, [], ◌∷◌, Option, Some, None}
 use Rattle.sim_tree.specs.declared.expr.Identifier.{Identifier}
+use Rattle.sim_tree.specs.declared.stmt.TypeName.{TypeName}
+use Rattle.sim_tree.specs.declared.stmt.TypeName.TheVariants as type_name
 use Rattle.sim_tree.specs.declared.stmt.Variable.{Variable}
 use Rattle.sim_tree.specs.Syntax as s
-use Rattle.sim_tree.specs.Syntax.{Expression, Expressions, Statement, Statements, Block, Declarations, Declaration, RightSide, Element, BoundPair, Arrayed, Program}
+use Rattle.sim_tree.specs.Syntax.{Expression, Statement, Statements, Arms, Block, Declarations, Declaration, RightSide, Element, BoundPair, Arrayed, Program}
 use Rattle.sim_tree.specs.Named.{named}
 
 -- a token of the text; or a place between two, by the number of the token behind it
@@ -57,6 +59,15 @@ in_segment a l = in_each in_name a.names (in_each in_bounds a.bounds l)
 abbrev pub in_variable : Variable → List Spot → List Spot
 in_variable v l = in_name v.name l
 
+-- the class of a reference type
+abbrev pub in_type : TypeName → List Spot → List Spot
+in_type (type_name.Reference i class) l = in_name class l
+in_type _ l = l
+
+abbrev pub in_result : Option TypeName → List Spot → List Spot
+in_result None l = l
+in_result (Some type) l = in_type type l
+
 abbrev mutual
   pub in_statement : Statement → List Spot → List Spot
   in_statement (s.Compound b) l = in_block b l
@@ -67,14 +78,18 @@ abbrev mutual
   in_statement (s.For i name sign j elements x) l = in_name name (in_each in_element elements (in_statement x l))
   in_statement (s.Empty i) l = l
   in_statement (s.Prefixed class es b) l = in_block b l
-  in_statement (s.Inner i) l = l
-  in_statement (s.Inspect i e j x end y) l = in_statement x (in_statements y l)
-  in_statement (s.InspectWhen i e arms y) l = in_statements y l
+  in_statement (s.Inner i) l = Token i ∷ l
+  in_statement (s.Inspect i e j x end y) l = in_expression e (Token j ∷ in_statement x (Behind end ∷ in_statements y l))
+  in_statement (s.InspectWhen i e arms y) l = in_expression e (in_arms arms (in_statements y l))
   in_statement (s.Activate i word e schedule) l = l
 
   pub in_statements : Statements → List Spot → List Spot
   in_statements s.NoStatement l = l
   in_statements (s.Also x xs) l = in_statement x (in_statements xs l)
+
+  pub in_arms : Arms → List Spot → List Spot
+  in_arms s.NoArm l = l
+  in_arms (s.When i class j x end arms) l = in_name class (Token j ∷ in_statement x (Behind end ∷ in_arms arms l))
 
   pub in_block : Block → List Spot → List Spot
   in_block (s.Begin i ds xs end) l = Token i ∷ in_declarations ds (in_statements xs (Behind end ∷ l))
@@ -84,9 +99,10 @@ abbrev mutual
   in_declarations (s.With d ds) l = in_declaration d (in_declarations ds l)
 
   pub in_declaration : Declaration → List Spot → List Spot
-  in_declaration (s.Variables t vs) l = in_each in_variable vs l
-  in_declaration (s.Arrays t i segments) l = in_each in_segment segments l
-  in_declaration (s.DeclareProcedure result i heading x end) l = in_name heading.name (in_each in_name heading.formals (in_statement x (Behind end ∷ l)))
+  in_declaration (s.Variables t vs) l = in_type t (in_each in_variable vs l)
+  in_declaration (s.Arrays t i segments) l = in_type t (in_each in_segment segments l)
+  in_declaration (s.DeclareProcedure result i heading x end) l =
+      in_result result (in_name heading.name (in_each in_name heading.formals (in_statement x (Behind end ∷ l))))
   in_declaration (s.DeclareClass prefix i heading interface x end) l = in_name heading.name (in_each in_name heading.formals (in_statement x (Behind end ∷ l)))
 
 -- the tokens of a program ascend

@@ -29,7 +29,7 @@ pub fn one_tree()
     ensures derivation { (tokens : List Token) (p q : Tree) → IsTree tokens p → IsTree tokens q → (program_derivation p ≡ program_derivation q) × (p.lines.items ≡ q.lines.items) }
 {}
 
-/// The tokens that name the expressions of a program, and the attributes behind dots, ascend in the order of its text. So each expression has
+/// The tokens that name the expressions of a program, the attributes behind dots and the classes in expressions ascend in the order of its text. So each expression has
 /// a token of its own: the operator's, the sign's, the word's, the dot's, the constant's, the identifier's or the parenthesis's.
 pub fn naming_tokens()
     ensures own { (e : Expression) (l : List ℕ) → Contains (named e l) (naming e) }

@@ -23,18 +23,20 @@ use Rattle.sim_tree.specs.declared.stmt.TypeName.{TypeName}
 use Rattle.sim_tree.specs.declared.expr.Identifier.{Identifier}
 use Rattle.sim_tree.specs.Syntax.{Also, Begin, Heading, NoDeclaration, NoStatement, Prefix, Statement}
 use Rattle.sim_tree.specs.Syntax.{Block as BlockSyntax}
-use Rattle.sim_tree.specs.SyntaxOfProgram.{block_syntax, prefix_syntax}
+use Rattle.sim_tree.specs.SyntaxOfProgram.{block_syntax, prefix_syntax, statement_syntax}
+use Rattle.sim_meaning.specs.Attributes.{is_connection}
 use Rattle.sim_meaning.specs.Entries.{cells_from, first_cells, numbers_of, with_cell, with_result}
+use Rattle.sim_meaning.specs.Levels.{is_class}
 use Rattle.sim_meaning.specs.Pending.{Declared, Held, Key, Val, same_key}
 use Rattle.sim_meaning.specs.Texts.{ClassText, ConnectionText, ProcedureText, StandardText, Text, text}
-use Rattle.codegen_expr.specs.Built.{place_from, slot_in}
-use Rattle.codegen_expr.specs.Known.{has_result, number_or, truth_or_false}
-use Rattle.codegen_expr.specs.Sites.{cells_in}
+use Rattle.codegen_expr.specs.Built.{place_from}
+use Rattle.codegen_expr.specs.Known.{has_result, number_or, place_in, truth_or_false}
+use Rattle.codegen_expr.specs.Sites.{cells_in, own_cells}
 use Rattle.program_texts.specs.declared.tree.TextTree.{TextTree}
 use Rattle.program_texts.specs.declared.tree.TextTree.TheVariants as tree
 use Rattle.program_texts.specs.TextTrees.{AreTexts, block_text, class_text, heading_of, prefixed_text, text_in}
 use Rattle.text_tables.proofs.Passing.{get_map, pass_all, pass_end, pass_next}
-use Rattle.text_tables.specs.Making.{FilledTo, IsPlaced, OwesPlaces, PlacedTo, Places, PlacesCells, cell_alone, has_cell, is_result, is_some, slot_at}
+use Rattle.text_tables.specs.Making.{FilledTo, IsPlaced, OwesPlaces, PlacedTo, Places, PlacesCells, cell_alone, has_cell, is_class_tree, is_connection_tree, is_result, is_some, slot_at}
 
 -- ---- lists
 
@@ -259,18 +261,17 @@ module _ (s : Source) (k : ℕ) where
 
   -- ---- one text
 
-  block_cells : (z : BlockSyntax) → cells_from s (numbers_of s k) ≡ first_cells s k (block_text z)
+  block_cells : (z : BlockSyntax) → cells_from s (numbers_of s k) ≡ own_cells s k (block_text z)
   unfolding first_cells
   block_cells (Begin i ds ss e) = refl
 
-  prefixed_cells : (p : Prefix) (z : BlockSyntax) → [] ≡ first_cells s k (prefixed_text p z)
-  unfolding first_cells
+  prefixed_cells : (p : Prefix) (z : BlockSyntax) → cells_from s (numbers_of s k) ≡ own_cells s k (prefixed_text p z)
   prefixed_cells p (Begin i ds ss e) = refl
 
-  pub place_block : (a b : List (Option ℕ)) (n : ℕ) (ns : List DeclNo) (x : TextTree) (r : Bor Block) → x ≡ tree.Block r → ns ≡ numbers_of s k → Places s k a b 0 (cells_from s ns) n → Places s k a b 0 (first_cells s k (text_in x)) n
-  place_block a b n ns x r is en f = places_as a b 0 n (cells_from s ns) (first_cells s k (text_in x)) (ap (cells_from s) en ∙ block_cells (block_syntax r.now) ∙ ap (λ z. first_cells s k (text_in z)) (sym is)) f
+  pub place_block : (a b : List (Option ℕ)) (n : ℕ) (ns : List DeclNo) (x : TextTree) (r : Bor Block) → x ≡ tree.Block r → ns ≡ numbers_of s k → Places s k a b 0 (cells_from s ns) n → Places s k a b 0 (own_cells s k (text_in x)) n
+  place_block a b n ns x r is en f = places_as a b 0 n (cells_from s ns) (own_cells s k (text_in x)) (ap (cells_from s) en ∙ block_cells (block_syntax r.now) ∙ ap (λ z. own_cells s k (text_in z)) (sym is)) f
 
-  procedure_cells : (r : Option TypeName) (h : Heading) (a : Statement) → with_result r (cells_from s (numbers_of s k)) ≡ first_cells s k (ProcedureText r h a)
+  procedure_cells : (r : Option TypeName) (h : Heading) (a : Statement) → with_result r (cells_from s (numbers_of s k)) ≡ own_cells s k (ProcedureText r h a)
   unfolding first_cells
   procedure_cells r h a = refl
 
@@ -282,50 +283,48 @@ module _ (s : Source) (k : ℕ) where
       let en = x.counted in
       record { as_long = x.as_long; counted = omega (arith, en); here = λ d is. x.here d is; elsewhere = λ d other. x.elsewhere d other }
 
-  pub place_result : (a b : List (Option ℕ)) (n : ℕ) (ns : List DeclNo) (x : TextTree) (r : Bor (Option TypeName)) (q : Bor Procedure) (type : TypeName) → x ≡ tree.Procedure r q → r.now ≡ Some type → ns ≡ numbers_of s k → Places s k a b 1 (cells_from s ns) n → Places s k a b 0 (first_cells s k (text_in x)) n
+  pub place_result : (a b : List (Option ℕ)) (n : ℕ) (ns : List DeclNo) (x : TextTree) (r : Bor (Option TypeName)) (q : Bor Procedure) (type : TypeName) → x ≡ tree.Procedure r q → r.now ≡ Some type → ns ≡ numbers_of s k → Places s k a b 1 (cells_from s ns) n → Places s k a b 0 (own_cells s k (text_in x)) n
   place_result a b n ns x r q type is some en f =
       let all = result_first a b n type (cells_from s (numbers_of s k)) (places_as_from a b n (cells_from s ns) (cells_from s (numbers_of s k)) (ap (cells_from s) en) f) in
-      places_as a b 0 n (with_result (Some type) (cells_from s (numbers_of s k))) (first_cells s k (text_in x))
-      (ap (λ z. with_result z (cells_from s (numbers_of s k))) (sym some) ∙ procedure_cells r.now _ _ ∙ ap (λ z. first_cells s k (text_in z)) (sym is)) all
+      places_as a b 0 n (with_result (Some type) (cells_from s (numbers_of s k))) (own_cells s k (text_in x))
+      (ap (λ z. with_result z (cells_from s (numbers_of s k))) (sym some) ∙ procedure_cells r.now _ _ ∙ ap (λ z. own_cells s k (text_in z)) (sym is)) all
     where
       places_as_from : (a b : List (Option ℕ)) (n : ℕ) (hs more : List Held) → hs ≡ more → Places s k a b 1 hs n → Places s k a b 1 more n
       places_as_from a b n hs more e f = places_as a b 1 n hs more e f
 
-  pub place_plain : (a b : List (Option ℕ)) (n : ℕ) (ns : List DeclNo) (x : TextTree) (r : Bor (Option TypeName)) (q : Bor Procedure) → x ≡ tree.Procedure r q → r.now ≡ None → ns ≡ numbers_of s k → Places s k a b 0 (cells_from s ns) n → Places s k a b 0 (first_cells s k (text_in x)) n
+  pub place_plain : (a b : List (Option ℕ)) (n : ℕ) (ns : List DeclNo) (x : TextTree) (r : Bor (Option TypeName)) (q : Bor Procedure) → x ≡ tree.Procedure r q → r.now ≡ None → ns ≡ numbers_of s k → Places s k a b 0 (cells_from s ns) n → Places s k a b 0 (own_cells s k (text_in x)) n
   place_plain a b n ns x r q is none en f =
-      places_as a b 0 n (cells_from s ns) (first_cells s k (text_in x))
-      (ap (cells_from s) en ∙ ap (λ z. with_result z (cells_from s (numbers_of s k))) (sym none) ∙ procedure_cells r.now _ _ ∙ ap (λ z. first_cells s k (text_in z)) (sym is)) f
+      places_as a b 0 n (cells_from s ns) (own_cells s k (text_in x))
+      (ap (cells_from s) en ∙ ap (λ z. with_result z (cells_from s (numbers_of s k))) (sym none) ∙ procedure_cells r.now _ _ ∙ ap (λ z. own_cells s k (text_in z)) (sym is)) f
 
-  class_cells : (prefix : Option Identifier) (h : Heading) (z : BlockSyntax) → [] ≡ first_cells s k (class_text prefix h z)
-  unfolding first_cells
+  class_cells : (prefix : Option Identifier) (h : Heading) (z : BlockSyntax) → cells_from s (numbers_of s k) ≡ own_cells s k (class_text prefix h z)
   class_cells prefix h (Begin i ds ss e) = refl
 
-  statement_cells : (prefix : Option Identifier) (h : Heading) (a : Statement) → [] ≡ first_cells s k (ClassText prefix h NoDeclaration (Also a NoStatement))
-  unfolding first_cells
+  statement_cells : (prefix : Option Identifier) (h : Heading) (a : Statement) → cells_from s (numbers_of s k) ≡ own_cells s k (ClassText prefix h NoDeclaration (Also a NoStatement))
   statement_cells prefix h a = refl
 
-  connection_cells : [] ≡ first_cells s k ConnectionText
+  connection_cells : [] ≡ own_cells s k ConnectionText
   unfolding first_cells
   connection_cells = refl
 
-  standard_cells : (which : StandardClass) → [] ≡ first_cells s k (StandardText which)
+  standard_cells : (which : StandardClass) → [] ≡ own_cells s k (StandardText which)
   unfolding first_cells
   standard_cells which = refl
 
-  pub place_class : (a : List (Option ℕ)) (x : TextTree) (r : Bor (Option Identifier)) (q : Bor Class) (z : Bor Block) → x ≡ tree.Class r q z → Places s k a a 0 (first_cells s k (text_in x)) 0
-  place_class a x r q z is = places_as a a 0 0 [] (first_cells s k (text_in x)) (class_cells r.now _ (block_syntax z.now) ∙ ap (λ z. first_cells s k (text_in z)) (sym is)) (places_none a 0)
+  pub place_class : (a c : List (Option ℕ)) (n : ℕ) (ns : List DeclNo) (x : TextTree) (r : Bor (Option Identifier)) (q : Bor Class) (z : Bor Block) → x ≡ tree.Class r q z → ns ≡ numbers_of s k → Places s k a c 0 (cells_from s ns) n → Places s k a c 0 (own_cells s k (text_in x)) n
+  place_class a c n ns x r q z is en f = places_as a c 0 n (cells_from s ns) (own_cells s k (text_in x)) (ap (cells_from s) en ∙ class_cells r.now (heading_of q.now) (block_syntax z.now) ∙ ap (λ z. own_cells s k (text_in z)) (sym is)) f
 
-  pub place_class_of_statement : (a : List (Option ℕ)) (x : TextTree) (r : Bor (Option Identifier)) (q : Bor Class) → x ≡ tree.ClassOfStatement r q → Places s k a a 0 (first_cells s k (text_in x)) 0
-  place_class_of_statement a x r q is = places_as a a 0 0 [] (first_cells s k (text_in x)) (statement_cells r.now _ _ ∙ ap (λ z. first_cells s k (text_in z)) (sym is)) (places_none a 0)
+  pub place_class_of_statement : (a c : List (Option ℕ)) (n : ℕ) (ns : List DeclNo) (x : TextTree) (r : Bor (Option Identifier)) (q : Bor Class) → x ≡ tree.ClassOfStatement r q → ns ≡ numbers_of s k → Places s k a c 0 (cells_from s ns) n → Places s k a c 0 (own_cells s k (text_in x)) n
+  place_class_of_statement a c n ns x r q is en f = places_as a c 0 n (cells_from s ns) (own_cells s k (text_in x)) (ap (cells_from s) en ∙ statement_cells r.now (heading_of q.now) (statement_syntax q.now.body.value) ∙ ap (λ z. own_cells s k (text_in z)) (sym is)) f
 
-  pub place_prefixed : (a : List (Option ℕ)) (x : TextTree) (p : Bor BlockPrefix) (q : Bor Block) → x ≡ tree.Prefixed p q → Places s k a a 0 (first_cells s k (text_in x)) 0
-  place_prefixed a x p q is = places_as a a 0 0 [] (first_cells s k (text_in x)) (prefixed_cells (prefix_syntax p.now) (block_syntax q.now) ∙ ap (λ z. first_cells s k (text_in z)) (sym is)) (places_none a 0)
+  pub place_prefixed : (a c : List (Option ℕ)) (n : ℕ) (ns : List DeclNo) (x : TextTree) (p : Bor BlockPrefix) (q : Bor Block) → x ≡ tree.Prefixed p q → ns ≡ numbers_of s k → Places s k a c 0 (cells_from s ns) n → Places s k a c 0 (own_cells s k (text_in x)) n
+  place_prefixed a c n ns x p q is en f = places_as a c 0 n (cells_from s ns) (own_cells s k (text_in x)) (ap (cells_from s) en ∙ prefixed_cells (prefix_syntax p.now) (block_syntax q.now) ∙ ap (λ z. own_cells s k (text_in z)) (sym is)) f
 
-  pub place_connection : (a : List (Option ℕ)) (x : TextTree) → x ≡ tree.Connection → Places s k a a 0 (first_cells s k (text_in x)) 0
-  place_connection a x is = places_as a a 0 0 [] (first_cells s k (text_in x)) (connection_cells ∙ ap (λ z. first_cells s k (text_in z)) (sym is)) (places_none a 0)
+  pub place_connection : (a : List (Option ℕ)) (x : TextTree) → x ≡ tree.Connection → Places s k a a 0 (own_cells s k (text_in x)) 0
+  place_connection a x is = places_as a a 0 0 [] (own_cells s k (text_in x)) (connection_cells ∙ ap (λ z. own_cells s k (text_in z)) (sym is)) (places_none a 0)
 
-  pub place_standard : (a : List (Option ℕ)) (x : TextTree) (which : StandardClass) → x ≡ tree.Standard which → Places s k a a 0 (first_cells s k (text_in x)) 0
-  place_standard a x which is = places_as a a 0 0 [] (first_cells s k (text_in x)) (standard_cells which ∙ ap (λ z. first_cells s k (text_in z)) (sym is)) (places_none a 0)
+  pub place_standard : (a : List (Option ℕ)) (x : TextTree) (which : StandardClass) → x ≡ tree.Standard which → Places s k a a 0 (own_cells s k (text_in x)) 0
+  place_standard a x which is = places_as a a 0 0 [] (own_cells s k (text_in x)) (standard_cells which ∙ ap (λ z. own_cells s k (text_in z)) (sym is)) (places_none a 0)
 
 pub place_one_of : (b : Bound) (k : ℕ) (a c : List (Option ℕ)) (d : DeclNo) (e : Option Entry) (cell n : ℕ) (u : Bool) → e ≡ entry_of b.scopes d → u ≡ has_cell e → u ≡ true → IsPlaced (source_of b) k a c d cell → n ≡ suc cell → Places (source_of b) k a c cell (cell_alone (source_of b) d) n
 unfolding source_of
@@ -351,19 +350,19 @@ placed_first b ts a are e = record {
   known = λ j le. absurd (omega (arith, le));
 }
 
-one_text : (s : Source) (slots slots' : List (Option ℕ)) (counts counts' : List ℕ) (i n : ℕ) (x : Text) → FilledTo s slots counts i → text s i ≡ Some x → Places s i slots slots' 0 (first_cells s i x) n → counts' ≡ counts ++ (n ∷ []) → FilledTo s slots' counts' (i + 1)
-unfolding Places slot_in
+one_text : (s : Source) (slots slots' : List (Option ℕ)) (counts counts' : List ℕ) (i n : ℕ) (x : Text) → FilledTo s slots counts i → text s i ≡ Some x → Places s i slots slots' 0 (own_cells s i x) n → counts' ≡ counts ++ (n ∷ []) → FilledTo s slots' counts' (i + 1)
+unfolding Places place_in
 one_text s slots slots' counts counts' i n x f is p e =
     let q = p f.as_long in
     let many = f.many in
-    let cells : first_cells s i x ≡ cells_in s i (text s i) = ap (cells_in s i) (sym is) in
-    let count : n ≡ length (cells_in s i (text s i)) = q.counted ∙ zero_plus (length (first_cells s i x)) ∙ ap length cells in
+    let cells : own_cells s i x ≡ cells_in s i (text s i) = ap (cells_in s i) (sym is) in
+    let count : n ≡ length (cells_in s i (text s i)) = q.counted ∙ zero_plus (length (own_cells s i x)) ∙ ap length cells in
     record {
       as_long = q.as_long ∙ f.as_long;
       many = ap length e ∙ length-append counts (n ∷ []) ∙ (let t : length counts + length (n ∷ []) ≡ i + 1 = omega (arith, many) in t);
       filled = λ d le.
           ⊎_elim
-          (λ same. q.here d same ∙ ap (λ z. option_or z (place_from 0 (Declared d.0) (first_cells s i x))) (f.free d (omega (arith, same))) ∙ ap (place_from 0 (Declared d.0)) cells ∙ ap (λ z. place_from 0 (Declared d.0) (cells_in s z (text s z))) (sym same))
+          (λ same. q.here d same ∙ ap (λ z. option_or z (place_from 0 (Declared d.0) (own_cells s i x))) (f.free d (omega (arith, same))) ∙ ap (place_from 0 (Declared d.0)) cells ∙ ap (λ z. place_from 0 (Declared d.0) (cells_in s z (text s z))) (sym same))
           (λ other. q.elsewhere d other ∙ f.filled d (omega (arith, le, other)))
           (cases_eq (block_of s d) i);
       free = λ d le. q.elsewhere d (λ same. absurd (omega (arith, le, same))) ∙ f.free d (omega (arith, le));
@@ -377,20 +376,20 @@ one_text s slots slots' counts counts' i n x f is p e =
     zero_plus : (m : ℕ) → 0 + m ≡ m
     zero_plus m = omega arith
 
-pub placed_next : (b : Bound) (ts : List TextTree) (a slots slots' : List (Option ℕ)) (counts counts' : List ℕ) (i m n : ℕ) (x : TextTree) → PlacedTo b ts a slots counts i → i < length ts → x ≡ slice_index_or ts i x → m ≡ i → Places (source_of b) m slots slots' 0 (first_cells (source_of b) m (text_in x)) n → counts' ≡ counts ++ (n ∷ []) → PlacedTo b ts a slots' counts' (i + 1)
+pub placed_next : (b : Bound) (ts : List TextTree) (a slots slots' : List (Option ℕ)) (counts counts' : List ℕ) (i m n : ℕ) (x : TextTree) → PlacedTo b ts a slots counts i → i < length ts → x ≡ slice_index_or ts i x → m ≡ i → Places (source_of b) m slots slots' 0 (own_cells (source_of b) m (text_in x)) n → counts' ≡ counts ++ (n ∷ []) → PlacedTo b ts a slots' counts' (i + 1)
 unfolding PlacedTo
 placed_next b ts a slots slots' counts counts' i m n x f le is em p e are ea =
     let s = source_of b in
     let there : text s i ≡ Some (text_in x) = text_at b ts i are ∙ ap (option_map text_in) (get_at ts i x le) ∙ ap (λ z. Some (text_in z)) (sym is) in
-    one_text s slots slots' counts counts' i n (text_in x) (f are ea) there (subst (λ z. Places s z slots slots' 0 (first_cells s z (text_in x)) n) em p) e
+    one_text s slots slots' counts counts' i n (text_in x) (f are ea) there (subst (λ z. Places s z slots slots' 0 (own_cells s z (text_in x)) n) em p) e
 
 pub placed_end : (b : Bound) (ts : List TextTree) (a slots : List (Option ℕ)) (counts : List ℕ) (i : ℕ) → PlacedTo b ts a slots counts i → i ≤ length ts → length ts ≤ i → PlacedTo b ts a slots counts (length ts)
 placed_end b ts a slots counts i f lo hi = let e : i ≡ length ts = omega (arith, lo, hi) in subst (PlacedTo b ts a slots counts) e f
 
 -- ---- what the tables say in the end
 
-pub slots_known : (b : Bound) (ts : List TextTree) (slots : List (Option ℕ)) (counts : List ℕ) → AreTexts b.program ts → FilledTo (source_of b) slots counts (length ts) → (d : DeclNo) → joined (slice_get slots d.0) ≡ slot_in (source_of b) (block_of (source_of b) d) (Declared d.0)
-unfolding slot_in
+pub slots_known : (b : Bound) (ts : List TextTree) (slots : List (Option ℕ)) (counts : List ℕ) → AreTexts b.program ts → FilledTo (source_of b) slots counts (length ts) → (d : DeclNo) → joined (slice_get slots d.0) ≡ place_in (source_of b) (block_of (source_of b) d) (Declared d.0)
+unfolding place_in
 slots_known b ts slots counts are f d =
     ⊎_elim (λ le. f.filled d le) (λ le. f.free d le ∙ ap (λ z. place_from 0 (Declared d.0) (cells_in (source_of b) (block_of (source_of b) d) z)) (sym (text_at b ts (block_of (source_of b) d) are ∙ ap (option_map text_in) (get_past ts (block_of (source_of b) d) le)))) (less (block_of (source_of b) d) (length ts))
 
@@ -427,5 +426,55 @@ results_known b ts results are e k = ap (λ z. truth_or_false (slice_get z k)) e
     cases : (o : Option TextTree) → truth_or_false (option_map is_result o) ≡ has_result (option_map text_in o)
     cases None = refl
     cases (Some x) = result_of x
+
+class_of_text : (x : TextTree) → is_class_tree x ≡ is_class (Some (text_in x))
+class_of_text (tree.Block r) = block (block_syntax r.now)
+  where
+    block : (z : BlockSyntax) → false ≡ is_class (Some (block_text z))
+    block (Begin i ds ss e) = refl
+class_of_text (tree.Procedure r q) = refl
+class_of_text (tree.Class r q z) = block (block_syntax z.now)
+  where
+    block : (z : BlockSyntax) → true ≡ is_class (Some (class_text r.now (heading_of q.now) z))
+    block (Begin i ds ss e) = refl
+class_of_text (tree.ClassOfStatement r q) = refl
+class_of_text (tree.Prefixed p r) = block (block_syntax r.now)
+  where
+    block : (z : BlockSyntax) → false ≡ is_class (Some (prefixed_text (prefix_syntax p.now) z))
+    block (Begin i ds ss e) = refl
+class_of_text tree.Connection = refl
+class_of_text (tree.Standard which) = refl
+
+pub classes_known : (b : Bound) (ts : List TextTree) (classes : List Bool) → AreTexts b.program ts → classes ≡ map is_class_tree ts → (k : ℕ) → truth_or_false (slice_get classes k) ≡ is_class (text (source_of b) k)
+classes_known b ts classes are e k = ap (λ z. truth_or_false (slice_get z k)) e ∙ ap truth_or_false (get_map is_class_tree ts k) ∙ cases (slice_get ts k) ∙ ap is_class (sym (text_at b ts k are))
+  where
+    cases : (o : Option TextTree) → truth_or_false (option_map is_class_tree o) ≡ is_class (option_map text_in o)
+    cases None = refl
+    cases (Some x) = class_of_text x
+
+connection_of_text : (x : TextTree) → is_connection_tree x ≡ is_connection (Some (text_in x))
+connection_of_text (tree.Block r) = block (block_syntax r.now)
+  where
+    block : (z : BlockSyntax) → false ≡ is_connection (Some (block_text z))
+    block (Begin i ds ss e) = refl
+connection_of_text (tree.Procedure r q) = refl
+connection_of_text (tree.Class r q z) = block (block_syntax z.now)
+  where
+    block : (z : BlockSyntax) → false ≡ is_connection (Some (class_text r.now (heading_of q.now) z))
+    block (Begin i ds ss e) = refl
+connection_of_text (tree.ClassOfStatement r q) = refl
+connection_of_text (tree.Prefixed p r) = block (block_syntax r.now)
+  where
+    block : (z : BlockSyntax) → false ≡ is_connection (Some (prefixed_text (prefix_syntax p.now) z))
+    block (Begin i ds ss e) = refl
+connection_of_text tree.Connection = refl
+connection_of_text (tree.Standard which) = refl
+
+pub connections_known : (b : Bound) (ts : List TextTree) (connections : List Bool) → AreTexts b.program ts → connections ≡ map is_connection_tree ts → (k : ℕ) → truth_or_false (slice_get connections k) ≡ is_connection (text (source_of b) k)
+connections_known b ts connections are e k = ap (λ z. truth_or_false (slice_get z k)) e ∙ ap truth_or_false (get_map is_connection_tree ts k) ∙ cases (slice_get ts k) ∙ ap is_connection (sym (text_at b ts k are))
+  where
+    cases : (o : Option TextTree) → truth_or_false (option_map is_connection_tree o) ≡ is_connection (option_map text_in o)
+    cases None = refl
+    cases (Some x) = connection_of_text x
 
 pub ruleset placing = (pass_all, pass_next, pass_end, placed_outside, placed_before, placed_beyond, placed_now, owes_places_all, place_block, place_result, place_plain, place_class, place_prefixed, place_connection, place_class_of_statement, place_standard, placed_first, placed_next, placed_end)

@@ -1,5 +1,5 @@
 -- Tables that are being made.
-use Rattle.std.specs.Prelude.{◌≡◌, ◌≢◌, ◌<◌, ◌≤◌, ◌+◌, ℕ, Bool, true, false, List, [], ◌∷◌, ◌++◌, length, map, drop, replicate, slice_get, Option, Some, None}
+use Rattle.std.specs.Prelude.{◌≡◌, ◌≢◌, ◌<◌, ◌≤◌, ◌+◌, ℕ, suc, Bool, true, false, List, [], ◌∷◌, ◌++◌, length, map, drop, replicate, slice_get, Option, Some, None}
 use Rattle.std.specs.Option.{option_or}
 use Rattle.std.specs.declared.alloc.Global.{Global}
 use Rattle.std.specs.declared.vec.Vec.{Vec}
@@ -9,20 +9,20 @@ use Rattle.sim_scope.specs.declared.types.Entry.{Entry}
 use Rattle.sim_scope.specs.declared.types.Entry.TheVariants as entry
 use Rattle.sim_scope.specs.declared.types.Formal.{Formal}
 use Rattle.sim_scope.specs.Access.{joined}
-use Rattle.sim_scope.specs.Scopes.{entry_of, formals_in}
+use Rattle.sim_scope.specs.Scopes.{class_formals, entry_of, formals_in}
 use Rattle.sim_scope.specs.Source.{Source, block_of, source_of}
 use Rattle.sim_scope.specs.Tables.{BlockOf}
 use Rattle.sim_tree.specs.declared.stmt.TypeName.{TypeName}
 use Rattle.sim_meaning.specs.Closing.{formals_from}
 use Rattle.sim_meaning.specs.Entries.{cells_from, with_cell}
 use Rattle.sim_meaning.specs.Pending.{Declared, Held}
-use Rattle.sim_meaning.specs.Texts.{text}
-use Rattle.codegen_expr.specs.Built.{place_from, slot_in}
-use Rattle.codegen_expr.specs.CodeExpr.{counted_unless, is_connection}
-use Rattle.codegen_expr.specs.Sites.{cells_in}
+use Rattle.sim_meaning.specs.Texts.{BlockText, ClassText, ConnectionText, PrefixedText, ProcedureText, StandardText, Text, program_texts, text}
+use Rattle.codegen_expr.specs.Built.{place_from}
+use Rattle.codegen_expr.specs.Known.{place_in}
+use Rattle.codegen_expr.specs.Sites.{cells_in, counted_unless, is_connection}
 use Rattle.program_texts.specs.declared.tree.TextTree.{TextTree}
 use Rattle.program_texts.specs.declared.tree.TextTree.TheVariants as tree
-use Rattle.program_texts.specs.TextTrees.{AreTexts}
+use Rattle.program_texts.specs.TextTrees.{AreTexts, text_in}
 
 -- ---- one row for each of a list
 
@@ -52,6 +52,29 @@ pub record OwesNumbers (blocks : List BlockOf) (numbers : List ℕ) (number done
   pub all : numbers ++ numbers_from number (drop done blocks) ≡ numbers_from 0 blocks
   pub behind : number_behind number (drop done blocks) ≡ number_behind 0 blocks
 
+-- ---- numbers of classes
+
+-- For each block of the code, which are those of the texts without connections, the number of its class, from one on; 0 where it has none.
+abbrev pub classes_from : ℕ → List Text → List ℕ
+classes_from n [] = []
+classes_from n (BlockText begin ds ss ∷ xs) = 0 ∷ classes_from n xs
+classes_from n (ProcedureText result h a ∷ xs) = 0 ∷ classes_from n xs
+classes_from n (ClassText prefix h ds ss ∷ xs) = suc n ∷ classes_from (suc n) xs
+classes_from n (PrefixedText class arguments ds ss ∷ xs) = suc n ∷ classes_from (suc n) xs
+classes_from n (ConnectionText ∷ xs) = classes_from n xs
+classes_from n (StandardText which ∷ xs) = 0 ∷ classes_from n xs
+
+-- what is written with what is still to be written
+unfoldable pub OwesClasses : List TextTree → List ℕ → (last done : ℕ) → Type 0
+OwesClasses ts numbers n i = numbers ++ classes_from n (map text_in (drop i ts)) ≡ classes_from 0 (map text_in ts)
+
+unfoldable pub ClassNumbers : Bound → List ℕ → Type 0
+ClassNumbers b numbers = numbers ≡ classes_from 0 (program_texts (source_of b).program.prefix (source_of b).program.block)
+
+-- one text more, behind so many classes
+unfoldable pub AddsClass : TextTree → (old new : List ℕ) → (before after : ℕ) → Type 0
+AddsClass x old new n m = (xs : List Text) → old ++ classes_from n (text_in x ∷ xs) ≡ new ++ classes_from m xs
+
 -- ---- formal parameters
 
 abbrev pub items_of : Vec Formal Global → List Formal
@@ -70,6 +93,14 @@ one_formal (Some f) = f ∷ []
 unfoldable pub OwesFormals : Source → List DeclNo → List Formal → (done : ℕ) → Type 0
 OwesFormals s ds formals i = formals ++ formals_from s (drop i ds) ≡ formals_from s ds
 
+-- the formal parameters of a class, of all its levels
+abbrev pub class_formals_of : Source → ℕ → List Formal
+class_formals_of s k = formals_from s (class_formals s.tables k)
+
+-- the tables of the first blocks
+unfoldable pub ClassFormals : Source → List (Vec Formal Global) → (done : ℕ) → Type 0
+ClassFormals s table done = (length table ≡ done) × ((k : ℕ) (v : Vec Formal Global) → slice_get table k ≡ Some v → v.items ≡ class_formals_of s k)
+
 -- ---- cells
 
 abbrev pub is_some : Option TypeName → Bool
@@ -79,6 +110,16 @@ is_some (Some type) = true
 abbrev pub is_result : TextTree → Bool
 is_result (tree.Procedure result p) = is_some result.now
 is_result _ = false
+
+abbrev pub is_class_tree : TextTree → Bool
+is_class_tree (tree.Class prefix c b) = true
+is_class_tree (tree.ClassOfStatement prefix c) = true
+is_class_tree (tree.Standard which) = true
+is_class_tree _ = false
+
+abbrev pub is_connection_tree : TextTree → Bool
+is_connection_tree tree.Connection = true
+is_connection_tree _ = false
 
 abbrev pub has_cell : Option Entry → Bool
 has_cell (Some (entry.Variable type)) = true
@@ -119,7 +160,7 @@ OwesPlaces s k old start ds now cell i =
 pub record FilledTo (s : Source) (slots : List (Option ℕ)) (counts : List ℕ) (done : ℕ) : Type 0 where
   pub as_long : length slots ≡ length s.tables.declarations
   pub many : length counts ≡ done
-  pub filled : (d : DeclNo) → block_of s d < done → slot_at slots d ≡ slot_in s (block_of s d) (Declared d.0)
+  pub filled : (d : DeclNo) → block_of s d < done → slot_at slots d ≡ place_in s (block_of s d) (Declared d.0)
   pub free : (d : DeclNo) → done ≤ block_of s d → slot_at slots d ≡ None
   pub known : (j : ℕ) → j < done → slice_get counts j ≡ Some (length (cells_in s j (text s j)))
 

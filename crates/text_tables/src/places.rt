@@ -1,9 +1,10 @@
 //! The cells of texts.
 ghost use Rattle.std.specs.Prelude.{◌≡◌, ◌++◌, IfOk, OnOk, length, map, replicate, None};
 ghost use Rattle.sim_scope.specs.Source.{source_of};
-ghost use Rattle.sim_meaning.specs.Entries.{cells_from, first_cells, numbers_of as numbers_of_text};
+ghost use Rattle.sim_meaning.specs.Entries.{cells_from, numbers_of as numbers_of_text};
+ghost use Rattle.codegen_expr.specs.Sites.{own_cells};
 ghost use Rattle.program_texts.specs.TextTrees.{text_in};
-ghost use Rattle.text_tables.specs.Making.{AllPlaced, IsPlaced, Places, cell_alone, has_cell as has_cell_of, is_result, slot_at};
+ghost use Rattle.text_tables.specs.Making.{AllPlaced, IsPlaced, Places, cell_alone, has_cell as has_cell_of, is_class_tree, is_connection_tree, is_result, slot_at};
 
 use codegen_expr::{block_of, deeper};
 use program_texts::TextTree;
@@ -29,6 +30,52 @@ pub(crate) fn results_of(alloc: Global, texts: &[TextTree]) -> Result<Vec<bool>,
     let mut table = Vec::new(alloc);
     for text in texts {
         table.push(has_result(*text))?;
+    }
+    Ok(table)
+}
+
+/// Whether a text is a class.
+fn is_class(text: TextTree) -> bool
+    ensures { result ≡ is_class_tree text.entry }
+{
+    match text {
+        TextTree::Class { .. } => true,
+        TextTree::ClassOfStatement { .. } => true,
+        TextTree::Standard(_) => true,
+        _ => false,
+    }
+}
+
+/// For each text whether it is a class.
+#[tactic(auto, using(crate::proofs::Placing::placing))]
+pub(crate) fn classes_of(alloc: Global, texts: &[TextTree]) -> Result<Vec<bool>, AllocError>
+    ensures { IfOk result (λ v. v.items ≡ map is_class_tree texts.now) }
+{
+    let mut table = Vec::new(alloc);
+    for text in texts {
+        table.push(is_class(*text))?;
+    }
+    Ok(table)
+}
+
+/// Whether a text is a connection.
+fn is_connection(text: TextTree) -> bool
+    ensures { result ≡ is_connection_tree text.entry }
+{
+    match text {
+        TextTree::Connection => true,
+        _ => false,
+    }
+}
+
+/// For each text whether it is a connection.
+#[tactic(auto, using(crate::proofs::Placing::placing))]
+pub(crate) fn connections_of(alloc: Global, texts: &[TextTree]) -> Result<Vec<bool>, AllocError>
+    ensures { IfOk result (λ v. v.items ≡ map is_connection_tree texts.now) }
+{
+    let mut table = Vec::new(alloc);
+    for text in texts {
+        table.push(is_connection(*text))?;
     }
     Ok(table)
 }
@@ -140,7 +187,7 @@ fn place_text(
     number: u32,
     text: TextTree,
 ) -> Result<u32, AllocError>
-    ensures { IfOk result (λ n. Places (source_of bound.now) number slots.old.items slots.new.items 0 (first_cells (source_of bound.now) number (text_in text.entry)) n) }
+    ensures { IfOk result (λ n. Places (source_of bound.now) number slots.old.items slots.new.items 0 (own_cells (source_of bound.now) number (text_in text.entry)) n) }
 {
     match text {
         TextTree::Block(_) => place_all(bound, slots, number, 0, numbers_of(bound, number)),
@@ -148,9 +195,11 @@ fn place_text(
             Some(_) => place_all(bound, slots, number, 1, numbers_of(bound, number)),
             None => place_all(bound, slots, number, 0, numbers_of(bound, number)),
         },
-        TextTree::Class { .. } => Ok(0),
-        TextTree::ClassOfStatement { .. } => Ok(0),
-        TextTree::Prefixed { .. } => Ok(0),
+        TextTree::Class { .. } => place_all(bound, slots, number, 0, numbers_of(bound, number)),
+        TextTree::ClassOfStatement { .. } => {
+            place_all(bound, slots, number, 0, numbers_of(bound, number))
+        }
+        TextTree::Prefixed { .. } => place_all(bound, slots, number, 0, numbers_of(bound, number)),
         TextTree::Connection => Ok(0),
         TextTree::Standard(_) => Ok(0),
     }

@@ -4,9 +4,9 @@ ghost use Rattle.codegen_expr.specs.Known.{Known};
 
 use crate::by_token::texts_by_token;
 use crate::constants::constants_of;
-use crate::formals::formals_of;
+use crate::formals::{class_formals_table, formals_of};
 use crate::numbers::numbers_of;
-use crate::places::{cell_counts, no_slots, results_of};
+use crate::places::{cell_counts, classes_of, connections_of, no_slots, results_of};
 use codegen_expr::Cells;
 use program_texts::texts_of;
 use sim_scope::Bound;
@@ -25,14 +25,20 @@ pub fn cells_of(alloc: Global, bound: &Bound) -> Result<Cells, AllocError>
     let mut numbers = Vec::new(alloc);
     let block_count = numbers_of(bound.scopes.blocks(), &mut numbers)?;
     let formals = formals_of(alloc, bound, bound.scopes.blocks())?;
+    let classes = classes_of(alloc, &texts)?;
+    let connections = connections_of(alloc, &texts)?;
+    let class_formals = class_formals_table(alloc, bound)?;
     Ok(Cells {
         slots,
         constants,
         texts: by_token,
         results,
+        classes,
+        connections,
         counts,
         numbers,
         block_count,
         formals,
+        class_formals,
     })
 }

@@ -1,4 +1,4 @@
-use Rattle.std.proofs.Common.{rules, of_z, to_z, w64, ◌≡◌, ◌-◌, ◌+◌, List, [], ◌∷◌, length, drop, map, refl, ap, ◌∙◌, arith, subst}
+use Rattle.std.proofs.Common.{rules, of_z, to_z, w64, ◌≡◌, ◌-◌, ◌+◌, List, [], ◌∷◌, length, drop, map, ap, ◌∙◌, arith, subst}
 use Rattle.std.proofs.lemmas.List.{drop_all, drop_more}
 use Rattle.std.proofs.lemmas.Result.{on_ok_weaker}
 use Rattle.std.specs.Prelude.{slice_index_or}
@@ -116,21 +116,21 @@ pub operands::emit_list-returns : goal.operands::emit_list-returns
 operands::emit_list-returns t c = w.lists_none c.args.bound.now c.args.spot c.args.depth c.args.draft.now c.loop-item.draft c.args.list.now (drop c.loop-item.item-index c.args.list.now) c.loop-item.inside c.loop-item.invariant (drop_all c.loop-item.item-index c.args.list.now c.loop-item-test.false)
 
 pub calls::emit_actuals-loop-index-init : goal.calls::emit_actuals-loop-index-init
-calls::emit_actuals-loop-index-init t c = n.actuals_all c.args.bound.now c.args.spot c.args.depth c.args.draft.now c.args.token c.args.list.now c.args.formals.now
+calls::emit_actuals-loop-index-init t c = n.actuals_all c.args.bound.now c.args.spot c.args.depth c.args.draft.now c.args.keeps c.args.token c.args.list.now c.args.formals.now
 
 pub calls::emit_actuals-loop-index-preserved : goal.calls::emit_actuals-loop-index-preserved
 calls::emit_actuals-loop-index-preserved t c =
     let i = c.loop-index.index in
     let xs = c.args.list.now in
     let fs = c.args.formals.now in
-    n.actuals_next c.args.bound.now c.args.spot c.args.depth c.args.draft.now c.loop-index.draft _ c.args.token xs (drop i xs) (drop (i + 1) xs) fs (drop i fs) (drop (i + 1) fs) c.loop-index.inside _ _ _ c.loop-index.invariant (w.from_drop xs i c.index-list-index.result c.loop-index-test.true c.index-list-index.is) (drop_more fs i _ (omega (arith, c.loop-index-test.true, c.if-list-formals.false))) c.in_ok-emit_actual.ensures c.in_ok-inside.ensures
+    n.actuals_next c.args.bound.now c.args.spot c.args.depth c.args.draft.now c.loop-index.draft _ c.args.keeps c.args.token xs (drop i xs) (drop (i + 1) xs) fs (drop i fs) (drop (i + 1) fs) c.loop-index.inside _ _ _ c.loop-index.invariant (w.from_drop xs i c.index-list-index.result c.loop-index-test.true c.index-list-index.is) (drop_more fs i _ (omega (arith, c.loop-index-test.true, c.if-list-formals.false))) c.in_ok-emit_actual.ensures c.in_ok-inside.ensures
 
 pub calls::emit_actuals-returns : goal.calls::emit_actuals-returns
 calls::emit_actuals-returns t c =
     let i = c.loop-index.index in
     let xs = c.args.list.now in
     let fs = c.args.formals.now in
-    n.actuals_none c.args.bound.now c.args.spot c.args.depth c.args.draft.now c.loop-index.draft c.args.token xs (drop i xs) fs (drop i fs) c.loop-index.inside c.loop-index.invariant (drop_all i xs (omega (arith, c.loop-index-test.false))) (drop_all i fs (omega (arith, c.loop-index-test.false, c.if-list-formals.false)))
+    n.actuals_none c.args.bound.now c.args.spot c.args.depth c.args.draft.now c.loop-index.draft c.args.keeps c.args.token xs (drop i xs) fs (drop i fs) c.loop-index.inside c.loop-index.invariant (drop_all i xs (omega (arith, c.loop-index-test.false))) (drop_all i fs (omega (arith, c.loop-index-test.false, c.if-list-formals.false)))
 
 pub standard::emit_alone-returns-then-operands-row : goal.standard::emit_alone-returns-then-operands-row
 standard::emit_alone-returns-then-operands-row t c = behind.alone_other_number c.args.bound.now c.args.spot c.args.depth c.args.draft.now _ c.args.token c.args.name c.args.operands.now _ c.in-Some.row c.standard_code.ensures c.in-Some.is c.if-operands-row.true c.give_up-then-operands-row.ensures

@@ -20,7 +20,7 @@ abbrev pub invariant-operands::emit_list-loop-item : goal.invariant-operands::em
 invariant-operands::emit_list-loop-item l = OwesList l.bound l.spot l.depth l.fn.draft l.list l.inside l.draft (drop l.item-index l.list)
 
 abbrev pub invariant-calls::emit_actuals-loop-index : goal.invariant-calls::emit_actuals-loop-index
-invariant-calls::emit_actuals-loop-index l = OwesActuals l.bound l.spot l.depth l.fn.draft l.token l.list l.formals l.inside l.draft (drop l.index l.list) (drop l.index l.formals)
+invariant-calls::emit_actuals-loop-index l = OwesActuals l.bound l.spot l.depth l.fn.draft l.keeps l.token l.list l.formals l.inside l.draft (drop l.index l.list) (drop l.index l.formals)
 
 abbrev pub invariant-selectors::emit_steps-loop-done : goal.invariant-selectors::emit_steps-loop-done
 invariant-selectors::emit_steps-loop-done l = TakenOf l.bound l.spot l.depth l.fn.draft l.fn.object l.rest l.draft l.taken l.done

@@ -1,4 +1,4 @@
-use Rattle.std.proofs.Common.{◌∙◌, ap, sym, refl, arith}
+use Rattle.std.proofs.Common.{◌+◌, ◌∙◌, ap, sym, refl, arith}
 use Rattle.std.specs.Prelude.{Some}
 use Rattle.frame_arena.specs.Frames.{frame_at}
 use Rattle.frame_arena.proofs.Reading.{level_start, level_gone, level_here, level_top, level_up, no_fuel}
@@ -35,3 +35,10 @@ pub returns-clause-level : goal.returns-clause-level
 returns-clause-level c cells m h leads =
     let i = c.loop.invariant cells m h leads in
     sym (i.1 ∙ no_fuel m c.args.home.stamp c.loop.counter c.args.level c.loop.at.stamp (omega (arith, c.loop-test.false)))
+
+pub returns-in-Some-parent-clause-level : goal.returns-in-Some-parent-clause-level
+returns-in-Some-parent-clause-level c cells m h leads =
+    let i = c.loop.invariant cells m h leads in
+    sym (i.1
+    ∙ level_up c.args.frames.now cells m c.in-Some.place c.loop.at.stamp c.args.home.stamp c.loop.counter c.args.level c.in-Some-parent.parent c.loop-test.true h c.in-Some.ensures.there c.if-frame-level.false c.in-Some-parent.is
+    ∙ no_fuel m c.args.home.stamp (c.loop.counter + 1) c.args.level c.in-Some-parent.parent.stamp (let e = c.loop.auto.counter-end in omega (arith, e)))

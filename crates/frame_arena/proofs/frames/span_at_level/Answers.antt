@@ -12,3 +12,6 @@ returns-then-own-level-clause-level c cells m h leads =
     ap Some c.if-own-home.true
     ∙ sym (level_start m c.args.level home
     ∙ level_here frames cells m c.args.own.region home home 0 c.args.level (omega arith) h (subst (λ n. Has frames c.args.own.region n) c.if-own-home.true own.has) (own.level ∙ c.if-own-level.true))
+
+pub returns-clause-level : goal.returns-clause-level
+returns-clause-level c cells m h leads = ap Some c.span_at.ensures.number ∙ c.in-Some.ensures.level cells m h leads

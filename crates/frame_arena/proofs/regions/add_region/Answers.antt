@@ -1,4 +1,5 @@
 use Rattle.std.specs.Prelude.{false, None}
+use Rattle.frame_arena.specs.declared.frames.Component.TheVariants as component
 use Rattle.frame_arena.specs.declared.frames.Frame.{Frame}
 use Rattle.std.proofs.Common.{rules, ◌≡◌, length, subst, sym, refl, arith}
 use Rattle.frame_arena.specs.Frames.{Holds, Laid, Leads, rooms}
@@ -16,11 +17,11 @@ returns-clause-holds c m h =
 pub returns-clause-stacks : goal.returns-clause-stacks
 returns-clause-stacks c h =
     let floor : c.in-Ok-try_from.floor ≡ length c.args.stacks.now.items = search rules in
-    let f : Frame = record { live = false; number = 0; block = 0; level = 0; parent = None; passing = false; kept = false; base = c.in-Ok.base; cells = c.args.count; floor = c.in-Ok-try_from.floor; room = c.args.room; next = 0 } in
+    let f : Frame = record { live = false; number = 0; block = 0; level = 0; parent = None; passing = false; kept = false; component = component.NoObject; base = c.in-Ok.base; cells = c.args.count; floor = c.in-Ok-try_from.floor; room = c.args.room; next = 0 } in
     subst (λ l. Laid 0 (rooms l) (length c.grow-2.new.slots.items)) (sym c.in_ok-push.ensures.items)
     (laid_to (length c.args.stacks.now.items) (length c.grow-2.new.slots.items) c.args.frames.now.items f h floor c.in_ok-grow-2.ensures.long)
 
 pub returns-clause-leads : goal.returns-clause-leads
 returns-clause-leads c m r leads =
-    let f : Frame = record { live = false; number = 0; block = 0; level = 0; parent = None; passing = false; kept = false; base = c.in-Ok.base; cells = c.args.count; floor = c.in-Ok-try_from.floor; room = c.args.room; next = 0 } in
+    let f : Frame = record { live = false; number = 0; block = 0; level = 0; parent = None; passing = false; kept = false; component = component.NoObject; base = c.in-Ok.base; cells = c.args.count; floor = c.in-Ok-try_from.floor; room = c.args.room; next = 0 } in
     subst (λ l. Leads l m r) (sym c.in_ok-push.ensures.items) (leads_more c.args.frames.now.items f refl m r leads)

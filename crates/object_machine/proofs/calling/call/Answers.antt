@@ -8,7 +8,7 @@ use Rattle.frame_arena.specs.Frames.{AllLead, Holds, Leads}
 use Rattle.frame_arena.specs.Stacks.{values_from, values_of}
 use Rattle.object_machine.specs.declared.machine.Flow.TheVariants as flow
 use Rattle.object_machine.specs.Calling.{called}
-use Rattle.object_machine.specs.Entering.{Pays, paid}
+use Rattle.object_machine.specs.Entering.{Opens, Pays, as_frame, paid}
 use Rattle.object_machine.specs.Standing.{AllAtWork, AtWork, Leaves, Obeys, activation_at, below_of}
 use Rattle.object_machine.proofs.BlockFacts.{same_found}
 use Rattle.object_machine.proofs.Called.{values_long}
@@ -207,12 +207,13 @@ returns-in-Ok-open-clause-row c code line now e e2 before o m s =
     let others : AllAtWork p1 world m c.args.below.now.items = subst (λ v. AllAtWork v world m c.args.below.now.items) (sym same) s.others in
     let parent : Leads p.frames.items m acts.parent = subst (λ f. Leads f m acts.parent) c.deref.ensures.value (c.in-Some.ensures.leads p.cells.items m h slots) in
     let leads : Leads p1.frames.items m acts.parent = subst (λ v. Leads v.frames.items m acts.parent) (sym same) parent in
-    let opens = c.in-Ok-open.ensures.row l before now world m pays.1 (λ r is. subst (λ f. Leads p1.frames.items m f) (same_found (Some acts.parent) acts.parent r refl is) leads) in
-    let kept : frames_kept b (a ∷ under) m ≡ m = c.keeps_none.ensures c.if-not-keeps_none.false b (a ∷ under) m (ap (λ b. b.class_free) (sym c.block.view_is)) in
+    let opens = subst (λ g. Opens l p1 c.open.new.storage c.in-Ok.short b g (Some acts.parent) c.in-Ok-open.next before now world m) c.as_frame.ensures
+    (c.in-Ok-open.ensures.row l before now world m pays.1 (λ r is. subst (λ f. Leads p1.frames.items m f) (same_found (Some acts.parent) acts.parent r refl is) leads)) in
+    let kept : frames_kept b (a ∷ under) m ≡ m = c.keeps_none.ensures c.if-not-keeps_none.false b (a ∷ under) m (ap (λ b. b.class_free) (sym c.block.view_is)) (ap (λ b. b.formals) (sym c.block.view_is) ∙ sym c.deref-3.ensures.value) in
     let formals : b.formals ≡ c.deref-in-Ok-open.result.now = ap (λ b. b.formals) (sym c.block.view_is) ∙ sym c.deref-in-Ok-open.ensures.value in
     let top = c.pass.new.top in
     let f = c.pass.result in
     let o2 = handed_over (length m.instances) (arrays_by_value b.formals vs) world in
     along l line c.pass.new.storage c.pass.new.below.items before now f top.registers top.stack.items _ _ (whole ∙ pays.0 _ ∙ ap (λ m2. in_frame o2 m2 k b (Some j) fill.cells (waiting a rest ∷ under)) kept)
     (subst (λ k. Leaves f l line c.pass.new.storage top.registers top.stack.items c.pass.new.below.items before now (in_frame o2 m k b (Some j) fill.cells (waiting a rest ∷ under))) number
-    (c.pass.ensures.row l line before now p1 world m c.in-Ok.short b (Some acts.parent) fill.cells formals opens works others fill.is))
+    (c.pass.ensures.row l line before now p1 world m c.in-Ok.short b (as_frame b) (Some acts.parent) fill.cells formals opens works others fill.is))

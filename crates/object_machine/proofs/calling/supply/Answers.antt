@@ -12,11 +12,11 @@ use Rattle.object_machine.proofs.Supplied.{supplied}
 use Rattle.object_machine.proofs.calling.supply.Goals as goal
 
 pub returns-clause-row : goal.returns-clause-row
-returns-clause-row c on l before now p o m k b parent t r eh h w =
+returns-clause-row c on l before now p o m k b g parent t r eh h w =
     let p1 = c.args.storage.now in
     let p2 : Storage = record p1 { cells = with_items p1.cells c.fill.new.cells } in
     let same : SameBut p1 p2 = record { frames = refl; entered = refl; arrays = refl; texts = refl; image = refl; ticks = refl; words = refl } in
-    let m2 = opened m k b parent in
+    let m2 = opened m k b g parent in
     let vs = values_from c.args.stack.now c.args.actuals.at c.args.actuals.count in
     let w1 = h.others r c.args.stack.now w in
     let h0 : Holds c.deref.result.now c.deref_mut.result.now m2 = subst (λ f. Holds f c.deref_mut.result.now m2) (sym c.deref.ensures.value) (subst (λ x. Holds p1.frames.items x m2) (sym c.deref_mut.ensures.value) h.stores.frames) in
@@ -25,4 +25,4 @@ returns-clause-row c on l before now p o m k b parent t r eh h w =
     let f : Filled p1.frames.items c.fill.new.cells m2 (cells_set_from m2 t.registers.home.stamp c.args.first vs) =
     subst (λ z. Filled p1.frames.items c.fill.new.cells m2 (cells_set_from m2 z.stamp c.args.first vs)) (sym eh) (subst (λ f. Filled f c.fill.new.cells m2 (cells_set_from m2 c.args.home.stamp c.args.first vs)) c.deref.ensures.value (c.fill.ensures.row on m2 h0 home slots)) in
     let arrays : AllLeadArrays p1.arrays.regions o.arrays c.fill.new.cells = c.fill.ensures.arrays p1.arrays.regions o.arrays (subst (λ x. AllLeadArrays p1.arrays.regions o.arrays x) (sym c.deref_mut.ensures.value) h.stores.cells) w1.arrays_lead in
-    supplied l p p1 p2 same k b parent t before now o m h c.fill.new.cells (with_items_is p1.cells c.fill.new.cells (search (rules, places))) c.args.first vs f arrays
+    supplied l p p1 p2 same k b g parent t before now o m h c.fill.new.cells (with_items_is p1.cells c.fill.new.cells (search (rules, places))) c.args.first vs f arrays

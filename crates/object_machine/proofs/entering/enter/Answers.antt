@@ -9,7 +9,7 @@ use Rattle.sim_code.specs.Outcome.{Run}
 use Rattle.frame_arena.specs.Frames.{Leads}
 use Rattle.frame_arena.specs.Stacks.{values_of}
 use Rattle.object_machine.specs.declared.machine.Flow.TheVariants as flow
-use Rattle.object_machine.specs.Entering.{Pays, paid}
+use Rattle.object_machine.specs.Entering.{Opens, Pays, as_frame, paid}
 use Rattle.object_machine.specs.Standing.{AllAtWork, AtWork, Leaves, Obeys, activation_at, below_of}
 use Rattle.object_machine.proofs.BlockFacts.{same_found}
 use Rattle.object_machine.proofs.Covered.{covered_by, opens_first}
@@ -92,10 +92,11 @@ returns-in-Ok-open-clause-row c code line now e e2 before o m s =
     let same = c.in-On.ensures.same refl in
     let works : AtWork p1 q m t.registers t.stack.items = subst (λ v. AtWork v q m t.registers t.stack.items) (sym same) s.top in
     let others : AllAtWork p1 q m c.args.below.now.items = subst (λ v. AllAtWork v q m c.args.below.now.items) (sym same) s.others in
-    let opens = c.in-Ok-open.ensures.row l before now q m pays.1 (λ r is. subst (λ f. Leads p1.frames.items m f) (same_found (Some home) home r refl is) works.home) in
+    let opens = subst (λ g. Opens l p1 c.open.new.storage c.in-Ok.short b g (Some home) c.in-Ok-open.next before now q m) c.as_frame.ensures
+    (c.in-Ok-open.ensures.row l before now q m pays.1 (λ r is. subst (λ f. Leads p1.frames.items m f) (same_found (Some home) home r refl is) works.home)) in
     let next = c.in-Ok-open.next in
     let top = c.cover.new.top in
     let f = c.cover.result in
     along l line c.open.new.storage c.cover.new.below.items before now f top.registers top.stack.items _ _ (c.in-Some.ensures.row code c.args.operand e e2 (sym ez) b x there entry o go ∙ pays.0 _)
     (subst (λ k. Leaves f l line c.open.new.storage top.registers top.stack.items c.cover.new.below.items before now (in_frame q m k b (Some home.stamp) (first_cells b) (under ∷ below_of c.args.below.now.items))) number
-    (covered_by l line p1 c.open.new.storage c.in-Ok.short b (Some home) (first_cells b) next t.registers t.stack.items c.args.below.now.items top c.cover.new.below.items before now q q m (opens_first l p1 c.open.new.storage c.in-Ok.short b (Some home) next before now q m opens) works others f c.cover.ensures.row))
+    (covered_by l line p1 c.open.new.storage c.in-Ok.short b (as_frame b) (Some home) (first_cells b) next t.registers t.stack.items c.args.below.now.items top c.cover.new.below.items before now q q m (opens_first l p1 c.open.new.storage c.in-Ok.short b (as_frame b) (Some home) next before now q m opens) (opens.others t.registers t.stack.items works) others f c.cover.ensures.row))

@@ -4,7 +4,7 @@ use Rattle.sim_values.specs.Words.{instance_words}
 use Rattle.sim_code.specs.Machine.{in_frame, first_cells, words_of_block}
 use Rattle.frame_arena.specs.Frames.{empty_memory}
 use Rattle.object_machine.specs.declared.machine.Flow.TheVariants as flow
-use Rattle.object_machine.specs.Entering.{Pays, paid}
+use Rattle.object_machine.specs.Entering.{Opens, Pays, paid}
 use Rattle.object_machine.specs.Running.{Begins, IsFit, IsUnread}
 use Rattle.object_machine.specs.Standing.{Leaves}
 use Rattle.object_machine.proofs.Firsts.{enters_alone, first_entry, first_is, none_some, none_stores, pays_off}
@@ -75,7 +75,8 @@ returns-in-Ok-open-clause-row c code before now o e e2 s =
     let pays : Pays flow.On l x.line.0 (words_of_block b) c.pay-flow.new.storage before now o empty_memory = subst (λ n. Pays flow.On l x.line.0 n c.pay-flow.new.storage before now o empty_memory) w (c.in-On.ensures.row x.line.0 before now o empty_memory s) in
     let number : c.in-Ok.short ≡ c.in-Some.number = search rules in
     let p = paid o (words_of_block b) in
-    let opens = c.in-Ok-open.ensures.row l before now p empty_memory pays.1 (λ r is. absurd (none_some r is)) in
+    let opens = subst (λ g. Opens l c.pay-flow.new.storage c.open.new.storage c.in-Ok.short b g None c.in-Ok-open.activation before now p empty_memory) c.as_frame.ensures
+    (c.in-Ok-open.ensures.row l before now p empty_memory pays.1 (λ r is. absurd (none_some r is))) in
     subst (λ q. Leaves flow.On l 0 c.open.new.storage c.in-Ok-open.activation.registers c.in-Ok-open.activation.stack.items [] before now q) (sym (eq ∙ pays.0 _))
     (subst (λ k. Leaves flow.On l 0 c.open.new.storage c.in-Ok-open.activation.registers c.in-Ok-open.activation.stack.items [] before now (in_frame p empty_memory k b None (first_cells b) [])) number
     (enters_alone l 0 c.pay-flow.new.storage c.open.new.storage c.in-Ok.short b c.in-Ok-open.activation before now p opens))

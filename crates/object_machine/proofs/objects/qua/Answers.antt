@@ -104,7 +104,7 @@ returns-else-not-inside-clause-row c code l line p below now e1 e2 e3 before o m
     along l line p below before now _ _ _ _ _
     (found ∙ qualified_inside line (in_class code m k object.stamp) c.in-Some-in_class.inside o (K (Of (Object object.stamp) ∷ rest)) (c.in-Some-in_class.ensures.row code p.cells.items m e1 e2 h led) c.if-not-inside.false
     ∙ object_kept K c.reference_in.result object v rest c.reference_in.ensures.is c.in-Object.is ∙ ap K (top_at r.depth at stack c.in-Some-pop.ensures.shallower c.requires.fits))
-    (depth_goes_on l line p below before now r _ stack stack o m r.depth s refl refl refl refl s.top.slots s.top.arrays_lead)
+    (depth_goes_on l line p below before now r _ stack stack o m r.depth s refl (refl, refl) refl refl s.top.slots s.top.arrays_lead)
 
 pub returns-in-IsNone-clause-row : goal.returns-in-IsNone-clause-row
 unfolding Obeys

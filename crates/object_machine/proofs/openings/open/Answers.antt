@@ -1,12 +1,11 @@
 use Rattle.std.proofs.Common.{rules, ◌≡◌, ◌+◌, length, replicate, refl, sym, subst, ap, ◌∙◌}
-use Rattle.std.specs.Prelude.{Some, None, map, false}
+use Rattle.std.specs.Prelude.{Some, map, false}
 use Rattle.sim_code.specs.Code.{BlockOf}
 use Rattle.sim_values.specs.declared.value.FrameRef.{FrameRef}
-use Rattle.sim_chains.specs.Components.{NoObject}
 use Rattle.sim_code.specs.Machine.{first_cells, first_value}
 use Rattle.sim_code.specs.Instances.{entered}
 use Rattle.frame_arena.specs.Arrays.{AllLeadArrays}
-use Rattle.frame_arena.specs.Frames.{Holds, Leads, AllLead, Has, cells_at, frame_at, number_in}
+use Rattle.frame_arena.specs.Frames.{Holds, Leads, AllLead, Has, cells_at, frame_at, number_in, stands_as}
 use Rattle.frame_arena.specs.Slots.{empty_slot}
 use Rattle.std.specs.Vec.{with_items}
 use Rattle.std.proofs.lemmas.List.{with_items_is, places}
@@ -31,21 +30,21 @@ returns-clause-row c l before now o m s up =
     let e : cells_at c.fill_first.new.cells (frame_at c.reserve.new.frames.items c.in_ok-place.place).base (frame_at c.reserve.new.frames.items c.in_ok-place.place).cells ≡ first_cells b =
     ap (λ k. cells_at c.fill_first.new.cells (frame_at c.reserve.new.frames.items c.in_ok-place.place).base k) (c.in_ok-place.ensures.cells ∙ n) ∙ e2 in
     let up1 : (r : FrameRef) → c.args.parent ≡ Some r → Leads c.deref_mut-4.result.now m r = λ r is. subst (λ f. Leads f m r) (sym c.deref_mut-4.ensures.value) (c.in_ok-place.ensures.leads m r (up r is)) in
-    let h3 : Holds c.enter.new.frames c.fill_first.new.cells (opened m c.args.number b c.args.parent) =
-    subst (λ cs. Holds c.enter.new.frames c.fill_first.new.cells (entered m (record { text = c.args.number; level = b.level; encloser = number_in c.args.parent; cells = cs; passing = b.class_free; kept = false; given_back = false }) (NoObject None))) e
-    (subst (λ f. Holds c.enter.new.frames c.fill_first.new.cells (entered m (record { text = c.args.number; level = b.level; encloser = number_in c.args.parent; cells = cells_at c.fill_first.new.cells (frame_at f c.in_ok-place.place).base (frame_at f c.in_ok-place.place).cells; passing = b.class_free; kept = false; given_back = false }) (NoObject None))) c.deref_mut-4.ensures.value
-    (c.enter.ensures.holds c.fill_first.new.cells m (NoObject None) (subst (λ f. Holds f c.fill_first.new.cells m) (sym c.deref_mut-4.ensures.value) h2) s.entered up1)) in
-    let later : (r : FrameRef) → Leads p.frames.items m r → Leads c.enter.new.frames (opened m c.args.number b c.args.parent) r =
-    λ r leads. c.enter.ensures.leads m _ (NoObject None) r (subst (λ f. Leads f m r) (sym c.deref_mut-4.ensures.value) (c.in_ok-place.ensures.leads m r leads)) in
+    let h3 : Holds c.enter.new.frames c.fill_first.new.cells (opened m c.args.number b c.args.beginning c.args.parent) =
+    subst (λ cs. Holds c.enter.new.frames c.fill_first.new.cells (entered m (record { text = c.args.number; level = b.level; encloser = number_in c.args.parent; cells = cs; passing = b.class_free; kept = false; given_back = false }) (stands_as c.args.beginning.component))) e
+    (subst (λ f. Holds c.enter.new.frames c.fill_first.new.cells (entered m (record { text = c.args.number; level = b.level; encloser = number_in c.args.parent; cells = cells_at c.fill_first.new.cells (frame_at f c.in_ok-place.place).base (frame_at f c.in_ok-place.place).cells; passing = b.class_free; kept = false; given_back = false }) (stands_as c.args.beginning.component))) c.deref_mut-4.ensures.value
+    (c.enter.ensures.holds c.fill_first.new.cells m (subst (λ f. Holds f c.fill_first.new.cells m) (sym c.deref_mut-4.ensures.value) h2) s.entered up1)) in
+    let later : (r : FrameRef) → Leads p.frames.items m r → Leads c.enter.new.frames (opened m c.args.number b c.args.beginning c.args.parent) r =
+    λ r leads. c.enter.ensures.leads m _ (stands_as c.args.beginning.component) r (subst (λ f. Leads f m r) (sym c.deref_mut-4.ensures.value) (c.in_ok-place.ensures.leads m r leads)) in
     let here : Has c.enter.new.frames c.in-Ok-try_from.region p.entered = subst (λ k. Has c.enter.new.frames k p.entered) (let q : c.in_ok-place.place ≡ c.in-Ok-try_from.region = search rules in q) c.enter.ensures.here in
     let room : c.in_ok-stack.stack.items ≡ replicate c.block.inside.room empty_slot = c.in_ok-stack.ensures in
     let p2 : Storage = record { frames = with_items c.reserve.new.frames c.enter.new.frames; cells = with_items c.reserve.new.cells c.fill_first.new.cells; spares = with_items c.reserve.new.spares c.take_stack.new.spares; heads = with_items p.heads c.reserve.new.heads; entered = p.entered + 1; arrays = p.arrays; texts = p.texts; image = p.image; ticks = p.ticks; words = p.words; wanted = p.wanted } in
-    let t : working.Activation = record { registers = record { home = record { frame = c.in-Ok-try_from.region; stamp = p.entered }; pc = c.block.inside.entry; depth = 0 }; stack = c.in_ok-stack.stack } in
-    for_block l p p2 c.args.number b c.args.block.now c.args.parent t before now o m c.block.view_is
-    (opens_from l p p2 c.args.number b c.args.parent t before now o m s c.enter.new.frames c.fill_first.new.cells
+    let t : working.Activation = record { registers = record { home = record { frame = c.in-Ok-try_from.region; stamp = p.entered }; pc = c.args.beginning.start; depth = 0; stage = c.args.beginning.stage }; stack = c.in_ok-stack.stack } in
+    for_block l p p2 c.args.number b c.args.block.now c.args.beginning c.args.parent t before now o m c.block.view_is
+    (opens_from l p p2 c.args.number b c.args.beginning c.args.parent t before now o m s c.enter.new.frames c.fill_first.new.cells
     (with_items_is c.reserve.new.frames c.enter.new.frames (search (rules, places))) (with_items_is c.reserve.new.cells c.fill_first.new.cells (search (rules, places))) refl refl refl refl refl refl h3 later
     (c.fill_first.ensures.arrays p.arrays.regions o.arrays (subst (λ x. AllLeadArrays p.arrays.regions o.arrays x) (sym c.deref_mut-3.ensures.value) (c.in_ok-place.ensures.arrays p.arrays.regions o.arrays s.cells)))
-    (has_leads c.enter.new.frames c.fill_first.new.cells (opened m c.args.number b c.args.parent) (record { frame = c.in-Ok-try_from.region; stamp = p.entered }) h3 here)
-    (subst (λ x. AllLead c.enter.new.frames (opened m c.args.number b c.args.parent) x) (sym room) (empty_leads c.block.inside.room c.enter.new.frames (opened m c.args.number b c.args.parent)))
+    (has_leads c.enter.new.frames c.fill_first.new.cells (opened m c.args.number b c.args.beginning c.args.parent) (record { frame = c.in-Ok-try_from.region; stamp = p.entered }) h3 here)
+    (subst (λ x. AllLead c.enter.new.frames (opened m c.args.number b c.args.beginning c.args.parent) x) (sym room) (empty_leads c.block.inside.room c.enter.new.frames (opened m c.args.number b c.args.beginning c.args.parent)))
     (subst (λ x. AllLeadArrays p.arrays.regions o.arrays x) (sym room) (empty_leads_arrays c.block.inside.room p.arrays.regions o.arrays))
-    (first_activation p.entered (length m.instances) c.in-Ok-try_from.region c.block.inside.entry c.block.inside.room c.in_ok-stack.stack.items s.entered room))
+    (first_activation p.entered (length m.instances) c.in-Ok-try_from.region c.args.beginning.start c.block.inside.room c.args.beginning.stage c.in_ok-stack.stack.items s.entered room))

@@ -6,7 +6,7 @@ use Rattle.object_machine.proofs.rows.obey_other.Goals as goal
 pub returns-in-This-clause-row : goal.returns-in-This-clause-row
 returns-in-This-clause-row c code line below now eb ec =
     let elevel : to_z w64 (of_z w64 c.in-This.level) ≡ c.in-This.level = search rules in
-    for_instr _ code c.args.limits.now line _ _ _ _ _ _ below now c.args.instr _ (c.in-This.is ∙ ap i.This (sym elevel)) (c.this.ensures.row c.args.limits.now line c.args.storage.now below now (sym c.deref-in-This.ensures.value))
+    for_instr _ code c.args.limits.now line _ _ _ _ _ _ below now c.args.instr _ (c.in-This.is ∙ ap i.This (sym elevel)) (c.this.ensures.row c.args.limits.now line c.args.storage.now below now (sym c.deref.ensures.value))
 
 pub returns-in-AddrR-clause-row : goal.returns-in-AddrR-clause-row
 returns-in-AddrR-clause-row c code line below now eb ec =
@@ -74,22 +74,6 @@ pub returns-in-EndThunk-clause-row : goal.returns-in-EndThunk-clause-row
 returns-in-EndThunk-clause-row c code line below now eb ec =
     for_instr _ code c.args.limits.now line _ _ _ _ _ _ below now c.args.instr _ (c.in-EndThunk.is) (c.no_rule-in-EndThunk.ensures c.args.limits.now line c.args.storage.now c.args.regs.now c.args.stack.now below now)
 
-pub returns-in-New-clause-row : goal.returns-in-New-clause-row
-returns-in-New-clause-row c code line below now eb ec =
-    for_instr _ code c.args.limits.now line _ _ _ _ _ _ below now c.args.instr _ (c.in-New.is) (c.no_rule-in-New.ensures c.args.limits.now line c.args.storage.now c.args.regs.now c.args.stack.now below now)
-
-pub returns-in-Pref-clause-row : goal.returns-in-Pref-clause-row
-returns-in-Pref-clause-row c code line below now eb ec =
-    for_instr _ code c.args.limits.now line _ _ _ _ _ _ below now c.args.instr _ (c.in-Pref.is) (c.no_rule-in-Pref.ensures c.args.limits.now line c.args.storage.now c.args.regs.now c.args.stack.now below now)
-
-pub returns-in-NextDecl-clause-row : goal.returns-in-NextDecl-clause-row
-returns-in-NextDecl-clause-row c code line below now eb ec =
-    for_instr _ code c.args.limits.now line _ _ _ _ _ _ below now c.args.instr _ (c.in-NextDecl.is) (c.no_rule-in-NextDecl.ensures c.args.limits.now line c.args.storage.now c.args.regs.now c.args.stack.now below now)
-
-pub returns-in-Inner-clause-row : goal.returns-in-Inner-clause-row
-returns-in-Inner-clause-row c code line below now eb ec =
-    for_instr _ code c.args.limits.now line _ _ _ _ _ _ below now c.args.instr _ (c.in-Inner.is) (c.no_rule-in-Inner.ensures c.args.limits.now line c.args.storage.now c.args.regs.now c.args.stack.now below now)
-
 pub returns-in-Act-clause-row : goal.returns-in-Act-clause-row
 returns-in-Act-clause-row c code line below now eb ec =
     for_instr _ code c.args.limits.now line _ _ _ _ _ _ below now c.args.instr _ (c.in-Act.is) (c.no_rule-in-Act.ensures c.args.limits.now line c.args.storage.now c.args.regs.now c.args.stack.now below now)
@@ -109,11 +93,6 @@ returns-in-Resume-clause-row c code line below now eb ec =
 pub returns-in-NotNone-clause-row : goal.returns-in-NotNone-clause-row
 returns-in-NotNone-clause-row c code line below now eb ec =
     for_instr _ code c.args.limits.now line _ _ _ _ _ _ below now c.args.instr _ (c.in-NotNone.is) (c.not_none.ensures.row c.args.limits.now line c.args.storage.now below now)
-
-pub returns-in-EndLevel-clause-row : goal.returns-in-EndLevel-clause-row
-returns-in-EndLevel-clause-row c code line below now eb ec =
-    let elevel : to_z w64 (of_z w64 c.in-EndLevel.level) ≡ c.in-EndLevel.level = search rules in
-    for_instr _ code c.args.limits.now line _ _ _ _ _ _ below now c.args.instr _ (c.in-EndLevel.is ∙ ap i.EndLevel (sym elevel)) (c.end_level.ensures.row code c.args.limits.now line c.args.storage.now c.args.stack.now below now (sym c.deref.ensures.value))
 
 pub returns-in-Array-clause-row : goal.returns-in-Array-clause-row
 returns-in-Array-clause-row c code line below now eb ec =

@@ -2,6 +2,7 @@ use Rattle.std.proofs.Common.{rules, ◌≡◌, List, [], sym, subst, refl, ap, 
 use Rattle.sim_code.specs.Outcome.{Going, first_world}
 use Rattle.sim_code.specs.Rows.{opening}
 use Rattle.sim_code.specs.Running.{AllRun}
+use Rattle.sim_code.specs.declared.stage.Stage.TheVariants as stage
 use Rattle.frame_arena.specs.Frames.{empty_memory}
 use Rattle.object_machine.specs.declared.machine.Registers.{Registers}
 use Rattle.object_machine.specs.declared.machine.Activation as working
@@ -30,7 +31,7 @@ returns-in-Stopped-clause-ran g c input told =
     let eb : code.blocks ≡ c.deref-2.result.now = ap (λ k. k.blocks) (sym c.code.view_is) ∙ sym c.deref-2.ensures.value in
     let ei : code.instrs ≡ c.deref-3.result.now = ap (λ k. k.instrs) (sym c.code.view_is) ∙ sym c.deref-3.ensures.value in
     let s : Stores l c.in-Ok.storage b0 w (first_world code.texts l input) empty_memory = subst (λ t. Stores l c.in-Ok.storage b0 w (first_world t l input) empty_memory) et (c.in-Ok.ensures.row b0 input) in
-    let r : Registers = record { home = record { frame = 0; stamp = 0 }; pc = 0; depth = 0 } in
+    let r : Registers = record { home = record { frame = 0; stamp = 0 }; pc = 0; depth = 0; stage = stage.NoStage } in
     let b = c.in-Stopped.ensures.row code b0 w (first_world code.texts l input) eb ei s in
     c.answer.ensures.ran code (opening code l input) r [] [] b0 input (g.I.Source.faults c.args.input.now) (g.I.Source.faults c.args.input.now)
     (record {

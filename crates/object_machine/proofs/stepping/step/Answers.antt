@@ -175,3 +175,82 @@ returns-in-Call-clause-row g c s e = (
         (c.call-flow.ensures.row code line (outside (g.O.Sink.written c.args.out.now) s) e1 e2)),
   ),
 )
+
+pub returns-in-NextDecl-clause-ends : goal.returns-in-NextDecl-clause-ends
+returns-in-NextDecl-clause-ends g c = flow_still g.O.Sink.written g.O.Sink.faults c.args.out.now _ c.without_ports-in-NextDecl.ensures.other
+
+pub returns-in-NextDecl-clause-read : goal.returns-in-NextDecl-clause-read
+returns-in-NextDecl-clause-read g c = input_still (g.I.Source.faults c.args.input.now) _ c.without_ports-in-NextDecl.ensures.read
+
+pub returns-in-NextDecl-clause-row : goal.returns-in-NextDecl-clause-row
+returns-in-NextDecl-clause-row g c s e = (
+  s,
+  e,
+  (
+    still_same c.without_ports-in-NextDecl.result (g.O.Sink.written c.args.out.now),
+    λ code line e1 e2 e3 e4.
+        let elevel : to_z w64 (of_z w64 c.in-NextDecl.level) ≡ c.in-NextDecl.level = search rules in
+        c.without_ports-in-NextDecl.ensures.row _ _ _ _ _ _ _ _ _ _ _ _ _
+        (for_instr_in _ code c.args.limits.now line _ _ _ _ _ _ _ _ _ _ c.args.instr (i.NextDecl (to_z w64 (of_z w64 c.in-NextDecl.level))) (c.in-NextDecl.is ∙ ap i.NextDecl (sym elevel)) (c.next_declarations-flow.ensures.row code c.args.limits.now line c.args.storage.now c.args.top.now.stack.items c.args.below.now.items (outside (g.O.Sink.written c.args.out.now) s) e1 e2 e4 (sym c.deref-in-NextDecl.ensures.value))),
+  ),
+)
+
+pub returns-in-Inner-clause-ends : goal.returns-in-Inner-clause-ends
+returns-in-Inner-clause-ends g c = flow_still g.O.Sink.written g.O.Sink.faults c.args.out.now _ c.without_ports-in-Inner.ensures.other
+
+pub returns-in-Inner-clause-read : goal.returns-in-Inner-clause-read
+returns-in-Inner-clause-read g c = input_still (g.I.Source.faults c.args.input.now) _ c.without_ports-in-Inner.ensures.read
+
+pub returns-in-Inner-clause-row : goal.returns-in-Inner-clause-row
+returns-in-Inner-clause-row g c s e = (
+  s,
+  e,
+  (
+    still_same c.without_ports-in-Inner.result (g.O.Sink.written c.args.out.now),
+    λ code line e1 e2 e3 e4.
+        let elevel : to_z w64 (of_z w64 c.in-Inner.level) ≡ c.in-Inner.level = search rules in
+        c.without_ports-in-Inner.ensures.row _ _ _ _ _ _ _ _ _ _ _ _ _
+        (for_instr_in _ code c.args.limits.now line _ _ _ _ _ _ _ _ _ _ c.args.instr (i.Inner (to_z w64 (of_z w64 c.in-Inner.level))) (c.in-Inner.is ∙ ap i.Inner (sym elevel)) (c.inner-flow.ensures.row code c.args.limits.now line c.args.storage.now c.args.top.now.stack.items c.args.below.now.items (outside (g.O.Sink.written c.args.out.now) s) e1 e2 e4 (sym c.deref-in-Inner.ensures.value))),
+  ),
+)
+
+pub returns-in-EndLevel-clause-ends : goal.returns-in-EndLevel-clause-ends
+returns-in-EndLevel-clause-ends g c = flow_still g.O.Sink.written g.O.Sink.faults c.args.out.now _ c.without_ports-in-EndLevel.ensures.other
+
+pub returns-in-EndLevel-clause-read : goal.returns-in-EndLevel-clause-read
+returns-in-EndLevel-clause-read g c = input_still (g.I.Source.faults c.args.input.now) _ c.without_ports-in-EndLevel.ensures.read
+
+pub returns-in-EndLevel-clause-row : goal.returns-in-EndLevel-clause-row
+returns-in-EndLevel-clause-row g c s e = (
+  s,
+  e,
+  (
+    still_same c.without_ports-in-EndLevel.result (g.O.Sink.written c.args.out.now),
+    λ code line e1 e2 e3 e4.
+        let elevel : to_z w64 (of_z w64 c.in-EndLevel.level) ≡ c.in-EndLevel.level = search rules in
+        c.without_ports-in-EndLevel.ensures.row _ _ _ _ _ _ _ _ _ _ _ _ _
+        (for_instr_in _ code c.args.limits.now line _ _ _ _ _ _ _ _ _ _ c.args.instr (i.EndLevel (to_z w64 (of_z w64 c.in-EndLevel.level))) (c.in-EndLevel.is ∙ ap i.EndLevel (sym elevel)) (c.end_level-flow.ensures.row code line (outside (g.O.Sink.written c.args.out.now) s) e1 e2 e4)),
+  ),
+)
+
+pub returns-in-New-clause-ends : goal.returns-in-New-clause-ends
+returns-in-New-clause-ends g c = flow_still g.O.Sink.written g.O.Sink.faults c.args.out.now _ c.without_ports-in-New.ensures.other
+
+pub returns-in-New-clause-read : goal.returns-in-New-clause-read
+returns-in-New-clause-read g c = input_still (g.I.Source.faults c.args.input.now) _ c.without_ports-in-New.ensures.read
+
+pub returns-in-New-clause-row : goal.returns-in-New-clause-row
+returns-in-New-clause-row g c s e = (
+  s,
+  e,
+  (
+    still_same c.without_ports-in-New.result (g.O.Sink.written c.args.out.now),
+    λ code line e1 e2 e3 e4.
+        let eclass : to_z w64 (of_z w64 c.in-New.class) ≡ c.in-New.class = search rules in
+        let evalues : to_z w64 (of_z w64 c.in-New.values) ≡ c.in-New.values = search rules in
+        c.without_ports-in-New.ensures.row _ _ _ _ _ _ _ _ _ _ _ _ _
+        (for_instr_in _ code c.args.limits.now line _ _ _ _ _ _ _ _ _ _ c.args.instr (i.New (to_z w64 (of_z w64 c.in-New.class)) (to_z w64 (of_z w64 c.in-New.values)))
+        (c.in-New.is ∙ ap (λ z. i.New z c.in-New.values) (sym eclass) ∙ ap (λ z. i.New (to_z w64 (of_z w64 c.in-New.class)) z) (sym evalues))
+        (c.generate-flow.ensures.row code line (outside (g.O.Sink.written c.args.out.now) s) e1 e2 e4)),
+  ),
+)

@@ -9,3 +9,6 @@ returns-clause-ruled c = λ tokens tree s is. w.ruled tokens tree s is
 
 pub returns-clause-stays_sane : goal.returns-clause-stays_sane
 returns-clause-stays_sane c = λ tokens tree s is. w.sane tokens tree s is
+
+pub returns-clause-names_objects : goal.returns-clause-names_objects
+returns-clause-names_objects c = λ tokens tree s is. w.named tokens tree s is

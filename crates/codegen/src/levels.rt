@@ -1,0 +1,144 @@
+//! The statements of a class, with what stands for `inner`.
+ghost use Rattle.std.specs.Prelude.{◌≡◌, ◌<◌, ⊤, IfOk, MatchOption, OnOk, length, pos};
+ghost use Rattle.sim_code.specs.declared.instr.Instr.TheVariants as i;
+ghost use Rattle.sim_meaning.specs.Levels.{writes_inner as writes_inner_of};
+ghost use Rattle.sim_scope.specs.Source.{source_of};
+ghost use Rattle.sim_tree.specs.SyntaxOfProgram.{statement_syntax};
+ghost use Rattle.codegen_expr.specs.Drafts.{with_instr};
+ghost use Rattle.codegen_expr.specs.Known.{Known};
+ghost use Rattle.codegen.specs.CodeStm.{inner_of};
+ghost use Rattle.codegen.specs.EmitProgram.{FirstInner, IsOwn, WritesAround, WritesLevel, token_number};
+
+use crate::statement::emit_statements;
+use codegen_expr::{Cells, Draft, Spot};
+use sim_base::{Line, TokenNo};
+use sim_code::Instr;
+use sim_scope::{Bound, block_at};
+use sim_tree::Stmt;
+use std::alloc::AllocError;
+
+/// Where `inner` stands among statements.
+#[derive(Clone, Copy)]
+pub(crate) struct InnerPlace {
+    /// How many statements are in front of it.
+    pub place: usize,
+    /// Its token.
+    pub token: TokenNo,
+}
+
+/// The token of a statement `inner`.
+#[tactic(auto, using(crate::proofs::ClassLevels::inners))]
+fn inner_token(stmt: &Stmt) -> Option<TokenNo>
+    ensures { token_number result ≡ inner_of (statement_syntax stmt.now) }
+{
+    match stmt {
+        Stmt::Inner { token } => Some(*token),
+        Stmt::Empty { .. } => None,
+        Stmt::Block { .. } => None,
+        Stmt::PrefixedBlock { .. } => None,
+        Stmt::Call { .. } => None,
+        Stmt::Assignment { .. } => None,
+        Stmt::If { .. } => None,
+        Stmt::While { .. } => None,
+        Stmt::For { .. } => None,
+        Stmt::ForReference { .. } => None,
+        Stmt::Inspect { .. } => None,
+        Stmt::InspectWhen { .. } => None,
+        Stmt::Activation { .. } => None,
+    }
+}
+
+/// The first `inner` of a list.
+fn first_inner(list: &[Stmt]) -> Option<InnerPlace>
+    ensures first { FirstInner list.now result }
+    ensures within { MatchOption result ⊤ (λ r. r.place < length list.now) }
+{
+    for index in 0..list.len() {
+        if let Some(token) = inner_token(&list[index]) {
+            return Some(InnerPlace {
+                place: index,
+                token,
+            });
+        }
+    }
+    None
+}
+
+/// Whether an `inner` is written in a class.
+#[tactic(auto, unfolding(sim_scope::specs::Source::source_of))]
+fn writes_inner(bound: &Bound, text: u32) -> bool
+    ensures { result ≡ writes_inner_of (source_of bound.now) text }
+{
+    match bound.scopes.blocks().get(text as usize) {
+        Some(row) => row.inner().is_some(),
+        None => false,
+    }
+}
+
+/// Whether an `inner` is written in a text.
+#[tactic(auto, using(crate::proofs::ClassLevels::owns))]
+fn is_own(bound: &Bound, text: u32, token: TokenNo) -> bool
+    ensures { IsOwn bound.now text token result }
+{
+    match block_at(&bound.scopes, token) {
+        Some(block) => block == text,
+        None => false,
+    }
+}
+
+/// What stands for `inner` behind its tick. The answer is the place behind it.
+fn emit_inner(draft: &mut Draft) -> Result<usize, AllocError>
+    ensures put { OnOk result (draft.new ≡ with_instr draft.old (i.Inner (pos 0)) 0) }
+    ensures behind { IfOk result (λ n. n ≡ length draft.new.instrs) }
+{
+    draft.put(Instr::Inner(0), Line(0))?;
+    Ok(draft.here())
+}
+
+/// Statements of a class, one of which is `inner`. The answer is the place behind that.
+#[tactic(auto, using(crate::proofs::ClassLevels::levels))]
+fn emit_around_inner(
+    bound: &Bound,
+    cells: &Cells,
+    spot: Spot,
+    draft: &mut Draft,
+    list: &[Stmt],
+) -> Result<usize, AllocError>
+    requires cells { Known bound.now cells.now }
+    ensures { IfOk result (λ after. WritesAround bound.now spot draft.old draft.new list.now after) }
+{
+    let Some(inner) = first_inner(list) else {
+        draft.give_up();
+        return Ok(draft.here());
+    };
+    if is_own(bound, spot.text, inner.token) {
+        emit_statements(bound, cells, spot, draft, &list[..inner.place])?;
+        draft.put(Instr::Tick, Line(0))?;
+        let after = emit_inner(draft)?;
+        emit_statements(bound, cells, spot, draft, &list[inner.place + 1..])?;
+        return Ok(after);
+    }
+    draft.give_up();
+    Ok(draft.here())
+}
+
+/// The statements of a class, with what stands for `inner`. The answer is the place behind that.
+#[tactic(auto, using(crate::proofs::ClassLevels::levels))]
+pub(crate) fn emit_level(
+    bound: &Bound,
+    cells: &Cells,
+    spot: Spot,
+    draft: &mut Draft,
+    list: &[Stmt],
+) -> Result<usize, AllocError>
+    requires cells { Known bound.now cells.now }
+    ensures { IfOk result (λ after. WritesLevel bound.now spot draft.old draft.new list.now after) }
+{
+    if writes_inner(bound, spot.text) {
+        let after = emit_around_inner(bound, cells, spot, draft, list)?;
+        return Ok(after);
+    }
+    emit_statements(bound, cells, spot, draft, list)?;
+    let after = emit_inner(draft)?;
+    Ok(after)
+}

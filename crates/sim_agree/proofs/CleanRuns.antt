@@ -1,0 +1,767 @@
+-- Mark by mark, where no rule on declarations is broken: what a plain program declares comes into its tables.
+use Rattle.std.proofs.Common.{◌≡◌, ◌<◌, ◌≤◌, ◌⊎◌, inl, inr, ℕ, Bool, true, false, List, [], ◌∷◌, ◌++◌, length, Option, Some, None, refl, sym, ap, ◌∙◌, subst, arith, append-nil, append_assoc}
+use Rattle.std.specs.Prelude.{nat_eq, nat_lt, slice_get, slice_set}
+use Rattle.std.proofs.lemmas.Option.{slice_get_within}
+use Rattle.std.proofs.lemmas.Bool.Decides.{nat_tests}
+use Rattle.sim_base.specs.declared.numbering.DeclNo.{DeclNo}
+use Rattle.sim_base.specs.declared.rule.Rule.{Rule}
+use Rattle.sim_base.specs.declared.rule.Rule.TheVariants as r
+use Rattle.sim_tree.specs.declared.expr.Identifier.{Identifier}
+use Rattle.sim_tree.specs.declared.stmt.TypeName.{TypeName}
+use Rattle.sim_tree.specs.Syntax.{Declarations, Heading, Statement, Statements}
+use Rattle.sim_scope.specs.declared.scopes.Declaration.{Declaration}
+use Rattle.sim_scope.specs.declared.types.BlockKind.{BlockKind}
+use Rattle.sim_scope.specs.declared.types.BlockKind.TheVariants as kind
+use Rattle.sim_scope.specs.declared.types.Entry.{Entry}
+use Rattle.sim_scope.specs.declared.types.Entry.TheVariants as entry
+use Rattle.sim_scope.specs.declared.types.FormalKind.{FormalKind}
+use Rattle.sim_scope.specs.declared.types.SimType.{SimType}
+use Rattle.sim_scope.specs.declared.types.WrittenMode.{WrittenMode}
+use Rattle.sim_scope.specs.Building.{BuildingOf, Declares, Headed, Mark, Opens, block_around, broken, broken_if, changed, closed, closed_at, counted, counted_in, declared, formal, found_in, headed as headed_of, holding_class, inner, level_in, marked, most_levels, opened, parameter as parameter_of, placed, row_of as new_row, specified as specified_of, unspecified_at, unspecified_in}
+use Rattle.sim_scope.specs.Declare.{headed_marks, result_named}
+use Rattle.sim_scope.specs.Found.{fault}
+use Rattle.sim_scope.specs.Runs.{each, run}
+use Rattle.sim_scope.specs.Access.{around}
+use Rattle.sim_scope.specs.Scopes.{declared_in, entry_in, entry_of, lookup}
+use Rattle.sim_scope.specs.Tables.{BlockOf, Tables}
+use Rattle.sim_scope.proofs.Kept.{kept_set, more_here, set_here}
+use Rattle.sim_meaning.specs.Entries.{numbers_in}
+use Rattle.sim_sound.specs.Held.{Among}
+use Rattle.sim_meaning.specs.Texts.{BlockText, ClassText, ConnectionText, ProcedureText, Text}
+use Rattle.sim_agree.proofs.Calm.{class_calm, declared_calm, headed_calm, inner_calm, moded_calm, span, specified_calm}
+use Rattle.sim_agree.proofs.Groups.{AreReferences, ArrayWritten, Grouped, Has, NoBreaks, NoHeaded, OfReferences, Open, OwnEntry, Quals, block, breaks_rule, closes, connects, declared_in_text, declares, declares_class, has_cases, headed, here, inner_mark, item, moded, nothing, own_marks, parameter, procedure, qualifies, specified, there, unqualified, Written}
+use Rattle.sim_agree.proofs.Steps.{AllEven, Becomes, Changed, Declared, IsParameter, Nothing, Step, Unmatched, class_step, class_unmatched, declared_latest, declared_step, headed_step, inner_step, last_cases, met, moded_step, own_unmatched, parameter_step, procedure_unmatched, quals_latest, quals_step, rule_step, specified_met, unspecified_unmatched, among_at}
+use Rattle.sim_agree.proofs.Fine.{Agree, Fine, KindIs, Stack, With, begun_keeps, closed_agrees, fresh, same_around, step_fine}
+use Rattle.sim_agree.proofs.FineRuns.{Owes, block_agrees, class_agrees, declares_agrees, owes_heading, owes_none, parameter_agrees, procedure_agrees, quals_rows, quiet_agrees, run_both, step_agrees}
+use Rattle.sim_agree.proofs.Owned.{Owned, closed_owned, opened_owned, owned_step}
+use Rattle.sim_agree.proofs.Covered.{Covered, closed_covers, covered_stays, declared_alone, declared_covered, holding_refs, inner_covers, moded_covers, opened_least, opened_same, specified_covered}
+use Rattle.sim_agree.proofs.Clean.{Clean, Counts, Made, Origin, OwedAt, RowFor, SpecifiedRow, WrittenFor, complete_stays, declared_clean, declared_refs, early_stays, headed_clean, heading_past, heads_stay, holding_same, if_clean, inner_quiet, moded_quiet, never_none, old_row, origins_stay, out, owed_kept, param_stays, param_was, quals_clean, quals_least, quiet_clean, references_stay, some_same, specified_at, specified_latest, specified_quiet, step_clean}
+
+-- ---- a declaration that is no parameter
+
+module _ (b c : BuildingOf) (y : Identifier) (e : Entry) (n : ℕ) (ts : List Text) (x : Text) (owed : List Mark) (os : List Open) (s : Step b c (Declared (length b.tables.declarations) y e n)) (spans : (j : ℕ) → span (slice_get c.tables.blocks j) ≡ span (slice_get b.tables.blocks j))
+    (same : c.tables.qualifications ≡ b.tables.qualifications) (other : IsParameter e → ⊥) (free : NoHeaded owed) (cur : b.current ≡ Some n) where
+  named_clean : Fine b ts (item x owed ∷ os) → Clean b ts (item x owed ∷ os) → Clean c ts (item x owed ∷ os)
+  named_clean f g =
+      step_clean b c (Declared (length b.tables.declarations) y e n) s ts (item x owed ∷ os) f (λ d row p. p.0) (λ d row p q. other (subst IsParameter p.1.3 q))
+      (λ d row p z q. heading_past b ts x owed os f free n cur z (subst (λ m. OwedAt b.tables.blocks b.current (item x owed ∷ os) m (Headed z)) p.1.2 q)) spans same g
+
+own_other : (e : Entry) → OwnEntry e → IsParameter e → ⊥
+own_other (entry.Variable ty) own p = p
+own_other (entry.Constant ty) own p = p
+own_other (entry.Array ty n) own p = p
+own_other (entry.Procedure result k) own p = own
+own_other (entry.Class k) own p = own
+own_other (entry.Virtual result k) own p = own
+own_other (entry.Formal f) own p = own
+own_other (entry.Unspecified v) own p = own
+own_other (entry.Attribute name given result) own p = own
+
+-- what is declared has come
+pop_declares : (c : BuildingOf) (ts : List Text) (x : Text) (y : Identifier) (e : Entry) (owed : List Mark) (os : List Open) (n : ℕ) → c.current ≡ Some n → RowFor c n y e → Clean c ts (item x (Declares y e ∷ owed) ∷ os) → Clean c ts (item x owed ∷ os)
+pop_declares c ts x y e owed os n cur made f = record {
+  complete = λ m z at w k has. complete m w k (f.complete m z at w k has);
+  heads = λ d row w at is. heads row (f.heads d row w at is);
+  early = λ m w q. f.early m w (more m w q);
+  counts = f.counts;
+  refs = f.refs;
+  origins = f.origins;
+}
+  where
+    is_mark : (w : Identifier) (k : Entry) → Declares w k ≡ Declares y e → (w ≡ y) × (k ≡ e)
+    is_mark w k is = (cc, cc)
+
+    complete : (m : ℕ) (w : Identifier) (k : Entry) → RowFor c m w k ⊎ OwedAt c.tables.blocks c.current (item x (Declares y e ∷ owed) ∷ os) m (Declares w k) → RowFor c m w k ⊎ OwedAt c.tables.blocks c.current (item x owed ∷ os) m (Declares w k)
+    complete m w k (inl q) = inl q
+    complete m w k (inr (inr q)) = inr (inr q)
+    complete m w k (inr (inl q)) = go (has_cases q.1)
+      where
+        go : (Declares w k ≡ Declares y e) ⊎ Has (Declares w k) owed → RowFor c m w k ⊎ OwedAt c.tables.blocks c.current (item x owed ∷ os) m (Declares w k)
+        go (inr h) = inr (inl (q.0, h))
+        go (inl h) =
+            let both = is_mark w k h in
+            let same : n ≡ m = some_same n m (sym cur ∙ q.0) in
+            inl (subst (λ z. RowFor c m w z) (sym both.1) (subst (λ z. RowFor c m z e) (sym both.0) (subst (λ z. RowFor c z y e) same made)))
+
+    heads : (row : Declaration) → (z : Identifier) × (z.name ≡ row.name) × OwedAt c.tables.blocks c.current (item x (Declares y e ∷ owed) ∷ os) row.block (Headed z) → (z : Identifier) × (z.name ≡ row.name) × OwedAt c.tables.blocks c.current (item x owed ∷ os) row.block (Headed z)
+    heads row (z, name, inr q) = (z, name, inr q)
+    heads row (z, name, inl q) = go (has_cases q.1)
+      where
+        go : (Headed z ≡ Declares y e) ⊎ Has (Headed z) owed → (w : Identifier) × (w.name ≡ row.name) × OwedAt c.tables.blocks c.current (item x owed ∷ os) row.block (Headed w)
+        go (inl h) = absurd (cc)
+        go (inr h) = (z, name, inl (q.0, h))
+
+    more : (m : ℕ) (w : Identifier) → OwedAt c.tables.blocks c.current (item x owed ∷ os) m (Headed w) → OwedAt c.tables.blocks c.current (item x (Declares y e ∷ owed) ∷ os) m (Headed w)
+    more m w (inl q) = inl (q.0, there q.1)
+    more m w (inr q) = inr q
+
+no_headed_under : (y : Identifier) (e : Entry) (owed : List Mark) → NoHeaded owed → NoHeaded (Declares y e ∷ owed)
+no_headed_under y e owed free z h = go (has_cases h)
+  where
+    go : (Headed z ≡ Declares y e) ⊎ Has (Headed z) owed → ⊥
+    go (inl q) = cc
+    go (inr q) = free z q
+
+-- a mark of a text's own
+declares_clean : (b : BuildingOf) (x : Text) (owed quals : List Mark) (y : Identifier) (e : Entry) (ts : List Text) (os : List Open) (row : BlockOf) → NoHeaded owed → OwnEntry e → Quals (OfReferences e) quals → Written e y quals (declared_in_text x) → (f : Fine b ts (item x (Declares y e ∷ owed) ∷ os)) → slice_get b.tables.blocks f.stack.0 ≡ Some row
+    → (run marked (declared b y e) quals).least ≡ None → (b.least ≡ None) × (Clean b ts (item x (Declares y e ∷ owed) ∷ os) → Clean (run marked (declared b y e) quals) ts (item x owed ∷ os))
+declares_clean b x owed quals y e ts os row free own q written f at clean =
+    let d = declared_clean b y e f.stack.0 row alone f.stack.1 at (sym (quals_least c (OfReferences e) quals q) ∙ clean) in (
+      d.0,
+      λ g. quals_clean c (OfReferences e) quals ts (item x owed ∷ os) q (last d.1) (origin d.1)
+          (pop_declares c ts x y e owed os f.stack.0 (s.current ∙ f.stack.1) (made d.1)
+          (named_clean b c y e f.stack.0 ts x (Declares y e ∷ owed) os s (declared_calm b y e).spans (declared_refs b y e f.stack.0 alone f.stack.1) (own_other e own) (no_headed_under y e owed free) f.stack.1 f g)),
+    )
+  where
+    c : BuildingOf
+    c = declared b y e
+
+    alone : Unmatched b.tables e
+    alone = own_unmatched b.tables e own
+
+    s : Step b (declared b y e) (Declared (length b.tables.declarations) y e f.stack.0)
+    s = declared_step b y e f.stack.0 (own_unmatched b.tables e own) f.stack.1
+
+    made : Made b y e f.stack.0 (declared b y e) → RowFor (declared b y e) f.stack.0 y e
+    made m = record { number = length b.tables.declarations; row = new_row y e f.stack.0 true; at = m; name = refl; token = refl; block = refl; entry = refl; own = own }
+
+    last : Made b y e f.stack.0 (declared b y e) → OfReferences e → (d : DeclNo) × ((declared b y e).latest ≡ Some d) × (found : Declaration) × (slice_get (declared b y e).tables.declarations d.0 ≡ Some found) × OfReferences found.entry
+    last m refs = (record { 0 = length b.tables.declarations }, declared_latest b y e f.stack.0 (new_row y e f.stack.0 true) (own_unmatched b.tables e own) f.stack.1 m, new_row y e f.stack.0 true, m, refs)
+
+    origin : Made b y e f.stack.0 (declared b y e) → Origin (declared b y e) quals ts
+    origin m class are d is found ty n known array =
+        let same : record { 0 = length b.tables.declarations } ≡ d = some_same (record { 0 = length b.tables.declarations }) d (sym (declared_latest b y e f.stack.0 (new_row y e f.stack.0 true) (own_unmatched b.tables e own) f.stack.1 m) ∙ is) in
+        let one : new_row y e f.stack.0 true ≡ found = some_same (new_row y e f.stack.0 true) found (sym m ∙ subst (λ (z : DeclNo). slice_get (declared b y e).tables.declarations z.0 ≡ Some found) (sym same) known) in
+        subst (λ z. WrittenFor ts z class) one (record {
+          text = x;
+          at = f.stack.2;
+          name = y;
+          token = refl;
+          written = subst (λ z. ArrayWritten y z (declared_in_text x)) are (subst (λ z. Written z y quals (declared_in_text x)) (ap (λ (z : Declaration). z.entry) one ∙ array) written);
+        })
+
+-- ---- parameters
+
+counted_same : (d : BuildingOf) (o : Option ℕ) → ((counted_in d o).least ≡ d.least) × ((counted_in d o).tables.declarations ≡ d.tables.declarations) × ((counted_in d o).tables.qualifications ≡ d.tables.qualifications)
+counted_same d None = (refl, refl, refl)
+counted_same d (Some n) = go (slice_get d.tables.blocks n)
+  where
+    go : (o : Option BlockOf) → ((counted d n o).least ≡ d.least) × ((counted d n o).tables.declarations ≡ d.tables.declarations) × ((counted d n o).tables.qualifications ≡ d.tables.qualifications)
+    go None = (refl, refl, refl)
+    go (Some row) = (refl, refl, refl)
+
+counted_here : (d : BuildingOf) (n : ℕ) (row : BlockOf) → slice_get (counted_in d (Some n)).tables.blocks n ≡ Some row → row.formals ≡ length row.numbers
+counted_here d n row is = go (slice_get d.tables.blocks n) refl is
+  where
+    go : (o : Option BlockOf) → slice_get d.tables.blocks n ≡ o → slice_get (counted d n o).tables.blocks n ≡ Some row → row.formals ≡ length row.numbers
+    go None at is = absurd (let e : None ≡ Some row = sym at ∙ is in cc)
+    go (Some old) at is =
+        let e : record old { formals = length old.numbers } ≡ row = some_same (record old { formals = length old.numbers }) row (sym (set_here d.tables.blocks n old (record old { formals = length old.numbers }) at) ∙ is) in
+        subst (λ (z : BlockOf). z.formals ≡ length z.numbers) e refl
+
+parameter_clean : (b : BuildingOf) (x : Text) (owed : List Mark) (y : Identifier) (ts : List Text) (os : List Open) (row : BlockOf) → Has (Headed y) owed → (f : Fine b ts (item x owed ∷ os)) → Fine (parameter_of b y) ts (item x owed ∷ os) → slice_get b.tables.blocks f.stack.0 ≡ Some row
+    → (parameter_of b y).least ≡ None → (b.least ≡ None) × (Clean b ts (item x owed ∷ os) → Clean (parameter_of b y) ts (item x owed ∷ os))
+parameter_clean b x owed y ts os row has f fc at clean =
+    let q = declared_clean b y (entry.Unspecified None) n row (unspecified_unmatched b.tables None) f.stack.1 at (sym (counted_same d d.current).0 ∙ clean) in (q.0, after)
+  where
+    n : ℕ
+    n = f.stack.0
+
+    d : BuildingOf
+    d = declared b y (entry.Unspecified None)
+
+    c : BuildingOf
+    c = parameter_of b y
+
+    stack : List Open
+    stack = item x owed ∷ os
+
+    New : ℕ → Declaration → Type 0
+    New = Declared (length b.tables.declarations) y (entry.Unspecified None) n
+
+    s : Step b (parameter_of b y) (Declared (length b.tables.declarations) y (entry.Unspecified None) n)
+    s = parameter_step b y n f.stack.1
+
+    kept : c.tables.qualifications ≡ b.tables.qualifications
+    kept = (counted_same d d.current).2 ∙ declared_refs b y (entry.Unspecified None) n (unspecified_unmatched b.tables None) f.stack.1
+
+    now : d.current ≡ Some n
+    now = (declared_step b y (entry.Unspecified None) n (unspecified_unmatched b.tables None) f.stack.1).current ∙ f.stack.1
+
+    after : Clean b ts (item x owed ∷ os) → Clean (parameter_of b y) ts (item x owed ∷ os)
+    after g = record {
+      complete = λ m z top w k q. complete_stays b c New s ts stack f.stack m w k (g.complete m z top w k q);
+      heads = λ e found w is named. heads e found w named (s.rows e found is);
+      early = early;
+      counts = λ m found is. counts m found is (nat_eq n m) refl;
+      refs = references_stay b c New s ts kept stack g;
+      origins = origins_stay b c New s ts kept stack g;
+    }
+      where
+        heads : (e : ℕ) (found : Declaration) (w : Option WrittenMode) → found.entry ≡ entry.Unspecified w
+            → ((old : Declaration) × (slice_get b.tables.declarations e ≡ Some old) × Changed old found) ⊎ (Declared (length b.tables.declarations) y (entry.Unspecified None) n e found × Among (record { 0 = e }) (numbers_in (slice_get c.tables.blocks found.block)) × (AllEven b.tables.blocks → declared_in (slice_get c.tables.blocks found.block) found.name ≡ Some (record { 0 = e })))
+            → (z : Identifier) × (z.name ≡ found.name) × OwedAt c.tables.blocks c.current stack found.block (Headed z)
+        heads e found w is (inl q) = heads_stay b c New s ts stack f.stack g e found q.0 w q.1 q.2 is
+        heads e found w is (inr q) = (y, sym q.0.1.0, inl (s.current ∙ f.stack.1 ∙ ap Some (sym q.0.1.2), has))
+
+        early : (m : ℕ) (z : Identifier) → OwedAt c.tables.blocks c.current stack m (Headed z) → (e : ℕ) (found : Declaration) → slice_get c.tables.declarations e ≡ Some found → found.block ≡ m → IsParameter found.entry
+        early = early_stays b c New s ts stack fc.stack (λ e found p z q. subst IsParameter (sym p.1.3) tt) g
+
+        here_owed : OwedAt c.tables.blocks c.current (item x owed ∷ os) n (Headed y)
+        here_owed = inl (s.current ∙ f.stack.1, has)
+
+        counts : (m : ℕ) (found : BlockOf) → slice_get c.tables.blocks m ≡ Some found → (z : Bool) → nat_eq n m ≡ z → Counts c.tables.declarations found
+        counts m found is true e =
+            let same : n ≡ m = grind (arith, nat_tests) in
+            let all : found.formals ≡ length found.numbers = counted_here d n found (subst (λ o. slice_get (counted_in d o).tables.blocks n ≡ Some found) now (ap (slice_get c.tables.blocks) same ∙ is)) in record {
+              fits = omega (arith, all);
+              front = λ i v r p t lt.
+                  let o = fc.own m v (subst (λ z. Among v (numbers_in z)) (sym is) (among_at found.numbers i v p)) in
+                  let one : o.0 ≡ r = some_same o.0 r (sym o.1 ∙ t) in
+                  early n y here_owed v.0 r t (ap (λ (z : Declaration). z.block) (sym one) ∙ o.2 ∙ sym same);
+              back = λ i v r p t param. (let lt : i < length found.numbers = slice_get_within found.numbers i v p in omega (arith, all));
+            }
+        counts m found is false e =
+            let old : slice_get b.tables.blocks m ≡ Some found = sym (s.others m (λ q. (let same : n ≡ m = some_same n m (sym f.stack.1 ∙ q) in let P : nat_eq n m ≡ true = grind (arith, nat_tests) in let Q : true ≡ false = sym P ∙ e in cc))) ∙ is in
+            let k = g.counts m found old in record {
+              fits = k.fits;
+              front = λ i v r p t lt.
+                  let w = old_row b c New s ts stack f (λ a row u. u.0) m v r (subst (λ z. Among v (numbers_in z)) (sym old) (among_at found.numbers i v p)) t in
+                  param_stays w.0.entry r.entry w.2.entry (k.front i v w.0 p w.1 lt);
+              back = λ i v r p t param.
+                  let w = old_row b c New s ts stack f (λ a row u. u.0) m v r (subst (λ z. Among v (numbers_in z)) (sym old) (among_at found.numbers i v p)) t in
+                  k.back i v w.0 p w.1 (param_was w.0.entry r.entry w.2.entry param);
+            }
+
+-- the end of a heading
+unspecified_found : (t : Tables) (n : ℕ) (name : List ℕ) (d : DeclNo) (row : Declaration) (w : Option WrittenMode) → declared_in (slice_get t.blocks n) name ≡ Some d → slice_get t.declarations d.0 ≡ Some row → row.entry ≡ entry.Unspecified w
+    → unspecified_at t (found_in t (Some n) name) ≡ None → ⊥
+unfolding lookup entry_of
+unspecified_found t n name d row w found at is none =
+    let e : unspecified_in (entry_in (slice_get t.declarations d.0)) ≡ None = sym (ap (unspecified_at t) found) ∙ none in
+    let f : unspecified_in (Some row.entry) ≡ None = sym (ap (λ o. unspecified_in (entry_in o)) at) ∙ e in
+    let g : Some w ≡ None = sym (ap (λ z. unspecified_in (Some z)) is) ∙ f in cc
+
+headed_step_clean : (b : BuildingOf) (x : Text) (owed : List Mark) (y : Identifier) (ts : List Text) (os : List Open) → Fine b ts (item x (Headed y ∷ owed) ∷ os) → (headed_of b y.token (unspecified_at b.tables (found_in b.tables b.current y.name))).least ≡ None
+    → (b.least ≡ None) × (Clean b ts (item x (Headed y ∷ owed) ∷ os) → Clean (headed_of b y.token (unspecified_at b.tables (found_in b.tables b.current y.name))) ts (item x owed ∷ os))
+headed_step_clean b x owed y ts os g clean =
+    let q = headed_clean b y.token (unspecified_at b.tables (found_in b.tables b.current y.name)) clean in
+    (q.1.1 clean, λ f. after q.0 (quiet_clean b c ts before s (headed_calm b y.token (unspecified_at b.tables (found_in b.tables b.current y.name))) q.1.0 g f))
+  where
+    c : BuildingOf
+    c = headed_of b y.token (unspecified_at b.tables (found_in b.tables b.current y.name))
+
+    before : List Open
+    before = item x (Headed y ∷ owed) ∷ os
+
+    next : List Open
+    next = item x owed ∷ os
+
+    s : Step b (headed_of b y.token (unspecified_at b.tables (found_in b.tables b.current y.name))) Nothing
+    s = headed_step b y.token (unspecified_at b.tables (found_in b.tables b.current y.name))
+
+    after : unspecified_at b.tables (found_in b.tables b.current y.name) ≡ None → Clean (headed_of b y.token (unspecified_at b.tables (found_in b.tables b.current y.name))) ts (item x (Headed y ∷ owed) ∷ os)
+        → Clean (headed_of b y.token (unspecified_at b.tables (found_in b.tables b.current y.name))) ts (item x owed ∷ os)
+    after none f = record {
+      complete = λ m z top w e has. complete m w e (f.complete m z top w e has);
+      heads = λ d row w at is. heads d row w at is (f.heads d row w at is);
+      early = λ m w q. f.early m w (more m w q);
+      counts = f.counts;
+      refs = f.refs;
+      origins = f.origins;
+    }
+      where
+        more : (m : ℕ) (w : Identifier) → OwedAt c.tables.blocks c.current next m (Headed w) → OwedAt c.tables.blocks c.current before m (Headed w)
+        more m w (inl q) = inl (q.0, there q.1)
+        more m w (inr q) = inr q
+
+        complete : (m : ℕ) (w : Identifier) (e : Entry) → RowFor c m w e ⊎ OwedAt c.tables.blocks c.current before m (Declares w e) → RowFor c m w e ⊎ OwedAt c.tables.blocks c.current next m (Declares w e)
+        complete m w e (inl q) = inl q
+        complete m w e (inr (inr q)) = inr (inr q)
+        complete m w e (inr (inl q)) = go (has_cases q.1)
+          where
+            go : (Declares w e ≡ Headed y) ⊎ Has (Declares w e) owed → RowFor c m w e ⊎ OwedAt c.tables.blocks c.current next m (Declares w e)
+            go (inl p) = absurd (cc)
+            go (inr p) = inr (inl (q.0, p))
+
+        heads : (d : ℕ) (row : Declaration) (w : Option WrittenMode) → slice_get c.tables.declarations d ≡ Some row → row.entry ≡ entry.Unspecified w → (z : Identifier) × (z.name ≡ row.name) × OwedAt c.tables.blocks c.current before row.block (Headed z)
+            → (z : Identifier) × (z.name ≡ row.name) × OwedAt c.tables.blocks c.current next row.block (Headed z)
+        heads d row w at is (z, name, inr q) = (z, name, inr q)
+        heads d row w at is (z, name, inl q) = go (has_cases q.1)
+          where
+            same_name : Headed z ≡ Headed y → z ≡ y
+            same_name e = cc
+
+            old : (row : Declaration) → ((prior : Declaration) × (slice_get b.tables.declarations d ≡ Some prior) × Changed prior row) ⊎ (Nothing d row × Among (record { 0 = d }) (numbers_in (slice_get c.tables.blocks row.block)) × (AllEven b.tables.blocks → declared_in (slice_get c.tables.blocks row.block) row.name ≡ Some (record { 0 = d })))
+                → row.entry ≡ entry.Unspecified w → row.name ≡ y.name → b.current ≡ Some row.block → ⊥
+            old row (inr p) is named cur = p.0
+            old row (inl p) is named cur =
+                unspecified_found b.tables row.block y.name (record { 0 = d }) p.0 (unspec p.2.entry).0
+                (subst (λ z. declared_in (slice_get b.tables.blocks z) y.name ≡ Some (record { 0 = d })) (sym p.2.block) (subst (λ z. declared_in (slice_get b.tables.blocks p.0.block) z ≡ Some (record { 0 = d })) (sym p.2.name ∙ named) (g.finds d p.0 p.1)))
+                p.1 (unspec p.2.entry).1 (subst (λ z. unspecified_at b.tables (found_in b.tables z y.name) ≡ None) cur none)
+              where
+                unspec : Becomes p.0.entry row.entry → (v : Option WrittenMode) × (p.0.entry ≡ entry.Unspecified v)
+                unspec (inl e) = (w, sym e ∙ is)
+                unspec (inr e) = (e.0, e.1)
+
+            go : (Headed z ≡ Headed y) ⊎ Has (Headed z) owed → (v : Identifier) × (v.name ≡ row.name) × OwedAt c.tables.blocks c.current next row.block (Headed v)
+            go (inr p) = (z, name, inl (q.0, p))
+            go (inl p) = absurd (old row (s.rows d row at) is (sym name ∙ ap (λ (v : Identifier). v.name) (same_name p)) (sym s.current ∙ q.0))
+
+-- ---- a block begins
+
+-- what is owed when a text begins
+abbrev Begins : Text → List Mark → Type 0
+Begins x owed = (y : Identifier) (e : Entry) → Has (Declares y e) (own_marks (declared_in_text x)) → Has (Declares y e) owed
+
+begun_clean : (b : BuildingOf) (new : BlockOf) (places : List (Option ℕ)) (ts : List Text) (x : Text) (owed : List Mark) (os : List Open) → new.encloser ≡ b.current → new.numbers ≡ [] → new.formals ≡ 0 → Begins x owed
+    → Fine b ts os → Clean b ts os → Clean (With b new places ts x) (ts ++ x ∷ []) (item x owed ∷ os)
+begun_clean b new places ts x owed os around_is none uncounted begins g f = record {
+  complete = λ m z at y e has. complete m z y e has (last_cases ts x m z at);
+  heads = λ d row w at is. (let q = f.heads d row w at is in (q.0, q.1, inr (moved row.block (Headed q.0) q.2)));
+  early = λ m y q d row at is. early m y d row at is q;
+  counts = λ m row at. counts m row (last_cases bs new m row at);
+  refs = f.refs;
+  origins = λ q z row ty n at is e. grown row z.class (f.origins q z row ty n at is e);
+}
+  where
+    bs : List BlockOf
+    bs = b.tables.blocks
+
+    cs : List BlockOf
+    cs = b.tables.blocks ++ new ∷ []
+
+    keep : (n : ℕ) (y : Text) → slice_get ts n ≡ Some y → around (slice_get cs n) ≡ around (slice_get bs n)
+    keep n y is = same_around (slice_get cs n) (slice_get bs n) (begun_keeps b new places ts x os g n y is).0
+
+    grown : (row : Declaration) (class : Identifier) → WrittenFor ts row class → WrittenFor (ts ++ x ∷ []) row class
+    grown row class w = record { text = w.text; at = (begun_keeps b new places ts x os g row.block w.text w.at).1; name = w.name; token = w.token; written = w.written }
+
+    keep_back : (n : ℕ) (y : Text) → slice_get ts n ≡ Some y → around (slice_get bs n) ≡ around (slice_get cs n)
+    keep_back n y is = sym (keep n y is)
+
+    under : out cs (Some (length bs)) ≡ b.current
+    under = ap around (more_here bs new) ∙ around_is
+
+    moved : (n : ℕ) (m : Mark) → OwedAt bs b.current os n m → OwedAt cs (out cs (Some (length bs))) os n m
+    moved n m q = subst (λ z. OwedAt cs z os n m) (sym under) (owed_kept bs cs ts keep os b.current n m g.stack q)
+
+    stack_here : Stack cs ts b.current os
+    stack_here = stack_more os b.current g.stack
+      where
+        stack_more : (os : List Open) (current : Option ℕ) → Stack bs ts current os → Stack cs ts current os
+        stack_more [] current h = h
+        stack_more (o ∷ os) current h = (h.0, h.1, h.2, subst (λ z. Stack cs ts z os) (sym (keep h.0 o.text h.2)) (stack_more os (around (slice_get bs h.0)) h.3))
+
+    was : (n : ℕ) (m : Mark) → OwedAt cs (out cs (Some (length bs))) os n m → OwedAt bs b.current os n m
+    was n m q = owed_kept cs bs ts keep_back os b.current n m stack_here (subst (λ z. OwedAt cs z os n m) under q)
+
+    complete : (m : ℕ) (z : Text) (y : Identifier) (e : Entry) → Has (Declares y e) (own_marks (declared_in_text z)) → (slice_get ts m ≡ Some z) ⊎ ((m ≡ length ts) × (x ≡ z))
+        → RowFor (With b new places ts x) m y e ⊎ OwedAt cs (Some (length bs)) (item x owed ∷ os) m (Declares y e)
+    complete m z y e has (inl q) = go (f.complete m z q y e has)
+      where
+        go : RowFor b m y e ⊎ OwedAt bs b.current os m (Declares y e) → RowFor (With b new places ts x) m y e ⊎ OwedAt cs (Some (length bs)) (item x owed ∷ os) m (Declares y e)
+        go (inl p) = inl (record { number = p.number; row = p.row; at = p.at; name = p.name; token = p.token; block = p.block; entry = p.entry; own = p.own })
+        go (inr p) = inr (inr (moved m (Declares y e) p))
+    complete m z y e has (inr q) =
+        let here_now : length bs ≡ m = g.size ∙ sym q.0 in
+        inr (inl (ap Some here_now, begins y e (subst (λ w. Has (Declares y e) (own_marks (declared_in_text w))) (sym q.1) has)))
+
+    -- a declaration stands in an earlier block
+    earlier : (d : ℕ) (row : Declaration) → slice_get b.tables.declarations d ≡ Some row → row.block < length bs
+    earlier d row at = go (slice_get bs row.block) refl (g.listed d row at)
+      where
+        go : (o : Option BlockOf) → slice_get bs row.block ≡ o → Among (record { 0 = d }) (numbers_in o) → row.block < length bs
+        go None is a = absurd (elim a [ ])
+        go (Some found) is a = slice_get_within bs row.block found is
+
+    early : (m : ℕ) (y : Identifier) (d : ℕ) (row : Declaration) → slice_get b.tables.declarations d ≡ Some row → row.block ≡ m → OwedAt cs (Some (length bs)) (item x owed ∷ os) m (Headed y) → IsParameter row.entry
+    early m y d row at is (inl q) = let lt : row.block < length bs = earlier d row at in let e : length bs ≡ m = some_same (length bs) m q.0 in absurd (omega (arith, is))
+    early m y d row at is (inr q) = f.early m y (was m (Headed y) q) d row at is
+
+    counts : (m : ℕ) (row : BlockOf) → (slice_get bs m ≡ Some row) ⊎ ((m ≡ length bs) × (new ≡ row)) → Counts b.tables.declarations row
+    counts m row (inl q) = f.counts m row q
+    counts m row (inr q) = subst (Counts b.tables.declarations) q.1 (record {
+      fits = omega (arith, uncounted);
+      front = λ n d r p t lt. absurd (let e : slice_get no_numbers n ≡ Some d = ap (λ z. slice_get z n) (sym none) ∙ p in nothing_there n d e);
+      back = λ n d r p t param. absurd (let e : slice_get no_numbers n ≡ Some d = ap (λ z. slice_get z n) (sym none) ∙ p in nothing_there n d e);
+    })
+      where
+        no_numbers : List DeclNo
+        no_numbers = []
+
+        nothing_there : (n : ℕ) (d : DeclNo) → slice_get no_numbers n ≡ Some d → ⊥
+        nothing_there n d e = cc
+
+if_cleans : (a : Bool) (b : BuildingOf) (token : ℕ) (rule : Rule) (ts : List Text) (os : List Open) → Clean b ts os → Clean (broken_if a b token rule) ts os
+if_cleans true b token rule ts os f = record {
+  complete = λ n x at y e has. rows n y e (f.complete n x at y e has);
+  heads = f.heads;
+  early = f.early;
+  counts = f.counts;
+  refs = f.refs;
+  origins = f.origins;
+}
+  where
+    rows : (n : ℕ) (x : Identifier) (e : Entry) → RowFor b n x e ⊎ OwedAt b.tables.blocks b.current os n (Declares x e) → RowFor (broken b token rule) n x e ⊎ OwedAt b.tables.blocks b.current os n (Declares x e)
+    rows n x e (inl p) = inl (record { number = p.number; row = p.row; at = p.at; name = p.name; token = p.token; block = p.block; entry = p.entry; own = p.own })
+    rows n x e (inr q) = inr q
+if_cleans false b token rule ts os f = f
+
+opened_clean : (b : BuildingOf) (k : BlockKind) (text first : ℕ) (ts : List Text) (x : Text) (owed : List Mark) (os : List Open) → Begins x owed → Fine b ts os → (opened b k text first).least ≡ None
+    → (b.least ≡ None) × (Clean b ts os → Clean (opened b k text first) (ts ++ x ∷ []) (item x owed ∷ os))
+opened_clean b k text first ts x owed os begins g clean =
+    let level : ℕ = level_in k (block_around b.tables b.current) in
+    let c : BuildingOf = With b (fresh b k first) (placed b.tables b.current first).places ts x in
+    let q = if_clean (nat_lt most_levels level) c text r.TooManyLevels clean in
+    (q.1, λ f. if_cleans (nat_lt most_levels level) c text r.TooManyLevels (ts ++ x ∷ []) (item x owed ∷ os) (begun_clean b (fresh b k first) (placed b.tables b.current first).places ts x owed os refl refl refl begins g f))
+
+-- ---- a block ends
+
+abbrev pair : Option BlockOf → Option (ℕ × List DeclNo)
+pair None = None
+pair (Some row) = Some (row.formals, row.numbers)
+
+pair_row : (o : Option BlockOf) (new : BlockOf) → pair o ≡ pair (Some new) → (old : BlockOf) × (o ≡ Some old) × (old.formals ≡ new.formals) × (old.numbers ≡ new.numbers)
+pair_row None new e = absurd (cc)
+pair_row (Some old) new e =
+    let both : (old.formals, old.numbers) ≡ (new.formals, new.numbers) = some_same {A = ℕ × List DeclNo} (old.formals, old.numbers) (new.formals, new.numbers) e in
+    (old, refl, ap (λ (z : ℕ × List DeclNo). z.0) both, ap (λ (z : ℕ × List DeclNo). z.1) both)
+
+same_counts : (ds : List Declaration) (old new : BlockOf) → old.formals ≡ new.formals → old.numbers ≡ new.numbers → Counts ds old → Counts ds new
+same_counts ds old new formals numbers k = record {
+  fits = (let le : old.formals ≤ length old.numbers = k.fits in let e : length old.numbers ≡ length new.numbers = ap length numbers in omega (arith, formals));
+  front = λ n d r p t lt. k.front n d r (ap (λ z. slice_get z n) numbers ∙ p) t (omega (arith, formals, lt));
+  back = λ n d r p t param. (let lt : n < old.formals = k.back n d r (ap (λ z. slice_get z n) numbers ∙ p) t param in omega (arith, formals));
+}
+
+closed_row : (b : BuildingOf) (end n : ℕ) (o : Option BlockOf) (ts : List Text) (x : Text) (os : List Open) → b.current ≡ Some n → slice_get b.tables.blocks n ≡ o → Stack b.tables.blocks ts (around (slice_get b.tables.blocks n)) os
+    → (closed_at b end n o).least ≡ None → (b.least ≡ None) × ((row : BlockOf) → o ≡ Some row → Clean b ts (item x [] ∷ os) → Clean (closed_at b end n o) ts os)
+closed_row b end n None ts x os cur at k clean = (clean, λ row is f. absurd (cc))
+closed_row b end n (Some row) ts x os cur at k clean = (
+  clean,
+  λ found is f. record {
+    complete = λ m z top y e has. complete m y e (f.complete m z top y e has);
+    heads = λ d found w a is. heads found (f.heads d found w a is);
+    early = λ m y q. f.early m y (was m (Headed y) q);
+    counts = λ m found at'. (let q = pair_row (slice_get bs m) found (sym (kept_set pair bs n row new at refl m) ∙ ap pair at') in same_counts b.tables.declarations q.0 found q.2 q.3 (f.counts m q.0 q.1));
+    refs = f.refs;
+    origins = f.origins;
+  },
+)
+  where
+    bs : List BlockOf
+    bs = b.tables.blocks
+
+    new : BlockOf
+    new = record row { end = end }
+
+    cs : List BlockOf
+    cs = slice_set b.tables.blocks n (record row { end = end })
+
+    keep : (j : ℕ) (y : Text) → slice_get ts j ≡ Some y → around (slice_get cs j) ≡ around (slice_get bs j)
+    keep j y is = kept_set around bs n row new at refl j
+
+    keep_back : (j : ℕ) (y : Text) → slice_get ts j ≡ Some y → around (slice_get bs j) ≡ around (slice_get cs j)
+    keep_back j y is = sym (keep j y is)
+
+    moved : (j : ℕ) (m : Mark) → OwedAt bs b.current (item x [] ∷ os) j m → OwedAt cs row.encloser os j m
+    moved j m (inl q) = absurd (elim q.1 [ ])
+    moved j m (inr q) =
+        let e : out bs b.current ≡ around (slice_get bs n) = ap (out bs) cur in
+        subst (λ z. OwedAt cs z os j m) (ap around at) (owed_kept bs cs ts keep os (around (slice_get bs n)) j m k (subst (λ z. OwedAt bs z os j m) e q))
+
+    stack_here : Stack cs ts (around (slice_get bs n)) os
+    stack_here = stack_more os (around (slice_get bs n)) k
+      where
+        stack_more : (os : List Open) (current : Option ℕ) → Stack bs ts current os → Stack cs ts current os
+        stack_more [] current h = h
+        stack_more (o ∷ os) current h = (h.0, h.1, h.2, subst (λ z. Stack cs ts z os) (sym (keep h.0 o.text h.2)) (stack_more os (around (slice_get bs h.0)) h.3))
+
+    was : (j : ℕ) (m : Mark) → OwedAt cs row.encloser os j m → OwedAt bs b.current (item x [] ∷ os) j m
+    was j m q =
+        let e : out bs b.current ≡ around (slice_get bs n) = ap (out bs) cur in
+        inr (subst (λ z. OwedAt bs z os j m) (sym e) (owed_kept cs bs ts keep_back os (around (slice_get bs n)) j m stack_here (subst (λ z. OwedAt cs z os j m) (sym (ap around at)) q)))
+
+    complete : (m : ℕ) (y : Identifier) (e : Entry) → RowFor b m y e ⊎ OwedAt bs b.current (item x [] ∷ os) m (Declares y e) → RowFor (closed_at b end n (Some row)) m y e ⊎ OwedAt cs row.encloser os m (Declares y e)
+    complete m y e (inl p) = inl (record { number = p.number; row = p.row; at = p.at; name = p.name; token = p.token; block = p.block; entry = p.entry; own = p.own })
+    complete m y e (inr q) = inr (moved m (Declares y e) q)
+
+    heads : (found : Declaration) → (y : Identifier) × (y.name ≡ found.name) × OwedAt bs b.current (item x [] ∷ os) found.block (Headed y) → (y : Identifier) × (y.name ≡ found.name) × OwedAt cs row.encloser os found.block (Headed y)
+    heads found q = (q.0, q.1, moved found.block (Headed q.0) q.2)
+
+closed_clean : (b : BuildingOf) (end : ℕ) (ts : List Text) (x : Text) (os : List Open) (row : BlockOf) → (g : Fine b ts (item x [] ∷ os)) → slice_get b.tables.blocks (g.stack.0) ≡ Some row → (closed b end b.current).least ≡ None
+    → (b.least ≡ None) × (Clean b ts (item x [] ∷ os) → Clean (closed b end b.current) ts os)
+closed_clean b end ts x os row g at clean =
+    subst (λ o. (b.least ≡ None) × (Clean b ts (item x [] ∷ os) → Clean (closed b end o) ts os)) (sym g.stack.1)
+    (let q = closed_row b end g.stack.0 (slice_get b.tables.blocks g.stack.0) ts x os g.stack.1 refl g.stack.3 (subst (λ o. (closed b end o).least ≡ None) g.stack.1 clean) in (q.0, q.1 row at))
+
+-- ---- a procedure or a class is declared, and its block begins
+
+-- behind the ends of a heading the declarations of a class are owed
+begins_heading : (x : Text) (ys : List Identifier) (owed : List Mark) → Begins x owed → Begins x (each headed_marks ys ++ owed)
+unfolding headed_marks
+begins_heading x [] owed w y e h = w y e h
+begins_heading x (z ∷ ys) owed w y e h = there (begins_heading x ys owed w y e h)
+
+begins_none : (result : Option TypeName) (h : Heading) (a : Statement) → Begins (ProcedureText result h a) []
+begins_none result h a y e q = q
+
+procedure_clean : (b : BuildingOf) (text first : ℕ) (x : Text) (owed inner quals : List Mark) (result : Option TypeName) (h : Heading) (a : Statement) (ts : List Text) (os : List Open) (row : BlockOf) → NoHeaded owed → Quals (AreReferences (result_named result)) quals
+    → Begins (ProcedureText result h a) inner → (f : Fine b ts (item x owed ∷ os)) → slice_get b.tables.blocks f.stack.0 ≡ Some row
+    → (opened (run marked (declared b h.name (entry.Procedure (result_named result) (length b.tables.blocks))) quals) kind.Procedure text first).least ≡ None
+    → (b.least ≡ None) × (Clean b ts (item x owed ∷ os) → Clean (opened (run marked (declared b h.name (entry.Procedure (result_named result) (length b.tables.blocks))) quals) kind.Procedure text first) (ts ++ ProcedureText result h a ∷ []) (item (ProcedureText result h a) inner ∷ item x owed ∷ os))
+procedure_clean b text first x owed inner quals result h a ts os row free q begins f at clean =
+    let p = opened_clean c kind.Procedure text first ts (ProcedureText result h a) inner (item x owed ∷ os) begins fine clean in
+    let d = declared_clean b h.name e n row alone f.stack.1 at (sym (quals_least c0 (AreReferences (result_named result)) quals q) ∙ p.0) in (
+      d.0,
+      λ g. p.1 (quals_clean c0 (AreReferences (result_named result)) quals ts (item x owed ∷ os) q (last d.1) (origin d.1)
+          (named_clean b c0 h.name e n ts x owed os s (declared_calm b h.name e).spans (declared_refs b h.name e n alone f.stack.1) (λ i. i) free f.stack.1 f g)),
+    )
+  where
+    n : ℕ
+    n = f.stack.0
+
+    e : Entry
+    e = entry.Procedure (result_named result) (length b.tables.blocks)
+
+    c0 : BuildingOf
+    c0 = declared b h.name e
+
+    c : BuildingOf
+    c = run marked c0 quals
+
+    alone : Unmatched b.tables (entry.Procedure (result_named result) (length b.tables.blocks))
+    alone = procedure_unmatched b.tables (result_named result) (length b.tables.blocks) f.bare.virtuals
+
+    s : Step b c0 (Declared (length b.tables.declarations) h.name e n)
+    s = declared_step b h.name e n alone f.stack.1
+
+    fine : Fine c ts (item x owed ∷ os)
+    fine = step_fine b c (Declared (length b.tables.declarations) h.name e n) (quals_step b c0 (Declared (length b.tables.declarations) h.name e n) (AreReferences (result_named result)) quals q s) ts (item x owed ∷ os) f
+
+    last : Made b h.name e n c0 → AreReferences (result_named result) → (d : DeclNo) × (c0.latest ≡ Some d) × (found : Declaration) × (slice_get c0.tables.declarations d.0 ≡ Some found) × OfReferences found.entry
+    last m refs = (record { 0 = length b.tables.declarations }, declared_latest b h.name e n (new_row h.name e n true) alone f.stack.1 m, new_row h.name e n true, m, refs)
+
+    -- a procedure is no array
+    origin : Made b h.name e n c0 → Origin c0 quals ts
+    origin m class are v is found ty i known array =
+        let same : record { 0 = length b.tables.declarations } ≡ v = some_same (record { 0 = length b.tables.declarations }) v (sym (declared_latest b h.name e n (new_row h.name e n true) alone f.stack.1 m) ∙ is) in
+        let one : new_row h.name e n true ≡ found = some_same (new_row h.name e n true) found (sym m ∙ subst (λ (z : DeclNo). slice_get c0.tables.declarations z.0 ≡ Some found) (sym same) known) in
+        absurd (let other : entry.Procedure (result_named result) (length b.tables.blocks) ≡ entry.Array ty i = ap (λ (z : Declaration). z.entry) one ∙ array in cc)
+
+class_clean : (b : BuildingOf) (text first : ℕ) (x : Text) (owed inner : List Mark) (h : Heading) (ds : Declarations) (ss : Statements) (ts : List Text) (os : List Open) (row : BlockOf) → NoHeaded owed
+    → Begins (ClassText None h ds ss) inner → (f : Fine b ts (item x owed ∷ os)) → slice_get b.tables.blocks f.stack.0 ≡ Some row
+    → (opened (changed (declared b h.name (entry.Class (length b.tables.blocks))) holding_class b.current) kind.Class text first).least ≡ None
+    → (b.least ≡ None) × (Clean b ts (item x owed ∷ os) → Clean (opened (changed (declared b h.name (entry.Class (length b.tables.blocks))) holding_class b.current) kind.Class text first) (ts ++ ClassText None h ds ss ∷ []) (item (ClassText None h ds ss) inner ∷ item x owed ∷ os))
+class_clean b text first x owed inner h ds ss ts os row free begins f at clean =
+    let p = opened_clean c kind.Class text first ts (ClassText None h ds ss) inner (item x owed ∷ os) begins fine clean in
+    let d = declared_clean b h.name e n row alone f.stack.1 at (sym held.0 ∙ p.0) in
+    (d.0, λ g. p.1 (named_clean b c h.name e n ts x owed os s (class_calm b h.name e b.current).spans (held.1 ∙ declared_refs b h.name e n alone f.stack.1) (λ i. i) free f.stack.1 f g))
+  where
+    n : ℕ
+    n = f.stack.0
+
+    e : Entry
+    e = entry.Class (length b.tables.blocks)
+
+    c0 : BuildingOf
+    c0 = declared b h.name e
+
+    c : BuildingOf
+    c = changed c0 holding_class b.current
+
+    held : (c.least ≡ c0.least) × (c.tables.qualifications ≡ c0.tables.qualifications) × (c.tables.declarations ≡ c0.tables.declarations)
+    held = holding_same c0 b.current
+
+    alone : Unmatched b.tables (entry.Class (length b.tables.blocks))
+    alone = class_unmatched b.tables (length b.tables.blocks)
+
+    s : Step b c (Declared (length b.tables.declarations) h.name e n)
+    s = class_step b h.name (length b.tables.blocks) n f.stack.1
+
+    fine : Fine c ts (item x owed ∷ os)
+    fine = step_fine b c (Declared (length b.tables.declarations) h.name e n) s ts (item x owed ∷ os) f
+
+-- ---- the whole
+
+-- a text has a row
+row_of : (b : BuildingOf) (ts : List Text) (os : List Open) → Fine b ts os → (n : ℕ) (x : Text) → slice_get ts n ≡ Some x → (row : BlockOf) × (slice_get b.tables.blocks n ≡ Some row)
+row_of b ts os f n x is = go (slice_get b.tables.blocks n) refl (subst (λ z. KindIs (slice_get b.tables.blocks n) z) is (f.kinds n))
+  where
+    go : (o : Option BlockOf) → slice_get b.tables.blocks n ≡ o → KindIs (slice_get b.tables.blocks n) (Some x) → (row : BlockOf) × (slice_get b.tables.blocks n ≡ Some row)
+    go (Some row) e k = (row, e)
+    go None e k = absurd (none (subst (λ z. KindIs z (Some x)) e k))
+      where
+        none : KindIs None (Some x) → ⊥
+        none k = k
+
+quals_unbroken : (R : Type 0) (quals ms : List Mark) → Quals R quals → NoBreaks ms → NoBreaks (quals ++ ms)
+quals_unbroken R quals ms (unqualified free) h = h
+quals_unbroken R quals ms (qualifies x q) h = h
+
+-- a procedure begins
+procedure_owned : (b : BuildingOf) (text first : ℕ) (quals : List Mark) (result : Option TypeName) (h : Heading) (body : Statement) (ts : List Text) (row : BlockOf) → Quals (AreReferences (result_named result)) quals → Unmatched b.tables (entry.Procedure (result_named result) (length b.tables.blocks))
+    → (n : ℕ) → b.current ≡ Some n → slice_get b.tables.blocks n ≡ Some row → length b.tables.blocks ≡ length ts
+    → (opened (run marked (declared b h.name (entry.Procedure (result_named result) (length b.tables.blocks))) quals) kind.Procedure text first).least ≡ None → Owned b ts
+    → Owned (opened (run marked (declared b h.name (entry.Procedure (result_named result) (length b.tables.blocks))) quals) kind.Procedure text first) (ts ++ ProcedureText result h body ∷ [])
+procedure_owned b text first quals result h body ts row q alone n cur at size clean v =
+    opened_owned c kind.Procedure text first ts (ProcedureText result h body) (s.size ∙ size) (
+      record { 0 = length b.tables.declarations },
+      new_row h.name e n true,
+      quals_latest c0 (AreReferences (result_named result)) quals q ∙ declared_latest b h.name e n (new_row h.name e n true) alone cur made,
+      ap (λ z. slice_get z (length b.tables.declarations)) (quals_rows c0 (AreReferences (result_named result)) quals q) ∙ made,
+      ap (entry.Procedure (result_named result)) (sym s.size),
+    )
+    (owned_step b c (Declared (length b.tables.declarations) h.name e n) ts s v)
+  where
+    e : Entry
+    e = entry.Procedure (result_named result) (length b.tables.blocks)
+
+    c0 : BuildingOf
+    c0 = declared b h.name (entry.Procedure (result_named result) (length b.tables.blocks))
+
+    c : BuildingOf
+    c = run marked (declared b h.name (entry.Procedure (result_named result) (length b.tables.blocks))) quals
+
+    s : Step b (run marked (declared b h.name (entry.Procedure (result_named result) (length b.tables.blocks))) quals) (Declared (length b.tables.declarations) h.name (entry.Procedure (result_named result) (length b.tables.blocks)) n)
+    s = quals_step b c0 (Declared (length b.tables.declarations) h.name e n) (AreReferences (result_named result)) quals q (declared_step b h.name e n alone cur)
+
+    made : slice_get (declared b h.name (entry.Procedure (result_named result) (length b.tables.blocks))).tables.declarations (length b.tables.declarations) ≡ Some (new_row h.name (entry.Procedure (result_named result) (length b.tables.blocks)) n true)
+    made = (declared_clean b h.name e n row alone cur at (sym (quals_least c0 (AreReferences (result_named result)) quals q) ∙ opened_least c kind.Procedure text first clean)).1
+
+-- a formal parameter is no array that is declared
+no_origin : (c : BuildingOf) (d : DeclNo) (k : FormalKind) (ty : Option SimType) (quals : List Mark) (ts : List Text) → c.latest ≡ Some d → SpecifiedRow c d k ty → Origin c quals ts
+no_origin c d k ty quals ts last p class are v is found a n known array =
+    let same : d ≡ v = some_same d v (sym last ∙ is) in
+    let one : p.row ≡ found = some_same p.row found (sym p.at ∙ subst (λ (z : DeclNo). slice_get c.tables.declarations z.0 ≡ Some found) (sym same) known) in
+    absurd (let other : formal p.mode k ty ≡ entry.Array a n = sym p.entry ∙ ap (λ (z : Declaration). z.entry) one ∙ array in cc)
+
+pub run_clean : {os : List Open} {ms : List Mark} {xs : List Text} (b : BuildingOf) (ts : List Text) → Grouped os ms xs → Owes os → Agree b ts os → (run marked b ms).least ≡ None → (b.least ≡ None) × (Clean b ts os → Clean (run marked b ms) (ts ++ xs) []) × NoBreaks ms × (Covered b → Covered (run marked b ms)) × (Owned b ts → Owned (run marked b ms) (ts ++ xs))
+unfolding run marked
+run_clean {os = os} b ts (nothing e) w a clean = (clean, (λ f. subst (λ z. Clean b z []) (sym (append-nil ts)) (subst (Clean b ts) e f)), tt, (λ v. v), λ v. subst (Owned b) (sym (append-nil ts)) v)
+run_clean {os = os} b ts (block {ms = ms} {xs = xs} k text first i ds ss p g) w a clean =
+    let x : Text = BlockText i ds ss in
+    let c : BuildingOf = opened b k text first in
+    let later = run_clean c (ts ++ x ∷ []) g ((λ y e q. q), w) (block_agrees b k text first x (own_marks ds) ts os p a) clean in
+    let q = opened_clean b k text first ts x (own_marks ds) os (λ y e h. h) a.fine later.0 in (
+      q.0,
+      (λ f. subst (λ z. Clean (run marked c ms) z []) (append_assoc ts (x ∷ []) xs) (later.1 (q.1 f))),
+      later.2,
+      (λ v. later.3 (covered_stays b c (opened_same b k text first) v)),
+      λ v. subst (Owned (run marked c ms)) (append_assoc ts (x ∷ []) xs) (later.4 (opened_owned b k text first ts x a.fine.size tt v)),
+    )
+run_clean {os = os} b ts (connects {ms = ms} {xs = xs} text first g) w a clean =
+    let x : Text = ConnectionText in
+    let c : BuildingOf = opened b kind.Connection text first in
+    let later = run_clean c (ts ++ x ∷ []) g (owes_none x, w) (block_agrees b kind.Connection text first x [] ts os refl a) clean in
+    let q = opened_clean b kind.Connection text first ts x [] os (λ y e h. h) a.fine later.0 in (
+      q.0,
+      (λ f. subst (λ z. Clean (run marked c ms) z []) (append_assoc ts (x ∷ []) xs) (later.1 (q.1 f))),
+      later.2,
+      (λ v. later.3 (covered_stays b c (opened_same b kind.Connection text first) v)),
+      λ v. subst (Owned (run marked c ms)) (append_assoc ts (x ∷ []) xs) (later.4 (opened_owned b kind.Connection text first ts x a.fine.size tt v)),
+    )
+run_clean b ts (procedure {os = os} {ms = ms} {xs = xs} text first x owed quals result h body d n q g) w a clean =
+    let z : Text = ProcedureText result h body in
+    let c0 : BuildingOf = declared b h.name (entry.Procedure (result_named result) (length b.tables.blocks)) in
+    let c : BuildingOf = opened (run marked c0 quals) kind.Procedure text first in
+    let inner : List Mark = each headed_marks h.formals ++ [] in
+    let row = row_of b ts _ a.fine a.fine.stack.0 x a.fine.stack.2 in
+    let parts : run marked c0 (quals ++ Opens kind.Procedure text first ∷ ms) ≡ run marked c ms = run_both c0 quals (Opens kind.Procedure text first ∷ ms) in
+    let later = run_clean c (ts ++ z ∷ []) g (owes_heading z h.formals [] (owes_none z), w) (procedure_agrees b text first x owed inner quals result h body ts os d q a) (ap (λ (k : BuildingOf). k.least) (sym parts) ∙ clean) in
+    let p = procedure_clean b text first x owed inner quals result h body ts os row.0 n q (begins_heading z h.formals [] (begins_none result h body)) a.fine row.1 later.0 in (
+      p.0,
+      (λ f. subst (λ k. Clean k (ts ++ (z ∷ xs)) []) (sym parts) (subst (λ z. Clean (run marked c ms) z []) (append_assoc ts (z ∷ []) xs) (later.1 (p.1 f)))),
+      quals_unbroken (AreReferences (result_named result)) quals (Opens kind.Procedure text first ∷ ms) q later.2,
+      (λ v. subst Covered (sym parts) (later.3 (covered_stays (run marked c0 quals) c (opened_same (run marked c0 quals) kind.Procedure text first)
+          (declared_covered b h.name (entry.Procedure (result_named result) (length b.tables.blocks)) a.fine.stack.0 row.0 (procedure_unmatched b.tables (result_named result) (length b.tables.blocks) a.fine.bare.virtuals) a.fine.stack.1 row.1
+          (sym (quals_least c0 (AreReferences (result_named result)) quals q) ∙ opened_least (run marked c0 quals) kind.Procedure text first later.0) quals q v)))),
+      λ v. subst (λ k. Owned k (ts ++ (z ∷ xs))) (sym parts) (subst (Owned (run marked c ms)) (append_assoc ts (z ∷ []) xs)
+          (later.4 (procedure_owned b text first quals result h body ts row.0 q (procedure_unmatched b.tables (result_named result) (length b.tables.blocks) a.fine.bare.virtuals) a.fine.stack.0 a.fine.stack.1 row.1 a.fine.size later.0 v))),
+    )
+run_clean b ts (declares_class {os = os} {ms = ms} {xs = xs} text first x owed h ds ss d n g) w a clean =
+    let z : Text = ClassText None h ds ss in
+    let c : BuildingOf = opened (changed (declared b h.name (entry.Class (length b.tables.blocks))) holding_class b.current) kind.Class text first in
+    let inner : List Mark = each headed_marks h.formals ++ own_marks ds in
+    let row = row_of b ts _ a.fine a.fine.stack.0 x a.fine.stack.2 in
+    let later = run_clean c (ts ++ z ∷ []) g (owes_heading z h.formals (own_marks ds) (λ y e q. q), w) (class_agrees b text first x owed inner h ds ss ts os d a) clean in
+    let p = class_clean b text first x owed inner h ds ss ts os row.0 n (begins_heading z h.formals (own_marks ds) (λ y e q. q)) a.fine row.1 later.0 in
+    let c0 : BuildingOf = declared b h.name (entry.Class (length b.tables.blocks)) in (
+      p.0,
+      (λ f. subst (λ z. Clean (run marked c ms) z []) (append_assoc ts (z ∷ []) xs) (later.1 (p.1 f))),
+      later.2,
+      (λ v. later.3 (covered_stays (changed c0 holding_class b.current) c (opened_same (changed c0 holding_class b.current) kind.Class text first) (covered_stays c0 (changed c0 holding_class b.current) (holding_refs c0 b.current)
+          (declared_alone b h.name (entry.Class (length b.tables.blocks)) a.fine.stack.0 row.0 (class_unmatched b.tables (length b.tables.blocks)) a.fine.stack.1 row.1
+          (sym (holding_same c0 b.current).0 ∙ opened_least (changed c0 holding_class b.current) kind.Class text first later.0) (λ z. z) v)))),
+      λ v. subst (Owned (run marked c ms)) (append_assoc ts (z ∷ []) xs)
+          (later.4 (opened_owned (changed c0 holding_class b.current) kind.Class text first ts z ((class_step b h.name (length b.tables.blocks) a.fine.stack.0 a.fine.stack.1).size ∙ a.fine.size) tt
+          (owned_step b (changed c0 holding_class b.current) _ ts (class_step b h.name (length b.tables.blocks) a.fine.stack.0 a.fine.stack.1) v))),
+    )
+run_clean b ts (declares {os = os} {ms = ms} {xs = xs} x owed quals y e d n own q written g) w a clean =
+    let row = row_of b ts _ a.fine a.fine.stack.0 x a.fine.stack.2 in
+    let c : BuildingOf = run marked (declared b y e) quals in
+    let parts : run marked (declared b y e) (quals ++ ms) ≡ run marked c ms = run_both (declared b y e) quals ms in
+    let later = run_clean c ts g ((λ z f p. w.0 z f (there p)), w.1) (declares_agrees b x owed quals y e ts os d own q (w.0 y e here) a) (ap (λ (k : BuildingOf). k.least) (sym parts) ∙ clean) in
+    let p = declares_clean b x owed quals y e ts os row.0 n own q written a.fine row.1 later.0 in (
+      p.0,
+      (λ f. subst (λ k. Clean k (ts ++ xs) []) (sym parts) (later.1 (p.1 f))),
+      quals_unbroken (OfReferences e) quals ms q later.2,
+      (λ v. subst Covered (sym parts) (later.3 (declared_covered b y e a.fine.stack.0 row.0 (own_unmatched b.tables e own) a.fine.stack.1 row.1 (sym (quals_least (declared b y e) (OfReferences e) quals q) ∙ later.0) quals q v))),
+      λ v. subst (λ k. Owned k (ts ++ xs)) (sym parts) (later.4 (owned_step b c (Declared (length b.tables.declarations) y e a.fine.stack.0) ts
+          (quals_step b (declared b y e) (Declared (length b.tables.declarations) y e a.fine.stack.0) (OfReferences e) quals q (declared_step b y e a.fine.stack.0 (own_unmatched b.tables e own) a.fine.stack.1)) v)),
+    )
+run_clean b ts (parameter {os = os} x owed y d has g) w a clean =
+    let row = row_of b ts _ a.fine a.fine.stack.0 x a.fine.stack.2 in
+    let next = parameter_agrees b x owed y ts os d a in
+    let later = run_clean (parameter_of b y) ts g w next clean in
+    let d : BuildingOf = declared b y (entry.Unspecified None) in
+    let same = counted_same d d.current in
+    let q = parameter_clean b x owed y ts os row.0 has a.fine next.fine row.1 later.0 in (
+      q.0,
+      (λ f. later.1 (q.1 f)),
+      later.2,
+      (λ v. later.3 (covered_stays d (parameter_of b y) ((λ m found at refs. ap (λ z. slice_get z m) (sym same.1) ∙ at), same.2)
+          (declared_alone b y (entry.Unspecified None) a.fine.stack.0 row.0 (unspecified_unmatched b.tables None) a.fine.stack.1 row.1 (sym same.0 ∙ later.0) (λ z. z) v))),
+      λ v. later.4 (owned_step b (parameter_of b y) (Declared (length b.tables.declarations) y (entry.Unspecified None) a.fine.stack.0) ts (parameter_step b y a.fine.stack.0 a.fine.stack.1) v),
+    )
+run_clean {os = os} b ts (moded y g) w a clean =
+    let o = found_in b.tables b.current y.name in
+    let s = moded_step b y.token (found_in b.tables b.current y.name) in
+    let later = run_clean _ ts g w (quiet_agrees b _ ts os s a) clean in
+    let q = moded_quiet b y.token (found_in b.tables b.current y.name) in (q.1 later.0, (λ f. later.1 (quiet_clean b _ ts os s (moded_calm b y.token (found_in b.tables b.current y.name)) q.0 a.fine f)), later.2, (λ v. later.3 (moded_covers b y.token (found_in b.tables b.current y.name) v)), λ v. later.4 (owned_step b _ Nothing ts s v))
+run_clean {os = os} b ts (specified {ms = ms} {xs = xs} quals y k ty p q g) w a clean =
+    let o = found_in b.tables b.current y.name in
+    let m : BuildingOf = met b (found_in b.tables b.current y.name) in
+    let c0 : BuildingOf = specified_of m y.token k ty (found_in b.tables b.current y.name) in
+    let c : BuildingOf = run marked c0 quals in
+    let parts : run marked c0 (quals ++ ms) ≡ run marked c ms = run_both c0 quals ms in
+    let s = specified_met b y.token k ty (found_in b.tables b.current y.name) p in
+    let later = run_clean c ts g w (quiet_agrees b c ts os (quals_step b c0 Nothing (AreReferences ty) quals q s) a) (ap (λ (z : BuildingOf). z.least) (sym parts) ∙ clean) in
+    let quiet = specified_quiet m y.token k ty (found_in b.tables b.current y.name) in
+    let c0_clean : c0.least ≡ None = sym (quals_least c0 (AreReferences ty) quals q) ∙ later.0 in
+    let there_ = specified_at m y.token k ty (found_in b.tables b.current y.name) c0_clean in (
+      quiet.1 c0_clean,
+      (λ f. subst (λ z. Clean z (ts ++ xs) []) (sym parts) (later.1 (quals_clean c0 (AreReferences ty) quals ts os q
+          (λ refs. (there_.0, specified_latest m y.token k ty (found_in b.tables b.current y.name) ∙ there_.1, there_.2.row, there_.2.at, subst OfReferences (sym there_.2.entry) refs))
+          (no_origin c0 there_.0 k ty quals ts (specified_latest m y.token k ty (found_in b.tables b.current y.name) ∙ there_.1) there_.2)
+          (quiet_clean b c0 ts os s (specified_calm b y.token k ty (found_in b.tables b.current y.name)) quiet.0 a.fine f)))),
+      quals_unbroken (AreReferences ty) quals ms q later.2,
+      (λ v. subst Covered (sym parts) (later.3 (specified_covered m y.token k ty (found_in b.tables b.current y.name) there_.0 there_.1 (specified_latest m y.token k ty (found_in b.tables b.current y.name) ∙ there_.1) there_.2 quals q v))),
+      λ v. subst (λ k. Owned k (ts ++ xs)) (sym parts) (later.4 (owned_step b c Nothing ts (quals_step b c0 Nothing (AreReferences ty) quals q s) v)),
+    )
+run_clean b ts (headed {os = os} x owed y g) w a clean =
+    let s = headed_step b y.token (unspecified_at b.tables (found_in b.tables b.current y.name)) in
+    let later = run_clean _ ts g ((λ z f p. w.0 z f (there p)), w.1) (step_agrees b _ Nothing x (Headed y ∷ owed) owed ts os s (λ d row q. absurd q) a) clean in
+    let o = unspecified_at b.tables (found_in b.tables b.current y.name) in
+    let q = headed_step_clean b x owed y ts os a.fine later.0 in (q.0, (λ f. later.1 (q.1 f)), later.2, (λ v. later.3 (subst (λ z. Covered (headed_of b y.token z)) (sym (headed_clean b y.token o later.0).0) v)), λ v. later.4 (owned_step b _ Nothing ts s v))
+run_clean {os = os} b ts (inner_mark token g) w a clean =
+    let s = inner_step b token b.current refl in
+    let later = run_clean _ ts g w (quiet_agrees b _ ts os s a) clean in
+    let q = inner_quiet b token b.current in (q.1 later.0, (λ f. later.1 (quiet_clean b _ ts os s (inner_calm b token b.current) q.0 a.fine f)), later.2, (λ v. later.3 (inner_covers b token b.current v)), λ v. later.4 (owned_step b _ Nothing ts s v))
+run_clean {os = os} b ts (breaks_rule token rule g) w a clean =
+    let later = run_clean (broken b token rule) ts g w (quiet_agrees b _ ts os (rule_step b token rule) a) clean in absurd (never_none b.least (fault token rule) later.0)
+run_clean b ts (closes {os = os} x end g) w a clean =
+    let row = row_of b ts _ a.fine a.fine.stack.0 x a.fine.stack.2 in
+    let later = run_clean (closed b end b.current) ts g w.1 (closed_agrees b end ts x os a) clean in
+    let q = closed_clean b end ts x os row.0 a.fine row.1 later.0 in (q.0, (λ f. later.1 (q.1 f)), later.2, (λ v. later.3 (closed_covers b end b.current v)), λ v. later.4 (closed_owned b end b.current ts v))

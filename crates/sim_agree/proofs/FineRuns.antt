@@ -1,0 +1,298 @@
+-- The marks of a plain program, one after the other: behind each of them the tables agree with the texts.
+use Rattle.std.proofs.Common.{◌≡◌, ◌+◌, ◌⊎◌, inl, inr, ℕ, List, [], ◌∷◌, ◌++◌, length, Option, Some, None, refl, sym, ap, ◌∙◌, subst, append-nil, append_assoc}
+use Rattle.std.specs.Prelude.{slice_get}
+use Rattle.sim_base.specs.declared.numbering.DeclNo.{DeclNo}
+use Rattle.sim_base.specs.declared.rule.Rule.TheVariants as r
+use Rattle.sim_tree.specs.declared.expr.Identifier.{Identifier}
+use Rattle.sim_tree.specs.declared.stmt.TypeName.{TypeName}
+use Rattle.sim_tree.specs.Syntax.{Declarations, Heading, Statement, Statements}
+use Rattle.sim_scope.specs.declared.scopes.Declaration.{Declaration}
+use Rattle.sim_scope.specs.declared.types.BlockKind.{BlockKind}
+use Rattle.sim_scope.specs.declared.types.BlockKind.TheVariants as kind
+use Rattle.sim_scope.specs.declared.types.Entry.{Entry}
+use Rattle.sim_scope.specs.declared.types.Entry.TheVariants as entry
+use Rattle.sim_scope.specs.Building.{BuildingOf, Declares, Headed, Mark, Opens, changed, changed_row as changed_row_of, closed, declared, found_in, holding_class, marked, opened, parameter, placed, qualified, specified as specified_of, unspecified_at}
+use Rattle.sim_scope.specs.Declare.{headed_marks, result_named}
+use Rattle.sim_scope.specs.Runs.{each, run}
+use Rattle.sim_scope.specs.Access.{around}
+use Rattle.sim_scope.specs.Scopes.{declared_in}
+use Rattle.sim_scope.specs.Tables.{BlockOf}
+use Rattle.sim_scope.proofs.Kept.{more_here}
+use Rattle.sim_meaning.specs.Entries.{numbers_in}
+use Rattle.sim_meaning.specs.Texts.{BlockText, ClassText, ConnectionText, ProcedureText, Text}
+use Rattle.sim_sound.specs.Held.{Among}
+use Rattle.sim_agree.proofs.Groups.{AreReferences, Declaring, Grouped, Has, OfReferences, Open, OwnEntry, Quals, Taking, block, breaks_rule, closes, connects, declared_in_text, declares, declares_class, has_cases, headed, here, inner_mark, item, moded, nothing, own_marks, parameter as parameter_mark, procedure, qualifies, specified, there, unqualified}
+use Rattle.sim_agree.proofs.Steps.{AllEven, Changed, Declared, IsRow, Nothing, Parametric, Step, Unmatched, class_step, class_unmatched, declared_latest, declared_step, headed_step, inner_step, met, moded_step, own_unmatched, parameter_step, procedure_unmatched, quals_latest, quals_step, rule_step, specified_met}
+use Rattle.sim_agree.proofs.Fine.{Agree, Alike, Fine, Keeps, KindOf, OfClass, OfProcedure, Own, RowOf, alike_results, begun_keeps, begun_rows, changed_row, class_row, closed_agrees, formal_row, fresh, more_text, opened_agrees, own_row, owner_in, procedure_row, row_kept, row_text, step_fine, step_rows}
+
+-- ---- a procedure or a class is declared, and its block begins
+
+-- a declaration whose block is the next one
+module _ (b c : BuildingOf) (k : BlockKind) (text first : ℕ) (y : Identifier) (e : Entry) (n : ℕ) (x : Text) (owed inner : List Mark) (z : Text) (ts : List Text) (os : List Open)
+    (s : Step b c (Declared (length b.tables.declarations) y e n)) (g : Agree b ts (item x owed ∷ os)) (same : n ≡ g.fine.stack.0) (fits : KindOf k z) where
+  abbrev us : List Text
+  us = ts ++ z ∷ []
+
+  f : Fine c ts (item x owed ∷ os)
+  f = step_fine b c (Declared (length b.tables.declarations) y e n) s ts (item x owed ∷ os) g.fine
+
+  abbrev pub begun_blocks : List BlockOf
+  begun_blocks = c.tables.blocks ++ fresh c k first ∷ []
+
+  keeps : Keeps b.tables.blocks begun_blocks ts us
+  keeps m y' is =
+      let p = begun_keeps c (fresh c k first) (placed c.tables c.current first).places ts z (item x owed ∷ os) f m y' is in
+      (p.0 ∙ s.fixes m, p.1)
+
+  -- where the text of a new row begins
+  pub here_text : (row : Declaration) → IsRow y e n row → slice_get us row.block ≡ Some x
+  here_text row q = ap (slice_get us) (q.2 ∙ same) ∙ more_text ts (z ∷ []) g.fine.stack.0 x g.fine.stack.2
+
+  pub next_text : slice_get us (length b.tables.blocks) ≡ Some z
+  next_text = ap (slice_get us) g.fine.size ∙ row_text ts z
+
+  pub next_block : slice_get begun_blocks (length b.tables.blocks) ≡ Some (fresh c k first)
+  next_block = ap (slice_get begun_blocks) (sym s.size) ∙ more_here c.tables.blocks (fresh c k first)
+
+  pub next_around : (row : Declaration) → IsRow y e n row → around (slice_get begun_blocks (length b.tables.blocks)) ≡ Some row.block
+  next_around row q = ap around next_block ∙ s.current ∙ g.fine.stack.1 ∙ ap Some (sym (q.2 ∙ same))
+
+  pub next_agrees : ((d : ℕ) (row : Declaration) → slice_get c.tables.declarations d ≡ Some row → (d ≡ length b.tables.declarations) × IsRow y e n row → RowOf begun_blocks us (slice_get us row.block) d row)
+      → Agree (opened c k text first) us (item z inner ∷ item x owed ∷ os)
+  next_agrees made = opened_agrees c k text first ts z inner (item x owed ∷ os) fits f (λ d row is. go d row is (s.rows d row is))
+    where
+      go : (d : ℕ) (row : Declaration) → slice_get c.tables.declarations d ≡ Some row
+          → ((old : Declaration) × (slice_get b.tables.declarations d ≡ Some old) × Changed old row) ⊎ (Declared (length b.tables.declarations) y e n d row × Among (record { 0 = d }) (numbers_in (slice_get c.tables.blocks row.block)) × (AllEven b.tables.blocks → declared_in (slice_get c.tables.blocks row.block) row.name ≡ Some (record { 0 = d })))
+          → RowOf begun_blocks us (slice_get us row.block) d row
+      go d row is (inl q) = subst (λ m. RowOf begun_blocks us (slice_get us m) d row) (sym q.2.block) (changed_row begun_blocks us (slice_get us q.0.block) d q.0 row q.2 (row_kept b.tables.blocks begun_blocks ts us keeps d q.0 (g.rows d q.0 q.1)))
+      go d row is (inr q) = made d row is q.0
+
+-- what marks that write classes behind declarations leave as it is
+pub quals_rows : (b : BuildingOf) (R : Type 0) (quals : List Mark) → Quals R quals → (run marked b quals).tables.declarations ≡ b.tables.declarations
+unfolding run marked
+quals_rows b R quals (unqualified free) = refl
+quals_rows b R quals (qualifies x q) = go b.latest
+  where
+    go : (o : Option DeclNo) → (qualified b x o).tables.declarations ≡ b.tables.declarations
+    go None = refl
+    go (Some d) = refl
+
+pub procedure_agrees : (b : BuildingOf) (text first : ℕ) (x : Text) (owed inner quals : List Mark) (result : Option TypeName) (h : Heading) (a : Statement) (ts : List Text) (os : List Open) → Declaring x → Quals (AreReferences (result_named result)) quals
+    → Agree b ts (item x owed ∷ os)
+    → Agree (opened (run marked (declared b h.name (entry.Procedure (result_named result) (length b.tables.blocks))) quals) kind.Procedure text first) (ts ++ ProcedureText result h a ∷ []) (item (ProcedureText result h a) inner ∷ item x owed ∷ os)
+procedure_agrees b text first x owed inner quals result h a ts os d q g =
+    next_agrees b c kind.Procedure text first h.name e n x owed inner z ts os s g refl refl (λ i row is p.
+    subst (λ o. RowOf cs us o i row) (sym (here_text b c kind.Procedure text first h.name e n x owed inner z ts os s g refl refl row p.1)) (procedure_row d (made i row is p)))
+  where
+    n : ℕ
+    n = g.fine.stack.0
+
+    e : Entry
+    e = entry.Procedure (result_named result) (length b.tables.blocks)
+
+    c0 : BuildingOf
+    c0 = declared b h.name e
+
+    c : BuildingOf
+    c = run marked c0 quals
+
+    z : Text
+    z = ProcedureText result h a
+
+    us : List Text
+    us = ts ++ z ∷ []
+
+    alone : Unmatched b.tables e
+    alone = procedure_unmatched b.tables (result_named result) (length b.tables.blocks) g.fine.bare.virtuals
+
+    s : Step b c (Declared (length b.tables.declarations) h.name e n)
+    s = quals_step b c0 (Declared (length b.tables.declarations) h.name e n) (AreReferences (result_named result)) quals q (declared_step b h.name e n alone g.fine.stack.1)
+
+    cs : List BlockOf
+    cs = begun_blocks b c kind.Procedure text first h.name e n x owed inner z ts os s g refl refl
+
+    latest : (i : ℕ) (row : Declaration) → slice_get c.tables.declarations i ≡ Some row → i ≡ length b.tables.declarations → c.latest ≡ Some (record { 0 = i })
+    latest i row is same =
+        quals_latest c0 (AreReferences (result_named result)) quals q
+        ∙ declared_latest b h.name e n row alone g.fine.stack.1 (subst (λ m. slice_get c0.tables.declarations m ≡ Some row) same (ap (λ ds. slice_get ds i) (sym (quals_rows c0 (AreReferences (result_named result)) quals q)) ∙ is))
+        ∙ ap (λ m. let w : DeclNo = record { 0 = m } in Some w) (sym same)
+
+    made : (i : ℕ) (row : Declaration) → slice_get c.tables.declarations i ≡ Some row → (i ≡ length b.tables.declarations) × IsRow h.name e n row → OfProcedure cs us i row
+    made i row is p = record {
+      result = result;
+      heading = h;
+      body = a;
+      number = length b.tables.blocks;
+      entry = subst (Alike e) (sym p.1.3) (alike_results (result_named result), refl);
+      text = next_text b c kind.Procedure text first h.name e n x owed inner z ts os s g refl refl;
+      around = next_around b c kind.Procedure text first h.name e n x owed inner z ts os s g refl refl row p.1;
+      owner = ap owner_in (next_block b c kind.Procedure text first h.name e n x owed inner z ts os s g refl refl) ∙ latest i row is p.0;
+    }
+
+pub class_agrees : (b : BuildingOf) (text first : ℕ) (x : Text) (owed inner : List Mark) (h : Heading) (ds : Declarations) (ss : Statements) (ts : List Text) (os : List Open) → Declaring x
+    → Agree b ts (item x owed ∷ os)
+    → Agree (opened (changed (declared b h.name (entry.Class (length b.tables.blocks))) holding_class b.current) kind.Class text first) (ts ++ ClassText None h ds ss ∷ []) (item (ClassText None h ds ss) inner ∷ item x owed ∷ os)
+class_agrees b text first x owed inner h ds ss ts os d g =
+    next_agrees b c kind.Class text first h.name e n x owed inner z ts os s g refl (refl, refl) (λ i row is p.
+    subst (λ o. RowOf cs us o i row) (sym (here_text b c kind.Class text first h.name e n x owed inner z ts os s g refl (refl, refl) row p.1)) (class_row d (made i row is p)))
+  where
+    n : ℕ
+    n = g.fine.stack.0
+
+    e : Entry
+    e = entry.Class (length b.tables.blocks)
+
+    c0 : BuildingOf
+    c0 = declared b h.name e
+
+    c : BuildingOf
+    c = changed c0 holding_class b.current
+
+    z : Text
+    z = ClassText None h ds ss
+
+    us : List Text
+    us = ts ++ z ∷ []
+
+    s : Step b c (Declared (length b.tables.declarations) h.name e n)
+    s = class_step b h.name (length b.tables.blocks) n g.fine.stack.1
+
+    cs : List BlockOf
+    cs = begun_blocks b c kind.Class text first h.name e n x owed inner z ts os s g refl (refl, refl)
+
+    kept : (o : Option ℕ) → ((changed c0 holding_class o).tables.declarations ≡ c0.tables.declarations) × ((changed c0 holding_class o).latest ≡ c0.latest)
+    kept None = (refl, refl)
+    kept (Some m) = go (slice_get c0.tables.blocks m)
+      where
+        go : (o : Option BlockOf) → ((changed_row_of c0 holding_class m o).tables.declarations ≡ c0.tables.declarations) × ((changed_row_of c0 holding_class m o).latest ≡ c0.latest)
+        go None = (refl, refl)
+        go (Some row) = (refl, refl)
+
+    latest : (i : ℕ) (row : Declaration) → slice_get c.tables.declarations i ≡ Some row → i ≡ length b.tables.declarations → c.latest ≡ Some (record { 0 = i })
+    latest i row is same =
+        (kept b.current).1
+        ∙ declared_latest b h.name e n row (class_unmatched b.tables (length b.tables.blocks)) g.fine.stack.1 (subst (λ m. slice_get c0.tables.declarations m ≡ Some row) same (ap (λ rows. slice_get rows i) (sym (kept b.current).0) ∙ is))
+        ∙ ap (λ m. let w : DeclNo = record { 0 = m } in Some w) (sym same)
+
+    made : (i : ℕ) (row : Declaration) → slice_get c.tables.declarations i ≡ Some row → (i ≡ length b.tables.declarations) × IsRow h.name e n row → OfClass cs us i row
+    made i row is p = record {
+      heading = h;
+      declarations = ds;
+      statements = ss;
+      number = length b.tables.blocks;
+      entry = p.1.3;
+      text = next_text b c kind.Class text first h.name e n x owed inner z ts os s g refl (refl, refl);
+      around = next_around b c kind.Class text first h.name e n x owed inner z ts os s g refl (refl, refl) row p.1;
+      owner = ap owner_in (next_block b c kind.Class text first h.name e n x owed inner z ts os s g refl (refl, refl)) ∙ latest i row is p.0;
+    }
+
+-- ---- declarations and headings
+
+-- a mark that ends and begins no text
+pub step_agrees : (b c : BuildingOf) (New : ℕ → Declaration → Type 0) (x : Text) (owed later : List Mark) (ts : List Text) (os : List Open) → Step b c New
+    → ((d : ℕ) (row : Declaration) → New d row → RowOf c.tables.blocks ts (slice_get ts row.block) d row)
+    → Agree b ts (item x owed ∷ os) → Agree c ts (item x later ∷ os)
+step_agrees b c New x owed later ts os s new g = record {
+  fine = step_fine b c New s ts (item x later ∷ os) (record { size = g.fine.size; stack = g.fine.stack; nested = g.fine.nested; levels = g.fine.levels; kinds = g.fine.kinds; listed = g.fine.listed; evens = g.fine.evens; finds = g.fine.finds; own = g.fine.own; rising = g.fine.rising; baseless = g.fine.baseless; bare = g.fine.bare });
+  rows = step_rows b c New s ts new g.rows;
+}
+
+pub quiet_agrees : (b c : BuildingOf) (ts : List Text) (os : List Open) → Step b c Nothing → Agree b ts os → Agree c ts os
+quiet_agrees b c ts os s g = record { fine = step_fine b c Nothing s ts os g.fine; rows = step_rows b c Nothing s ts (λ d row q. absurd q) g.rows }
+
+alike_own : (e : Entry) → OwnEntry e → Alike e e
+alike_own (entry.Variable ty) own = refl
+alike_own (entry.Constant ty) own = refl
+alike_own (entry.Array ty n) own = (refl, refl)
+alike_own (entry.Procedure result k) own = absurd own
+alike_own (entry.Class k) own = absurd own
+alike_own (entry.Virtual result k) own = absurd own
+alike_own (entry.Formal f) own = absurd own
+alike_own (entry.Unspecified v) own = absurd own
+alike_own (entry.Attribute name parameter result) own = absurd own
+
+-- a mark of a text's own
+pub declares_agrees : (b : BuildingOf) (x : Text) (owed quals : List Mark) (y : Identifier) (e : Entry) (ts : List Text) (os : List Open) → Declaring x → OwnEntry e → Quals (OfReferences e) quals → Has (Declares y e) (own_marks (declared_in_text x))
+    → Agree b ts (item x (Declares y e ∷ owed) ∷ os) → Agree (run marked (declared b y e) quals) ts (item x owed ∷ os)
+declares_agrees b x owed quals y e ts os d own q has a =
+    step_agrees b (run marked (declared b y e) quals) (Declared (length b.tables.declarations) y e a.fine.stack.0) x (Declares y e ∷ owed) owed ts os
+    (quals_step b (declared b y e) (Declared (length b.tables.declarations) y e a.fine.stack.0) (OfReferences e) quals q (declared_step b y e a.fine.stack.0 (own_unmatched b.tables e own) a.fine.stack.1))
+    (λ i row p. made i row p.1) a
+  where
+    made : (i : ℕ) (row : Declaration) → IsRow y e a.fine.stack.0 row → RowOf (run marked (declared b y e) quals).tables.blocks ts (slice_get ts row.block) i row
+    made i row p =
+        let o : Own (declared_in_text x) row = record { entry = e; fits = own; alike = subst (Alike e) (sym p.3) (alike_own e own); name = y; named = sym p.0; token = sym p.1; mark = has } in
+        subst (λ z. RowOf (run marked (declared b y e) quals).tables.blocks ts z i row) (sym (ap (slice_get ts) p.2 ∙ a.fine.stack.2)) (own_row d o)
+
+pub parameter_agrees : (b : BuildingOf) (x : Text) (owed : List Mark) (y : Identifier) (ts : List Text) (os : List Open) → Taking x → Agree b ts (item x owed ∷ os) → Agree (parameter b y) ts (item x owed ∷ os)
+parameter_agrees b x owed y ts os d a =
+    step_agrees b (parameter b y) (Declared (length b.tables.declarations) y (entry.Unspecified None) a.fine.stack.0) x owed owed ts os (parameter_step b y a.fine.stack.0 a.fine.stack.1) (λ i row p. made i row p.1) a
+  where
+    made : (i : ℕ) (row : Declaration) → IsRow y (entry.Unspecified None) a.fine.stack.0 row → RowOf (parameter b y).tables.blocks ts (slice_get ts row.block) i row
+    made i row p = subst (λ z. RowOf (parameter b y).tables.blocks ts z i row) (sym (ap (slice_get ts) p.2 ∙ a.fine.stack.2)) (formal_row d (subst Parametric (sym p.3) tt))
+
+pub block_agrees : (b : BuildingOf) (k : BlockKind) (text first : ℕ) (x : Text) (owed : List Mark) (ts : List Text) (os : List Open) → KindOf k x → Agree b ts os → Agree (opened b k text first) (ts ++ x ∷ []) (item x owed ∷ os)
+block_agrees b k text first x owed ts os p a = opened_agrees b k text first ts x owed os p a.fine (begun_rows b (fresh b k first) (placed b.tables b.current first).places ts x os a.fine a.rows)
+
+-- ---- the whole
+
+-- the declarations that are still to come in an open text are its own
+abbrev pub OwesText : Text → List Mark → Type 0
+OwesText x owed = (y : Identifier) (e : Entry) → Has (Declares y e) owed → Has (Declares y e) (own_marks (declared_in_text x))
+
+abbrev pub Owes : List Open → Type 0
+Owes [] = Unit {0}
+Owes (o ∷ os) = OwesText o.text o.owed × Owes os
+
+-- behind the ends of a heading
+pub owes_heading : (x : Text) (ys : List Identifier) (owed : List Mark) → OwesText x owed → OwesText x (each headed_marks ys ++ owed)
+unfolding headed_marks
+owes_heading x [] owed w y e h = w y e h
+owes_heading x (z ∷ ys) owed w y e h = go (has_cases h) (λ q. owes_heading x ys owed w y e q)
+  where
+    go : (Declares y e ≡ Headed z) ⊎ Has (Declares y e) (each headed_marks ys ++ owed) → (Has (Declares y e) (each headed_marks ys ++ owed) → Has (Declares y e) (own_marks (declared_in_text x))) → Has (Declares y e) (own_marks (declared_in_text x))
+    go (inl q) rest = absurd (cc)
+    go (inr q) rest = rest q
+
+pub owes_none : (x : Text) → OwesText x []
+owes_none x y e h = elim h [ ]
+
+-- marks one after the other
+pub run_both : (b : BuildingOf) (quals ms : List Mark) → run marked b (quals ++ ms) ≡ run marked (run marked b quals) ms
+unfolding run
+run_both b [] ms = refl
+run_both b (m ∷ quals) ms = run_both (marked b m) quals ms
+
+pub run_agrees : {os : List Open} {ms : List Mark} {xs : List Text} (b : BuildingOf) (ts : List Text) → Grouped os ms xs → Owes os → Agree b ts os → Agree (run marked b ms) (ts ++ xs) []
+unfolding run marked
+run_agrees {os = os} b ts (nothing e) w a = subst (λ z. Agree b z []) (sym (append-nil ts)) (subst (Agree b ts) e a)
+run_agrees {os = os} b ts (block {ms = ms} {xs = xs} k text first i ds ss p g) w a =
+    subst (λ z. Agree (run marked (opened b k text first) ms) z []) (append_assoc ts (BlockText i ds ss ∷ []) xs) (run_agrees (opened b k text first) (ts ++ BlockText i ds ss ∷ []) g ((λ y e q. q), w) (block_agrees b k text first (BlockText i ds ss) (own_marks ds) ts os p a))
+run_agrees {os = os} b ts (connects {ms = ms} {xs = xs} text first g) w a =
+    subst (λ z. Agree (run marked (opened b kind.Connection text first) ms) z []) (append_assoc ts (ConnectionText ∷ []) xs) (run_agrees (opened b kind.Connection text first) (ts ++ ConnectionText ∷ []) g (owes_none ConnectionText, w) (block_agrees b kind.Connection text first ConnectionText [] ts os refl a))
+run_agrees b ts (procedure {os = os} {ms = ms} {xs = xs} text first x owed quals result h body d n q g) w a =
+    let z : Text = ProcedureText result h body in
+    let c : BuildingOf = run marked (declared b h.name (entry.Procedure (result_named result) (length b.tables.blocks))) quals in
+    let inner : List Mark = each headed_marks h.formals ++ [] in
+    subst (λ c. Agree c (ts ++ (z ∷ xs)) []) (sym (run_both (declared b h.name (entry.Procedure (result_named result) (length b.tables.blocks))) quals (Opens kind.Procedure text first ∷ ms)))
+    (subst (λ z. Agree (run marked (opened c kind.Procedure text first) ms) z []) (append_assoc ts (z ∷ []) xs)
+    (run_agrees (opened c kind.Procedure text first) (ts ++ z ∷ []) g (owes_heading z h.formals [] (owes_none z), w) (procedure_agrees b text first x owed inner quals result h body ts os d q a)))
+run_agrees b ts (declares_class {os = os} {ms = ms} {xs = xs} text first x owed h ds ss d n g) w a =
+    let z : Text = ClassText None h ds ss in
+    let c : BuildingOf = changed (declared b h.name (entry.Class (length b.tables.blocks))) holding_class b.current in
+    subst (λ z. Agree (run marked (opened c kind.Class text first) ms) z []) (append_assoc ts (z ∷ []) xs)
+    (run_agrees (opened c kind.Class text first) (ts ++ z ∷ []) g (owes_heading z h.formals (own_marks ds) (λ y e q. q), w) (class_agrees b text first x owed (each headed_marks h.formals ++ own_marks ds) h ds ss ts os d a))
+run_agrees b ts (declares {os = os} {ms = ms} {xs = xs} x owed quals y e d n own q written g) w a =
+    subst (λ c. Agree c (ts ++ xs) []) (sym (run_both (declared b y e) quals ms))
+    (run_agrees (run marked (declared b y e) quals) ts g ((λ z f p. w.0 z f (there p)), w.1) (declares_agrees b x owed quals y e ts os d own q (w.0 y e here) a))
+run_agrees b ts (parameter_mark {os = os} x owed y d has g) w a = run_agrees (parameter b y) ts g w (parameter_agrees b x owed y ts os d a)
+run_agrees {os = os} b ts (moded y g) w a = run_agrees _ ts g w (quiet_agrees b _ ts os (moded_step b y.token (found_in b.tables b.current y.name)) a)
+run_agrees {os = os} b ts (specified {ms = ms} {xs = xs} quals y k ty p q g) w a =
+    let c : BuildingOf = specified_of (met b (found_in b.tables b.current y.name)) y.token k ty (found_in b.tables b.current y.name) in
+    subst (λ c. Agree c (ts ++ xs) []) (sym (run_both c quals ms))
+    (run_agrees (run marked c quals) ts g w (quiet_agrees b (run marked c quals) ts os (quals_step b c Nothing (AreReferences ty) quals q (specified_met b y.token k ty (found_in b.tables b.current y.name) p)) a))
+run_agrees b ts (headed {os = os} x owed y g) w a =
+    run_agrees _ ts g ((λ z f p. w.0 z f (there p)), w.1) (step_agrees b _ Nothing x (Headed y ∷ owed) owed ts os (headed_step b y.token (unspecified_at b.tables (found_in b.tables b.current y.name))) (λ d row q. absurd q) a)
+run_agrees {os = os} b ts (inner_mark token g) w a = run_agrees _ ts g w (quiet_agrees b _ ts os (inner_step b token b.current refl) a)
+run_agrees {os = os} b ts (breaks_rule token rule g) w a = run_agrees _ ts g w (quiet_agrees b _ ts os (rule_step b token rule) a)
+run_agrees b ts (closes {os = os} x end g) w a = run_agrees (closed b end b.current) ts g w.1 (closed_agrees b end ts x os a)

@@ -1,0 +1,201 @@
+-- What the declarations of an allowed plain program may be: where each reference has a qualification, its type is that of a class.
+use Rattle.std.proofs.Common.{◌≡◌, ◌⊎◌, inl, inr, ℕ, true, false, List, Option, Some, None, sym, ap, ◌∙◌, subst}
+use Rattle.std.specs.Prelude.{slice_get}
+use Rattle.sim_base.specs.declared.numbering.DeclNo.{DeclNo}
+use Rattle.sim_tree.specs.Order.{InOrder}
+use Rattle.sim_scope.specs.declared.scopes.Declaration.{Declaration}
+use Rattle.sim_scope.specs.declared.scopes.Denotation.TheVariants as denotation
+use Rattle.sim_scope.specs.declared.types.Entry.{Entry}
+use Rattle.sim_scope.specs.declared.types.Entry.TheVariants as entry
+use Rattle.sim_scope.specs.declared.types.FormalKind.{FormalKind}
+use Rattle.sim_scope.specs.declared.types.FormalKind.TheVariants as shape
+use Rattle.sim_scope.specs.declared.types.Mode.{Mode}
+use Rattle.sim_scope.specs.declared.types.Mode.TheVariants as mode
+use Rattle.sim_scope.specs.declared.types.SimType.{SimType}
+use Rattle.sim_scope.specs.declared.types.SimType.TheVariants as type
+use Rattle.sim_scope.specs.Declare.{declared_by, result_named}
+use Rattle.sim_scope.specs.Levels.{class_block}
+use Rattle.sim_scope.specs.Scopes.{binding, entry_of, found_in, is_virtual}
+use Rattle.sim_scope.specs.Source.{Source}
+use Rattle.virtual_match.specs.Qualifying.{entry_to, type_to}
+use Rattle.sim_static.specs.Check.{second_least}
+use Rattle.sim_meaning.specs.Attributes.{is_connection}
+use Rattle.sim_meaning.specs.Levels.{is_class}
+use Rattle.sim_meaning.specs.Texts.{Text, text}
+use Rattle.sim_agree.specs.Facts.{IsClass, PlainType, ProperEntry, ProperFormal, ProperResult, ProperType}
+use Rattle.sim_agree.specs.Plain.{Plain}
+use Rattle.sim_agree.specs.TablesOf.{TablesOf}
+use Rattle.sim_agree.proofs.Completing.{Retyped}
+use Rattle.sim_agree.proofs.Fine.{Alike, RowIn, class_row, formal_row, own_row, procedure_row}
+use Rattle.sim_agree.proofs.Groups.{AreReferences, IsReference, OfReferences, OwnEntry, PlainFormal}
+use Rattle.sim_agree.proofs.Headings as h
+use Rattle.sim_agree.proofs.Qualified as q
+use Rattle.sim_agree.proofs.Steps.{IsParameter, NoName, Parametric}
+use Rattle.sim_agree.proofs.Tables as t
+use Rattle.sim_agree.proofs.Tables.{Bs, Ts}
+
+-- of references or not
+references_or : (ty : SimType) → IsReference ty ⊎ PlainType ty
+references_or type.NoneType = inl tt
+references_or (type.Ref class) = inl tt
+references_or type.Integer = inr tt
+references_or type.Boolean = inr tt
+references_or type.Character = inr tt
+references_or type.Text = inr tt
+
+-- the types of what is declared, but for constants
+abbrev TypesOf : Source → Entry → Type 0
+TypesOf s (entry.Variable ty) = ProperType s ty
+TypesOf s (entry.Array ty n) = ProperType s ty
+TypesOf s (entry.Procedure result k) = ProperResult s result
+TypesOf s (entry.Formal f) = ProperResult s f.ty
+TypesOf s _ = Unit {0}
+
+some_same : {A : Type 0} (a b : A) → Some a ≡ Some b → a ≡ b
+some_same a b e = cc
+
+plain_proper : (s : Source) (ty : SimType) → PlainType ty → ProperType s ty
+plain_proper s type.Integer p = tt
+plain_proper s type.Boolean p = tt
+plain_proper s type.Character p = tt
+plain_proper s type.Text p = tt
+plain_proper s (type.Ref class) p = absurd p
+plain_proper s type.NoneType p = absurd p
+
+types_or : (s : Source) (e : Entry) → OfReferences e ⊎ TypesOf s e
+types_or s (entry.Variable ty) = go (references_or ty)
+  where
+    go : IsReference ty ⊎ PlainType ty → IsReference ty ⊎ ProperType s ty
+    go (inl r) = inl r
+    go (inr p) = inr (plain_proper s ty p)
+types_or s (entry.Array ty n) = go (references_or ty)
+  where
+    go : IsReference ty ⊎ PlainType ty → IsReference ty ⊎ ProperType s ty
+    go (inl r) = inl r
+    go (inr p) = inr (plain_proper s ty p)
+types_or s (entry.Procedure None k) = inr tt
+types_or s (entry.Procedure (Some ty) k) = go (references_or ty)
+  where
+    go : IsReference ty ⊎ PlainType ty → IsReference ty ⊎ ProperType s ty
+    go (inl r) = inl r
+    go (inr p) = inr (plain_proper s ty p)
+types_or s (entry.Formal f) = go f.ty
+  where
+    one : (ty : SimType) → IsReference ty ⊎ PlainType ty → IsReference ty ⊎ ProperType s ty
+    one ty (inl r) = inl r
+    one ty (inr p) = inr (plain_proper s ty p)
+
+    go : (o : Option SimType) → AreReferences o ⊎ ProperResult s o
+    go None = inr tt
+    go (Some ty) = one ty (references_or ty)
+types_or s (entry.Constant ty) = inr tt
+types_or s (entry.Class k) = inr tt
+types_or s (entry.Virtual result own) = inr tt
+types_or s (entry.Unspecified w) = inr tt
+types_or s (entry.Attribute name given result) = inr tt
+
+-- a reference to a class
+types_to : (s : Source) (class : DeclNo) → IsClass s class → (old : Entry) → OfReferences old → TypesOf s (entry_to class old)
+unfolding entry_to
+types_to s class c (entry.Variable ty) r = c
+types_to s class c (entry.Constant ty) r = tt
+types_to s class c (entry.Array ty n) r = c
+types_to s class c (entry.Procedure (Some ty) k) r = c
+types_to s class c (entry.Procedure None k) r = absurd r
+types_to s class c (entry.Formal f) r = go f.ty r
+  where
+    go : (o : Option SimType) → AreReferences o → ProperResult s (type_to class o)
+    go (Some ty) q = c
+    go None q = absurd q
+types_to s class c (entry.Class k) r = absurd r
+types_to s class c (entry.Virtual result own) r = absurd r
+types_to s class c (entry.Unspecified w) r = absurd r
+types_to s class c (entry.Attribute name given result) r = absurd r
+
+formal_proper : (s : Source) (m : Mode) (k : FormalKind) (ty : Option SimType) → NoName m → PlainFormal k ty → ProperResult s ty → ProperFormal s m k ty
+formal_proper s mode.ByName k ty n p r = absurd n
+formal_proper s mode.ByValue shape.Simple (Some ty) n p r = r
+formal_proper s mode.ByValue shape.Array (Some ty) n p r = r
+formal_proper s mode.ByReference shape.Simple (Some ty) n p r = r
+formal_proper s mode.ByReference shape.Array (Some ty) n p r = r
+formal_proper s m shape.Simple None n p r = absurd p
+formal_proper s m shape.Array None n p r = absurd p
+formal_proper s m shape.Procedure ty n p r = absurd p
+
+abbrev IsAttribute : Entry → Type 0
+IsAttribute (entry.Attribute name given result) = Unit {0}
+IsAttribute _ = ⊥
+
+module _ (s : Source) (of : TablesOf s) (plain : Plain s.program) (order : InOrder s.program)
+    (second : second_least s.tables ≡ None)
+    (outside : (token found : ℕ) (name : List ℕ) (d : DeclNo) (k : ℕ) → binding s.tables token name ≡ Some (denotation.Declared d) → entry_of s.tables d ≡ Some (entry.Class k) → found_in s.tables token name ≡ Some found → is_connection (text s found) ≡ false)
+    (constants : (d : DeclNo) (ty : SimType) → entry_of s.tables d ≡ Some (entry.Constant ty) → PlainType ty) where
+  -- no attribute of a standard class is declared
+  no_attribute : (x : Text) (d : ℕ) (row : Declaration) → RowIn (Bs s of plain order) (Ts s of plain order) x d row → (e : Entry) → row.entry ≡ e → IsAttribute e → ⊥
+  no_attribute x d row (own_row y p) e is a = go p.entry e p.fits (subst (Alike p.entry) is p.alike) a
+    where
+      go : (f e : Entry) → OwnEntry f → Alike f e → IsAttribute e → ⊥
+      go (entry.Variable ty) (entry.Attribute name given result) own k a = k
+      go (entry.Constant ty) (entry.Attribute name given result) own k a = k
+      go (entry.Array ty n) (entry.Attribute name given result) own k a = k
+      go (entry.Procedure result n) e own k a = own
+      go (entry.Class n) e own k a = own
+      go (entry.Virtual result n) e own k a = own
+      go (entry.Formal f) e own k a = own
+      go (entry.Unspecified v) e own k a = own
+      go (entry.Attribute name given result) e own k a = own
+      go f _ own k a = a
+  no_attribute x d row (procedure_row y p) e is a = go e (subst (Alike (entry.Procedure (result_named p.result) p.number)) is p.entry) a
+    where
+      go : (e : Entry) → Alike (entry.Procedure (result_named p.result) p.number) e → IsAttribute e → ⊥
+      go (entry.Attribute name given result) k a = k
+      go _ k a = a
+  no_attribute x d row (class_row y p) e is a = subst IsAttribute (sym is ∙ p.entry) a
+  no_attribute x d row (formal_row y p) e is a = go e (subst Parametric is p) a
+    where
+      go : (e : Entry) → Parametric e → IsAttribute e → ⊥
+      go (entry.Attribute name given result) k a = k
+      go _ k a = a
+
+  shaped : (d : ℕ) (row : Declaration) → slice_get s.tables.declarations d ≡ Some row → (e : Entry) → row.entry ≡ e → entry_of s.tables (record { 0 = d }) ≡ Some e → TypesOf s e → ProperEntry s e
+  shaped d row at (entry.Variable ty) is en r = r
+  shaped d row at (entry.Constant ty) is en r = constants (record { 0 = d }) ty en
+  shaped d row at (entry.Array ty n) is en r = r
+  shaped d row at (entry.Procedure result k) is en r = r
+  shaped d row at (entry.Class k) is en r = tt
+  shaped d row at (entry.Virtual result own) is en r =
+      let v : is_virtual row.entry ≡ false = (t.unprefixed s of plain order).virtuals d row at in
+      let w : true ≡ false = sym (ap is_virtual is) ∙ v in absurd (cc)
+  shaped d row at (entry.Formal f) is en r =
+      let x = t.text_of_row s of plain order d row at in
+      let p = subst Parametric is (h.param_in s of plain order x.0 d row x.2 (subst IsParameter (sym is) tt)) in formal_proper s f.mode f.kind f.ty p.0 p.1 r
+  shaped d row at (entry.Unspecified w) is en r = absurd (t.specified_row s of plain order d row at w is)
+  shaped d row at (entry.Attribute name given result) is en r =
+      let x = t.text_of_row s of plain order d row at in absurd (no_attribute x.0 d row x.2 (entry.Attribute name given result) is tt)
+
+  class_is : (c : DeclNo) (n : ℕ) → class_block s.tables c ≡ Some n → IsClass s c
+  class_is c n e =
+      let there = q.class_entry s of plain order c n e in
+      let k = h.classes s of plain order c n there in record { block = n; declares = there; is = ap is_class k.0.is; owned = k.1 }
+
+  typed : (d : ℕ) (row : Declaration) → slice_get s.tables.declarations d ≡ Some row → (e : Entry) → row.entry ≡ e → TypesOf s e
+  typed d row at e is = let w = (t.completed_tables s of plain order).rows.was d row at in go w.0 w.1 w.2 (types_or s w.0.entry)
+    where
+      of_references : (old : Declaration) → slice_get (declared_by s.program).tables.declarations d ≡ Some old → OfReferences old.entry → TypesOf s e
+      of_references old was refs =
+          let x = t.program_covered s.program plain of.unbroken d old was refs in
+          let j : q.IsSet s of plain order s.tables d = subst (λ m. q.IsSet s of plain order s.tables m) x.3 (q.set_there s of plain order second outside x.0 x.1 x.2) in
+          let same : j.row ≡ row = some_same j.row row (sym j.at ∙ at) in
+          let e_is : e ≡ entry_to j.class j.old.entry = sym is ∙ ap (λ (z : Declaration). z.entry) (sym same) ∙ j.is in
+          subst (TypesOf s) (sym e_is) (types_to s j.class (class_is j.class j.block j.declares) j.old.entry j.refs)
+
+      go : (old : Declaration) → slice_get (declared_by s.program).tables.declarations d ≡ Some old → Retyped old row → OfReferences old.entry ⊎ TypesOf s old.entry → TypesOf s e
+      go old was ch (inl refs) = of_references old was refs
+      go old was ch (inr ty) = either ch.entry
+        where
+          either : (row.entry ≡ old.entry) ⊎ (OfReferences old.entry × ((class : DeclNo) × (row.entry ≡ entry_to class old.entry))) → TypesOf s e
+          either (inl same) = subst (TypesOf s) (sym same ∙ is) ty
+          either (inr refs) = of_references old was refs.0
+
+  pub proper : (d : DeclNo) (e : Entry) → entry_of s.tables d ≡ Some e → ProperEntry s e
+  proper d e en = let r = t.entry_row s of plain order d e en in shaped d.0 r.0 r.1 e r.2 en (typed d.0 r.0 r.1 e r.2)

@@ -1,0 +1,180 @@
+-- Tables without prefixes, protection and virtuals. What is looked for in them is found by the blocks alone, and by the classes that are connected.
+use Rattle.std.proofs.Common.{◌≡◌, ◌⊎◌, inl, inr, ℕ, zero, suc, Bool, true, false, List, [], length, Option, Some, None, refl, sym, ap, ◌∙◌, if◌then◌else◌}
+use Rattle.std.specs.Prelude.{◌&&◌, ◌||◌, not, position, slice_get}
+use Rattle.std.specs.List.{list_any}
+use Rattle.std.specs.Option.{option_or}
+use Rattle.std.specs.Str.{bytes_eq}
+use Rattle.sim_base.specs.declared.numbering.DeclNo.{DeclNo}
+use Rattle.sim_tree.specs.declared.expr.Identifier.{Identifier}
+use Rattle.sim_scope.specs.declared.scopes.Declaration.{Declaration}
+use Rattle.sim_scope.specs.declared.scopes.Denotation.TheVariants as denotation
+use Rattle.sim_scope.specs.declared.standard.StandardName.{StandardName}
+use Rattle.sim_scope.specs.declared.types.StandardPrefix.{StandardPrefix}
+use Rattle.sim_scope.specs.Access.{accessible, accessible_row, block_at, encloser, is_open, protects, protects_in, some_around}
+use Rattle.sim_scope.specs.Declare.{empty}
+use Rattle.sim_scope.specs.Levels.{base, base_in}
+use Rattle.sim_scope.specs.Scopes.{beyond, binding, brought_by, brought_in, declaration_from, declared_or_standard, ends_search, entry_in, entry_is, entry_of, is_detach, is_procedure_entry, is_virtual, level_shows, lookup, numbered, or_itself, outward, represented, represented_row, seen, shown_of, shows_detach, standard_at, virtual_among, virtual_of}
+use Rattle.sim_scope.specs.Standard.{standard_name}
+use Rattle.sim_scope.specs.Tables.{BlockOf, Tables}
+
+-- what a block has of prefixes and protection
+pub record Extras : Type 0 where
+  pub prefix : Option Identifier
+  pub standard : Option StandardPrefix
+  pub protected : List (List ℕ)
+
+abbrev pub no_extras : Extras
+no_extras = record { prefix = None; standard = None; protected = [] }
+
+abbrev pub extras_in : Option BlockOf → Extras
+extras_in None = no_extras
+extras_in (Some row) = record { prefix = row.prefix; standard = row.standard; protected = row.protected }
+
+abbrev pub NoExtras : List BlockOf → Type 0
+NoExtras bs = (k : ℕ) → extras_in (slice_get bs k) ≡ no_extras
+
+abbrev pub NoVirtuals : List Declaration → Type 0
+NoVirtuals ds = (d : ℕ) (row : Declaration) → slice_get ds d ≡ Some row → is_virtual row.entry ≡ false
+
+pub record Unprefixed (s : Tables) : Type 0 where
+  pub blocks : NoExtras s.blocks
+  pub virtuals : NoVirtuals s.declarations
+
+-- no class is connected yet
+abbrev pub Baseless : List BlockOf → Type 0
+Baseless bs = (k : ℕ) → base_in (slice_get bs k) ≡ None
+
+abbrev no_blocks : List BlockOf
+no_blocks = []
+
+none_there : (k : ℕ) → slice_get no_blocks k ≡ None
+none_there zero = refl
+none_there (suc k) = refl
+
+pub nothing_bare : Unprefixed empty.tables
+nothing_bare = record { blocks = λ k. ap extras_in (none_there k); virtuals = λ d row is. absurd (cc) }
+
+pub nothing_baseless : Baseless empty.tables.blocks
+nothing_baseless k = ap base_in (none_there k)
+
+-- ---- what is looked for
+
+pub or_none : (x : Option DeclNo) → option_or x None ≡ x
+or_none None = refl
+or_none (Some d) = refl
+
+module _ (s : Tables) (w : Unprefixed s) where
+  nothing_protected : (k : ℕ) (name : List ℕ) → protects s k name ≡ false
+  unfolding protects
+  nothing_protected k name = same (slice_get s.blocks k) ∙ ap (λ (z : Extras). list_any (bytes_eq name) z.protected) (w.blocks k)
+    where
+      same : (o : Option BlockOf) → protects_in o name ≡ list_any (bytes_eq name) (extras_in o).protected
+      same None = refl
+      same (Some row) = refl
+
+  nothing_brought : (k : ℕ) (name : List ℕ) → brought_by s k name ≡ None
+  unfolding brought_by
+  nothing_brought k name = go (slice_get s.blocks k) (w.blocks k)
+    where
+      go : (o : Option BlockOf) → extras_in o ≡ no_extras → brought_in o name ≡ None
+      go None e = refl
+      go (Some row) e =
+          let none : row.standard ≡ None = ap (λ (z : Extras). z.standard) e in
+          ap (λ z. elim z [ None ↦ None | Some which ↦ numbered row.brought (position (bytes_eq name) row.brought_names) ]) none
+
+  all_accessible : (token : ℕ) (d : DeclNo) → accessible s token d ≡ true
+  unfolding accessible
+  all_accessible token d = go (slice_get s.declarations d.0)
+    where
+      go : (o : Option Declaration) → accessible_row s token o ≡ true
+      go None = refl
+      go (Some row) = ap (λ z. not z || is_open s row.block row.name token) (nothing_protected row.block row.name)
+
+  all_seen : (from : Option ℕ) (o : Option DeclNo) → seen s from o ≡ o
+  all_seen from None = refl
+  all_seen None (Some d) = refl
+  all_seen (Some token) (Some d) = ap (λ z. if z then Some d else None) (all_accessible token d)
+
+  pub shows : (from : Option ℕ) (k : ℕ) (name : List ℕ) → level_shows s from k name ≡ lookup s k name
+  unfolding level_shows
+  shows from k name = ap (λ z. option_or (seen s from (lookup s k name)) z) (nothing_brought k name) ∙ or_none (seen s from (lookup s k name)) ∙ all_seen from (lookup s k name)
+
+  -- what a block shows is declared in it, or shown by its next level
+  pub shown_levels : (n : ℕ) (from : Option ℕ) (k : ℕ) (name : List ℕ) (d : DeclNo) → shown_of s n from k name ≡ Some d
+      → (lookup s k name ≡ Some d) ⊎ ((c : ℕ) × (m : ℕ) × (base s k ≡ Some c) × (shown_of s m from c name ≡ Some d))
+  unfolding shown_of
+  shown_levels zero from k name d e = absurd (cc)
+  shown_levels (suc n) from k name d e =
+      go (lookup s k name) (base s k) refl refl
+      (sym (ap (λ z. option_or z (beyond (λ b. shown_of s n from b name) (base s k))) (shows from k name)) ∙ e)
+    where
+      go : (o : Option DeclNo) (b : Option ℕ) → lookup s k name ≡ o → base s k ≡ b → option_or o (beyond (λ b. shown_of s n from b name) b) ≡ Some d
+          → (o ≡ Some d) ⊎ ((c : ℕ) × (m : ℕ) × (b ≡ Some c) × (shown_of s m from c name ≡ Some d))
+      go (Some f) b at out h = inl h
+      go None None at out h = absurd (cc)
+      go None (Some c) at out h = inr (c, n, refl, h)
+
+  -- one without a next level shows what it declares
+  pub shown_alone : (n : ℕ) (from : Option ℕ) (k : ℕ) (name : List ℕ) (d : DeclNo) → base s k ≡ None → shown_of s n from k name ≡ Some d → lookup s k name ≡ Some d
+  shown_alone n from k name d none e = go (shown_levels n from k name d e)
+    where
+      go : (lookup s k name ≡ Some d) ⊎ ((c : ℕ) × (m : ℕ) × (base s k ≡ Some c) × (shown_of s m from c name ≡ Some d)) → lookup s k name ≡ Some d
+      go (inl q) = q
+      go (inr q) = absurd (let f : None ≡ Some q.0 = sym none ∙ q.2 in cc)
+
+  -- the search for a name other than `detach` goes on in the block around
+  pub goes_outward : (k : ℕ) (name : List ℕ) → is_detach name ≡ false → outward s k name ≡ encloser s k
+  unfolding outward ends_search
+  goes_outward k name other = ap (λ z. if z && shows_detach s k then None else encloser s k) other
+
+  -- no procedure is a match
+  none_virtual : (o : Option DeclNo) → virtual_among s o ≡ None
+  unfolding entry_of
+  none_virtual None = refl
+  none_virtual (Some d) = ap (λ z. if z then Some d else None) (go (slice_get s.declarations d.0) refl)
+    where
+      go : (o : Option Declaration) → slice_get s.declarations d.0 ≡ o → entry_is is_virtual (entry_in o) ≡ false
+      go None e = refl
+      go (Some row) e = w.virtuals d.0 row e
+
+  no_virtual : (n k : ℕ) (name : List ℕ) → virtual_of s n k name ≡ None
+  unfolding virtual_of
+  no_virtual zero k name = refl
+  no_virtual (suc n) k name = ap (λ z. option_or z (beyond (λ b. virtual_of s n b name) (base s k))) (none_virtual (lookup s k name)) ∙ further (base s k) (λ b. no_virtual n b name)
+    where
+      further : (o : Option ℕ) → ((b : ℕ) → virtual_of s n b name ≡ None) → beyond (λ b. virtual_of s n b name) o ≡ None
+      further None h = refl
+      further (Some b) h = h b
+
+  pub stands_for_itself : (d : DeclNo) → represented s d ≡ d
+  unfolding represented
+  stands_for_itself d = go (slice_get s.declarations d.0)
+    where
+      either : (c : Bool) → (if c then d else d) ≡ d
+      either true = refl
+      either false = refl
+
+      go : (o : Option Declaration) → represented_row s d o ≡ d
+      go None = refl
+      go (Some row) = ap (λ z. if is_procedure_entry row.entry then or_itself z d else d) (no_virtual (length s.blocks) row.block row.name) ∙ either (is_procedure_entry row.entry)
+
+  -- what a name denotes
+  pub declared_is : (token : ℕ) (name : List ℕ) (d : DeclNo) → binding s token name ≡ Some (denotation.Declared d) → declaration_from s (Some token) (block_at s token) name ≡ Some d
+  unfolding binding
+  declared_is token name d is = go (declaration_from s (Some token) (block_at s token) name) (standard_at s token name) is
+    where
+      go : (o : Option DeclNo) (k : Option StandardName) → declared_or_standard s o k ≡ Some (denotation.Declared d) → o ≡ Some d
+      go (Some f) k e = ap Some (sym (stands_for_itself f) ∙ (let h : represented s f ≡ d = cc in h))
+      go None (Some k) e = absurd (cc)
+      go None None e = absurd (cc)
+
+-- a standard name that is denoted is one that is written alone
+pub standard_is : (s : Tables) (token : ℕ) (name : List ℕ) (k : StandardName) → binding s token name ≡ Some (denotation.Standard k) → standard_name name ≡ Some k
+unfolding binding standard_at
+standard_is s token name k is = go (declaration_from s (Some token) (block_at s token) name) (is_detach name && not (some_around s (shows_detach s) token)) (standard_name name) is
+  where
+    go : (o : Option DeclNo) (c : Bool) (q : Option StandardName) → declared_or_standard s o (if c then None else q) ≡ Some (denotation.Standard k) → q ≡ Some k
+    go (Some d) c q e = absurd (cc)
+    go None true q e = absurd (cc)
+    go None false (Some p) e = (let h : p ≡ k = cc in ap Some h)
+    go None false None e = absurd (cc)

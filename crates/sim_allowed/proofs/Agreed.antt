@@ -1,0 +1,190 @@
+-- The tables of an allowed plain program agree with its texts as far as its being typed rests on them: from the agreement of tables alone, where
+-- the parts of each text stand in it.
+use Rattle.std.proofs.Common.{◌≡◌, ℕ, Bool, true, false, List, [], ◌∷◌, Option, Some, None, refl, sym, ap, ◌∙◌, if◌then◌else◌}
+use Rattle.std.specs.List.{list_any}
+use Rattle.std.specs.Prelude.{slice_get}
+use Rattle.sim_base.specs.declared.numbering.DeclNo.{DeclNo}
+use Rattle.prefix_bind.specs.Prefixes.{least_of, prefix_faults, prefixed}
+use Rattle.inspect_types.specs.Connecting.{connections}
+use Rattle.sim_scope.specs.declared.found.Fault.{Fault}
+use Rattle.sim_scope.specs.declared.scopes.Denotation.TheVariants as denotation
+use Rattle.sim_scope.specs.declared.types.Entry.{Entry}
+use Rattle.sim_scope.specs.declared.types.Entry.TheVariants as entry
+use Rattle.sim_scope.specs.declared.types.SimType.{SimType}
+use Rattle.sim_scope.specs.declared.types.SimType.TheVariants as t
+use Rattle.sim_scope.specs.Access.{around as around_in, block_at, encloser, joined}
+use Rattle.sim_scope.specs.Declare.{declared_by}
+use Rattle.sim_scope.specs.Found.{lesser_of, precedes}
+use Rattle.sim_scope.specs.Scopes.{binding, entry_of, found_in}
+use Rattle.sim_scope.specs.Source.{Source, block_around}
+use Rattle.sim_scope.specs.Tables.{BlockOf}
+use Rattle.sim_scope.specs.Walk.{program_events}
+use Rattle.sim_tree.specs.declared.expr.Identifier.{Identifier}
+use Rattle.sim_tree.specs.declared.stmt.TypeName.{TypeName}
+use Rattle.sim_tree.specs.Syntax.{Declarations, Heading, Statement, Statements}
+use Rattle.sim_meaning.specs.Attributes.{first_in, is_connection}
+use Rattle.sim_meaning.specs.Entries.{formals_of, is_held, numbers_of}
+use Rattle.sim_meaning.specs.Levels.{is_class, qualification}
+use Rattle.sim_meaning.specs.Texts.{BlockText, ClassText, ConnectionText, ProcedureText, is_class_free, text}
+use Rattle.sim_sound.specs.Held.{Among, ArrayOf, Holds, entry_holds, first, held_by, later, reference_to}
+use Rattle.sim_sound.specs.Typed.{ConnectionTyped, NoFormal, NoFormals}
+use Rattle.sim_agree.specs.Facts.{Tabled}
+use Rattle.sim_agree.specs.Plain.{Plain}
+use Rattle.sim_agree.specs.TablesAgree.{TablesAgree}
+use Rattle.sim_agree.specs.TablesOf.{TablesOf}
+use Rattle.sim_agree.proofs.Connected.{connections_connect}
+use Rattle.sim_agree.proofs.Enclosed.{connection_enclosed}
+use Rattle.sim_agree.proofs.Fitted.{AllConnect}
+use Rattle.sim_agree.proofs.Placing.{block_placed, body_placed, class_placed}
+use Rattle.sim_agree.proofs.Proper.{proper}
+use Rattle.sim_agree.proofs.Results.{result_written}
+use Rattle.sim_agree.proofs.Whole.{tables_agree}
+use Rattle.sim_allowed.proofs.Allowed.{AllowedIs}
+use Rattle.sim_allowed.proofs.Bounds.{ArraysNamed}
+use Rattle.sim_allowed.proofs.Constants.{constant_is, constant_plain}
+use Rattle.sim_allowed.proofs.Outside.{outside}
+use Rattle.sim_allowed.proofs.Whole.{Agreed}
+
+-- What of the texts is known beside: the names of one array declaration are of one type, and a procedure that is not class-free keeps no instances.
+pub record Written (s : Source) : Type 0 where
+  pub arrays : (k i : ℕ) (ds : Declarations) (ss : Statements) → text s k ≡ Some (BlockText i ds ss) → ArraysNamed s ds
+  pub class_arrays : (k : ℕ) (prefix : Option Identifier) (h : Heading) (ds : Declarations) (ss : Statements) → text s k ≡ Some (ClassText prefix h ds ss) → ArraysNamed s ds
+  pub keeps_none : (k : ℕ) (result : Option TypeName) (h : Heading) (a : Statement) → text s k ≡ Some (ProcedureText result h a) → is_class_free s k ≡ false → list_any is_held (formals_of s k) ≡ false
+
+-- nothing in a list without formal parameters is one
+no_formal : (s : Source) (d : DeclNo) (ds : List DeclNo) → NoFormals s ds → Among d ds → NoFormal (entry_of s.tables d)
+no_formal s d [] n among = elim among [ ]
+no_formal s d (x ∷ xs) n first = n.0
+no_formal s d (x ∷ xs) n (later among) = no_formal s d xs n.1 among
+
+-- a variable holds no array
+no_array : (s : Source) (type : SimType) (h : Holds) → held_by s type ≡ ArrayOf h → ⊥
+no_array s t.Integer h e = absurd (cc)
+no_array s t.Boolean h e = absurd (cc)
+no_array s t.Character h e = absurd (cc)
+no_array s t.Text h e = absurd (cc)
+no_array s t.NoneType h e = absurd (cc)
+no_array s (t.Ref d) h e = go (qualification s (Some (t.Ref d))) e
+  where
+    go : (o : Option ℕ) → reference_to o ≡ ArrayOf h → ⊥
+    go None f = absurd (cc)
+    go (Some c) f = absurd (cc)
+
+some_same : {A : Type 0} (a b : A) → Some a ≡ Some b → a ≡ b
+some_same a b e = cc
+
+-- what holds an array and is no formal parameter is an array
+array_entry : (s : Source) (o : Option Entry) (h : Holds) → NoFormal o → entry_holds s false o ≡ Some (ArrayOf h) → (element : SimType) × (dimensions : ℕ) × (o ≡ Some (entry.Array element dimensions))
+array_entry s (Some (entry.Array element dimensions)) h n e = (element, dimensions, refl)
+array_entry s (Some (entry.Variable type)) h n e = absurd (no_array s type h (some_same (held_by s type) (ArrayOf h) e))
+array_entry s (Some (entry.Formal f)) h n e = absurd n
+array_entry s (Some (entry.Constant type)) h n e = absurd (cc)
+array_entry s (Some (entry.Procedure result k)) h n e = absurd (cc)
+array_entry s (Some (entry.Class k)) h n e = absurd (cc)
+array_entry s (Some (entry.Virtual result own)) h n e = absurd (cc)
+array_entry s (Some (entry.Unspecified w)) h n e = absurd (cc)
+array_entry s (Some (entry.Attribute name given result)) h n e = absurd (cc)
+array_entry s None h n e = absurd (cc)
+
+-- the first round finds nothing that the declarations break
+lesser_none : (o q : Option Fault) → lesser_of o q ≡ None → o ≡ None
+lesser_none None q e = refl
+lesser_none (Some f) None e = e
+lesser_none (Some f) (Some g) e = go (precedes g f) e
+  where
+    go : (c : Bool) → (if c then Some g else Some f) ≡ None → Some f ≡ None
+    go true e = absurd (cc)
+    go false e = e
+
+module _ (s : Source) (a : AllowedIs s) (plain : Plain s.program) where
+  pub tables_of : TablesOf s
+  tables_of = record { tables = a.tables; unbroken = lesser_none (declared_by s.program).least (least_of (prefix_faults (prefixed (declared_by s.program).tables))) a.first }
+
+  agrees : TablesAgree s
+  agrees = tables_agree s tables_of plain a.order
+
+  connects : AllConnect s None (program_events connections s.program)
+  connects = connections_connect s tables_of plain a.order
+
+  pub not_found_outside : (token found : ℕ) (name : List ℕ) (d : DeclNo) (k : ℕ) → binding s.tables token name ≡ Some (denotation.Declared d) → entry_of s.tables d ≡ Some (entry.Class k) → found_in s.tables token name ≡ Some found → is_connection (text s found) ≡ false
+  not_found_outside = outside s tables_of plain a.order agrees a.says
+
+  tabled : Tabled s
+  tabled = let g = agrees in record {
+    some_block = g.some_block;
+    there = g.there;
+    attributes = g.attributes;
+    proper = proper s tables_of plain a.order a.second not_found_outside (constant_plain s tables_of plain a.filled a.order a.says);
+    headings = λ d result k e. (let p = g.procedures d result k e in g.bodies k p.given p.heading p.body p.is);
+    owned = λ d result k e. (g.procedures d result k e).owned;
+    class_headings = λ d k e. (let c = (g.classes d k e).0 in (g.class_texts k c.prefix c.heading c.declarations c.statements c.is).formals);
+    classes = λ d k e. (let c = g.classes d k e in (ap is_class c.0.is, c.1));
+    constants = constant_is s tables_of plain a.filled a.order a.says;
+    around = g.around;
+    inside = g.inside;
+    outside = not_found_outside;
+    connects = λ k c e. ap is_class (g.connects k c e).class;
+    connections = g.connections;
+    unprefixed = g.unprefixed;
+  }
+
+  module _ (written : Written s) where
+    -- a block is the text around its first token
+    begins_at : (k : ℕ) (row : BlockOf) → slice_get s.tables.blocks k ≡ Some row → joined (slice_get s.tables.places row.first) ≡ Some k
+    unfolding block_at
+    begins_at k row at = agrees.begins k row at
+
+    -- a connection is, and stands in another text
+    connection_typed : (k : ℕ) → text s k ≡ Some ConnectionText → ConnectionTyped s k
+    unfolding block_around encloser
+    connection_typed k is = record {
+      around = begins (slice_get s.tables.blocks k) refl;
+      stands = (out.0, out.1, agrees.levels_of_connections k out.0 (ap is_connection is) out.1);
+    }
+      where
+        out : (u : ℕ) × (encloser s.tables k ≡ Some u)
+        out = connection_enclosed s tables_of plain a.order k is
+
+        begins : (o : Option BlockOf) → slice_get s.tables.blocks k ≡ o → joined (slice_get s.tables.places (first_in o)) ≡ Some k
+        begins (Some row) at = begins_at k row at
+        begins None at = absurd (let f : None ≡ Some out.0 = sym (ap around_in at) ∙ out.1 in cc)
+
+    pub agreed_where : Agreed s
+    agreed_where = let g = agrees in record {
+      tabled = tabled;
+      begin = g.begin;
+      declarations = g.declarations;
+      statements = g.statements;
+      starts = g.starts;
+      outermost = g.outermost;
+      levels = g.levels;
+      listed = g.listed;
+      procedures = g.procedures;
+      classes = λ d k e. (g.classes d k e).0;
+      blocks = λ k i ds ss is. (let b = g.blocks k i ds ss is in let p = block_placed s tables_of plain a.order connects k i ds ss is in record {
+        no_formals = b.no_formals;
+        distinct = b.arrays.distinct;
+        made = λ d element among e. (let x = array_entry s (entry_of s.tables d) element (no_formal s d (numbers_of s k) b.no_formals among) e in b.arrays.made d x.0 x.1 among x.2);
+        own = b.arrays.own;
+        named = written.arrays k i ds ss is;
+        arrays = p.0;
+        statements = p.1;
+      });
+      bodies = λ k result h x is. record { written = result_written s tables_of plain a.order k result h x is; formals = g.bodies k result h x is; body = body_placed s tables_of plain a.order connects k result h x is };
+      class_bodies = λ k prefix h ds ss is. (let b = g.class_texts k prefix h ds ss is in let p = class_placed s tables_of plain a.order connects k prefix h ds ss is in record {
+        formals = b.formals;
+        parameters = b.parameters;
+        different = g.different k;
+        distinct = b.arrays.distinct;
+        made = b.arrays.made;
+        own = b.arrays.own;
+        named = written.class_arrays k prefix h ds ss is;
+        arrays = p.0;
+        statements = p.1;
+        stays = b.stays;
+        not_standard = g.not_standard k;
+      });
+      connections = connection_typed;
+      not_class_free = g.outward;
+      keeps_none = written.keeps_none;
+    }

@@ -1,0 +1,398 @@
+-- What identifiers and attributes behind dots are, with what stands behind them.
+use Rattle.std.proofs.Common.{◌≡◌, ℕ, suc, ◌+◌, Bool, true, false, ◌⊎◌, inl, inr, length, Option, Some, None, refl, sym, ap, ◌∙◌, subst, arith, if◌then◌else◌}
+use Rattle.std.proofs.lemmas.Bool.{false≢true}
+use Rattle.std.proofs.lemmas.Bool.Decides.{nat_tests}
+use Rattle.std.specs.Prelude.{nat_eq, not, ◌&&◌}
+use Rattle.sim_base.specs.declared.numbering.DeclNo.{DeclNo}
+use Rattle.sim_base.specs.declared.rule.Rule.TheVariants as r
+use Rattle.sim_scope.specs.declared.outcome.Actuals.{Actuals}
+use Rattle.sim_scope.specs.declared.outcome.Extent.{Extent}
+use Rattle.sim_scope.specs.declared.outcome.Occurrence.{Occurrence}
+use Rattle.sim_scope.specs.declared.outcome.Outcome.{Outcome}
+use Rattle.sim_scope.specs.declared.outcome.Outcome.TheVariants as is
+use Rattle.sim_scope.specs.declared.scopes.Denotation.{Denotation}
+use Rattle.sim_scope.specs.declared.scopes.Denotation.TheVariants as denotation
+use Rattle.sim_scope.specs.declared.standard.StandardName.{StandardName}
+use Rattle.sim_scope.specs.declared.standard.StandardName.TheVariants as found
+use Rattle.sim_scope.specs.declared.types.Entry.{Entry}
+use Rattle.sim_scope.specs.declared.types.Entry.TheVariants as entry
+use Rattle.sim_scope.specs.declared.types.SimType.{SimType}
+use Rattle.sim_scope.specs.declared.types.SimType.TheVariants as t
+use Rattle.sim_scope.specs.Actuals.{no_actuals}
+use Rattle.sim_scope.specs.Access.{block_at}
+use Rattle.sim_scope.specs.Calls.{alone, applied, applied_untyped, attribute, attribute_by_value, attribute_found, attribute_in, attribute_of_type, attribute_of_value, barred_if, declared_alone, declared_applied, if_own, is_barred, is_connection_at, is_inside, is_undotted, occurs, own_of, own_undotted, remote, remote_as, remote_at, remote_in, through_connection, used, used_or_barred}
+use Rattle.sim_scope.specs.ClassNames.{is_name_of_classes}
+use Rattle.sim_scope.specs.Judged.{Judged, bars, gives, next, telling}
+use Rattle.sim_scope.specs.Levels.{class_block, has_classes}
+use Rattle.sim_scope.specs.Outcomes.{side}
+use Rattle.sim_scope.specs.Scopes.{binding, block_in, declared_or_standard, entry_of, formals_of, found_in, is_detach, result_in, result_of, shown}
+use Rattle.sim_scope.specs.Source.{Source, denoted, found_at}
+use Rattle.sim_scope.specs.Standard.{is_standard_class, signature, sysin_attribute, sysout_attribute, text_attribute}
+use Rattle.sim_tree.specs.declared.expr.Identifier.{Identifier}
+use Rattle.sim_tree.specs.Syntax.{Expression, Expressions, NoMore, Then}
+use Rattle.sim_tree.specs.Syntax as syntax
+use Rattle.sim_values.specs.declared.kind.Kind.TheVariants as kind
+use Rattle.sim_values.specs.declared.standard.Standard.TheVariants as detach
+use Rattle.sim_values.specs.Standard.{row_of}
+use Rattle.sim_meaning.specs.Attributes.{connection_at, connection_in, is_connection}
+use Rattle.sim_meaning.specs.Closing.{block_if, own_block, own_block_denoted, own_result, result_meant, stream_denoted, stream_of, unless_connected}
+use Rattle.sim_meaning.specs.Names.{procedure_named, stream_named}
+use Rattle.sim_meaning.specs.Statements.{denoted_leaves}
+use Rattle.sim_meaning.specs.Texts.{text}
+use Rattle.sim_sound.specs.Held.{Around, Fits, In, InBound, Place, Refers, Simply, given_by as held_given, held_by, result_declared, result_holds}
+use Rattle.sim_sound.specs.Expressions.{ActualsFit, AreIntegers, AreOf, BehindGives, DotGives, ExprIs, KnownAt, ObjectHas}
+use Rattle.sim_sound.specs.Statements.{LeftDeclared, LeftIs, LeftNamed, OwnText, ResultIs}
+use Rattle.sim_agree.specs.Facts.{IsClass, PlainGiven, Tabled}
+use Rattle.sim_allowed.proofs.Actuals.{AllActuals, AllFit, size}
+use Rattle.sim_allowed.proofs.Calls.{side_means}
+use Rattle.sim_allowed.proofs.Classes.{class_held, class_row, own_level, simply}
+use Rattle.sim_allowed.proofs.Declared.{alone_means, with_means}
+use Rattle.sim_allowed.proofs.Meant.{CallGiven, CallsFor, Means, OwnResult, ValueIs}
+use Rattle.sim_allowed.proofs.Names.{IsProcedure, NoAttribute, OfTexts, alone_no_class, alone_proper, attribute_gives, attribute_no_class, attribute_proper, given_by, kinds_of, procedure_no_class, procedure_proper, standard_gives, standard_left, sysin_name, sysout_name, text_name}
+use Rattle.sim_allowed.proofs.Nowhere.{is_nowhere}
+use Rattle.sim_allowed.proofs.Said.{AllSay, next_says}
+use Rattle.sim_allowed.proofs.Sights.{Sight, text_of}
+use Rattle.sim_allowed.proofs.Uses.{BoundIs, bound_name, dot_calls, dot_use, is_procedure, named_use, plain_given, standard_call, standard_with, standard_without, unconnected_none}
+
+pub from_zero : (n m : ℕ) → n ≡ 0 + m → n ≡ m
+from_zero n m e = omega (arith, e)
+
+nonzero : (n m : ℕ) → n ≡ 0 + suc m → nat_eq n 0 ≡ false
+nonzero n m e = grind (arith, nat_tests, e)
+
+same_token : (n : ℕ) → nat_eq n n ≡ true
+same_token n = grind (arith, nat_tests)
+
+-- a standard name that is none of classes is seen through no connection
+plain_nowhere : (name : StandardName) → NoAttribute name → is_nowhere (denotation.Standard name) ≡ true
+unfolding is_name_of_classes row_of
+plain_nowhere found.Sysin a = refl
+plain_nowhere found.Sysout a = refl
+plain_nowhere (found.Prefix which) a = refl
+plain_nowhere (found.Procedure detach.Detach) a = absurd (false≢true (sym a.1))
+plain_nowhere (found.Procedure x) a = refl
+
+unconnected : (s : Source) (e : Extent) (x : Identifier) (o : Occurrence) (b : BoundIs s e x o) (name : StandardName) → b.denotation ≡ denotation.Standard name → NoAttribute name → connection_at s x.token.0 ≡ None
+unfolding connection_at
+unconnected s e x o b name is a = ap (connection_in s) (b.nowhere (ap is_nowhere is ∙ plain_nowhere name a))
+
+-- ---- the result of a procedure, from its inside
+
+module _ (s : Source) (known : Tabled s) (from : Place) (x : Identifier) (placed : block_at s.tables x.token.0 ≡ Some (text_of from)) (d : DeclNo) (says : denoted s x.token.0 ≡ Some (denotation.Declared d))
+    (binds : binding s.tables x.token.0 x.name ≡ Some (denotation.Declared d)) (found_there : (block : ℕ) → found_in s.tables x.token.0 x.name ≡ Some block → found_at s x.token.0 ≡ Some block) where
+  abbrev Alone : Expression
+  Alone = syntax.Named x NoMore
+
+  -- whether it is seen through a connection
+  abbrev Connected : (c : Bool) → Type 0
+  Connected c = (through_connection s.tables x ≡ c) × (c ≡ false → connection_at s x.token.0 ≡ None) × (c ≡ true → (k : ℕ) × (connection_at s x.token.0 ≡ Some k))
+
+  connection_is : (c : Bool) × Connected c
+  unfolding through_connection connection_at
+  connection_is =
+      let f = known.around x.token.0 (text_of from) x.name d placed binds in
+      let at = found_there f.found f.at in
+      go f.found f.at at (is_connection (text s f.found)) refl
+    where
+      go : (b : ℕ) → found_in s.tables x.token.0 x.name ≡ Some b → found_at s x.token.0 ≡ Some b → (c : Bool) → is_connection (text s b) ≡ c → (c : Bool) × Connected c
+      go b here at true is = (true, (ap (is_connection_at s.tables) here ∙ known.connections b ∙ is, λ e. absurd (false≢true (sym e)), λ e. (b, ap (connection_in s) at ∙ ap (λ z. if z then Some b else None) is)))
+      go b here at false is = (false, (ap (is_connection_at s.tables) here ∙ known.connections b ∙ is, λ e. ap (connection_in s) at ∙ ap (λ z. if z then Some b else None) is, λ e. absurd (false≢true e)))
+
+  module _ (result : Option SimType) (k : ℕ) (there : entry_of s.tables d ≡ Some (entry.Procedure result k)) where
+    meant : own_result s Alone ≡ block_if (is_inside s.tables x.token.0 k) k
+    unfolding own_result
+    meant = ap (own_block_denoted s x.token.0) says ∙ ap (own_block s x.token.0) there
+
+    own_is : (c : Bool) → through_connection s.tables x ≡ c → own_of s.tables x (Some d) ≡ if_own (is_inside s.tables x.token.0 k && not c) (Some d)
+    unfolding own_of
+    own_is c is = ap (λ (z : Option Entry). if_own ((elim (block_in z) as (λ u. Bool) [ None ↦ false | Some block ↦ is_inside s.tables x.token.0 block ]) && not (through_connection s.tables x)) (Some d)) there ∙ ap (λ z. if_own (is_inside s.tables x.token.0 k && not z) (Some d)) is
+
+    result_there : (type : SimType) → result ≡ Some type → result_holds s k ≡ Some (held_by s type)
+    unfolding result_of
+    result_there type same = ap (λ z. held_given s (result_declared s z)) (known.owned d result k there) ∙ ap (λ z. held_given s (result_in z)) there ∙ ap (held_given s) same
+
+    -- where it is outside, or seen through a connection, it is no result
+    none_meant : (b : Bool) → is_inside s.tables x.token.0 k ≡ b → b ≡ false → result_meant s Alone ≡ None
+    unfolding result_meant
+    none_meant b inside outside = ap (unless_connected (connection_at s x.token.0)) (meant ∙ ap (λ z. block_if z k) (inside ∙ outside)) ∙ unconnected_none (connection_at s x.token.0)
+
+    none_connected : (j : ℕ) → connection_at s x.token.0 ≡ Some j → result_meant s Alone ≡ None
+    unfolding result_meant
+    none_connected j is = ap (λ z. unless_connected z (own_result s Alone)) is
+
+    result_inside : is_inside s.tables x.token.0 k ≡ true → connection_at s x.token.0 ≡ None → result_meant s Alone ≡ Some k
+    unfolding result_meant
+    result_inside inside none = ap (λ z. unless_connected z (own_result s Alone)) none ∙ meant ∙ ap (λ z. block_if z k) inside
+
+    left_inside : (t : ℕ) → Around s.tables t k → connection_at s x.token.0 ≡ None → (type : SimType) → result ≡ Some type → LeftIs s t Alone (held_by s type) × ResultIs s t k (held_by s type)
+    left_inside t around none type same = (
+      subst (λ c. LeftNamed s t c (denoted s x.token.0) NoMore (AreIntegers s (In t) NoMore) (held_by s type)) (sym none)
+          (subst (λ z. LeftNamed s t None z NoMore (AreIntegers s (In t) NoMore) (held_by s type)) (sym says)
+          (subst (λ z. LeftDeclared s (KnownAt s (In t) None d) (OwnText s t None) NoMore (AreIntegers s (In t) NoMore) z (held_by s type)) (sym there)
+          (subst (λ z. LeftDeclared s (KnownAt s (In t) None d) (OwnText s t None) NoMore (AreIntegers s (In t) NoMore) (Some (entry.Procedure z k)) (held_by s type)) (sym same) (refl, around)))),
+      (around, result_there type same),
+    )
+
+    inside_means : (f : Place) → text_of f ≡ text_of from → is_inside s.tables x.token.0 k ≡ true → connection_at s x.token.0 ≡ None → OwnResult s f Alone (Some d) d result k
+    inside_means (InBound t) same inside none = refl
+    inside_means (In t) same inside none =
+        (refl, result_inside inside none, λ type is. left_inside t (subst (λ z. Around s.tables z k) (sym same) (known.inside x.token.0 (text_of from) k placed inside)) none type is)
+
+    own_means : OwnResult s from Alone (own_undotted s.tables x (is_undotted x.token.0 x) (Some d)) d result k
+    own_means = subst (λ z. OwnResult s from Alone (own_undotted s.tables x z (Some d)) d result k) (sym (same_token x.token.0)) (test (is_inside s.tables x.token.0 k) refl connection_is.0 connection_is.1)
+      where
+        test : (b : Bool) → is_inside s.tables x.token.0 k ≡ b → (c : Bool) → Connected c → OwnResult s from Alone (own_of s.tables x (Some d)) d result k
+        test false inside c is = subst (λ z. OwnResult s from Alone z d result k) (sym (own_is c is.0 ∙ ap (λ z. if_own (z && not c) (Some d)) inside)) (none_meant false inside refl)
+        test true inside true is =
+            subst (λ z. OwnResult s from Alone z d result k) (sym (own_is true is.0 ∙ ap (λ z. if_own (z && false) (Some d)) inside)) (let j = is.2 refl in none_connected j.0 j.1)
+        test true inside false is = subst (λ z. OwnResult s from Alone z d result k) (sym (own_is false is.0 ∙ ap (λ z. if_own (z && true) (Some d)) inside)) (inside_means from refl inside (is.1 refl))
+
+-- a standard name is the result of no procedure
+standard_owner : (s : Source) (x : Identifier) (es : Expressions) (name : StandardName) → denoted s x.token.0 ≡ Some (denotation.Standard name) → result_meant s (syntax.Named x es) ≡ None
+unfolding result_meant own_result
+standard_owner s x NoMore name says = ap (λ z. unless_connected (connection_at s x.token.0) (own_block_denoted s x.token.0 z)) says ∙ unconnected_none (connection_at s x.token.0)
+standard_owner s x (Then e es) name says = unconnected_none (connection_at s x.token.0)
+
+-- ---- an identifier
+
+module _ (s : Source) (known : Tabled s) (from : Place) (e : Extent) (sight : Sight s from e) (x : Identifier) (placed : block_at s.tables x.token.0 ≡ Some (text_of from)) (plain : is_name_of_classes x.name ≡ false) where
+  pub named_alone : (o : Occurrence) → BoundIs s e x o → AllSay s (used s.tables x.token.0 x o no_actuals).events → Means true s from (syntax.Named x NoMore) (used s.tables x.token.0 x o no_actuals).value
+  unfolding used alone stream_of
+  named_alone o b said = subst (λ z. Means true s from (syntax.Named x NoMore) (used s.tables x.token.0 x z no_actuals).value) (sym b.is) (go b.denotation refl b.says b.binds b.open_to (subst (λ z. AllSay s (used s.tables x.token.0 x z no_actuals).events) b.is said))
+    where
+      go : (d : Denotation) → b.denotation ≡ d → denoted s x.token.0 ≡ Some d → binding s.tables x.token.0 x.name ≡ Some d → is_barred s.tables e x.token.0 d ≡ false → AllSay s (alone s.tables x.token.0 x d).events → Means true s from (syntax.Named x NoMore) (alone s.tables x.token.0 x d).value
+      go (denotation.Declared d) is says binds open_to said =
+          let t = known.there x.token.0 x.name d binds in
+          subst (λ z. Means true s from (syntax.Named x NoMore) (declared_alone s.tables x.token.0 x d z).value) (sym t.1)
+          (alone_means s known from (syntax.Named x NoMore) x.token.0 d (KnownAt s from (connection_at s x.token.0) d) (sight x.token.0 x.name d placed binds open_to b.found) (named_use s from x NoMore d says) x t.0 t.1 (known.proper d t.0 t.1)
+          (λ result k there. own_means s known from x placed d says binds b.found result k there) (subst (λ z. AllSay s (declared_alone s.tables x.token.0 x d z).events) t.1 said))
+      go (denotation.Standard name) is says binds open_to said =
+          let alone = bound_name s x.token.0 x.name name plain binds in
+          standard_without s from (syntax.Named x NoMore) name x.token.0 refl (ap stream_denoted says) (standard_owner s x NoMore name says) (alone_no_class name alone) (alone_proper name alone) x.token
+          (λ other are. standard_call s from x NoMore name says (unconnected s e x o b name is alone) (is_procedure name alone other) (alone_proper name alone) are) said
+
+  pub named_with : (first : Expression) (rest : Expressions) (o : Occurrence) → BoundIs s e x o → (a : Actuals) → AllActuals s from o.denotes (Then first rest) no_actuals a → AllSay s (used s.tables x.token.0 x o a).events
+      → Means true s from (syntax.Named x (Then first rest)) (used s.tables x.token.0 x o a).value
+  unfolding used applied stream_of
+  named_with first rest o b a all said =
+      subst (λ z. Means true s from (syntax.Named x (Then first rest)) (used s.tables x.token.0 x z a).value) (sym b.is)
+      (subst (λ z. Means true s from (syntax.Named x (Then first rest)) (if z then alone s.tables x.token.0 x b.denotation else if a.typed then applied s.tables x.token.0 x.token.0 b.denotation a else applied_untyped x.token.0 b.denotation).value) (sym counted)
+      (subst (λ z. Means true s from (syntax.Named x (Then first rest)) (if z then applied s.tables x.token.0 x.token.0 b.denotation a else applied_untyped x.token.0 b.denotation).value) (sym typed)
+      (go b.denotation refl b.says b.binds b.open_to (λ h. subst (λ (z : Occurrence). AllFit s from z.denotes 0 (Then first rest)) b.is (all.fits h).1)
+      (subst (λ z. AllSay s (if z then applied s.tables x.token.0 x.token.0 b.denotation a else applied_untyped x.token.0 b.denotation).events) typed
+      (subst (λ z. AllSay s (if z then alone s.tables x.token.0 x b.denotation else if a.typed then applied s.tables x.token.0 x.token.0 b.denotation a else applied_untyped x.token.0 b.denotation).events) counted
+      (subst (λ z. AllSay s (used s.tables x.token.0 x z a).events) b.is said))))))
+    where
+      counted : nat_eq a.count 0 ≡ false
+      counted = nonzero a.count (size rest) all.count
+
+      typed : a.typed ≡ true
+      typed = all.typed refl
+
+      go : (d : Denotation) → b.denotation ≡ d → denoted s x.token.0 ≡ Some d → binding s.tables x.token.0 x.name ≡ Some d → is_barred s.tables e x.token.0 d ≡ false → (a.misfit ≡ None → AllFit s from (Some d) 0 (Then first rest))
+          → AllSay s (applied s.tables x.token.0 x.token.0 d a).events → Means true s from (syntax.Named x (Then first rest)) (applied s.tables x.token.0 x.token.0 d a).value
+      go (denotation.Declared d) is says binds open_to fits said =
+          let t = known.there x.token.0 x.name d binds in
+          subst (λ z. Means true s from (syntax.Named x (Then first rest)) (declared_applied x.token.0 x.token.0 z (length (formals_of s.tables d)) a).value) (sym t.1)
+          (with_means s known from (syntax.Named x (Then first rest)) x.token.0 d (KnownAt s from (connection_at s x.token.0) d) (sight x.token.0 x.name d placed binds open_to b.found) first rest (named_use s from x (Then first rest) d says) a (from_zero a.count (suc (size rest)) all.count) fits
+          x.token.0 t.0 t.1 (known.proper d t.0 t.1) (subst (λ z. AllSay s (declared_applied x.token.0 x.token.0 z (length (formals_of s.tables d)) a).events) t.1 said))
+      go (denotation.Standard name) is says binds open_to fits said =
+          let alone = bound_name s x.token.0 x.name name plain binds in
+          standard_with s from (syntax.Named x (Then first rest)) name x.token.0 refl (ap stream_denoted says) (standard_owner s x (Then first rest) name says) (alone_no_class name alone) (alone_proper name alone) (Then first rest)
+          (λ other are. standard_call s from x (Then first rest) name says (unconnected s e x o b name is alone) (is_procedure name alone other) (alone_proper name alone) are) a (from_zero a.count (suc (size rest)) all.count) fits x.token.0 said
+
+-- ---- attributes behind dots
+
+abbrev pub OfWhich : Source → Place → Expression → StandardName → Type 0
+OfWhich s from a name = ((image : ℕ) × (stream_of s a ≡ Some image) × IsProcedure name) ⊎ ((stream_of s a ≡ None) × OfTexts name × ExprIs s from a (Simply kind.Text))
+
+-- what stands behind the dot: a name of sysin or sysout, or an attribute of a text; or a declared attribute of an object
+pub data AttributeIs (s : Source) (from : Place) (a : Expression) (x : Identifier) (o : Occurrence) : Type 0 where
+  standard : (name : StandardName) → o ≡ occurs (Some (denotation.Standard name)) false → denoted s x.token.0 ≡ Some (denotation.Standard name) → OfWhich s from a name → AttributeIs s from a x o
+  declared : (d : DeclNo) → o ≡ occurs (Some (denotation.Declared d)) false → denoted s x.token.0 ≡ Some (denotation.Declared d) → (b : Entry) → entry_of s.tables d ≡ Some b → ObjectHas s (λ c. ExprIs s from a (Refers c)) d → AttributeIs s from a x o
+
+module _ (s : Source) (known : Tabled s) (from : Place) (a : Expression) (e : Extent) (x : Identifier) (plain : is_detach x.name ≡ false) where
+  found_attribute : (P : StandardName → Type 0) → ((name : StandardName) → P name → OfWhich s from a name) → (o : Option StandardName) → ((name : StandardName) → o ≡ Some name → P name) → AllSay s (attribute_found x o).events → AttributeIs s from a x (attribute_found x o).value
+  unfolding telling
+  found_attribute P of_which None all said = absurd said.0
+  found_attribute P of_which (Some name) all said = let says = said.0 in standard name refl says.0 (of_which name (all name refl))
+
+  -- an attribute of an object
+  remote_is : (class : DeclNo) (c : IsClass s class) → ValueIs s from a (t.Ref class) → AllSay s (remote s.tables e x class).events → AttributeIs s from a x (remote s.tables e x class).value
+  unfolding remote next gives telling bars attribute_in
+  remote_is class c v said =
+      subst (λ z. AttributeIs s from a x (remote_in s.tables e x z).value) (sym row) (open_to (has_classes s.tables c.block) (subst (λ z. AllSay s (remote_in s.tables e x z).events) row said))
+    where
+      row : class_block s.tables class ≡ Some c.block
+      row = class_row s.tables class c.block c.declares
+
+      object : ExprIs s from a (Refers c.block)
+      object = v.value (Refers c.block) (subst (λ z. Fits s z (Refers c.block)) (sym (class_held s class c)) (own_level s.tables c.block known.some_block))
+
+      of : (d : Denotation) → attribute_in s.tables x.token.0 c.block x.name ≡ Some d → denoted s x.token.0 ≡ Some d → AttributeIs s from a x (occurs (Some d) false)
+      of (denotation.Declared d) is says = let there = known.attributes x.token.0 c.block x.name d is in declared d refl says there.0 there.1 (c.block, c.is, there.2, object)
+      of (denotation.Standard name) is says = absurd (never (shown s.tables (Some x.token.0) c.block x.name) (is_detach x.name) plain is)
+        where
+          never : (o : Option DeclNo) (b : Bool) → b ≡ false → declared_or_standard s.tables o (if b then Some (found.Procedure detach.Detach) else None) ≡ Some (denotation.Standard name) → ⊥
+          never None true other is = false≢true (sym other)
+          never None false other is = cc
+          never (Some d) b other is = cc
+
+      barred : (d : Denotation) → attribute_in s.tables x.token.0 c.block x.name ≡ Some d → (b : Bool) → AllSay s (used_or_barred x.token.0 d b).events → AttributeIs s from a x (barred_if false (used_or_barred x.token.0 d b).value)
+      barred d is true said = absurd said.0
+      barred d is false said = let says = said.0 in of d is says.0
+
+      at : (o : Option Denotation) → attribute_in s.tables x.token.0 c.block x.name ≡ o → AllSay s (remote_as s.tables e x c.block o).events → AttributeIs s from a x (barred_if false (remote_as s.tables e x c.block o).value)
+      at None is said = absurd said.0
+      at (Some d) is said = barred d is (is_barred s.tables e x.token.0 d) said
+
+      open_to : (b : Bool) → AllSay s (next (bars b x.token.0 r.ClassWithClasses) (remote_at s.tables e x c.block)).events → AttributeIs s from a x (next (bars b x.token.0 r.ClassWithClasses) (remote_at s.tables e x c.block)).value
+      open_to true said = absurd said.0
+      open_to false said = at (attribute_in s.tables x.token.0 c.block x.name) refl (next_says s (remote_as s.tables e x c.block (attribute_in s.tables x.token.0 c.block x.name)) (λ o. gives (barred_if false o)) said).0
+
+  of_text : (first : ℕ) (type : SimType) → ValueIs s from a type → AllSay s (attribute_of_type s.tables e x first (Some type)).events → AttributeIs s from a x (attribute_of_type s.tables e x first (Some type)).value
+  unfolding telling gives
+  of_text first t.Text v said = found_attribute OfTexts (λ name p. inr (v.stream, p, simply s from a t.Text v)) (text_attribute x.name) (λ name e. text_name x.name name e) said
+  of_text first t.Integer v said = absurd said.0
+  of_text first t.Boolean v said = absurd said.0
+  of_text first t.Character v said = absurd said.0
+  of_text first (t.Ref d) v said = remote_is d v.proper v said
+  of_text first t.NoneType v said = absurd said.0
+
+  by_value : (first : ℕ) (o : Outcome) → Means true s from a o → AllSay s (attribute_by_value s.tables e x first o).events → AttributeIs s from a x (attribute_by_value s.tables e x first o).value
+  unfolding attribute_by_value next attribute_of_value
+  by_value first o m said =
+      let parts = next_says s (side s.tables first o) (attribute_of_value s.tables e x) said in
+      let v = side_means s known from a first o m parts.0 in
+      let y = (side s.tables first o).value in
+      subst (λ z. AttributeIs s from a x (attribute_of_type s.tables e x y.first.0 z).value) (sym v.is) (of_text y.first.0 v.ty v.value (subst (λ z. AllSay s (attribute_of_type s.tables e x y.first.0 z).events) v.is parts.1))
+
+  of_stream : (image : ℕ) → stream_of s a ≡ Some image → (name : StandardName) → IsProcedure name → OfWhich s from a name
+  of_stream image e name p = inl (image, e, p)
+
+  pub attribute_is : (first : ℕ) (o : Outcome) → Means true s from a o → AllSay s (attribute s.tables e x first o).events → AttributeIs s from a x (attribute s.tables e x first o).value
+  unfolding attribute
+  attribute_is first (is.Standard found.Sysin token) m said = found_attribute IsProcedure (of_stream 0 m.stream) (sysin_attribute x.name) (λ name e. sysin_name x.name name e) said
+  attribute_is first (is.Standard found.Sysout token) m said = found_attribute IsProcedure (of_stream 1 m.stream) (sysout_attribute x.name) (λ name e. sysout_name x.name name e) said
+  attribute_is first (is.Standard name token) m said = by_value first (is.Standard name token) m said
+  attribute_is first is.Refused m said = by_value first is.Refused m said
+  attribute_is first is.NoValue m said = by_value first is.NoValue m said
+  attribute_is first is.NoValueInParentheses m said = by_value first is.NoValueInParentheses m said
+  attribute_is first (is.Value type) m said = by_value first (is.Value type) m said
+  attribute_is first (is.Called type) m said = by_value first (is.Called type) m said
+  attribute_is first (is.Variable type) m said = by_value first (is.Variable type) m said
+  attribute_is first (is.Constant type) m said = by_value first (is.Constant type) m said
+  attribute_is first (is.Array type) m said = by_value first (is.Array type) m said
+  attribute_is first (is.Procedure d token own) m said = by_value first (is.Procedure d token own) m said
+  attribute_is first is.Class m said = by_value first is.Class m said
+  attribute_is first (is.Barred b) m said = by_value first (is.Barred b) m said
+
+-- ---- behind a dot: a standard name
+
+procedure_none : (name : StandardName) → IsProcedure name → stream_named name ≡ None
+procedure_none (found.Procedure x) p = refl
+procedure_none _ p = absurd p
+
+attribute_none : (name : StandardName) → OfTexts name → stream_named name ≡ None
+attribute_none (found.Procedure x) p = refl
+attribute_none _ p = absurd p
+
+module _ (s : Source) (from : Place) (i : ℕ) (a : Expression) (x : Identifier) (name : StandardName) (says : denoted s x.token.0 ≡ Some (denotation.Standard name)) (which : OfWhich s from a name) where
+  dot_no_class : is_standard_class name ≡ false
+  dot_no_class = go which
+    where
+      go : OfWhich s from a name → is_standard_class name ≡ false
+      go (inl y) = procedure_no_class name y.2
+      go (inr y) = attribute_no_class name y.1
+
+  dot_proper : PlainGiven (signature name).result
+  dot_proper = go which
+    where
+      go : OfWhich s from a name → PlainGiven (signature name).result
+      go (inl y) = procedure_proper name y.2
+      go (inr y) = attribute_proper name y.1
+
+  dot_none : stream_named name ≡ None
+  dot_none = go which
+    where
+      go : OfWhich s from a name → stream_named name ≡ None
+      go (inl y) = procedure_none name y.2
+      go (inr y) = attribute_none name y.1
+
+  dot_call : (es : Expressions) → AreOf s from es (kinds_of (signature name)) → CallsFor s from (syntax.Dot i a x es) (signature name).result
+  dot_call es are = dot_calls s from i a x es (signature name).result (plain_given s (CallGiven s from (syntax.Dot i a x es)) (signature name).result dot_proper (
+    subst (λ z. DotGives s z (stream_of s a) (ExprIs s from a (Simply kind.Text)) (λ c. ExprIs s from a (Refers c)) es (AreIntegers s from es) (λ ks. AreOf s from es ks) (λ fs. ActualsFit s from es fs) (given_by (signature name).result)) (sym says) (go which),
+    ap (denoted_leaves s) says ∙ sym (standard_left name),
+  ))
+    where
+      go : OfWhich s from a name → BehindGives (stream_of s a) (procedure_named name) (ExprIs s from a (Simply kind.Text)) (λ ks. AreOf s from es ks) (given_by (signature name).result)
+      go (inl y) = subst (λ z. BehindGives z (procedure_named name) (ExprIs s from a (Simply kind.Text)) (λ ks. AreOf s from es ks) (given_by (signature name).result)) (sym y.1) (standard_gives name y.2 (λ ks. AreOf s from es ks) are)
+      go (inr y) =
+          subst (λ z. BehindGives z (procedure_named name) (ExprIs s from a (Simply kind.Text)) (λ ks. AreOf s from es ks) (given_by (signature name).result)) (sym y.0)
+          (attribute_gives name y.1 (ExprIs s from a (Simply kind.Text)) y.2 (λ ks. AreOf s from es ks) are)
+
+  standard_alone : AllSay s (alone s.tables i x (denotation.Standard name)).events → Means true s from (syntax.Dot i a x NoMore) (alone s.tables i x (denotation.Standard name)).value
+  unfolding alone stream_of result_meant
+  standard_alone said = standard_without s from (syntax.Dot i a x NoMore) name i refl (sym dot_none) refl dot_no_class dot_proper x.token (λ other are. dot_call NoMore are) said
+
+  standard_applies : (first : Expression) (rest : Expressions) (y : Actuals) → y.count ≡ size (Then first rest) → (y.misfit ≡ None → AllFit s from (Some (denotation.Standard name)) 0 (Then first rest))
+      → AllSay s (applied s.tables i x.token.0 (denotation.Standard name) y).events → Means true s from (syntax.Dot i a x (Then first rest)) (applied s.tables i x.token.0 (denotation.Standard name) y).value
+  unfolding applied stream_of result_meant
+  standard_applies first rest y count fits said =
+      standard_with s from (syntax.Dot i a x (Then first rest)) name i refl (sym dot_none) refl dot_no_class dot_proper (Then first rest) (λ other are. dot_call (Then first rest) are) y count fits x.token.0 said
+
+-- ---- behind a dot: any attribute
+
+declared_with : (s : Source) → Tabled s → (from : Place) (i : ℕ) (a : Expression) (x : Identifier) (d : DeclNo) → denoted s x.token.0 ≡ Some (denotation.Declared d) → (b : Entry) → entry_of s.tables d ≡ Some b
+    → ObjectHas s (λ c. ExprIs s from a (Refers c)) d → (first : Expression) (rest : Expressions) (y : Actuals) → y.count ≡ size (Then first rest) → (y.misfit ≡ None → AllFit s from (Some (denotation.Declared d)) 0 (Then first rest))
+    → AllSay s (applied s.tables i x.token.0 (denotation.Declared d) y).events → Means true s from (syntax.Dot i a x (Then first rest)) (applied s.tables i x.token.0 (denotation.Declared d) y).value
+unfolding applied
+declared_with s known from i a x d says b there has first rest y count fits said =
+    subst (λ z. Means true s from (syntax.Dot i a x (Then first rest)) (declared_applied i x.token.0 z (length (formals_of s.tables d)) y).value) (sym there)
+    (with_means s known from (syntax.Dot i a x (Then first rest)) i d (ObjectHas s (λ c. ExprIs s from a (Refers c)) d) has first rest (dot_use s from i a x (Then first rest) d says) y count fits x.token.0 b there (known.proper d b there)
+    (subst (λ z. AllSay s (declared_applied i x.token.0 z (length (formals_of s.tables d)) y).events) there said))
+
+module _ (s : Source) (known : Tabled s) (from : Place) (i : ℕ) (a : Expression) (x : Identifier) (apart : nat_eq i x.token.0 ≡ false) (o : Occurrence) where
+  pub dot_alone : AttributeIs s from a x o → AllSay s (used s.tables i x o no_actuals).events → Means true s from (syntax.Dot i a x NoMore) (used s.tables i x o no_actuals).value
+  unfolding used result_meant alone
+  dot_alone (standard name is says which) said =
+      subst (λ z. Means true s from (syntax.Dot i a x NoMore) (used s.tables i x z no_actuals).value) (sym is) (standard_alone s from i a x name says which (subst (λ z. AllSay s (used s.tables i x z no_actuals).events) is said))
+  dot_alone (declared d is says b there has) said =
+      subst (λ z. Means true s from (syntax.Dot i a x NoMore) (used s.tables i x z no_actuals).value) (sym is)
+      (subst (λ z. Means true s from (syntax.Dot i a x NoMore) (declared_alone s.tables i x d z).value) (sym there)
+      (alone_means s known from (syntax.Dot i a x NoMore) i d (ObjectHas s (λ c. ExprIs s from a (Refers c)) d) has (dot_use s from i a x NoMore d says) x b there (known.proper d b there) (λ result k at. own result k)
+      (subst (λ z. AllSay s (declared_alone s.tables i x d z).events) there (subst (λ z. AllSay s (used s.tables i x z no_actuals).events) is said))))
+    where
+      own : (result : Option SimType) (k : ℕ) → OwnResult s from (syntax.Dot i a x NoMore) (own_undotted s.tables x (is_undotted i x) (Some d)) d result k
+      own result k = subst (λ z. OwnResult s from (syntax.Dot i a x NoMore) (own_undotted s.tables x z (Some d)) d result k) (sym apart) refl
+
+  pub dot_with : (first : Expression) (rest : Expressions) (y : Actuals) → AttributeIs s from a x o → AllActuals s from o.denotes (Then first rest) no_actuals y → AllSay s (used s.tables i x o y).events → Means true s from (syntax.Dot i a x (Then first rest)) (used s.tables i x o y).value
+  unfolding used
+  dot_with first rest y b all said = go b
+    where
+      counted : nat_eq y.count 0 ≡ false
+      counted = nonzero y.count (size rest) all.count
+
+      typed : y.typed ≡ true
+      typed = all.typed refl
+
+      -- what is used, when there are operands and each has a type
+      used_is : (d : Denotation) → o ≡ occurs (Some d) false → used s.tables i x o y ≡ applied s.tables i x.token.0 d y
+      used_is d is =
+          ap (λ z. used s.tables i x z y) is ∙ ap (λ z. if z then alone s.tables i x d else if y.typed then applied s.tables i x.token.0 d y else applied_untyped x.token.0 d) counted
+          ∙ ap (λ z. if z then applied s.tables i x.token.0 d y else applied_untyped x.token.0 d) typed
+
+      fits : (d : Denotation) → o ≡ occurs (Some d) false → y.misfit ≡ None → AllFit s from (Some d) 0 (Then first rest)
+      fits d is h = subst (λ (z : Occurrence). AllFit s from z.denotes 0 (Then first rest)) is (all.fits h).1
+
+      declared_means : (d : DeclNo) → denoted s x.token.0 ≡ Some (denotation.Declared d) → (b : Entry) → entry_of s.tables d ≡ Some b → ObjectHas s (λ c. ExprIs s from a (Refers c)) d → (y.misfit ≡ None → AllFit s from (Some (denotation.Declared d)) 0 (Then first rest))
+          → AllSay s (applied s.tables i x.token.0 (denotation.Declared d) y).events → Means true s from (syntax.Dot i a x (Then first rest)) (applied s.tables i x.token.0 (denotation.Declared d) y).value
+      declared_means d says b there has fits said = declared_with s known from i a x d says b there has first rest y (from_zero y.count (suc (size rest)) all.count) fits said
+
+      go : AttributeIs s from a x o → Means true s from (syntax.Dot i a x (Then first rest)) (used s.tables i x o y).value
+      go (standard name is says which) =
+          let d = denotation.Standard name in
+          subst (λ (z : Judged Outcome). Means true s from (syntax.Dot i a x (Then first rest)) z.value) (sym (used_is d is)) (standard_applies s from i a x name says which first rest y (from_zero y.count (suc (size rest)) all.count) (fits d is) (subst (λ (z : Judged Outcome). AllSay s z.events) (used_is d is) said))
+      go (declared d is says b there has) =
+          let c = denotation.Declared d in
+          subst (λ (z : Judged Outcome). Means true s from (syntax.Dot i a x (Then first rest)) z.value) (sym (used_is c is)) (declared_means d says b there has (fits c is) (subst (λ (z : Judged Outcome). AllSay s z.events) (used_is c is) said))

@@ -1,0 +1,168 @@
+-- What is declared and known is built: seen in a text around, or an attribute of an object.
+use Rattle.std.proofs.Common.{◌≡◌, ℕ, Bool, true, false, List, Option, Some, None, sym, ap, subst}
+use Rattle.sim_base.specs.declared.numbering.DeclNo.{DeclNo}
+use Rattle.sim_scope.specs.declared.types.Entry.{Entry}
+use Rattle.sim_scope.specs.declared.types.Entry.TheVariants as entry
+use Rattle.sim_scope.specs.declared.types.Formal.{Formal}
+use Rattle.sim_scope.specs.declared.types.FormalKind.{FormalKind}
+use Rattle.sim_scope.specs.declared.types.FormalKind.TheVariants as shape
+use Rattle.sim_scope.specs.declared.types.Mode.{Mode}
+use Rattle.sim_scope.specs.declared.types.Mode.TheVariants as mode
+use Rattle.sim_scope.specs.declared.types.SimType.{SimType}
+use Rattle.sim_scope.specs.Scopes.{entry_of}
+use Rattle.sim_scope.specs.Source.{Source, block_of}
+use Rattle.sim_tree.specs.Syntax.{Expressions, NoMore, Then}
+use Rattle.sim_meaning.specs.Attributes.{is_connection}
+use Rattle.sim_meaning.specs.Closing.{formals_at}
+use Rattle.sim_meaning.specs.Entries.{formals_of}
+use Rattle.sim_meaning.specs.Pending.{Declared}
+use Rattle.sim_meaning.specs.Texts.{constant_of, kind_of_type, text}
+use Rattle.sim_sound.specs.Held.{ArrayOf, Holds, Simply, entry_holds, formal_holds, held_by}
+use Rattle.sim_sound.specs.Expressions.{ArrayNames, ConstantNames, DeclaredGives, HeldNames}
+use Rattle.sim_sound.specs.Statements.{LeftHeld, PlaceDeclared}
+use Rattle.sim_sound.specs.Typed.{Typed}
+use Rattle.sim_sound.proofs.Closing.{formals_same}
+use Rattle.codegen_expr.specs.Built.{AreBuilt, ArrayBuilt, ArrayOfBuilt, ArrayPlaceBuilt, ArrayPlaceOfBuilt, CellBuilt, ConstantBuilt, ConstantOfBuilt, DeclaredBuilt, DeclaredPlaceBuilt, FormalBuilt, FormalPlaceBuilt, HasBuilt, OfObjectBuilt, ParameterOfBuilt, ParameterPlaceOfBuilt, PlaceOfObjectBuilt, StandsIn, VariableBuilt, VariableOfBuilt}
+use Rattle.sim_built.specs.Laid.{Laid}
+use Rattle.sim_built.proofs.Cells.{constant_built, declared_has}
+use Rattle.sim_built.proofs.Lists.{Alone, Indexed, left_alone, left_indexed, left_none, names_alone, no_array}
+
+constant_is_built : (s : Source) (Known : Type 0) (d : DeclNo) (es : Expressions) (h : Holds) → ConstantNames s Known d es h → ConstantBuilt (constant_of s d) es
+constant_is_built s Known d NoMore h a = subst (λ z. ConstantBuilt z NoMore) (sym a.1) (constant_built s d a.0 a.1)
+constant_is_built s Known d (Then x xs) h a = absurd a
+
+constant_known : (s : Source) (Known : Type 0) (d : DeclNo) (es : Expressions) (h : Holds) → ConstantNames s Known d es h → Known
+constant_known s Known d NoMore h a = a.3
+constant_known s Known d (Then x xs) h a = absurd a
+
+module _ (s : Source) (ok : Typed s) (laid : Laid s) (t : ℕ) (d : DeclNo) (Known : Type 0) (solid : Known → is_connection (text s (block_of s d)) ≡ false) (es : Expressions) (Indices : Type 0) (indices : Indices → AreBuilt s t es) where
+  has : (c : Bool) (h : Holds) → entry_holds s c (entry_of s.tables d) ≡ Some h → Known → HasBuilt s (block_of s d) (Declared d.0)
+  has c h e known = declared_has s ok laid d h c (solid known) e
+
+  -- ---- seen in a text around
+
+  module _ (seen : Known → StandsIn s t (block_of s d)) where
+    cell : (c : Bool) (h : Holds) → entry_holds s c (entry_of s.tables d) ≡ Some h → Known → CellBuilt s t d
+    cell c h e known = record { has = has c h e known; inside = seen known }
+
+    variable_built : (h : Holds) → entry_holds s false (entry_of s.tables d) ≡ Some h → Alone Known es → VariableBuilt s t d es
+    variable_built h e a = by_list es a
+      where
+        by_list : (es : Expressions) → Alone Known es → VariableBuilt s t d es
+        by_list NoMore a = cell false h e a
+        by_list (Then x xs) a = absurd a
+
+    array_built : (k h : Holds) → entry_holds s false (entry_of s.tables d) ≡ Some (ArrayOf k) → ArrayNames s Known es Indices k h → ArrayBuilt s t d es (AreBuilt s t es)
+    array_built k h e a = by_list es indices a
+      where
+        by_list : (es : Expressions) → (Indices → AreBuilt s t es) → ArrayNames s Known es Indices k h → ArrayBuilt s t d es (AreBuilt s t es)
+        by_list NoMore f a = cell false (ArrayOf k) e a.1
+        by_list (Then x xs) f a = (cell false (ArrayOf k) e a.1, f a.2)
+
+    element_built : (k : Holds) → entry_holds s false (entry_of s.tables d) ≡ Some (ArrayOf k) → Indexed Known es Indices → ArrayPlaceBuilt s t d es (AreBuilt s t es)
+    element_built k e a = by_list es indices a
+      where
+        by_list : (es : Expressions) → (Indices → AreBuilt s t es) → Indexed Known es Indices → ArrayPlaceBuilt s t d es (AreBuilt s t es)
+        by_list NoMore f a = absurd a
+        by_list (Then x xs) f a = (cell false (ArrayOf k) e a.0, f a.1)
+
+    -- a formal parameter that holds something is by value or by reference, and no procedure
+    formal_built : (m : Mode) (k : FormalKind) (ty : Option SimType) (h : Holds) → entry_holds s false (entry_of s.tables d) ≡ formal_holds s m k ty → HeldNames s Known es Indices (formal_holds s m k ty) h → FormalBuilt s t d m k es (AreBuilt s t es)
+    formal_built mode.ByValue shape.Simple (Some ty) h e a = variable_built (held_by s ty) e (names_alone s Known Indices es (held_by s ty) h (no_array s ty) a)
+    formal_built mode.ByReference shape.Simple (Some ty) h e a = variable_built (held_by s ty) e (names_alone s Known Indices es (held_by s ty) h (no_array s ty) a)
+    formal_built mode.ByValue shape.Array (Some ty) h e a = array_built (held_by s ty) h e a
+    formal_built mode.ByReference shape.Array (Some ty) h e a = array_built (held_by s ty) h e a
+    formal_built _ _ _ h e a = absurd a
+
+    formal_place_built : (m : Mode) (k : FormalKind) (ty : Option SimType) (h : Holds) → entry_holds s false (entry_of s.tables d) ≡ formal_holds s m k ty → LeftHeld Known es Indices (formal_holds s m k ty) h → FormalPlaceBuilt s t d m k es (AreBuilt s t es)
+    formal_place_built mode.ByValue shape.Simple (Some ty) h e a = variable_built (held_by s ty) e (left_alone s Known Indices es (held_by s ty) h (no_array s ty) a)
+    formal_place_built mode.ByReference shape.Simple (Some ty) h e a = variable_built (held_by s ty) e (left_alone s Known Indices es (held_by s ty) h (no_array s ty) a)
+    formal_place_built mode.ByValue shape.Array (Some ty) h e a = element_built (held_by s ty) e (left_indexed s Known Indices es (held_by s ty) h a)
+    formal_place_built mode.ByReference shape.Array (Some ty) h e a = element_built (held_by s ty) e (left_indexed s Known Indices es (held_by s ty) h a)
+    formal_place_built _ _ _ h e a = absurd (left_none s Known Indices es h a)
+
+    pub declared_built : (Actuals Given : List Formal → Type 0) (y : Option Entry) (h : Option Holds) → entry_of s.tables d ≡ y → ((fs : List Formal) → Actuals fs → Given fs) → DeclaredGives s Known d es Indices Actuals y h → DeclaredBuilt s t d y es (AreBuilt s t es) Given
+    declared_built Actuals Given (Some (entry.Procedure result k)) h e g a = (seen a.1, subst Given (sym (formals_same s d result k e)) (g (formals_of s k) a.2))
+    declared_built Actuals Given None h e g a = absurd a
+    declared_built Actuals Given (Some (entry.Variable ty)) None e g a = absurd a
+    declared_built Actuals Given (Some (entry.Variable ty)) (Some h) e g a = variable_built (held_by s ty) (ap (entry_holds s false) e) (names_alone s Known Indices es (held_by s ty) h (no_array s ty) a)
+    declared_built Actuals Given (Some (entry.Constant ty)) None e g a = absurd a
+    declared_built Actuals Given (Some (entry.Constant ty)) (Some h) e g a = constant_is_built s Known d es h a
+    declared_built Actuals Given (Some (entry.Array ty n)) None e g a = absurd a
+    declared_built Actuals Given (Some (entry.Array ty n)) (Some h) e g a = array_built (held_by s ty) h (ap (entry_holds s false) e) a
+    declared_built Actuals Given (Some (entry.Formal f)) None e g a = absurd a
+    declared_built Actuals Given (Some (entry.Formal f)) (Some h) e g a = formal_built f.mode f.kind f.ty h (ap (entry_holds s false) e) a
+    declared_built Actuals Given (Some _) None e g a = absurd a
+    declared_built Actuals Given (Some _) (Some h) e g a = absurd a
+
+    pub declared_place_built : (y : Option Entry) (h : Holds) → entry_of s.tables d ≡ y → PlaceDeclared s Known es Indices y h → DeclaredPlaceBuilt s t d y es (AreBuilt s t es)
+    declared_place_built (Some (entry.Variable ty)) h e a = variable_built (held_by s ty) (ap (entry_holds s false) e) (left_alone s Known Indices es (held_by s ty) h (no_array s ty) a)
+    declared_place_built (Some (entry.Array ty n)) h e a = element_built (held_by s ty) (ap (entry_holds s false) e) (left_indexed s Known Indices es (held_by s ty) h a)
+    declared_place_built (Some (entry.Formal f)) h e a = formal_place_built f.mode f.kind f.ty h (ap (entry_holds s false) e) a
+    declared_place_built (Some (entry.Procedure r k)) h e a = absurd a
+    declared_place_built None h e a = absurd a
+    declared_place_built (Some _) h e a = absurd (left_none s Known Indices es h a)
+
+  -- ---- of an object
+
+  module _ (Object : Type 0) (object : Known → Object) where
+    variable_of : (h : Holds) → entry_holds s false (entry_of s.tables d) ≡ Some h → Alone Known es → VariableOfBuilt s d es Object
+    variable_of h e a = by_list es a
+      where
+        by_list : (es : Expressions) → Alone Known es → VariableOfBuilt s d es Object
+        by_list NoMore a = (object a, has false h e a)
+        by_list (Then x xs) a = absurd a
+
+    array_of : (k h : Holds) → entry_holds s false (entry_of s.tables d) ≡ Some (ArrayOf k) → ArrayNames s Known es Indices k h → ArrayOfBuilt s d Object (AreBuilt s t es)
+    array_of k h e a = by_list es indices a
+      where
+        by_list : (es : Expressions) → (Indices → AreBuilt s t es) → ArrayNames s Known es Indices k h → ArrayOfBuilt s d Object (AreBuilt s t es)
+        by_list NoMore f a = (object a.1, has false (ArrayOf k) e a.1, tt)
+        by_list (Then x xs) f a = (object a.1, has false (ArrayOf k) e a.1, f a.2)
+
+    element_of : (k : Holds) → entry_holds s false (entry_of s.tables d) ≡ Some (ArrayOf k) → Indexed Known es Indices → ArrayPlaceOfBuilt s d es Object (AreBuilt s t es)
+    element_of k e a = by_list es indices a
+      where
+        by_list : (es : Expressions) → (Indices → AreBuilt s t es) → Indexed Known es Indices → ArrayPlaceOfBuilt s d es Object (AreBuilt s t es)
+        by_list NoMore f a = absurd a
+        by_list (Then x xs) f a = (object a.0, has false (ArrayOf k) e a.0, f a.1)
+
+    constant_of_object : (ty : SimType) (h : Holds) → entry_of s.tables d ≡ Some (entry.Constant ty) → ConstantNames s Known d es h → ConstantOfBuilt s d es Object
+    constant_of_object ty h e a =
+        let known = constant_known s Known d es h a in (object known, has true (Simply (kind_of_type ty)) (ap (entry_holds s true) e) known, constant_is_built s Known d es h a)
+
+    parameter_of : (m : Mode) (k : FormalKind) (ty : Option SimType) (h : Holds) → entry_holds s false (entry_of s.tables d) ≡ formal_holds s m k ty → HeldNames s Known es Indices (formal_holds s m k ty) h → ParameterOfBuilt s d k es Object (AreBuilt s t es)
+    parameter_of mode.ByValue shape.Simple (Some ty) h e a = variable_of (held_by s ty) e (names_alone s Known Indices es (held_by s ty) h (no_array s ty) a)
+    parameter_of mode.ByReference shape.Simple (Some ty) h e a = variable_of (held_by s ty) e (names_alone s Known Indices es (held_by s ty) h (no_array s ty) a)
+    parameter_of mode.ByValue shape.Array (Some ty) h e a = array_of (held_by s ty) h e a
+    parameter_of mode.ByReference shape.Array (Some ty) h e a = array_of (held_by s ty) h e a
+    parameter_of _ _ _ h e a = absurd a
+
+    parameter_place_of : (m : Mode) (k : FormalKind) (ty : Option SimType) (h : Holds) → entry_holds s false (entry_of s.tables d) ≡ formal_holds s m k ty → LeftHeld Known es Indices (formal_holds s m k ty) h → ParameterPlaceOfBuilt s d k es Object (AreBuilt s t es)
+    parameter_place_of mode.ByValue shape.Simple (Some ty) h e a = variable_of (held_by s ty) e (left_alone s Known Indices es (held_by s ty) h (no_array s ty) a)
+    parameter_place_of mode.ByReference shape.Simple (Some ty) h e a = variable_of (held_by s ty) e (left_alone s Known Indices es (held_by s ty) h (no_array s ty) a)
+    parameter_place_of mode.ByValue shape.Array (Some ty) h e a = element_of (held_by s ty) e (left_indexed s Known Indices es (held_by s ty) h a)
+    parameter_place_of mode.ByReference shape.Array (Some ty) h e a = element_of (held_by s ty) e (left_indexed s Known Indices es (held_by s ty) h a)
+    parameter_place_of _ _ _ h e a = absurd (left_none s Known Indices es h a)
+
+    pub of_object_built : (Actuals Given : List Formal → Type 0) (y : Option Entry) (h : Option Holds) → entry_of s.tables d ≡ y → ((fs : List Formal) → Actuals fs → Given fs) → DeclaredGives s Known d es Indices Actuals y h → OfObjectBuilt s d y es Object (AreBuilt s t es) (Given (formals_at s d))
+    of_object_built Actuals Given (Some (entry.Procedure result k)) h e g a = (object a.1, subst Given (sym (formals_same s d result k e)) (g (formals_of s k) a.2))
+    of_object_built Actuals Given None h e g a = absurd a
+    of_object_built Actuals Given (Some (entry.Variable ty)) None e g a = absurd a
+    of_object_built Actuals Given (Some (entry.Variable ty)) (Some h) e g a = variable_of (held_by s ty) (ap (entry_holds s false) e) (names_alone s Known Indices es (held_by s ty) h (no_array s ty) a)
+    of_object_built Actuals Given (Some (entry.Constant ty)) None e g a = absurd a
+    of_object_built Actuals Given (Some (entry.Constant ty)) (Some h) e g a = constant_of_object ty h e a
+    of_object_built Actuals Given (Some (entry.Array ty n)) None e g a = absurd a
+    of_object_built Actuals Given (Some (entry.Array ty n)) (Some h) e g a = array_of (held_by s ty) h (ap (entry_holds s false) e) a
+    of_object_built Actuals Given (Some (entry.Formal f)) None e g a = absurd a
+    of_object_built Actuals Given (Some (entry.Formal f)) (Some h) e g a = parameter_of f.mode f.kind f.ty h (ap (entry_holds s false) e) a
+    of_object_built Actuals Given (Some _) None e g a = absurd a
+    of_object_built Actuals Given (Some _) (Some h) e g a = absurd a
+
+    pub place_of_built : (y : Option Entry) (h : Holds) → entry_of s.tables d ≡ y → PlaceDeclared s Known es Indices y h → PlaceOfObjectBuilt s d y es Object (AreBuilt s t es)
+    place_of_built (Some (entry.Variable ty)) h e a = variable_of (held_by s ty) (ap (entry_holds s false) e) (left_alone s Known Indices es (held_by s ty) h (no_array s ty) a)
+    place_of_built (Some (entry.Array ty n)) h e a = element_of (held_by s ty) (ap (entry_holds s false) e) (left_indexed s Known Indices es (held_by s ty) h a)
+    place_of_built (Some (entry.Formal f)) h e a = parameter_place_of f.mode f.kind f.ty h (ap (entry_holds s false) e) a
+    place_of_built (Some (entry.Procedure r k)) h e a = absurd a
+    place_of_built None h e a = absurd a
+    place_of_built (Some _) h e a = absurd (left_none s Known Indices es h a)

@@ -1,0 +1,285 @@
+-- Typed left sides are built.
+use Rattle.std.proofs.Common.{◌≡◌, ℕ, Bool, true, false, Option, Some, None, refl, sym, ap, ◌∙◌, subst}
+use Rattle.sim_base.specs.declared.numbering.DeclNo.{DeclNo}
+use Rattle.sim_scope.specs.declared.scopes.Denotation.{Denotation}
+use Rattle.sim_scope.specs.declared.scopes.Denotation.TheVariants as denotation
+use Rattle.sim_scope.specs.declared.types.Entry.{Entry}
+use Rattle.sim_scope.specs.declared.types.Entry.TheVariants as entry
+use Rattle.sim_scope.specs.declared.types.FormalKind.{FormalKind}
+use Rattle.sim_scope.specs.declared.types.FormalKind.TheVariants as shape
+use Rattle.sim_scope.specs.declared.types.Mode.{Mode}
+use Rattle.sim_scope.specs.declared.types.Mode.TheVariants as mode
+use Rattle.sim_scope.specs.declared.types.SimType.{SimType}
+use Rattle.sim_scope.specs.Calls.{is_inside}
+use Rattle.sim_scope.specs.Scopes.{entry_of}
+use Rattle.sim_scope.specs.Source.{Source, block_of, denoted, line_at}
+use Rattle.sim_tree.specs.declared.expr.Identifier.{Identifier}
+use Rattle.sim_tree.specs.declared.stmt.Assignment.{Assignment}
+use Rattle.sim_tree.specs.declared.stmt.Assignment.TheVariants as assignment
+use Rattle.sim_tree.specs.Syntax.{Expression, Expressions, NoMore, Then}
+use Rattle.sim_tree.specs.Syntax as syntax
+use Rattle.sim_values.specs.declared.kind.Kind.{Kind}
+use Rattle.sim_values.specs.declared.kind.Kind.TheVariants as kind
+use Rattle.sim_meaning.specs.Attributes.{connection_at, declared_attribute}
+use Rattle.sim_meaning.specs.Closing.{block_if, own_block, own_block_denoted, own_result, result_meant, stream_of, unless_connected}
+use Rattle.sim_meaning.specs.Pending.{Declared, Key, Result}
+use Rattle.sim_meaning.specs.Texts.{Text, text}
+use Rattle.sim_sound.specs.Held.{Around, ArrayOf, Holds, In, Refers, Sees, SeesConnected, Simply, entry_holds, formal_holds, held_by, result_holds}
+use Rattle.sim_sound.specs.Expressions.{AreIntegers, ExprIs, ObjectHas}
+use Rattle.sim_sound.specs.Statements.{ControlIs, LeftDot, LeftHeld, LeftIs, LeftNamed, LeftOf, NoText, OwnText, PlaceDeclared, PlaceIs, PlaceNamed, ReferenceAt, ReferenceLeft, TextLeft}
+use Rattle.sim_sound.specs.Typed.{Typed}
+use Rattle.codegen_expr.specs.Built.{AreBuilt, CellBuilt, ClassBuilt, ConnectedBuilt, IsBuilt, KeyBuilt, NamedPlaceBuilt, PlaceBehindBuilt, PlaceBuilt, PlaceOrResultBuilt, ReferenceBuilt, StandsIn, StreamBuilt, ThroughBuilt, is_there, slot_in}
+use Rattle.codegen.specs.BuiltProgram.{LeftBuilt, StepsBuilt, VariableBuilt}
+use Rattle.codegen.specs.CodeFor.{Variable, assigned_by, variable_of, variable_stored}
+use Rattle.codegen.specs.CodeLeft.{AtAttribute, InCell, Stored, stored_declared, stored_element, stored_formal, stored_found, stored_left, stored_named, stored_of, stored_text, stored_variable}
+use Rattle.sim_built.specs.Laid.{Laid}
+use Rattle.sim_built.proofs.Attributes.{declared_place_built, place_of_built}
+use Rattle.sim_built.proofs.Cells.{declared_has, result_has, result_typed, stands}
+use Rattle.sim_built.proofs.Expressions.{Stands, integers_built, is_built, object_solid}
+use Rattle.sim_built.proofs.Lists.{Alone, Indexed, LeftCase, a_place, a_result, left_alone, left_case, left_indexed, left_none, left_place, no_array}
+use Rattle.sim_built.proofs.Standing.{stands_here}
+
+-- the result of a procedure that is meant has a cell
+module _ (s : Source) (ok : Typed s) (laid : Laid s) where
+  meant_entry : (token block : ℕ) (d : DeclNo) (y : Option Entry) (h : Holds) → entry_of s.tables d ≡ y → own_block s token y ≡ Some block → result_holds s block ≡ Some h → is_there (slot_in s block Result) ≡ true
+  meant_entry token block d (Some (entry.Procedure result k)) h e o a = by_place (is_inside s.tables token k) o
+    where
+      by_place : (b : Bool) → block_if b k ≡ Some block → is_there (slot_in s block Result) ≡ true
+      by_place true f = let same : k ≡ block = cc in result_has s ok laid d result block h (e ∙ ap (λ z. Some (entry.Procedure result z)) same) a
+      by_place false f = absurd (cc)
+  meant_entry token block d None h e o a = absurd (cc)
+  meant_entry token block d (Some (entry.Variable ty)) h e o a = absurd (cc)
+  meant_entry token block d (Some (entry.Constant ty)) h e o a = absurd (cc)
+  meant_entry token block d (Some (entry.Array ty n)) h e o a = absurd (cc)
+  meant_entry token block d (Some (entry.Formal f)) h e o a = absurd (cc)
+  meant_entry token block d (Some (entry.Class b)) h e o a = absurd (cc)
+  meant_entry token block d (Some (entry.Virtual r b)) h e o a = absurd (cc)
+  meant_entry token block d (Some (entry.Unspecified w)) h e o a = absurd (cc)
+  meant_entry token block d (Some (entry.Attribute name parameter result)) h e o a = absurd (cc)
+
+  meant_denoted : (token block : ℕ) (y : Option Denotation) (h : Holds) → own_block_denoted s token y ≡ Some block → result_holds s block ≡ Some h → is_there (slot_in s block Result) ≡ true
+  meant_denoted token block None h o a = absurd (cc)
+  meant_denoted token block (Some (denotation.Declared d)) h o a = meant_entry token block d (entry_of s.tables d) h refl o a
+  meant_denoted token block (Some (denotation.Standard n)) h o a = absurd (cc)
+
+  meant_own : (e : Expression) (block : ℕ) (h : Holds) → own_result s e ≡ Some block → result_holds s block ≡ Some h → is_there (slot_in s block Result) ≡ true
+  unfolding own_result
+  meant_own (syntax.Named name NoMore) block h o a = meant_denoted name.token.0 block (denoted s name.token.0) h o a
+  meant_own (syntax.Named name (Then y ys)) block h o a = absurd (cc)
+  meant_own (syntax.If i c b d) block h o a = absurd (cc)
+  meant_own (syntax.Binary op i b d) block h o a = absurd (cc)
+  meant_own (syntax.Not i b) block h o a = absurd (cc)
+  meant_own (syntax.Signed sign i b) block h o a = absurd (cc)
+  meant_own (syntax.Dot i b name es) block h o a = absurd (cc)
+  meant_own (syntax.Constant literal i) block h o a = absurd (cc)
+  meant_own (syntax.Parentheses i b) block h o a = absurd (cc)
+  meant_own (syntax.Member m i b c) block h o a = absurd (cc)
+  meant_own (syntax.Qua i b c) block h o a = absurd (cc)
+  meant_own (syntax.This i c) block h o a = absurd (cc)
+  meant_own (syntax.New i c es) block h o a = absurd (cc)
+
+  unconnected : (c o : Option ℕ) (block : ℕ) → unless_connected c o ≡ Some block → o ≡ Some block
+  unconnected None o block e = e
+  unconnected (Some k) o block e = absurd (cc)
+
+  meant_has : (e : Expression) (block : ℕ) (h : Holds) → result_meant s e ≡ Some block → result_holds s block ≡ Some h → is_there (slot_in s block Result) ≡ true
+  unfolding result_meant
+  meant_has (syntax.Named name es) block h o a = meant_own (syntax.Named name es) block h (unconnected (connection_at s name.token.0) (own_result s (syntax.Named name es)) block o) a
+  meant_has (syntax.If i c b d) block h o a = absurd (cc)
+  meant_has (syntax.Binary op i b d) block h o a = absurd (cc)
+  meant_has (syntax.Not i b) block h o a = absurd (cc)
+  meant_has (syntax.Signed sign i b) block h o a = absurd (cc)
+  meant_has (syntax.Dot i b name es) block h o a = absurd (cc)
+  meant_has (syntax.Constant literal i) block h o a = absurd (cc)
+  meant_has (syntax.Parentheses i b) block h o a = absurd (cc)
+  meant_has (syntax.Member m i b c) block h o a = absurd (cc)
+  meant_has (syntax.Qua i b c) block h o a = absurd (cc)
+  meant_has (syntax.This i c) block h o a = absurd (cc)
+  meant_has (syntax.New i c es) block h o a = absurd (cc)
+
+module _ (s : Source) (ok : Typed s) (laid : Laid s) (t : ℕ) (x : Text) (there : text s t ≡ Some x) where
+  here : Stands s t (In t)
+  here = stands_here s ok laid t x there
+
+  around : (u : ℕ) → Around s.tables t u → StandsIn s t u
+  around u a = stands s ok laid t u x there a
+
+  pub built : (e : Expression) (h : Holds) → ExprIs s (In t) e h → IsBuilt s t e
+  built e h a = is_built s ok laid t (In t) here e h a
+
+  integers : (es : Expressions) → AreIntegers s (In t) es → AreBuilt s t es
+  integers es a = integers_built s ok laid t (In t) here es a
+
+  -- ---- places
+
+  named_place : (c : Option ℕ) (y : Option Denotation) (es : Expressions) (h : Holds) → PlaceNamed s t c y es (AreIntegers s (In t) es) h → ThroughBuilt c (λ k. PlaceBehindBuilt s y es (ConnectedBuilt s t k) (AreBuilt s t es)) (NamedPlaceBuilt s t y es (AreBuilt s t es))
+  named_place None None es h a = absurd a
+  named_place (Some k) None es h a = absurd a
+  named_place None (Some (denotation.Declared d)) es h a =
+      declared_place_built s ok laid t d (Sees s (In t) d) (λ z. here.solid d z) es (AreIntegers s (In t) es) (λ z. integers es z) (λ z. here.seen d z) (entry_of s.tables d) h refl a
+  named_place (Some k) (Some (denotation.Declared d)) es h a =
+      place_of_built s ok laid t d (SeesConnected s (In t) k d) (λ z. here.behind k d z) es (AreIntegers s (In t) es) (λ z. integers es z) (ConnectedBuilt s t k) (λ z. here.connected k d z) (entry_of s.tables d) h refl a
+  named_place None (Some (denotation.Standard n)) es h a = absurd a
+  named_place (Some k) (Some (denotation.Standard n)) es h a = absurd a
+
+  dot_place : (y : Option Denotation) (stream : Option ℕ) (Object : ℕ → Type 0) (Value : Type 0) (es : Expressions) (h : Holds) → ((c : ℕ) → Object c → Value) → LeftDot s y Object es (AreIntegers s (In t) es) h → StreamBuilt stream (PlaceBehindBuilt s y es Value (AreBuilt s t es))
+  dot_place y (Some image) Object Value es h o a = tt
+  dot_place None None Object Value es h o a = absurd a
+  dot_place (Some (denotation.Standard n)) None Object Value es h o a = absurd a
+  dot_place (Some (denotation.Declared d)) None Object Value es h o a =
+      place_of_built s ok laid t d (ObjectHas s Object d) (λ z. object_solid s ok laid t (In t) here Object d z) es (AreIntegers s (In t) es) (λ z. integers es z) Value (λ z. o z.0 z.3) (entry_of s.tables d) h refl
+      (left_place s (ObjectHas s Object d) (AreIntegers s (In t) es) NoText es (entry_of s.tables d) h (λ k z. z) (left_case s (ObjectHas s Object d) (AreIntegers s (In t) es) NoText es (entry_of s.tables d) h a))
+
+  place_is_built : (e : Expression) (h : Holds) → PlaceIs s t e h → PlaceBuilt s t e
+  place_is_built (syntax.Named name es) h a = named_place (connection_at s name.token.0) (denoted s name.token.0) es h a
+  place_is_built (syntax.Dot i b name es) h a = dot_place (denoted s name.token.0) (stream_of s b) (λ c. ExprIs s (In t) b (Refers c)) (IsBuilt s t b) es h (λ c y. built b (Refers c) y) a
+  place_is_built (syntax.If i c b d) h a = absurd a
+  place_is_built (syntax.Binary op i b d) h a = absurd a
+  place_is_built (syntax.Not i b) h a = absurd a
+  place_is_built (syntax.Signed sign i b) h a = absurd a
+  place_is_built (syntax.Constant literal i) h a = absurd a
+  place_is_built (syntax.Parentheses i b) h a = absurd a
+  place_is_built (syntax.Member m i b c) h a = absurd a
+  place_is_built (syntax.Qua i b c) h a = absurd a
+  place_is_built (syntax.This i c) h a = absurd a
+  place_is_built (syntax.New i c es) h a = absurd a
+
+  result_around : (block : ℕ) → is_there (slot_in s block Result) ≡ true → Around s.tables t block → KeyBuilt s t block Result
+  result_around block has a = record { has = has; inside = around block a }
+
+  reference_left : (e : Expression) → ReferenceLeft s t e → ReferenceBuilt s t e
+  reference_left e a = (subst ClassBuilt (sym a.qualified) tt, by_own (result_meant s e) refl a.at)
+    where
+      by_own : (o : Option ℕ) → result_meant s e ≡ o → ReferenceAt s t e o a.class → PlaceOrResultBuilt s t o (PlaceBuilt s t e)
+      by_own None o at = place_is_built e (Refers a.class) at
+      by_own (Some block) o at = result_around block (meant_has s ok laid e block (Refers a.class) o at.1) at.0
+
+  -- ---- left sides
+
+  cell : (d : DeclNo) (h : Holds) → entry_holds s false (entry_of s.tables d) ≡ Some h → Sees s (In t) d → CellBuilt s t d
+  cell d h e a = record { has = declared_has s ok laid d h false (here.solid d a) e; inside = here.seen d a }
+
+  variable_left : (d : DeclNo) (es : Expressions) (h : Holds) → entry_holds s false (entry_of s.tables d) ≡ Some h → Alone (Sees s (In t) d) es → LeftBuilt s t (stored_variable s d es)
+  variable_left d NoMore h e a = cell d h e a
+  variable_left d (Then y ys) h e a = absurd a
+
+  element_left : (d : DeclNo) (es : Expressions) (line : ℕ) (h : Holds) → entry_holds s false (entry_of s.tables d) ≡ Some (ArrayOf h) → Indexed (Sees s (In t) d) es (AreIntegers s (In t) es) → LeftBuilt s t (stored_element d es line)
+  element_left d NoMore line h e a = absurd a
+  element_left d (Then y ys) line h e a = (cell d (ArrayOf h) e a.0, integers (Then y ys) a.1)
+
+  formal_left : (d : DeclNo) (es : Expressions) (line : ℕ) (m : Mode) (f : FormalKind) (ty : Option SimType) (h : Holds) → entry_holds s false (entry_of s.tables d) ≡ formal_holds s m f ty → LeftHeld (Sees s (In t) d) es (AreIntegers s (In t) es) (formal_holds s m f ty) h → LeftBuilt s t (stored_formal s d es line m f)
+  formal_left d es line mode.ByValue shape.Simple (Some ty) h e a = variable_left d es (held_by s ty) e (left_alone s (Sees s (In t) d) (AreIntegers s (In t) es) es (held_by s ty) h (no_array s ty) a)
+  formal_left d es line mode.ByReference shape.Simple (Some ty) h e a = variable_left d es (held_by s ty) e (left_alone s (Sees s (In t) d) (AreIntegers s (In t) es) es (held_by s ty) h (no_array s ty) a)
+  formal_left d es line mode.ByValue shape.Array (Some ty) h e a = element_left d es line (held_by s ty) e (left_indexed s (Sees s (In t) d) (AreIntegers s (In t) es) es (held_by s ty) h a)
+  formal_left d es line mode.ByReference shape.Array (Some ty) h e a = element_left d es line (held_by s ty) e (left_indexed s (Sees s (In t) d) (AreIntegers s (In t) es) es (held_by s ty) h a)
+  formal_left d es line _ _ _ h e a = absurd (left_none s (Sees s (In t) d) (AreIntegers s (In t) es) es h a)
+
+  place_left : (d : DeclNo) (es : Expressions) (line : ℕ) (y : Option Entry) (h : Holds) → entry_of s.tables d ≡ y → PlaceDeclared s (Sees s (In t) d) es (AreIntegers s (In t) es) y h → LeftBuilt s t (stored_declared s d es line y)
+  place_left d es line (Some (entry.Variable ty)) h e a = variable_left d es (held_by s ty) (ap (entry_holds s false) e) (left_alone s (Sees s (In t) d) (AreIntegers s (In t) es) es (held_by s ty) h (no_array s ty) a)
+  place_left d es line (Some (entry.Array ty n)) h e a = element_left d es line (held_by s ty) (ap (entry_holds s false) e) (left_indexed s (Sees s (In t) d) (AreIntegers s (In t) es) es (held_by s ty) h a)
+  place_left d es line (Some (entry.Formal f)) h e a = formal_left d es line f.mode f.kind f.ty h (ap (entry_holds s false) e) a
+  place_left d es line (Some (entry.Procedure r k)) h e a = absurd a
+  place_left d es line None h e a = absurd a
+  place_left d es line (Some _) h e a = absurd (left_none s (Sees s (In t) d) (AreIntegers s (In t) es) es h a)
+
+  declared_left : (d : DeclNo) (es : Expressions) (line : ℕ) (y : Option Entry) (h : Holds) → entry_of s.tables d ≡ y → LeftCase s (Sees s (In t) d) (AreIntegers s (In t) es) (λ k. Around s.tables t k) h es y → LeftBuilt s t (stored_declared s d es line y)
+  declared_left d _ line _ h e (a_result {type = type} {k = k} a) = result_around k (result_typed s ok laid d type k e) a
+  declared_left d es line y h e (a_place a) = place_left d es line y h e a
+
+  -- an identifier, seen through a connection or not
+  named_left : (c : Option ℕ) (y : Option Denotation) (es : Expressions) (e : Expression) (line : ℕ) (h : Holds) → ((k : ℕ) → c ≡ Some k → PlaceNamed s t c y es (AreIntegers s (In t) es) h → PlaceBuilt s t e) → LeftNamed s t c y es (AreIntegers s (In t) es) h → LeftBuilt s t (stored_found c e (stored_named s y es line))
+  named_left None None es e line h f a = absurd a
+  named_left (Some k) None es e line h f a = absurd a
+  named_left None (Some (denotation.Standard n)) es e line h f a = absurd a
+  named_left (Some k) (Some (denotation.Standard n)) es e line h f a = absurd a
+  named_left None (Some (denotation.Declared d)) es e line h f a =
+      declared_left d es line (entry_of s.tables d) h refl (left_case s (Sees s (In t) d) (AreIntegers s (In t) es) (λ k. Around s.tables t k) es (entry_of s.tables d) h a)
+  named_left (Some k) (Some (denotation.Declared d)) es e line h f a =
+      f k refl (left_place s (SeesConnected s (In t) k d) (AreIntegers s (In t) es) (OwnText s t (Some k)) es (entry_of s.tables d) h (λ k z. z) (left_case s (SeesConnected s (In t) k d) (AreIntegers s (In t) es) (OwnText s t (Some k)) es (entry_of s.tables d) h a))
+
+  behind_left : (y : Option Denotation) (e : Expression) (Object : ℕ → Type 0) (es : Expressions) (Indices : Type 0) (h : Holds) (other : Stored) → PlaceBuilt s t e → LeftDot s y Object es Indices h → LeftBuilt s t (stored_found (declared_attribute y) e other)
+  behind_left None e Object es Indices h other b a = absurd a
+  behind_left (Some (denotation.Standard n)) e Object es Indices h other b a = absurd a
+  behind_left (Some (denotation.Declared d)) e Object es Indices h other b a = b
+
+  pub left_built : (e : Expression) (h : Holds) → LeftIs s t e h → LeftBuilt s t (stored_left s e)
+  left_built (syntax.Named name es) h a = named_left (connection_at s name.token.0) (denoted s name.token.0) es (syntax.Named name es) (line_at s name.token.0) h (λ k is z. place_is_built (syntax.Named name es) h z) a
+  left_built (syntax.Dot i b name es) h a = behind_left (denoted s name.token.0) (syntax.Dot i b name es) (λ c. ExprIs s (In t) b (Refers c)) es (AreIntegers s (In t) es) h _ (place_is_built (syntax.Dot i b name es) h a) a
+  left_built (syntax.If i c b d) h a = absurd a
+  left_built (syntax.Binary op i b d) h a = absurd a
+  left_built (syntax.Not i b) h a = absurd a
+  left_built (syntax.Signed sign i b) h a = absurd a
+  left_built (syntax.Constant literal i) h a = absurd a
+  left_built (syntax.Parentheses i b) h a = absurd a
+  left_built (syntax.Member m i b c) h a = absurd a
+  left_built (syntax.Qua i b c) h a = absurd a
+  left_built (syntax.This i c) h a = absurd a
+  left_built (syntax.New i c es) h a = absurd a
+
+  text_left : (own : Option ℕ) (e : Expression) (line : ℕ) → result_meant s e ≡ own → TextLeft s t e own → LeftBuilt s t (stored_text own e line)
+  text_left None e line o a = built e (Simply kind.Text) a
+  text_left (Some block) e line o a = result_around block (meant_has s ok laid e block (Simply kind.Text) o a.1) a.0
+
+  pub side_built : (is_text : Bool) (sign : Assignment) (line : ℕ) (e : Expression) (k : Kind) → LeftOf is_text sign s t e k → LeftBuilt s t (stored_of is_text sign s line e)
+  side_built true assignment.Value line e k a = text_left (result_meant s e) e line refl a.1
+  side_built true assignment.Reference line e k a = left_built e (Simply k) a
+  side_built false assignment.Value line e k a = left_built e (Simply k) a
+  side_built false assignment.Reference line e k a = reference_left e a.1
+
+  -- ---- the variable of a `for` list
+
+  data InPlace : Stored → Type 0 where
+    in_cell : (home : ℕ) (key : Key) → KeyBuilt s t home key → InPlace (InCell home key)
+    at_place : (e : Expression) → PlaceBuilt s t e → InPlace (AtAttribute e)
+
+  formal_alone : (d : DeclNo) (line : ℕ) (m : Mode) (f : FormalKind) → LeftBuilt s t (stored_formal s d NoMore line m f) → InPlace (stored_formal s d NoMore line m f)
+  formal_alone d line mode.ByName f b = absurd b
+  formal_alone d line mode.ByValue shape.Simple b = in_cell (block_of s d) (Declared d.0) b
+  formal_alone d line mode.ByReference shape.Simple b = in_cell (block_of s d) (Declared d.0) b
+  formal_alone d line mode.ByValue shape.Array b = absurd b
+  formal_alone d line mode.ByReference shape.Array b = absurd b
+  formal_alone d line mode.ByValue shape.Procedure b = absurd b
+  formal_alone d line mode.ByReference shape.Procedure b = absurd b
+
+  entry_alone : (d : DeclNo) (line : ℕ) (y : Option Entry) → LeftBuilt s t (stored_declared s d NoMore line y) → InPlace (stored_declared s d NoMore line y)
+  entry_alone d line (Some (entry.Variable ty)) b = in_cell (block_of s d) (Declared d.0) b
+  entry_alone d line (Some (entry.Array ty n)) b = absurd b
+  entry_alone d line (Some (entry.Formal f)) b = formal_alone d line f.mode f.kind b
+  entry_alone d line (Some (entry.Procedure r k)) b = in_cell k Result b
+  entry_alone d line None b = absurd b
+  entry_alone d line (Some _) b = absurd b
+
+  named_alone : (y : Option Denotation) (line : ℕ) → LeftBuilt s t (stored_named s y NoMore line) → InPlace (stored_named s y NoMore line)
+  named_alone None line b = absurd b
+  named_alone (Some (denotation.Declared d)) line b = entry_alone d line (entry_of s.tables d) b
+  named_alone (Some (denotation.Standard n)) line b = absurd b
+
+  found_alone : (c : Option ℕ) (e : Expression) (y : Option Denotation) (line : ℕ) → LeftBuilt s t (stored_found c e (stored_named s y NoMore line)) → InPlace (stored_found c e (stored_named s y NoMore line))
+  found_alone None e y line b = named_alone y line b
+  found_alone (Some k) e y line b = at_place e b
+
+  abbrev pub Controls : Option Variable → (Steps : Type 0) → Type 0
+  Controls None Steps = ⊥
+  Controls (Some v) Steps = VariableBuilt s t v × (Steps → StepsBuilt v)
+
+  stored_controls : (left : Stored) (assigned : Option ℕ) → InPlace left → Controls (variable_stored left assigned) (assigned ≡ None)
+  stored_controls _ None (in_cell home key b) = (b, λ e. tt)
+  stored_controls _ (Some n) (in_cell home key b) = (b, λ e. absurd (cc))
+  stored_controls _ None (at_place e b) = (b, λ e. tt)
+  stored_controls _ (Some n) (at_place e b) = (b, λ e. absurd (cc))
+
+  with_steps : (v : Option Variable) (First Second : Type 0) → (Second → First) → Controls v First → Controls v Second
+  with_steps None First Second f c = absurd c
+  with_steps (Some v) First Second f c = (c.0, λ z. c.1 (f z))
+
+  left_controls : (name : Identifier) (assigned : Option ℕ) (h : Holds) → LeftIs s t (syntax.Named name NoMore) h → Controls (variable_stored (stored_left s (syntax.Named name NoMore)) assigned) (assigned ≡ None)
+  left_controls name assigned h a =
+      stored_controls (stored_left s (syntax.Named name NoMore)) assigned (found_alone (connection_at s name.token.0) (syntax.Named name NoMore) (denoted s name.token.0) (line_at s name.token.0) (left_built (syntax.Named name NoMore) h a))
+
+  -- a step element is over integers alone
+  pub controls : (is_text : Bool) (sign : Assignment) (line : ℕ) (name : Identifier) (k : Kind) → ControlIs is_text sign s t (syntax.Named name NoMore) k
+      → Controls (variable_of s line (syntax.Named name NoMore) (assigned_by is_text sign line)) (k ≡ kind.Integer)
+  controls true assignment.Value line name k a = with_steps (variable_stored (stored_left s (syntax.Named name NoMore)) (Some line)) (Some line ≡ None) (k ≡ kind.Integer) (λ e. let t = a.0 in absurd (cc)) (left_controls name (Some line) (Simply k) a.1)
+  controls true assignment.Reference line name k a = with_steps (variable_stored (stored_left s (syntax.Named name NoMore)) None) (None ≡ None) (k ≡ kind.Integer) (λ e. refl) (left_controls name None (Simply k) a)
+  controls false assignment.Value line name k a = with_steps (variable_stored (stored_left s (syntax.Named name NoMore)) None) (None ≡ None) (k ≡ kind.Integer) (λ e. refl) (left_controls name None (Simply k) a)
+  controls false assignment.Reference line name k a = (reference_left (syntax.Named name NoMore) a.1, λ e. let r = a.0 in absurd (cc))

@@ -1,0 +1,162 @@
+-- A reference that is passed on is held against a class: it is put into a temp at an address with the class, and taken from there.
+use Rattle.std.proofs.Common.{◌≡◌, ◌≤◌, ℕ, suc, Bool, true, false, List, ◌∷◌, length, Some, refl, sym, ap, ◌∙◌, subst, arith}
+use Rattle.std.specs.Prelude.{pos, if◌then◌else◌}
+use Rattle.sim_base.specs.declared.limits.Limits.{Limits}
+use Rattle.sim_base.specs.declared.run_error.RunError.TheVariants.{OutsideQualification}
+use Rattle.sim_scope.specs.Source.{Source, level_of}
+use Rattle.sim_values.specs.Plain.{Character, Integer, Nothing, Object, Plain, Text, Truth}
+use Rattle.sim_code.specs.declared.instr.Instr.TheVariants as i
+use Rattle.sim_code.specs.Classes as classes
+use Rattle.sim_code.specs.Code.{CodeOf}
+use Rattle.sim_code.specs.Outcome.{Going, Run, RunFault, World}
+use Rattle.sim_code.specs.Events.{choosing, having, pop_plain, popping, qualifying, stopping}
+use Rattle.sim_code.specs.Machine.{Frames, Machine, Value}
+use Rattle.sim_code.specs.Machine as machine
+use Rattle.sim_code.specs.Instances.{CellPlace, at_level}
+use Rattle.sim_code.specs.Rows.{mstep}
+use Rattle.sim_code.proofs.Lifts.{alike_unruled}
+use Rattle.sim_meaning.specs.Levels.{is_in}
+use Rattle.sim_meaning.specs.Meaning.{do_op}
+use Rattle.sim_meaning.specs.Objects.{fitted}
+use Rattle.sim_meaning.specs.Pending.{Activation, Configuration, FitsOp, Instances, Item, Val, plain}
+use Rattle.sim_meaning.specs.Pending as meaning
+use Rattle.sim_meaning.specs.Sane.{IsObject, LastNames, Names}
+use Rattle.sim_meaning.specs.Steps.{go}
+use Rattle.codegen_expr.specs.Sites.{class_number, frame_text, own_part}
+use Rattle.sim_relate.proofs.ClassLevels.{class_levels, counts, levelled, number_is}
+use Rattle.sim_relate.proofs.Hands.{stack_length}
+use Rattle.sim_relate.proofs.Here.{Here, goes, kinds_as}
+use Rattle.sim_relate.proofs.Known.{HandAt, Kind, Runs, StackAt, ValAt, anys, array_at, element_at, image_at, link_at, more_at, plain_at, site_at}
+use Rattle.sim_relate.proofs.Living.{own_level}
+use Rattle.sim_relate.proofs.Moved.{moved, work_moved}
+use Rattle.sim_relate.proofs.Plainly.{Coding}
+use Rattle.sim_relate.proofs.Ranked.{Follows, InEach, Meets, at_once, both_stopping, caught, in_steps, lags, simply}
+use Rattle.sim_relate.proofs.References.{class_named, in_class_same, object_here}
+use Rattle.sim_relate.proofs.Relation.{ChainAt, OpAt, StateAt, StoreAt, WorkAt}
+use Rattle.sim_relate.proofs.Silent.{addr_row, matched, place_at, put_row, put_stops, silent, steps_to, swap_row}
+use Rattle.sim_relate.proofs.Stores.{levels_same, temp_written}
+use Rattle.sim_relate.proofs.Straight.{load_row, step_at}
+use Rattle.sim_relate.proofs.Trees.{Classed, FitsIs}
+
+module _ (s : Source) (code : CodeOf) (coding : Coding s code) where
+  -- the number of a class is not 0
+  pub class_counts : (c : ℕ) → Classed s c → (n : ℕ) × (class_number s code c ≡ suc n)
+  class_counts c h =
+      let x = levelled s code coding c (class_levels s code coding c h) in
+      let y = counts s code coding c x in
+      (y.0, number_is s code coding c x ∙ y.1)
+
+  -- where the class of an address is one, the value is held against it
+  admitting_is : (fs : Frames) (c line : ℕ) → Classed s c → (v : Value) (o : World) (z : Run Machine) → classes.admitting code fs line (class_number s code c) v o z ≡ classes.qualifying line (classes.may_stand code fs (class_number s code c) (machine.plain v)) o z
+  admitting_is fs c line h v o z =
+      let e = class_counts c h in
+      subst (λ d. classes.admitting code fs line d v o z ≡ classes.qualifying line (classes.may_stand code fs d (machine.plain v)) o z) (sym e.1) refl
+
+  module _ (m : Instances) (fs : Frames) (store : StoreAt s code m fs) (o : World) (c line j : ℕ) (h : Classed s c) (n : IsObject s m j) where
+    -- an object is in the class on both sides, or on neither
+    tested : (b : Bool) → is_in s m c j ≡ b → (z : Run Machine) → classes.admitting code fs line (class_number s code c) (machine.Of (Object j)) o z ≡ (if b then z else stopping (RunFault OutsideQualification line) o)
+    unfolding having choosing
+    tested b e z =
+        admitting_is fs c line h (machine.Of (Object j)) o z ∙
+        ap (λ x. classes.qualifying line x o z) (in_class_same s code coding m fs store j c (object_here s code coding m fs store j n) h ∙ ap Some e)
+
+    qualified : (b : Bool) → is_in s m c j ≡ b → (r : Run Configuration) → qualifying line (is_in s m c) (Object j) o r ≡ (if b then r else stopping (RunFault OutsideQualification line) o)
+    unfolding qualifying
+    qualified b e r = ap (λ x. if x then r else stopping (RunFault OutsideQualification line) o) e
+
+  none_admitted : (fs : Frames) (o : World) (c line : ℕ) → Classed s c → (z : Run Machine) → classes.admitting code fs line (class_number s code c) (machine.Of Nothing) o z ≡ z
+  unfolding having choosing
+  none_admitted fs o c line h z = admitting_is fs c line h (machine.Of Nothing) o z
+
+module _ (s : Source) (code : CodeOf) (coding : Coding s code) (l : Limits) (o : World) (m : Instances) (inst : ℕ) (w : List Item) (vals : List Val) (rest : List Activation) (fs : Frames) (t : ℕ) (b : Runs) (pc : ℕ) (stack : List Value) (below : List machine.Activation) (ks : List Kind) (here : Here s code m fs inst rest t b ks vals stack) (u q : ℕ) (ks' : List Kind) (low : length (own_part s (frame_text s t)) ≤ u) (k : WorkAt s code m fs (λ v. ChainAt s code m fs rest v below) inst t b u w q ks') where
+  abbrev R : Configuration → Machine → Type 0
+  R = StateAt s code
+
+  abbrev g : World → Machine → Run Machine
+  g = mstep code l
+
+  abbrev at : ℕ → List Value → Frames → Machine
+  at p stack' fs' = place_at code l inst b below p stack' fs'
+
+  module _ (c line : ℕ) (left : List Kind) (out : ks' ≡ anys 1 left) (a : FitsIs s code (site_at t b u) (length left) c line pc q) (p : Plain) (vals' : List Val) (stack' : List Value) (hs : StackAt (HandAt s code m) left vals' stack') where
+    abbrev x : Value
+    x = machine.Of p
+
+    abbrev lev : ℕ
+    lev = level_of s t
+
+    abbrev address : Value
+    address = machine.Address (CellPlace inst a.temp (class_number s code c))
+
+    abbrev onward : Run Configuration
+    onward = go o m inst w (meaning.Of p ∷ vals') rest
+
+    deep : length left ≡ length stack'
+    deep = stack_length left vals' stack' hs
+
+    own_frame : (f : Frames) → StoreAt s code m f → at_level f lev inst ≡ Some inst
+    own_frame f store = levels_same s code store lev inst ∙ own_level s m inst t here.stands here.lives
+
+    -- to where it is put
+    comes : {r : Run Configuration} → Meets g (InEach R) r o (at a.y (x ∷ address ∷ stack') fs) → Meets g (InEach R) r o (at pc (x ∷ stack') fs)
+    comes more =
+        let n = class_counts s code coding c a.is_class in
+        let is = a.address.is in
+        let fits = a.address.fits in
+        let e = deep in
+        silent code l inst b below R _ is.is (addr_row code l inst b below is.line fs o pc (x ∷ stack') lev a.temp (class_number s code c) n.0 n.1 (class_named s code coding m fs here.store c a.is_class) (own_frame fs here.store) (omega (arith, e, fits)))
+        (silent code l inst b below R i.Swap a.under.is (swap_row code l inst b below a.under.line fs o a.x address x stack') more)
+
+    passes : ((z : Run Machine) → classes.admitting code fs line (class_number s code c) x o z ≡ z) → Meets g (InEach R) onward o (at pc (x ∷ stack') fs)
+    passes admitted =
+        let r = temp_written s code m fs inst t b a.temp x here.store here.stands here.lives here.found (omega (arith, low, a.unused)) a.within in
+        let load = a.again.is in
+        let fits = a.again.fits in
+        let e = deep in
+        comes
+        (matched code l inst b below R (Going o (at a.z stack' r.frames)) (steps_to code l inst b below (x ∷ address ∷ stack') stack' fs r.frames o o i.Put a.put (put_row code l inst b below line fs r.frames o a.y x stack' inst a.temp (class_number s code c) admitted r.is))
+        (lags (steps_to code l inst b below stack' (x ∷ stack') r.frames r.frames o o (i.Load (pos lev) (pos a.temp)) load.is (load_row code l load.line inst b below r.frames o a.z stack' lev a.temp x (own_frame r.frames r.changed.store) r.reads (omega (arith, e, fits)))) refl
+        (caught (simply (λ p same. absurd (cc (same)))
+        (goes s code u q (moved s code r.changed here.kept_alone here (kinds_as s code (sym out) (more_at (plain_at {p = p}) hs)))
+        (work_moved s code r.changed here here.alone below u (λ n le lt. r.others n (λ same. (let no : ⊥ = omega (arith, same, lt, a.unused) in no))) w q ks' k) refl)))))
+
+    refused : ((z : Run Machine) → classes.admitting code fs line (class_number s code c) x o z ≡ stopping (RunFault OutsideQualification line) o) → Meets g (InEach R) (stopping (RunFault OutsideQualification line) o) o (at pc (x ∷ stack') fs)
+    refused stops =
+        comes
+        (matched code l inst b below R _ (step_at code l line inst b below i.Put a.y a.z o (x ∷ address ∷ stack') fs _ a.put (put_stops code l inst b below line fs o a.y x stack' inst a.temp (class_number s code c) (RunFault OutsideQualification line) stops))
+        (caught (both_stopping (RunFault OutsideQualification line) o)))
+
+  abbrev fitting : (c line : ℕ) → Plain → List Val → Run Configuration
+  fitting c line p vals' = qualifying line (is_in s m c) p o (go o m inst w (meaning.Of p ∷ vals') rest)
+
+  in_class : (c line : ℕ) (left : List Kind) → ks' ≡ anys 1 left → (a : FitsIs s code (site_at t b u) (length left) c line pc q) (j : ℕ) → IsObject s m j → (vals' : List Val) (stack' : List Value) → StackAt (HandAt s code m) left vals' stack' → (y : Bool) → is_in s m c j ≡ y → Follows g R (fitting c line (Object j) vals') o (at pc (machine.Of (Object j) ∷ stack') fs)
+  in_class c line left out a j n vals' stack' hs true e =
+      in_steps (subst (λ z. Meets g (InEach R) z o (at pc (machine.Of (Object j) ∷ stack') fs)) (sym (qualified s code coding m fs here.store o c line j a.is_class n true e (go o m inst w (meaning.Of (Object j) ∷ vals') rest)))
+      (passes c line left out a (Object j) vals' stack' hs (tested s code coding m fs here.store o c line j a.is_class n true e)))
+  in_class c line left out a j n vals' stack' hs false e =
+      in_steps (subst (λ z. Meets g (InEach R) z o (at pc (machine.Of (Object j) ∷ stack') fs)) (sym (qualified s code coding m fs here.store o c line j a.is_class n false e (go o m inst w (meaning.Of (Object j) ∷ vals') rest)))
+      (refused c line left out a (Object j) vals' stack' hs (tested s code coding m fs here.store o c line j a.is_class n false e)))
+
+  held : (c line : ℕ) (left : List Kind) → ks' ≡ anys 1 left → (a : FitsIs s code (site_at t b u) (length left) c line pc q) (p : Plain) → Names s m (meaning.Of p) → (vals' : List Val) (stack' : List Value) → StackAt (HandAt s code m) left vals' stack' → Follows g R (fitting c line p vals') o (at pc (machine.Of p ∷ stack') fs)
+  unfolding qualifying
+  held c line left out a (Object j) n vals' stack' hs = in_class c line left out a j n vals' stack' hs (is_in s m c j) refl
+  held c line left out a Nothing n vals' stack' hs = in_steps (passes c line left out a Nothing vals' stack' hs (none_admitted s code coding fs o c line a.is_class))
+  held c line left out a (Integer z) n vals' stack' hs = at_once (alike_unruled Configuration Machine R o _)
+  held c line left out a (Truth z) n vals' stack' hs = at_once (alike_unruled Configuration Machine R o _)
+  held c line left out a (Character z) n vals' stack' hs = at_once (alike_unruled Configuration Machine R o _)
+  held c line left out a (Text z) n vals' stack' hs = at_once (alike_unruled Configuration Machine R o _)
+
+  by_value : (c line : ℕ) (left : List Kind) → ks' ≡ anys 1 left → (a : FitsIs s code (site_at t b u) (length left) c line pc q) (v : Val) (x : Value) → ValAt v x → Names s m v → (vals' : List Val) (stack' : List Value) → StackAt (HandAt s code m) left vals' stack' → Follows g R (having (plain v) o (λ p. fitting c line p vals')) o (at pc (x ∷ stack') fs)
+  unfolding having
+  by_value c line left out a _ _ (plain_at {p}) n vals' stack' hs = held c line left out a p n vals' stack' hs
+  by_value c line left out a _ _ link_at n vals' stack' hs = at_once (alike_unruled Configuration Machine R o _)
+  by_value c line left out a _ _ array_at n vals' stack' hs = at_once (alike_unruled Configuration Machine R o _)
+  by_value c line left out a _ _ element_at n vals' stack' hs = at_once (alike_unruled Configuration Machine R o _)
+  by_value c line left out a _ _ image_at n vals' stack' hs = at_once (alike_unruled Configuration Machine R o _)
+
+  in_hand : (c line : ℕ) (left : List Kind) → ks' ≡ anys 1 left → (a : FitsIs s code (site_at t b u) (length left) c line pc q) (vs : List Val) (xs : List Value) → LastNames s m vs → StackAt (HandAt s code m) (anys 1 left) vs xs → Follows g R (fitted s o m inst w vs rest c line) o (at pc xs fs)
+  unfolding pop_plain popping
+  in_hand c line left out a _ _ n (more_at {v = v} {vals = vals'} {x = x} {stack = stack'} h hs) = by_value c line left out a v x h n vals' stack' hs
+
+  pub fits : (c line : ℕ) → OpAt s code m fs inst (site_at t b u) (FitsOp c line) pc q ks ks' → Follows g R (do_op s l o m inst w vals rest (FitsOp c line)) o (at pc stack fs)
+  fits c line a = in_hand c line a.left a.out a.fits vals stack here.names (kinds_as s code a.«in» here.values)

@@ -1,0 +1,339 @@
+-- Values in hand, instances and their frames: what is known of both sides.
+use Rattle.std.proofs.Common.{◌≡◌, ◌⊎◌, ◌<◌, ◌≤◌, ℕ, suc, zero, Bool, true, false, List, [], ◌∷◌, length, Option, Some, None, refl, sym, ap}
+use Rattle.std.specs.Prelude.{⊤, slice_get}
+use Rattle.sim_scope.specs.Access.{encloser}
+use Rattle.sim_scope.specs.Scopes.{entry_of}
+use Rattle.sim_scope.specs.Source.{Source, level_of}
+use Rattle.sim_values.specs.Plain.{Object, Plain}
+use Rattle.sim_values.specs.Standard.{row_of}
+use Rattle.sim_code.specs.declared.stage.Stage.{Stage}
+use Rattle.sim_code.specs.Code.{BlockOf, CodeOf}
+use Rattle.sim_code.specs.Instances.{CellPlace, ElementPlace, ImagePlace, Instance, Memory, at_level, found_at}
+use Rattle.sim_code.specs.Instances as instances
+use Rattle.sim_code.specs.Machine.{Frames, Value, Cells}
+use Rattle.sim_code.specs.Machine as machine
+use Rattle.sim_code.proofs.Lifts.{Both}
+use Rattle.sim_meaning.specs.Pending.{AttributeOf, CallOf, Connection, Declared, Held, Instances, Key, PlaceOf, QualifiedElementOf, QualifiedPlaceOf, RemoteCallOf, StandardOf, Target, Term, ToCell, ToPlace, ToTextAt, ToTextOf, Unbuilt, Val}
+use Rattle.sim_meaning.specs.Pending as meaning
+use Rattle.sim_meaning.specs.Meaning.{has_result}
+use Rattle.sim_meaning.specs.Objects.{constant_cell}
+use Rattle.sim_meaning.specs.Statements.{has_value}
+use Rattle.sim_meaning.specs.Texts.{ProcedureText, Text, constant_of, text}
+use Rattle.codegen_expr.specs.Sites.{HasCell, Site, class_number, frame_text, own_part, slot_of}
+pub use Rattle.codegen_expr.specs.Sites.{is_constant}
+
+-- ---- values
+
+-- What is known of a value in hand: that it is a link to an instance of a text, or the object as such a link; that it is where a cell lies, or
+-- where a reference of a class lies, or a constant of an object; or that it is none of these.
+pub data Kind : Type 0 where
+  Any : Kind
+  Located : Kind
+  LinkTo : (text : ℕ) → Kind
+  OwnerOf : (text : ℕ) → Kind
+  Refers : (class : ℕ) → Kind
+  FixedOf : (declaration : ℕ) → Kind
+
+-- a link to an instance of a text, for a call
+abbrev pub IsLink : Kind → (text : ℕ) → Type 0
+IsLink (LinkTo u) text = u ≡ text
+IsLink (OwnerOf u) text = u ≡ text
+IsLink _ text = ⊥
+
+-- so many values more
+abbrev pub anys : ℕ → List Kind → List Kind
+anys zero ks = ks
+anys (suc n) ks = Any ∷ anys n ks
+
+-- one value more, or none
+abbrev pub given : Bool → List Kind → List Kind
+given true ks = Any ∷ ks
+given false ks = ks
+
+-- operands that may be addresses: so many values of the first kinds, before others
+abbrev pub IsRead : Kind → Type 0
+IsRead Any = ⊤
+IsRead Located = ⊤
+IsRead _ = ⊥
+
+abbrev pub AllRead : ℕ → List Kind → List Kind → Type 0
+AllRead zero ks left = ks ≡ left
+AllRead (suc n) [] left = ⊥
+AllRead (suc n) (k ∷ ks) left = IsRead k × AllRead n ks left
+
+-- Whether the evaluation of a tree leaves a value that may lie in a cell: a procedure or a standard name may have no result, and where a
+-- cell lies is no such value.
+abbrev pub text_gives : Option Text → Bool
+text_gives (Some (ProcedureText result h a)) = has_result result
+text_gives _ = false
+
+abbrev pub gives : Source → Term → Bool
+gives s (CallOf j k ts line) = text_gives (text s k)
+gives s (RemoteCallOf a k ts line) = text_gives (text s k)
+gives s (StandardOf name ts line) = has_value (row_of name).result
+gives s (PlaceOf j key) = false
+gives s (AttributeOf text key class line a) = false
+gives s (QualifiedPlaceOf j key k) = false
+gives s (QualifiedElementOf line k a ts) = false
+gives s _ = true
+
+-- whether a cell is that of a constant
+abbrev pub is_fixed : Source → Key → Bool
+is_fixed s (Declared d) = is_constant (entry_of s.tables (record { 0 = d }))
+is_fixed s _ = false
+
+abbrev pub kind_unless : (fixed : Bool) → (declaration : ℕ) → Kind
+kind_unless true d = FixedOf d
+kind_unless false d = Located
+
+abbrev pub attribute_kind : Source → Key → (class : Option ℕ) → Kind
+attribute_kind s key (Some k) = Refers k
+attribute_kind s (Declared d) None = kind_unless (is_fixed s (Declared d)) d
+attribute_kind s key None = Located
+
+-- where a variable lies that a tree tells
+abbrev pub place_kind : Source → Term → Option Kind
+place_kind s (PlaceOf j key) = Some Located
+place_kind s (AttributeOf text key class line a) = Some (attribute_kind s key class)
+place_kind s (QualifiedPlaceOf j key k) = Some (Refers k)
+place_kind s (QualifiedElementOf line k a ts) = Some (Refers k)
+place_kind s _ = None
+
+abbrev pub with_kind : Bool → Option Kind → List Kind → List Kind
+with_kind g None ks = given g ks
+with_kind g (Some k) ks = k ∷ ks
+
+-- the values in hand behind its evaluation, and whether it can be an operand of a standard name
+abbrev pub leaving : Source → Term → List Kind → List Kind
+leaving s t ks = with_kind (gives s t) (place_kind s t) ks
+
+-- of what is not built nothing is known
+abbrev pub LeavesIs : Source → Term → (before behind : List Kind) → Type 0
+LeavesIs s Unbuilt before behind = ⊤
+LeavesIs s t before behind = behind ≡ leaving s t before
+
+pub leaves_is : (s : Source) (t : Term) (before : List Kind) → LeavesIs s t before (leaving s t before)
+leaves_is s Unbuilt before = tt
+leaves_is s t before = refl
+
+pub leaves_as : (s : Source) (t : Term) (before behind : List Kind) → behind ≡ leaving s t before → LeavesIs s t before behind
+leaves_as s Unbuilt before behind e = tt
+leaves_as s t before behind e = e
+
+abbrev pub is_read : Kind → Bool
+is_read Any = true
+is_read Located = true
+is_read _ = false
+
+abbrev pub reads_kind : Bool → Option Kind → Bool
+reads_kind g None = g
+reads_kind g (Some k) = is_read k
+
+abbrev pub reads : Source → Term → Bool
+reads s t = reads_kind (gives s t) (place_kind s t)
+
+-- what an operand leaves, and what an operand of a standard name does
+pub leaves_any : (s : Source) (x : Term) (ks : List Kind) → gives s x ≡ true → LeavesIs s x ks (Any ∷ ks)
+leaves_any s (PlaceOf j key) ks e = absurd (cc)
+leaves_any s (AttributeOf text key class line a) ks e = absurd (cc)
+leaves_any s (QualifiedPlaceOf j key k) ks e = absurd (cc)
+leaves_any s (QualifiedElementOf line k a ts) ks e = absurd (cc)
+leaves_any s Unbuilt ks e = tt
+leaves_any s x ks e = ap (λ g. given g ks) (sym e)
+
+pub read_kind : (k : Kind) → is_read k ≡ true → IsRead k
+read_kind Any e = tt
+read_kind Located e = tt
+read_kind (LinkTo text) e = absurd (cc)
+read_kind (OwnerOf text) e = absurd (cc)
+read_kind (Refers class) e = absurd (cc)
+read_kind (FixedOf d) e = absurd (cc)
+
+pub leaves_read : (s : Source) (x : Term) (ks : List Kind) → reads s x ≡ true → (k : Kind) × IsRead k × LeavesIs s x ks (k ∷ ks)
+leaves_read s (PlaceOf j key) ks e = (Located, tt, refl)
+leaves_read s (AttributeOf text key class line a) ks e = (attribute_kind s key class, read_kind (attribute_kind s key class) e, refl)
+leaves_read s (QualifiedPlaceOf j key k) ks e = absurd (cc)
+leaves_read s (QualifiedElementOf line k a ts) ks e = absurd (cc)
+leaves_read s Unbuilt ks e = (Any, tt, tt)
+leaves_read s x ks e = (Any, tt, ap (λ g. given g ks) (sym e))
+
+-- the kind of what is left, where that can be read
+abbrev pub left_kind : Option Kind → Kind
+left_kind None = Any
+left_kind (Some k) = k
+
+pub kind_read : (s : Source) (x : Term) → reads s x ≡ true → IsRead (left_kind (place_kind s x))
+kind_read s x e = by_parts (gives s x) (place_kind s x) e
+  where
+    by_parts : (g : Bool) (o : Option Kind) → reads_kind g o ≡ true → IsRead (left_kind o)
+    by_parts g None e = tt
+    by_parts g (Some k) e = read_kind k e
+
+pub leaves_kind : (s : Source) (x : Term) (ks : List Kind) → reads s x ≡ true → LeavesIs s x ks (left_kind (place_kind s x) ∷ ks)
+leaves_kind s x ks e = leaves_as s x ks (left_kind (place_kind s x) ∷ ks) (by_parts (gives s x) (place_kind s x) e)
+  where
+    by_parts : (g : Bool) (o : Option Kind) → reads_kind g o ≡ true → left_kind o ∷ ks ≡ with_kind g o ks
+    by_parts true None e = refl
+    by_parts false None e = absurd (cc)
+    by_parts g (Some k) e = refl
+
+pub read_given : (s : Source) (x : Term) → gives s x ≡ true → reads s x ≡ true
+read_given s (PlaceOf j key) e = absurd (cc)
+read_given s (AttributeOf text key class line a) e = absurd (cc)
+read_given s (QualifiedPlaceOf j key k) e = absurd (cc)
+read_given s (QualifiedElementOf line k a ts) e = absurd (cc)
+read_given s x e = e
+
+pub data ValAt : Val → Value → Type 0 where
+  plain_at : {p : Plain} → ValAt (meaning.Of p) (machine.Of p)
+  link_at : {j : ℕ} → ValAt (meaning.Link j) (machine.Link j)
+  array_at : {a : ℕ} → ValAt (meaning.ArrayValue a) (machine.ArrayValue a)
+  element_at : {a n : ℕ} → ValAt (meaning.Address (ElementPlace a n None)) (machine.Address (ElementPlace a n 0))
+  image_at : {n : ℕ} → ValAt (meaning.Address (ImagePlace n)) (machine.Address (ImagePlace n))
+
+-- values in hand of these kinds and values on the stack, one by one
+pub data StackAt {V X : Type 0} (W : Kind → V → X → Type 0) : List Kind → List V → List X → Type 0 where
+  none_at : StackAt W [] [] []
+  more_at : {k : Kind} {ks : List Kind} {v : V} {vals : List V} {x : X} {stack : List X} → W k v x → StackAt W ks vals stack → StackAt W (k ∷ ks) (v ∷ vals) (x ∷ stack)
+
+-- A cell of an instance, and its slot in the frame: that of a constant is never looked at, and has the constant's value if it has one.
+abbrev pub fixed_value : Source → Key → Option Val
+fixed_value s (Declared d) = constant_cell (constant_of s (record { 0 = d }))
+fixed_value s _ = None
+
+abbrev pub SlotAt : Source → (fixed : Bool) → Key → Option Val → Option Value → Type 0
+SlotAt s true key v c = (v ≡ None) ⊎ (v ≡ fixed_value s key)
+SlotAt s false key v c = Both ValAt v c
+
+-- cells of connections are made when an object is connected; all others are there from the entry on
+abbrev pub is_declared : Key → Bool
+is_declared (Connection token) = false
+is_declared _ = true
+
+-- ---- instances
+
+-- What is found by a level from an instance outward, given back or not.
+abbrev pub seen_within : {C A : Type 0} → ℕ → Memory C A → (level j : ℕ) → Option ℕ
+seen_within zero m level j = None
+seen_within (suc n) m level j = found_at level (seen_within n m level) j (slice_get m.instances j)
+
+unfoldable pub seen_at : {C A : Type 0} → Memory C A → (level j : ℕ) → Option ℕ
+seen_at m level j = seen_within (suc j) m level j
+
+-- An instance stands for a text: it is of the text in whose frames lies what that text has, and has its level; and its encloser, which was
+-- entered before it, stands for the text around its own. Whether it was given back is not asked: so it stands for the text in all later
+-- stores.
+pub data Stands (s : Source) (m : Instances) : (instance text : ℕ) → Type 0 where
+  outermost : {j t : ℕ} {x : Instance (List Held)} → slice_get m.instances j ≡ Some x → x.text ≡ frame_text s t → x.level ≡ level_of s t → x.encloser ≡ None → encloser s.tables (frame_text s t) ≡ None → Stands s m j t
+  inside : {j t e u : ℕ} {x : Instance (List Held)} → slice_get m.instances j ≡ Some x → x.text ≡ frame_text s t → x.level ≡ level_of s t → x.encloser ≡ Some e → encloser s.tables (frame_text s t) ≡ Some u → e < j → Stands s m e u → Stands s m j t
+
+-- two texts with the same frames
+pub record SameFrame (s : Source) (v t : ℕ) : Type 0 where
+  pub frame : frame_text s v ≡ frame_text s t
+  pub level : level_of s v ≡ level_of s t
+
+-- what is seen from an instance outward: the instance in which a declaration of a text lies
+pub record Reaches (s : Source) (m : Instances) (from text instance : ℕ) : Type 0 where
+  pub found : seen_at m (level_of s text) from ≡ Some instance
+  pub stands : Stands s m instance text
+
+-- and code finds it
+abbrev pub Finds : Source → Instances → (from text : ℕ) → Type 0
+Finds s m from text = (j : ℕ) × Reaches s m from text j × (at_level m (level_of s text) from ≡ Some j)
+
+-- a link in hand
+pub record LinkIs (s : Source) (m : Instances) (text : ℕ) (v : Val) (x : Value) : Type 0 where
+  pub instance : ℕ
+  pub is_val : v ≡ meaning.Link instance
+  pub is_value : x ≡ machine.Link instance
+  pub stands : Stands s m instance text
+
+-- an object in hand as such a link
+pub record OwnerIs (s : Source) (m : Instances) (text : ℕ) (v : Val) (x : Value) : Type 0 where
+  pub instance : ℕ
+  pub is_val : v ≡ meaning.Link instance
+  pub is_value : x ≡ machine.Of (Object instance)
+  pub stands : Stands s m instance text
+
+-- where a cell lies that is no constant's
+pub record PlaceIs (s : Source) (code : CodeOf) (m : Instances) (v : Val) (x : Value) : Type 0 where
+  pub instance : ℕ
+  pub text : ℕ
+  pub key : Key
+  pub is_val : v ≡ meaning.Address (CellPlace instance key None)
+  pub is_value : x ≡ machine.Address (CellPlace instance (slot_of s code text key) 0)
+  pub stands : Stands s m instance text
+  pub own : frame_text s text ≡ text
+  pub has : HasCell s text key
+  pub varies : is_fixed s key ≡ false
+  pub declared : is_declared key ≡ true
+
+-- where a reference of a class lies
+pub data RefersAt (s : Source) (code : CodeOf) (m : Instances) (k : ℕ) : Val → Value → Type 0 where
+  refers_cell : {j t : ℕ} {key : Key} → Stands s m j t → frame_text s t ≡ t → HasCell s t key → is_fixed s key ≡ false → is_declared key ≡ true → RefersAt s code m k (meaning.Address (CellPlace j key (Some k))) (machine.Address (CellPlace j (slot_of s code t key) (class_number s code k)))
+  refers_element : {a n : ℕ} → RefersAt s code m k (meaning.Address (ElementPlace a n (Some k))) (machine.Address (ElementPlace a n (class_number s code k)))
+
+-- a constant of an object: the object itself
+pub record FixedIs (s : Source) (m : Instances) (d : ℕ) (v : Val) (x : Value) : Type 0 where
+  pub instance : ℕ
+  pub text : ℕ
+  pub is_val : v ≡ meaning.Address (CellPlace instance (Declared d) None)
+  pub is_value : x ≡ machine.Of (Object instance)
+  pub stands : Stands s m instance text
+  pub own : frame_text s text ≡ text
+  pub has : HasCell s text (Declared d)
+  pub fixed : is_fixed s (Declared d) ≡ true
+
+abbrev pub HandAt : Source → CodeOf → Instances → Kind → Val → Value → Type 0
+HandAt s code m Any v x = ValAt v x
+HandAt s code m Located v x = PlaceIs s code m v x
+HandAt s code m (LinkTo text) v x = LinkIs s m text v x
+HandAt s code m (OwnerOf text) v x = OwnerIs s m text v x
+HandAt s code m (Refers k) v x = RefersAt s code m k v x
+HandAt s code m (FixedOf d) v x = FixedIs s m d v x
+
+-- what the later of two stores keeps of the instances: what they stand for, and what is found from them outward
+pub record Later (s : Source) (m m' : Instances) : Type 0 where
+  pub stands : (j t : ℕ) → Stands s m j t → Stands s m' j t
+  pub same : (level j t : ℕ) → Stands s m j t → seen_at m' level j ≡ seen_at m level j
+
+-- what is in a cell of a frame, given back or not
+abbrev pub placed_in : Option (Instance Cells) → ℕ → Option Value
+placed_in x c = machine.value_in (instances.cells_in x) c
+
+abbrev pub placed : Frames → (frame cell : ℕ) → Option Value
+placed fs j c = placed_in (slice_get fs.instances j) c
+
+-- what it keeps of the frames of some instances: the temps, which stand behind the own part of the text
+pub record Keeps (s : Source) (m : Instances) (fs fs' : Frames) (Of : ℕ → Type 0) : Type 0 where
+  pub temps : (j t c : ℕ) → Of j → Stands s m j t → length (own_part s (frame_text s t)) ≤ c → placed fs' j c ≡ placed fs j c
+
+-- What an activation runs: the code of a block, and the stage at which it is.
+pub record Runs : Type 0 where
+  pub block : BlockOf
+  pub stage : Stage
+
+abbrev pub at_stage : BlockOf → Stage → Runs
+at_stage block stage = record { block = block; stage = stage }
+
+-- every instance
+abbrev pub Every : ℕ → Type 0
+Every j = ⊤
+
+-- the site in a text's code where so many cells and temps are in use
+abbrev pub site_at : (text : ℕ) → Runs → (used : ℕ) → Site
+site_at t b used = record { text = t; room = b.block.room; used = used; size = length b.block.types }
+
+-- there are two images
+pub data IsImage : ℕ → Type 0 where
+  of_input : IsImage 0
+  of_output : IsImage 1
+
+-- what is assigned to the variable of a `for` list
+abbrev pub variable_target : (assigned : Option ℕ) → (instance : ℕ) → Key → Target
+variable_target None j key = ToCell j key
+variable_target (Some line) j key = ToTextOf j key line
+
+abbrev pub place_target : (assigned : Option ℕ) → (place : Term) → Target
+place_target None place = ToPlace place
+place_target (Some line) place = ToTextAt place line

@@ -1,0 +1,221 @@
+-- The code of closed trees.
+use Rattle.std.proofs.Common.{◌≡◌, ◌<◌, ◌≤◌, ℕ, suc, Bool, true, false, List, ◌∷◌, length, Option, Some}
+use Rattle.std.specs.Prelude.{⊤, pos}
+use Rattle.sim_scope.specs.Access.{encloser}
+use Rattle.sim_scope.specs.Source.{Source, level_of}
+use Rattle.sim_tree.specs.declared.stmt.TypeName.{TypeName}
+use Rattle.sim_tree.specs.Syntax.{Statement}
+use Rattle.sim_tree.specs.Syntax as syntax
+use Rattle.sim_values.specs.declared.value.TextVal.{TextVal}
+use Rattle.sim_values.specs.Plain.{Nothing, Object, Plain, Text as PlainText}
+use Rattle.sim_values.specs.Texts.{notext}
+use Rattle.sim_code.specs.declared.instr.Instr.TheVariants as i
+use Rattle.sim_code.specs.Code.{CodeOf}
+use Rattle.sim_meaning.specs.Levels.{is_class}
+use Rattle.sim_meaning.specs.Pending.{AttributeOf, CallOf, Cell, CopyOf, Either, ElementOf, FitsOf, Further, Given, ImageOf, Instances, Joined, KeptOf, Key, MemberOf, NewOf, NoTerm, One, PlaceOf, QuaOf, QualifiedElementOf, QualifiedPlaceOf, RemoteCallOf, StandardOf, Term, Terms, Two, Unbuilt, ValueAt}
+use Rattle.sim_meaning.specs.Entries.{formals_of}
+use Rattle.sim_meaning.specs.Steps.{count}
+use Rattle.sim_meaning.specs.Texts.{ProcedureText, constant_of, text}
+use Rattle.sim_meaning.specs.Texts as Texts
+use Rattle.codegen_expr.specs.Sites.{At, HasCell, IfAt, Is, Pushes, Site, block_number, class_number, frame_text, slot_of}
+use Rattle.codegen_expr.specs.CodeExpr.{GivenAt, IsConstant, OneAt, PlainAt, Stand, StandardIs, join_instrs, member_instr, two_instr}
+use Rattle.sim_relate.proofs.Known.{Any, FixedOf, Kind, Located, Reaches, Refers, attribute_kind, gives, is_declared, is_fixed, place_kind, reads, with_kind, IsImage}
+
+-- the text of a class, which has a number
+abbrev pub Classed : Source → ℕ → Type 0
+Classed s k = is_class (Texts.text s k) ≡ true
+
+module _ (s : Source) (code : CodeOf) where
+  -- ---- closed trees
+
+  pub record CellIs (m : Instances) (inst : ℕ) (site : Site) (n j : ℕ) (key : Key) (p q : ℕ) : Type 0 where
+    pub text : ℕ
+    pub load : Pushes code site n (i.Load (pos (level_of s text)) (pos (slot_of s code text key))) p q
+    pub reaches : Reaches s m inst text j
+    pub own : frame_text s text ≡ text
+    pub has : HasCell s text key
+    pub varies : is_fixed s key ≡ false
+
+  -- with the class of a reference there
+  pub record CellPlaceIs (m : Instances) (inst : ℕ) (site : Site) (n j : ℕ) (key : Key) (class p q : ℕ) : Type 0 where
+    pub text : ℕ
+    pub address : Pushes code site n (i.Addr (pos (level_of s text)) (pos (slot_of s code text key)) (pos class)) p q
+    pub reaches : Reaches s m inst text j
+    pub own : frame_text s text ≡ text
+    pub has : HasCell s text key
+    pub varies : is_fixed s key ≡ false
+    pub declared : is_declared key ≡ true
+
+  -- a text constant, or `notext`
+  pub data TextIs (site : Site) (n : ℕ) (t : TextVal) (p q : ℕ) : Type 0 where
+    listed : IsConstant s t → Pushes code site n (i.TextK (pos t.text_frame)) p q → TextIs site n t p q
+    empty : t ≡ notext → Pushes code site n i.NoText p q → TextIs site n t p q
+
+  -- the object of a text around
+  pub record ThisIs (m : Instances) (inst : ℕ) (site : Site) (n j p q : ℕ) : Type 0 where
+    pub text : ℕ
+    pub push : Pushes code site n (i.This (pos (level_of s text))) p q
+    pub reaches : Reaches s m inst text j
+
+  abbrev pub GivenIs : Instances → (inst : ℕ) → Site → ℕ → Plain → ℕ → ℕ → Type 0
+  GivenIs m inst site n (PlainText t) p q = TextIs site n t p q
+  GivenIs m inst site n (Object j) p q = ThisIs m inst site n j p q
+  GivenIs m inst site n Nothing p q = Pushes code site n i.None p q
+  GivenIs m inst site n v p q = PlainAt s code site n v p q
+
+  -- what `&` does with both texts on the stack, in three temps
+  pub record JoinsIs (site : Site) (n line p q : ℕ) : Type 0 where
+    pub temp : ℕ
+    pub unused : site.used ≤ temp
+    pub within : suc (suc temp) < site.size
+    pub room : suc (suc n) < site.room
+    pub joins : Stand code line (join_instrs (level_of s site.text) temp) p q
+
+  -- the procedure of a text, and the text around it
+  pub record ProcedureIs (k around : ℕ) : Type 0 where
+    pub result : Option TypeName
+    pub heading : syntax.Heading
+    pub body : Statement
+    pub is : text s k ≡ Some (ProcedureText result heading body)
+    pub stands_in : encloser s.tables k ≡ Some around
+
+  pub record CallIs (m : Instances) (inst : ℕ) (site : Site) (n j k many line : ℕ) (Actuals : ℕ → ℕ → Type 0) (p q : ℕ) : Type 0 where
+    pub text : ℕ
+    pub x : ℕ
+    pub y : ℕ
+    pub link : Pushes code site n (i.Link (pos (level_of s text))) p x
+    pub reaches : Reaches s m inst text j
+    pub actuals : Actuals x y
+    pub call : At code (i.Call (pos (block_number s k)) (pos many)) line y q
+    pub procedure : ProcedureIs k text
+    pub as_many : many ≡ length (formals_of s k)
+
+  -- a procedure of an object: the object is tested before the actuals
+  pub record RemoteCallIs (site : Site) (n k many line : ℕ) (Object' Actuals : ℕ → ℕ → Type 0) (p q : ℕ) : Type 0 where
+    pub text : ℕ
+    pub x : ℕ
+    pub y : ℕ
+    pub z : ℕ
+    pub object : Object' p x
+    pub fits : n < site.room
+    pub there : At code i.NotNone line x y
+    pub actuals : Actuals y z
+    pub call : At code (i.Call (pos (block_number s k)) (pos many)) line z q
+    pub procedure : ProcedureIs k text
+    pub as_many : many ≡ length (formals_of s k)
+
+  -- a new object of the class of a text, which stands in the text of the link
+  pub record NewIs (m : Instances) (inst : ℕ) (site : Site) (n j k many line : ℕ) (Actuals : ℕ → ℕ → Type 0) (p q : ℕ) : Type 0 where
+    pub text : ℕ
+    pub x : ℕ
+    pub y : ℕ
+    pub link : Pushes code site n (i.Link (pos (level_of s text))) p x
+    pub reaches : Reaches s m inst text j
+    pub actuals : Actuals x y
+    pub new : At code (i.New (pos (class_number s code k)) (pos many)) line y q
+    pub stands_in : encloser s.tables k ≡ Some text
+    pub class : is_class (Texts.text s k) ≡ true
+
+  -- where an attribute lies: its place, or for a constant the object itself
+  pub record AttributeIs (text : ℕ) (key : Key) (class line p q : ℕ) : Type 0 where
+    pub is : At code (i.AddrR (pos (slot_of s code text key)) (pos class)) line p q
+    pub own : frame_text s text ≡ text
+    pub has : HasCell s text key
+    pub varies : is_fixed s key ≡ false
+    pub declared : is_declared key ≡ true
+
+  pub record ConstantIs (text : ℕ) (key : Key) (line p q : ℕ) : Type 0 where
+    pub is : At code i.NotNone line p q
+    pub own : frame_text s text ≡ text
+    pub has : HasCell s text key
+
+  -- where a reference lies, with its class
+  pub record ReferenceIs (text : ℕ) (key : Key) (k line p q : ℕ) : Type 0 where
+    pub is_class : Classed s k
+    pub place : AttributeIs text key (class_number s code k) line p q
+
+  abbrev pub FoundIs : (kind : Kind) → (text : ℕ) → Key → (line : ℕ) → (p q : ℕ) → Type 0
+  FoundIs Located text key line p q = AttributeIs text key 0 line p q
+  FoundIs (Refers k) text key line p q = ReferenceIs text key k line p q
+  FoundIs (FixedOf d) text key line p q = ConstantIs text key line p q
+  FoundIs _ text key line p q = ⊥
+
+  -- the value that lies somewhere is fetched; a constant is pushed
+  pub record ConstantPushed (site : Site) (n d p q : ℕ) : Type 0 where
+    pub x : ℕ
+    pub dropped : Is code i.Pop p x
+    pub value : GivenAt s code site n (constant_of s (record { 0 = d })) x q
+
+  abbrev pub FetchesAt : Site → ℕ → Kind → ℕ → ℕ → Type 0
+  FetchesAt site n Any p q = Is code i.Fetch p q
+  FetchesAt site n Located p q = Is code i.Fetch p q
+  FetchesAt site n (Refers k) p q = Is code i.Fetch p q
+  FetchesAt site n (FixedOf d) p q = ConstantPushed site n d p q
+  FetchesAt site n _ p q = ⊥
+
+  -- what is known of a value that is fetched from, if it is left
+  pub record FetchIs (site : Site) (n : ℕ) (g : Bool) (place : Option Kind) (p q : ℕ) : Type 0 where
+    pub kind : Kind
+    pub left : (ks : List Kind) → with_kind g place ks ≡ kind ∷ ks
+    pub fetches : FetchesAt site n kind p q
+
+  -- a reference that is held against a class in a temp
+  pub record FitsIs (site : Site) (n k line p q : ℕ) : Type 0 where
+    pub x : ℕ
+    pub y : ℕ
+    pub z : ℕ
+    pub temp : ℕ
+    pub is_class : Classed s k
+    pub unused : site.used ≤ temp
+    pub within : temp < site.size
+    pub address : Pushes code site (suc n) (i.Addr (pos (level_of s site.text)) (pos temp) (pos (class_number s code k))) p x
+    pub under : Is code i.Swap x y
+    pub put : At code i.Put line y z
+    pub again : Pushes code site n (i.Load (pos (level_of s site.text)) (pos temp)) z q
+
+  abbrev mutual
+    -- the code from p to q, run for an instance, evaluates the closed tree on n values
+    pub TermAt : Instances → (inst : ℕ) → Site → (n : ℕ) → Term → ℕ → ℕ → Type 0
+    TermAt m inst site n (Given v) p q = GivenIs m inst site n v p q
+    TermAt m inst site n (Cell j key) p q = CellIs m inst site n j key p q
+    TermAt m inst site n (One op line a) p q = OneAt code op line (λ p q. TermAt m inst site n a p q × (gives s a ≡ true)) p q
+    TermAt m inst site n (Two op line a b) p q =
+        (x : ℕ) × (y : ℕ) × (TermAt m inst site n a p x × (gives s a ≡ true)) × (TermAt m inst site (suc n) b x y × (gives s b ≡ true)) × At code (two_instr op) line y q
+    TermAt m inst site n (Either c a b) p q =
+        IfAt code (λ p q. TermAt m inst site n c p q × (gives s c ≡ true)) (λ p q. TermAt m inst site n a p q × (gives s a ≡ true)) (λ p q. TermAt m inst site n b p q × (gives s b ≡ true)) p q
+    TermAt m inst site n (ElementOf line a ts) p q =
+        (x : ℕ) × (y : ℕ) × (TermAt m inst site n a p x × (gives s a ≡ true)) × TermsAt m inst site (suc n) ts x y × At code (i.Elem (pos (count ts)) (pos 0)) line y q
+    TermAt m inst site n (ValueAt a) p q = (x : ℕ) × TermAt m inst site n a p x × FetchIs site n (gives s a) (place_kind s a) x q
+    TermAt m inst site n (CopyOf line a) p q = (x : ℕ) × (TermAt m inst site n a p x × (gives s a ≡ true)) × At code i.CopyArr line x q
+    TermAt m inst site n (CallOf j k ts line) p q = CallIs m inst site n j k (count ts) line (TermsAt m inst site (suc n) ts) p q
+    TermAt m inst site n (StandardOf name ts line) p q =
+        (x : ℕ) × ReadsAt m inst site n ts p x × StandardIs code site n line name (count ts) x q
+    TermAt m inst site n (PlaceOf j key) p q = CellPlaceIs m inst site n j key 0 p q
+    TermAt m inst site n (ImageOf image) p q = IsImage image × Pushes code site n (i.AddrImg (pos image)) p q
+    TermAt m inst site n (Joined line a b) p q =
+        (x : ℕ) × (y : ℕ) × (TermAt m inst site n a p x × (gives s a ≡ true)) × (TermAt m inst site (suc n) b x y × (gives s b ≡ true)) × JoinsIs site n line y q
+    TermAt m inst site n (NewOf j k ts line) p q = NewIs m inst site n j k (count ts) line (TermsAt m inst site (suc n) ts) p q
+    TermAt m inst site n (AttributeOf text key class line a) p q = (x : ℕ) × (TermAt m inst site n a p x × (gives s a ≡ true)) × FoundIs (attribute_kind s key class) text key line x q
+    TermAt m inst site n (RemoteCallOf a k ts line) p q = RemoteCallIs site n k (count ts) line (λ p q. TermAt m inst site n a p q × (gives s a ≡ true)) (TermsAt m inst site (suc n) ts) p q
+    TermAt m inst site n (QualifiedPlaceOf j key k) p q = Classed s k × CellPlaceIs m inst site n j key (class_number s code k) p q
+    TermAt m inst site n (QualifiedElementOf line k a ts) p q =
+        (x : ℕ) × (y : ℕ) × (TermAt m inst site n a p x × (gives s a ≡ true)) × TermsAt m inst site (suc n) ts x y × (Classed s k × At code (i.Elem (pos (count ts)) (pos (class_number s code k))) line y q)
+    TermAt m inst site n (MemberOf member k a) p q = (x : ℕ) × (TermAt m inst site n a p x × (gives s a ≡ true)) × (Classed s k × Is code (member_instr member (class_number s code k)) x q)
+    TermAt m inst site n (QuaOf k line a) p q = (x : ℕ) × (TermAt m inst site n a p x × (gives s a ≡ true)) × (Classed s k × At code (i.Qua (pos (class_number s code k))) line x q)
+    TermAt m inst site n (FitsOf k line a) p q = (x : ℕ) × (TermAt m inst site n a p x × (gives s a ≡ true)) × FitsIs site n k line x q
+    TermAt m inst site n (KeptOf a) p q = (x : ℕ) × (TermAt m inst site n a p x × (gives s a ≡ true)) × Is code i.Keep x q
+    TermAt m inst site n Unbuilt p q = ⊤
+
+    -- one value after the other
+    pub TermsAt : Instances → (inst : ℕ) → Site → (n : ℕ) → Terms → ℕ → ℕ → Type 0
+    TermsAt m inst site n NoTerm p q = q ≡ p
+    TermsAt m inst site n (Further t ts) p q = (x : ℕ) × (TermAt m inst site n t p x × (gives s t ≡ true)) × TermsAt m inst site (suc n) ts x q
+
+    -- operands of a standard name, one after the other
+    pub ReadsAt : Instances → (inst : ℕ) → Site → (n : ℕ) → Terms → ℕ → ℕ → Type 0
+    ReadsAt m inst site n NoTerm p q = q ≡ p
+    ReadsAt m inst site n (Further t ts) p q = (x : ℕ) × (TermAt m inst site n t p x × (reads s t ≡ true)) × ReadsAt m inst site (suc n) ts x q
+
+  -- an operand leaves a value
+  abbrev pub OperandAt : Instances → (inst : ℕ) → Site → (n : ℕ) → Term → ℕ → ℕ → Type 0
+  OperandAt m inst site n t p q = TermAt m inst site n t p q × (gives s t ≡ true)

@@ -1,0 +1,253 @@
+-- The closed trees of what objects have are fine: an attribute of the object that a tree gives, by the class that declares it.
+use Rattle.std.proofs.Common.{◌≡◌, ℕ, Bool, true, false, List, Option, Some, None, refl, sym, ap, ◌∙◌, subst}
+use Rattle.sim_base.specs.declared.numbering.DeclNo.{DeclNo}
+use Rattle.sim_scope.specs.declared.types.Entry.{Entry}
+use Rattle.sim_scope.specs.declared.types.Entry.TheVariants as entry
+use Rattle.sim_scope.specs.declared.types.Formal.{Formal}
+use Rattle.sim_scope.specs.declared.types.FormalKind.{FormalKind}
+use Rattle.sim_scope.specs.declared.types.FormalKind.TheVariants as shape
+use Rattle.sim_scope.specs.declared.types.Mode.{Mode}
+use Rattle.sim_scope.specs.declared.types.Mode.TheVariants as mode
+use Rattle.sim_scope.specs.declared.types.SimType.{SimType}
+use Rattle.sim_scope.specs.declared.types.SimType.TheVariants as type
+use Rattle.sim_scope.specs.Levels.{has_level}
+use Rattle.sim_scope.specs.Scopes.{entry_of, result_in, result_of}
+use Rattle.sim_scope.specs.Source.{Source, block_of}
+use Rattle.sim_tree.specs.declared.expr.Identifier.{Identifier}
+use Rattle.sim_tree.specs.Syntax.{Declarations, Expressions, Heading, NoMore, Statements, Then}
+use Rattle.sim_values.specs.declared.kind.Kind.TheVariants as kind
+use Rattle.sim_values.specs.Plain.{Plain, kind_of}
+use Rattle.sim_meaning.specs.Attributes.{array_attribute, attribute_place, element_at, entry_at, entry_attribute, is_connection, parameter_at, parameter_attribute, variable_at, variable_attribute}
+use Rattle.sim_meaning.specs.Entries.{formals_of}
+use Rattle.sim_meaning.specs.Levels.{is_class, qualification}
+use Rattle.sim_meaning.specs.Pending.{Declared, Instances, Term, Terms}
+use Rattle.sim_meaning.specs.Texts.{ClassText, StandardText, Text, constant_of, kind_of_type, text}
+use Rattle.sim_sound.specs.Held.{ArrayOf, Fits, FitsIn, Holds, Refers, Simply, entry_holds, formal_holds, given_by, held_by, key_holds, reference_to, result_declared, result_holds}
+use Rattle.sim_sound.specs.Expressions.{ArrayNames, ConstantNames, DeclaredGives, HeldNames, VariableNames}
+use Rattle.sim_sound.specs.Statements.{LeftHeld}
+use Rattle.sim_sound.specs.Typed.{ClassTyped, Typed}
+use Rattle.sim_sound.proofs.Lists.{same_some}
+use Rattle.sim_sound.proofs.Reach.{among_block, key_there}
+use Rattle.sim_sound.proofs.Sound.{AddressOf, AttributeFine, GivesResult, IntegersFine, IsPlain, KeyAmong, Kinds, ProcedureIn, TermFine, TermsFine, Value, formal_kinds, held_kinds, keys_in}
+
+-- ---- what is declared
+
+-- what a variable of a type holds is no array
+reference_plain : (c : Option ℕ) → IsPlain (reference_to c)
+reference_plain None = tt
+reference_plain (Some k) = tt
+
+pub held_plain : (s : Source) (ty : SimType) → IsPlain (held_by s ty)
+held_plain s (type.Ref d) = reference_plain (qualification s (Some (type.Ref d)))
+held_plain s type.Integer = tt
+held_plain s type.Boolean = tt
+held_plain s type.Character = tt
+held_plain s type.Text = tt
+held_plain s type.NoneType = tt
+
+pub names_variable : (s : Source) (Known : Type 0) (es : Expressions) (Indices : Type 0) (held h : Holds) → IsPlain held → HeldNames s Known es Indices (Some held) h → VariableNames s Known es held h
+names_variable s Known es Indices (Simply k) h is a = a
+names_variable s Known es Indices (Refers c) h is a = a
+names_variable s Known es Indices (ArrayOf k) h is a = absurd is
+
+pub left_variable_is : (Known : Type 0) (Indices : Type 0) (held h : Holds) → IsPlain held → LeftHeld Known NoMore Indices (Some held) h → (held ≡ h) × Known
+left_variable_is Known Indices (Simply k) h is a = a
+left_variable_is Known Indices (Refers c) h is a = a
+left_variable_is Known Indices (ArrayOf k) h is a = absurd is
+
+pub no_left_variable : (Known : Type 0) (Indices : Type 0) (e : _) (es : Expressions) (held h : Holds) → IsPlain held → LeftHeld Known (Then e es) Indices (Some held) h → ⊥
+no_left_variable Known Indices e es (Simply k) h is a = a
+no_left_variable Known Indices e es (Refers c) h is a = a
+no_left_variable Known Indices e es (ArrayOf k) h is a = is
+
+pub entry_there : (s : Source) (e : Option Entry) (c : Bool) (h : Holds) → entry_holds s c e ≡ Some h → (x : Entry) × (e ≡ Some x)
+entry_there s None c h e = absurd (cc)
+entry_there s (Some x) c h e = (x, refl)
+
+-- what is named is known where it stands
+module _ (s : Source) (Known : Type 0) (d : DeclNo) where
+  held_known : (es : Expressions) (Indices : Type 0) (held : Option Holds) (g : Holds) → HeldNames s Known es Indices held g → Known
+  held_known NoMore Indices (Some (Simply q)) g a = a.1
+  held_known (Then x es) Indices (Some (Simply q)) g a = absurd a
+  held_known NoMore Indices (Some (Refers q)) g a = a.1
+  held_known (Then x es) Indices (Some (Refers q)) g a = absurd a
+  held_known NoMore Indices (Some (ArrayOf q)) g a = a.1
+  held_known (Then x es) Indices (Some (ArrayOf q)) g a = a.1
+  held_known NoMore Indices None g a = absurd a
+  held_known (Then x es) Indices None g a = absurd a
+
+  constant_known : (es : Expressions) (g : Holds) → ConstantNames s Known d es g → Known
+  constant_known NoMore g a = a.3
+  constant_known (Then x es) g a = absurd a
+
+  pub known_of : (es : Expressions) (Indices : Type 0) (Actuals : List Formal → Type 0) (e : Option Entry) (h : Option Holds) → DeclaredGives s Known d es Indices Actuals e h → Known
+  known_of es Indices Actuals (Some (entry.Procedure result q)) h a = a.1
+  known_of es Indices Actuals (Some (entry.Constant ty)) (Some g) a = constant_known es g a
+  known_of es Indices Actuals (Some (entry.Variable ty)) (Some g) a = held_known es Indices (Some (held_by s ty)) g a
+  known_of es Indices Actuals (Some (entry.Array ty n)) (Some g) a = held_known es Indices (Some (ArrayOf (held_by s ty))) g a
+  known_of es Indices Actuals (Some (entry.Formal f)) (Some g) a = held_known es Indices (formal_holds s f.mode f.kind f.ty) g a
+  known_of es Indices Actuals None h a = absurd a
+  known_of es Indices Actuals (Some _) None a = absurd a
+  known_of es Indices Actuals (Some _) (Some g) a = absurd a
+
+  pub left_known : (es : Expressions) (Indices : Type 0) (held : Option Holds) (h : Holds) → LeftHeld Known es Indices held h → Known
+  left_known NoMore Indices (Some (Simply q)) h a = a.1
+  left_known (Then x es) Indices (Some (Simply q)) h a = absurd a
+  left_known NoMore Indices (Some (Refers q)) h a = a.1
+  left_known (Then x es) Indices (Some (Refers q)) h a = absurd a
+  left_known NoMore Indices (Some (ArrayOf q)) h a = absurd a
+  left_known (Then x es) Indices (Some (ArrayOf q)) h a = a.1
+  left_known NoMore Indices None h a = absurd a
+  left_known (Then x es) Indices None h a = absurd a
+
+  -- a text that is named lies where it is found
+  text_element : (k : Holds) → Fits s k (Simply kind.Text) → k ≡ Simply kind.Text
+  text_element (Simply k) e = ap Simply e
+  text_element (Refers c) e = absurd (cc)
+  text_element (ArrayOf h) e = absurd e
+
+  pub text_left : (es : Expressions) (Indices : Type 0) (held : Option Holds) → HeldNames s Known es Indices held (Simply kind.Text) → LeftHeld Known es Indices held (Simply kind.Text)
+  text_left NoMore Indices (Some (Simply q)) a = (ap Simply a.0, a.1)
+  text_left (Then x es) Indices (Some (Simply q)) a = absurd a
+  text_left NoMore Indices (Some (Refers q)) a = absurd (text_none a.0)
+    where
+      text_none : kind.Reference ≡ kind.Text → ⊥
+      text_none e = cc
+  text_left (Then x es) Indices (Some (Refers q)) a = absurd a
+  text_left NoMore Indices (Some (ArrayOf q)) a = absurd (array_none a.0)
+    where
+      array_none : ArrayOf q ≡ Simply kind.Text → ⊥
+      array_none e = cc
+  text_left (Then x es) Indices (Some (ArrayOf q)) a = (text_element q a.0, a.1, a.2)
+  text_left NoMore Indices None a = absurd a
+  text_left (Then x es) Indices None a = absurd a
+
+module _ (s : Source) (ok : Typed s) where
+  -- a class is as it is typed
+  pub record ClassWords (u : ℕ) : Type 0 where
+    pub prefix : Option Identifier
+    pub heading : Heading
+    pub declarations : Declarations
+    pub statements : Statements
+    pub is : text s u ≡ Some (ClassText prefix heading declarations statements)
+    pub typed : ClassTyped s u declarations statements
+
+  words_of : (u : ℕ) (x : Option Text) → text s u ≡ x → is_class x ≡ true → ClassWords u
+  words_of u (Some (ClassText p h ds ss)) e c = record { prefix = p; heading = h; declarations = ds; statements = ss; is = e; typed = ok.texts u (ClassText p h ds ss) e }
+  words_of u (Some (StandardText which)) e c = absurd (ok.texts u (StandardText which) e)
+  words_of u None e c = absurd (cc)
+  words_of u (Some _) e c = absurd (cc)
+
+  pub class_words : (u : ℕ) → is_class (text s u) ≡ true → ClassWords u
+  class_words u c = words_of u (text s u) refl c
+
+  -- a procedure stands in the text of its declaration, and gives what that says
+  pub procedure_in : (d : DeclNo) (result : Option SimType) (k : ℕ) → entry_of s.tables d ≡ Some (entry.Procedure result k) → ProcedureIn s k (block_of s d)
+  procedure_in d result k e = let p = ok.procedures d result k e in record { stands_in = p.around; result = p.given; heading = p.heading; body = p.body; is = p.is }
+
+  result_same : (d : DeclNo) (result : Option SimType) (k : ℕ) → entry_of s.tables d ≡ Some (entry.Procedure result k) → result_of s.tables d ≡ result
+  unfolding result_of
+  result_same d result k e = ap result_in e
+
+  pub holds_result : (d : DeclNo) (result : Option SimType) (k : ℕ) → entry_of s.tables d ≡ Some (entry.Procedure result k) → result_holds s k ≡ given_by s result
+  holds_result d result k e = let p = ok.procedures d result k e in ap (λ z. given_by s (result_declared s z)) p.owned ∙ ap (given_by s) (result_same d result k e)
+
+  pub gives_result : (d : DeclNo) (result : Option SimType) (k : ℕ) (h : Option Holds) → entry_of s.tables d ≡ Some (entry.Procedure result k) → FitsIn s (given_by s result) h → GivesResult s k (held_kinds h)
+  gives_result d result k h e fits = (h, subst (λ z. FitsIn s z h) (sym (holds_result d result k e)) fits, refl)
+
+  -- ---- the attributes of a class
+
+  module _ (d : DeclNo) (c : ℕ) (level : has_level s.tables c (block_of s d) ≡ true) where
+    there_in : (h : Holds) → (is_class (text s (block_of s d)) ≡ true → key_holds s (block_of s d) (Declared d.0) ≡ Some h) → is_class (text s (block_of s d)) ≡ true → KeyAmong (Declared d.0) (keys_in s (block_of s d) (text s (block_of s d)))
+    there_in h is class =
+        let w = class_words (block_of s d) class in
+        let x = entry_there s (entry_of s.tables d) (is_class (text s (block_of s d))) h (is class) in
+        key_there s ok (block_of s d) (ClassText w.prefix w.heading w.declarations w.statements) d h (is_class (text s (block_of s d))) (ap is_connection w.is) w.is (is class) (among_block s ok d x.0 x.1)
+
+    -- a variable, an array or a parameter
+    holding : (h : Holds) → entry_holds s true (entry_of s.tables d) ≡ Some h → is_class (text s (block_of s d)) ≡ true → key_holds s (block_of s d) (Declared d.0) ≡ Some h
+    holding h e class = ap (λ b. entry_holds s b (entry_of s.tables d)) class ∙ e
+
+    pub attribute_is : (h : Holds) → entry_holds s true (entry_of s.tables d) ≡ Some h → AttributeFine s (block_of s d) (Declared d.0) h c
+    attribute_is h e = record { level = level; is = holding h e; there = there_in h (holding h e) }
+
+    -- a constant, which has a value of its type
+    constant_held : (ty : SimType) (v : Plain) → entry_of s.tables d ≡ Some (entry.Constant ty) → constant_of s d ≡ Some v → is_class (text s (block_of s d)) ≡ true → key_holds s (block_of s d) (Declared d.0) ≡ Some (Simply (kind_of v))
+    constant_held ty v e is class =
+        let w = class_words (block_of s d) class in
+        let holds : key_holds s (block_of s d) (Declared d.0) ≡ Some (Simply (kind_of_type ty)) = holding (Simply (kind_of_type ty)) (ap (entry_holds s true) e) class in
+        let known = (w.typed).constants d ty (among_block s ok d (entry.Constant ty) e) e in
+        let same : v ≡ known.value = same_some (constant_of s d) v known.value is known.is in
+        holds ∙ ap (λ z. Some (Simply z)) (sym (ap kind_of same ∙ known.of_type))
+
+    pub constant_is : (ty : SimType) (v : Plain) → entry_of s.tables d ≡ Some (entry.Constant ty) → constant_of s d ≡ Some v → AttributeFine s (block_of s d) (Declared d.0) (Simply (kind_of v)) c
+    constant_is ty v e is = record { level = level; is = constant_held ty v e is; there = there_in (Simply (kind_of v)) (constant_held ty v e is) }
+
+    -- ---- of an object that a tree gives
+
+    module _ (m : Instances) (i t : ℕ) (todo : List DeclNo) (line : ℕ) (object : Term) (fine : TermFine s m i t todo object (Some (Value (Refers c)))) where
+      abbrev Fine : Term → Option Kinds → Type 0
+      Fine x g = TermFine s m i t todo x g
+
+      abbrev lies : Term
+      lies = attribute_place s line d object
+
+      lies_fine : (h : Holds) → AttributeFine s (block_of s d) (Declared d.0) h c → Fine lies (Some (AddressOf h))
+      lies_fine h a = (c, h, AddressOf h, a, refl, refl, fine)
+
+      variable_fine : (Known : Type 0) (es : Expressions) (held h : Holds) → AttributeFine s (block_of s d) (Declared d.0) held c → VariableNames s Known es held h → Fine (variable_attribute lies es) (Some (Value h))
+      variable_fine Known NoMore held h is a = (h, AddressOf held, a.0, refl, lies_fine held is)
+      variable_fine Known (Then e es) held h is a = absurd a
+
+      array_fine : (Known : Type 0) (es : Expressions) (ts : Terms) (Indices : Type 0) (k h : Holds) → AttributeFine s (block_of s d) (Declared d.0) (ArrayOf k) c → (Indices → IntegersFine s m i t todo ts) → ArrayNames s Known es Indices k h → Fine (array_attribute line lies es ts) (Some (Value h))
+      array_fine Known NoMore ts Indices k h is go a = (h, AddressOf (ArrayOf k), subst (Fits s (ArrayOf k)) a.0 refl, refl, lies_fine (ArrayOf k) is)
+      array_fine Known (Then e es) ts Indices k h is go a = (h, AddressOf k, a.0, refl, (k, refl, (ArrayOf k, AddressOf (ArrayOf k), refl, refl, lies_fine (ArrayOf k) is), go a.2))
+
+      formal_fine : (Known : Type 0) (f : Mode) (g : FormalKind) (ty : Option SimType) (es : Expressions) (ts : Terms) (Indices : Type 0) (h : Holds) → entry_holds s true (entry_of s.tables d) ≡ formal_holds s f g ty → (Indices → IntegersFine s m i t todo ts) → HeldNames s Known es Indices (formal_holds s f g ty) h → Fine (parameter_attribute line g lies es ts) (Some (Value h))
+      formal_fine Known mode.ByValue shape.Simple (Some ty) es ts Indices h e go a = variable_fine Known es (held_by s ty) h (attribute_is (held_by s ty) e) (names_variable s Known es Indices (held_by s ty) h (held_plain s ty) a)
+      formal_fine Known mode.ByReference shape.Simple (Some ty) es ts Indices h e go a = variable_fine Known es (held_by s ty) h (attribute_is (held_by s ty) e) (names_variable s Known es Indices (held_by s ty) h (held_plain s ty) a)
+      formal_fine Known mode.ByValue shape.Array (Some ty) es ts Indices h e go a = array_fine Known es ts Indices (held_by s ty) h (attribute_is (ArrayOf (held_by s ty)) e) go a
+      formal_fine Known mode.ByReference shape.Array (Some ty) es ts Indices h e go a = array_fine Known es ts Indices (held_by s ty) h (attribute_is (ArrayOf (held_by s ty)) e) go a
+      formal_fine Known _ _ _ es ts Indices h e go a = absurd a
+
+      constant_fine : (Known : Type 0) (ty : SimType) (es : Expressions) (h : Holds) → entry_of s.tables d ≡ Some (entry.Constant ty) → ConstantNames s Known d es h → Fine (variable_attribute lies es) (Some (Value h))
+      constant_fine Known ty NoMore h e a = (h, AddressOf (Simply (kind_of a.0)), subst (Fits s (Simply (kind_of a.0))) a.2 refl, refl, lies_fine (Simply (kind_of a.0)) (constant_is ty a.0 e a.1))
+      constant_fine Known ty (Then x es) h e a = absurd a
+
+      pub entry_fine : (Known : Type 0) (es : Expressions) (ts acts : Terms) (Indices : Type 0) (Actuals : List Formal → Type 0) (e : Option Entry) (h : Option Holds) → entry_of s.tables d ≡ e → (Indices → IntegersFine s m i t todo ts)
+          → ((result : Option SimType) (k : ℕ) → e ≡ Some (entry.Procedure result k) → Actuals (formals_of s k) → TermsFine s m i t todo acts (formal_kinds s (formals_of s k))) → DeclaredGives s Known d es Indices Actuals e h → Fine (entry_attribute s line d e object es ts acts) (held_kinds h)
+      entry_fine Known es ts acts Indices Actuals (Some (entry.Procedure result k)) h e ints go a = (c, block_of s d, level, procedure_in d result k e, gives_result d result k h e a.0, fine, go result k refl a.2)
+      entry_fine Known es ts acts Indices Actuals (Some (entry.Constant ty)) (Some h) e ints go a = constant_fine Known ty es h e a
+      entry_fine Known es ts acts Indices Actuals (Some (entry.Variable ty)) (Some h) e ints go a = variable_fine Known es (held_by s ty) h (attribute_is (held_by s ty) (ap (entry_holds s true) e)) (names_variable s Known es Indices (held_by s ty) h (held_plain s ty) a)
+      entry_fine Known es ts acts Indices Actuals (Some (entry.Array ty n)) (Some h) e ints go a = array_fine Known es ts Indices (held_by s ty) h (attribute_is (ArrayOf (held_by s ty)) (ap (entry_holds s true) e)) ints a
+      entry_fine Known es ts acts Indices Actuals (Some (entry.Formal f)) (Some h) e ints go a = formal_fine Known f.mode f.kind f.ty es ts Indices h (ap (entry_holds s true) e) ints a
+      entry_fine Known es ts acts Indices Actuals None h e ints go a = absurd a
+      entry_fine Known es ts acts Indices Actuals (Some _) None e ints go a = absurd a
+      entry_fine Known es ts acts Indices Actuals (Some _) (Some h) e ints go a = absurd a
+
+      -- ---- where they lie
+
+      variable_lies : (Known : Type 0) (es : Expressions) (Indices : Type 0) (held h : Holds) → IsPlain held → AttributeFine s (block_of s d) (Declared d.0) held c → LeftHeld Known es Indices (Some held) h → Fine (variable_at lies es) (Some (AddressOf h))
+      variable_lies Known NoMore Indices held h plain is a = let x = left_variable_is Known Indices held h plain a in subst (λ z. Fine lies (Some (AddressOf z))) x.0 (lies_fine held is)
+      variable_lies Known (Then e es) Indices held h plain is a = absurd (no_left_variable Known Indices e es held h plain a)
+
+      element_lies : (Known : Type 0) (es : Expressions) (ts : Terms) (Indices : Type 0) (k h : Holds) → AttributeFine s (block_of s d) (Declared d.0) (ArrayOf k) c → (Indices → IntegersFine s m i t todo ts) → LeftHeld Known es Indices (Some (ArrayOf k)) h → Fine (element_at line lies es ts) (Some (AddressOf h))
+      element_lies Known NoMore ts Indices k h is go a = absurd a
+      element_lies Known (Then e es) ts Indices k h is go a = (k, ap (λ z. Some (AddressOf z)) a.0, (ArrayOf k, AddressOf (ArrayOf k), refl, refl, lies_fine (ArrayOf k) is), go a.2)
+
+      formal_lies : (Known : Type 0) (f : Mode) (g : FormalKind) (ty : Option SimType) (es : Expressions) (ts : Terms) (Indices : Type 0) (h : Holds) → entry_holds s true (entry_of s.tables d) ≡ formal_holds s f g ty → (Indices → IntegersFine s m i t todo ts) → LeftHeld Known es Indices (formal_holds s f g ty) h → Fine (parameter_at line g lies es ts) (Some (AddressOf h))
+      formal_lies Known mode.ByValue shape.Simple (Some ty) es ts Indices h e go a = variable_lies Known es Indices (held_by s ty) h (held_plain s ty) (attribute_is (held_by s ty) e) a
+      formal_lies Known mode.ByReference shape.Simple (Some ty) es ts Indices h e go a = variable_lies Known es Indices (held_by s ty) h (held_plain s ty) (attribute_is (held_by s ty) e) a
+      formal_lies Known mode.ByValue shape.Array (Some ty) es ts Indices h e go a = element_lies Known es ts Indices (held_by s ty) h (attribute_is (ArrayOf (held_by s ty)) e) go a
+      formal_lies Known mode.ByReference shape.Array (Some ty) es ts Indices h e go a = element_lies Known es ts Indices (held_by s ty) h (attribute_is (ArrayOf (held_by s ty)) e) go a
+      formal_lies Known _ _ _ NoMore ts Indices h e go a = absurd a
+      formal_lies Known _ _ _ (Then x es) ts Indices h e go a = absurd a
+
+      pub entry_lies : (Known : Type 0) (es : Expressions) (ts : Terms) (Indices : Type 0) (e : Option Entry) (h : Holds) → entry_of s.tables d ≡ e → (Indices → IntegersFine s m i t todo ts) → LeftHeld Known es Indices (entry_holds s false e) h → Fine (entry_at s line d e object es ts) (Some (AddressOf h))
+      entry_lies Known es ts Indices (Some (entry.Variable ty)) h e ints a = variable_lies Known es Indices (held_by s ty) h (held_plain s ty) (attribute_is (held_by s ty) (ap (entry_holds s true) e)) a
+      entry_lies Known es ts Indices (Some (entry.Array ty n)) h e ints a = element_lies Known es ts Indices (held_by s ty) h (attribute_is (ArrayOf (held_by s ty)) (ap (entry_holds s true) e)) ints a
+      entry_lies Known es ts Indices (Some (entry.Formal f)) h e ints a = formal_lies Known f.mode f.kind f.ty es ts Indices h (ap (entry_holds s true) e) ints a
+      entry_lies Known NoMore ts Indices None h e ints a = absurd a
+      entry_lies Known (Then x es) ts Indices None h e ints a = absurd a
+      entry_lies Known NoMore ts Indices (Some _) h e ints a = absurd a
+      entry_lies Known (Then x es) ts Indices (Some _) h e ints a = absurd a

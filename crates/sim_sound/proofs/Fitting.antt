@@ -1,0 +1,212 @@
+-- What fits where something is wanted. A class is one of its own levels, and so far has no other.
+use Rattle.std.proofs.Common.{◌≡◌, ℕ, zero, suc, Bool, true, false, List, [], ◌∷◌, length, Option, Some, None, refl, sym, ap, ◌∙◌, subst, arith}
+use Rattle.std.specs.Prelude.{◌||◌, not, nat_eq, if◌then◌else◌, slice_get}
+use Rattle.sim_scope.specs.Levels.{base, has_level, holds, some_level_of}
+use Rattle.sim_scope.specs.Source.{Source}
+use Rattle.sim_scope.specs.Tables.{BlockOf}
+use Rattle.sim_values.specs.declared.kind.Kind.{Kind}
+use Rattle.sim_values.specs.declared.kind.Kind.TheVariants as kind
+use Rattle.sim_values.specs.Plain.{Character, Integer, Nothing, Object, Plain, Text, Truth, kind_of}
+use Rattle.sim_code.specs.Instances.{Instance, live, unless_given}
+use Rattle.sim_meaning.specs.Attributes.{is_connection}
+use Rattle.sim_meaning.specs.Levels.{is_in, text_at, text_in, text_is_in}
+use Rattle.sim_meaning.specs.Pending.{Held, Instances, Of, Val}
+use Rattle.sim_meaning.specs.Texts.{has_class_in, is_class_free, text}
+use Rattle.sim_sound.specs.Held.{ArrayOf, Fits, Holds, Refers, Simply}
+use Rattle.sim_sound.specs.Typed.{Typed}
+use Rattle.sim_sound.proofs.Sound.{AllArrays, IsPlain, Knows, NamesObject, ObjectOf, PlainFine, ReferenceFine, StoreFine, ValFine, Whole, own_text, staying}
+
+-- ---- levels
+
+first_of : (p q : Bool) → q ≡ false → (p || q) ≡ true → p ≡ true
+first_of true q e f = refl
+first_of false q e f = absurd (cc)
+
+either_of : (p q : Bool) → p ≡ true → (p || q) ≡ true
+either_of true q e = refl
+either_of false q e = absurd (cc)
+
+numbers_are : (a b : ℕ) → nat_eq a b ≡ true → a ≡ b
+numbers_are a b e = grind (arith, e)
+
+number_is : (a : ℕ) → nat_eq a a ≡ true
+number_is a = grind arith
+
+module _ (s : Source) where
+  alone_level : (n t c : ℕ) → base s.tables t ≡ None → some_level_of s.tables n (λ b. nat_eq b c) t ≡ true → t ≡ c
+  unfolding some_level_of
+  alone_level zero t c none e = absurd (cc)
+  alone_level (suc n) t c none e =
+      numbers_are t c (first_of (nat_eq t c) (holds (λ b. some_level_of s.tables n (λ b. nat_eq b c) b) (base s.tables t)) (ap (holds (λ b. some_level_of s.tables n (λ b. nat_eq b c) b)) none) e)
+
+  -- so far what is no connection has no other level
+  pub one_level : Typed s → (t c : ℕ) → is_connection (text s t) ≡ false → has_level s.tables t c ≡ true → t ≡ c
+  unfolding has_level
+  one_level ok t c solid e = alone_level (length s.tables.blocks) t c (ok.unprefixed t solid) e
+
+  self_in : (n c u : ℕ) → some_level_of s.tables n (λ b. nat_eq b u) c ≡ true → some_level_of s.tables n (λ b. nat_eq b c) c ≡ true
+  unfolding some_level_of
+  self_in zero c u e = absurd (cc)
+  self_in (suc n) c u e = either_of (nat_eq c c) _ (number_is c)
+
+  -- what has a level has itself
+  pub level_self : (c u : ℕ) → has_level s.tables c u ≡ true → has_level s.tables c c ≡ true
+  unfolding has_level
+  level_self c u e = self_in (length s.tables.blocks) c u e
+
+  level_of_many : (bs : List BlockOf) (k : ℕ) (b : BlockOf) → slice_get bs k ≡ Some b → (n : ℕ) × (length bs ≡ suc n)
+  level_of_many [] k b e = absurd (cc)
+  level_of_many (x ∷ bs) k b e = (length bs, refl)
+
+  itself_in : (n m k : ℕ) → n ≡ suc m → some_level_of s.tables n (λ b. nat_eq b k) k ≡ true
+  unfolding some_level_of
+  itself_in n m k e = subst (λ z. some_level_of s.tables z (λ b. nat_eq b k) k ≡ true) (sym e) (either_of (nat_eq k k) _ (number_is k))
+
+  with_block : (k : ℕ) (x : Option BlockOf) → slice_get s.tables.blocks k ≡ x → not (has_class_in x s.tables.blocks) ≡ false → has_level s.tables k k ≡ true
+  unfolding has_level
+  with_block k None e f = absurd (cc)
+  with_block k (Some b) e f = let x = level_of_many s.tables.blocks k b e in itself_in (length s.tables.blocks) x.0 k x.1
+
+  -- a class is one of its own levels
+  pub level_itself : (k : ℕ) → is_class_free s k ≡ false → has_level s.tables k k ≡ true
+  unfolding is_class_free
+  level_itself k e = with_block k (slice_get s.tables.blocks k) refl e
+
+-- ---- objects
+
+there_if : (z x : Instance (List Held)) (b : Bool) → (if b then None else Some z) ≡ Some x → z ≡ x
+there_if z x true e = absurd (cc)
+there_if z x false e = cc
+
+slice_there : (y : Option (Instance (List Held))) (x : Instance (List Held)) → unless_given y ≡ Some x → y ≡ Some x
+slice_there None x e = absurd (cc)
+slice_there (Some z) x e = ap Some (there_if z x z.given_back e)
+
+module _ (s : Source) (m : Instances) where
+  pub text_there : (j : ℕ) (x : Instance (List Held)) → live m j ≡ Some x → text_at m j ≡ Some x.text
+  text_there j x e = ap text_in (slice_there (slice_get m.instances j) x e)
+
+  -- an object is in its class
+  pub in_class : (j c u : ℕ) → (p : ObjectOf s m j c) → has_level s.tables (p.now).text u ≡ true → is_in s m u j ≡ true
+  unfolding is_in
+  in_class j c u p e = ap (text_is_in s u) (text_there j p.now p.lives) ∙ e
+
+  -- an object that is in a class is one of the class
+  pub of_class : (j c u : ℕ) → ObjectOf s m j c → is_in s m u j ≡ true → ObjectOf s m j u
+  unfolding is_in
+  of_class j c u p e = record {
+    now = p.now;
+    lives = p.lives;
+    object = p.object;
+    levels = sym (ap (text_is_in s u) (text_there j p.now p.lives)) ∙ e;
+    stays = p.stays;
+    words = p.words;
+    has_text = p.has_text;
+    made = p.made;
+  }
+
+  -- an object is known to all instances
+  pub knows_object : (i j c : ℕ) → ObjectOf s m j c → Knows m i j
+  knows_object i j c p = staying (record { now = p.now; lives = p.lives; stays = p.stays })
+
+module _ (s : Source) (ok : Typed s) (o : AllArrays) (m : Instances) (store : StoreFine s o m) where
+  -- an object of a class stands for each level of the class
+  pub object_text : (j c : ℕ) → (p : ObjectOf s m j c) → (p.now).text ≡ c
+  object_text j c p = one_level s ok (p.now).text c (store.instances j p.now p.lives).solid p.levels
+
+  class_solid : (j c : ℕ) → ObjectOf s m j c → is_connection (text s c) ≡ false
+  class_solid j c p = subst (λ z. is_connection (text s z) ≡ false) (object_text j c p) (store.instances j p.now p.lives).solid
+
+  class_level : (j c u : ℕ) → ObjectOf s m j c → has_level s.tables c u ≡ true → c ≡ u
+  class_level j c u p e = one_level s ok c u (class_solid j c p) e
+
+  pub object_up : (j c u : ℕ) → ObjectOf s m j c → has_level s.tables c u ≡ true → ObjectOf s m j u
+  object_up j c u p e = subst (ObjectOf s m j) (class_level j c u p e) p
+
+  pub object_whole : (j c u : ℕ) → ObjectOf s m j c → has_level s.tables c u ≡ true → Whole s m j u
+  object_whole j c u p e = record {
+    now = p.now;
+    lives = p.lives;
+    stands = own_text (object_text j c p ∙ class_level j c u p e);
+    words = p.words;
+    has_text = p.has_text;
+    made = p.made;
+  }
+
+  -- an object of a class is in each level of the class
+  pub object_in : (j c u : ℕ) → ObjectOf s m j c → has_level s.tables c u ≡ true → is_in s m u j ≡ true
+  object_in j c u p e = let q = object_up j c u p e in in_class s m j u u q q.levels
+
+  -- ---- what is held where something else is wanted
+
+  pub reference_up : (c u : ℕ) (p : Plain) → has_level s.tables c u ≡ true → ReferenceFine s m c p → ReferenceFine s m u p
+  reference_up c u Nothing e a = tt
+  reference_up c u (Object j) e a = object_up j c u a e
+  reference_up c u (Integer z) e a = absurd a
+  reference_up c u (Truth z) e a = absurd a
+  reference_up c u (Character z) e a = absurd a
+  reference_up c u (Text z) e a = absurd a
+
+  pub reference_known : (c : ℕ) (p : Plain) → ReferenceFine s m c p → PlainFine s m (Simply kind.Reference) p
+  reference_known c Nothing a = (refl, tt)
+  reference_known c (Object j) a = (refl, (c, a))
+  reference_known c (Integer z) a = absurd a
+  reference_known c (Truth z) a = absurd a
+  reference_known c (Character z) a = absurd a
+  reference_known c (Text z) a = absurd a
+
+  pub plain_fits : (h h' : Holds) (p : Plain) → Fits s h h' → PlainFine s m h p → PlainFine s m h' p
+  plain_fits (Simply k) (Simply k') p e a = (a.0 ∙ e, a.1)
+  plain_fits (Refers c) (Refers u) p e a = reference_up c u p e a
+  plain_fits (Refers c) (Simply k) p e a = subst (λ z. PlainFine s m (Simply z) p) e (reference_known c p a)
+  plain_fits (ArrayOf h) (ArrayOf h') p e a = absurd a
+  plain_fits (Simply k) (Refers u) p e a = absurd e
+  plain_fits (Simply k) (ArrayOf h') p e a = absurd e
+  plain_fits (Refers c) (ArrayOf h') p e a = absurd e
+  plain_fits (ArrayOf h) (Simply k) p e a = absurd e
+  plain_fits (ArrayOf h) (Refers u) p e a = absurd e
+
+  pub val_fits : (i : ℕ) (h h' : Holds) (v : Val) → Fits s h h' → ValFine s o m i h v → ValFine s o m i h' v
+  val_fits i (Simply k) (Simply k') (Of p) e a = (a.0 ∙ e, a.1)
+  val_fits i (Refers c) (Refers u) (Of p) e a = reference_up c u p e a
+  val_fits i (Refers c) (Simply k) (Of p) e a = subst (λ z. PlainFine s m (Simply z) p) e (reference_known c p a)
+  val_fits i (ArrayOf h) (ArrayOf h') v e a = subst (λ z. ValFine s o m i (ArrayOf z) v) e a
+  val_fits i (Simply k) (Refers u) v e a = absurd e
+  val_fits i (Simply k) (ArrayOf h') v e a = absurd e
+  val_fits i (Refers c) (ArrayOf h') v e a = absurd e
+  val_fits i (ArrayOf h) (Simply k) v e a = absurd e
+  val_fits i (ArrayOf h) (Refers u) v e a = absurd e
+  val_fits i (Simply k) (Simply k') _ e a = absurd a
+  val_fits i (Refers c) (Refers u) _ e a = absurd a
+  val_fits i (Refers c) (Simply k) _ e a = absurd a
+
+-- ---- values that are no objects by their kind
+
+pub known_by_kind : (s : Source) (m : Instances) (k : Kind) (p : Plain) → kind_of p ≡ k → (k ≡ kind.Reference → ⊥) → NamesObject s m p
+known_by_kind s m k (Object j) e other = absurd (other (sym e))
+known_by_kind s m k Nothing e other = tt
+known_by_kind s m k (Integer z) e other = tt
+known_by_kind s m k (Truth z) e other = tt
+known_by_kind s m k (Character z) e other = tt
+known_by_kind s m k (Text z) e other = tt
+
+pub plain_by_kind : (s : Source) (m : Instances) (k : Kind) (p : Plain) → kind_of p ≡ k → (k ≡ kind.Reference → ⊥) → PlainFine s m (Simply k) p
+plain_by_kind s m k p e other = (e, known_by_kind s m k p e other)
+
+-- ---- plain values
+
+-- a plain value in hand
+pub plain_val : (s : Source) (o : AllArrays) (m : Instances) (i : ℕ) (h : Holds) (p : Plain) → PlainFine s m h p → ValFine s o m i h (Of p)
+plain_val s o m i (Simply k) p a = a
+plain_val s o m i (Refers c) p a = a
+plain_val s o m i (ArrayOf h) p a = absurd a
+
+-- what fits in a variable may be held by one
+pub fits_plain : (s : Source) (h h' : Holds) → Fits s h h' → IsPlain h → IsPlain h'
+fits_plain s (Simply k) (Simply k') e a = tt
+fits_plain s (Refers c) (Refers u) e a = tt
+fits_plain s (Refers c) (Simply k) e a = tt
+fits_plain s (ArrayOf h) h' e a = absurd a
+fits_plain s (Simply k) (Refers c) e a = absurd e
+fits_plain s (Simply k) (ArrayOf h) e a = absurd e
+fits_plain s (Refers c) (ArrayOf h) e a = absurd e

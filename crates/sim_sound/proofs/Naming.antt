@@ -1,0 +1,52 @@
+-- Each configuration with a rule is one in which references name objects.
+use Rattle.std.proofs.Common.{ℕ, List, [], ◌∷◌, None, sym, ap, subst}
+use Rattle.sim_scope.specs.Source.{Source}
+use Rattle.sim_values.specs.Plain.{Character, Integer, Nothing, Object, Text, Truth}
+use Rattle.sim_meaning.specs.Levels.{has_levels}
+use Rattle.sim_meaning.specs.Pending.{Activation, Address, ArrayValue, Configuration, Instances, Link, Of, ProcedureValue, Tree, Val}
+use Rattle.sim_meaning.specs.Sane.{IsObject, LastNames, Names, NamesOn}
+use Rattle.sim_sound.specs.Held.{ArrayOf, Refers, Simply}
+use Rattle.sim_sound.specs.Typed.{Typed}
+use Rattle.sim_sound.proofs.Attributes.{class_words}
+use Rattle.sim_sound.proofs.Sound.{AddressOf, AllArrays, ChainFine, Copied, DeepFine, Fine, HandsFine, ImageAddress, Kinds, Lasting, LinkTo, ObjectOf, ReferenceAddress, Takes, Value, opens, runs}
+
+module _ (s : Source) (ok : Typed s) (o : AllArrays) (m : Instances) where
+  object_is : (j c : ℕ) → ObjectOf s m j c → IsObject s m j
+  object_is j c p = let w = class_words s ok (p.now).text p.object in record { instance = p.now; lives = p.lives; levels = ap has_levels w.is }
+
+  deep_names : (i d : ℕ) (k : Kinds) (j : ℕ) → DeepFine s o m i d k (Of (Object j)) → IsObject s m j
+  deep_names i d (Value (Simply k)) j a = let x = a.1 in object_is j x.0 x.1
+  deep_names i d (Value (Refers c)) j a = object_is j c a
+  deep_names i d (Value (ArrayOf h)) j a = absurd a
+  deep_names i d (AddressOf h) j a = absurd a
+  deep_names i d (ReferenceAddress c) j a = absurd a
+  deep_names i d ImageAddress j a = absurd a
+  deep_names i d (LinkTo u) j a = absurd a
+  deep_names i d (Copied h) j a = absurd a
+  deep_names i d (Lasting h) j a = absurd a
+
+  value_names : (i d : ℕ) (k : Kinds) (v : Val) → DeepFine s o m i d k v → Names s m v
+  value_names i d k (Of (Object j)) a = deep_names i d k j a
+  value_names i d k (Of Nothing) a = tt
+  value_names i d k (Of (Integer z)) a = tt
+  value_names i d k (Of (Character z)) a = tt
+  value_names i d k (Of (Truth z)) a = tt
+  value_names i d k (Of (Text z)) a = tt
+  value_names i d k (Link j) a = tt
+  value_names i d k (Address p) a = tt
+  value_names i d k (ArrayValue n) a = tt
+  value_names i d k (ProcedureValue p q) a = tt
+  value_names i d k (Tree x) a = tt
+
+  hands_name : (i : ℕ) (ks : List Kinds) (vals : List Val) → HandsFine s o m i ks vals → LastNames s m vals
+  hands_name i ks [] a = tt
+  hands_name i [] (v ∷ vals) a = absurd a
+  hands_name i (k ∷ ks) (v ∷ vals) a = value_names i _ k v a.0
+
+  chain_names : (bound : ℕ) (chain : List Activation) → ChainFine s o m bound chain (Takes None) → NamesOn s m chain
+  chain_names bound [] c = tt
+  chain_names bound (a ∷ rest) c = hands_name a.instance c.kinds a.values (subst (λ z. HandsFine s o m a.instance c.kinds z) (sym c.shown) c.hands)
+
+pub fine_names : (s : Source) → Typed s → (o : AllArrays) (c : Configuration) → Fine s o c → NamesOn s c.memory c.chain
+fine_names s ok o c (opens none empty unseen kept) = subst (NamesOn s c.memory) (sym none) tt
+fine_names s ok o c (runs store all kept f) = chain_names s ok o c.memory _ c.chain f

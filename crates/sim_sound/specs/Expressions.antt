@@ -1,0 +1,242 @@
+-- Which expressions are typed, and what they name.
+use Rattle.std.specs.Prelude.{◌≡◌, ℕ, Bool, true, false, List, [], ◌∷◌, Option, Some, None}
+use Rattle.sim_base.specs.declared.numbering.DeclNo.{DeclNo}
+use Rattle.sim_scope.specs.declared.scopes.Denotation.{Denotation}
+use Rattle.sim_scope.specs.declared.scopes.Denotation.TheVariants as denotation
+use Rattle.sim_scope.specs.declared.types.Entry.{Entry}
+use Rattle.sim_scope.specs.declared.types.Entry.TheVariants as entry
+use Rattle.sim_scope.specs.declared.types.Formal.{Formal}
+use Rattle.sim_scope.specs.declared.types.FormalKind.{FormalKind}
+use Rattle.sim_scope.specs.declared.types.FormalKind.TheVariants as shape
+use Rattle.sim_scope.specs.declared.types.Mode.{Mode}
+use Rattle.sim_scope.specs.declared.types.Mode.TheVariants as mode
+use Rattle.sim_scope.specs.declared.types.SimType.{SimType}
+use Rattle.sim_scope.specs.Levels.{base, has_level}
+use Rattle.sim_scope.specs.Scopes.{entry_of}
+use Rattle.sim_scope.specs.Source.{Source, block_of, denoted, found_at}
+use Rattle.sim_tree.specs.Syntax.{Expression, Expressions, Literal, NoMore, Then}
+use Rattle.sim_tree.specs.Syntax as syntax
+use Rattle.sim_values.specs.declared.kind.Kind.{Kind}
+use Rattle.sim_values.specs.declared.kind.Kind.TheVariants as kind
+use Rattle.sim_values.specs.declared.operators.Dyadic.{Dyadic}
+use Rattle.sim_values.specs.declared.operators.Dyadic.TheVariants as dyadic
+use Rattle.sim_values.specs.declared.standard.Standard.{Standard}
+use Rattle.sim_values.specs.declared.standard.StandardType.{StandardType}
+use Rattle.sim_values.specs.Plain.{Plain, kind_of}
+use Rattle.sim_values.specs.Standard.{is_image, kind_of_type as kind_of_standard, on_image, operands_of, row_of}
+use Rattle.sim_code.specs.Running.{name_runs}
+use Rattle.sim_meaning.specs.Attributes.{connection_at, is_connection}
+use Rattle.sim_meaning.specs.Closing.{Joining, Lazily, Negated, Plainly, Sort, class_parameters, is_text, sort_of, stream_of}
+use Rattle.sim_meaning.specs.Constants.{text_constant}
+use Rattle.sim_meaning.specs.Entries.{formals_of}
+use Rattle.sim_meaning.specs.Levels.{class_at, is_class}
+use Rattle.sim_meaning.specs.Names.{procedure_named}
+use Rattle.sim_meaning.specs.Texts.{constant_of, text}
+use Rattle.sim_sound.specs.Held.{ArrayOf, Fits, FitsIn, Holds, Place, Refers, Sees, SeesConnected, Simply, StandsAround, entry_holds, given_by, held_by, reference_to}
+
+-- ---- operators
+
+abbrev pub Ordered : Kind → Type 0
+Ordered kind.Integer = Unit {0}
+Ordered kind.Character = Unit {0}
+Ordered _ = ⊥
+
+-- operands of this kind, and what comes of them
+abbrev pub TwoKinds : Dyadic → (operands value : Kind) → Type 0
+TwoKinds (dyadic.Calculate c) k v = (k ≡ kind.Integer) × (v ≡ kind.Integer)
+TwoKinds (dyadic.Compare r) k v = Ordered k × (v ≡ kind.Boolean)
+TwoKinds (dyadic.CompareTexts r) k v = (k ≡ kind.Text) × (v ≡ kind.Boolean)
+TwoKinds (dyadic.Connect c) k v = (k ≡ kind.Boolean) × (v ≡ kind.Boolean)
+TwoKinds dyadic.SameObject k v = (k ≡ kind.Reference) × (v ≡ kind.Boolean)
+TwoKinds dyadic.SameText k v = (k ≡ kind.Text) × (v ≡ kind.Boolean)
+
+abbrev pub SortKinds : Sort → (operands value : Kind) → Type 0
+SortKinds (Plainly op) k v = TwoKinds op k v
+SortKinds (Negated op) k v = TwoKinds op k kind.Boolean × (v ≡ kind.Boolean)
+SortKinds (Lazily b) k v = (k ≡ kind.Boolean) × (v ≡ kind.Boolean)
+SortKinds Joining k v = (k ≡ kind.Text) × (v ≡ kind.Text)
+
+abbrev pub literal_kind : Literal → Option Kind
+literal_kind (syntax.IntegerValue z) = Some kind.Integer
+literal_kind (syntax.CharacterValue c) = Some kind.Character
+literal_kind (syntax.BooleanValue b) = Some kind.Boolean
+literal_kind (syntax.TextValue bytes) = None
+literal_kind syntax.NoObject = Some kind.Reference
+literal_kind syntax.NoText = Some kind.Text
+
+abbrev pub standard_kind : Option StandardType → Option Kind
+standard_kind None = None
+standard_kind (Some t) = Some (kind_of_standard t)
+
+-- ---- identifiers
+
+-- An identifier that is declared, which is known where it stands: seen from there, or an attribute of an object. An expression names what it
+-- is, an array or a value. `Indices` says that the operands are integers, `Operands` that they are of these kinds, `Actuals` that they fit
+-- these formal parameters.
+
+abbrev pub VariableNames : Source → (Known : Type 0) → Expressions → (held h : Holds) → Type 0
+VariableNames s Known NoMore held h = Fits s held h × Known
+VariableNames s Known (Then e es) held h = ⊥
+
+abbrev pub ArrayNames : Source → (Known : Type 0) → Expressions → (Indices : Type 0) → (element h : Holds) → Type 0
+ArrayNames s Known NoMore Indices k h = (ArrayOf k ≡ h) × Known
+ArrayNames s Known (Then e es) Indices k h = Fits s k h × Known × Indices
+
+abbrev pub ConstantNames : Source → (Known : Type 0) → DeclNo → Expressions → Holds → Type 0
+ConstantNames s Known d NoMore h = (v : Plain) × (constant_of s d ≡ Some v) × (Simply (kind_of v) ≡ h) × Known
+ConstantNames s Known d (Then e es) h = ⊥
+
+abbrev pub HeldNames : Source → (Known : Type 0) → Expressions → (Indices : Type 0) → Option Holds → Holds → Type 0
+HeldNames s Known es Indices (Some (Simply k)) h = VariableNames s Known es (Simply k) h
+HeldNames s Known es Indices (Some (Refers c)) h = VariableNames s Known es (Refers c) h
+HeldNames s Known es Indices (Some (ArrayOf k)) h = ArrayNames s Known es Indices k h
+HeldNames s Known es Indices None h = ⊥
+
+-- a call gives what h says, or nothing
+abbrev pub CallGives : Source → (Known : Type 0) → (result : Option SimType) → (text : ℕ) → (Actuals : List Formal → Type 0) → Option Holds → Type 0
+CallGives s Known result k Actuals h = FitsIn s (given_by s result) h × Known × Actuals (formals_of s k)
+
+abbrev pub some_holds : Option Kind → Option Holds
+some_holds None = None
+some_holds (Some k) = Some (Simply k)
+
+-- `none` is a reference with each qualification
+abbrev pub IsReference : Holds → Type 0
+IsReference (Simply k) = kind.Reference ≡ k
+IsReference (Refers class) = Unit {0}
+IsReference (ArrayOf h) = ⊥
+
+-- a text constant is one of the program's
+abbrev pub LiteralIs : Source → (token : ℕ) → Literal → Holds → Type 0
+LiteralIs s token (syntax.TextValue bytes) h = (v : Plain) × (text_constant s token ≡ Some v) × (Simply (kind_of v) ≡ h)
+LiteralIs s token syntax.NoObject h = IsReference h
+LiteralIs s token literal h = some_holds (literal_kind literal) ≡ Some h
+
+-- a standard name that is done gives what its row says
+abbrev pub RowGives : Standard → Option Holds → Type 0
+RowGives name h = (name_runs name ≡ true) × (some_holds (standard_kind (row_of name).result) ≡ h)
+
+-- a name of texts, behind its text
+abbrev pub OfText : Standard → (Operands : List Kind → Type 0) → Option Holds → Type 0
+OfText name Operands h = RowGives name h × (ks : List Kind) × (operands_of (row_of name).function ≡ kind.Text ∷ ks) × Operands ks
+
+-- `image`, a name that is done on an image as a name of texts, or any other name
+abbrev pub NameGives : (is_image : Bool) → (on_image : Option Standard) → Standard → (Operands : List Kind → Type 0) → Option Holds → Type 0
+NameGives true other name Operands h = (Some (Simply kind.Text) ≡ h) × Operands []
+NameGives false (Some of_text) name Operands h = OfText of_text Operands h
+NameGives false None name Operands h = RowGives name h × Operands (operands_of (row_of name).function)
+
+abbrev pub StandardGives : Option Standard → (Operands : List Kind → Type 0) → Option Holds → Type 0
+StandardGives None Operands h = ⊥
+StandardGives (Some name) Operands h = NameGives (is_image name) (on_image name) name Operands h
+
+-- a standard name behind a dot: of sysin or sysout, or of a text
+abbrev pub AttributeGives : Option Standard → (Object : Type 0) → (Operands : List Kind → Type 0) → Option Holds → Type 0
+AttributeGives None Object Operands h = ⊥
+AttributeGives (Some name) Object Operands h = Object × OfText name Operands h
+
+abbrev pub BehindGives : (stream : Option ℕ) → Option Standard → (Object : Type 0) → (Operands : List Kind → Type 0) → Option Holds → Type 0
+BehindGives (Some image) name Object Operands h = StandardGives name Operands h
+BehindGives None name Object Operands h = AttributeGives name Object Operands h
+
+abbrev pub DeclaredGives : Source → (Known : Type 0) → DeclNo → Expressions → (Indices : Type 0) → (Actuals : List Formal → Type 0) → Option Entry → Option Holds → Type 0
+DeclaredGives s Known d es Indices Actuals (Some (entry.Procedure result k)) h = CallGives s Known result k Actuals h
+DeclaredGives s Known d es Indices Actuals (Some (entry.Constant t)) (Some h) = ConstantNames s Known d es h
+DeclaredGives s Known d es Indices Actuals (Some e) (Some h) = HeldNames s Known es Indices (entry_holds s false (Some e)) h
+DeclaredGives s Known d es Indices Actuals _ _ = ⊥
+
+-- An attribute of an object: what is in front of the dot refers to a class that has it in one of its levels.
+abbrev pub ObjectHas : Source → (Object : ℕ → Type 0) → DeclNo → Type 0
+ObjectHas s Object d = (class : ℕ) × (is_class (text s class) ≡ true) × (has_level s.tables class (block_of s d) ≡ true) × Object class
+
+-- behind a dot: `Text` says that a text stands in front of it, `Object` that a reference to an object of a class does
+abbrev pub DotGives : Source → Option Denotation → (stream : Option ℕ) → (Text : Type 0) → (Object : ℕ → Type 0) → Expressions → (Indices : Type 0) → (Operands : List Kind → Type 0) → (Actuals : List Formal → Type 0) → Option Holds → Type 0
+DotGives s (Some (denotation.Standard name)) stream Text Object es Indices Operands Actuals h = BehindGives stream (procedure_named name) Text Operands h
+DotGives s (Some (denotation.Declared d)) stream Text Object es Indices Operands Actuals h = DeclaredGives s (ObjectHas s Object d) d es Indices Actuals (entry_of s.tables d) h
+DotGives s None stream Text Object es Indices Operands Actuals h = ⊥
+
+-- a declaration is seen from a place, through a connection or not
+abbrev pub KnownAt : Source → Place → (connection : Option ℕ) → DeclNo → Type 0
+KnownAt s from None d = Sees s from d
+KnownAt s from (Some k) d = SeesConnected s from k d
+
+abbrev pub NamedGives : Source → Place → (connection : Option ℕ) → Option Denotation → Expressions → (Indices : Type 0) → (Operands : List Kind → Type 0) → (Actuals : List Formal → Type 0) → Option Holds → Type 0
+NamedGives s from connection (Some (denotation.Declared d)) es Indices Operands Actuals h = DeclaredGives s (KnownAt s from connection d) d es Indices Actuals (entry_of s.tables d) h
+NamedGives s from None (Some (denotation.Standard name)) es Indices Operands Actuals h = StandardGives (procedure_named name) Operands h
+NamedGives s from connection _ es Indices Operands Actuals h = ⊥
+
+-- A reference is held against the qualification of its formal parameter when it is passed.
+abbrev pub passed : Holds → Holds
+passed (Refers class) = Simply kind.Reference
+passed h = h
+
+abbrev pub ActualFits : Source → Mode → FormalKind → Option SimType → (Is : Holds → Type 0) → Type 0
+ActualFits s mode.ByValue shape.Simple (Some t) Is = Is (passed (held_by s t))
+ActualFits s mode.ByReference shape.Simple (Some t) Is = Is (passed (held_by s t))
+ActualFits s mode.ByValue shape.Array (Some t) Is = Is (ArrayOf (held_by s t))
+ActualFits s mode.ByReference shape.Array (Some t) Is = Is (ArrayOf (held_by s t))
+ActualFits s _ _ _ Is = ⊥
+
+-- ---- classes
+
+-- a class that is named, as its text
+pub record ClassNamed (s : Source) (token : ℕ) : Type 0 where
+  pub class : ℕ
+  pub is : class_at s token ≡ Some class
+
+-- `this`: the object of a class around, or what is connected
+abbrev pub ThisIs : Source → Place → (is_connection is_class : Bool) → (found : ℕ) → Holds → Type 0
+ThisIs s from true c k h = StandsAround s from k × Fits s (reference_to (base s.tables k)) h
+ThisIs s from false true k h = StandsAround s from k × Fits s (Refers k) h
+ThisIs s from false false k h = ⊥
+
+abbrev pub ThisFound : Source → Place → (found : Option ℕ) → Holds → Type 0
+ThisFound s from None h = ⊥
+ThisFound s from (Some k) h = ThisIs s from (is_connection (text s k)) (is_class (text s k)) k h
+
+-- the class is seen, and the actual parameters fit the formal parameters of all its levels
+pub record Generates (s : Source) (from : Place) (token : ℕ) (Actuals : List Formal → Type 0) : Type 0 where
+  pub declaration : DeclNo
+  pub denotes : denoted s token ≡ Some (denotation.Declared declaration)
+  pub class : ℕ
+  pub declares : entry_of s.tables declaration ≡ Some (entry.Class class)
+  pub seen : Sees s from declaration
+  pub actuals : Actuals (class_parameters s (Some class))
+
+abbrev pub NewIs : Source → Place → (token : ℕ) → (Actuals : List Formal → Type 0) → Holds → Type 0
+NewIs s from token Actuals h = (g : Generates s from token Actuals) × Fits s (Refers g.class) h
+
+-- ---- expressions
+
+abbrev mutual
+  pub ExprIs : Source → Place → Expression → Holds → Type 0
+  ExprIs s from (syntax.If token c a b) h = ExprIs s from c (Simply kind.Boolean) × ExprIs s from a h × ExprIs s from b h
+  ExprIs s from (syntax.Binary op token a b) h = (k : Kind) × (v : Kind) × SortKinds (sort_of (is_text s a) op) k v × (Simply v ≡ h) × ExprIs s from a (Simply k) × ExprIs s from b (Simply k)
+  ExprIs s from (syntax.Not token a) h = (Simply kind.Boolean ≡ h) × ExprIs s from a (Simply kind.Boolean)
+  ExprIs s from (syntax.Signed sign token a) h = (Simply kind.Integer ≡ h) × ExprIs s from a (Simply kind.Integer)
+  ExprIs s from (syntax.Member member token a class) h = (Simply kind.Boolean ≡ h) × ClassNamed s class.token.0 × ExprIs s from a (Simply kind.Reference)
+  ExprIs s from (syntax.Dot token a name es) h =
+      DotGives s (denoted s name.token.0) (stream_of s a) (ExprIs s from a (Simply kind.Text)) (λ c. ExprIs s from a (Refers c)) es (AreIntegers s from es) (λ ks. AreOf s from es ks) (λ fs. ActualsFit s from es fs) (Some h)
+  ExprIs s from (syntax.Qua token a class) h = (c : ClassNamed s class.token.0) × Fits s (Refers c.class) h × ExprIs s from a (Simply kind.Reference)
+  ExprIs s from (syntax.Constant literal token) h = LiteralIs s token literal h
+  ExprIs s from (syntax.Named name es) h =
+      NamedGives s from (connection_at s name.token.0) (denoted s name.token.0) es (AreIntegers s from es) (λ ks. AreOf s from es ks) (λ fs. ActualsFit s from es fs) (Some h)
+  ExprIs s from (syntax.This token class) h = ThisFound s from (found_at s token) h
+  ExprIs s from (syntax.New token class es) h = NewIs s from class.token.0 (λ fs. ActualsFit s from es fs) h
+  ExprIs s from (syntax.Parentheses token a) h = ExprIs s from a h
+
+  pub AreIntegers : Source → Place → Expressions → Type 0
+  AreIntegers s from NoMore = Unit {0}
+  AreIntegers s from (Then e es) = ExprIs s from e (Simply kind.Integer) × AreIntegers s from es
+
+  pub AreOf : Source → Place → Expressions → List Kind → Type 0
+  AreOf s from NoMore [] = Unit {0}
+  AreOf s from NoMore (k ∷ ks) = ⊥
+  AreOf s from (Then e es) [] = ⊥
+  AreOf s from (Then e es) (k ∷ ks) = ExprIs s from e (Simply k) × AreOf s from es ks
+
+  pub ActualsFit : Source → Place → Expressions → List Formal → Type 0
+  ActualsFit s from NoMore [] = Unit {0}
+  ActualsFit s from NoMore (f ∷ fs) = ⊥
+  ActualsFit s from (Then e es) [] = ⊥
+  ActualsFit s from (Then e es) (f ∷ fs) = ActualFits s f.mode f.kind f.ty (ExprIs s from e) × ActualsFit s from es fs

@@ -1,0 +1,226 @@
+//! Programs with a form that is not built: prefixes, virtual procedures, protection, parameters by name and of procedures, activations.
+ghost use Rattle.std.specs.Prelude.{◌≡◌, ◌||◌, false};
+ghost use Rattle.std.specs.List.{list_any};
+ghost use Rattle.sim_scope.specs.Runs.{each};
+ghost use Rattle.sim_scope.specs.Walk.{of_arm, of_block, of_branch, of_class_body, of_declaration, of_statement, of_whole};
+ghost use Rattle.sim_static.specs.UnbuiltForms.{HasUnbuiltForm, Notes, forms, is_name, is_name_part, is_of_procedure, is_of_procedure_part, names_code, names_unbuilt};
+
+use sim_scope::Position;
+use sim_tree::{
+    Block, Class, Decl, Identifier, Mode, ModePart, Program, Specification, Specifier, Stmt, When,
+};
+
+fn is_name(mode: Mode) -> bool
+    ensures { result ≡ is_name mode }
+{
+    match mode {
+        Mode::Name => true,
+        Mode::Value => false,
+    }
+}
+
+fn is_of_procedure(specifier: &Specifier) -> bool
+    ensures { result ≡ is_of_procedure specifier.now }
+{
+    match specifier {
+        Specifier::Simple(_) => false,
+        Specifier::Array { .. } => false,
+        Specifier::Procedure { .. } => true,
+    }
+}
+
+fn has_names(modes: &[ModePart]) -> bool
+    ensures { result ≡ list_any is_name_part modes.now }
+{
+    modes.iter().any(|part| is_name(part.mode))
+}
+
+fn has_procedures(specifications: &[Specification]) -> bool
+    ensures { result ≡ list_any is_of_procedure_part specifications.now }
+{
+    specifications
+        .iter()
+        .any(|part| is_of_procedure(&part.specifier))
+}
+
+/// Whether a heading has a parameter by name or a procedure as a parameter.
+#[tactic(auto, unfolding(crate::specs::UnbuiltForms::names_code))]
+fn names_code(modes: &[ModePart], specifications: &[Specification]) -> bool
+    ensures { result ≡ names_code modes.now specifications.now }
+{
+    has_names(modes) || has_procedures(specifications)
+}
+
+/// Whether a class has a prefix, such a parameter, virtual procedures, or attributes that are hidden or protected.
+#[tactic(auto, unfolding(crate::specs::UnbuiltForms::names_unbuilt))]
+fn is_unbuilt_class(prefix: &Option<Identifier>, class: &Class) -> bool
+    ensures { result ≡ names_unbuilt prefix.now class.now.modes.items class.now.specifications.items class.now.protections.items class.now.virtuals.items }
+{
+    prefix.is_some()
+        || names_code(&class.modes, &class.specifications)
+        || !class.protections.is_empty()
+        || !class.virtuals.is_empty()
+}
+
+/// Whether one was met, behind one place more.
+fn noted(met: bool, here: bool) -> bool
+    ensures { result ≡ (met || here) }
+{
+    met || here
+}
+
+/// A statement.
+#[cycle(noting)]
+#[tactic(auto, using(crate::proofs::Notings::notings))]
+fn statement(met: bool, position: Position, stmt: &Stmt) -> bool
+    ensures { Notes met result (of_statement forms position stmt.now) }
+{
+    match stmt {
+        Stmt::Block { block } => match position {
+            Position::ClassBody => class_body(met, block),
+            Position::ClassStatement => self::block(met, block),
+            Position::Inside => self::block(met, block),
+        },
+        Stmt::PrefixedBlock { block, .. } => whole(true, block),
+        Stmt::If {
+            then_branch,
+            else_branch,
+            ..
+        } => {
+            let met = statement(met, Position::Inside, then_branch);
+            branch(met, else_branch)
+        }
+        Stmt::While { body, .. } => statement(met, Position::Inside, body),
+        Stmt::For { body, .. } => statement(met, Position::Inside, body),
+        Stmt::ForReference { body, .. } => statement(met, Position::Inside, body),
+        Stmt::Inspect {
+            body,
+            otherwise,
+            ..
+        } => {
+            let met = statement(met, Position::Inside, body);
+            branch(met, otherwise)
+        }
+        Stmt::InspectWhen {
+            arms: list,
+            otherwise,
+            ..
+        } => {
+            let met = arms(met, list);
+            branch(met, otherwise)
+        }
+        Stmt::Call { .. } => met,
+        Stmt::Assignment { .. } => met,
+        Stmt::Inner { .. } => met,
+        Stmt::Empty { .. } => met,
+        Stmt::Activation { .. } => true,
+    }
+}
+
+#[cycle(noting)]
+#[tactic(auto, using(crate::proofs::Notings::notings))]
+fn branch(met: bool, stmt: &Option<Box<Stmt>>) -> bool
+    ensures { Notes met result (of_branch forms stmt.now) }
+{
+    match stmt {
+        Some(stmt) => statement(met, Position::Inside, stmt),
+        None => met,
+    }
+}
+
+#[cycle(noting)]
+#[tactic(auto, using(crate::proofs::Notings::notings))]
+fn arms(met: bool, list: &[When]) -> bool
+    ensures { Notes met result (each (of_arm forms) list.now) }
+{
+    let mut found = met;
+    for item in list {
+        found = statement(found, Position::Inside, &item.body);
+    }
+    found
+}
+
+#[cycle(noting)]
+#[tactic(auto, using(crate::proofs::Notings::notings))]
+fn statements(met: bool, position: Position, list: &[Stmt]) -> bool
+    ensures { Notes met result (each (of_statement forms position) list.now) }
+{
+    let mut found = met;
+    for item in list {
+        found = statement(found, position, item);
+    }
+    found
+}
+
+/// A block, or a compound statement.
+#[cycle(noting)]
+#[tactic(auto, using(crate::proofs::Notings::notings))]
+fn block(met: bool, block: &Block) -> bool
+    ensures { Notes met result (of_block forms block.now) }
+{
+    if block.declarations.is_empty() {
+        return statements(met, Position::Inside, &block.statements);
+    }
+    let met = declarations(met, &block.declarations);
+    statements(met, Position::Inside, &block.statements)
+}
+
+/// What is inside a block that is one also without declarations.
+#[cycle(noting)]
+#[tactic(auto, using(crate::proofs::Notings::notings))]
+fn whole(met: bool, block: &Block) -> bool
+    ensures { Notes met result (of_whole forms block.now) }
+{
+    let met = declarations(met, &block.declarations);
+    statements(met, Position::Inside, &block.statements)
+}
+
+/// The body of a class.
+#[cycle(noting)]
+#[tactic(auto, using(crate::proofs::Notings::notings))]
+fn class_body(met: bool, block: &Block) -> bool
+    ensures { Notes met result (of_class_body forms block.now) }
+{
+    let met = declarations(met, &block.declarations);
+    statements(met, Position::ClassStatement, &block.statements)
+}
+
+#[cycle(noting)]
+#[tactic(auto, using(crate::proofs::Notings::notings))]
+fn declarations(met: bool, list: &[Decl]) -> bool
+    ensures { Notes met result (each (of_declaration forms) list.now) }
+{
+    let mut found = met;
+    for item in list {
+        found = declaration(found, item);
+    }
+    found
+}
+
+#[cycle(noting)]
+#[tactic(auto, using(crate::proofs::Notings::notings))]
+fn declaration(met: bool, decl: &Decl) -> bool
+    ensures { Notes met result (of_declaration forms decl.now) }
+{
+    match decl {
+        Decl::Variables { .. } => met,
+        Decl::Arrays { .. } => met,
+        Decl::Procedure { procedure, .. } => {
+            let met = noted(met, names_code(&procedure.modes, &procedure.specifications));
+            statement(met, Position::Inside, &procedure.body)
+        }
+        Decl::Class { prefix, class, .. } => {
+            let met = noted(met, is_unbuilt_class(prefix, class));
+            statement(met, Position::ClassBody, &class.body)
+        }
+    }
+}
+
+/// Whether a program has a class or block with a prefix, virtual procedures, attributes that are hidden or protected, a parameter by name, a
+/// procedure as a parameter, or an activation, wherever it stands.
+#[tactic(auto, using(crate::proofs::Notings::unbuilt))]
+pub fn has_unbuilt_form(program: &Program) -> bool
+    ensures { HasUnbuiltForm program.now result }
+{
+    whole(program.prefix.is_some(), &program.block)
+}

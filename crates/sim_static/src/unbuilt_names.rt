@@ -1,0 +1,109 @@
+//! Sources with a standard name that is not built.
+ghost use Rattle.std.specs.Prelude.{◌≡◌, ◌||◌};
+ghost use Rattle.std.specs.List.{list_any};
+ghost use Rattle.std.specs.Str.{bytes_eq};
+ghost use Rattle.sim_scope.specs.ClassNames.{is_name_of_classes, names_of_classes, names_of_simulation};
+ghost use Rattle.sim_static.specs.UnbuiltNames.{HasUnbuiltName, is_dot, is_unbuilt, spells, spells_here};
+
+use sim_base::{Token, TokenKind, TokenValue};
+use sim_scope::is_detach;
+
+/// The standard names of classes and of sets.
+static NAMES_OF_CLASSES: [&str; 19] = [
+    "detach", "call", "resume", "simset", "linkage", "suc", "pred", "prev", "link", "out",
+    "follow", "precede", "into", "head", "first", "last", "empty", "cardinal", "clear",
+];
+
+/// The standard names of simulation.
+static NAMES_OF_SIMULATION: [&str; 13] = [
+    "process",
+    "idle",
+    "terminated",
+    "evtime",
+    "nextev",
+    "simulation",
+    "time",
+    "current",
+    "main",
+    "hold",
+    "passivate",
+    "wait",
+    "cancel",
+];
+
+fn contains(names: &[&str], name: &[u8]) -> bool
+    ensures { result ≡ list_any (λ word. bytes_eq name.now word.now) names.now }
+{
+    names.iter().any(|word| name == word.as_bytes())
+}
+
+fn is_of_classes(name: &[u8]) -> bool
+    ensures { result ≡ list_any (bytes_eq name.now) names_of_classes }
+{
+    contains(&NAMES_OF_CLASSES, name)
+}
+
+fn is_of_simulation(name: &[u8]) -> bool
+    ensures { result ≡ list_any (bytes_eq name.now) names_of_simulation }
+{
+    contains(&NAMES_OF_SIMULATION, name)
+}
+
+#[tactic(auto, unfolding(sim_scope::specs::ClassNames::is_name_of_classes))]
+fn is_name_of_classes(name: &[u8]) -> bool
+    ensures { result ≡ is_name_of_classes name.now }
+{
+    is_of_classes(name) || is_of_simulation(name)
+}
+
+/// Whether an identifier, which stands behind a dot or not, is spelt as such a name.
+fn is_unbuilt(dotted: bool, name: &[u8]) -> bool
+    ensures { result ≡ is_unbuilt dotted name.now }
+{
+    if dotted {
+        is_detach(name)
+    } else {
+        is_name_of_classes(name)
+    }
+}
+
+fn spells(dotted: bool, kind: TokenKind, value: &TokenValue) -> bool
+    ensures { result ≡ spells dotted kind value.now }
+{
+    match kind {
+        TokenKind::Identifier => is_unbuilt(dotted, value.bytes()),
+        _ => false,
+    }
+}
+
+fn is_dot(kind: TokenKind) -> bool
+    ensures { result ≡ is_dot kind }
+{
+    match kind {
+        TokenKind::Dot => true,
+        _ => false,
+    }
+}
+
+#[tactic(auto, unfolding(crate::specs::UnbuiltNames::spells_here))]
+fn spells_here(dotted: bool, token: &Token) -> bool
+    ensures { result ≡ spells_here dotted token.now }
+{
+    spells(dotted, token.lexeme.kind, &token.lexeme.value)
+}
+
+/// Whether the tokens of a source have an identifier that is spelt as a standard name of coroutines, of sets or of simulation. Behind a dot
+/// `detach` is the only one: an object of a class without a prefix has no other of them.
+#[tactic(auto, using(crate::proofs::Names::named))]
+pub fn has_unbuilt_name(tokens: &[Token]) -> bool
+    ensures { HasUnbuiltName tokens.now result }
+{
+    let mut dotted = false;
+    for token in tokens {
+        if spells_here(dotted, token) {
+            return true;
+        }
+        dotted = is_dot(token.lexeme.kind);
+    }
+    false
+}
