@@ -29,7 +29,7 @@ use Rattle.sim_sound.specs.Held.{Among, Around, Holds, entry_holds, first, furth
 use Rattle.sim_sound.specs.Typed.{ResultWritten, TextTyped, Typed}
 use Rattle.sim_sound.proofs.Attributes.{holds_result}
 use Rattle.sim_sound.proofs.Changes.{equal_same}
-use Rattle.sim_sound.proofs.Fitting.{one_level}
+use Rattle.sim_sound.proofs.Unprefixed.{one_level}
 use Rattle.sim_sound.proofs.Lists.{there_get, there_is}
 use Rattle.sim_sound.proofs.Reach.{among_block}
 use Rattle.sim_sound.proofs.Sound.{KeyAmong, first_key, key_of, later_key}
@@ -209,7 +209,7 @@ module _ (s : Source) (ok : Typed s) (laid : Laid s) where
   -- no class is in front of a text
   pub unprefixed : (k : ℕ) → prefix_of s.tables k ≡ None
   unfolding prefix_of is_connected base
-  unprefixed k = by_row (slice_get s.tables.blocks k) (laid.connected k) (λ e. ok.unprefixed k e)
+  unprefixed k = by_row (slice_get s.tables.blocks k) (laid.connected k) (λ e. laid.alone k e)
     where
       by_row : (b : Option BlockOf) → connects b ≡ is_connection (text s k) → (is_connection (text s k) ≡ false → base_in b ≡ None) → in_front b ≡ None
       by_row None c f = refl
@@ -283,4 +283,4 @@ module _ (s : Source) (ok : Typed s) (laid : Laid s) where
 
   -- where a level is that of a text itself
   pub level_solid : (t u : ℕ) → is_connection (text s t) ≡ false → has_level s.tables t u ≡ true → is_connection (text s u) ≡ false
-  level_solid t u solid e = subst (λ z. is_connection (text s z) ≡ false) (one_level s ok t u solid e) solid
+  level_solid t u solid e = subst (λ z. is_connection (text s z) ≡ false) (one_level s laid.alone t u solid e) solid

@@ -1,9 +1,7 @@
 -- The arrays of a text are made one after the other.
-use Rattle.std.proofs.Common.{◌≡◌, ℕ, zero, suc, false, List, [], ◌∷◌, length, Option, Some, None, refl, sym, ap, ◌∙◌, subst, arith}
+use Rattle.std.proofs.Common.{◌≡◌, ℕ, zero, suc, false, List, [], ◌∷◌, ◌++◌, length, Option, Some, None, refl, sym, ap, ◌∙◌, subst, arith}
 use Rattle.std.specs.Prelude.{◌*◌}
 use Rattle.sim_base.specs.declared.numbering.DeclNo.{DeclNo}
-use Rattle.sim_scope.specs.declared.types.Entry.TheVariants as entry
-use Rattle.sim_scope.specs.declared.types.SimType.{SimType}
 use Rattle.sim_scope.specs.Scopes.{entry_of}
 use Rattle.sim_scope.specs.Source.{Source, line_at}
 use Rattle.sim_tree.specs.declared.expr.Identifier.{Identifier}
@@ -20,14 +18,11 @@ use Rattle.sim_sound.specs.Expressions.{ExprIs}
 use Rattle.sim_sound.specs.Held.{Among, ArrayOf, Holds, InBound, IsFixed, IsOfKind, Simply, entry_holds, first, key_holds, later}
 use Rattle.sim_sound.specs.Typed.{ArrayIs, ArraysAre, ArraysTyped, BoundsAre, Distinct, SegmentsAre, SomeName, Typed, arrays_in_segments, arrays_named, arrays_of_block, of_option}
 use Rattle.sim_sound.proofs.Closing.{expr_fine}
+use Rattle.sim_sound.proofs.Prefixes.{LevelOf, level_solid}
 use Rattle.sim_sound.proofs.Reach.{key_there, reaches_bound, text_bound}
-use Rattle.sim_sound.proofs.Sound.{AllArrays, Begun, KeyAmong, Kinds, Value, Waits, WorkFine, array_stored, integers, keys_in, own_made, simple}
+use Rattle.sim_sound.proofs.Sound.{AllArrays, Begun, EntryIsArray, KeyAmong, Kinds, Value, Waits, WorkFine, array_stored, integers, keys_in, own_made, simple}
 
 -- ---- what is declared there is an array
-
--- its entry
-abbrev pub EntryIsArray : Source → DeclNo → Type 0
-EntryIsArray s d = (element : SimType) × (dimensions : ℕ) × (entry_of s.tables d ≡ Some (entry.Array element dimensions))
 
 is_array : (s : Source) (h : Holds) (x : Identifier) → ArrayIs s h x → (d : DeclNo) → declared_at s x.token.0 ≡ Some d → EntryIsArray s d
 is_array s h x a d e =
@@ -57,19 +52,31 @@ arrays_are s from (With (DeclareClass prefix token h interface body end) ds) a d
 not_fixed : (s : Source) (d : DeclNo) → EntryIsArray s d → IsFixed (entry_of s.tables d) → ⊥
 not_fixed s d a f = subst IsFixed a.2 f
 
--- ---- they are made in an instance j of the text k, where all of them are still to be made
+named_append : (s : Source) (xs : List Identifier) (more rest : List DeclNo) → arrays_named s xs more ++ rest ≡ arrays_named s xs (more ++ rest)
+named_append s [] more rest = refl
+named_append s (x ∷ xs) more rest = option_append (declared_at s x.token.0) (arrays_named s xs more) ∙ ap (of_option (declared_at s x.token.0)) (named_append s xs more rest)
+  where
+    option_append : (o : Option DeclNo) (ds : List DeclNo) → of_option o ds ++ rest ≡ of_option o (ds ++ rest)
+    option_append None ds = refl
+    option_append (Some d) ds = refl
 
-module _ (s : Source) (ok : Typed s) (o : AllArrays) (m : Instances) (j k : ℕ) (all : List DeclNo) (b : Begun s o m j k all) (x : Text) (is : text s k ≡ Some x) (solid : is_connection (text s k) ≡ false) (arrays : (d : DeclNo) → Among d all → EntryIsArray s d) (Below : Waits → Type 0) (Outermost : Type 0) where
+segments_append : (s : Source) (as' : List Arrayed) (more rest : List DeclNo) → arrays_in_segments s as' more ++ rest ≡ arrays_in_segments s as' (more ++ rest)
+segments_append s [] more rest = refl
+segments_append s (p ∷ others) more rest = named_append s p.names (arrays_in_segments s others more) rest ∙ ap (arrays_named s p.names) (segments_append s others more rest)
+
+-- ---- they are made in an instance j of the text t, by its level k, where all of them are still to be made
+
+module _ (s : Source) (ok : Typed s) (o : AllArrays) (m : Instances) (j t k : ℕ) (at : LevelOf s t k) (all : List DeclNo) (b : Begun s o m j t all) (x : Text) (is : text s k ≡ Some x) (solid : is_connection (text s t) ≡ false) (arrays : (d : DeclNo) → Among d all → EntryIsArray s d) (Below : Waits → Type 0) (Outermost : Type 0) where
   abbrev Wk : List Item → List DeclNo → List Kinds → Type 0
-  Wk w todo ks = WorkFine s o m Below Outermost j k w todo ks
+  Wk w todo ks = WorkFine s o m Below Outermost j t w todo ks
 
-  -- the declarations that are still to come are this text's own
+  -- these declarations are this level's own
   abbrev pub AllThere : List DeclNo → Type 0
   AllThere todo = (d : DeclNo) → Among d todo → Among d (numbers_of s k)
 
   bounds_eval : (e : Expression) (todo : List DeclNo) (w : List Item) (ks : List Kinds) → ExprIs s (InBound k) e (Simply kind.Integer) → Wk w todo (Value (Simply kind.Integer) ∷ ks) → Wk (Do (Eval (close s m j e)) ∷ w) todo ks
   bounds_eval e todo w ks a z =
-      (todo, Value (Simply kind.Integer) ∷ ks, (simple kind.Integer, expr_fine s ok o m b.store j k todo (InBound k) (reaches_bound s ok o m b.store j k all b.here b.own (λ d f c. not_fixed s d (arrays d c) f) solid) (text_bound s ok o m b.store j k all b.here b.own) e (Simply kind.Integer) a, refl, refl), z)
+      (todo, Value (Simply kind.Integer) ∷ ks, (simple kind.Integer, expr_fine s ok o m b.store j t todo (InBound k) (reaches_bound s ok o m b.store j t k all b.here b.own at (λ d f c. not_fixed s d (arrays d c) f) solid) (text_bound s ok o m b.store j t k all b.here b.own at) e (Simply kind.Integer) a, refl, refl), z)
 
   integers_more : (n : ℕ) (ks : List Kinds) → integers n (Value (Simply kind.Integer) ∷ ks) ≡ Value (Simply kind.Integer) ∷ integers n ks
   integers_more zero ks = refl
@@ -92,23 +99,23 @@ module _ (s : Source) (ok : Typed s) (o : AllArrays) (m : Instances) (j k : ℕ)
   array_holds h n a = ap (entry_holds s (is_class (text s k))) a.is ∙ ap (λ z. Some (ArrayOf z)) a.holds
 
   array_key : (h : Holds) (n : Identifier) (a : ArrayIs s h n) → Among a.declaration (numbers_of s k) → KeyAmong (Declared (a.declaration).0) (keys_in s k (text s k))
-  array_key h n a among = key_there s ok k x a.declaration (ArrayOf h) (is_class (text s k)) solid is (array_holds h n a) among
+  array_key h n a among = key_there s ok k x a.declaration (ArrayOf h) (is_class (text s k)) (level_solid s ok solid at) is (array_holds h n a) among
 
   stored_work : (d : DeclNo) (h : Holds) (todo : List DeclNo) (w : List Item) → key_holds s k (Declared d.0) ≡ Some (ArrayOf h) → KeyAmong (Declared d.0) (keys_in s k (text s k)) → Wk w todo [] → Wk (Do (StoreOp (ToCell j (Declared d.0))) ∷ w) (d ∷ todo) (Value (ArrayOf h) ∷ [])
-  stored_work d h todo w holds there z = (todo, [], array_stored (record { declaration = d; element = h; is = refl; holds = holds; there = there; waits = refl; «in» = refl }), z)
+  stored_work d h todo w holds there z = (todo, [], array_stored (record { declaration = d; element = h; level = k; of_level = at; is = refl; holds = holds; there = there; waits = refl; «in» = refl }), z)
 
   named_later : (n : Identifier) (xs : List Identifier) (more : List DeclNo) (c d : DeclNo) → declared_at s n.token.0 ≡ Some d → Among c (arrays_named s xs more) → Among c (arrays_named s (n ∷ xs) more)
   named_later n xs more c d e z = subst (λ y. Among c (of_option y (arrays_named s xs more))) (sym e) (later z)
 
-  further_work : (f : DeclNo) (h : Holds) (xs : List Identifier) (more : List DeclNo) (w : List Item) → key_holds s k (Declared f.0) ≡ Some (ArrayOf h) → KeyAmong (Declared f.0) (keys_in s k (text s k)) → ArraysAre s h xs → (Among f (arrays_named s xs more) → ⊥) → AllThere (arrays_named s xs more) → Wk w more [] → Wk (further_arrays s j f xs w) (arrays_named s xs more) []
-  further_work f h [] more w holds there a absent all z = z
-  further_work f h (n ∷ xs) more w holds there a absent all z =
+  further_work : (f : DeclNo) (h : Holds) (xs : List Identifier) (mine more : List DeclNo) (w : List Item) → key_holds s k (Declared f.0) ≡ Some (ArrayOf h) → KeyAmong (Declared f.0) (keys_in s k (text s k)) → ArraysAre s h xs → (Among f (arrays_named s xs more) → ⊥) → AllThere (arrays_named s xs mine) → Wk w more [] → Wk (further_arrays s j f xs w) (arrays_named s xs more) []
+  further_work f h [] mine more w holds there a absent all z = z
+  further_work f h (n ∷ xs) mine more w holds there a absent all z =
       let d = (a.0).declaration in
-      let behind = further_work f h xs more w holds there a.1 (λ y. absent (named_later n xs more f (a.0).declaration (a.0).at y)) (λ c y. all c (named_later n xs more c (a.0).declaration (a.0).at y)) z in
+      let behind = further_work f h xs mine more w holds there a.1 (λ y. absent (named_later n xs more f (a.0).declaration (a.0).at y)) (λ c y. all c (named_later n xs mine c (a.0).declaration (a.0).at y)) z in
       rw (a.0).at ((
         d ∷ arrays_named s xs more,
         Value (ArrayOf h) ∷ [],
-        (Some (Value (ArrayOf h)), (ArrayOf h, (ArrayOf h, refl, refl), own_made refl refl holds there (λ y. absent (rw (a.0).at y))), refl, refl),
+        (Some (Value (ArrayOf h)), (ArrayOf h, (ArrayOf h, refl, refl), own_made refl refl at holds there (λ y. absent (rw (a.0).at y))), refl, refl),
         (
           d ∷ arrays_named s xs more,
           Value (ArrayOf h) ∷ [],
@@ -117,15 +124,15 @@ module _ (s : Source) (ok : Typed s) (o : AllArrays) (m : Instances) (j k : ℕ)
         ),
       ))
 
-  arrays_work : (kd : Kind) (h : Holds) → IsOfKind h kd → (n : ℕ) (xs : List Identifier) (more : List DeclNo) (w : List Item) → SomeName xs → ArraysAre s h xs → Distinct (arrays_named s xs more) → AllThere (arrays_named s xs more) → Wk w more [] → Wk (arrays_of s j kd n xs w) (arrays_named s xs more) (integers (2 * n) [])
-  arrays_work kd h of n [] more w some a apart all z = absurd some
-  arrays_work kd h of n (y ∷ xs) more w some a apart all z =
+  arrays_work : (kd : Kind) (h : Holds) → IsOfKind h kd → (n : ℕ) (xs : List Identifier) (mine more : List DeclNo) (w : List Item) → SomeName xs → ArraysAre s h xs → Distinct (arrays_named s xs more) → AllThere (arrays_named s xs mine) → Wk w more [] → Wk (arrays_of s j kd n xs w) (arrays_named s xs more) (integers (2 * n) [])
+  arrays_work kd h of n [] mine more w some a apart all z = absurd some
+  arrays_work kd h of n (y ∷ xs) mine more w some a apart all z =
       let d = (a.0).declaration in
       let e = (a.0).at in
       let apart' : Distinct (d ∷ arrays_named s xs more) = subst (λ q. Distinct (of_option q (arrays_named s xs more))) e apart in
-      let all' : AllThere (d ∷ arrays_named s xs more) = subst (λ q. AllThere (of_option q (arrays_named s xs more))) e all in
+      let all' : AllThere (d ∷ arrays_named s xs mine) = subst (λ q. AllThere (of_option q (arrays_named s xs mine))) e all in
       let there = array_key h y a.0 (all' d first) in
-      let behind = further_work d h xs more w (array_holds h y a.0) there a.1 apart'.0 (λ c q. all' c (later q)) z in
+      let behind = further_work d h xs mine more w (array_holds h y a.0) there a.1 apart'.0 (λ c q. all' c (later q)) z in
       subst (λ q. Wk (Do (ArrayOp kd n (line_at s y.token.0)) ∷ first_array s j q xs w) (of_option q (arrays_named s xs more)) (integers (2 * n) [])) (sym e)
       (d ∷ arrays_named s xs more, Value (ArrayOf h) ∷ [], (h, [], of, refl, refl, refl), stored_work d h (arrays_named s xs more) (further_arrays s j d xs w) (array_holds h y a.0) there behind)
 
@@ -145,13 +152,13 @@ module _ (s : Source) (ok : Typed s) (o : AllArrays) (m : Instances) (j k : ℕ)
       of_all None a = a
       of_all (Some d) a = λ c z. a c (later z)
 
-  segments_work : (kd : Kind) (h : Holds) → IsOfKind h kd → (as' : List Arrayed) (more : List DeclNo) (w : List Item) → SegmentsAre s (InBound k) h as' → Distinct (arrays_in_segments s as' more) → AllThere (arrays_in_segments s as' more) → Wk w more [] → Wk (segments_of s m j kd as' w) (arrays_in_segments s as' more) []
-  segments_work kd h of [] more w a apart all z = z
-  segments_work kd h of (p ∷ others) more w a apart all z =
+  segments_work : (kd : Kind) (h : Holds) → IsOfKind h kd → (as' : List Arrayed) (mine more : List DeclNo) (w : List Item) → SegmentsAre s (InBound k) h as' → Distinct (arrays_in_segments s as' more) → AllThere (arrays_in_segments s as' mine) → Wk w more [] → Wk (segments_of s m j kd as' w) (arrays_in_segments s as' more) []
+  segments_work kd h of [] mine more w a apart all z = z
+  segments_work kd h of (p ∷ others) mine more w a apart all z =
       let tail = arrays_in_segments s others more in
       bounds_work p.bounds (arrays_named s p.names tail) (arrays_of s j kd (length p.bounds) p.names (segments_of s m j kd others w)) [] a.0
-      (arrays_work kd h of (length p.bounds) p.names tail (segments_of s m j kd others w) a.1 a.2 apart all
-      (segments_work kd h of others more w a.3 (named_apart p.names tail apart) (named_all p.names tail all) z))
+      (arrays_work kd h of (length p.bounds) p.names (arrays_in_segments s others mine) tail (segments_of s m j kd others w) a.1 a.2 apart all
+      (segments_work kd h of others mine more w a.3 (named_apart p.names tail apart) (named_all p.names (arrays_in_segments s others mine) all) z))
 
   segments_apart : (as' : List Arrayed) (more : List DeclNo) → Distinct (arrays_in_segments s as' more) → Distinct more
   segments_apart [] more a = a
@@ -161,11 +168,25 @@ module _ (s : Source) (ok : Typed s) (o : AllArrays) (m : Instances) (j k : ℕ)
   segments_all [] more a = a
   segments_all (p ∷ others) more a = segments_all others more (named_all p.names (arrays_in_segments s others more) a)
 
+  pub level_arrays : (ds : Declarations) (more : List DeclNo) (w : List Item) → ArraysTyped s (InBound k) ds → Distinct (arrays_of_block s ds ++ more) → AllThere (arrays_of_block s ds) → Wk w more [] → Wk (arrays_declared s m j ds w) (arrays_of_block s ds ++ more) []
+  level_arrays NoDeclaration more w a apart all z = z
+  level_arrays (With (Variables type vs) ds) more w a apart all z = level_arrays ds more w a apart all z
+  level_arrays (With (Arrays type token segments) ds) more w a apart all z =
+      let mine = arrays_of_block s ds in
+      let next = segments_append s segments mine more in
+      let apart' : Distinct (arrays_in_segments s segments (mine ++ more)) = subst Distinct next apart in
+      subst (λ q. Wk (segments_of s m j (kind_named type) segments (arrays_declared s m j ds w)) q []) (sym next)
+      (segments_work (kind_named type) a.0 a.1 segments mine (mine ++ more) (arrays_declared s m j ds w) a.2 apart' all
+      (level_arrays ds more w a.3 (segments_apart segments (mine ++ more) apart') (segments_all segments mine all) z))
+  level_arrays (With (DeclareProcedure result token h body end) ds) more w a apart all z = level_arrays ds more w a apart all z
+  level_arrays (With (DeclareClass prefix token h interface body end) ds) more w a apart all z = level_arrays ds more w a apart all z
+
+  -- where no others wait
+  none_more : (ds : List DeclNo) → ds ++ [] ≡ ds
+  none_more [] = refl
+  none_more (d ∷ ds) = ap (λ z. d ∷ z) (none_more ds)
+
   pub block_arrays : (ds : Declarations) (w : List Item) → ArraysTyped s (InBound k) ds → Distinct (arrays_of_block s ds) → AllThere (arrays_of_block s ds) → Wk w [] [] → Wk (arrays_declared s m j ds w) (arrays_of_block s ds) []
-  block_arrays NoDeclaration w a apart all z = z
-  block_arrays (With (Variables type vs) ds) w a apart all z = block_arrays ds w a apart all z
-  block_arrays (With (Arrays type token segments) ds) w a apart all z =
-      segments_work (kind_named type) a.0 a.1 segments (arrays_of_block s ds) (arrays_declared s m j ds w) a.2 apart all
-      (block_arrays ds w a.3 (segments_apart segments (arrays_of_block s ds) apart) (segments_all segments (arrays_of_block s ds) all) z)
-  block_arrays (With (DeclareProcedure result token h body end) ds) w a apart all z = block_arrays ds w a apart all z
-  block_arrays (With (DeclareClass prefix token h interface body end) ds) w a apart all z = block_arrays ds w a apart all z
+  block_arrays ds w a apart all z =
+      let same = none_more (arrays_of_block s ds) in
+      subst (λ q. Wk (arrays_declared s m j ds w) q []) same (level_arrays ds [] w a (subst Distinct (sym same) apart) all z)

@@ -1,23 +1,28 @@
 -- What a fine cell has in it.
-use Rattle.std.proofs.Common.{◌≡◌, ℕ, true, List, [], map, Option, Some, None, inl, inr, ⊎_elim, refl, sym, ap, ◌∙◌, subst}
+use Rattle.std.proofs.Common.{◌≡◌, ℕ, true, false, List, [], ◌∷◌, map, Option, Some, None, inl, inr, ⊎_elim, refl, sym, ap, ◌∙◌, subst}
 use Rattle.sim_base.specs.declared.numbering.DeclNo.{DeclNo}
+use Rattle.sim_scope.specs.declared.types.Entry.{Entry}
+use Rattle.sim_scope.specs.declared.types.Entry.TheVariants as entry
 use Rattle.sim_scope.specs.declared.types.SimType.{SimType}
 use Rattle.sim_scope.specs.declared.types.SimType.TheVariants as t
 use Rattle.sim_scope.specs.Levels.{base}
+use Rattle.sim_scope.specs.Scopes.{entry_of}
 use Rattle.sim_scope.specs.Source.{Source, block_around}
 use Rattle.sim_code.specs.Instances.{Instance, live}
 use Rattle.sim_code.specs.Instances as instances
 use Rattle.sim_meaning.specs.Attributes.{cell_of_connection, is_connection}
-use Rattle.sim_meaning.specs.Entries.{first_cells}
-use Rattle.sim_meaning.specs.Levels.{qualification}
+use Rattle.sim_meaning.specs.Entries.{first_cells, numbers_of}
+use Rattle.sim_meaning.specs.Levels.{is_class, qualification}
+use Rattle.sim_meaning.specs.Objects.{attributes_from, with_attribute}
 use Rattle.sim_meaning.specs.Pending.{ArrayValue, Connection, Declared, Held, Instances, Key, Of, Result, Val, cell, cell_set, held, held_set}
 use Rattle.sim_meaning.specs.Texts.{BlockText, ClassText, ConnectionText, PrefixedText, ProcedureText, StandardText, Text, text}
-use Rattle.sim_sound.specs.Held.{Among, ArrayOf, Holds, Refers, Simply, connection_holds, given_by, held_by, key_holds, reference_to, result_type}
+use Rattle.sim_sound.specs.Held.{Among, ArrayOf, Holds, Refers, Simply, connection_holds, entry_holds, given_by, held_by, key_holds, reference_to, result_type}
 use Rattle.sim_sound.specs.Typed.{ConnectionTyped, Typed}
-use Rattle.sim_sound.proofs.Sound.{AllArrays, Begun, CellIs, CellTarget, InstanceFine, IsPlain, KeyAmong, Knows, Made, Present, Site, StandsFor, StoreFine, ValFine, Whole, connected, in_connection, in_instance, key_of, keys_in, own_made, own_text}
+use Rattle.sim_sound.proofs.Sound.{AllArrays, Begun, CellIs, CellTarget, InstanceFine, IsPlain, KeyAmong, Knows, Made, Present, Site, StandsFor, StoreFine, ValFine, Whole, connected, first_key, in_connection, in_instance, key_of, keys_in, later_key, own_made, own_text}
 use Rattle.sim_sound.proofs.Changes.{held_fine, held_plain, set_there}
 use Rattle.sim_sound.proofs.Lists.{same_some}
 use Rattle.sim_sound.proofs.Moves.{knows_then}
+use Rattle.sim_sound.proofs.Prefixes.{LevelOf, level_class, level_solid, level_then, only_level, prefix_level, same_class, same_level}
 
 -- a value that another instance knows, which is known
 pub val_up : (s : Source) (o : AllArrays) (m : Instances) (i j : ℕ) → Knows m i j → (h : Holds) (v : Val) → ValFine s o m j h v → ValFine s o m i h v
@@ -62,10 +67,10 @@ connection_no_array s None h e = cc
 connection_no_array s (Some k) h e = reference_no_array (base s.tables k) h (some_same (reference_to (base s.tables k)) (ArrayOf h) e)
 
 -- an array is held by the cell of a declaration
-array_among : (s : Source) (t : ℕ) (todo : List DeclNo) (hs : List Held) (key : Key) (k : Holds) → Made s t todo hs → key_holds s t key ≡ Some (ArrayOf k) → KeyAmong key (keys_in s t (text s t)) → held key hs ≡ None → (d : DeclNo) × (key ≡ Declared d.0) × Among d todo
-array_among s t todo hs (Declared d) k made e there f = (record { 0 = d }, refl, made (record { 0 = d }) k e there f)
-array_among s t todo hs Result k made e there f = absurd (given_no_array s (result_type s t) k e)
-array_among s t todo hs (Connection n) k made e there f = absurd (connection_no_array s (block_around s n) k e)
+array_among : (s : Source) (t u : ℕ) (todo : List DeclNo) (hs : List Held) (key : Key) (k : Holds) → Made s t todo hs → LevelOf s t u → key_holds s u key ≡ Some (ArrayOf k) → KeyAmong key (keys_in s u (text s u)) → held key hs ≡ None → (d : DeclNo) × (key ≡ Declared d.0) × Among d todo
+array_among s t u todo hs (Declared d) k made at e there f = (record { 0 = d }, refl, made u at (record { 0 = d }) k e there f)
+array_among s t u todo hs Result k made at e there f = absurd (given_no_array s (result_type s u) k e)
+array_among s t u todo hs (Connection n) k made at e there f = absurd (connection_no_array s (block_around s n) k e)
 
 pub none_among : (d : DeclNo) → Among d [] → ⊥
 none_among d a = elim a [ ]
@@ -92,10 +97,70 @@ no_key : (s : Source) (t : ℕ) (key : Key) → KeyAmong key (keys_in s t (Some 
 unfolding first_cells
 no_key s t key a = elim a [ ]
 
--- a text with a cell, for which an instance stands, is its own
-pub own_key : (s : Source) (x : Instance (List Held)) (t : ℕ) (key : Key) → StandsFor s x t → KeyAmong key (keys_in s t (text s t)) → x.text ≡ t
-own_key s x t key (own_text is) there = is
+-- a text with a cell, for which an instance stands, is a level of its own
+pub own_key : (s : Source) (x : Instance (List Held)) (t : ℕ) (key : Key) → StandsFor s x t → KeyAmong key (keys_in s t (text s t)) → LevelOf s x.text t
+own_key s x t key (own_text at) there = at
 own_key s x t key (connected is around k a) there = absurd (no_key s t key (subst (λ z. KeyAmong key (keys_in s t z)) (is_connection_text s t is) there))
+
+-- and so is one that is no connection
+pub own_level : (s : Source) (x : Instance (List Held)) (t : ℕ) → is_connection (text s t) ≡ false → StandsFor s x t → LevelOf s x.text t
+own_level s x t solid (own_text at) = at
+own_level s x t solid (connected is around k a) = absurd (cc)
+
+-- it stands for the levels of such a text, too
+pub stands_level_of : (s : Source) (x : Instance (List Held)) (t u : ℕ) → is_connection (text s t) ≡ false → StandsFor s x t → LevelOf s t u → StandsFor s x u
+stands_level_of s x t u solid a at = own_text (level_then s (own_level s x t solid a) at)
+
+-- ---- what the cells of a level hold
+
+abbrev IsDeclared : Key → Type 0
+IsDeclared key = (d : ℕ) × (key ≡ Declared d)
+
+declared_first : (key x : Key) (d : ℕ) (ks : List Key) → x ≡ Declared d → (KeyAmong key ks → IsDeclared key) → KeyAmong key (x ∷ ks) → IsDeclared key
+declared_first _ x d ks e f first_key = (d, e)
+declared_first key x d ks e f (later_key a) = f a
+
+attribute_declared : (s : Source) (key : Key) (d : DeclNo) (e : Option Entry) (hs : List Held) → (KeyAmong key (map key_of hs) → IsDeclared key) → KeyAmong key (map key_of (with_attribute s d e hs)) → IsDeclared key
+attribute_declared s key d (Some (entry.Variable ty)) hs f a = declared_first key (Declared d.0) d.0 (map key_of hs) refl f a
+attribute_declared s key d (Some (entry.Constant ty)) hs f a = declared_first key (Declared d.0) d.0 (map key_of hs) refl f a
+attribute_declared s key d (Some (entry.Array ty n)) hs f a = declared_first key (Declared d.0) d.0 (map key_of hs) refl f a
+attribute_declared s key d (Some (entry.Formal g)) hs f a = declared_first key (Declared d.0) d.0 (map key_of hs) refl f a
+attribute_declared s key d (Some _) hs f a = f a
+attribute_declared s key d None hs f a = f a
+
+attributes_declared : (s : Source) (key : Key) (ds : List DeclNo) → KeyAmong key (map key_of (attributes_from s ds)) → IsDeclared key
+attributes_declared s key [] a = elim a [ ]
+attributes_declared s key (d ∷ ds) a = attribute_declared s key d (entry_of s.tables d) (attributes_from s ds) (attributes_declared s key ds) a
+
+-- those of a class are those of its declarations
+class_key : (s : Source) (u : ℕ) (x : Option Text) (key : Key) → is_class x ≡ true → KeyAmong key (keys_in s u x) → IsDeclared key
+unfolding first_cells
+class_key s u (Some (ClassText prefix h ds ss)) key class a = attributes_declared s key (numbers_of s u) a
+class_key s u (Some (StandardText which)) key class a = elim a [ ]
+class_key s u None key class a = absurd (cc)
+class_key s u (Some (BlockText begin ds ss)) key class a = absurd (cc)
+class_key s u (Some (ProcedureText result h b)) key class a = absurd (cc)
+class_key s u (Some (PrefixedText c arguments ds ss)) key class a = absurd (cc)
+class_key s u (Some ConnectionText) key class a = absurd (cc)
+
+pub key_level : (s : Source) → Typed s → {k u : ℕ} → is_connection (text s k) ≡ false → LevelOf s k u → (key : Key) → KeyAmong key (keys_in s u (text s u)) → key_holds s k key ≡ key_holds s u key
+key_level s ok solid same_level key a = refl
+key_level s ok {k = k} {u = u} solid (prefix_level {b = b} e x) key a =
+    let p = (ok.prefixes).prefixed_by k b solid e in
+    let d = class_key s u (text s u) key (level_class s ok p.prefix x) a in
+    ap (key_holds s k) d.1 ∙ ap (λ z. entry_holds s z (entry_of s.tables (record { 0 = d.0 }))) (same_class s ok solid (prefix_level e x)) ∙ sym (ap (key_holds s u) d.1)
+
+-- ---- of what is no class
+
+pub keys_alone : (s : Source) → Typed s → (k : ℕ) (ks : List Key) → is_connection (text s k) ≡ false → is_class (text s k) ≡ false → ((key : Key) → KeyAmong key (keys_in s k (text s k)) → KeyAmong key ks) → (u : ℕ) → LevelOf s k u → (key : Key) → KeyAmong key (keys_in s u (text s u)) → KeyAmong key ks
+keys_alone s ok k ks solid no_class f u at key a = f key (subst (λ z. KeyAmong key (keys_in s z (text s z))) (sym (only_level s ok solid no_class at)) a)
+
+pub made_alone : (s : Source) → Typed s → (k : ℕ) (todo : List DeclNo) (hs : List Held) → is_connection (text s k) ≡ false → is_class (text s k) ≡ false → ((d : DeclNo) (h : Holds) → key_holds s k (Declared d.0) ≡ Some (ArrayOf h) → KeyAmong (Declared d.0) (keys_in s k (text s k)) → held (Declared d.0) hs ≡ None → Among d todo) → Made s k todo hs
+made_alone s ok k todo hs solid no_class f u at d h is there none =
+    let same : u ≡ k = sym (only_level s ok solid no_class at) in
+    f d h (subst (λ z. key_holds s z (Declared d.0) ≡ Some (ArrayOf h)) same is) (subst (λ z. KeyAmong (Declared d.0) (keys_in s z (text s z))) same there) none
+
+-- ---- values in cells
 
 pub own_cell : (s : Source) (o : AllArrays) (m : Instances) (j : ℕ) (x : Instance (List Held)) (key : Key) (h : Holds) → live m j ≡ Some x → InstanceFine s o m j x → ((k : Holds) → h ≡ ArrayOf k → held key x.cells ≡ None → ⊥) → key_holds s x.text key ≡ Some h → KeyAmong key (map key_of x.cells) → (v : Val) × (cell m j key ≡ Some v) × ValFine s o m j h v
 own_cell s o m j x key h lives fine made is there = by_held (held key x.cells) refl h made is
@@ -114,11 +179,9 @@ pub target_cell : (s : Source) (o : AllArrays) (m : Instances) (i j : ℕ) (key 
 target_cell s o m i j key h store c =
     let p = c.here in
     let f = fine_at s o m j c.around c.todo store p in
-    let same : (p.now).text ≡ c.around = own_key s p.now c.around key p.stands c.there in
-    let there = subst (λ z. KeyAmong key (keys_in s z (text s z))) (sym same) c.there in
-    let holds = subst (λ z. key_holds s z key ≡ Some h) (sym same) c.holds in
+    let at : LevelOf s (p.now).text c.around = own_key s p.now c.around key p.stands c.there in
     own_cell s o m j p.now key h p.lives f
-    (λ k is none. let a = array_among s (p.now).text c.todo (p.now).cells key k p.made (holds ∙ ap Some is) there none in c.ready a.0 a.1 a.2) holds (f.keys key there)
+    (λ k is none. let a = array_among s (p.now).text c.around c.todo (p.now).cells key k p.made at (c.holds ∙ ap Some is) c.there none in c.ready a.0 a.1 a.2) (f.holds c.around at key c.there ∙ c.holds) (f.keys c.around at key c.there)
 
 -- the cell of a connection
 connection_key : (s : Source) → Typed s → (c : ℕ) → is_connection (text s c) ≡ true → (t : ℕ) → key_holds s t (cell_of_connection s c) ≡ Some (reference_to (base s.tables c))
@@ -129,9 +192,9 @@ connection_cell s ok o m j c store is p =
     own_cell s o m j p.now (cell_of_connection s c) (reference_to (base s.tables c)) p.lives (fine_at s o m j c [] store p) (λ k e none. reference_no_array (base s.tables c) k e) (connection_key s ok c is (p.now).text) (by_stands p.stands)
   where
     by_stands : StandsFor s p.now c → KeyAmong (cell_of_connection s c) (map key_of (p.now).cells)
-    by_stands (own_text same) =
-        let no = (fine_at s o m j c [] store p).solid in
-        let yes : is_connection (text s (p.now).text) ≡ true = ap (λ z. is_connection (text s z)) same ∙ is in
+    by_stands (own_text at) =
+        let no : is_connection (text s c) ≡ false = level_solid s ok (fine_at s o m j c [] store p).solid at in
+        let yes : is_connection (text s c) ≡ true = is in
         absurd (cc)
     by_stands (connected a around there b) = there
 
@@ -146,12 +209,11 @@ same_among d e key todo f g a = subst (λ z. Among z todo) (same_decl e.0 d.0 (s
 
 pub cell_found : (s : Source) → Typed s → (o : AllArrays) (m : Instances) (i t : ℕ) (todo : List DeclNo) (e : ℕ) (key : Key) (h : Holds) → Begun s o m i t todo → CellIs s m i t todo e key h → (v : Val) × (cell m e key ≡ Some v) × ValFine s o m i h v
 cell_found s ok o m i t todo e key h b (in_instance c) = let x = target_cell s o m i e key h b.store c in (x.0, x.1, val_up s o m i e c.near h x.0 x.2)
-cell_found s ok o m i t todo e key h b (own_made {d = d} same name is there free) =
+cell_found s ok o m i t todo e key h b (own_made {d = d} {u = u} same name level is there free) =
     let p = b.here in
     let f = fine_at s o m i t todo b.store p in
-    let holds = subst (λ z. key_holds s z key ≡ Some h) (sym b.own) is in
-    let key_in = subst (λ z. KeyAmong key (keys_in s z (text s z))) (sym b.own) there in
-    let x = own_cell s o m i p.now key h p.lives f (λ k is none. let a = array_among s (p.now).text todo (p.now).cells key k p.made (holds ∙ ap Some is) key_in none in free (same_among d a.0 key todo name a.1 a.2)) holds (f.keys key key_in) in
+    let at : LevelOf s (p.now).text u = subst (λ z. LevelOf s z u) (sym b.own) level in
+    let x = own_cell s o m i p.now key h p.lives f (λ k of none. let a = array_among s (p.now).text u todo (p.now).cells key k p.made at (is ∙ ap Some of) there none in free (same_among d a.0 key todo name a.1 a.2)) (f.holds u at key there ∙ is) (f.keys u at key there) in
     (x.0, ap (λ z. cell m z key) same ∙ x.1, x.2)
 cell_found s ok o m i t todo e key h b (in_connection {c = c} knows whole is same holds) =
     let x = connection_cell s ok o m e c b.store is whole in

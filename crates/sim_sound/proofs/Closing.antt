@@ -35,13 +35,13 @@ use Rattle.sim_scope.specs.Scopes.{entry_in, entry_of, formal_in}
 use Rattle.sim_scope.specs.Source.{Source, block_of, denoted, found_at, level_of, line_at}
 use Rattle.sim_tree.specs.declared.expr.Membership.{Membership}
 use Rattle.sim_values.specs.Plain.{Nothing, Object}
-use Rattle.sim_code.specs.Instances.{Instance, at_level}
+use Rattle.sim_code.specs.Instances.{at_level}
 use Rattle.sim_meaning.specs.Attributes.{attribute, cell_of_connection, connected_object, connection_at, declared_attribute, fitting, generation, if_any, is_connection, kept_if, membership_term, parameter_qualification, place_of_attribute, qua_term, this_instance, this_term, with_arrays_kept}
 use Rattle.sim_meaning.specs.Closing.{Joining, Lazily, Negated, Plainly, Sort, actual_term, array_place, array_term, behind_dot, class_parameters, close, close_actuals, close_all, close_place, constant_term, declared_place, declared_term, dot_term, formal_place, formal_term, home_of, home_of_class, image_place, in_instance, is_attribute, is_attribute_denoted, is_image_behind, is_text, is_text_type, is_variable, is_variable_denoted, is_variable_entry, literal_term, name_term, named_place, named_term, object_term, signed_term, sort_of, standard_term, stream_denoted, stream_of, sysout, two_term, variable_place, variable_term}
 use Rattle.sim_meaning.specs.Constants.{text_constant}
 use Rattle.sim_meaning.specs.Entries.{formal_before, formals_from, formals_of, is_array_by_value}
 use Rattle.sim_meaning.specs.Levels.{class_at, class_denoted, class_text, is_class, qualification}
-use Rattle.sim_meaning.specs.Pending.{Cell, CallOf, CopyOf, Declared, ElementOf, FitsOf, Further, Held, ImageOf, Instances, KeptOf, Key, NoTerm, PlaceOf, StandardOf, Term, Terms, Unbuilt, ValueAt}
+use Rattle.sim_meaning.specs.Pending.{Cell, CallOf, CopyOf, Declared, ElementOf, FitsOf, Further, ImageOf, Instances, KeptOf, Key, NoTerm, PlaceOf, StandardOf, Term, Terms, Unbuilt, ValueAt}
 use Rattle.sim_meaning.specs.Texts.{constant_of, is_class_free, text}
 use Rattle.sim_sound.specs.Held.{Among, ArrayOf, Fits, Holds, In, InBound, IsFixed, Place, Refers, Sees, SeesConnected, Simply, StandsAround, declared_holds, entry_holds, formal_holds, held_by, reference_to}
 use Rattle.sim_sound.specs.Expressions.{ActualFits, ActualsFit, AreIntegers, AreOf, ArrayNames, BehindGives, CallGives, ConstantNames, DeclaredGives, DotGives, ExprIs, HeldNames, IsReference, KnownAt, LiteralIs, NameGives, NamedGives, NewIs, ObjectHas, OfText, SortKinds, StandardGives, ThisFound, ThisIs, VariableNames, passed}
@@ -50,9 +50,11 @@ use Rattle.sim_sound.specs.Typed.{Typed}
 use Rattle.sim_sound.proofs.Attributes.{class_words, entry_fine, entry_lies, entry_there, gives_result, held_plain, known_of, left_known, left_variable_is, names_variable, no_left_variable, procedure_in, text_left}
 use Rattle.sim_sound.proofs.Constants.{constant_no_reference, text_no_reference, value_fine}
 use Rattle.sim_sound.proofs.Fitting.{level_itself, level_self, plain_fits}
+use Rattle.sim_sound.proofs.Cells.{own_level}
 use Rattle.sim_sound.proofs.Lists.{if_true}
+use Rattle.sim_sound.proofs.Prefixes.{LevelOf, level_has, level_of_class}
 use Rattle.sim_sound.proofs.Reach.{Reached, Reaches, ReachesText, among_block, key_there}
-use Rattle.sim_sound.proofs.Sound.{AddressOf, AllArrays, CellTarget, Copied, ImageAddress, IntegersFine, IsImage, IsPlain, Kinds, Lasting, ObjectOf, OperandIs, OperandsAre, OperandsFine, PlainFine, Present, StandsFor, StoreFine, TermFine, TermsFine, Value, Whole, class_kinds, connected, formal_kinds, held_kinds, in_connection, in_hand, in_instance as at_cell, kept_kinds, own_text, simple}
+use Rattle.sim_sound.proofs.Sound.{AddressOf, AllArrays, CellTarget, Copied, ImageAddress, IntegersFine, IsImage, IsPlain, Kinds, Lasting, ObjectOf, OperandIs, OperandsAre, OperandsFine, PlainFine, Present, StoreFine, TermFine, TermsFine, Value, Whole, class_kinds, formal_kinds, held_kinds, in_connection, in_hand, in_instance as at_cell, kept_kinds, simple}
 
 -- ---- both words for the formal parameters
 
@@ -219,16 +221,10 @@ number a = record { 0 = a }
 same_declared : (a b : ℕ) → Declared a ≡ Declared b → number b ≡ number a
 same_declared a b q = let r : b ≡ a = cc in ap number r
 
-own_of : (s : Source) (x : Instance (List Held)) (t : ℕ) → is_connection (text s t) ≡ false → StandsFor s x t → x.text ≡ t
-own_of s x t solid (own_text is) = is
-own_of s x t solid (connected is around there more) = absurd (cc)
-
 -- a declaration that is found has its cell, which holds what it should
 pub target_of : (s : Source) → Typed s → (m : Instances) (i : ℕ) (d : DeclNo) (h : Holds) → (x : Reached s m i d) → declared_holds s (block_of s d) d ≡ Some h → CellTarget s m i x.instance (Declared d.0) h
 target_of s ok m i d h x e =
     let p = x.here in
-    let same : (p.now).text ≡ block_of s d = own_of s p.now (block_of s d) x.solid p.stands in
-    let is : text s (block_of s d) ≡ Some p.words = ap (text s) (sym same) ∙ p.has_text in
     let at = entry_there s (entry_of s.tables d) (is_class (text s (block_of s d))) h e in
     record {
       around = block_of s d;
@@ -237,7 +233,7 @@ target_of s ok m i d h x e =
       here = p;
       ready = λ c f a. x.ready (subst (λ z. Among z x.todo) (same_declared d.0 c.0 f) a);
       holds = e;
-      there = key_there s ok (block_of s d) p.words d h (is_class (text s (block_of s d))) x.solid is e (among_block s ok d at.0 at.1);
+      there = key_there s ok (block_of s d) x.words d h (is_class (text s (block_of s d))) x.solid x.has_text e (among_block s ok d at.0 at.1);
     }
 
 -- the same instance, whole
@@ -349,14 +345,15 @@ module _ (s : Source) (ok : Typed s) (o : AllArrays) (m : Instances) (store : St
       let x = around k stands in
       let p = x.whole in
       let w = class_words s ok k is in
-      let same : (p.now).text ≡ k = own_of s p.now k (ap is_connection w.is) p.stands in
-      let free : is_class_free s (p.now).text ≡ false = ap (is_class_free s) same ∙ (w.typed).stays in
       let f = store.instances x.instance p.now p.lives in
+      let at : LevelOf s (p.now).text k = own_level s p.now k (ap is_connection w.is) p.stands in
+      let class : is_class (text s (p.now).text) ≡ true = level_of_class s ok f.solid at is in
+      let free : is_class_free s (p.now).text ≡ false = ((class_words s ok (p.now).text class).typed).stays in
       let object : ObjectOf s m x.instance k = record {
         now = p.now;
         lives = p.lives;
-        object = ap (λ z. is_class (text s z)) same ∙ is;
-        levels = ap (λ z. has_level s.tables z k) same ∙ level_itself s k (w.typed).stays;
+        object = class;
+        levels = level_has s ok (p.now).text k f.solid at;
         stays = ap (λ z. z && not (p.now).kept) (f.ends ∙ free);
         words = p.words;
         has_text = p.has_text;

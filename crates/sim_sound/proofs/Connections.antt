@@ -28,6 +28,7 @@ use Rattle.sim_sound.proofs.Lifts.{Goes, had, known_popped}
 use Rattle.sim_sound.proofs.Lists.{numbers_equal}
 use Rattle.sim_sound.proofs.Moves.{later_cells, same_cells, set_lives, store_cells}
 use Rattle.sim_sound.proofs.Ops.{later_hands, later_work, same_copies}
+use Rattle.sim_sound.proofs.Prefixes.{same_is}
 use Rattle.sim_sound.proofs.References.{reference_popped}
 use Rattle.sim_sound.proofs.Sound.{AllArrays, Begun, CellFine, CellsFine, HandsFine, KeyAmong, Kinds, Operates, PlainFine, ReferenceFine, Sight, Site, StandsFor, ValFine, Value, connected as through, first_key, key_of, later_key, own_text, see}
 
@@ -125,7 +126,7 @@ module _ (s : Source) (ok : Typed s) (l : Limits) (o : World) (g : List Sight) (
       had (IsFine s) (cell_made m i key v) n o (λ m. go o m i (Do (Exec a) ∷ Do PastOp ∷ w) vals rest) made
       (goes_on s o g long n i t rest (Rattle.sim_sound.proofs.Moves.operates_on m n i rest same top) (Do (Exec a) ∷ Do PastOp ∷ w) vals [] ks (record {
         store = store;
-        here = record { now = record x { cells = cells }; lives = set_lives s (see g o) m i x p.lives cells keys stays; stands = own_text b.own; words = p.words; has_text = p.has_text; made = λ d k holds among none. p.made d k holds among (stays (Declared d.0) none) };
+        here = record { now = record x { cells = cells }; lives = set_lives s (see g o) m i x p.lives cells keys stays; stands = own_text (same_is s x.text t b.own); words = p.words; has_text = p.has_text; made = λ y at d k holds among none. p.made y at d k holds among (stays (Declared d.0) none) };
         own = b.own;
       }) (later_hands s ok l o g long m i t rest top g o long n e (same_copies s ok l o g long m i t rest top) same store ks vals h)
       ([], ks, (refl, refl, refl, (c.number, there, is)), ([], ks, (refl, refl), later_work s ok l o g long m i t rest top g o long n e (same_copies s ok l o g long m i t rest top) same store w [] ks work)))

@@ -23,8 +23,9 @@ use Rattle.sim_sound.proofs.Fitting.{fits_plain, plain_fits, plain_val, val_fits
 use Rattle.sim_sound.proofs.Later.{All, AllApart, Later, all_apart, chain_later, object_later, plain_later}
 use Rattle.sim_sound.proofs.Lifts.{Goes, had, ran, ticked}
 use Rattle.sim_sound.proofs.Moves.{all_terminated, is_attached, later_terminated, left_by, parked_terminated, store_terminated, terminated}
+use Rattle.sim_sound.proofs.Prefixes.{same_is}
 use Rattle.sim_sound.proofs.Reach.{has_itself, key_of_result}
-use Rattle.sim_sound.proofs.Sound.{AllArrays, Begun, ChainFine, GivesResult, HandsFine, IsPlain, Kinds, Made, ObjectOf, ObjectStands, OnChain, Operates, Sight, Takes, Generated, ValFine, Value, given, held_kinds, keys_in, runs, see}
+use Rattle.sim_sound.proofs.Sound.{AllArrays, Begun, ChainFine, GivesResult, HandsFine, IsPlain, Kinds, Made, ObjectOf, ObjectStands, OnChain, Operates, Sight, Takes, Generated, ValFine, Value, given, held_kinds, runs, see}
 
 -- those below have other numbers
 pub all_less_apart : (i : ℕ) (P : Type 0) (chain : List Activation) → ((j : ℕ) → OnChain j chain → j < i) → AllApart (λ j. P → j ≢ i) chain
@@ -114,7 +115,7 @@ module _ (s : Source) (ok : Typed s) (l : Limits) (o : World) (g : List Sight) (
       let p = b.here in
       let r = some_result (Some type) (result_holds s t) (ok.texts t (ProcedureText (Some type) heading body) is).result type refl in
       let f = fine_at s (see g o) m i t todo b.store p in
-      let there = f.keys Result (subst (λ z. Rattle.sim_sound.proofs.Sound.KeyAmong Result (keys_in s z (text s z))) (sym own) (key_of_result s t type heading body is)) in
+      let there = f.keys t (same_is s (p.now).text t own) Result (key_of_result s t type heading body is) in
       let x = own_cell s (see g o) m i p.now Result r.0 p.lives f (λ k same none. absurd (plain_not r.0 k (result_plain r.0 r.1) same)) (ap (λ z. result_holds s z) own ∙ r.1) there in
       had (IsFine s) (cell m i Result) x.0 o (λ v. leaving s rest (Some v) i o m) x.1
       (leaves rest top waits (Some x.0) (by_fits x.0 (result_holds s t) r.0 r.1 (result_plain r.0 r.1) x.2 gives.0 gives.1 waits gives.2) c)

@@ -17,13 +17,15 @@ use Rattle.sim_code.specs.Instances as instances
 use Rattle.sim_code.specs.Outcome.{Run, World}
 use Rattle.sim_meaning.specs.Attributes.{is_connection}
 use Rattle.sim_meaning.specs.Entries.{arrays_by_value, filled_behind, first_cells, formals_of, in_instance, instances_kept, is_held, new_instance, numbers_of, words_of_cells}
+use Rattle.sim_meaning.specs.Levels.{is_class}
 use Rattle.sim_meaning.specs.Meaning.{block_work, called, first_step, has_result, procedure_entered, program_entered, sub_block_entered}
 use Rattle.sim_meaning.specs.Pending.{Activation, Address, ArrayValue, Configuration, Declared, Do, EndBlock, EndProcedure, EndProgram, Exec, Execs, Held, Instances, Item, Key, Link, Of, PastOp, ProcedureValue, Tree, Val, instance_in, owner}
 use Rattle.sim_meaning.specs.Texts.{BlockText, ProcedureText, Text, is_class_free, text}
 use Rattle.sim_sound.specs.Held.{ArrayOf, Holds, InBound}
 use Rattle.sim_sound.specs.Typed.{BlockTyped, ProcedureTyped, Typed, arrays_of_block}
 use Rattle.sim_sound.proofs.ArrayWork.{arrays_are, block_arrays}
-use Rattle.sim_sound.proofs.Cells.{own_site}
+use Rattle.sim_sound.proofs.Attributes.{class_words}
+use Rattle.sim_sound.proofs.Cells.{key_level, keys_alone, made_alone, own_site}
 use Rattle.sim_sound.proofs.Chains.{work_less}
 use Rattle.sim_sound.proofs.Changes.{ElementsFine}
 use Rattle.sim_sound.proofs.Evals.{IsFine, Work}
@@ -33,6 +35,7 @@ use Rattle.sim_sound.proofs.Later.{All, Copies, Later, all_apart, chain_later, h
 use Rattle.sim_sound.proofs.Lifts.{Goes, any_popped, enters, had, ran, whens}
 use Rattle.sim_sound.proofs.Lists.{append_at, no_some, same_some}
 use Rattle.sim_sound.proofs.Moves.{ending_there, knows_itself, later_entered, operates_entered, store_entered}
+use Rattle.sim_sound.proofs.Prefixes.{LevelOf, prefix_level, same_level}
 use Rattle.sim_sound.proofs.Sound.{AllArrays, AllOn, Begun, CallOpFine, CellsFine, ChainFine, Enclosed, Fine, HandFine, HandsFine, InstanceFine, KeepsNone, KeyAmong, Kinds, Knows, LinkTo, Made, NothingKept, OnChain, Operates, Present, Sight, Stays, StoreFine, Takes, Waits, Whole, WorkFine, alone, GivesResult, earlier, formal_kinds, given, holds_of, key_of, keys_in, own_text, runs, see, staying, within}
 
 -- ---- a new instance
@@ -55,12 +58,12 @@ module _ (s : Source) (ok : Typed s) (v : AllArrays) (m : Instances) (k : ℕ) (
   new_knows = knows_itself now (length m.instances) made_new new_lives
 
   present_new : (todo : List DeclNo) → Made s k todo cells → Present s now (length m.instances) k todo
-  present_new todo made = record { now = made_new; lives = new_lives; stands = own_text refl; words = x; has_text = is; made = made }
+  present_new todo made = record { now = made_new; lives = new_lives; stands = own_text same_level; words = x; has_text = is; made = made }
 
-  instance_new : ((key : Key) → KeyAmong key (keys_in s k (text s k)) → KeyAmong key (map key_of cells)) → CellsFine s v now (length m.instances) k cells → Enclosed s now (length m.instances) k e → InstanceFine s v now (length m.instances) made_new
-  instance_new keys fine out = record { level = refl; solid = solid; keys = keys; cells = fine; ends = refl; not_kept = refl; out = out }
+  instance_new : ((u : ℕ) → LevelOf s k u → (key : Key) → KeyAmong key (keys_in s u (text s u)) → KeyAmong key (map key_of cells)) → CellsFine s v now (length m.instances) k cells → Enclosed s now (length m.instances) k e → InstanceFine s v now (length m.instances) made_new
+  instance_new keys fine out = record { level = refl; solid = solid; keys = keys; holds = λ u at key a. key_level s ok solid at key a; cells = fine; ends = refl; not_kept = refl; out = out }
 
-  pub begun_new : StoreFine s v m → ((key : Key) → KeyAmong key (keys_in s k (text s k)) → KeyAmong key (map key_of cells)) → CellsFine s v now (length m.instances) k cells → Enclosed s now (length m.instances) k e → (todo : List DeclNo) → Made s k todo cells → Begun s v now (length m.instances) k todo
+  pub begun_new : StoreFine s v m → ((u : ℕ) → LevelOf s k u → (key : Key) → KeyAmong key (keys_in s u (text s u)) → KeyAmong key (map key_of cells)) → CellsFine s v now (length m.instances) k cells → Enclosed s now (length m.instances) k e → (todo : List DeclNo) → Made s k todo cells → Begun s v now (length m.instances) k todo
   unfolding present_new
   begun_new store keys fine out todo made = record { store = store_entered s v m made_new z store (instance_new keys fine out); here = present_new todo made; own = refl }
 
@@ -77,11 +80,16 @@ module _ (s : Source) (ok : Typed s) (v : AllArrays) (m : Instances) (k : ℕ) (
 
   -- the text around is not class-free either, so an instance of it stays
   pub encloser_stays : (j u : ℕ) → StoreFine s v m → encloser s.tables k ≡ Some u → (p : Whole s m j u) → is_class_free s k ≡ false → Stays m j
-  encloser_stays j u store around p free = record { now = p.now; lives = p.lives; stays = ap (λ q. q && not (p.now).kept) ((store.instances j p.now p.lives).ends ∙ stands_free (p.now) u p.stands (ok.not_class_free k u around free)) }
+  encloser_stays j u store around p free = record { now = p.now; lives = p.lives; stays = ap (λ q. q && not (p.now).kept) ((store.instances j p.now p.lives).ends ∙ stands_free (p.now) u (store.instances j p.now p.lives).solid p.stands (ok.not_class_free k u around free)) }
     where
-      stands_free : (y : Instance (List Held)) (t : ℕ) → Rattle.sim_sound.proofs.Sound.StandsFor s y t → is_class_free s t ≡ false → is_class_free s y.text ≡ false
-      stands_free y t (own_text same) f = ap (is_class_free s) same ∙ f
-      stands_free y t (Rattle.sim_sound.proofs.Sound.connected {u = w} c around' key a) f = stands_free y w a (ok.not_class_free t w around' f)
+      -- a class is not class-free
+      level_free : {n t : ℕ} → is_connection (text s n) ≡ false → LevelOf s n t → is_class_free s t ≡ false → is_class_free s n ≡ false
+      level_free no_connection same_level f = f
+      level_free {n = n} no_connection (prefix_level {b = b} q a) f = ((class_words s ok n ((ok.prefixes).prefixed_by n b no_connection q).class).typed).stays
+
+      stands_free : (y : Instance (List Held)) (t : ℕ) → is_connection (text s y.text) ≡ false → Rattle.sim_sound.proofs.Sound.StandsFor s y t → is_class_free s t ≡ false → is_class_free s y.text ≡ false
+      stands_free y t no_connection (own_text at) f = level_free no_connection at f
+      stands_free y t no_connection (Rattle.sim_sound.proofs.Sound.connected {u = w} c around' key a) f = stands_free y w no_connection a (ok.not_class_free t w around' f)
 
   pub inside_new : (out u : ℕ) → e ≡ Some out → encloser s.tables k ≡ Some u → out < length m.instances → StoreFine s v m → Whole s m out u → Enclosed s now (length m.instances) k e
   inside_new out u is_out is_in lt store whole =
@@ -128,17 +136,20 @@ module _ (s : Source) (ok : Typed s) (v : AllArrays) (m : Instances) (k : ℕ) (
   block_holds : (d : DeclNo) (kd : Holds) → Rattle.sim_sound.specs.Held.key_holds s k (Declared d.0) ≡ Some (ArrayOf kd) → Rattle.sim_sound.specs.Held.entry_holds s false (Rattle.sim_scope.specs.Scopes.entry_of s.tables d) ≡ Some (ArrayOf kd)
   block_holds d kd h = sym (ap (λ z. Rattle.sim_sound.specs.Held.entry_holds s z (Rattle.sim_scope.specs.Scopes.entry_of s.tables d)) (ap Rattle.sim_meaning.specs.Levels.is_class is)) ∙ h
 
+  no_class : is_class (text s k) ≡ false
+  no_class = ap is_class is
+
   block_made : Made s k (arrays_of_block s ds) cells
-  block_made d kd holds there none = typed.made d kd (block_key s k begin ds ss d (subst (λ z. KeyAmong (Declared d.0) (keys_in s k z)) is there)) (block_holds d kd holds)
+  block_made = made_alone s ok k (arrays_of_block s ds) cells (block_solid s k begin ds ss is) no_class (λ d kd holds there none. typed.made d kd (block_key s k begin ds ss d (subst (λ z. KeyAmong (Declared d.0) (keys_in s k z)) is there)) (block_holds d kd holds))
 
   pub block_begun : StoreFine s v m → Enclosed s after (length m.instances) k e → Begun s v after (length m.instances) k (arrays_of_block s ds)
   block_begun store out =
-      begun_new s ok v m k e cells (NoObject None) (BlockText begin ds ss) is (block_solid s k begin ds ss is) store (λ key a. subst (λ z. KeyAmong key (keys_in s k z)) is a) cells_fine out (arrays_of_block s ds) block_made
+      begun_new s ok v m k e cells (NoObject None) (BlockText begin ds ss) is (block_solid s k begin ds ss is) store (keys_alone s ok k (map key_of cells) (block_solid s k begin ds ss is) no_class (λ key a. subst (λ z. KeyAmong key (keys_in s k z)) is a)) cells_fine out (arrays_of_block s ds) block_made
 
   pub block_works : StoreFine s v m → Enclosed s after (length m.instances) k e → (Below : Waits → Type 0) (Outermost : Type 0) (end : Item) → WorkFine s v after Below Outermost (length m.instances) k (end ∷ []) [] [] → WorkFine s v after Below Outermost (length m.instances) k (block_work s after (length m.instances) ds ss end) (arrays_of_block s ds) []
   block_works store out Below Outermost end x =
       let b = block_begun store out in
-      block_arrays s ok v after (length m.instances) k (arrays_of_block s ds) b (BlockText begin ds ss) is (block_solid s k begin ds ss is) (λ d a. arrays_are s (InBound k) ds typed.arrays d a) Below Outermost ds (Do (Execs ss) ∷ end ∷ []) typed.arrays typed.distinct typed.own
+      block_arrays s ok v after (length m.instances) k k same_level (arrays_of_block s ds) b (BlockText begin ds ss) is (block_solid s k begin ds ss is) (λ d a. arrays_are s (InBound k) ds typed.arrays d a) Below Outermost ds (Do (Execs ss) ∷ end ∷ []) typed.arrays typed.distinct typed.own
       ([], [], (refl, refl, refl, (k, own_site s v after (length m.instances) k (arrays_of_block s ds) b, typed.statements)), x)
 
 -- ---- a sub-block
@@ -259,8 +270,11 @@ module _ (s : Source) (ok : Typed s) (l : Limits) (o : World) (sights : List Sig
     keys : (key : Key) → KeyAmong key (keys_in s k (text s k)) → KeyAmong key (map key_of Cells)
     keys key z = subst (KeyAmong key) (sym (filled first).same_keys) (subst (λ q. KeyAmong key (keys_in s k q)) is z)
 
+    plain : is_class (text s k) ≡ false
+    plain = ap is_class is
+
     made : Made s k [] Cells
-    made c kd holds there none = absurd (held_there s (see (handed first).sights P) (After first) N k (Declared c.0) Cells (filled first).held_all (keys (Declared c.0) there) none)
+    made = made_alone s ok k [] Cells solid plain (λ c kd holds there none. absurd (held_there s (see (handed first).sights P) (After first) N k (Declared c.0) Cells (filled first).held_all (keys (Declared c.0) there) none))
 
     e : Later s (see sights o) m V m All
     e = (handed Cells).later m
@@ -269,7 +283,7 @@ module _ (s : Source) (ok : Typed s) (l : Limits) (o : World) (sights : List Sig
     store = store_handed P G e b.store (handed Cells).elements
 
     begun : Begun s V M N k []
-    begun = begun_new s ok V m k (Some j) Cells Nobody X is solid store keys fine (inside_new s ok V m k (Some j) Cells Nobody X is solid j u refl stands (live_less m j whole.now whole.lives) store whole) [] made
+    begun = begun_new s ok V m k (Some j) Cells Nobody X is solid store (keys_alone s ok k (map key_of Cells) solid plain keys) fine (inside_new s ok V m k (Some j) Cells Nobody X is solid j u refl stands (live_less m j whole.now whole.lives) store whole) [] made
 
     copies : (z y : ℕ) → z < i → Copies (see sights o) V z y
     copies z y deep q kd c' small copy = (handed Cells).copies z q kd c' (λ same. absurd (let w : ⊥ = omega (arith, same, deep) in w)) copy

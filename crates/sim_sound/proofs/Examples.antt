@@ -42,6 +42,7 @@ use Rattle.sim_scope.specs.Scopes.{lookup, shown as shown_of_scopes, searched, d
 use Rattle.sim_scope.specs.Source.{source_of, denoted, type_at, line_at, level_of, block_of, block_around}
 use Rattle.sim_scope.specs.Standard.{standard_name, text_attribute, sysin_attribute, sysout_attribute, signature, is_real_function, is_random_drawing, is_file_or_layout, is_environment_name, undeclared}
 use Rattle.sim_scope.specs.Walk.{program_events, of_statement, of_branch, of_arm, of_block, of_whole, of_class_body, of_declaration}
+use Rattle.sim_sound.proofs.Unprefixed.{unprefixed}
 
 abbrev pub number : ℕ → DeclNo
 number n = record { 0 = n }
@@ -197,7 +198,7 @@ sub_typed = record {
   texts = λ k x e. text_holds sub_block k (text sub_block k) x e (sub_texts k);
   classes = λ d k e. absurd (sub_classes d.0 k e);
   not_class_free = λ t u around e. absurd (sub_never t e);
-  unprefixed = λ k solid. sub_unprefixed k;
+  prefixes = unprefixed sub_block (omega arith) (λ k solid. sub_unprefixed k);
   keeps_none = λ k result h a is e. absurd (sub_never k e);
 }
 
@@ -307,7 +308,7 @@ f_typed = record {
   texts = λ k x e. text_holds factorial_20 k (text factorial_20 k) x e (f_texts k);
   classes = λ d k e. absurd (f_classes d.0 k e);
   not_class_free = λ t u around e. absurd (f_never t e);
-  unprefixed = λ k solid. f_unprefixed k;
+  prefixes = unprefixed factorial_20 (omega arith) (λ k solid. f_unprefixed k);
   keeps_none = λ k result h a is e. absurd (f_never k e);
 }
 
@@ -390,7 +391,7 @@ l_typed = record {
   texts = λ k x e. text_holds for_list k (text for_list k) x e (l_texts k);
   classes = λ d k e. absurd (l_classes d.0 k e);
   not_class_free = λ t u around e. absurd (l_never t e);
-  unprefixed = λ k solid. l_unprefixed k;
+  prefixes = unprefixed for_list (omega arith) (λ k solid. l_unprefixed k);
   keeps_none = λ k result h a is e. absurd (l_never k e);
 }
 
@@ -469,7 +470,7 @@ t_typed = record {
   texts = λ k x e. text_holds parts k (text parts k) x e (t_texts k);
   classes = λ d k e. absurd (t_classes d.0 k e);
   not_class_free = λ t u around e. absurd (t_never t e);
-  unprefixed = λ k solid. t_unprefixed k;
+  prefixes = unprefixed parts (omega arith) (λ k solid. t_unprefixed k);
   keeps_none = λ k result h a is e. absurd (t_never k e);
 }
 
@@ -563,6 +564,6 @@ v_typed = record {
   texts = λ k x e. text_holds value_array k (text value_array k) x e (v_texts k);
   classes = λ d k e. absurd (v_classes d.0 k e);
   not_class_free = λ t u around e. absurd (v_never t e);
-  unprefixed = λ k solid. v_unprefixed k;
+  prefixes = unprefixed value_array (omega arith) (λ k solid. v_unprefixed k);
   keeps_none = λ k result h a is e. absurd (v_never k e);
 }

@@ -1,49 +1,31 @@
--- What fits where something is wanted. A class is one of its own levels, and so far has no other.
+-- What fits where something is wanted. A class is one of its own levels.
 use Rattle.std.proofs.Common.{◌≡◌, ℕ, zero, suc, Bool, true, false, List, [], ◌∷◌, length, Option, Some, None, refl, sym, ap, ◌∙◌, subst, arith}
 use Rattle.std.specs.Prelude.{◌||◌, not, nat_eq, if◌then◌else◌, slice_get}
-use Rattle.sim_scope.specs.Levels.{base, has_level, holds, some_level_of}
+use Rattle.sim_scope.specs.Levels.{has_level, some_level_of}
 use Rattle.sim_scope.specs.Source.{Source}
 use Rattle.sim_scope.specs.Tables.{BlockOf}
 use Rattle.sim_values.specs.declared.kind.Kind.{Kind}
 use Rattle.sim_values.specs.declared.kind.Kind.TheVariants as kind
 use Rattle.sim_values.specs.Plain.{Character, Integer, Nothing, Object, Plain, Text, Truth, kind_of}
 use Rattle.sim_code.specs.Instances.{Instance, live, unless_given}
-use Rattle.sim_meaning.specs.Attributes.{is_connection}
-use Rattle.sim_meaning.specs.Levels.{is_in, text_at, text_in, text_is_in}
+use Rattle.sim_meaning.specs.Levels.{is_class, is_in, text_at, text_in, text_is_in}
 use Rattle.sim_meaning.specs.Pending.{Held, Instances, Of, Val}
 use Rattle.sim_meaning.specs.Texts.{has_class_in, is_class_free, text}
 use Rattle.sim_sound.specs.Held.{ArrayOf, Fits, Holds, Refers, Simply}
 use Rattle.sim_sound.specs.Typed.{Typed}
+use Rattle.sim_sound.proofs.Prefixes.{LevelOf, level_class, level_has, level_is, level_then}
 use Rattle.sim_sound.proofs.Sound.{AllArrays, IsPlain, Knows, NamesObject, ObjectOf, PlainFine, ReferenceFine, StoreFine, ValFine, Whole, own_text, staying}
 
 -- ---- levels
-
-first_of : (p q : Bool) → q ≡ false → (p || q) ≡ true → p ≡ true
-first_of true q e f = refl
-first_of false q e f = absurd (cc)
 
 either_of : (p q : Bool) → p ≡ true → (p || q) ≡ true
 either_of true q e = refl
 either_of false q e = absurd (cc)
 
-numbers_are : (a b : ℕ) → nat_eq a b ≡ true → a ≡ b
-numbers_are a b e = grind (arith, e)
-
 number_is : (a : ℕ) → nat_eq a a ≡ true
 number_is a = grind arith
 
 module _ (s : Source) where
-  alone_level : (n t c : ℕ) → base s.tables t ≡ None → some_level_of s.tables n (λ b. nat_eq b c) t ≡ true → t ≡ c
-  unfolding some_level_of
-  alone_level zero t c none e = absurd (cc)
-  alone_level (suc n) t c none e =
-      numbers_are t c (first_of (nat_eq t c) (holds (λ b. some_level_of s.tables n (λ b. nat_eq b c) b) (base s.tables t)) (ap (holds (λ b. some_level_of s.tables n (λ b. nat_eq b c) b)) none) e)
-
-  -- so far what is no connection has no other level
-  pub one_level : Typed s → (t c : ℕ) → is_connection (text s t) ≡ false → has_level s.tables t c ≡ true → t ≡ c
-  unfolding has_level
-  one_level ok t c solid e = alone_level (length s.tables.blocks) t c (ok.unprefixed t solid) e
-
   self_in : (n c u : ℕ) → some_level_of s.tables n (λ b. nat_eq b u) c ≡ true → some_level_of s.tables n (λ b. nat_eq b c) c ≡ true
   unfolding some_level_of
   self_in zero c u e = absurd (cc)
@@ -110,28 +92,29 @@ module _ (s : Source) (m : Instances) where
   knows_object i j c p = staying (record { now = p.now; lives = p.lives; stays = p.stays })
 
 module _ (s : Source) (ok : Typed s) (o : AllArrays) (m : Instances) (store : StoreFine s o m) where
-  -- an object of a class stands for each level of the class
-  pub object_text : (j c : ℕ) → (p : ObjectOf s m j c) → (p.now).text ≡ c
-  object_text j c p = one_level s ok (p.now).text c (store.instances j p.now p.lives).solid p.levels
-
-  class_solid : (j c : ℕ) → ObjectOf s m j c → is_connection (text s c) ≡ false
-  class_solid j c p = subst (λ z. is_connection (text s z) ≡ false) (object_text j c p) (store.instances j p.now p.lives).solid
-
-  class_level : (j c u : ℕ) → ObjectOf s m j c → has_level s.tables c u ≡ true → c ≡ u
-  class_level j c u p e = one_level s ok c u (class_solid j c p) e
+  -- an object of a class has the levels of the class
+  object_level : (j c u : ℕ) → (p : ObjectOf s m j c) → has_level s.tables c u ≡ true → LevelOf s (p.now).text u
+  object_level j c u p e = level_then s (level_is s (p.now).text c p.levels) (level_is s c u e)
 
   pub object_up : (j c u : ℕ) → ObjectOf s m j c → has_level s.tables c u ≡ true → ObjectOf s m j u
-  object_up j c u p e = subst (ObjectOf s m j) (class_level j c u p e) p
-
-  pub object_whole : (j c u : ℕ) → ObjectOf s m j c → has_level s.tables c u ≡ true → Whole s m j u
-  object_whole j c u p e = record {
+  object_up j c u p e = record {
     now = p.now;
     lives = p.lives;
-    stands = own_text (object_text j c p ∙ class_level j c u p e);
+    object = p.object;
+    levels = level_has s ok (p.now).text u (store.instances j p.now p.lives).solid (object_level j c u p e);
+    stays = p.stays;
     words = p.words;
     has_text = p.has_text;
     made = p.made;
   }
+
+  -- these are classes
+  pub object_class : (j c u : ℕ) → ObjectOf s m j c → has_level s.tables c u ≡ true → is_class (text s u) ≡ true
+  object_class j c u p e = level_class s ok p.object (object_level j c u p e)
+
+  -- it stands for each of them
+  pub object_whole : (j c u : ℕ) → ObjectOf s m j c → has_level s.tables c u ≡ true → Whole s m j u
+  object_whole j c u p e = record { now = p.now; lives = p.lives; stands = own_text (object_level j c u p e); words = p.words; has_text = p.has_text; made = p.made }
 
   -- an object of a class is in each level of the class
   pub object_in : (j c u : ℕ) → ObjectOf s m j c → has_level s.tables c u ≡ true → is_in s m u j ≡ true

@@ -12,6 +12,7 @@ use Rattle.sim_meaning.specs.Levels.{is_class}
 use Rattle.sim_meaning.specs.Texts.{text}
 use Rattle.sim_sound.specs.Held.{ArrayOf, Holds, Refers, Simply, key_holds}
 use Rattle.sim_sound.proofs.Lists.{there_is}
+use Rattle.sim_sound.proofs.Prefixes.{LevelOf}
 use Rattle.sim_sound.proofs.Sound.{AddressOf, AllArrays, ArrayFine, CellFine, CellIs, CellTarget, CellsFine, ChainFine, Copied, CopyFine, DeepFine, ElementFine, Enclosed, HandFine, HandsFine, ImageAddress, InstanceFine, IntegersFine, KeptFine, KeyAmong, Kinds, Knows, Lasting, LevelsFine, LinkTo, NamesObject, ObjectOf, ObjectStands, OpFine, OperandsFine, PlainFine, Present, ReferenceAddress, ReferenceFine, Site, Sited, StandsFor, Stays, StoreOpFine, TargetFine, TargetsFine, TermFine, TermsFine, ValFine, Value, VariableFine, Waits, WorkFine, alone, array_stored, connected, earlier, in_connection, in_instance, key_of, own_made, own_text, staying, value_stored, within}
 
 -- an instance that is as it was, but for values of cells, and cells of connections that are new
@@ -49,7 +50,7 @@ Copies o o' j d = (e : ℕ) (h : Holds) (a : ℕ) → e < d → CopyFine o j e h
 -- ---- instances
 
 stands_grown : (s : Source) (x y : Instance (List Held)) → Grown x y → (t : ℕ) → StandsFor s x t → StandsFor s y t
-stands_grown s x y g t (own_text is) = own_text (g.text ∙ is)
+stands_grown s x y g t (own_text at) = own_text (subst (λ z. LevelOf s z t) (sym g.text) at)
 stands_grown s x y g t (connected {u = u} is around there a) = connected is around (g.keys _ there) (stands_grown s x y g u a)
 
 pub flags_grown : (x y : Instance (List Held)) → Grown x y → (y.passing && not y.kept) ≡ (x.passing && not x.kept)
@@ -82,8 +83,12 @@ module _ (s : Source) (o : AllArrays) (m : Instances) (o' : AllArrays) (m' : Ins
         stands = stands_grown s p.now y.now y.grown t p.stands;
         words = p.words;
         has_text = ap (text s) (y.grown).text ∙ p.has_text;
-        made = λ d k holds there none. p.made d k (subst (λ z. key_holds s z (Declared d.0) ≡ Some (ArrayOf k)) (y.grown).text holds) (subst (λ z. KeyAmong (Declared d.0) (Rattle.sim_sound.proofs.Sound.keys_in s z (text s z))) (y.grown).text there) ((y.grown).holds (Declared d.0) none);
+        made = λ u at d k holds there none. p.made u (subst (λ z. LevelOf s z u) (y.grown).text at) d k holds there ((y.grown).holds (Declared d.0) none);
       }
+
+  pub own_later : (j t : ℕ) (todo : List DeclNo) (ok : Apart j) (p : Present s m j t todo) → ((present_later j t todo ok p).now).text ≡ (p.now).text
+  unfolding present_later
+  own_later j t todo ok p = ((e.there j p.now ok p.lives).grown).text
 
   pub object_later : (j class : ℕ) → ObjectOf s m j class → ObjectOf s m' j class
   object_later j class p =
@@ -96,7 +101,7 @@ module _ (s : Source) (o : AllArrays) (m : Instances) (o' : AllArrays) (m' : Ins
         stays = flags_grown p.now y.now y.grown ∙ p.stays;
         words = p.words;
         has_text = ap (text s) (y.grown).text ∙ p.has_text;
-        made = λ d k holds there none. p.made d k (subst (λ z. key_holds s z (Declared d.0) ≡ Some (ArrayOf k)) (y.grown).text holds) (subst (λ z. KeyAmong (Declared d.0) (Rattle.sim_sound.proofs.Sound.keys_in s z (text s z))) (y.grown).text there) ((y.grown).holds (Declared d.0) none);
+        made = λ u at d k holds there none. p.made u (subst (λ z. LevelOf s z u) (y.grown).text at) d k holds there ((y.grown).holds (Declared d.0) none);
       }
 
   -- ---- values and cells
@@ -141,7 +146,7 @@ module _ (s : Source) (o : AllArrays) (m : Instances) (o' : AllArrays) (m' : Ins
   enclosed_later j t out ok (within {e = n} {u = u} is around less knows whole) = within is around less (knows_later j n ok knows) (present_later n u [] (e.apart j n ok knows) whole)
 
   pub instance_later : (j : ℕ) (x : Instance (List Held)) → Apart j → InstanceFine s o m j x → InstanceFine s o' m' j x
-  instance_later j x ok f = record { level = f.level; solid = f.solid; keys = f.keys; cells = cells_later j x.text ok x.cells f.cells; ends = f.ends; not_kept = f.not_kept; out = enclosed_later j x.text x.encloser ok f.out }
+  instance_later j x ok f = record { level = f.level; solid = f.solid; keys = f.keys; holds = f.holds; cells = cells_later j x.text ok x.cells f.cells; ends = f.ends; not_kept = f.not_kept; out = enclosed_later j x.text x.encloser ok f.out }
 
   -- ---- what is in hand, and what is pending
 
@@ -195,7 +200,7 @@ module _ (s : Source) (o : AllArrays) (m : Instances) (o' : AllArrays) (m' : Ins
   module _ (j t : ℕ) (ok : Apart j) where
     read_later : (todo : List DeclNo) (n : ℕ) (key : Key) (h : Holds) → CellIs s m j t todo n key h → CellIs s m' j t todo n key h
     read_later todo n key h (in_instance c) = in_instance (cell_target_later j ok n key h c)
-    read_later todo n key h (own_made is same holds there free) = own_made is same holds there free
+    read_later todo n key h (own_made is same level holds there free) = own_made is same level holds there free
     read_later todo n key h (in_connection {c = c} knows whole is same holds) = in_connection (knows_later j n ok knows) (present_later n c [] (e.apart j n ok knows) whole) is same holds
 
     mutual

@@ -1,3 +1,6 @@
+pub mod Prefixes
+pub mod Unprefixed
+pub mod Acyclic
 pub mod Sound
 pub mod Later
 pub mod Lists
@@ -34,4 +37,5 @@ pub mod Naming
 pub mod Main
 pub mod Examples
 pub mod ClassExamples
+pub mod PrefixExamples
 pub mod WorkedPrograms

@@ -89,7 +89,7 @@ module _ (s : Source) (ok : Typed s) (l : Limits) (o : World) (sights : List Sig
         ready todo todo' before behind (Stepped (EnterOp k line)) a.0 a.1 a.2 b h work (λ b h work.
         subst (λ z. Goes (IsFine s) (sub_block_entered s l o m i w vals rest k line z)) (sym x.4)
         (block_entered s ok l o sights long m i t rest top w vals k line y.0 x.1 x.2 x.3 before x.4 x.0 (site_whole s (see sights o) m i t y.0 b y.1) b h work))
-    op_goes (DeclareOp ds) todo todo' before behind a b h work = declare_goes s ok l o sights long m i t rest top w vals ds todo todo' before behind a.0 a.1 a.2 a.3 b h work
+    op_goes (DeclareOp ds) todo todo' before behind a b h work = declare_goes s ok l o sights long m i t rest top w vals ds todo todo' before behind a.0 a.1 a.2 b h work
     op_goes (LevelOp k) todo todo' before behind a b h work = level_goes s ok l o sights long m i t rest top w vals k todo todo' before behind a.0 a.1 b h work
     op_goes (InnerOp xs) todo todo' before behind a b h work =
         ready todo todo' before behind (Stepped (InnerOp xs)) a.0 a.1 a.2 b h work (λ b h work. inner_goes s ok l o sights long m i t rest top w vals xs before a.3 b h work)

@@ -161,7 +161,8 @@ module _ (s : Source) (o : AllArrays) (m : Instances) (e : ℕ) (y : Instance (L
   fine_set f fine = record {
     level = f.level;
     solid = f.solid;
-    keys = λ key a. keys key (f.keys key a);
+    keys = λ u at key a. keys key (f.keys u at key a);
+    holds = f.holds;
     cells = cells_later s o m o set_in All later_cells e y.text tt cells fine;
     ends = f.ends;
     not_kept = f.not_kept;

@@ -10,6 +10,7 @@ use Rattle.sim_scope.specs.declared.types.FormalKind.{FormalKind}
 use Rattle.sim_scope.specs.declared.types.FormalKind.TheVariants as shape
 use Rattle.sim_scope.specs.declared.types.Mode.{Mode}
 use Rattle.sim_scope.specs.declared.types.Mode.TheVariants as mode
+use Rattle.sim_scope.specs.declared.types.SimType.{SimType}
 use Rattle.sim_scope.specs.Access.{encloser}
 use Rattle.sim_scope.specs.Scopes.{class_formals, entry_of}
 use Rattle.sim_scope.specs.Source.{Source}
@@ -25,15 +26,15 @@ use Rattle.sim_meaning.specs.Closing.{class_parameters}
 use Rattle.sim_meaning.specs.Entries.{arrays_by_value, is_array_by_value, new_instance, numbers_of, words_of_cells}
 use Rattle.sim_meaning.specs.Levels.{is_class, levels}
 use Rattle.sim_meaning.specs.Meaning.{do_op}
-use Rattle.sim_meaning.specs.Objects.{arrays_given, attributes_from, cells_of_levels, filled_in, generated, in_object, inner_done, levels_work, object_entered}
-use Rattle.sim_meaning.specs.Pending.{Activation, Configuration, Declared, DeclareOp, EndLevel, EndObject, Held, Instances, Item, Key, Level, LevelOp, Of, Val, instance_in}
+use Rattle.sim_meaning.specs.Objects.{arrays_given, attributes_from, cells_of_levels, declared, filled_in, generated, in_object, inner_done, levels_work, object_entered}
+use Rattle.sim_meaning.specs.Pending.{Activation, Configuration, Declared, DeclareOp, EndLevel, EndObject, Held, Instances, Item, Key, Level, LevelOp, Of, Val, held, instance_in}
 use Rattle.sim_meaning.specs.Texts.{ClassText, Text, text}
-use Rattle.sim_sound.specs.Held.{Among, ArrayOf, Fits, Holds, InBound, IsFormal, Refers, Simply, entry_holds, first, held_by, later}
-use Rattle.sim_sound.specs.Typed.{ClassTyped, FormalsAre, Typed, arrays_of_block}
-use Rattle.sim_sound.proofs.ArrayWork.{arrays_are, block_arrays}
-use Rattle.sim_sound.proofs.Cells.{fine_at, held_no_array, own_site}
+use Rattle.sim_sound.specs.Held.{Among, ArrayOf, Fits, Holds, IsFormal, Refers, Simply, entry_holds, first, held_by, key_holds, later}
+use Rattle.sim_sound.specs.Typed.{ClassTyped, ConstantHas, Distinct, FormalsAre, Typed, arrays_of_block}
+use Rattle.sim_sound.proofs.ArrayWork.{level_arrays}
+use Rattle.sim_sound.proofs.Cells.{fine_at, held_no_array}
 use Rattle.sim_sound.proofs.ClassCells.{FilledIn, attributes_among, attributes_distinct, attributes_first, fill, none_waits}
-use Rattle.sim_sound.proofs.ClassLevels.{class_levels, formals_among, one}
+use Rattle.sim_sound.proofs.ClassLevels.{AllLevels, LevelIn, LevelIs, LevelsAre, arrays_in, arrays_of_levels, cells_are, class_levels, distinct_right, formals_among, level_among, level_arrays_are, level_arrays_distinct, level_formal, level_key, level_typed, levels_are, levels_fine, number_from, number_in, numbers_of_levels}
 use Rattle.sim_sound.proofs.Entering.{begun_new, below_new, chain_lives, enters_fine, inside_new, later_new, link_is, lives_is, new_knows, same_arrays, store_handed}
 use Rattle.sim_sound.proofs.Evals.{IsFine, Work, goes_on}
 use Rattle.sim_sound.proofs.FirstCells.{ActualsAre, AllSome, ValsFine, all_taken, taken}
@@ -42,12 +43,9 @@ use Rattle.sim_sound.proofs.Later.{All, Copies, Later, all_apart, chain_later, h
 use Rattle.sim_sound.proofs.Lifts.{Goes, any_popped, enters, had, ran, whens}
 use Rattle.sim_sound.proofs.Lists.{same_some}
 use Rattle.sim_sound.proofs.Moves.{new_standing}
+use Rattle.sim_sound.proofs.Prefixes.{LevelOf, level_words}
 use Rattle.sim_sound.proofs.Reach.{attribute_key}
 use Rattle.sim_sound.proofs.Sound.{AllArrays, Begun, CellsFine, ChainFine, DeclareFine, Generated, HandsFine, KeyAmong, Kinds, Knows, LevelsFine, LinkTo, Made, NewOpFine, Operates, Sight, StoreFine, Value, Whole, WorkFine, class_kinds, holds_of, in_hand, kept_kinds, key_of, keys_in, see}
-
-append_none : {A : Type 0} (xs : List A) → xs ++ [] ≡ xs
-append_none [] = refl
-append_none (x ∷ xs) = ap (λ z. x ∷ z) (append_none xs)
 
 -- ---- actual parameters of a class
 
@@ -102,8 +100,21 @@ module _ (s : Source) (ok : Typed s) (l : Limits) (o : World) (sights : List Sig
     abbrev N : ℕ
     N = length m.instances
 
+    abbrev class : is_class (text s k) ≡ true
+    class = ap is_class is
+
+    -- its levels, with what they declare
+    abbrev all : AllLevels s ok (length s.tables.blocks) k
+    all = class_levels s ok k class
+
+    abbrev xs : List Level
+    xs = all.list
+
+    abbrev numbers : List DeclNo
+    numbers = numbers_of_levels s xs
+
     abbrev first_ones : List Held
-    first_ones = attributes_from s (numbers_of s k)
+    first_ones = attributes_from s numbers
 
     abbrev formals : List DeclNo
     formals = class_formals s.tables k
@@ -117,9 +128,6 @@ module _ (s : Source) (ok : Typed s) (l : Limits) (o : World) (sights : List Sig
     typed : ClassTyped s k ds ss
     typed = ok.texts k X is
 
-    class : is_class (text s k) ≡ true
-    class = ap is_class is
-
     solid : is_connection (text s k) ≡ false
     solid = ap is_connection is
 
@@ -132,13 +140,25 @@ module _ (s : Source) (ok : Typed s) (l : Limits) (o : World) (sights : List Sig
         hand_all s m (After c) i N top.before (λ q. later_new s ok q m k (Some j) c AttachedObject X is solid) (new_knows s ok (see sights o) m k (Some j) c AttachedObject X is solid) fs (class_kinds s fs)
         (classes_hand s (Knows (After c) N i) formals fs typed.formals) vs o sights long d acts
 
+    -- the formal parameters and constants of all levels
+    parameters : (e : DeclNo) → Among e numbers → IsFormal (entry_of s.tables e) → Among e formals
+    parameters e a f =
+        let y = number_from s e xs a in
+        let q = level_among s k y.0 xs all.are y.1 in
+        level_formal s ok k class (y.0).text q.level e ((level_typed s ok k y.0 q).parameters e y.2 f)
+
+    constants : (e : DeclNo) (ty : SimType) → Among e numbers → entry_of s.tables e ≡ Some (entry.Constant ty) → ConstantHas s e ty
+    constants e ty a f =
+        let y = number_from s e xs a in
+        (level_typed s ok k y.0 (level_among s k y.0 xs all.are y.1)).constants e ty y.2 f
+
     filled : (c : List Held) → FilledIn s (see (handed c).sights P) (After c) N k vs first_ones formals
     filled c =
         let v = see (handed c).sights P in
         fill s v (After c) N k formals fs vs first_ones typed.formals ((handed c).values k)
-        (λ e a. let f = formal_at s true formals fs typed.formals e a in attribute_key s (numbers_of s k) e true f.0 (formals_among s ok k prefix heading ds ss is e a) f.1)
-        (attributes_distinct s (numbers_of s k) typed.different)
-        (attributes_first s v (After c) N k class formals (numbers_of s k) typed.parameters typed.constants)
+        (λ e a. let f = formal_at s true formals fs typed.formals e a in attribute_key s numbers e true f.0 (formals_among s ok k class e a) f.1)
+        (attributes_distinct s numbers all.distinct)
+        (attributes_first s v (After c) N k class formals numbers parameters constants)
 
     abbrev Cells : List Held
     Cells = (filled first_ones).cells
@@ -158,25 +178,35 @@ module _ (s : Source) (ok : Typed s) (l : Limits) (o : World) (sights : List Sig
     fine : CellsFine s V M N k Cells
     fine = subst (CellsFine s V M N k) same_cells (none_waits s V M N k (filled Cells).cells (filled Cells).waits)
 
-    keys : (key : Key) → KeyAmong key (keys_in s k (text s k)) → KeyAmong key (map key_of Cells)
-    keys key z = subst (KeyAmong key) (sym (filled first_ones).same_keys) (subst (λ q. KeyAmong key (keys_in s k q)) is z)
+    -- it has the cells of each level
+    of_level : (u : ℕ) (y : Level) → y.text ≡ u → LevelIs s k y → (key : Key) → KeyAmong key (keys_in s u (text s u)) → KeyAmong key (map key_of (attributes_from s (numbers_of s y.text)))
+    of_level u y same q key a = subst (λ z. KeyAmong key (keys_in s y.text z)) q.is (subst (λ z. KeyAmong key (keys_in s z (text s z))) (sym same) a)
 
-    -- the arrays that the class declares are still to be made
-    made : Made s k (arrays_of_block s ds) Cells
-    made c h is_array there none =
-        let among : Among c (numbers_of s k) = attributes_among s c (numbers_of s k) (subst (λ q. KeyAmong (Declared c.0) (keys_in s k q)) is there) in
-        by_entry (entry_of s.tables c) refl among (sym (ap (λ z. entry_holds s z (entry_of s.tables c)) class) ∙ is_array)
+    keys : (u : ℕ) → LevelOf s k u → (key : Key) → KeyAmong key (keys_in s u (text s u)) → KeyAmong key (map key_of Cells)
+    keys u at key a =
+        let y = all.covers u at in
+        subst (KeyAmong key) (sym (filled first_ones).same_keys) (level_key s key y.0 xs y.2 (of_level u y.0 y.1 (level_among s k y.0 xs all.are y.2) key a))
+
+    -- the arrays that the levels declare are still to be made
+    made_level : (y : Level) → LevelIs s k y → LevelIn y xs → (c : DeclNo) (h : Holds) → key_holds s y.text (Declared c.0) ≡ Some (ArrayOf h) → Among c (numbers_of s y.text) → held (Declared c.0) Cells ≡ None → Among c (arrays_of_levels s xs)
+    made_level y q place c h is_array among none = by_entry (entry_of s.tables c) refl (sym (ap (λ z. entry_holds s z (entry_of s.tables c)) (ap is_class q.is)) ∙ is_array)
       where
         simply : (kd : Rattle.sim_values.specs.declared.kind.Kind.Kind) → Some (Simply kd) ≡ Some (ArrayOf h) → ⊥
         simply kd e = cc
 
-        by_entry : (e : Option Entry) → entry_of s.tables c ≡ e → Among c (numbers_of s k) → entry_holds s true e ≡ Some (ArrayOf h) → Among c (arrays_of_block s ds)
-        by_entry (Some (entry.Array element dimensions)) e among f = typed.made c element dimensions among e
-        by_entry (Some (entry.Formal g)) e among f = absurd ((filled first_ones).got c (typed.parameters c among (subst IsFormal (sym e) tt)) none)
-        by_entry (Some (entry.Variable type)) e among f = absurd (held_no_array s type h (same_some (Some (held_by s type)) (held_by s type) (ArrayOf h) refl f))
-        by_entry (Some (entry.Constant type)) e among f = absurd (simply _ f)
-        by_entry (Some _) e among f = absurd (cc)
-        by_entry None e among f = absurd (cc)
+        by_entry : (e : Option Entry) → entry_of s.tables c ≡ e → entry_holds s true e ≡ Some (ArrayOf h) → Among c (arrays_of_levels s xs)
+        by_entry (Some (entry.Array element dimensions)) e f = arrays_in s c y xs place ((level_typed s ok k y q).made c element dimensions among e)
+        by_entry (Some (entry.Formal g)) e f = absurd ((filled first_ones).got c (parameters c (number_in s c y xs place among) (subst IsFormal (sym e) tt)) none)
+        by_entry (Some (entry.Variable type)) e f = absurd (held_no_array s type h (same_some (Some (held_by s type)) (held_by s type) (ArrayOf h) refl f))
+        by_entry (Some (entry.Constant type)) e f = absurd (simply _ f)
+        by_entry (Some _) e f = absurd (cc)
+        by_entry None e f = absurd (cc)
+
+    made : Made s k (arrays_of_levels s xs) Cells
+    made u at c h is_array there none =
+        let y = all.covers u at in
+        let q = level_among s k y.0 xs all.are y.2 in
+        made_level y.0 q y.2 c h (subst (λ z. key_holds s z (Declared c.0) ≡ Some (ArrayOf h)) (sym y.1) is_array) (attributes_among s c (numbers_of s (y.0).text) (of_level u y.0 y.1 q (Declared c.0) there)) none
 
     e : Later s (see sights o) m V m All
     e = (handed Cells).later m
@@ -184,8 +214,8 @@ module _ (s : Source) (ok : Typed s) (l : Limits) (o : World) (sights : List Sig
     store : StoreFine s V m
     store = store_handed s ok l o sights long m i t rest top w vs' P G e b.store (handed Cells).elements
 
-    begun : Begun s V M N k (arrays_of_block s ds)
-    begun = begun_new s ok V m k (Some j) Cells AttachedObject X is solid store keys fine (inside_new s ok V m k (Some j) Cells AttachedObject X is solid j u refl stands (live_less m j whole.now whole.lives) store whole) (arrays_of_block s ds) made
+    begun : Begun s V M N k (arrays_of_levels s xs)
+    begun = begun_new s ok V m k (Some j) Cells AttachedObject X is solid store keys fine (inside_new s ok V m k (Some j) Cells AttachedObject X is solid j u refl stands (live_less m j whole.now whole.lives) store whole) (arrays_of_levels s xs) made
 
     copies : (z y : ℕ) → z < i → Copies (see sights o) V z y
     copies z y deep q kd c' small copy = (handed Cells).copies z q kd c' (λ same. absurd (let z : ⊥ = omega (arith, same, deep) in z)) copy
@@ -216,32 +246,45 @@ module _ (s : Source) (ok : Typed s) (l : Limits) (o : World) (sights : List Sig
     ends : Wk (EndObject ∷ []) [] []
     ends = (refl, typed.stays, class, (AttachedObject, new_standing s V m (new_instance s k (Some j) Cells) AttachedObject N refl top.parked, tt), below_new s ok V m k (Some j) Cells AttachedObject X is solid Below (Generated N k) chain)
 
-    inner : (last : Bool) → Wk (Rattle.sim_meaning.specs.Objects.with_inner last [] (EndObject ∷ [])) [] []
-    inner true = ([], [], (refl, refl, refl, tt), ends)
-    inner false = ends
+    -- each of its levels, with those inside
+    inside : (ys : List Level) → LevelsAre s k ys → LevelsFine s M N ys
+    inside ys a = levels_fine s ok M N (begun.here).now (begun.here).lives ys (subst (λ z. LevelsAre s z ys) (sym begun.own) a)
 
-    works : Wk (levels_work (one s ok k prefix heading ds ss is ∷ []) EndObject) (arrays_of_block s ds) []
-    works = (
-      [],
-      [],
-      (record { waits = refl; arrays = typed.arrays; distinct = typed.distinct; own = typed.own }, refl, refl, refl),
-      ([], [], (refl, refl), ([], [], (refl, refl, refl, (k, own_site s V M N k (arrays_of_block s ds) begun, typed.statements)), inner (one s ok k prefix heading ds ss is).inner_last)),
-    )
+    inner : (last : Bool) (ys : List Level) → LevelsAre s k ys → Wk (Rattle.sim_meaning.specs.Objects.with_inner last ys (EndObject ∷ [])) [] []
+    inner true ys a = ([], [], (refl, refl, refl, inside ys a), ends)
+    inner false ys a = ends
 
-    -- the cells of its one level are its own
-    cells_same : cells_of_levels s (one s ok k prefix heading ds ss is ∷ []) ≡ first_ones
-    cells_same = append_none first_ones
+    statements_work : (y : Level) (ys : List Level) → LevelIs s k y → LevelsAre s k ys → Wk (Rattle.sim_meaning.specs.Objects.level_work y ys (EndObject ∷ [])) [] []
+    statements_work y ys q a = let f = inside (y ∷ []) (q, tt) in ([], [], (refl, refl, refl, (y.text, f.0, f.1)), inner y.inner_last ys a)
 
-    filled_same : filled_in vs (Some (cells_of_levels s (one s ok k prefix heading ds ss is ∷ []))) formals ≡ Some Cells
-    filled_same = ap (λ z. filled_in vs (Some z) formals) cells_same ∙ (filled first_ones).filled_is
+    declared_work : (ys : List Level) → LevelsAre s k ys → Distinct (arrays_of_levels s ys) → (w : List Item) → Wk w [] [] → Wk (declared ys w) (arrays_of_levels s ys) []
+    declared_work [] a apart w z = z
+    declared_work (y ∷ ys) a apart w z =
+        let q = a.0 in
+        let p = level_typed s ok k y q in
+        let more = arrays_of_levels s ys in (
+          more,
+          [],
+          (record { level = y.text; of_level = q.level; waits = refl; arrays = p.arrays; distinct = apart; own = p.own; all_arrays = level_arrays_are s ok k (y ∷ ys) a }, refl, refl),
+          (more, [], (refl, refl), declared_work ys a.1 (distinct_right (arrays_of_block s y.declarations) more apart) w z),
+        )
 
-    pub object_goes : Goes (IsFine s) (object_entered s l o m i w vs' rest k line vs j (one s ok k prefix heading ds ss is ∷ []))
+    all_work : (ys : List Level) → LevelsAre s k ys → Distinct (arrays_of_levels s ys) → Wk (levels_work ys EndObject) (arrays_of_levels s ys) []
+    all_work [] a apart = ends
+    all_work (y ∷ ys) a apart = declared_work (y ∷ ys) a apart (Rattle.sim_meaning.specs.Objects.level_work y ys (EndObject ∷ [])) (statements_work y ys a.0 a.1)
+
+    works : Wk (levels_work xs EndObject) (arrays_of_levels s xs) []
+    works = all_work xs all.are (level_arrays_distinct s ok k xs all.are all.distinct)
+
+    filled_same : filled_in vs (Some (cells_of_levels s xs)) formals ≡ Some Cells
+    filled_same = ap (λ z. filled_in vs (Some z) formals) (cells_are s xs) ∙ (filled first_ones).filled_is
+
+    pub object_goes : Goes (IsFine s) (object_entered s l o m i w vs' rest k line vs j xs)
     object_goes =
-        let xs = one s ok k prefix heading ds ss is ∷ [] in
         had (IsFine s) (filled_in vs (Some (cells_of_levels s xs)) formals) Cells o (λ c. entering l line (words_of_cells (cells_of_levels s xs)) o (λ p. in_object s (arrays_given s k N vs p) m k j c xs Below)) filled_same
         (enters (IsFine s) l line (words_of_cells (cells_of_levels s xs)) o (λ p. in_object s (arrays_given s k N vs p) m k j Cells xs Below) (λ t' w'.
         same_arrays P (arrays_given s k N vs (ran o t' w')) _ (handed_same N (arrays_by_value fs vs) o (ran o t' w') refl)
-        (enters_fine s ok P G (handed Cells).long m k (Some j) Cells AttachedObject (arrays_of_block s ds) tt (attached_goes_on AttachedObject refl) begun (levels_work xs EndObject) Below top.all top.parked (chain_lives s ok l o sights long m i t rest top w (Of (Object N) ∷ vs') (Of (Object N) ∷ vs') todo (Value holds ∷ left) work) works)))
+        (enters_fine s ok P G (handed Cells).long m k (Some j) Cells AttachedObject (arrays_of_levels s xs) tt (attached_goes_on AttachedObject refl) begun (levels_work xs EndObject) Below top.all top.parked (chain_lives s ok l o sights long m i t rest top w (Of (Object N) ∷ vs') (Of (Object N) ∷ vs') todo (Value holds ∷ left) work) works)))
 
   module _ (vals : List Val) where
     class_many : (fs : List Formal) → length (class_kinds s fs) ≡ length fs
@@ -252,7 +295,8 @@ module _ (s : Source) (ok : Typed s) (l : Limits) (o : World) (sights : List Sig
     new_goes k n line todo before behind c b h work =
         let q = c.class in
         let typed : ClassTyped s k q.declarations q.statements = ok.texts k (ClassText q.prefix q.heading q.declarations q.statements) q.is in
-        let xs = one s ok k q.prefix q.heading q.declarations q.statements q.is ∷ [] in
+        let class : is_class (text s k) ≡ true = ap is_class q.is in
+        let xs = (class_levels s ok k class).list in
         let r = taken s (see sights o) m i (class_kinds s (class_parameters s (Some k))) (LinkTo c.around ∷ c.left) vals (classes_some s (class_formals s.tables k) (class_parameters s (Some k)) typed.formals) (subst (λ z. HandsFine s (see sights o) m i z vals) (c.«in») h) in
         let many : n ≡ length r.values = c.count ∙ sym (class_many (class_parameters s (Some k))) ∙ sym r.count in
         subst (λ z. Goes (IsFine s) (pop_many z [] vals o next)) (sym many)
@@ -261,7 +305,7 @@ module _ (s : Source) (ok : Typed s) (l : Limits) (o : World) (sights : List Sig
         (any_popped (IsFine s) s (see sights o) m i (LinkTo c.around) c.left r.rest o (λ v vs. having (instance_in v) o (λ j. when (is_live m j) o (having (levels s k) o (λ xs. object_entered s l o m i w vs rest k line r.values j xs)))) r.more (λ v vs same here more.
         link_is s ok l o sights long m i t rest top w vals c.around v (λ j. when (is_live m j) o (having (levels s k) o (λ xs. object_entered s l o m i w vs rest k line r.values j xs))) here (λ j near whole.
         whens (IsFine s) (is_live m j) o (having (levels s k) o (λ xs. object_entered s l o m i w vs rest k line r.values j xs)) (lives_is s ok l o sights long m i t rest top w vals j whole.now whole.lives)
-        (had (IsFine s) (levels s k) xs o (λ xs. object_entered s l o m i w vs rest k line r.values j xs) (class_levels s ok k q.prefix q.heading q.declarations q.statements q.is)
+        (had (IsFine s) (levels s k) xs o (λ xs. object_entered s l o m i w vs rest k line r.values j xs) (levels_are s ok k class)
         (object_goes k line q.prefix q.heading q.declarations q.statements q.is r.values vs (length r.rest) j c.around todo c.left c.holds c.fits q.stands_in whole r.fine (below_top r.rest v vs same) b more (subst (λ z. Work s o sights long m i t rest top w todo z) c.out work))))))))
       where
         next : List Val → List Val → Run Configuration
@@ -272,16 +316,16 @@ module _ (s : Source) (ok : Typed s) (l : Limits) (o : World) (sights : List Sig
 
     -- ---- what is pending in an object
 
-    -- its arrays are made
-    pub declare_goes : (ds : Declarations) (todo todo' : List DeclNo) (before behind : List Kinds) → DeclareFine s t ds todo → todo' ≡ [] → before ≡ [] → behind ≡ [] → Begun s (see sights o) m i t todo → HandsFine s (see sights o) m i before vals → Work s o sights long m i t rest top w todo' behind → Goes (IsFine s) (do_op s l o m i w vals rest (DeclareOp ds))
-    declare_goes ds todo todo' before behind d e f g b h work =
+    -- the arrays of a level are made, before those of the levels inside
+    pub declare_goes : (ds : Declarations) (todo todo' : List DeclNo) (before behind : List Kinds) → DeclareFine s t ds todo todo' → before ≡ [] → behind ≡ [] → Begun s (see sights o) m i t todo → HandsFine s (see sights o) m i before vals → Work s o sights long m i t rest top w todo' behind → Goes (IsFine s) (do_op s l o m i w vals rest (DeclareOp ds))
+    declare_goes ds todo todo' before behind d f g b h work =
         let p = b.here in
-        let is : text s t ≡ Some p.words = sym (ap (text s) b.own) ∙ p.has_text in
         let solid : is_connection (text s t) ≡ false = sym (ap (λ z. is_connection (text s z)) b.own) ∙ (fine_at s (see sights o) m i t todo b.store p).solid in
-        let begun : Begun s (see sights o) m i t (arrays_of_block s ds) = subst (Begun s (see sights o) m i t) d.waits b in
-        let done : Work s o sights long m i t rest top w [] [] = subst (λ z. Work s o sights long m i t rest top w z []) e (subst (λ z. Work s o sights long m i t rest top w todo' z) g work) in
-        goes_on s o sights long m i t rest top (Rattle.sim_meaning.specs.Entries.arrays_declared s m i ds w) vals (arrays_of_block s ds) [] begun (subst (λ z. HandsFine s (see sights o) m i z vals) f h)
-        (block_arrays s ok (see sights o) m i t (arrays_of_block s ds) begun p.words is solid (λ c a. arrays_are s (InBound t) ds d.arrays c a) (λ q. ChainFine s (see sights o) m i rest q) (rest ≡ []) ds w d.arrays d.distinct d.own done)
+        let words = level_words s ok solid d.of_level p.words (sym (ap (text s) b.own) ∙ p.has_text) in
+        let waits = arrays_of_block s ds ++ todo' in
+        let begun : Begun s (see sights o) m i t waits = subst (Begun s (see sights o) m i t) d.waits b in
+        goes_on s o sights long m i t rest top (Rattle.sim_meaning.specs.Entries.arrays_declared s m i ds w) vals waits [] begun (subst (λ z. HandsFine s (see sights o) m i z vals) f h)
+        (level_arrays s ok (see sights o) m i t d.level d.of_level waits begun words.0 words.1 solid d.all_arrays (λ q. ChainFine s (see sights o) m i rest q) (rest ≡ []) ds todo' w d.arrays d.distinct d.own (subst (λ z. Work s o sights long m i t rest top w todo' z) g work))
 
     -- a level's declarations are made, which does nothing
     pub level_goes : (k : ℕ) (todo todo' : List DeclNo) (before behind : List Kinds) → behind ≡ before → todo' ≡ todo → Begun s (see sights o) m i t todo → HandsFine s (see sights o) m i before vals → Work s o sights long m i t rest top w todo' behind → Goes (IsFine s) (do_op s l o m i w vals rest (LevelOp k))

@@ -32,13 +32,13 @@ use Rattle.sim_sound.proofs.Cells.{none_among}
 use Rattle.sim_sound.proofs.Changes.{copies_array, copies_replaced, elements_array, elements_replaced, later_array, later_replaced, more, new_lives, replaced}
 use Rattle.sim_sound.proofs.Constants.{names_none}
 use Rattle.sim_sound.proofs.Evals.{IsFine, Work, eval_goes, goes_on}
-use Rattle.sim_sound.proofs.Fitting.{knows_object, object_in, object_text, object_up, object_whole, plain_by_kind, val_fits}
-use Rattle.sim_sound.proofs.Later.{All, Copies, present_later}
+use Rattle.sim_sound.proofs.Fitting.{knows_object, object_class, object_in, object_whole, plain_by_kind, val_fits}
+use Rattle.sim_sound.proofs.Later.{All, Copies, own_later, present_later}
 use Rattle.sim_sound.proofs.Lifts.{Goes, any_popped, assigning_goes, chosen, had, integers_popped, joining_goes, known_popped, one_applied, plain_popped, ran, step_applied, truth_popped, two_applied, whens}
 use Rattle.sim_sound.proofs.Lists.{set_len}
 use Rattle.sim_sound.proofs.Moves.{same_ones}
 use Rattle.sim_sound.proofs.Names.{ValueIs, performed}
-use Rattle.sim_sound.proofs.Ops.{back_goes, fetched_goes, later_hands, later_with, putting_goes, putting_reference_goes, set_goes, solid_text, store_with, stored_array}
+use Rattle.sim_sound.proofs.Ops.{back_goes, fetched_goes, later_hands, later_with, putting_goes, putting_reference_goes, set_goes, store_with, stored_array}
 use Rattle.sim_sound.proofs.References.{any_object_popped, held_reference_goes, object_popped}
 use Rattle.sim_sound.proofs.Sound.{AddressOf, Addressed, Begun, CellTarget, Copied, CopyFine, DeepFine, HandFine, HandsFine, Hidden, ImageAddress, IsAddress, IsCopy, Kinds, Lasting, Leads, LinkTo, ObjectOf, OneKinds, OpFine, Open, Operates, ReferenceAddress, Sight, TermFine, ValFine, Value, array_stored, elements_of, given, held_kinds, see, value_stored}
 
@@ -123,7 +123,7 @@ module _ (s : Source) (ok : Typed s) (l : Limits) (o : World) (g : List Sight) (
       let longer : length (g ++ z ∷ []) ≡ length (o.arrays ++ x ∷ []) = one_longer g o.arrays z x ∙ ap suc long ∙ sym (one_longer' o.arrays x) in
       let copies : (j d : ℕ) → j < length m.instances → Copies (see g o) (more (see g o) z x) j d = λ j d less. copies_array (see g o) z x j d in
       let store = store_with s (see g o) (more (see g o) z x) m e (elements_array s (see g o) m z x long new.elements b.store.elements) b.store in
-      later_with s ok l o g long m i t rest top (g ++ z ∷ []) (added (ran o t' w') x) longer m e copies (same_ones m) store w (ArrayValue (length o.arrays) ∷ vs) todo (c ∷ left) (solid_text s (see g o) m i t todo b) (present_later s (see g o) m (more (see g o) z x) m All e i t todo tt b.here)
+      later_with s ok l o g long m i t rest top (g ++ z ∷ []) (added (ran o t' w') x) longer m e copies (same_ones m) store w (ArrayValue (length o.arrays) ∷ vs) todo (c ∷ left) (present_later s (see g o) m (more (see g o) z x) m All e i t todo tt b.here) (own_later s (see g o) m (more (see g o) z x) m All e i t todo tt b.here ∙ b.own)
       (f, later_hands s ok l o g long m i t rest top (g ++ z ∷ []) (added (ran o t' w') x) longer m e copies (same_ones m) store left vs hands) y
 
   pub copy_op : (line : ℕ) → OpFine s (see g o) m i t (CopyOp line) todo todo' before behind → Stepped (CopyOp line)
@@ -231,7 +231,7 @@ module _ (s : Source) (ok : Typed s) (l : Limits) (o : World) (g : List Sight) (
       any_popped P s (see g o) m i (Value (ArrayOf a.element)) behind vals o (λ v vs. having (cell_set m j key v) o (λ m. go o m i w vs rest)) (hand _ (a.«in»)) (λ v vs f here more.
       subst (λ z. Goes P (having (cell_set m z key v) o (λ m. go o m i w vs rest))) (sym is_i)
       (subst (λ z. Goes P (having (cell_set m i z v) o (λ m. go o m i w vs rest))) (sym is_key)
-      (stored_array s ok l o g long m i t rest top d a.element v w vs todo todo' behind a.holds a.there a.waits here b more work)))
+      (stored_array s ok l o g long m i t rest top d a.element v w vs todo todo' behind a.level a.of_level a.holds a.there a.waits here b more work)))
   store_op ToAddress (array_stored a) = let e = a.is in absurd (cc)
   store_op (ToText line) (array_stored a) = let e = a.is in absurd (cc)
   store_op (ToTextOf j key line) (array_stored a) = let e = a.is in absurd (cc)
@@ -271,10 +271,9 @@ module _ (s : Source) (ok : Typed s) (l : Limits) (o : World) (g : List Sight) (
     where
       target : (j : ℕ) (vs : List Val) → ObjectOf s m j a.0 → CellTarget s m i j key a.1
       target j vs p =
-          let q = object_up s ok (see g o) m b.store j a.0 u p (a.4).level in
           let whole = object_whole s ok (see g o) m b.store j a.0 u p (a.4).level in
-          let class : is_class (text s u) ≡ true = subst (λ z. is_class (text s z) ≡ true) (object_text s ok (see g o) m b.store j u q) q.object in
-          record { around = u; near = knows_object s m i j u q; todo = []; here = whole; ready = λ d e z. none_among d z; holds = (a.4).is class; there = (a.4).there class }
+          let class : is_class (text s u) ≡ true = object_class s ok (see g o) m b.store j a.0 u p (a.4).level in
+          record { around = u; near = knows_object s m i j a.0 p; todo = []; here = whole; ready = λ d e z. none_among d z; holds = (a.4).is class; there = (a.4).there class }
 
       address : (class : Option ℕ) (held : Holds) (x : Kinds) (d j : ℕ) → Addressed class held x → CellTarget s m i j key held → DeepFine s (see g o) m i d x (Address (CellPlace j key class))
       address None held x d j is c = subst (λ z. DeepFine s (see g o) m i d z (Address (CellPlace j key None))) is c
@@ -333,7 +332,7 @@ module _ (s : Source) (ok : Typed s) (l : Limits) (o : World) (g : List Sight) (
       let e = later_replaced (see g o) n f.it now f.lives refl refl (λ k. refl) refl refl s m in
       let copies : (j d : ℕ) → j < length m.instances → Copies (see g o) next j d = λ j d less. copies_replaced (see g o) n f.it now f.lives refl refl (λ k. refl) refl refl a.0 f.known j d in
       let store = store_with s (see g o) next m e (elements_replaced (see g o) n f.it now f.lives refl refl (λ k. refl) refl refl s m (Open a.0) f.known (λ q p at. b.store.elements n q f.it (Open a.0) p f.lives f.known at) b.store.elements) b.store in
-      later_with s ok l o g long m i t rest top g (with_array o n now) (long ∙ sym (set_len o.arrays n now)) m e copies (same_ones m) store w (ArrayValue n ∷ vs) todo (Lasting a.0 ∷ a.1) (solid_text s (see g o) m i t todo b) (present_later s (see g o) m next m All e i t todo tt b.here)
+      later_with s ok l o g long m i t rest top g (with_array o n now) (long ∙ sym (set_len o.arrays n now)) m e copies (same_ones m) store w (ArrayValue n ∷ vs) todo (Lasting a.0 ∷ a.1) (present_later s (see g o) m next m All e i t todo tt b.here) (own_later s (see g o) m next m All e i t todo tt b.here ∙ b.own)
       (record { it = now; lives = new_lives (see g o) n f.it now f.lives refl refl (λ k. refl) refl refl n refl; known = f.known; keeps = refl; count = f.count }, later_hands s ok l o g long m i t rest top g (with_array o n now) (long ∙ sym (set_len o.arrays n now)) m e copies (same_ones m) store a.1 vs hands) (works _ a.3 a.4))))
 
   pub refer_op : (line : ℕ) → OpFine s (see g o) m i t (ReferOp line) todo todo' before behind → Stepped (ReferOp line)

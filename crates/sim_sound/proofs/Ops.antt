@@ -1,5 +1,5 @@
 -- The operators of expressions and assignments.
-use Rattle.std.proofs.Common.{◌≡◌, ℕ, ◌<◌, true, false, List, [], ◌∷◌, length, map, Option, Some, None, ◌⊎◌, inl, inr, ⊎_elim, refl, sym, ap, ◌∙◌, subst, arith}
+use Rattle.std.proofs.Common.{◌≡◌, ℕ, ◌<◌, true, List, [], ◌∷◌, length, map, Option, Some, None, ◌⊎◌, inl, inr, ⊎_elim, refl, sym, ap, ◌∙◌, subst, arith}
 use Rattle.sim_base.specs.declared.limits.Limits.{Limits}
 use Rattle.sim_base.specs.declared.numbering.DeclNo.{DeclNo}
 use Rattle.sim_scope.specs.Source.{Source}
@@ -10,11 +10,10 @@ use Rattle.sim_values.specs.Store.{Store, image_at, with_image}
 use Rattle.sim_values.specs.Texts.{same_text}
 use Rattle.sim_code.specs.Arrays.{element, element_set, element_set_in}
 use Rattle.sim_code.specs.Events.{having, image_moved, image_set, image_value, putting_back, text_of}
-use Rattle.sim_code.specs.Instances.{CellPlace, ElementPlace, ImagePlace, Instance, with_instance}
+use Rattle.sim_code.specs.Instances.{CellPlace, ElementPlace, ImagePlace, with_instance}
 use Rattle.sim_code.specs.Outcome.{ArrayOf as OneArray, Run, World}
 use Rattle.sim_meaning.specs.Pending.{Activation, Address, ArrayValue, cell, cell_set, Configuration, Declared, Held, held, held_set, Instances, Item, Key, Link, Of, place_in, plain, ProcedureValue, Tree, Val}
 use Rattle.sim_meaning.specs.Steps.{go, of_plain, put_back, putting, value_at}
-use Rattle.sim_meaning.specs.Attributes.{is_connection}
 use Rattle.sim_meaning.specs.Objects.{putting_reference}
 use Rattle.sim_meaning.specs.Texts.{text}
 use Rattle.sim_sound.specs.Held.{Among, ArrayOf, Fits, Holds, Refers, Simply, first, key_holds, later}
@@ -23,13 +22,14 @@ use Rattle.sim_sound.proofs.Cells.{cell_found, cell_put, own_key, plain_anywhere
 use Rattle.sim_sound.proofs.Changes.{ElementsFine, changed, copies_element, elements_changed, held_now, held_stays, keys_set, later_element, new}
 use Rattle.sim_sound.proofs.Evals.{IsFine, Work, goes_on}
 use Rattle.sim_sound.proofs.Fitting.{plain_val, val_fits}
-use Rattle.sim_sound.proofs.Later.{All, Copies, Later, all_apart, chain_later, hands_later, instance_later, present_later, work_later}
+use Rattle.sim_sound.proofs.Later.{All, Copies, Later, all_apart, chain_later, hands_later, instance_later, own_later, present_later, work_later}
 use Rattle.sim_sound.proofs.Lifts.{Goes, had, ran}
 use Rattle.sim_sound.proofs.Names.{AllBack, element_there, image_there}
 use Rattle.sim_sound.proofs.Lists.{if_true, no_some, set_len}
 use Rattle.sim_sound.proofs.Moves.{SameOnes, later_cell, operates_on, same_cell, same_ones, set_lives, store_cell}
+use Rattle.sim_sound.proofs.Prefixes.{LevelOf, same_is}
 use Rattle.sim_sound.proofs.References.{held_reference_goes}
-use Rattle.sim_sound.proofs.Sound.{AddressOf, AllArrays, Begun, CellTarget, ChainFine, Copied, ElementFine, HandFine, HandsFine, ImageAddress, IsPlain, KeyAmong, Kinds, Lasting, Leads, LinkTo, Made, OperandIs, Operates, PlainFine, Present, ReferenceAddress, Sight, StandsFor, StoreFine, ValFine, Value, Waits, WorkFine, connected, in_instance as at_cell, key_of, keys_in, own_text, see}
+use Rattle.sim_sound.proofs.Sound.{AddressOf, AllArrays, Begun, CellTarget, ChainFine, Copied, ElementFine, HandFine, HandsFine, ImageAddress, IsPlain, KeyAmong, Kinds, Lasting, Leads, LinkTo, Made, OperandIs, Operates, PlainFine, Present, ReferenceAddress, Sight, StoreFine, ValFine, Value, Waits, WorkFine, in_instance as at_cell, key_of, keys_in, own_text, see}
 
 among_cases : (e : DeclNo) (xs : List DeclNo) → Among e xs → (d : DeclNo) (ds : List DeclNo) → xs ≡ d ∷ ds → (e ≡ d) ⊎ Among e ds
 among_cases e xs (first {ds = es}) d ds f = inl (cc)
@@ -41,14 +41,6 @@ with_arrays o a = record o { arrays = a }
 -- a store with other arrays
 pub store_with : (s : Source) (o o' : AllArrays) (m : Instances) → Later s o m o' m All → ElementsFine s o' m → StoreFine s o m → StoreFine s o' m
 store_with s o o' m e fine store = record { instances = λ j x lives. instance_later s o m o' m All e j x tt (store.instances j x lives); elements = fine }
-
--- a text for which an instance stands that is no connection is its own
-pub own_there : (s : Source) (x : Instance (List Held)) (t : ℕ) → is_connection (text s t) ≡ false → StandsFor s x t → x.text ≡ t
-own_there s x t solid (own_text is) = is
-own_there s x t solid (connected is around there more) = absurd (cc)
-
-pub solid_text : (s : Source) (o : AllArrays) (m : Instances) (i t : ℕ) (todo : List DeclNo) → Begun s o m i t todo → is_connection (text s t) ≡ false
-solid_text s o m i t todo b = subst (λ z. is_connection (text s z) ≡ false) b.own (b.store.instances i (b.here).now (b.here).lives).solid
 
 module _ (s : Source) (ok : Typed s) (l : Limits) (o : World) (g : List Sight) (long : length g ≡ length o.arrays) (m : Instances) (i t : ℕ) (rest : List Activation) (top : Operates m i rest) where
   abbrev Wk : List Item → List DeclNo → List Kinds → Type 0
@@ -74,11 +66,11 @@ module _ (s : Source) (ok : Typed s) (l : Limits) (o : World) (g : List Sight) (
     pub later_hands : (ks : List Kinds) (vals : List Val) → Hd ks vals → HandsFine s (see g' o') n i ks vals
     later_hands ks vals h = hands_later s (see g o) m (see g' o') n All e i tt ks vals (copies i (length vals) top.before) h
 
-    pub later_with : (w : List Item) (vals : List Val) (todo' : List DeclNo) (ks : List Kinds) → is_connection (text s t) ≡ false → Present s n i t todo' → HandsFine s (see g' o') n i ks vals → Wk w todo' ks → IsFine s o' (record { chain = record { instance = i; work = w; values = vals } ∷ rest; memory = n })
-    later_with w vals todo' ks solid p h work = goes_on s o' g' longer n i t rest (operates_on m n i rest same top) w vals todo' ks (record { store = store; here = p; own = own_there s p.now t solid p.stands }) h (later_work w todo' ks work)
+    pub later_with : (w : List Item) (vals : List Val) (todo' : List DeclNo) (ks : List Kinds) → (p : Present s n i t todo') → (p.now).text ≡ t → HandsFine s (see g' o') n i ks vals → Wk w todo' ks → IsFine s o' (record { chain = record { instance = i; work = w; values = vals } ∷ rest; memory = n })
+    later_with w vals todo' ks p own h work = goes_on s o' g' longer n i t rest (operates_on m n i rest same top) w vals todo' ks (record { store = store; here = p; own = own }) h (later_work w todo' ks work)
 
     pub later_goes : (w : List Item) (vals : List Val) (todo : List DeclNo) (ks : List Kinds) → Bg todo → Hd ks vals → Wk w todo ks → IsFine s o' (record { chain = record { instance = i; work = w; values = vals } ∷ rest; memory = n })
-    later_goes w vals todo ks b h work = later_with w vals todo ks (solid_text s (see g o) m i t todo b) (present_later s (see g o) m (see g' o') n All e i t todo tt b.here) (later_hands ks vals h) work
+    later_goes w vals todo ks b h work = later_with w vals todo ks (present_later s (see g o) m (see g' o') n All e i t todo tt b.here) (own_later s (see g o) m (see g' o') n All e i t todo tt b.here ∙ b.own) (later_hands ks vals h) work
 
   -- arrays stay as they are
   pub same_copies : (j d : ℕ) → j < length m.instances → Copies (see g o) (see g o) j d
@@ -91,43 +83,42 @@ module _ (s : Source) (ok : Typed s) (l : Limits) (o : World) (g : List Sight) (
       let p = c.here in
       let x = p.now in
       let f = b.store.instances j x p.lives in
-      let same : x.text ≡ c.around = own_key s x c.around key p.stands c.there in
-      let there : KeyAmong key (keys_in s x.text (text s x.text)) = subst (λ z. KeyAmong key (keys_in s z (text s z))) (sym same) c.there in
-      let holds : key_holds s x.text key ≡ Some q = subst (λ z. key_holds s z key ≡ Some q) (sym same) c.holds in
-      let r = cell_put s m j x key v p.lives (f.keys key there) in
+      let at : LevelOf s x.text c.around = own_key s x c.around key p.stands c.there in
+      let holds : key_holds s x.text key ≡ Some q = f.holds c.around at key c.there ∙ c.holds in
+      let r = cell_put s m j x key v p.lives (f.keys c.around at key c.there) in
       had (IsFine s) (cell_set m j key v) (with_instance m j (record x { cells = r.0 })) o (λ m. go o m i w vals rest) r.2
       (later_goes g o long (with_instance m j (record x { cells = r.0 })) (later_cell s (see g o) m j x p.lives key v r.0 r.1) same_copies (same_cell s (see g o) m j x p.lives key v r.0 r.1)
       (store_cell s (see g o) m j x p.lives key v r.0 r.1 q holds (plain_anywhere s (see g o) m i j q v flat fine) b.store) w vals todo ks b h work)
 
   made_now : (t : ℕ) (todo todo' : List DeclNo) (d : DeclNo) (v : Val) (hs cells : List Held) → held_set (Declared d.0) v hs ≡ Some cells → todo ≡ d ∷ todo' → Made s t todo hs → Made s t todo' cells
-  made_now t todo todo' d v hs cells set is made e k holds in_text none =
+  made_now t todo todo' d v hs cells set is made u at e k holds in_text none =
       ⊎_elim
       (λ same. let now = held_now (Declared d.0) v hs cells set in let there : held (Declared d.0) cells ≡ None = ap (λ z. held (Declared z.0) cells) (sym same) ∙ none in absurd (no_some (held (Declared d.0) cells) v there now))
       (λ a. a)
-      (among_cases e todo (made e k holds in_text (held_stays (Declared d.0) v (Declared e.0) hs cells set none)) d todo' is)
+      (among_cases e todo (made u at e k holds in_text (held_stays (Declared d.0) v (Declared e.0) hs cells set none)) d todo' is)
 
-  pub stored_array : (d : DeclNo) (k : Holds) (v : Val) (w : List Item) (vals : List Val) (todo todo' : List DeclNo) (ks : List Kinds) → key_holds s t (Declared d.0) ≡ Some (ArrayOf k) → KeyAmong (Declared d.0) (keys_in s t (text s t)) → todo ≡ d ∷ todo' → ValFine s (see g o) m i (ArrayOf k) v → Bg todo → Hd ks vals → Wk w todo' ks → Go (having (cell_set m i (Declared d.0) v) o (λ m. go o m i w vals rest))
-  stored_array d k v w vals todo todo' ks holds there is fine b h work =
+  pub stored_array : (d : DeclNo) (k : Holds) (v : Val) (w : List Item) (vals : List Val) (todo todo' : List DeclNo) (ks : List Kinds) (u : ℕ) → LevelOf s t u → key_holds s u (Declared d.0) ≡ Some (ArrayOf k) → KeyAmong (Declared d.0) (keys_in s u (text s u)) → todo ≡ d ∷ todo' → ValFine s (see g o) m i (ArrayOf k) v → Bg todo → Hd ks vals → Wk w todo' ks → Go (having (cell_set m i (Declared d.0) v) o (λ m. go o m i w vals rest))
+  stored_array d k v w vals todo todo' ks u level holds there is fine b h work =
       let p = b.here in
       let x = p.now in
       let f = b.store.instances i x p.lives in
-      let own : KeyAmong (Declared d.0) (keys_in s x.text (text s x.text)) = subst (λ z. KeyAmong (Declared d.0) (keys_in s z (text s z))) (sym b.own) there in
-      let r = cell_put s m i x (Declared d.0) v p.lives (f.keys (Declared d.0) own) in
+      let at : LevelOf s x.text u = subst (λ z. LevelOf s z u) (sym b.own) level in
+      let r = cell_put s m i x (Declared d.0) v p.lives (f.keys u at (Declared d.0) there) in
       let n = with_instance m i (record x { cells = r.0 }) in
       let e = later_cell s (see g o) m i x p.lives (Declared d.0) v r.0 r.1 in
       let same = same_cell s (see g o) m i x p.lives (Declared d.0) v r.0 r.1 in
-      let store = store_cell s (see g o) m i x p.lives (Declared d.0) v r.0 r.1 (ArrayOf k) (subst (λ z. key_holds s z (Declared d.0) ≡ Some (ArrayOf k)) (sym b.own) holds) fine b.store in
+      let store = store_cell s (see g o) m i x p.lives (Declared d.0) v r.0 r.1 (ArrayOf k) (f.holds u at (Declared d.0) there ∙ holds) fine b.store in
       let keys : (key : Key) → KeyAmong key (map key_of x.cells) → KeyAmong key (map key_of r.0) = λ key a. subst (KeyAmong key) (sym (keys_set (Declared d.0) v x.cells r.0 r.1)) a in
       let stays : (key : Key) → held key r.0 ≡ None → held key x.cells ≡ None = λ key a. held_stays (Declared d.0) v key x.cells r.0 r.1 a in
       had (IsFine s) (cell_set m i (Declared d.0) v) n o (λ m. go o m i w vals rest) r.2
-      (later_with g o long n e same_copies same store w vals todo' ks (solid_text s (see g o) m i t todo b) (record {
+      (later_with g o long n e same_copies same store w vals todo' ks (record {
         now = record x { cells = r.0 };
         lives = set_lives s (see g o) m i x p.lives r.0 keys stays;
-        stands = own_text b.own;
+        stands = own_text (same_is s x.text t b.own);
         words = p.words;
         has_text = p.has_text;
         made = made_now x.text todo todo' d v x.cells r.0 r.1 is p.made;
-      }) (later_hands g o long n e same_copies same store ks vals h) work)
+      }) b.own (later_hands g o long n e same_copies same store ks vals h) work)
 
   -- ---- an element is set
 

@@ -1,12 +1,12 @@
 -- From an instance, the instance of each text that is seen is found by its level, and it is whole. Its cells are those that are declared.
-use Rattle.std.proofs.Common.{◌≡◌, ◌≢◌, ℕ, zero, suc, ◌<◌, ◌≤◌, Bool, true, false, List, [], ◌∷◌, length, map, Option, Some, None, refl, sym, ap, ◌∙◌, subst, arith}
+use Rattle.std.proofs.Common.{◌≡◌, ◌≢◌, ℕ, zero, suc, ◌<◌, ◌≤◌, Bool, true, false, List, [], ◌∷◌, length, map, Option, Some, None, ◌⊎◌, ⊎_elim, refl, sym, ap, ◌∙◌, subst, arith}
 use Rattle.std.specs.Prelude.{◌==◌, ◌||◌, nat_eq, slice_get}
 use Rattle.sim_base.specs.declared.numbering.DeclNo.{DeclNo}
 use Rattle.sim_scope.specs.declared.scopes.Declaration.{Declaration}
 use Rattle.sim_scope.specs.declared.types.Entry.{Entry}
 use Rattle.sim_scope.specs.declared.types.Entry.TheVariants as entry
 use Rattle.sim_scope.specs.Access.{encloser}
-use Rattle.sim_scope.specs.Levels.{base, has_level, holds, some_level_of}
+use Rattle.sim_scope.specs.Levels.{has_level, some_level_of}
 use Rattle.sim_scope.specs.Scopes.{entry_in, entry_of}
 use Rattle.sim_scope.specs.Source.{Source, block_of, block_of_row, level_of}
 use Rattle.sim_tree.specs.declared.stmt.TypeName.{TypeName}
@@ -21,9 +21,10 @@ use Rattle.sim_meaning.specs.Texts.{BlockText, ClassText, ConnectionText, Proced
 use Rattle.sim_sound.specs.Held.{Among, Around, Holds, In, InBound, IsFixed, Place, Seen, Sees, StandsAround, entry_holds, first, from_around, further, itself, later, own_fixed}
 use Rattle.sim_sound.specs.Typed.{TextTyped, Typed}
 use Rattle.sim_sound.proofs.Sound.{AllArrays, Enclosed, InstanceFine, KeyAmong, Knows, Present, StandsFor, StoreFine, Whole, alone, connected, first_key, key_of, keys_in, later_key, own_cells, own_text, within}
-use Rattle.sim_sound.proofs.Cells.{fine_at, is_connection_text, none_among}
-use Rattle.sim_sound.proofs.Lists.{equal_numbers, if_false, if_true, numbers_equal, other_numbers, same_some}
+use Rattle.sim_sound.proofs.Cells.{fine_at, is_connection_text, none_among, own_level, stands_level_of}
+use Rattle.sim_sound.proofs.Lists.{equal_numbers, if_false, if_true, no_some, other_numbers, same_some}
 use Rattle.sim_sound.proofs.Moves.{knows_itself, knows_then}
+use Rattle.sim_sound.proofs.Prefixes.{LevelOf, level_around, level_is, level_number, level_solid, level_then, level_words}
 
 -- what is seen from somewhere is found from the instance i
 pub record Reached (s : Source) (m : Instances) (i : ℕ) (d : DeclNo) : Type 0 where
@@ -32,7 +33,8 @@ pub record Reached (s : Source) (m : Instances) (i : ℕ) (d : DeclNo) : Type 0 
   pub near : Knows m i instance
   pub todo : List DeclNo
   pub here : Present s m instance (block_of s d) todo
-  pub own : (here.now).text ≡ block_of s d
+  pub words : Text
+  pub has_text : text s (block_of s d) ≡ Some words
   pub ready : Among d todo → ⊥
   pub solid : is_connection (text s (block_of s d)) ≡ false
   pub whole : (IsFixed (entry_of s.tables d) → ⊥) → todo ≡ []
@@ -50,23 +52,7 @@ pub record FoundAround (s : Source) (m : Instances) (i u : ℕ) : Type 0 where
 abbrev pub ReachesText : Source → Instances → ℕ → Place → Type 0
 ReachesText s m i from = (k : ℕ) → StandsAround s from k → FoundAround s m i k
 
--- ---- levels of a class without a prefix
-
-or_second : (a : Bool) → (a || false) ≡ true → a ≡ true
-or_second true e = refl
-or_second false e = absurd (cc)
-
-one_level : (s : Source) (n : ℕ) (test : ℕ → Bool) (k : ℕ) → base s.tables k ≡ None → some_level_of s.tables n test k ≡ true → test k ≡ true
-unfolding some_level_of
-one_level s zero test k none e = absurd (cc)
-one_level s (suc n) test k none e = or_second (test k) (sym (ap (λ z. test k || holds (λ b. some_level_of s.tables n test b) z) none) ∙ e)
-
--- a text that is no connection has itself alone for a level
-pub level_itself : (s : Source) → Typed s → (k u : ℕ) → is_connection (text s k) ≡ false → has_level s.tables k u ≡ true → k ≡ u
-unfolding has_level
-level_itself s ok k u solid e = numbers_equal k u (one_level s (length s.tables.blocks) (λ b. nat_eq b u) k (ok.unprefixed k solid) e)
-
--- it has itself for a level
+-- a text has itself for a level
 pub has_itself : (s : Source) → Typed s → (k : ℕ) → has_level s.tables k k ≡ true
 unfolding has_level some_level_of
 has_itself s ok k = by_length (length s.tables.blocks) ok.some_block
@@ -88,9 +74,9 @@ module _ (s : Source) (ok : Typed s) (o : AllArrays) (m : Instances) where
       let same : w.0 ≡ u = same_some (encloser s.tables t) w.0 u w.1 e in
       subst (λ z. level_of s t ≡ level_of s z) same w.2
 
-  stands_level : (x : Instance (List Held)) (t : ℕ) → StandsFor s x t → level_of s x.text ≡ level_of s t
-  stands_level x t (own_text is) = ap (level_of s) is
-  stands_level x t (connected {u = u} is around k a) = stands_level x u a ∙ sym (connection_level t u is around)
+  stands_level : (x : Instance (List Held)) (t : ℕ) → is_connection (text s x.text) ≡ false → StandsFor s x t → level_of s x.text ≡ level_of s t
+  stands_level x t solid (own_text at) = level_number s ok solid at
+  stands_level x t solid (connected {u = u} is around k a) = stands_level x u solid a ∙ sym (connection_level t u is around)
 
   outward_step : (t u : ℕ) → encloser s.tables t ≡ Some u → level_of s u ≤ level_of s t
   outward_step t u e = by_flag (is_connection (text s t)) refl
@@ -118,40 +104,48 @@ module _ (s : Source) (ok : Typed s) (o : AllArrays) (m : Instances) where
     pub whole : Whole s m instance u
 
   module _ (store : StoreFine s o m) where
-    -- from the encloser of an instance outward
-    outside : (n i v u : ℕ) (x : Instance (List Held)) → live m i ≡ Some x → encloser s.tables x.text ≡ Some v → Around s.tables v u → ((e : ℕ) → e < i → Whole s m e v → Found n e u) → Found (suc n) i u
-    outside n i v u x lives around way go = by_out f.out
+    -- an instance of a text is one of its levels
+    whole_level : (e v w : ℕ) → (v ≡ w) ⊎ ((is_connection (text s v) ≡ false) × LevelOf s v w) → Whole s m e v → Whole s m e w
+    whole_level e v w near p = ⊎_elim (λ same. subst (Whole s m e) same p) (λ l. record { now = p.now; lives = p.lives; stands = stands_level_of s p.now v w l.0 p.stands l.1; words = p.words; has_text = p.has_text; made = p.made }) near
+
+    -- from the encloser of an instance outward, as it is seen from a level of the instance's text
+    outside : (n i t v u : ℕ) (x : Instance (List Held)) → live m i ≡ Some x → LevelOf s x.text t → encloser s.tables t ≡ Some v → Around s.tables v u → ((e : ℕ) → e < i → Whole s m e v → Found n e u) → Found (suc n) i u
+    outside n i t v u x lives at around way go = by_out f.out
       where
         f : InstanceFine s o m i x
         f = store.instances i x lives
 
+        near : (w : ℕ) × (encloser s.tables x.text ≡ Some w) × ((w ≡ v) ⊎ ((is_connection (text s w) ≡ false) × LevelOf s w v))
+        near = level_around s ok f.solid at v around
+
         differs : x.level ≢ level_of s u
         differs e =
-            let a = ok.levels x.text v f.solid around in
+            let a = ok.levels t v (level_solid s ok f.solid at) around in
             let b = outward_levels way in
             let c = f.level in
-            omega (arith, a, b, c, e)
+            let d = level_number s ok f.solid at in
+            omega (arith, a, b, c, d, e)
 
         by_out : Enclosed s m i x.text x.encloser → Found (suc n) i u
-        by_out (alone is none) = absurd (cc)
+        by_out (alone is none) = absurd (no_some (encloser s.tables x.text) near.0 none near.1)
         by_out (within {e = e} {u = w} is around' less knows whole) =
-            let same : w ≡ v = same_some (encloser s.tables x.text) w v around' around in
-            let r = go e less (subst (Whole s m e) same whole) in
+            let same : w ≡ near.0 = same_some (encloser s.tables x.text) w near.0 around' near.1 in
+            let r = go e less (whole_level e near.0 v near.2 (subst (Whole s m e) same whole)) in
             record { instance = r.instance; found = further_found n (level_of s u) i e x lives differs is ∙ r.found; near = knows_then m i e r.instance knows r.near; whole = r.whole }
 
     walk : {t u : ℕ} → Around s.tables t u → (n i : ℕ) → i < n → Whole s m i t → Found n i u
     walk itself zero i lt whole = absurd (omega (arith, lt))
     walk (itself {t = t}) (suc n) i lt whole =
         let f = fine_at s o m i t [] store whole in
-        record { instance = i; found = here_found n (level_of s t) i whole.now whole.lives (f.level ∙ stands_level whole.now t whole.stands); near = knows_itself m i whole.now whole.lives; whole = whole }
+        record { instance = i; found = here_found n (level_of s t) i whole.now whole.lives (f.level ∙ stands_level whole.now t f.solid whole.stands); near = knows_itself m i whole.now whole.lives; whole = whole }
     walk (further {t = t} {u = v} {k = u} e way) n i lt whole = by_stands (λ n i less w. walk way n i less w) n lt whole.stands
       where
         by_stands : ((n i : ℕ) → i < n → Whole s m i v → Found n i u) → (n : ℕ) → i < n → StandsFor s whole.now t → Found n i u
         by_stands go n lt (connected {u = w} is around key a) =
             let same : w ≡ v = same_some (encloser s.tables t) w v around e in
             go n i lt (record { now = whole.now; lives = whole.lives; stands = subst (StandsFor s whole.now) same a; words = whole.words; has_text = whole.has_text; made = whole.made })
-        by_stands go zero lt (own_text is) = absurd (omega (arith, lt))
-        by_stands go (suc n) lt (own_text is) = outside n i v u whole.now whole.lives (ap (encloser s.tables) is ∙ e) way (λ e less w. go n e (omega (arith, less, lt)) w)
+        by_stands go zero lt (own_text at) = absurd (omega (arith, lt))
+        by_stands go (suc n) lt (own_text at) = outside n i t v u whole.now whole.lives at e way (λ e less w. go n e (omega (arith, less, lt)) w)
 
     pub text_around : (i t u : ℕ) → Around s.tables t u → Whole s m i t → FoundAround s m i u
     unfolding at_level
@@ -159,32 +153,31 @@ module _ (s : Source) (ok : Typed s) (o : AllArrays) (m : Instances) where
         let r = walk way (suc i) i (omega arith) whole in
         record { instance = r.instance; found = r.found; near = r.near; whole = r.whole }
 
-    -- from the instance that is declared in, around the arrays that are not made yet
-    pub text_outside : (i t v u : ℕ) (todo : List DeclNo) → encloser s.tables t ≡ Some v → Around s.tables v u → (p : Present s m i t todo) → (p.now).text ≡ t → FoundAround s m i u
+    -- from a level of the instance that is declared in, around the arrays that are not made yet
+    pub text_outside : (i t v u : ℕ) (x : Instance (List Held)) → live m i ≡ Some x → LevelOf s x.text t → encloser s.tables t ≡ Some v → Around s.tables v u → FoundAround s m i u
     unfolding at_level
-    text_outside i t v u todo around way p own =
-        let r = outside i i v u p.now p.lives (ap (encloser s.tables) own ∙ around) way (λ e less w. walk way i e less w) in
+    text_outside i t v u x lives at around way =
+        let r = outside i i t v u x lives at around way (λ e less w. walk way i e less w) in
         record { instance = r.instance; found = r.found; near = r.near; whole = r.whole }
-
-    -- a text that is no connection is its instance's own
-    own_of : (x : Instance (List Held)) (u : ℕ) → is_connection (text s u) ≡ false → StandsFor s x u → x.text ≡ u
-    own_of x u solid (own_text is) = is
-    own_of x u solid (connected is around key a) = absurd (cc)
 
     reached : (i t : ℕ) (d : DeclNo) (z : Seen s t (block_of s d)) → FoundAround s m i z.found → Reached s m i d
     unfolding home_of
     reached i t d z r =
-        let same : z.found ≡ block_of s d = level_itself s ok z.found (block_of s d) z.instance z.level in
         let w = r.whole in
+        let f = fine_at s o m r.instance z.found [] store w in
+        let level : LevelOf s z.found (block_of s d) = level_is s z.found (block_of s d) z.level in
+        let at : LevelOf s (w.now).text (block_of s d) = level_then s (own_level s w.now z.found z.instance w.stands) level in
+        let words = level_words s ok f.solid at w.words w.has_text in
         record {
           instance = r.instance;
-          found = ap (λ q. at_level m (level_of s q) i) (sym same) ∙ r.found;
+          found = ap (λ q. at_level m q i) (sym (level_number s ok z.instance level)) ∙ r.found;
           near = r.near;
           todo = [];
-          here = record { now = w.now; lives = w.lives; stands = subst (StandsFor s w.now) same w.stands; words = w.words; has_text = w.has_text; made = w.made };
-          own = own_of w.now z.found z.instance w.stands ∙ same;
+          here = record { now = w.now; lives = w.lives; stands = own_text at; words = w.words; has_text = w.has_text; made = w.made };
+          words = words.0;
+          has_text = words.1;
           ready = none_among d;
-          solid = subst (λ q. is_connection (text s q) ≡ false) same z.instance;
+          solid = level_solid s ok z.instance level;
           whole = λ free. refl;
         }
 
@@ -194,27 +187,30 @@ module _ (s : Source) (ok : Typed s) (o : AllArrays) (m : Instances) where
     pub text_in : (i t : ℕ) → Whole s m i t → ReachesText s m i (In t)
     text_in i t whole k z = text_around i t k z whole
 
-    -- in a bound: of its own the formal parameters and constants, and what is around
-    pub reaches_bound : (i t : ℕ) (todo : List DeclNo) → (p : Present s m i t todo) → (p.now).text ≡ t → ((d : DeclNo) → IsFixed (entry_of s.tables d) → Among d todo → ⊥) → is_connection (text s t) ≡ false → Reaches s m i (InBound t)
+    -- in a bound, which stands in the level u: of its own the formal parameters and constants, and what is around
+    pub reaches_bound : (i t u : ℕ) (todo : List DeclNo) → (p : Present s m i t todo) → (p.now).text ≡ t → LevelOf s t u → ((d : DeclNo) → IsFixed (entry_of s.tables d) → Among d todo → ⊥) → is_connection (text s t) ≡ false → Reaches s m i (InBound u)
     unfolding home_of at_level
-    reaches_bound i t todo p own ready solid d (own_fixed is level) =
-        let same : t ≡ block_of s d = level_itself s ok t (block_of s d) solid level in
+    reaches_bound i t u todo p own at ready solid d (own_fixed is level) =
+        let to : LevelOf s t (block_of s d) = level_then s at (level_is s u (block_of s d) level) in
+        let from : LevelOf s (p.now).text (block_of s d) = subst (λ z. LevelOf s z (block_of s d)) (sym own) to in
         let f = fine_at s o m i t todo store p in
+        let words = level_words s ok f.solid from p.words p.has_text in
         record {
           instance = i;
-          found = here_found i (level_of s (block_of s d)) i p.now p.lives (f.level ∙ ap (level_of s) (own ∙ same));
+          found = here_found i (level_of s (block_of s d)) i p.now p.lives (f.level ∙ level_number s ok f.solid from);
           near = knows_itself m i p.now p.lives;
           todo = todo;
-          here = record { now = p.now; lives = p.lives; stands = subst (StandsFor s p.now) same p.stands; words = p.words; has_text = p.has_text; made = p.made };
-          own = own ∙ same;
+          here = record { now = p.now; lives = p.lives; stands = own_text from; words = p.words; has_text = p.has_text; made = p.made };
+          words = words.0;
+          has_text = words.1;
           ready = ready d is;
-          solid = subst (λ q. is_connection (text s q) ≡ false) same solid;
+          solid = level_solid s ok solid to;
           whole = λ free. absurd (free is);
         }
-    reaches_bound i t todo p own ready solid d (from_around {u = u} around z) = reached i u d z (text_outside i t u z.found todo around z.around p own)
+    reaches_bound i t u todo p own at ready solid d (from_around {u = v} around z) = reached i v d z (text_outside i u v z.found p.now p.lives (subst (λ y. LevelOf s y u) (sym own) at) around z.around)
 
-    pub text_bound : (i t : ℕ) (todo : List DeclNo) → (p : Present s m i t todo) → (p.now).text ≡ t → ReachesText s m i (InBound t)
-    text_bound i t todo p own k z = text_outside i t z.next k todo z.stands_in z.around p own
+    pub text_bound : (i t u : ℕ) (todo : List DeclNo) → (p : Present s m i t todo) → (p.now).text ≡ t → LevelOf s t u → ReachesText s m i (InBound u)
+    text_bound i t u todo p own at k z = text_outside i u z.next k p.now p.lives (subst (λ y. LevelOf s y u) (sym own) at) z.stands_in z.around
 
 -- ---- the keys of a text are those of its declarations
 

@@ -1,5 +1,5 @@
 -- Which configurations have a rule for what is pending.
-use Rattle.std.proofs.Common.{◌≡◌, ◌<◌, ◌≤◌, ℕ, zero, suc, Bool, true, false, List, [], ◌∷◌, length, map, Option, Some, None, ◌⊎◌}
+use Rattle.std.proofs.Common.{◌≡◌, ◌<◌, ◌≤◌, ℕ, zero, suc, Bool, true, false, List, [], ◌∷◌, ◌++◌, length, map, Option, Some, None, ◌⊎◌}
 use Rattle.std.specs.Prelude.{slice_get, ◌*◌, ◌&&◌, not}
 use Rattle.sim_base.specs.declared.numbering.DeclNo.{DeclNo}
 use Rattle.sim_chains.specs.Components.{AttachedObject, DetachedObject, NoObject, Standing, TerminatedObject}
@@ -8,8 +8,11 @@ use Rattle.sim_scope.specs.declared.types.FormalKind.{FormalKind}
 use Rattle.sim_scope.specs.declared.types.FormalKind.TheVariants as shape
 use Rattle.sim_scope.specs.declared.types.Mode.{Mode}
 use Rattle.sim_scope.specs.declared.types.Mode.TheVariants as mode
+use Rattle.sim_scope.specs.declared.types.Entry.TheVariants as entry
+use Rattle.sim_scope.specs.declared.types.SimType.{SimType}
 use Rattle.sim_scope.specs.Access.{encloser}
 use Rattle.sim_scope.specs.Levels.{base, has_level}
+use Rattle.sim_scope.specs.Scopes.{entry_of}
 use Rattle.sim_scope.specs.Source.{Source, level_of}
 use Rattle.sim_tree.specs.declared.expr.Identifier.{Identifier}
 use Rattle.sim_tree.specs.declared.stmt.TypeName.{TypeName}
@@ -37,6 +40,7 @@ use Rattle.sim_sound.specs.Expressions.{ExprIs, TwoKinds, some_holds, standard_k
 use Rattle.sim_sound.specs.Held.{Among, ArrayOf, Fits, FitsIn, Holds, In, InBound, IsOfKind, Refers, Simply, formal_holds, key_holds, reference_to, result_holds}
 use Rattle.sim_sound.specs.Statements.{ArmsAre, ConnectionIs, ElementsAre, StatementIs, StatementsAre}
 use Rattle.sim_sound.specs.Typed.{ArraysTyped, Distinct, arrays_of_block}
+use Rattle.sim_sound.proofs.Prefixes.{LevelOf}
 
 -- ---- what stays
 
@@ -113,13 +117,13 @@ pub data KeyAmong (key : Key) : List Key → Type 0 where
   first_key : {ks : List Key} → KeyAmong key (key ∷ ks)
   later_key : {k : Key} {ks : List Key} → KeyAmong key ks → KeyAmong key (k ∷ ks)
 
--- the arrays of an instance are made, but for these
+-- the arrays of an instance of a text are made, those of all its levels, but for these
 abbrev pub Made : Source → (text : ℕ) → List DeclNo → List Held → Type 0
-Made s t todo hs = (d : DeclNo) (k : Holds) → key_holds s t (Declared d.0) ≡ Some (ArrayOf k) → KeyAmong (Declared d.0) (keys_in s t (text s t)) → held (Declared d.0) hs ≡ None → Among d todo
+Made s t todo hs = (u : ℕ) → LevelOf s t u → (d : DeclNo) (k : Holds) → key_holds s u (Declared d.0) ≡ Some (ArrayOf k) → KeyAmong (Declared d.0) (keys_in s u (text s u)) → held (Declared d.0) hs ≡ None → Among d todo
 
--- An instance stands for its own text, and for each connection in that whose object is there.
+-- An instance stands for each level of its text, and for each connection in such a text whose object is there.
 pub data StandsFor (s : Source) (x : Instance (List Held)) : (t : ℕ) → Type 0 where
-  own_text : {t : ℕ} → x.text ≡ t → StandsFor s x t
+  own_text : {t : ℕ} → LevelOf s x.text t → StandsFor s x t
   connected : {t u : ℕ} → is_connection (text s t) ≡ true → encloser s.tables t ≡ Some u → KeyAmong (cell_of_connection s t) (map key_of x.cells) → StandsFor s x u → StandsFor s x t
 
 -- an instance that stands for a text and was not given back, whose arrays are made but for these
@@ -194,11 +198,12 @@ pub data Enclosed (s : Source) (m : Instances) (j t : ℕ) (out : Option ℕ) : 
   alone : out ≡ None → encloser s.tables t ≡ None → Enclosed s m j t out
   within : {e u : ℕ} → out ≡ Some e → encloser s.tables t ≡ Some u → e < j → Knows m j e → Whole s m e u → Enclosed s m j t out
 
--- An instance is as its text says: it has the text's cells, each holds what it should, and it is given back at its end if the text is class-free.
+-- An instance is as its text says: it has the cells of all its levels, each holds what it should, and it is given back at its end if the text is class-free.
 pub record InstanceFine (s : Source) (o : AllArrays) (m : Instances) (j : ℕ) (x : Instance (List Held)) : Type 0 where
   pub level : x.level ≡ level_of s x.text
   pub solid : is_connection (text s x.text) ≡ false
-  pub keys : (key : Key) → KeyAmong key (keys_in s x.text (text s x.text)) → KeyAmong key (map key_of x.cells)
+  pub keys : (u : ℕ) → LevelOf s x.text u → (key : Key) → KeyAmong key (keys_in s u (text s u)) → KeyAmong key (map key_of x.cells)
+  pub holds : (u : ℕ) → LevelOf s x.text u → (key : Key) → KeyAmong key (keys_in s u (text s u)) → key_holds s x.text key ≡ key_holds s u key
   pub cells : CellsFine s o m j x.text x.cells
   pub ends : x.passing ≡ is_class_free s x.text
   pub not_kept : x.kept ≡ false
@@ -295,7 +300,7 @@ OneKinds monadic.Not k = k ≡ kind.Boolean
 -- a cell of an instance; one of its own that is made by then; or that of a connection in which one stands
 pub data CellIs (s : Source) (m : Instances) (j t : ℕ) (todo : List DeclNo) (e : ℕ) (key : Key) (h : Holds) : Type 0 where
   in_instance : CellTarget s m j e key h → CellIs s m j t todo e key h
-  own_made : {d : DeclNo} → e ≡ j → key ≡ Declared d.0 → key_holds s t key ≡ Some h → KeyAmong key (keys_in s t (text s t)) → (Among d todo → ⊥) → CellIs s m j t todo e key h
+  own_made : {d : DeclNo} {u : ℕ} → e ≡ j → key ≡ Declared d.0 → LevelOf s t u → key_holds s u key ≡ Some h → KeyAmong key (keys_in s u (text s u)) → (Among d todo → ⊥) → CellIs s m j t todo e key h
   in_connection : {c : ℕ} → Knows m j e → Whole s m e c → is_connection (text s c) ≡ true → key ≡ cell_of_connection s c → h ≡ reference_to (base s.tables c) → CellIs s m j t todo e key h
 
 -- what the cells of formal parameters hold, and what is in hand for them: of an array by value a copy
@@ -501,9 +506,11 @@ pub record NewOpFine (s : Source) (k n : ℕ) (before behind : List Kinds) : Typ
 pub record ArrayStored (s : Source) (j t : ℕ) (todo todo' : List DeclNo) (x : Target) (before behind : List Kinds) : Type 0 where
   pub declaration : DeclNo
   pub element : Holds
+  pub level : ℕ
+  pub of_level : LevelOf s t level
   pub is : x ≡ ToCell j (Declared declaration.0)
-  pub holds : key_holds s t (Declared declaration.0) ≡ Some (ArrayOf element)
-  pub there : KeyAmong (Declared declaration.0) (keys_in s t (text s t))
+  pub holds : key_holds s level (Declared declaration.0) ≡ Some (ArrayOf element)
+  pub there : KeyAmong (Declared declaration.0) (keys_in s level (text s level))
   pub waits : todo ≡ declaration ∷ todo'
   pub «in» : before ≡ Value (ArrayOf element) ∷ behind
 
@@ -541,12 +548,19 @@ abbrev pub LevelsFine : Source → Instances → ℕ → List Level → Type 0
 LevelsFine s m j [] = Unit {0}
 LevelsFine s m j (x ∷ xs) = Site s m j x.text × StatementsAre s x.text x.statements × LevelsFine s m j xs
 
--- the arrays of the text are made, which are its own
-pub record DeclareFine (s : Source) (t : ℕ) (ds : Declarations) (todo : List DeclNo) : Type 0 where
-  pub waits : todo ≡ arrays_of_block s ds
-  pub arrays : ArraysTyped s (InBound t) ds
-  pub distinct : Distinct (arrays_of_block s ds)
-  pub own : (d : DeclNo) → Among d (arrays_of_block s ds) → Among d (numbers_of s t)
+-- a declaration of an array
+abbrev pub EntryIsArray : Source → DeclNo → Type 0
+EntryIsArray s d = (element : SimType) × (dimensions : ℕ) × (entry_of s.tables d ≡ Some (entry.Array element dimensions))
+
+-- the arrays of a level of the text are made, which are its own, before those of the levels inside
+pub record DeclareFine (s : Source) (t : ℕ) (ds : Declarations) (todo todo' : List DeclNo) : Type 0 where
+  pub level : ℕ
+  pub of_level : LevelOf s t level
+  pub waits : todo ≡ arrays_of_block s ds ++ todo'
+  pub arrays : ArraysTyped s (InBound level) ds
+  pub distinct : Distinct (arrays_of_block s ds ++ todo')
+  pub own : (d : DeclNo) → Among d (arrays_of_block s ds) → Among d (numbers_of s level)
+  pub all_arrays : (d : DeclNo) → Among d (arrays_of_block s ds ++ todo') → EntryIsArray s d
 
 -- An operator in an instance j of the text t: with values of these kinds in hand and these arrays still to be made, and behind it.
 abbrev pub OpFine : Source → AllArrays → Instances → (j t : ℕ) → Op → (todo todo' : List DeclNo) → (before behind : List Kinds) → Type 0
@@ -586,7 +600,7 @@ OpFine s o m j t (Exec a) todo todo' before behind = Ready todo todo' before beh
 OpFine s o m j t (Execs ss) todo todo' before behind = Ready todo todo' before behind (Sited s m j (λ u. StatementsAre s u ss))
 OpFine s o m j t (EnterOp k line) todo todo' before behind =
     Ready todo todo' before behind (Sited s m j (λ u. (encloser s.tables k ≡ Some u) × (begin : ℕ) × (ds : Declarations) × (ss : Statements) × (text s k ≡ Some (BlockText begin ds ss))))
-OpFine s o m j t (DeclareOp ds) todo todo' before behind = DeclareFine s t ds todo × (todo' ≡ []) × (before ≡ []) × (behind ≡ [])
+OpFine s o m j t (DeclareOp ds) todo todo' before behind = DeclareFine s t ds todo todo' × (before ≡ []) × (behind ≡ [])
 OpFine s o m j t (LevelOp k) todo todo' before behind = (behind ≡ before) × (todo' ≡ todo)
 OpFine s o m j t (InnerOp xs) todo todo' before behind = Ready todo todo' before behind (LevelsFine s m j xs)
 OpFine s o m j t (ConnectOp k a other) todo todo' before behind =

@@ -30,25 +30,26 @@ use Rattle.sim_scope.specs.Source.{Source, block_around, denoted, level_of, line
 use Rattle.sim_code.specs.Instances.{at_level}
 use Rattle.sim_meaning.specs.Attributes.{connection_at, is_connection}
 use Rattle.sim_meaning.specs.Closing.{Left, LeftAddress, LeftCell, LeftReference, LeftText, LeftUnbuilt, close, close_place, declared_left, formal_left, home_of, is_text, left_found, left_in, left_variable, named_left, reference_place}
-use Rattle.sim_meaning.specs.Levels.{levels_inside, text_at}
+use Rattle.sim_meaning.specs.Levels.{is_class, levels_inside, text_at}
 use Rattle.sim_meaning.specs.Pending.{Activation, AgainOp, BackOp, BranchOp, ChooseOp, Configuration, ConnectOp, Do, DropOp, ElementsOp, EnterOp, Eval, Exec, Execs, InnerOp, Instances, Item, Key, Op, RaiseOp, StepOp, StepTestOp, StoreOp, Target, Term, TestOp, ToAddress, ToCell, ToPlace, ToReference, ToReferenceAt, ToText, ToTextAt, ToTextOf, TwoOp, Val, WhenOp, WhileElementOp}
 use Rattle.sim_meaning.specs.Statements.{assigned, assigning, compound, controlled, controlled_left, dropping, elements, entered_at, exec, execs, finding, first_branch, inner_begun, leaves, lefts, levels_of_instance, looping, raised, reading, step_tested, while_element}
+use Rattle.sim_meaning.specs.Texts.{text}
 use Rattle.sim_sound.specs.Held.{Holds, In, Simply, reference_to}
 use Rattle.sim_sound.specs.Expressions.{ExprIs}
 use Rattle.sim_sound.specs.Statements.{CallIs, CompoundIs, ControlIs, ElementsAre, InnerIs, StatementIs, StatementsAre, is_given}
 use Rattle.sim_sound.specs.Typed.{Typed}
 use Rattle.sim_sound.proofs.Assigns.{Found, assigning_fine, lefts_found}
 use Rattle.sim_sound.proofs.Attributes.{class_words}
-use Rattle.sim_sound.proofs.Cells.{site_whole}
-use Rattle.sim_sound.proofs.ClassLevels.{class_levels, none_inside, one}
+use Rattle.sim_sound.proofs.Cells.{own_level, site_whole}
+use Rattle.sim_sound.proofs.ClassLevels.{class_levels, inside_are, levels_are, levels_fine}
 use Rattle.sim_sound.proofs.Closing.{dot_fine, expr_fine, given_fine}
 use Rattle.sim_sound.proofs.Evals.{IsFine, Rest, Work, goes_on}
 use Rattle.sim_sound.proofs.Fitting.{text_there}
 use Rattle.sim_sound.proofs.Lefts.{LeftFine, reference_is, variable_fine}
 use Rattle.sim_sound.proofs.Lifts.{Goes, chosen, had, ran, ticked, truth_popped}
-use Rattle.sim_sound.proofs.Ops.{own_there}
+use Rattle.sim_sound.proofs.Prefixes.{LevelOf, level_of_class}
 use Rattle.sim_sound.proofs.Reach.{Reaches, ReachesText, reaches_in, text_in}
-use Rattle.sim_sound.proofs.Sound.{AddressOf, Begun, HandsFine, Kinds, OpFine, Operates, Sight, Site, TermFine, Value, VariableFine, Whole, given, held_kinds, in_instance as at_cell, see, simple, value_stored}
+use Rattle.sim_sound.proofs.Sound.{AddressOf, Begun, HandsFine, Kinds, LevelsFine, OpFine, Operates, Sight, Site, TermFine, Value, VariableFine, Whole, given, held_kinds, in_instance as at_cell, see, simple, value_stored}
 
 -- ---- a variable as a left side is a cell, or is found by a tree
 
@@ -181,19 +182,21 @@ module _ (s : Source) (ok : Typed s) (l : Limits) (o : World) (sights : List Sig
   single_cell : (x : Identifier) → IsCell (left_variable s m i (syntax.Named x NoMore))
   single_cell x = found_cell (connection_at s x.token.0) (close_place s m i (syntax.Named x NoMore)) (named_left s m i (line_at s x.token.0) (denoted s x.token.0) NoMore) (named_cell s m i (line_at s x.token.0) (denoted s x.token.0))
 
-  -- ---- `inner`, in a class without prefix
+  -- ---- `inner`
 
+  -- the levels inside the one in which it stands
   inner_goes : (token : ℕ) → InnerIs s u token → (t' w' : ℕ) → Goes P (inner_begun s (ran o t' w') m i w vals rest (block_around s token))
   inner_goes token a t' w' =
       let c = class_words s ok u a.1 in
       let p = here in
-      let own : (p.now).text ≡ u = own_there s p.now u (ap is_connection c.is) p.stands in
-      let at : text_at m i ≡ Some u = text_there s m i p.now p.lives ∙ ap Some own in
-      let levels_are = class_levels s ok u c.prefix c.heading c.declarations c.statements c.is in
-      let x = one s ok u c.prefix c.heading c.declarations c.statements c.is in
+      let k = (p.now).text in
+      let at : LevelOf s k u = own_level s p.now u (ap is_connection c.is) p.stands in
+      let class : is_class (text s k) ≡ true = level_of_class s ok (b.store.instances i p.now p.lives).solid at a.1 in
+      let all = class_levels s ok k class in
+      let inside : LevelsFine s m i (levels_inside u all.list) = levels_fine s ok m i p.now p.lives (levels_inside u all.list) (inside_are s k u all.list all.are) in
       subst (λ z. Goes P (inner_begun s (ran o t' w') m i w vals rest z)) (sym a.0)
-      (had P (levels_of_instance s (text_at m i)) (x ∷ []) (ran o t' w') (λ xs. go (ran o t' w') m i (Do (InnerOp (levels_inside u xs)) ∷ w) vals rest) (ap (levels_of_instance s) at ∙ levels_are)
-      (subst (λ z. Goes P (go (ran o t' w') m i (Do (InnerOp z) ∷ w) vals rest)) (sym (none_inside s ok u c.prefix c.heading c.declarations c.statements c.is)) (goes (Do (InnerOp []) ∷ w) ([], ks, (refl, refl, refl, tt), work))))
+      (had P (levels_of_instance s (text_at m i)) all.list (ran o t' w') (λ xs. go (ran o t' w') m i (Do (InnerOp (levels_inside u xs)) ∷ w) vals rest) (ap (levels_of_instance s) (text_there s m i p.now p.lives) ∙ levels_are s ok k class)
+      (goes (Do (InnerOp (levels_inside u all.list)) ∷ w) ([], ks, (refl, refl, refl, inside), work)))
 
   pub exec_goes : (a : Statement) → StatementIs s u a → Goes P (exec s l o m i w vals rest a)
   exec_goes (syntax.Empty token) x = goes w work

@@ -1,6 +1,6 @@
--- Which programs are typed: what the static rules give, as far as a run rests on it. So far for programs without class and block prefixes,
--- parameters by name and formal procedures.
-use Rattle.std.specs.Prelude.{◌≡◌, ◌<◌, ℕ, suc, false, List, [], ◌∷◌, length, slice_get, Option, Some, None}
+-- Which programs are typed: what the static rules give, as far as a run rests on it. So far for programs without block prefixes, parameters by
+-- name and formal procedures.
+use Rattle.std.specs.Prelude.{◌≡◌, ◌<◌, ℕ, suc, true, false, List, [], ◌∷◌, length, slice_get, Option, Some, None}
 use Rattle.std.specs.List.{list_any}
 use Rattle.sim_base.specs.declared.numbering.DeclNo.{DeclNo}
 use Rattle.sim_scope.specs.declared.scopes.Declaration.{Declaration}
@@ -9,9 +9,10 @@ use Rattle.sim_scope.specs.declared.types.Entry.TheVariants as entry
 use Rattle.sim_scope.specs.declared.types.Formal.{Formal}
 use Rattle.sim_scope.specs.declared.types.SimType.{SimType}
 use Rattle.sim_scope.specs.Access.{encloser}
-use Rattle.sim_scope.specs.Levels.{base, has_standard, owner_of_level}
+use Rattle.sim_scope.specs.Levels.{base, has_level, has_standard, owner_of_level}
 use Rattle.sim_scope.specs.Scopes.{class_formals, entry_of}
 use Rattle.sim_scope.specs.Source.{Source, block_around, block_of, level_of}
+use Rattle.sim_scope.specs.Tables.{Tables}
 use Rattle.sim_tree.specs.declared.expr.Identifier.{Identifier}
 use Rattle.sim_tree.specs.declared.stmt.TypeName.{TypeName}
 use Rattle.sim_tree.specs.Syntax.{Arrayed, Arrays, BoundPair, Declarations, DeclareClass, DeclareProcedure, Heading, NoDeclaration, Statement, Statements, Variables, With}
@@ -20,6 +21,7 @@ use Rattle.sim_values.specs.Plain.{Plain, kind_of}
 use Rattle.sim_meaning.specs.Attributes.{first_in, is_connection}
 use Rattle.sim_meaning.specs.Closing.{class_parameters}
 use Rattle.sim_meaning.specs.Entries.{formals_of, is_held, numbers_of}
+use Rattle.sim_meaning.specs.Levels.{is_class}
 use Rattle.sim_meaning.specs.Texts.{BlockText, ClassText, ConnectionText, ProcedureText, Text, constant_of, declared_at, is_class_free, kind_named, kind_of_type, text}
 use Rattle.sim_sound.specs.Held.{Among, ArrayOf, Holds, InBound, IsFormal, IsOfKind, Place, Simply, entry_holds, formal_holds, held_by, result_holds}
 use Rattle.sim_sound.specs.Expressions.{ExprIs}
@@ -156,6 +158,31 @@ TextTyped s k (ClassText prefix h ds ss) = ClassTyped s k ds ss
 TextTyped s k ConnectionText = ConnectionTyped s k
 TextTyped s k _ = ⊥
 
+-- ---- prefixes
+
+-- The levels of a text come to an end: it has no prefix, or those of its prefix come to an end. There are at most so many.
+pub data Ends (tables : Tables) : (levels block : ℕ) → Type 0 where
+  outermost : {n k : ℕ} → base tables k ≡ None → Ends tables (suc n) k
+  prefixed : {n k b : ℕ} → base tables k ≡ Some b → Ends tables n b → Ends tables (suc n) k
+
+-- The prefix of a class is a class. It is declared in the text around, which is no connection, or in a prefix of that.
+pub record PrefixTyped (s : Source) (k b : ℕ) : Type 0 where
+  pub class : is_class (text s k) ≡ true
+  pub prefix : is_class (text s b) ≡ true
+  pub outer : ℕ
+  pub outer_prefix : ℕ
+  pub around : encloser s.tables k ≡ Some outer
+  pub around_prefix : encloser s.tables b ≡ Some outer_prefix
+  pub solid : is_connection (text s outer) ≡ false
+  pub declared : has_level s.tables outer outer_prefix ≡ true
+
+-- What has a next level is a connection, of which that is the class that is connected, or a class, of which that is the prefix. The levels of
+-- a class are no more than there are texts, and what it declares is declared by no level of its prefix.
+pub record Prefixes (s : Source) : Type 0 where
+  pub prefixed_by : (k b : ℕ) → is_connection (text s k) ≡ false → base s.tables k ≡ Some b → PrefixTyped s k b
+  pub ends : (k : ℕ) → is_connection (text s k) ≡ false → Ends s.tables (length s.tables.blocks) k
+  pub apart : (k b u : ℕ) (d : DeclNo) → is_connection (text s k) ≡ false → base s.tables k ≡ Some b → has_level s.tables b u ≡ true → Among d (numbers_of s u) → Among d (numbers_of s k) → ⊥
+
 -- ---- programs
 
 -- the text of a declared procedure stands in the text of its declaration, and belongs to it
@@ -191,7 +218,6 @@ pub record Typed (s : Source) : Type 0 where
   pub texts : (k : ℕ) (x : Text) → text s k ≡ Some x → TextTyped s k x
   -- a text around one that is not class-free is not class-free
   pub not_class_free : (t u : ℕ) → encloser s.tables t ≡ Some u → is_class_free s t ≡ false → is_class_free s u ≡ false
-  -- So far no class and no block has a prefix: what has a next level is a connection, and that is the class that is connected.
-  pub unprefixed : (k : ℕ) → is_connection (text s k) ≡ false → base s.tables k ≡ None
+  pub prefixes : Prefixes s
   -- So far no procedure that is not class-free has a parameter for which instances are kept: an array by reference.
   pub keeps_none : (k : ℕ) (result : Option TypeName) (h : Heading) (a : Statement) → text s k ≡ Some (ProcedureText result h a) → is_class_free s k ≡ false → list_any is_held (formals_of s k) ≡ false
