@@ -1,5 +1,5 @@
 -- What left sides are.
-use Rattle.std.proofs.Common.{◌≡◌, ◌≢◌, ◌&&◌, ◌||◌, ◌==◌, ◌++◌, ℕ, suc, Bool, true, false, List, [], ◌∷◌, length, Bor, Option, Some, None, if◌then◌else◌, refl, sym, ap, ◌∙◌, subst}
+use Rattle.std.proofs.Common.{◌≡◌, ◌≢◌, ◌&&◌, ◌||◌, ◌==◌, ◌+◌, ◌++◌, ℕ, suc, pos, Bool, true, false, List, [], ◌∷◌, length, Bor, Option, Some, None, if◌then◌else◌, refl, sym, ap, ◌∙◌, subst}
 use Rattle.std.specs.List.{list_any}
 use Rattle.sim_base.specs.declared.numbering.DeclNo.{DeclNo}
 use Rattle.sim_base.specs.declared.numbering.TokenNo.{TokenNo}
@@ -26,14 +26,19 @@ use Rattle.sim_meaning.specs.Entries.{cells_from, with_cell}
 use Rattle.sim_meaning.specs.Pending.{Declared, Held, Key, Result, same_key}
 use Rattle.sim_meaning.specs.Texts.{BlockText, ClassText, ConnectionText, PrefixedText, ProcedureText, StandardText, Text, text}
 use Rattle.codegen_expr.specs.declared.spot.Spot.{Spot}
-use Rattle.codegen_expr.specs.Built.{KeyBuilt, is_around, is_there, place_from, slot_in, unless_prefixed}
+use Rattle.codegen_expr.specs.Built.{KeyBuilt, is_around, is_there, place_from, slot_in}
 use Rattle.codegen_expr.specs.Known.{has_result}
-use Rattle.codegen_expr.specs.Sites.{HasCell, cells_in, frame_text, hidden_before, hidden_from, hidden_in, is_connection, own_part, prefix_of}
+use Rattle.std.specs.Prelude.{⊤}
+use Rattle.sim_code.specs.declared.instr.Instr.{Instr}
+use Rattle.sim_code.specs.declared.instr.Instr.TheVariants as i
+use Rattle.codegen_expr.specs.Drafts.{DraftOf, Emits, planned_start, with_instr, with_push}
+use Rattle.codegen_expr.specs.Sites.{At, HasCell, Pushes, cells_in, frame_text, hidden_before, hidden_from, hidden_in, is_connection, slot_of}
+use Rattle.codegen_expr.proofs.Pieces.{emits_at, emits_classed, emits_push}
 use Rattle.codegen_expr.proofs.Slots.{slot_found, slot_within}
 use Rattle.codegen.specs.declared.left.Left.{Left}
 use Rattle.codegen.specs.declared.left.Left.TheVariants as left
 use Rattle.codegen.specs.CodeLeft.{AtAddress, InCell, NotBuilt, Stored, stored_declared, stored_element, stored_formal, stored_named, stored_result, stored_variable}
-use Rattle.codegen.specs.EmitLeft.{FindsDeclared, FindsElement, FindsFormal, FindsLeft, FindsOwn, FindsResult, FindsVariable, IsSlot, IsVariable, operands_in}
+use Rattle.codegen.specs.EmitLeft.{FindsDeclared, FindsElement, FindsFormal, FindsLeft, FindsOwn, FindsResult, FindsVariable, IsVariable, LoadsCell, StoresCell, operands_in}
 
 -- ---- cells by key
 
@@ -44,8 +49,36 @@ cell_there s t key h = cases (slot_in s t key) refl h
     cases None e h = absurd (cc)
     cases (Some k) e h = slot_within s t key k e
 
-pub is_slot : (s : Source) (t : ℕ) (key : Key) (k : ℕ) → slot_in s t key ≡ Some k → IsSlot s t key k
-is_slot s t key k e final = slot_found s final t key k e
+-- the code of a value that goes into a cell, and of the value of a cell
+pub store_put : (b : Bound) (a c : DraftOf) (k place level slot : ℕ) (x : Instr) → slot ≡ planned_start (source_of b) a.classes k + place → level ≡ level_of (source_of b) k → x ≡ i.Store (pos level) (pos slot) → c ≡ with_instr a x 0 → StoresCell b a c k place
+unfolding StoresCell
+store_put b a c k place level slot x es el ex ec = ec ∙ ap (λ z. with_instr a z 0) (ex ∙ ap (λ z. i.Store (pos z) (pos slot)) el ∙ ap (λ z. i.Store (pos (level_of (source_of b) k)) (pos z)) es)
+
+pub load_put : (b : Bound) (a c : DraftOf) (k place n level slot : ℕ) (x : Instr) → slot ≡ planned_start (source_of b) a.classes k + place → level ≡ level_of (source_of b) k → x ≡ i.Load (pos level) (pos slot) → c ≡ with_push a n x 0 → LoadsCell b n a c k place
+unfolding LoadsCell
+load_put b a c k place n level slot x es el ex ec = ec ∙ ap (λ z. with_push a n z 0) (ex ∙ ap (λ z. i.Load (pos z) (pos slot)) el ∙ ap (λ z. i.Load (pos (level_of (source_of b) k)) (pos z)) es)
+
+pub ruleset places = (store_put, load_put)
+
+pub emits_store : (b : Bound) (w : Spot) (a c : DraftOf) (home place : ℕ) (key : Key) → slot_in (source_of b) home key ≡ Some place → StoresCell b a c home place
+    → Emits w a c ⊤ (λ final site p q. At final (i.Store (pos (level_of (source_of b) home)) (pos (slot_of (source_of b) final home key))) 0 p q)
+unfolding StoresCell
+emits_store b w a c home place key found ec =
+    let s = source_of b in
+    let x = i.Store (pos (level_of s home)) (pos (planned_start s a.classes home + place)) in
+    emits_classed w ⊤ (λ final site p q. At final x 0 p q) _ a c
+    (λ final site p q known r. subst (λ z. At final (i.Store (pos (level_of s home)) (pos z)) 0 p q) (slot_found s final a.classes home key place (planned_start s a.classes home + place) known found refl) r)
+    (emits_at w a c x 0 ec (λ z. cc) refl)
+
+pub emits_load : (b : Bound) (w : Spot) (n : ℕ) (a c : DraftOf) (home place : ℕ) (key : Key) → slot_in (source_of b) home key ≡ Some place → LoadsCell b n a c home place
+    → Emits w a c ⊤ (λ final site p q. Pushes final site n (i.Load (pos (level_of (source_of b) home)) (pos (slot_of (source_of b) final home key))) p q)
+unfolding LoadsCell
+emits_load b w n a c home place key found ec =
+    let s = source_of b in
+    let x = i.Load (pos (level_of s home)) (pos (planned_start s a.classes home + place)) in
+    emits_classed w ⊤ (λ final site p q. Pushes final site n x p q) _ a c
+    (λ final site p q known r. subst (λ z. Pushes final site n (i.Load (pos (level_of s home)) (pos z)) p q) (slot_found s final a.classes home key place (planned_start s a.classes home + place) known found refl) r)
+    (emits_push w a c n x 0 ec (λ z. cc) refl)
 
 -- no declaration and no connection has the cell of a result
 abbrev has_it : List Held → Bool
@@ -115,19 +148,13 @@ result_none : (s : Source) (k : ℕ) (x : Option Text) → has_result x ≡ fals
 unfolding hidden_in
 result_none s k x h = absent (cells_in s k x ++ hidden_in s k) 0 (none_joined (cells_in s k x) (hidden_in s k) (no_result s k x h) (none_hidden s k 0 s.tables.blocks))
 
-pub result_slot_prefixed : (b : Bound) (k u : ℕ) (r : Option ℕ) → r ≡ prefix_of b.scopes k → r ≡ Some u → None ≡ slot_in (source_of b) k Result
+pub result_slot_first : (b : Bound) (k : ℕ) (t : Bool) → t ≡ has_result (text (source_of b) k) → t ≡ true → Some 0 ≡ slot_in (source_of b) k Result
 unfolding slot_in source_of
-result_slot_prefixed b k u r er some = ap (λ z. unless_prefixed z (place_from 0 Result (own_part (source_of b) k))) (sym some ∙ er)
+result_slot_first b k t et is = sym (result_cell (source_of b) k (text (source_of b) k) (sym et ∙ is))
 
-pub result_slot_first : (b : Bound) (k : ℕ) (r : Option ℕ) (t : Bool) → r ≡ prefix_of b.scopes k → r ≡ None → t ≡ has_result (text (source_of b) k) → t ≡ true → Some 0 ≡ slot_in (source_of b) k Result
+pub result_slot_none : (b : Bound) (k : ℕ) (t : Bool) → t ≡ has_result (text (source_of b) k) → t ≡ false → None ≡ slot_in (source_of b) k Result
 unfolding slot_in source_of
-result_slot_first b k r t er none et is =
-    sym (result_cell (source_of b) k (text (source_of b) k) (sym et ∙ is)) ∙ ap (λ z. unless_prefixed z (place_from 0 Result (own_part (source_of b) k))) (sym none ∙ er)
-
-pub result_slot_none : (b : Bound) (k : ℕ) (r : Option ℕ) (t : Bool) → r ≡ prefix_of b.scopes k → r ≡ None → t ≡ has_result (text (source_of b) k) → t ≡ false → None ≡ slot_in (source_of b) k Result
-unfolding slot_in source_of
-result_slot_none b k r t er none et is =
-    sym (result_none (source_of b) k (text (source_of b) k) (sym et ∙ is)) ∙ ap (λ z. unless_prefixed z (place_from 0 Result (own_part (source_of b) k))) (sym none ∙ er)
+result_slot_none b k t et is = sym (result_none (source_of b) k (text (source_of b) k) (sym et ∙ is))
 
 -- ---- operands
 
@@ -169,13 +196,13 @@ module _ (b : Bound) (w : Spot) where
   unfolding source_of
   variable_outside d es block none eb out = cell_of d es none left.NotBuilt (λ h. let t : is_around b.scopes (length b.scopes.blocks) w.text block ≡ true = ap (λ z. is_around b.scopes (length b.scopes.blocks) w.text z) eb ∙ h.inside.found in cc)
 
-  pub variable_cell : (d : DeclNo) (es : List Expr) (block k level : ℕ) (slot : Option ℕ) → length es ≡ 0 → slot ≡ slot_in (source_of b) (block_of (source_of b) d) (Declared d.0) → slot ≡ Some k → block ≡ block_of (source_of b) d → is_around b.scopes (length b.scopes.blocks) w.text block ≡ true → level ≡ level_of (source_of b) block → FindsVariable b w d es (left.Cell level k)
+  pub variable_cell : (d : DeclNo) (es : List Expr) (block k : ℕ) (slot : Option ℕ) → length es ≡ 0 → slot ≡ slot_in (source_of b) (block_of (source_of b) d) (Declared d.0) → slot ≡ Some k → block ≡ block_of (source_of b) d → is_around b.scopes (length b.scopes.blocks) w.text block ≡ true → FindsVariable b w d es (left.Cell block k)
   unfolding source_of
-  variable_cell d es block k level slot none es' some eb around el =
+  variable_cell d es block k slot none es' some eb around =
       let s = source_of b in
       let here : slot_in s (block_of s d) (Declared d.0) ≡ Some k = sym es' ∙ some in
       let inside : is_around b.scopes (length b.scopes.blocks) w.text (block_of s d) ≡ true = ap (λ z. is_around b.scopes (length b.scopes.blocks) w.text z) (sym eb) ∙ around in
-      cell_of d es none (left.Cell level k) (block_of s d, Declared d.0, refl, record { has = ap is_there here; inside = record { found = inside } }, el ∙ ap (level_of s) eb, is_slot s (block_of s d) (Declared d.0) k here)
+      subst (λ z. FindsVariable b w d es (left.Cell z k)) (sym eb) (cell_of d es none (left.Cell (block_of s d) k) (Declared d.0, refl, record { has = ap is_there here; inside = record { found = inside } }, here))
 
   -- ---- elements and results
 
@@ -203,14 +230,12 @@ module _ (b : Bound) (w : Spot) where
   result_outside k es none out = result_of k es none left.NotBuilt (λ h. let t = h.inside.found in cc)
 
   -- the cell of a result that is there
-  pub own_cell : (k level slot : ℕ) (o : Option ℕ) → o ≡ slot_in (source_of b) k Result → o ≡ Some slot → is_around b.scopes (length b.scopes.blocks) w.text k ≡ true → level ≡ level_of (source_of b) k → KeyBuilt (source_of b) w.text k Result × (level ≡ level_of (source_of b) k) × IsSlot (source_of b) k Result slot
+  pub own_cell : (k place : ℕ) (o : Option ℕ) → o ≡ slot_in (source_of b) k Result → o ≡ Some place → is_around b.scopes (length b.scopes.blocks) w.text k ≡ true → KeyBuilt (source_of b) w.text k Result × (slot_in (source_of b) k Result ≡ Some place)
   unfolding source_of
-  own_cell k level slot o eo is around el =
-      let s = source_of b in
-      (record { has = ap is_there (sym eo ∙ is); inside = record { found = around } }, el, is_slot s k Result slot (sym eo ∙ is))
+  own_cell k place o eo is around = (record { has = ap is_there (sym eo ∙ is); inside = record { found = around } }, sym eo ∙ is)
 
-  pub result_found : (k level slot : ℕ) (es : List Expr) (o : Option ℕ) → length es ≡ 0 → o ≡ slot_in (source_of b) k Result → o ≡ Some slot → is_around b.scopes (length b.scopes.blocks) w.text k ≡ true → level ≡ level_of (source_of b) k → FindsResult b w k es (left.Cell level slot)
-  result_found k level slot es o none eo is around el = let r = own_cell k level slot o eo is around el in result_of k es none (left.Cell level slot) (k, Result, refl, r.0, r.1, r.2)
+  pub result_found : (k place : ℕ) (es : List Expr) (o : Option ℕ) → length es ≡ 0 → o ≡ slot_in (source_of b) k Result → o ≡ Some place → is_around b.scopes (length b.scopes.blocks) w.text k ≡ true → FindsResult b w k es (left.Cell k place)
+  result_found k place es o none eo is around = let r = own_cell k place o eo is around in result_of k es none (left.Cell k place) (Result, refl, r.0, r.1)
 
   -- the text in it
   pub own_missing : (k : ℕ) (o : Option ℕ) → o ≡ slot_in (source_of b) k Result → o ≡ None → FindsOwn b w k left.NotBuilt
@@ -221,9 +246,9 @@ module _ (b : Bound) (w : Spot) where
   unfolding FindsOwn source_of
   own_outside k out e line h = let t = h.inside.found in cc
 
-  pub own_found : (k level slot : ℕ) (o : Option ℕ) → o ≡ slot_in (source_of b) k Result → o ≡ Some slot → is_around b.scopes (length b.scopes.blocks) w.text k ≡ true → level ≡ level_of (source_of b) k → FindsOwn b w k (left.Result level slot)
+  pub own_found : (k place : ℕ) (o : Option ℕ) → o ≡ slot_in (source_of b) k Result → o ≡ Some place → is_around b.scopes (length b.scopes.blocks) w.text k ≡ true → FindsOwn b w k (left.Result k place)
   unfolding FindsOwn
-  own_found k level slot o eo is around el e line = let r = own_cell k level slot o eo is around el in (k, refl, r.0, r.1, r.2)
+  own_found k place o eo is around e line = let r = own_cell k place o eo is around in (refl, r.0, r.1)
 
   -- ---- formal parameters
 
@@ -314,4 +339,4 @@ module _ (b : Bound) (w : Spot) where
   pub left_nothing : (token : TokenNo) (o : Option Denotation) (es : List Expr) → o ≡ denoted (source_of b) token.0 → o ≡ None → FindsLeft b w token es left.NotBuilt
   left_nothing token o es eo none = as_named token o _ es left.NotBuilt eo none (λ h. h)
 
-pub ruleset lefts = (result_slot_prefixed, result_slot_first, result_slot_none, variable_subscripts, variable_no_slot, variable_outside, variable_cell, element_none, element_found, result_subscripts, result_missing, result_outside, result_found, formal_by_name, value_simple, value_array, value_procedure, reference_simple, reference_array, reference_procedure, declared_variable, declared_array, declared_formal, declared_result, declared_constant, declared_class, declared_virtual, declared_unspecified, declared_attribute, declared_nowhere, left_declared, left_standard, left_nothing)
+pub ruleset lefts = (result_slot_first, result_slot_none, variable_subscripts, variable_no_slot, variable_outside, variable_cell, element_none, element_found, result_subscripts, result_missing, result_outside, result_found, formal_by_name, value_simple, value_array, value_procedure, reference_simple, reference_array, reference_procedure, declared_variable, declared_array, declared_formal, declared_result, declared_constant, declared_class, declared_virtual, declared_unspecified, declared_attribute, declared_nowhere, left_declared, left_standard, left_nothing)

@@ -1,5 +1,5 @@
 -- The statements of a class, with what stands for `inner`.
-use Rattle.std.proofs.Common.{◌≡◌, ◌<◌, ◌≤◌, ◌+◌, ℕ, zero, suc, pos, Bool, true, false, List, [], ◌∷◌, drop, length, map, Option, Some, None, refl, sym, ap, ◌∙◌, subst, arith, take}
+use Rattle.std.proofs.Common.{◌≡◌, ◌<◌, ◌≤◌, ◌+◌, ◌-◌, ◌++◌, ℕ, zero, suc, pos, Bool, true, false, List, [], ◌∷◌, drop, length, map, Option, Some, None, refl, sym, ap, ◌∙◌, subst, arith, take, length-append}
 use Rattle.std.specs.Prelude.{⊤, slice_get}
 use Rattle.std.specs.declared.alloc.Global.{Global}
 use Rattle.std.specs.declared.boxed.Box.{Box}
@@ -25,7 +25,8 @@ use Rattle.sim_tree.specs.SyntaxOfProgram.{statement_syntax}
 use Rattle.sim_tree.proofs.ProgramSyntaxLemmas as v
 use Rattle.sim_code.specs.declared.instr.Instr.TheVariants as i
 use Rattle.sim_code.specs.Code.{CodeOf}
-use Rattle.sim_meaning.specs.Levels.{writes_inner}
+use Rattle.sim_scope.specs.Levels.{base}
+use Rattle.sim_meaning.specs.Levels.{levels_beyond, levels_from, levels_of, writes_inner}
 use Rattle.codegen_expr.specs.declared.spot.Spot.{Spot}
 use Rattle.codegen_expr.specs.Drafts.{DraftOf, Emits, given_up, with_instr}
 use Rattle.codegen_expr.specs.Sites.{At, Site}
@@ -184,13 +185,41 @@ module _ (s : Source) where
   never_built k [] f h = h
   never_built k (y ∷ ys) f h = never_built k ys (none_next (length ys) y ys f) (subst (λ z. InnerOrBuilt s k z (statement_syntax y) (stms ys) (WithInnerBuilt s k (stms ys))) (none_first (length ys) y ys f) h).1
 
-  parts_at : (final : CodeOf) (site : Site) (after : ℕ) (xs : List Stmt) (n : ℕ) (x : Stmt) (token p a c q : ℕ) → NoInnerTo xs n → slice_get xs n ≡ Some x → inner_of (statement_syntax x) ≡ Some token → StmsAt s final site 0 (stms (take n xs)) p a → InnerAt s final site 0 after token a c → StmsAt s final site 0 (stms (drop (suc n) xs)) c q → WithInnerAt s final site 0 after (stms xs) p q
-  parts_at final site after [] n x token p a c q f at is h own g = absurd (cc)
-  parts_at final site after (y ∷ ys) zero x token p a c q f at is h own g =
+  parts_at : (final : CodeOf) (site : Site) (level after : ℕ) (xs : List Stmt) (n : ℕ) (x : Stmt) (token p a c q : ℕ) → NoInnerTo xs n → slice_get xs n ≡ Some x → inner_of (statement_syntax x) ≡ Some token → StmsAt s final site 0 (stms (take n xs)) p a → InnerAt s final site level after token a c → StmsAt s final site 0 (stms (drop (suc n) xs)) c q → WithInnerAt s final site level after (stms xs) p q
+  parts_at final site level after [] n x token p a c q f at is h own g = absurd (cc)
+  parts_at final site level after (y ∷ ys) zero x token p a c q f at is h own g =
       let e : inner_of (statement_syntax y) ≡ Some token = ap (λ z. inner_of (statement_syntax z)) (some_statement y x at) ∙ is in
-      subst (λ z. InnerOrAt s final site 0 after z (statement_syntax y) (stms ys) (WithInnerAt s final site 0 after (stms ys)) p q) (sym e) (c, subst (λ z. InnerAt s final site 0 after token z c) h own, g)
-  parts_at final site after (y ∷ ys) (suc n) x token p a c q f at is h own g =
-      subst (λ z. InnerOrAt s final site 0 after z (statement_syntax y) (stms ys) (WithInnerAt s final site 0 after (stms ys)) p q) (sym (none_first n y ys f)) (h.0, h.1, parts_at final site after ys n x token h.0 a c q (none_next n y ys f) at is h.2 own g)
+      subst (λ z. InnerOrAt s final site level after z (statement_syntax y) (stms ys) (WithInnerAt s final site level after (stms ys)) p q) (sym e) (c, subst (λ z. InnerAt s final site level after token z c) h own, g)
+  parts_at final site level after (y ∷ ys) (suc n) x token p a c q f at is h own g =
+      subst (λ z. InnerOrAt s final site level after z (statement_syntax y) (stms ys) (WithInnerAt s final site level after (stms ys)) p q) (sym (none_first n y ys f)) (h.0, h.1, parts_at final site level after ys n x token h.0 a c q (none_next n y ys f) at is h.2 own g)
+
+-- ---- how many levels are in front
+
+pub place_first : (b : Bound) (k : ℕ) → length (levels_of (source_of b) k) ≡ 0 + length (levels_from b.scopes (length b.scopes.blocks - 0) k)
+unfolding levels_of source_of
+place_first b k =
+    let e : length b.scopes.blocks ≡ length b.scopes.blocks - 0 = omega arith in
+    let f : length (levels_of (source_of b) k) ≡ length (levels_from b.scopes (length b.scopes.blocks - 0) k) = ap (λ n. length (levels_from b.scopes n k)) e in
+    f ∙ added (length (levels_from b.scopes (length b.scopes.blocks - 0) k))
+  where
+    added : (n : ℕ) → n ≡ 0 + n
+    added n = omega arith
+
+one_more : (n i : ℕ) → i < n → n - i ≡ suc (n - (i + 1))
+one_more n i le = omega (arith, le)
+
+pub place_further : (b : Bound) (n i m place level front x : ℕ) → i < n → base b.scopes level ≡ Some front → x ≡ place + length (levels_from b.scopes (n - i) level) → m ≡ suc place → x ≡ m + length (levels_from b.scopes (n - (i + 1)) front)
+place_further b n i m place level front x le some f em =
+    let s = b.scopes in
+    let e : length (levels_from s (n - i) level) ≡ length (levels_from s (n - (i + 1)) front) + 1 =
+    ap (λ z. length (levels_from s z level)) (one_more n i le) ∙ ap (λ z. length (levels_beyond (levels_from s (n - (i + 1))) z ++ (level ∷ []))) some ∙ length-append (levels_from s (n - (i + 1)) front) (level ∷ []) in
+    omega (arith, e, f, em)
+
+pub place_found : (b : Bound) (n i place level x : ℕ) → i < n → base b.scopes level ≡ None → x ≡ place + length (levels_from b.scopes (n - i) level) → suc place ≡ x
+place_found b n i place level x le none f =
+    let s = b.scopes in
+    let e : length (levels_from s (n - i) level) ≡ 1 = ap (λ z. length (levels_from s z level)) (one_more n i le) ∙ ap (λ z. length (levels_beyond (levels_from s (n - (i + 1))) z ++ (level ∷ []))) none in
+    omega (arith, e, f)
 
 -- ---- what is written
 
@@ -202,29 +231,29 @@ module _ (b : Bound) (w : Spot) where
   longer : (a c : DraftOf) (P : Type 0) (A : CodeOf → Site → ℕ → ℕ → Type 0) → Emits w a c P A → length a.instrs ≤ length c.instrs
   longer a c P A f = Rattle.codegen_expr.proofs.Pieces.fronts_le a.instrs c.instrs (f.rest, f.front)
 
-  pub level_last : (old c2 c3 : DraftOf) (xs : List Stmt) (after : ℕ) (o : Bool) → o ≡ writes_inner (source_of b) w.text → o ≡ false → WritesStatements b w old c2 xs → c3 ≡ with_instr c2 (i.Inner (pos 0)) 0 → after ≡ length c3.instrs → WritesLevel b w old c3 xs after
+  pub level_last : (level : ℕ) (old c2 c3 : DraftOf) (xs : List Stmt) (after : ℕ) (o : Bool) → o ≡ writes_inner (source_of b) w.text → o ≡ false → WritesStatements b w old c2 xs → c3 ≡ with_instr c2 (i.Inner (pos level)) 0 → after ≡ length c3.instrs → WritesLevel b w level old c3 xs after
   unfolding WritesLevel WritesStatements
-  level_last old c2 c3 xs after o eo none f e en =
+  level_last level old c2 c3 xs after o eo none f e en =
       let s = source_of b in
       let last : false ≡ writes_inner s w.text = sym none ∙ eo in (
         omega (arith, en),
-        subst (λ z. Emits w old c3 (LevelBuilt s w.text z (stms xs)) (λ final site p q. LevelAt s final site 0 after z (stms xs) p q)) last
+        subst (λ z. Emits w old c3 (LevelBuilt s w.text z (stms xs)) (λ final site p q. LevelAt s final site level after z (stms xs) p q)) last
             (emits_as w (StatementsBuilt s w.text (stms xs) × ⊤) (StatementsBuilt s w.text (stms xs)) _ _ old c3 (λ h. (h, tt)) (λ h. h.0)
-            (λ final site p q _ _ at. record { x = at.0; statements = at.1; inner = record { line = 0; is = subst (λ z. At final (i.Inner (pos 0)) 0 at.0 z) at.2.1 at.2.0 }; on = at.2.1 })
-            (emits_then w _ _ _ _ old c2 c3 f (emits_to c2 c3 ⊤ _ after en (emits_at w c2 c3 (i.Inner (pos 0)) 0 e (λ z. cc) refl)))),
+            (λ final site p q _ _ at. record { x = at.0; statements = at.1; inner = record { line = 0; is = subst (λ z. At final (i.Inner (pos level)) 0 at.0 z) at.2.1 at.2.0 }; on = at.2.1 })
+            (emits_then w _ _ _ _ old c2 c3 f (emits_to c2 c3 ⊤ _ after en (emits_at w c2 c3 (i.Inner (pos level)) 0 e (λ z. cc) refl)))),
       )
 
-  pub level_written : (old new : DraftOf) (xs : List Stmt) (after : ℕ) (o : Bool) → o ≡ writes_inner (source_of b) w.text → o ≡ true → WritesAround b w old new xs after → WritesLevel b w old new xs after
+  pub level_written : (level : ℕ) (old new : DraftOf) (xs : List Stmt) (after : ℕ) (o : Bool) → o ≡ writes_inner (source_of b) w.text → o ≡ true → WritesAround b w level old new xs after → WritesLevel b w level old new xs after
   unfolding WritesLevel WritesAround
-  level_written old new xs after o eo one f =
+  level_written level old new xs after o eo one f =
       let s = source_of b in
       let written : true ≡ writes_inner s w.text = sym one ∙ eo in
-      (f.0, subst (λ z. Emits w old new (LevelBuilt s w.text z (stms xs)) (λ final site p q. LevelAt s final site 0 after z (stms xs) p q)) written f.1)
+      (f.0, subst (λ z. Emits w old new (LevelBuilt s w.text z (stms xs)) (λ final site p q. LevelAt s final site level after z (stms xs) p q)) written f.1)
 
-  pub around_inner : (old c1 c2 c3 c4 : DraftOf) (xs front behind : List Stmt) (o : Option InnerPlace) (r : InnerPlace) (own : Bool) (after : ℕ) → FirstInner xs o → o ≡ Some r → IsOwn b w.text r.token own → own ≡ true
-      → WritesStatements b w old c1 front → front ≡ take r.place xs → c2 ≡ with_instr c1 i.Tick 0 → c3 ≡ with_instr c2 (i.Inner (pos 0)) 0 → after ≡ length c3.instrs → WritesStatements b w c3 c4 behind → behind ≡ drop (r.place + 1) xs → WritesAround b w old c4 xs after
+  pub around_inner : (level : ℕ) (old c1 c2 c3 c4 : DraftOf) (xs front behind : List Stmt) (o : Option InnerPlace) (r : InnerPlace) (own : Bool) (after : ℕ) → FirstInner xs o → o ≡ Some r → IsOwn b w.text r.token own → own ≡ true
+      → WritesStatements b w old c1 front → front ≡ take r.place xs → c2 ≡ with_instr c1 i.Tick 0 → c3 ≡ with_instr c2 (i.Inner (pos level)) 0 → after ≡ length c3.instrs → WritesStatements b w c3 c4 behind → behind ≡ drop (r.place + 1) xs → WritesAround b w level old c4 xs after
   unfolding WritesAround WritesStatements FirstInner IsOwn
-  around_inner old c1 c2 c3 c4 xs front behind o r own after fo is fown its_own f1 ef e2 e3 en f4 eb =
+  around_inner level old c1 c2 c3 c4 xs front behind o r own after fo is fown its_own f1 ef e2 e3 en f4 eb =
       let s = source_of b in
       let there : InnerThere xs r.place r.token = subst (FirstInner xs) is fo in
       let its : block_around s r.token.0 ≡ Some w.text = subst (IsOwn b w.text r.token) its_own fown in
@@ -236,19 +265,19 @@ module _ (b : Bound) (w : Spot) where
         emits_as w (StatementsBuilt s w.text (stms (take r.place xs)) × (⊤ × (⊤ × StatementsBuilt s w.text (stms (drop (suc r.place) xs))))) (WithInnerBuilt s w.text (stms xs)) _ _ old c4
             (λ h. let k = parts_built s w.text xs r.place there.statement r.token.0 there.none there.at there.is h in (k.0, (tt, (tt, k.2))))
             (λ h. built_parts s w.text xs r.place there.statement r.token.0 there.none there.at there.is h.0 its h.1.1.1)
-            (λ final site p q et _ at. parts_at s final site after xs r.place there.statement r.token.0 p at.0 at.2.2.0 q there.none there.at there.is at.1
-            (record { x = at.2.0; its_own = its ∙ ap Some (sym et); tick = record { line = 0; is = at.2.1 }; inner = record { line = 0; is = subst (λ z. At final (i.Inner (pos 0)) 0 at.2.0 z) at.2.2.1.1 at.2.2.1.0 }; on = at.2.2.1.1 })
+            (λ final site p q et _ at. parts_at s final site level after xs r.place there.statement r.token.0 p at.0 at.2.2.0 q there.none there.at there.is at.1
+            (record { x = at.2.0; its_own = its ∙ ap Some (sym et); tick = record { line = 0; is = at.2.1 }; inner = record { line = 0; is = subst (λ z. At final (i.Inner (pos level)) 0 at.2.0 z) at.2.2.1.1 at.2.2.1.0 }; on = at.2.2.1.1 })
             at.2.2.2)
-            (emits_then w _ _ _ _ old c1 c4 g1 (emits_then w _ _ _ _ c1 c2 c4 (emits_at w c1 c2 i.Tick 0 e2 (λ z. cc) refl) (emits_then w _ _ _ _ c2 c3 c4 (emits_to c2 c3 ⊤ _ after en (emits_at w c2 c3 (i.Inner (pos 0)) 0 e3 (λ z. cc) refl)) g4))),
+            (emits_then w _ _ _ _ old c1 c4 g1 (emits_then w _ _ _ _ c1 c2 c4 (emits_at w c1 c2 i.Tick 0 e2 (λ z. cc) refl) (emits_then w _ _ _ _ c2 c3 c4 (emits_to c2 c3 ⊤ _ after en (emits_at w c2 c3 (i.Inner (pos level)) 0 e3 (λ z. cc) refl)) g4))),
       )
 
-  pub around_none : (old new : DraftOf) (xs : List Stmt) (o : Option InnerPlace) (after : ℕ) → FirstInner xs o → o ≡ None → new ≡ given_up old → after ≡ length new.instrs → WritesAround b w old new xs after
+  pub around_none : (level : ℕ) (old new : DraftOf) (xs : List Stmt) (o : Option InnerPlace) (after : ℕ) → FirstInner xs o → o ≡ None → new ≡ given_up old → after ≡ length new.instrs → WritesAround b w level old new xs after
   unfolding WritesAround FirstInner
-  around_none old new xs o after fo is e en = (omega (arith, en), emits_nothing w old new _ _ (never_built (source_of b) w.text xs (subst (FirstInner xs) is fo)) e)
+  around_none level old new xs o after fo is e en = (omega (arith, en), emits_nothing w old new _ _ (never_built (source_of b) w.text xs (subst (FirstInner xs) is fo)) e)
 
-  pub around_other : (old new : DraftOf) (xs : List Stmt) (o : Option InnerPlace) (r : InnerPlace) (own : Bool) (after : ℕ) → FirstInner xs o → o ≡ Some r → IsOwn b w.text r.token own → own ≡ false → new ≡ given_up old → after ≡ length new.instrs → WritesAround b w old new xs after
+  pub around_other : (level : ℕ) (old new : DraftOf) (xs : List Stmt) (o : Option InnerPlace) (r : InnerPlace) (own : Bool) (after : ℕ) → FirstInner xs o → o ≡ Some r → IsOwn b w.text r.token own → own ≡ false → new ≡ given_up old → after ≡ length new.instrs → WritesAround b w level old new xs after
   unfolding WritesAround FirstInner IsOwn
-  around_other old new xs o r own after fo is fown none e en =
+  around_other level old new xs o r own after fo is fown none e en =
       let s = source_of b in
       let there : InnerThere xs r.place r.token = subst (FirstInner xs) is fo in
       let never : block_around s r.token.0 ≡ Some w.text → ⊥ = subst (IsOwn b w.text r.token) none fown in

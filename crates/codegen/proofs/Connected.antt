@@ -1,5 +1,5 @@
 -- Connections.
-use Rattle.std.proofs.Common.{◌≡◌, ◌≢◌, ◌<◌, ◌≤◌, ℕ, suc, ℤ, pos, Bool, true, false, [], ◌∷◌, length, Option, Some, None, refl, sym, ap, ◌∙◌, subst, arith}
+use Rattle.std.proofs.Common.{◌≡◌, ◌≢◌, ◌<◌, ◌≤◌, ◌+◌, ℕ, suc, ℤ, pos, Bool, true, false, [], ◌∷◌, length, Option, Some, None, refl, sym, ap, ◌∙◌, subst, arith}
 use Rattle.std.specs.Prelude.{⊤, slice_get, slice_set}
 use Rattle.std.specs.declared.alloc.Global.{Global}
 use Rattle.std.specs.declared.boxed.Box.{Box}
@@ -24,16 +24,17 @@ use Rattle.sim_meaning.specs.Texts.{ConnectionText, Text, text}
 use Rattle.codegen_expr.specs.declared.spot.Spot.{Spot}
 use Rattle.codegen_expr.specs.Built.{ClassBuilt, IsBuilt, is_there, slot_in}
 use Rattle.codegen_expr.specs.CodeExpr.{ExprAt}
-use Rattle.codegen_expr.specs.Drafts.{Becomes, DraftOf, Emits, class_of, filled_in, given_up, with_hole, with_instr, with_push}
+use Rattle.codegen_expr.specs.Drafts.{Becomes, DraftOf, Emits, class_of, filled_in, given_up, planned_start, with_hole, with_instr, with_push}
 use Rattle.codegen_expr.specs.Emit.{Puts, Writes}
-use Rattle.codegen_expr.specs.Sites.{Ahead, At, Is, Pushes, Site, block_number, class_number, frame_text, lined}
-use Rattle.codegen_expr.proofs.Pieces.{emits_as, emits_at, emits_if, emits_nothing, emits_push, emits_then, emits_when, fronts_le, later_emits, becomes_later, set_other}
+use Rattle.codegen_expr.specs.Sites.{Ahead, At, Is, Pushes, Site, block_number, class_number, frame_text, lined, slot_of}
+use Rattle.codegen_expr.proofs.Pieces.{emits_as, emits_at, emits_classed, emits_if, emits_nothing, emits_push, emits_then, emits_when, fronts_le, later_emits, becomes_later, set_other}
 use Rattle.codegen.specs.BuiltProgram.{ConnectsBuilt, StatementBuilt, StatementsBuilt}
 use Rattle.codegen.specs.CodeStm.{ArmOfAt, ConnectsAt, StmAt, StmsAt}
 use Rattle.codegen.specs.Emit.{WritesStatement}
 use Rattle.codegen.specs.EmitConnections.{ArmBuilt, ArmFrom, OpenEmits, WritesArm, WritesConnected, WritesConnection, WritesOtherwise}
 use Rattle.codegen.proofs.Inspected.{WritesInspect}
-use Rattle.codegen.proofs.Cells.{cell_there, is_slot}
+use Rattle.codegen_expr.proofs.Slots.{slot_found}
+use Rattle.codegen.proofs.Cells.{cell_there}
 use Rattle.codegen.proofs.Holes.{as_long, emits_hole, hole_there, longer, longer_hole}
 use Rattle.codegen.proofs.Lying.{numbered}
 
@@ -72,17 +73,21 @@ module _ (b : Bound) (w : Spot) where
   connection_no_cell a c opening k x o eo none ec =
       emits_nothing w a c _ _ (λ h. let e = h.has in let f : is_there (slot_in (source_of b) (frame_text (source_of b) k) (Connection opening.0)) ≡ false = ap is_there (sym (slot_as k opening.0 o h.begins eo) ∙ none) in cc) ec
 
-  pub connection_kept : (a c d : DraftOf) (opening : TokenNo) (k first slot level : ℕ) (x : Stmt) (t : Bool) (o : Option ℕ) (u : Spot) (y : Instr) → t ≡ is_connection (text (source_of b) k) → t ≡ true → first ≡ first_in (slice_get (source_of b).tables.blocks k) → first ≡ opening.0 → encloser b.scopes k ≡ Some w.text
-      → o ≡ slot_in (source_of b) (frame_text (source_of b) k) (cell_of_connection (source_of b) k) → o ≡ Some slot → level ≡ level_of (source_of b) k → y ≡ i.Store (pos level) (pos slot) → c ≡ with_instr a y 0 → u.text ≡ k → u.used ≡ w.used → WritesStatement b u c d x → WritesConnection b w a d opening (Some k) x
+  pub connection_kept : (a c d : DraftOf) (opening : TokenNo) (k first place frame slot level : ℕ) (x : Stmt) (t : Bool) (o : Option ℕ) (u : Spot) (y : Instr) → t ≡ is_connection (text (source_of b) k) → t ≡ true → first ≡ first_in (slice_get (source_of b).tables.blocks k) → first ≡ opening.0 → encloser b.scopes k ≡ Some w.text
+      → o ≡ slot_in (source_of b) (frame_text (source_of b) k) (cell_of_connection (source_of b) k) → o ≡ Some place → frame ≡ frame_text (source_of b) k → slot ≡ planned_start (source_of b) a.classes frame + place → level ≡ level_of (source_of b) k → y ≡ i.Store (pos level) (pos slot) → c ≡ with_instr a y 0 → u.text ≡ k → u.used ≡ w.used → WritesStatement b u c d x → WritesConnection b w a d opening (Some k) x
   unfolding WritesConnection WritesStatement source_of
-  connection_kept a c d opening k first slot level x t o u y et is ef ea around eo some el ey ec et' eu f =
+  connection_kept a c d opening k first place frame slot level x t o u y et is ef ea around eo some eh es el ey ec et' eu f =
       let s = source_of b in
       let home = frame_text s k in
       let begins : cell_of_connection s k ≡ Connection opening.0 = ap Connection (sym ef ∙ ea) in
-      let here : slot_in s home (Connection opening.0) ≡ Some slot = sym (slot_as k opening.0 o begins eo) ∙ some in
+      let here : slot_in s home (Connection opening.0) ≡ Some place = sym (slot_as k opening.0 o begins eo) ∙ some in
       let has : is_there (slot_in s home (Connection opening.0)) ≡ true = ap is_there here in
       let is_text = connection_is (text s k) (sym et ∙ is) in
-      let store = emits_at w a c (i.Store (pos level) (pos slot)) 0 (ec ∙ ap (λ z. with_instr a z 0) ey) (λ z. cc) refl in
+      let number : slot ≡ planned_start s a.classes home + place = es ∙ ap (λ z. planned_start s a.classes z + place) eh in
+      let store =
+      emits_classed w ⊤ (λ final site p q. At final (i.Store (pos level) (pos slot)) 0 p q) (λ final site p q. At final (i.Store (pos (level_of s k)) (pos (slot_of s final home (Connection opening.0)))) 0 p q) a c
+      (λ final site p q known r. subst (λ z. At final z 0 p q) (ap (λ z. i.Store (pos z) (pos slot)) el ∙ ap (λ z. i.Store (pos (level_of s k)) (pos z)) (slot_found s final a.classes home (Connection opening.0) place slot known here number)) r)
+      (emits_at w a c (i.Store (pos level) (pos slot)) 0 (ec ∙ ap (λ z. with_instr a z 0) ey) (λ z. cc) refl) in
       let inner : Emits u c d (StatementBuilt s k (statement_syntax x)) (λ final site p q. StmAt s final site 0 (statement_syntax x) p q) = subst (λ z. Emits u c d (StatementBuilt s z (statement_syntax x)) (λ final site p q. StmAt s final site 0 (statement_syntax x) p q)) et' f in
       let moved : Emits w c d (StatementBuilt s k (statement_syntax x)) (λ final site p q. StmAt s final (record site { text = k }) 0 (statement_syntax x) p q) =
       record {
@@ -103,11 +108,11 @@ module _ (b : Bound) (w : Spot) where
         is = is_text;
         begins = begins;
         around = around ∙ ap Some (sym stands);
-        kept = record { line = 0; is = subst (λ z. At final z 0 p r.0) (ap (λ z. i.Store (pos z) (pos slot)) el ∙ ap (λ z. i.Store (pos (level_of s k)) (pos z)) (is_slot s home (Connection opening.0) slot here final)) r.1 };
+        kept = record { line = 0; is = r.1 };
         has = cell_there s home (Connection opening.0) has;
         body = r.2;
       })
-      (emits_then w ⊤ _ (λ final site p q. At final (i.Store (pos level) (pos slot)) 0 p q) _ a c d store moved)
+      (emits_then w ⊤ _ (λ final site p q. At final (i.Store (pos (level_of s k)) (pos (slot_of s final home (Connection opening.0)))) 0 p q) _ a c d store moved)
 
   pub connects_none : (a c : DraftOf) (opening : TokenNo) (x : Stmt) (o : Option ℕ) → o ≡ block_at b.scopes opening.0 → o ≡ None → c ≡ given_up a → WritesConnected b w a c opening x
   unfolding WritesConnected WritesConnection block_around block_at source_of

@@ -1,5 +1,5 @@
 -- The controlled variable.
-use Rattle.std.proofs.Common.{◌≡◌, ℕ, suc, pos, [], Option, Some, None, refl, sym, ap, ◌∙◌, subst, Bor}
+use Rattle.std.proofs.Common.{◌≡◌, ℕ, suc, [], Option, Some, None, refl, sym, ap, ◌∙◌, subst, Bor}
 use Rattle.std.specs.Prelude.{⊤, option_map}
 use Rattle.sim_base.specs.declared.numbering.Line.{Line}
 use Rattle.sim_scope.specs.declared.bound.Bound.{Bound}
@@ -8,24 +8,23 @@ use Rattle.sim_tree.specs.declared.expr.Expr.{Expr}
 use Rattle.sim_tree.specs.declared.expr.Identifier.{Identifier}
 use Rattle.sim_tree.specs.Syntax.{Expression, Named, NoMore}
 use Rattle.sim_tree.specs.SyntaxOf.{syntax_of}
-use Rattle.sim_code.specs.declared.instr.Instr.{Instr}
 use Rattle.sim_code.specs.declared.instr.Instr.TheVariants as i
 use Rattle.sim_code.specs.Code.{CodeOf}
 use Rattle.codegen_expr.specs.declared.spot.Spot.{Spot}
 use Rattle.codegen_expr.specs.Built.{IsBuilt, PlaceBuilt, ReferenceBuilt}
 use Rattle.codegen_expr.specs.CodeExpr.{ExprAt, PlaceAt, ReferencePlaceAt}
-use Rattle.codegen_expr.specs.Drafts.{DraftOf, Emits, with_instr, with_push}
+use Rattle.codegen_expr.specs.Drafts.{DraftOf, Emits, with_instr}
 use Rattle.codegen_expr.specs.Emit.{Puts, PutsPlace, Writes, WritesNamedPlace}
-use Rattle.codegen_expr.specs.Sites.{At, Is, Pushes, Site}
-use Rattle.codegen_expr.proofs.Pieces.{emits_as, emits_at, emits_push, emits_then}
+use Rattle.codegen_expr.specs.Sites.{At, Is, Site}
+use Rattle.codegen_expr.proofs.Pieces.{emits_as, emits_at, emits_then}
 use Rattle.codegen.specs.declared.targets.Target.{Target}
 use Rattle.codegen.specs.declared.targets.Target.TheVariants as target
 use Rattle.codegen.specs.BuiltProgram.{VariableBuilt}
 use Rattle.codegen.specs.CodeFor.{GivesBy, GivesVariable, LoadsVariable, OfCell, OfPlace, OfReference, PutsAt, StoresVariable, Variable}
 use Rattle.codegen.specs.Emit.{WritesGiven}
-use Rattle.codegen.specs.EmitLeft.{WritesNamedReference}
+use Rattle.codegen.specs.EmitLeft.{LoadsCell, StoresCell, WritesNamedReference}
 use Rattle.codegen.specs.EmitTargets.{Controls, WritesLoaded, WritesStored, assigned_in, line_in}
-use Rattle.codegen.proofs.Sides.{load_of, store_of}
+use Rattle.codegen.proofs.Cells.{emits_load, emits_store}
 
 module _ (b : Bound) (w : Spot) where
   -- a variable that is found anew, the value, and what puts it there
@@ -45,14 +44,13 @@ module _ (b : Bound) (w : Spot) where
   abbrev Stores : (n : ℕ) → (a c : DraftOf) → Target → Variable → Type 0
   Stores n a c t v = Emits w a c (VariableBuilt (source_of b) w.text v) (λ final site p q. StoresVariable (source_of b) final site n v p q)
 
-  pub stored_cell : (n : ℕ) (a c : DraftOf) (t : Target) (level slot : ℕ) (o : Option Line) (x : Instr) → t ≡ target.Cell level slot o → x ≡ i.Store (pos level) (pos slot) → c ≡ with_instr a x 0 → WritesStored b w n a c t
+  pub stored_cell : (n : ℕ) (a c : DraftOf) (t : Target) (text place : ℕ) (o : Option Line) → t ≡ target.Cell text place o → StoresCell b a c text place → WritesStored b w n a c t
   unfolding WritesStored
-  stored_cell n a c t level slot o x et ex ec v k = cases v (subst (λ z. Controls (source_of b) w.text z v) et k)
+  stored_cell n a c t text place o et ec v k = cases v (subst (λ z. Controls (source_of b) w.text z v) et k)
     where
-      cases : (v : Variable) → Controls (source_of b) w.text (target.Cell level slot o) v → Stores n a c t v
+      cases : (v : Variable) → Controls (source_of b) w.text (target.Cell text place o) v → Stores n a c t v
       cases (OfCell home key line) k =
-          emits_as w ⊤ _ _ _ a c (λ h. tt) (λ h. k.3) (λ final site p q _ _ r. record { line = 0; is = subst (λ z. At final z 0 p q) (store_of b w (source_of b) final home level slot key k.0 k.1) r })
-          (emits_at w a c (i.Store (pos level) (pos slot)) 0 (ec ∙ ap (λ z. with_instr a z 0) ex) (λ z. cc) refl)
+          emits_as w ⊤ _ _ _ a c (λ h. tt) (λ h. k.3) (λ final site p q _ _ r. record { line = 0; is = r }) (emits_store b w a c home place key k.1 (subst (λ z. StoresCell b a c z place) k.0 ec))
       cases (OfPlace e line) k = absurd k
       cases (OfReference e line) k = absurd k
 
@@ -91,14 +89,13 @@ module _ (b : Bound) (w : Spot) where
   abbrev Loads : (n : ℕ) → (a c : DraftOf) → Variable → Type 0
   Loads n a c v = Emits w a c (VariableBuilt (source_of b) w.text v) (λ final site p q. LoadsVariable (source_of b) final site n v p q)
 
-  pub loaded_cell : (n : ℕ) (a c : DraftOf) (t : Target) (level slot : ℕ) (o : Option Line) (x : Instr) → t ≡ target.Cell level slot o → x ≡ i.Load (pos level) (pos slot) → c ≡ with_push a n x 0 → WritesLoaded b w n a c t
+  pub loaded_cell : (n : ℕ) (a c : DraftOf) (t : Target) (text place : ℕ) (o : Option Line) → t ≡ target.Cell text place o → LoadsCell b n a c text place → WritesLoaded b w n a c t
   unfolding WritesLoaded
-  loaded_cell n a c t level slot o x et ex ec v k = cases v (subst (λ z. Controls (source_of b) w.text z v) et k)
+  loaded_cell n a c t text place o et ec v k = cases v (subst (λ z. Controls (source_of b) w.text z v) et k)
     where
-      cases : (v : Variable) → Controls (source_of b) w.text (target.Cell level slot o) v → Loads n a c v
+      cases : (v : Variable) → Controls (source_of b) w.text (target.Cell text place o) v → Loads n a c v
       cases (OfCell home key line) k =
-          emits_as w ⊤ _ _ _ a c (λ h. tt) (λ h. k.3) (λ final site p q _ _ r. subst (λ z. Pushes final site n z p q) (load_of b w (source_of b) final home level slot key k.0 k.1) r)
-          (emits_push w a c n (i.Load (pos level) (pos slot)) 0 (ec ∙ ap (λ z. with_push a n z 0) ex) (λ z. cc) refl)
+          emits_as w ⊤ _ _ _ a c (λ h. tt) (λ h. k.3) (λ final site p q _ _ r. r) (emits_load b w n a c home place key k.1 (subst (λ z. LoadsCell b n a c z place) k.0 ec))
       cases (OfPlace e line) k = absurd k
       cases (OfReference e line) k = absurd k
 
@@ -130,11 +127,11 @@ module _ (b : Bound) (w : Spot) where
 
   -- by which line it gets the value
   by_line : (t : Target) (v : Variable) (o : Option Line) → Controls (source_of b) w.text t v → assigned_in t ≡ o → (final : CodeOf) (site : Site) (e : Expression) (p q : ℕ) → GivesBy (source_of b) final site 0 v (option_map line_in o) e p q → GivesVariable (source_of b) final site 0 v e p q
-  by_line (target.Cell level slot a) (OfCell home key line) o k ea final site e p q g = subst (λ z. GivesBy (source_of b) final site 0 (OfCell home key line) z e p q) (sym (ap (option_map line_in) ea) ∙ k.2) g
+  by_line (target.Cell text place a) (OfCell home key line) o k ea final site e p q g = subst (λ z. GivesBy (source_of b) final site 0 (OfCell home key line) z e p q) (sym (ap (option_map line_in) ea) ∙ k.2) g
   by_line (target.Place name a) (OfPlace x line) o k ea final site e p q g = subst (λ z. GivesBy (source_of b) final site 0 (OfPlace x line) z e p q) (sym (ap (option_map line_in) ea) ∙ k.1) g
   by_line (target.Reference name at) (OfReference x l) o k ea final site e p q g = subst (λ z. GivesBy (source_of b) final site 0 (OfReference x l) (option_map line_in z) e p q) (sym ea) g
-  by_line (target.Cell level slot a) (OfPlace x line) o k ea final site e p q g = absurd k
-  by_line (target.Cell level slot a) (OfReference x line) o k ea final site e p q g = absurd k
+  by_line (target.Cell text place a) (OfPlace x line) o k ea final site e p q g = absurd k
+  by_line (target.Cell text place a) (OfReference x line) o k ea final site e p q g = absurd k
   by_line (target.Place name a) (OfCell home key line) o k ea final site e p q g = absurd k
   by_line (target.Place name a) (OfReference x line) o k ea final site e p q g = absurd k
   by_line (target.Reference name at) (OfCell home key line) o k ea final site e p q g = absurd k

@@ -25,7 +25,6 @@ use Rattle.sim_tree.proofs.ProgramSyntaxLemmas as v
 use Rattle.sim_code.specs.declared.instr.Instr.{Instr}
 use Rattle.sim_code.specs.declared.instr.Instr.TheVariants as i
 use Rattle.sim_code.specs.Code.{CodeOf}
-use Rattle.sim_code.specs.Running.{runs}
 use Rattle.sim_meaning.specs.Pending.{Declared}
 use Rattle.sim_meaning.specs.Texts.{declared_at, kind_named}
 use Rattle.codegen_expr.specs.declared.spot.Spot.{Spot}
@@ -34,12 +33,12 @@ use Rattle.codegen_expr.specs.CodeExpr.{ExprAt}
 use Rattle.codegen_expr.specs.Drafts.{DraftOf, Emits, given_up, with_instr, with_push}
 use Rattle.codegen_expr.specs.Emit.{Puts, Writes}
 use Rattle.codegen_expr.specs.Sites.{At, HasCell, Is, Pushes, Site, Varies, is_constant, slot_of}
-use Rattle.codegen_expr.proofs.Pieces.{emits_as, emits_at, emits_none, emits_nothing, emits_push, emits_push_at, emits_then}
+use Rattle.codegen_expr.proofs.Pieces.{emits_as, emits_at, emits_none, emits_nothing, emits_push_at, emits_then}
 use Rattle.codegen.specs.BuiltProgram.{ArraysBuilt, BoundsBuilt, KeptBuilt, MadeBuilt, NamesBuilt, SegmentsBuilt}
 use Rattle.codegen.specs.CodeArrays.{ArraysAt, BoundsAt, FurtherAt, KeepsArray, LoadsArray, MakesAt, SegmentsAt, element_number}
 use Rattle.codegen.specs.EmitArrays.{FindsKept, FurtherBuilt, KeptIs, OwesArrays, OwesBounds, OwesFurther, OwesSegments, PutsArrays, WritesArrays, WritesBounds, WritesFurther, WritesKeep, WritesLoad, WritesMade, WritesSegment, WritesSegments}
-use Rattle.codegen_expr.proofs.Slots.{slot_found}
-use Rattle.codegen.proofs.Cells.{cell_there}
+use Rattle.codegen.specs.EmitLeft.{LoadsCell, StoresCell}
+use Rattle.codegen.proofs.Cells.{cell_there, emits_load, emits_store}
 
 module _ (b : Bound) (w : Spot) where
   -- ---- one array
@@ -71,33 +70,31 @@ module _ (b : Bound) (w : Spot) where
   kept_as : (a c : DraftOf) (t : TokenNo) (x : DeclNo) (At' : Option DeclNo → CodeOf → Site → ℕ → ℕ → Type 0) → declared_at (source_of b) t.0 ≡ Some x → Emits w a c (KeptBuilt (source_of b) w.text (Some x)) (At' (Some x)) → Emits w a c (KeptBuilt (source_of b) w.text (declared_at (source_of b) t.0)) (At' (declared_at (source_of b) t.0))
   kept_as a c t x At' e f = subst (λ z. Emits w a c (KeptBuilt (source_of b) w.text z) (At' z)) (sym e) f
 
-  pub write_keep : (a c : DraftOf) (t : TokenNo) (r : Option ℕ) (slot level : ℕ) (x : Instr) → FindsKept b w t r → r ≡ Some slot → level ≡ level_of (source_of b) w.text → x ≡ i.Store (pos level) (pos slot) → c ≡ with_instr a x 0 → WritesKeep b w a c t
+  pub write_keep : (a c : DraftOf) (t : TokenNo) (r : Option ℕ) (place : ℕ) → FindsKept b w t r → r ≡ Some place → StoresCell b a c w.text place → WritesKeep b w a c t
   unfolding FindsKept WritesKeep
-  write_keep a c t r slot level x f er el ex ec =
+  write_keep a c t r place f er ec =
       let s = source_of b in
-      let k : KeptIs s w.text t.0 (Some slot) = subst (KeptIs s w.text t.0) er f in
+      let k : KeptIs s w.text t.0 (Some place) = subst (KeptIs s w.text t.0) er f in
       let key = Declared k.0.0 in
       let there : is_there (slot_in s w.text key) ≡ true = ap is_there k.4 in
-      let at : (final : CodeOf) → x ≡ i.Store (pos (level_of s w.text)) (pos (slot_of s final w.text key)) = λ final. ex ∙ ap (λ z. i.Store (pos z) (pos slot)) el ∙ ap (λ z. i.Store (pos (level_of s w.text)) (pos z)) (slot_found s final w.text key slot k.4) in
       kept_as a c t k.0 (λ o final site p q. KeepsArray s final site o p q) k.1
-      (emits_as w ⊤ _ _ _ a c (λ h. tt) (λ h. (k.2, k.3, there)) (λ final site p q stands _ r. subst (λ z. HasCell s z key × Varies s k.0 × Is final (i.Store (pos (level_of s z)) (pos (slot_of s final z key))) p q) (sym stands) (cell_there s w.text key there, k.3, record { line = 0; is = subst (λ z. At final z 0 p q) (at final) r }))
-      (emits_at w a c x 0 ec (λ z. let h : i.Store (pos level) (pos slot) ≡ i.Halt = sym ex ∙ z in cc) (ap runs ex)))
+      (emits_as w ⊤ _ _ _ a c (λ h. tt) (λ h. (k.2, k.3, there)) (λ final site p q stands _ r. subst (λ z. HasCell s z key × Varies s k.0 × Is final (i.Store (pos (level_of s z)) (pos (slot_of s final z key))) p q) (sym stands) (cell_there s w.text key there, k.3, record { line = 0; is = r }))
+      (emits_store b w a c w.text place key k.4 ec))
 
   pub write_no_keep : (a c : DraftOf) (t : TokenNo) (r : Option ℕ) → FindsKept b w t r → r ≡ None → c ≡ given_up a → WritesKeep b w a c t
   unfolding FindsKept WritesKeep
   write_no_keep a c t r f er ec = emits_nothing w a c _ _ (subst (KeptIs (source_of b) w.text t.0) er f) ec
 
-  pub write_load : (a c : DraftOf) (t : TokenNo) (r : Option ℕ) (slot level : ℕ) (x : Instr) → FindsKept b w t r → r ≡ Some slot → level ≡ level_of (source_of b) w.text → x ≡ i.Load (pos level) (pos slot) → c ≡ with_push a 0 x 0 → WritesLoad b w a c t
+  pub write_load : (a c : DraftOf) (t : TokenNo) (r : Option ℕ) (place : ℕ) → FindsKept b w t r → r ≡ Some place → LoadsCell b 0 a c w.text place → WritesLoad b w a c t
   unfolding FindsKept WritesLoad
-  write_load a c t r slot level x f er el ex ec =
+  write_load a c t r place f er ec =
       let s = source_of b in
-      let k : KeptIs s w.text t.0 (Some slot) = subst (KeptIs s w.text t.0) er f in
+      let k : KeptIs s w.text t.0 (Some place) = subst (KeptIs s w.text t.0) er f in
       let key = Declared k.0.0 in
       let there : is_there (slot_in s w.text key) ≡ true = ap is_there k.4 in
-      let at : (final : CodeOf) → x ≡ i.Load (pos (level_of s w.text)) (pos (slot_of s final w.text key)) = λ final. ex ∙ ap (λ z. i.Load (pos z) (pos slot)) el ∙ ap (λ z. i.Load (pos (level_of s w.text)) (pos z)) (slot_found s final w.text key slot k.4) in
       kept_as a c t k.0 (λ o final site p q. LoadsArray s final site o p q) k.1
-      (emits_as w ⊤ _ _ _ a c (λ h. tt) (λ h. (k.2, k.3, there)) (λ final site p q stands _ r. subst (λ z. HasCell s z key × Pushes final site 0 (i.Load (pos (level_of s z)) (pos (slot_of s final z key))) p q) (sym stands) (cell_there s w.text key there, subst (λ z. Pushes final site 0 z p q) (at final) r))
-      (emits_push w a c 0 x 0 ec (λ z. let h : i.Load (pos level) (pos slot) ≡ i.Halt = sym ex ∙ z in cc) (ap runs ex)))
+      (emits_as w ⊤ _ _ _ a c (λ h. tt) (λ h. (k.2, k.3, there)) (λ final site p q stands _ r. subst (λ z. HasCell s z key × Pushes final site 0 (i.Load (pos (level_of s z)) (pos (slot_of s final z key))) p q) (sym stands) (cell_there s w.text key there, r))
+      (emits_load b w 0 a c w.text place key k.4 ec))
 
   pub write_no_load : (a c : DraftOf) (t : TokenNo) (r : Option ℕ) → FindsKept b w t r → r ≡ None → c ≡ given_up a → WritesLoad b w a c t
   unfolding FindsKept WritesLoad

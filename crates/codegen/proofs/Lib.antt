@@ -23,3 +23,5 @@ pub mod Controls
 pub mod Lying
 pub mod Connected
 pub mod Filled
+pub mod Planned
+pub mod PlanSteps

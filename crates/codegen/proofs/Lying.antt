@@ -1,5 +1,5 @@
 -- Where references lie that are left sides.
-use Rattle.std.proofs.Common.{◌≡◌, ℕ, true, false, pos, [], Option, Some, None, refl, sym, ap, ◌∙◌, subst, length}
+use Rattle.std.proofs.Common.{◌≡◌, ◌+◌, ℕ, true, false, pos, [], Option, Some, None, refl, sym, ap, ◌∙◌, subst, length}
 use Rattle.std.specs.Prelude.{⊤}
 use Rattle.sim_scope.specs.declared.bound.Bound.{Bound}
 use Rattle.sim_scope.specs.declared.types.SimType.{SimType}
@@ -17,10 +17,11 @@ use Rattle.sim_meaning.specs.Pending.{Result}
 use Rattle.codegen_expr.specs.declared.spot.Spot.{Spot}
 use Rattle.codegen_expr.specs.Built.{ClassBuilt, PlaceBuilt, PlaceOrResultBuilt, ReferenceBuilt, is_around, is_there, slot_in}
 use Rattle.codegen_expr.specs.CodeExpr.{PlaceAt, PlaceOrResultAt, QualifiedPlaceAt, ReferencePlaceAt}
-use Rattle.codegen_expr.specs.Drafts.{Becomes, DraftOf, Emits, class_of, given_up, with_push}
+use Rattle.codegen_expr.specs.Drafts.{Becomes, DraftOf, Emits, class_of, given_up, planned_start, with_push}
 use Rattle.codegen_expr.specs.Emit.{PutsPlace, WritesNamedPlace, WritesPlace}
-use Rattle.codegen_expr.specs.Sites.{Pushes, Site, block_number, class_number}
-use Rattle.codegen_expr.proofs.Pieces.{emits_as, emits_nothing, emits_push}
+use Rattle.codegen_expr.specs.Sites.{Pushes, Site, block_number, class_number, slot_of}
+use Rattle.codegen_expr.proofs.Pieces.{emits_as, emits_classed, emits_nothing, emits_push}
+use Rattle.codegen_expr.proofs.Slots.{slot_found}
 use Rattle.codegen.specs.EmitLeft.{FindsOwnNamed, WritesNamedReference, WritesReferencePlace, WritesResultPlace}
 use Rattle.codegen.proofs.Cells.{cell_there, own_cell}
 use Rattle.codegen.proofs.Sides.{here}
@@ -34,25 +35,27 @@ module _ (b : Bound) (w : Spot) where
   unfolding WritesResultPlace source_of
   result_outside n class k a c out ec = emits_nothing w a c _ _ (λ h. let t = h.inside.found in cc) ec
 
-  pub result_lies : (n class k level slot : ℕ) (a c : DraftOf) (o : Option ℕ) (x : Instr) → o ≡ slot_in (source_of b) k Result → o ≡ Some slot → is_around b.scopes (length b.scopes.blocks) w.text k ≡ true → level ≡ level_of (source_of b) k → x ≡ i.Addr (pos level) (pos slot) (pos class) → c ≡ with_push a n x 0 → WritesResultPlace b w n a c class k
+  pub result_lies : (n class k level place slot : ℕ) (a c : DraftOf) (o : Option ℕ) (x : Instr) → o ≡ slot_in (source_of b) k Result → o ≡ Some place → is_around b.scopes (length b.scopes.blocks) w.text k ≡ true → slot ≡ planned_start (source_of b) a.classes k + place → level ≡ level_of (source_of b) k → x ≡ i.Addr (pos level) (pos slot) (pos class) → c ≡ with_push a n x 0 → WritesResultPlace b w n a c class k
   unfolding WritesResultPlace
-  result_lies n class k level slot a c o x eo some around el ex ec =
+  result_lies n class k level place slot a c o x eo some around es el ex ec =
       let s = source_of b in
-      let r = own_cell b w k level slot o eo some around el in
+      let r = own_cell b w k place o eo some around in
       emits_as w ⊤ _ _ _ a c (λ h. tt) (λ h. r.0)
       (λ final site p q stands _ g. record {
-        address = subst (λ z. Pushes final site n z p q) (ap (λ z. i.Addr (pos z) (pos slot) (pos class)) r.1 ∙ ap (λ z. i.Addr (pos (level_of s k)) (pos z) (pos class)) (r.2 final)) g;
+        address = g;
         inside = here b w s k site.text stands r.0.inside;
         within = cell_there s k Result r.0.has;
       })
-      (emits_push w a c n (i.Addr (pos level) (pos slot) (pos class)) 0 (ec ∙ ap (λ z. with_push a n z 0) ex) (λ z. cc) refl)
+      (emits_classed w ⊤ (λ final site p q. Pushes final site n (i.Addr (pos level) (pos slot) (pos class)) p q) (λ final site p q. Pushes final site n (i.Addr (pos (level_of s k)) (pos (slot_of s final k Result)) (pos class)) p q) a c
+      (λ final site p q known g. subst (λ z. Pushes final site n z p q) (ap (λ z. i.Addr (pos z) (pos slot) (pos class)) el ∙ ap (λ z. i.Addr (pos (level_of s k)) (pos z) (pos class)) (slot_found s final a.classes k Result place slot known r.1 es)) g)
+      (emits_push w a c n (i.Addr (pos level) (pos slot) (pos class)) 0 (ec ∙ ap (λ z. with_push a n z 0) ex) (λ z. cc) refl))
 
   -- ---- with its class
 
   -- the number of a class in the final code
   pub numbered : (final : CodeOf) (site : Site) (c : DraftOf) (k m number : ℕ) → Becomes w c final site → m ≡ block_number (source_of b) k → number ≡ class_of c.classes m → number ≡ class_number (source_of b) final k
   unfolding class_number
-  numbered final site c k m number g em en = en ∙ ap (class_of c.classes) em ∙ sym (g.classed (block_number (source_of b) k))
+  numbered final site c k m number g em en = en ∙ ap (class_of c.classes) em ∙ sym (ap (λ z. z.class) (g.classed (block_number (source_of b) k)))
 
   with_class : (n : ℕ) (a c : DraftOf) (e : Expression) (k m number : ℕ) (own : Option ℕ) → m ≡ block_number (source_of b) k → number ≡ class_of a.classes m
       → Emits w a c (PlaceOrResultBuilt (source_of b) w.text own (PlaceBuilt (source_of b) w.text e)) (λ final site p q. PlaceOrResultAt (source_of b) final site n number own (PlaceAt (source_of b) final site n number e) p q)

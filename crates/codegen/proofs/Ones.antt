@@ -7,39 +7,37 @@ use Rattle.sim_scope.specs.declared.bound.Bound.{Bound}
 use Rattle.sim_scope.specs.Source.{line_at, source_of}
 use Rattle.sim_tree.specs.declared.expr.Expr.{Expr}
 use Rattle.sim_tree.specs.SyntaxOf.{syntax_of}
-use Rattle.sim_code.specs.declared.instr.Instr.{Instr}
 use Rattle.sim_code.specs.declared.instr.Instr.TheVariants as i
 use Rattle.sim_meaning.specs.Pending.{Result}
 use Rattle.codegen_expr.specs.declared.spot.Spot.{Spot}
 use Rattle.codegen_expr.specs.Built.{IsBuilt, KeyBuilt}
 use Rattle.codegen_expr.specs.CodeExpr.{ElementAt, ExprAt, ExprsAt, PlaceAt, ReferencePlaceAt}
-use Rattle.codegen_expr.specs.Drafts.{DraftOf, Emits, given_up, with_instr, with_push}
+use Rattle.sim_scope.specs.Source.{level_of}
+use Rattle.codegen_expr.specs.Drafts.{DraftOf, Emits, given_up, with_instr}
 use Rattle.codegen_expr.specs.Emit.{Puts, PutsPlace, Writes, WritesElement, WritesPlace}
-use Rattle.codegen_expr.specs.Sites.{At, Pushes}
-use Rattle.codegen_expr.proofs.Pieces.{emits_as, emits_at, emits_nothing, emits_push, emits_then}
+use Rattle.codegen_expr.specs.Sites.{At, Pushes, slot_of}
+use Rattle.codegen_expr.proofs.Pieces.{emits_as, emits_at, emits_nothing, emits_then}
 use Rattle.codegen.specs.declared.left.Left.{Left}
 use Rattle.codegen.specs.declared.left.Left.TheVariants as left
 use Rattle.codegen.specs.declared.several.Side.{Side}
 use Rattle.codegen.specs.BuiltProgram.{LeftBuilt}
 use Rattle.codegen.specs.Emit.{OneGoesAt, WritesOne}
-use Rattle.codegen.specs.EmitLeft.{FindsSide, WritesReferencePlace, operands_in}
+use Rattle.codegen.specs.EmitLeft.{FindsSide, LoadsCell, StoresCell, WritesReferencePlace, operands_in}
 use Rattle.codegen.specs.EmitSeveral.{side_in}
-use Rattle.codegen.proofs.Cells.{cell_there}
-use Rattle.codegen.proofs.Sides.{at_side, here, load_of, store_of}
+use Rattle.codegen.proofs.Cells.{cell_there, emits_load, emits_store}
+use Rattle.codegen.proofs.Sides.{at_side, here}
 
 module _ (b : Bound) (w : Spot) where
-  pub one_cell : (c0 c1 c2 : DraftOf) (x : Side) (v : Expr) (level slot : ℕ) (r : Left) (y : Instr) → FindsSide b w x.sign x.left.now r → r ≡ left.Cell level slot → Writes b w 0 c0 c1 v → y ≡ i.Store (pos level) (pos slot) → c2 ≡ with_instr c1 y 0 → WritesOne b w c0 c2 (side_in x) v
+  pub one_cell : (c0 c1 c2 : DraftOf) (x : Side) (v : Expr) (home place : ℕ) (r : Left) → FindsSide b w x.sign x.left.now r → r ≡ left.Cell home place → Writes b w 0 c0 c1 v → StoresCell b c1 c2 home place → WritesOne b w c0 c2 (side_in x) v
   unfolding WritesOne Writes Puts
-  one_cell c0 c1 c2 x v level slot r y f er g ey ec =
+  one_cell c0 c1 c2 x v home place r f er g ec =
       let s = source_of b in
-      let l = at_side b w x r (left.Cell level slot) f er in
-      let home = l.0 in
-      let key = l.1 in
-      let built : KeyBuilt s w.text home key = l.3 in
-      subst (λ z. Emits w c0 c2 (LeftBuilt s w.text z × IsBuilt s w.text (syntax_of v)) (λ final site p q. OneGoesAt s final site z (syntax_of v) p q)) (sym l.2)
-      (emits_as w _ _ _ _ c0 c2 (λ h. (h.1, tt)) (λ h. (built, h.0)) (λ final site p q stands _ k. (here b w s home site.text stands built.inside, cell_there s home key built.has, (k.0, k.1, record { line = 0; is = subst (λ z. At final z 0 k.0 q) (store_of b w s final home level slot key l.4 l.5) k.2 })))
-      (emits_then w _ ⊤ (λ z site. ExprAt s z site 0 (syntax_of v)) (λ final site p q. At final (i.Store (pos level) (pos slot)) 0 p q) c0 c1 c2 g
-      (emits_at w c1 c2 (i.Store (pos level) (pos slot)) 0 (ec ∙ ap (λ z. with_instr c1 z 0) ey) (λ z. cc) refl)))
+      let l = at_side b w x r (left.Cell home place) f er in
+      let key = l.0 in
+      let built : KeyBuilt s w.text home key = l.2 in
+      subst (λ z. Emits w c0 c2 (LeftBuilt s w.text z × IsBuilt s w.text (syntax_of v)) (λ final site p q. OneGoesAt s final site z (syntax_of v) p q)) (sym l.1)
+      (emits_as w _ _ _ _ c0 c2 (λ h. (h.1, tt)) (λ h. (built, h.0)) (λ final site p q stands _ k. (here b w s home site.text stands built.inside, cell_there s home key built.has, (k.0, k.1, record { line = 0; is = k.2 })))
+      (emits_then w _ ⊤ (λ z site. ExprAt s z site 0 (syntax_of v)) (λ final site p q. At final (i.Store (pos (level_of s home)) (pos (slot_of s final home key))) 0 p q) c0 c1 c2 g (emits_store b w c1 c2 home place key l.3 ec)))
 
   pub one_element : (c0 c1 c2 c3 : DraftOf) (x : Side) (v : Expr) (token : TokenNo) (d : DeclNo) (es : Bor (List Expr)) (r : Left) → FindsSide b w x.sign x.left.now r → r ≡ left.Element token d es → WritesElement b w 0 c0 c1 0 token d es.now → Writes b w 1 c1 c2 v → c3 ≡ with_instr c2 i.Put 0 → WritesOne b w c0 c3 (side_in x) v
   unfolding WritesOne WritesElement Writes Puts
@@ -64,18 +62,16 @@ module _ (b : Bound) (w : Spot) where
       (emits_then w _ _ (λ final site p q. ExprAt s final site 0 (syntax_of x.left.now) p q) (λ final site p q. (y : ℕ) × ExprAt s final site 1 (syntax_of v) p y × At final i.AssignT at y q) c0 c1 c3 g
       (emits_then w _ ⊤ (λ z site. ExprAt s z site 1 (syntax_of v)) (λ final site p q. At final i.AssignT at p q) c1 c2 c3 h (emits_at w c2 c3 i.AssignT at (ec ∙ ap (with_instr c2 i.AssignT) el) (λ z. cc) refl))))
 
-  pub one_result : (c0 c1 c2 c3 : DraftOf) (x : Side) (v : Expr) (line level slot : ℕ) (r : Left) (y : Instr) → FindsSide b w x.sign x.left.now r → r ≡ left.Result level slot → y ≡ i.Load (pos level) (pos slot) → c1 ≡ with_push c0 0 y 0 → Writes b w 1 c1 c2 v → line ≡ line_at (source_of b) x.token.0 → c3 ≡ with_instr c2 i.AssignT line → WritesOne b w c0 c3 (side_in x) v
+  pub one_result : (c0 c1 c2 c3 : DraftOf) (x : Side) (v : Expr) (line home place : ℕ) (r : Left) → FindsSide b w x.sign x.left.now r → r ≡ left.Result home place → LoadsCell b 0 c0 c1 home place → Writes b w 1 c1 c2 v → line ≡ line_at (source_of b) x.token.0 → c3 ≡ with_instr c2 i.AssignT line → WritesOne b w c0 c3 (side_in x) v
   unfolding WritesOne Writes Puts
-  one_result c0 c1 c2 c3 x v line level slot r y f er ey e1 h el ec =
+  one_result c0 c1 c2 c3 x v line home place r f er e1 h el ec =
       let s = source_of b in
       let at = line_at s x.token.0 in
-      let l = at_side b w x r (left.Result level slot) f er in
-      let home = l.0 in
-      let built : KeyBuilt s w.text home Result = l.2 in
-      let load = i.Load (pos level) (pos slot) in
-      subst (λ z. Emits w c0 c3 (LeftBuilt s w.text z × IsBuilt s w.text (syntax_of v)) (λ final site p q. OneGoesAt s final site z (syntax_of v) p q)) (sym l.1)
-      (emits_as w _ _ _ _ c0 c3 (λ k. (tt, (k.1, tt))) (λ k. (built, k.1.0)) (λ final site p q stands _ k. (k.0, record { load = subst (λ z. Pushes final site 0 z p k.0) (load_of b w s final home level slot Result l.3 l.4) k.1; inside = here b w s home site.text stands built.inside; within = cell_there s home Result built.has }, (k.2.0, k.2.1, k.2.2)))
-      (emits_then w ⊤ _ (λ final site p q. Pushes final site 0 load p q) (λ final site p q. (u : ℕ) × ExprAt s final site 1 (syntax_of v) p u × At final i.AssignT at u q) c0 c1 c3 (emits_push w c0 c1 0 load 0 (e1 ∙ ap (λ z. with_push c0 0 z 0) ey) (λ z. cc) refl)
+      let l = at_side b w x r (left.Result home place) f er in
+      let built : KeyBuilt s w.text home Result = l.1 in
+      subst (λ z. Emits w c0 c3 (LeftBuilt s w.text z × IsBuilt s w.text (syntax_of v)) (λ final site p q. OneGoesAt s final site z (syntax_of v) p q)) (sym l.0)
+      (emits_as w _ _ _ _ c0 c3 (λ k. (tt, (k.1, tt))) (λ k. (built, k.1.0)) (λ final site p q stands _ k. (k.0, record { load = k.1; inside = here b w s home site.text stands built.inside; within = cell_there s home Result built.has }, (k.2.0, k.2.1, k.2.2)))
+      (emits_then w ⊤ _ (λ final site p q. Pushes final site 0 (i.Load (pos (level_of s home)) (pos (slot_of s final home Result))) p q) (λ final site p q. (u : ℕ) × ExprAt s final site 1 (syntax_of v) p u × At final i.AssignT at u q) c0 c1 c3 (emits_load b w 0 c0 c1 home place Result l.2 e1)
       (emits_then w _ ⊤ (λ z site. ExprAt s z site 1 (syntax_of v)) (λ final site p q. At final i.AssignT at p q) c1 c2 c3 h (emits_at w c2 c3 i.AssignT at (ec ∙ ap (with_instr c2 i.AssignT) el) (λ z. cc) refl))))
 
   pub one_unbuilt : (a c : DraftOf) (x : Side) (v : Expr) (r : Left) → FindsSide b w x.sign x.left.now r → r ≡ left.NotBuilt → c ≡ given_up a → WritesOne b w a c (side_in x) v

@@ -15,7 +15,7 @@ use Rattle.sim_tree.specs.SyntaxOfProgram.{right_side_syntax}
 use Rattle.sim_code.specs.declared.instr.Instr.{Instr}
 use Rattle.sim_code.specs.declared.instr.Instr.TheVariants as i
 use Rattle.sim_code.specs.Code.{CodeOf}
-use Rattle.sim_meaning.specs.Pending.{Key, Result}
+use Rattle.sim_meaning.specs.Pending.{Result}
 use Rattle.codegen_expr.specs.declared.spot.Spot.{Spot}
 use Rattle.codegen_expr.specs.Built.{IsBuilt, KeyBuilt, StandsIn}
 use Rattle.codegen_expr.specs.CodeExpr.{ExprAt}
@@ -30,9 +30,9 @@ use Rattle.codegen.specs.BuiltProgram.{AssignBuilt, LeftBuilt, LeftsBuilt}
 use Rattle.codegen.specs.declared.several.Side.{Side}
 use Rattle.codegen.specs.CodeLeft.{AssignAt, AtAddress, AtAttribute, GivesAt, GoesAt, InCell, LeftsAt, NotBuilt, StoreAt, Stored, ToReference, ToResult, ToText, below, each_stored, stored}
 use Rattle.codegen.specs.Emit.{WritesAssignment}
-use Rattle.codegen.specs.EmitLeft.{FindsSide, IsLeft, IsSlot, WritesReferencePlace, operands_in}
+use Rattle.codegen.specs.EmitLeft.{FindsSide, IsLeft, LoadsCell, StoresCell, WritesReferencePlace, operands_in}
 use Rattle.codegen.specs.EmitSeveral.{EndsOn, GiveAt, HasGiven, OwesAddresses, SideOf, WritesAddress, WritesAddresses, WritesGive, WritesGives, after, side_in, sides, stored_all, stored_side}
-use Rattle.codegen.proofs.Cells.{cell_there}
+use Rattle.codegen.proofs.Cells.{cell_there, emits_load, emits_store}
 
 -- ---- the left sides
 
@@ -157,13 +157,6 @@ module _ (b : Bound) (w : Spot) where
   pub here : (s : Source) (home text : ℕ) → text ≡ w.text → StandsIn s w.text home → Inside s.tables text home
   here s home text stands h = subst (λ z. Inside s.tables z home) (sym stands) (inside s.tables home (length s.tables.blocks) w.text h.found)
 
-  -- a cell of a text around, by its level and its number
-  pub store_of : (s : Source) (final : CodeOf) (home level slot : ℕ) (key : Key) → level ≡ level_of s home → IsSlot s home key slot → i.Store (pos level) (pos slot) ≡ i.Store (pos (level_of s home)) (pos (slot_of s final home key))
-  store_of s final home level slot key el es = ap (λ z. i.Store (pos z) (pos slot)) el ∙ ap (λ z. i.Store (pos (level_of s home)) (pos z)) (es final)
-
-  pub load_of : (s : Source) (final : CodeOf) (home level slot : ℕ) (key : Key) → level ≡ level_of s home → IsSlot s home key slot → i.Load (pos level) (pos slot) ≡ i.Load (pos (level_of s home)) (pos (slot_of s final home key))
-  load_of s final home level slot key el es = ap (λ z. i.Load (pos z) (pos slot)) el ∙ ap (λ z. i.Load (pos (level_of s home)) (pos z)) (es final)
-
   -- what comes never, where what stands before is whole
   given_nothing : (a c : DraftOf) (H : CodeOf → Site → ℕ → ℕ → Type 0) → (a.whole ≡ true → ⊥) → c ≡ given_up a → Emits w a c ⊤ H
   given_nothing a c H never ec =
@@ -176,15 +169,14 @@ module _ (b : Bound) (w : Spot) where
   unfolding FindsSide
   at_side x r r' f er = let s = source_of b in subst (λ z. IsLeft s w (syntax_of x.left.now) (line_at s x.token.0) z (stored_side s (side_in x))) er (f (line_at s x.token.0))
 
-  pub address_cell : (a : DraftOf) (k : ℕ) (x : Side) (level slot : ℕ) (r : Left) → FindsSide b w x.sign x.left.now r → r ≡ left.Cell level slot → WritesAddress b w k a a k (side_in x)
+  pub address_cell : (a : DraftOf) (k : ℕ) (x : Side) (home place : ℕ) (r : Left) → FindsSide b w x.sign x.left.now r → r ≡ left.Cell home place → WritesAddress b w k a a k (side_in x)
   unfolding WritesAddress
-  address_cell a k x level slot r f er =
+  address_cell a k x home place r f er =
       let s = source_of b in
-      let l = at_side x r (left.Cell level slot) f er in
-      let home = l.0 in
-      let key = l.1 in
-      let built : KeyBuilt s w.text home key = l.3 in
-      subst (λ z. Emits w a a (LeftBuilt s w.text z) (λ final site p q. LeftsAt s final site k (z ∷ []) (EndsOn k) p q)) (sym l.2)
+      let l = at_side x r (left.Cell home place) f er in
+      let key = l.0 in
+      let built : KeyBuilt s w.text home key = l.2 in
+      subst (λ z. Emits w a a (LeftBuilt s w.text z) (λ final site p q. LeftsAt s final site k (z ∷ []) (EndsOn k) p q)) (sym l.1)
       (emits_as w _ _ _ _ a a (λ h. tt) (λ h. built) (λ final site p q stands _ g. (here s home site.text stands built.inside, cell_there s home key built.has, (refl, g))) (emits_none w a))
 
   pub address_element : (a c : DraftOf) (k m : ℕ) (x : Side) (token : TokenNo) (d : DeclNo) (es : Bor (List Expr)) (r : Left) → FindsSide b w x.sign x.left.now r → r ≡ left.Element token d es → WritesElement b w k a c 0 token d es.now → m ≡ suc k → WritesAddress b w k a c m (side_in x)
@@ -203,17 +195,16 @@ module _ (b : Bound) (w : Spot) where
       subst (λ z. Emits w a c (LeftBuilt s w.text z) (λ final site p q. LeftsAt s final site k (z ∷ []) (EndsOn m) p q)) (sym l)
       (emits_as w _ _ _ _ a c (λ h. h) (λ h. h) (λ final site p q _ _ h. (q, h, (em, refl))) g)
 
-  pub address_result : (a c : DraftOf) (k m : ℕ) (x : Side) (level slot : ℕ) (r : Left) (y : Instr) → FindsSide b w x.sign x.left.now r → r ≡ left.Result level slot → y ≡ i.Load (pos level) (pos slot) → c ≡ with_push a k y 0 → m ≡ suc k → WritesAddress b w k a c m (side_in x)
+  pub address_result : (a c : DraftOf) (k m : ℕ) (x : Side) (home place : ℕ) (r : Left) → FindsSide b w x.sign x.left.now r → r ≡ left.Result home place → LoadsCell b k a c home place → m ≡ suc k → WritesAddress b w k a c m (side_in x)
   unfolding WritesAddress
-  address_result a c k m x level slot r y f er ey ec em =
+  address_result a c k m x home place r f er ec em =
       let s = source_of b in
-      let l = at_side x r (left.Result level slot) f er in
-      let home = l.0 in
-      let built : KeyBuilt s w.text home Result = l.2 in
-      subst (λ z. Emits w a c (LeftBuilt s w.text z) (λ final site p q. LeftsAt s final site k (z ∷ []) (EndsOn m) p q)) (sym l.1)
-      (emits_as w ⊤ _ (λ final site p q. Pushes final site k (i.Load (pos level) (pos slot)) p q) _ a c (λ h. tt) (λ h. built)
-      (λ final site p q stands _ g. (q, record { load = subst (λ z. Pushes final site k z p q) (load_of s final home level slot Result l.3 l.4) g; inside = here s home site.text stands built.inside; within = cell_there s home Result built.has }, (em, refl)))
-      (emits_push w a c k (i.Load (pos level) (pos slot)) 0 (ec ∙ ap (λ z. with_push a k z 0) ey) (λ z. cc) refl))
+      let l = at_side x r (left.Result home place) f er in
+      let built : KeyBuilt s w.text home Result = l.1 in
+      subst (λ z. Emits w a c (LeftBuilt s w.text z) (λ final site p q. LeftsAt s final site k (z ∷ []) (EndsOn m) p q)) (sym l.0)
+      (emits_as w ⊤ _ _ _ a c (λ h. tt) (λ h. built)
+      (λ final site p q stands _ g. (q, record { load = g; inside = here s home site.text stands built.inside; within = cell_there s home Result built.has }, (em, refl)))
+      (emits_load b w k a c home place Result l.2 ec))
 
   pub address_attribute : (a c : DraftOf) (k m : ℕ) (x : Side) (r : Left) → FindsSide b w x.sign x.left.now r → r ≡ left.Attribute → WritesPlace b w k a c 0 x.left.now → m ≡ suc k → WritesAddress b w k a c m (side_in x)
   unfolding WritesAddress WritesPlace PutsPlace
@@ -255,19 +246,18 @@ module _ (b : Bound) (w : Spot) where
 
   -- ---- where the value goes
 
-  pub give_cell : (a c d : DraftOf) (k : ℕ) (v : Side) (level slot m : ℕ) (r : Left) (x y : Instr) → FindsSide b w v.sign v.left.now r → r ≡ left.Cell level slot → m ≡ level_of (source_of b) w.text → x ≡ i.Load (pos m) (pos w.used) → c ≡ with_push a k x 0 → y ≡ i.Store (pos level) (pos slot) → d ≡ with_instr c y 0 → WritesGive b w k a d k (side_in v)
+  pub give_cell : (a c d : DraftOf) (k : ℕ) (v : Side) (home place m : ℕ) (r : Left) (x : Instr) → FindsSide b w v.sign v.left.now r → r ≡ left.Cell home place → m ≡ level_of (source_of b) w.text → x ≡ i.Load (pos m) (pos w.used) → c ≡ with_push a k x 0 → StoresCell b c d home place → WritesGive b w k a d k (side_in v)
   unfolding WritesGive
-  give_cell a c d k v level slot m r x y f er em ex ec ey ed =
+  give_cell a c d k v home place m r x f er em ex ec ed =
       let s = source_of b in
-      let l = at_side v r (left.Cell level slot) f er in
-      let home = l.0 in
-      let key = l.1 in
+      let l = at_side v r (left.Cell home place) f er in
+      let key = l.0 in
       let load : x ≡ i.Load (pos (level_of s w.text)) (pos w.used) = ex ∙ ap (λ z. i.Load (pos z) (pos w.used)) em in
-      subst (λ z. (a.whole ≡ true → LeftBuilt s w.text z) → Emits w a d ⊤ (λ final site p q. GiveAt s final site w.used k k z p q)) (sym l.2)
-      (λ _. emits_as w _ _ _ _ a d (λ h. (tt, tt)) (λ h. tt) (λ final site p q stands _ g. (refl, (g.0, subst (λ z. Pushes final site k (i.Load (pos (level_of s z)) (pos w.used)) p g.0) (sym stands) g.1, record { line = 0; is = subst (λ z. At final z 0 g.0 q) (store_of s final home level slot key l.4 l.5) g.2 })))
-      (emits_then w ⊤ ⊤ (λ final site p q. Pushes final site k (i.Load (pos (level_of s w.text)) (pos w.used)) p q) (λ final site p q. At final (i.Store (pos level) (pos slot)) 0 p q) a c d
+      subst (λ z. (a.whole ≡ true → LeftBuilt s w.text z) → Emits w a d ⊤ (λ final site p q. GiveAt s final site w.used k k z p q)) (sym l.1)
+      (λ _. emits_as w _ _ _ _ a d (λ h. (tt, tt)) (λ h. tt) (λ final site p q stands _ g. (refl, (g.0, subst (λ z. Pushes final site k (i.Load (pos (level_of s z)) (pos w.used)) p g.0) (sym stands) g.1, record { line = 0; is = g.2 })))
+      (emits_then w ⊤ ⊤ (λ final site p q. Pushes final site k (i.Load (pos (level_of s w.text)) (pos w.used)) p q) (λ final site p q. At final (i.Store (pos (level_of s home)) (pos (slot_of s final home key))) 0 p q) a c d
       (emits_push w a c k (i.Load (pos (level_of s w.text)) (pos w.used)) 0 (ec ∙ ap (λ z. with_push a k z 0) load) (λ z. cc) refl)
-      (emits_at w c d (i.Store (pos level) (pos slot)) 0 (ed ∙ ap (λ z. with_instr c z 0) ey) (λ z. cc) refl)))
+      (emits_store b w c d home place key l.3 ed)))
 
   pub give_element : (a c d : DraftOf) (k j : ℕ) (v : Side) (m : ℕ) (token : TokenNo) (u : DeclNo) (es : Bor (List Expr)) (r : Left) (x : Instr) → FindsSide b w v.sign v.left.now r → r ≡ left.Element token u es → m ≡ level_of (source_of b) w.text → x ≡ i.Load (pos m) (pos w.used) → c ≡ with_push a k x 0 → d ≡ with_instr c i.Put 0 → j ≡ k - 1 → WritesGive b w k a d j (side_in v)
   unfolding WritesGive
@@ -293,14 +283,14 @@ module _ (b : Bound) (w : Spot) where
       (emits_push w a c k (i.Load (pos (level_of s w.text)) (pos w.used)) 0 (ec ∙ ap (λ z. with_push a k z 0) load) (λ z. cc) refl)
       (emits_at w c d i.AssignT (line_at s v.token.0) (ed ∙ ap (with_instr c i.AssignT) el) (λ z. cc) refl)))
 
-  pub give_result : (a c d : DraftOf) (k j : ℕ) (v : Side) (m line level slot : ℕ) (r : Left) (x : Instr) → FindsSide b w v.sign v.left.now r → r ≡ left.Result level slot → m ≡ level_of (source_of b) w.text → x ≡ i.Load (pos m) (pos w.used) → c ≡ with_push a k x 0 → line ≡ line_at (source_of b) v.token.0 → d ≡ with_instr c i.AssignT line → j ≡ k - 1 → WritesGive b w k a d j (side_in v)
+  pub give_result : (a c d : DraftOf) (k j : ℕ) (v : Side) (m line home place : ℕ) (r : Left) (x : Instr) → FindsSide b w v.sign v.left.now r → r ≡ left.Result home place → m ≡ level_of (source_of b) w.text → x ≡ i.Load (pos m) (pos w.used) → c ≡ with_push a k x 0 → line ≡ line_at (source_of b) v.token.0 → d ≡ with_instr c i.AssignT line → j ≡ k - 1 → WritesGive b w k a d j (side_in v)
   unfolding WritesGive
-  give_result a c d k j v m line level slot r x f er em ex ec el ed ej =
+  give_result a c d k j v m line home place r x f er em ex ec el ed ej =
       let s = source_of b in
-      let l = at_side v r (left.Result level slot) f er in
+      let l = at_side v r (left.Result home place) f er in
       let load : x ≡ i.Load (pos (level_of s w.text)) (pos w.used) = ex ∙ ap (λ z. i.Load (pos z) (pos w.used)) em in
-      subst (λ z. (a.whole ≡ true → LeftBuilt s w.text z) → Emits w a d ⊤ (λ final site p q. GiveAt s final site w.used k j z p q)) (sym l.1)
-      (λ _. emits_as w _ _ _ _ a d (λ h. (tt, tt)) (λ h. tt) (λ final site p q stands _ g. (result_off l.0 (line_at s v.token.0) k j ej, (g.0, subst (λ z. Pushes final site k (i.Load (pos (level_of s z)) (pos w.used)) p g.0) (sym stands) g.1, g.2)))
+      subst (λ z. (a.whole ≡ true → LeftBuilt s w.text z) → Emits w a d ⊤ (λ final site p q. GiveAt s final site w.used k j z p q)) (sym l.0)
+      (λ _. emits_as w _ _ _ _ a d (λ h. (tt, tt)) (λ h. tt) (λ final site p q stands _ g. (result_off home (line_at s v.token.0) k j ej, (g.0, subst (λ z. Pushes final site k (i.Load (pos (level_of s z)) (pos w.used)) p g.0) (sym stands) g.1, g.2)))
       (emits_then w ⊤ ⊤ (λ final site p q. Pushes final site k (i.Load (pos (level_of s w.text)) (pos w.used)) p q) (λ final site p q. At final i.AssignT (line_at s v.token.0) p q) a c d
       (emits_push w a c k (i.Load (pos (level_of s w.text)) (pos w.used)) 0 (ec ∙ ap (λ z. with_push a k z 0) load) (λ z. cc) refl)
       (emits_at w c d i.AssignT (line_at s v.token.0) (ed ∙ ap (with_instr c i.AssignT) el) (λ z. cc) refl)))

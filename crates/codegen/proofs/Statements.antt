@@ -468,11 +468,11 @@ module _ (b : Bound) (w : Spot) where
       let l = for_is name r (left.Element token d xs) f er in
       emits_nothing w a c _ _ (λ h. subst (λ m. ForBuilt (source_of b) w.text (variable_stored m o) es (StatementBuilt (source_of b) w.text (statement_syntax z))) l h) ec
 
-  pub write_for_cell : (a c : DraftOf) (name : Identifier) (o : Option Line) (es : List syntax.Element) (z : Stmt) (level slot : ℕ) (r : Left) → FindsNamed b w name [] r → r ≡ left.Cell level slot → WritesList b w a c (target.Cell level slot o) es z → WritesFor b w a c name (option_map line_in o) es z
+  pub write_for_cell : (a c : DraftOf) (name : Identifier) (o : Option Line) (es : List syntax.Element) (z : Stmt) (home place : ℕ) (r : Left) → FindsNamed b w name [] r → r ≡ left.Cell home place → WritesList b w a c (target.Cell home place o) es z → WritesFor b w a c name (option_map line_in o) es z
   unfolding WritesFor
-  write_for_cell a c name o es z level slot r f er g =
-      let l = for_is name r (left.Cell level slot) f er in
-      subst (λ m. Fors a c (variable_stored m (option_map line_in o)) es (statement_syntax z)) (sym l.2) (for_over a c (target.Cell level slot o) (OfCell l.0 l.1 (option_map line_in o)) es z (l.4, l.5, refl, l.3) g)
+  write_for_cell a c name o es z home place r f er g =
+      let l = for_is name r (left.Cell home place) f er in
+      subst (λ m. Fors a c (variable_stored m (option_map line_in o)) es (statement_syntax z)) (sym l.1) (for_over a c (target.Cell home place o) (OfCell home l.0 (option_map line_in o)) es z (refl, l.3, refl, l.2) g)
 
   pub write_for_attribute : (a c : DraftOf) (name : Bor Identifier) (o : Option Line) (es : List syntax.Element) (z : Stmt) (r : Left) → FindsNamed b w name.now [] r → r ≡ left.Attribute → WritesList b w a c (target.Place name o) es z → WritesFor b w a c name.now (option_map line_in o) es z
   unfolding WritesFor

@@ -1,25 +1,29 @@
 -- The whole code.
-use Rattle.std.proofs.Common.{◌≡◌, ◌<◌, ◌≤◌, ◌+◌, ℕ, zero, suc, Bool, true, false, List, [], ◌∷◌, ◌++◌, drop, length, map, Option, Some, None, refl, sym, ap, ◌∙◌, subst, arith, append_assoc, append-nil, length-append}
+use Rattle.std.proofs.Common.{◌≡◌, ◌<◌, ◌≤◌, ◌+◌, ℕ, zero, suc, Bool, true, false, List, [], ◌∷◌, ◌++◌, drop, length, map, Option, Some, None, refl, sym, ap, ◌∙◌, subst, arith, length-append}
 use Rattle.std.specs.Prelude.{slice_get}
 use Rattle.sim_scope.specs.declared.bound.Bound.{Bound}
 use Rattle.sim_scope.specs.Source.{Source, source_of}
 use Rattle.sim_scope.specs.Tables.{BlockOf as TableBlock}
-use Rattle.sim_code.specs.Code.{BlockOf, CodeOf}
+use Rattle.sim_code.specs.declared.code.CodeActual.{CodeActual}
+use Rattle.sim_code.specs.declared.code.ThunkRecord.{ThunkRecord}
+use Rattle.sim_code.specs.declared.instr.Lined.{Lined}
+use Rattle.sim_code.specs.Code.{BlockOf, ClassOf, CodeOf}
 use Rattle.sim_code.specs.Running.{AllRun}
 use Rattle.sim_meaning.specs.Attributes as Attributes
 use Rattle.sim_meaning.specs.Constants.{constants_of}
 use Rattle.sim_meaning.specs.Texts.{BlockText, ClassText, ConnectionText, PrefixedText, ProcedureText, StandardText, Text, program_texts, text}
 use Rattle.program_texts.specs.declared.tree.TextTree.{TextTree}
 use Rattle.program_texts.specs.TextTrees.{AreTexts, text_in}
-use Rattle.text_tables.specs.Making.{ClassNumbers, classes_from}
-use Rattle.codegen_expr.specs.Sites.{block_number, blocks_before, class_in, counted_unless, is_connected, is_connection}
-use Rattle.codegen_expr.specs.Drafts.{DraftOf, class_of}
+use Rattle.codegen_expr.specs.Sites.{block_number, blocks_before, counted_unless, is_connected, is_connection}
+use Rattle.codegen_expr.specs.Drafts.{DraftOf, PlannedOf, planned_at, planned_in, planned_or_none}
 use Rattle.codegen_expr.proofs.Pieces.{get_front}
+use Rattle.codegen.specs.declared.texts.ClassAt.{ClassAt}
 use Rattle.codegen.specs.declared.texts.Written.{Written}
 use Rattle.codegen.specs.Agrees.{Agrees}
 use Rattle.codegen.specs.BuiltProgram.{ProgramBuilt, TextBuilt, TextsBuilt, texts_of}
 use Rattle.codegen.specs.Compiled.{CodeHas, Compiled}
-use Rattle.codegen.specs.EmitProgram.{Begins, Ends, Next, TextEmitted, TextsEmitted, WritesProgram, WritesText, WritesTo, blocks_in, classes_in}
+use Rattle.codegen.specs.EmitProgram.{Begins, Ends, Next, Plans, TextEmitted, TextsEmitted, WritesProgram, WritesText, WritesTo, blocks_in, record_or_blank}
+use Rattle.codegen.specs.Planning.{IsPlan}
 
 -- ---- lists
 
@@ -59,16 +63,10 @@ split_at (y ∷ xs) ys (suc k) x e =
     let r = split_at xs ys k x e in
     (λ le. r.0 (omega (arith, le)), λ le. let q = r.1 (omega (arith, le)) in let same = q.1 in (q.0, omega (arith, same), q.2))
 
-class_behind : (xs : List ℕ) (y : ℕ) (ys : List ℕ) (n : ℕ) → n ≡ length xs → class_of (xs ++ (y ∷ ys)) n ≡ y
-class_behind [] y ys zero e = refl
-class_behind [] y ys (suc n) e = absurd (omega (arith, e))
-class_behind (x ∷ xs) y ys zero e = absurd (omega (arith, e))
-class_behind (x ∷ xs) y ys (suc n) e = class_behind xs y ys n (omega (arith, e))
-
-class_past : (xs : List ℕ) (n : ℕ) → length xs ≤ n → class_of xs n ≡ 0
-class_past [] n le = refl
-class_past (x ∷ xs) zero le = absurd (omega (arith, le))
-class_past (x ∷ xs) (suc n) le = class_past xs n (omega (arith, le))
+planned_past : (xs : List PlannedOf) (n : ℕ) → length xs ≤ n → planned_or_none None ≡ planned_at xs n
+planned_past [] n le = refl
+planned_past (x ∷ xs) zero le = absurd (omega (arith, le))
+planned_past (x ∷ xs) (suc n) le = planned_past xs n (omega (arith, le))
 
 some_same : {A : Type 0} (x y : A) → Some x ≡ Some y → x ≡ y
 some_same x y e = cc
@@ -118,38 +116,6 @@ number_next s k x agrees is =
     let same : is_connection row.0.kind ≡ Attributes.is_connection (Some x) = sym (ap Rattle.codegen_expr.specs.Sites.connects row.1) ∙ agrees.connected k ∙ ap Attributes.is_connection is in
     count_next s.tables.blocks k row.0 row.1 ∙ ap (λ z. blocks_before k s.tables.blocks + one_unless z) same ∙ ap (λ z. blocks_before k s.tables.blocks + z) (texts_count x)
 
--- ---- the classes of blocks
-
--- the classes from a text on: those of its block, and then the rest
-class_next : (n : ℕ) (x : Text) (xs : List Text) → classes_in x ≡ 1 → classes_from n (x ∷ xs) ≡ suc n ∷ classes_from (suc n) xs
-class_next n (BlockText begin ds ss) xs e = absurd (cc)
-class_next n (ProcedureText result h a) xs e = absurd (cc)
-class_next n (ClassText prefix h ds ss) xs e = refl
-class_next n (PrefixedText class arguments ds ss) xs e = refl
-class_next n ConnectionText xs e = absurd (cc)
-class_next n (StandardText which) xs e = absurd (cc)
-
-one_class : (x : Text) → 0 < classes_in x → classes_in x ≡ 1
-one_class (BlockText begin ds ss) le = absurd (omega (arith, le))
-one_class (ProcedureText result h a) le = absurd (omega (arith, le))
-one_class (ClassText prefix h ds ss) le = refl
-one_class (PrefixedText class arguments ds ss) le = refl
-one_class ConnectionText le = absurd (omega (arith, le))
-one_class (StandardText which) le = absurd (omega (arith, le))
-
-record Rest (n m : ℕ) (x : Text) (xs : List Text) : Type 0 where
-  pub own : List ℕ
-  pub is : classes_from n (x ∷ xs) ≡ own ++ classes_from m xs
-  pub many : length own ≡ blocks_in x
-
-rest_of : (n m : ℕ) (x : Text) (xs : List Text) → m ≡ n + classes_in x → Rest n m x xs
-rest_of n m (BlockText begin ds ss) xs e = let same : n ≡ m = omega (arith, e) in record { own = 0 ∷ []; is = ap (λ z. 0 ∷ classes_from z xs) same; many = refl }
-rest_of n m (ProcedureText result h a) xs e = let same : n ≡ m = omega (arith, e) in record { own = 0 ∷ []; is = ap (λ z. 0 ∷ classes_from z xs) same; many = refl }
-rest_of n m (ClassText prefix h ds ss) xs e = let same : suc n ≡ m = omega (arith, e) in record { own = suc n ∷ []; is = ap (λ z. suc n ∷ classes_from z xs) same; many = refl }
-rest_of n m (PrefixedText class arguments ds ss) xs e = let same : suc n ≡ m = omega (arith, e) in record { own = suc n ∷ []; is = ap (λ z. suc n ∷ classes_from z xs) same; many = refl }
-rest_of n m ConnectionText xs e = let same : n ≡ m = omega (arith, e) in record { own = []; is = ap (λ z. classes_from z xs) same; many = refl }
-rest_of n m (StandardText which) xs e = let same : n ≡ m = omega (arith, e) in record { own = 0 ∷ []; is = ap (λ z. 0 ∷ classes_from z xs) same; many = refl }
-
 -- ---- texts that are built
 
 text_built : (s : Source) (xs : List Text) (n k m : ℕ) (x : Text) → m ≡ n + k → TextsBuilt s n xs → slice_get xs k ≡ Some x → TextBuilt s m x
@@ -162,8 +128,8 @@ ends_before : (s : Source) (old new : Written) (k : ℕ) (x : Text) (final : Cod
 ends_before s old new k x final f g = record {
   grows = Rattle.codegen_expr.proofs.Pieces.grows_then old.draft.instrs new.draft.instrs final.instrs (Rattle.codegen_expr.proofs.Pieces.grows_front old.draft.instrs new.draft.instrs (f.rest, f.front)) g.grows;
   blocks = λ j b is. g.blocks j b (ap (λ z. slice_get z j) f.blocks ∙ get_front old.blocks.items f.added j b is);
-  classes = λ j c is. g.classes j c (ap (λ z. slice_get z j) f.classes ∙ get_front old.classes.items f.further j c is);
-  classed = λ j. g.classed j ∙ ap (λ z. class_of z j) f.classed;
+  classes = λ j c is. g.classes j c (f.kept j c is);
+  classed = λ j. g.classed j ∙ ap (λ z. planned_at z j) f.classed;
 }
 
 -- ---- the first texts
@@ -176,14 +142,12 @@ none_before : (s : Source) → block_number s 0 ≡ 0
 unfolding block_number
 none_before s = refl
 
-started : (s : Source) (w : Written) → Begins s w → TextsEmitted s w w (texts_of s) 0
+started : (s : Source) (w : Written) → Begins s w → TextsEmitted s w w 0
 started s w f = record {
   whole = f.whole;
   fits = subst AllRun (sym f.none) none_runs;
+  plan = f.plan;
   classed = refl;
-  numbers = [];
-  to_come = f.classes ∙ ap (λ z. classes_from (length z) (texts_of s)) (sym f.no_class);
-  as_many = ap length (sym f.no_block);
   counted = none_before s ∙ ap length (sym f.no_block);
   started = λ e. ap length f.none;
   numbered = λ j b is. absurd (nowhere j b (sym (ap (λ z. slice_get z j) f.no_block) ∙ is));
@@ -228,44 +192,28 @@ sides : {A : Type 0} (j k : ℕ) → Beside j k → (j < k → A) → (k ≤ j �
 sides j k (short h) f g = f h
 sides j k (long h) f g = g h
 
-module _ (s : Source) (built : ProgramBuilt s) (old now new : Written) (k : ℕ) (x : Text) (is : text s k ≡ Some x) (e : TextsEmitted s old now (texts_of s) k) where
+module _ (s : Source) (built : ProgramBuilt s) (old now new : Written) (k : ℕ) (x : Text) (is : text s k ≡ Some x) (e : TextsEmitted s old now k) where
   at : slice_get (texts_of s) k ≡ Some x
   unfolding text texts_of
   at = is
 
-  to_come : old.draft.classes ≡ e.numbers ++ classes_from (length now.classes.items) (x ∷ drop (suc k) (texts_of s))
-  to_come = e.to_come ∙ ap (λ z. e.numbers ++ classes_from (length now.classes.items) z) (drop_at (texts_of s) k x at)
-
   next : Next s now k x
-  next = record {
-    agrees = built.agrees;
-    is = is;
-    alone = built.unprefixed.classes k;
-    block = e.counted;
-    class = λ le.
-        ap (λ z. class_of z (length now.blocks.items)) (e.classed ∙ to_come ∙ ap (λ z. e.numbers ++ z) (class_next (length now.classes.items) x (drop (suc k) (texts_of s)) (one_class x le)))
-        ∙ class_behind e.numbers (suc (length now.classes.items)) (classes_from (suc (length now.classes.items)) (drop (suc k) (texts_of s))) (length now.blocks.items) (sym e.as_many);
-    first = e.started;
-  }
+  next = record { agrees = built.agrees; plan = subst (Plans s) (sym e.classed) e.plan; is = is; block = e.counted; first = e.started }
 
-  step : TextEmitted s now new k x → TextsEmitted s old new (texts_of s) (suc k)
+  step : TextEmitted s now new k x → TextsEmitted s old new (suc k)
   step f =
       let whole : new.draft.whole ≡ true = f.built (text_built s (texts_of s) 0 k k x (omega arith) built.texts at) e.whole in
       let blocks : length new.blocks.items ≡ length now.blocks.items + blocks_in x = ap length f.blocks ∙ length-append now.blocks.items f.added ∙ ap (λ z. length now.blocks.items + z) (f.counted whole) in
-      let classes : length new.classes.items ≡ length now.classes.items + classes_in x = ap length f.classes ∙ length-append now.classes.items f.further ∙ ap (λ z. length now.classes.items + z) (f.counted_classes whole) in
-      let rest = rest_of (length now.classes.items) (length new.classes.items) x (drop (suc k) (texts_of s)) classes in
       record {
         whole = whole;
         fits = f.fits e.fits;
+        plan = e.plan;
         classed = f.classed ∙ e.classed;
-        numbers = e.numbers ++ rest.own;
-        to_come = to_come ∙ ap (λ z. e.numbers ++ z) rest.is ∙ sym (append_assoc e.numbers rest.own (classes_from (length new.classes.items) (drop (suc k) (texts_of s))));
-        as_many = length-append e.numbers rest.own ∙ ap (λ z. z + length rest.own) e.as_many ∙ ap (λ z. length now.blocks.items + z) rest.many ∙ sym blocks;
         counted = number_next s k x built.agrees is ∙ ap (λ z. z + blocks_in x) e.counted ∙ sym blocks;
         started = λ q. absurd (omega (arith, q));
         numbered = λ j b there.
             let r = split_at now.blocks.items f.added j b (sym (ap (λ z. slice_get z j) f.blocks) ∙ there) in
-            sides j (length now.blocks.items) (beside j (length now.blocks.items)) (λ le. e.numbered j b (r.0 le)) (λ le. let q = r.1 le in f.numbered whole q.0 b q.2 ∙ ap (λ z. class_of z (length now.blocks.items + q.0)) e.classed ∙ ap (class_of old.draft.classes) (sym q.1));
+            sides j (length now.blocks.items) (beside j (length now.blocks.items)) (λ le. e.numbered j b (r.0 le)) (λ le. let q = r.1 le in f.numbered whole q.0 b q.2 ∙ ap (λ z. planned_at z (length now.blocks.items + q.0)) e.classed ∙ ap (planned_at old.draft.classes) (sym q.1));
         each = λ final g j y le there. either j k (below j k le) (λ le. e.each final (ends_before s now new k x final f g) j y le there) (λ same. subst (λ z. CodeHas s final z y (slice_get final.blocks (block_number s z))) (sym same) (subst (λ z. CodeHas s final k z (slice_get final.blocks (block_number s k))) (some_same x y (sym is ∙ ap (text s) (sym same) ∙ there)) (f.at whole final g)));
       }
 
@@ -280,7 +228,7 @@ texts_next b old now new ts k x f is g are built begins =
     let here : text s k ≡ Some (text_in x) = sym (ap (λ z. slice_get z k) are) ∙ at_map text_in ts k x is in
     let e = f are built begins in
     let more : suc k ≡ k + 1 = omega arith in
-    subst (λ z. TextsEmitted s old new (texts_of s) z) more (step s built old now new k (text_in x) here e (g (next s built old now now k (text_in x) here e)))
+    subst (λ z. TextsEmitted s old new z) more (step s built old now new k (text_in x) here e (g (next s built old now now k (text_in x) here e)))
 
 pub texts_last : (b : Bound) (old new : Written) (ts : List TextTree) (k : ℕ) → WritesTo b old new ts k → k ≡ length ts → WritesProgram b old new ts
 unfolding WritesProgram
@@ -288,22 +236,25 @@ texts_last b old new ts k f e = subst (WritesTo b old new ts) e f
 
 -- ---- the code
 
-abbrev whole_code : List (List ℕ) → Written → CodeOf
-whole_code texts w = record { texts = texts; blocks = w.blocks.items; classes = w.classes.items; thunks = []; actual_lists = []; instrs = w.draft.instrs }
+abbrev whole_code : List (List ℕ) → List ClassOf → Written → CodeOf
+whole_code texts classes w = record { texts = texts; blocks = w.blocks.items; classes = classes; thunks = []; actual_lists = []; instrs = w.draft.instrs }
 
-abbrev nothing : List ℕ → DraftOf
-nothing classes = record { instrs = []; room = 0; size = 0; whole = true; classes = classes }
+abbrev nothing : List PlannedOf → DraftOf
+nothing plan = record { instrs = []; room = 0; size = 0; whole = true; classes = plan }
 
 map_length : {A B : Type 0} (f : A → B) (xs : List A) → length (map f xs) ≡ length xs
 map_length f [] = refl
 map_length f (x ∷ xs) = ap suc (map_length f xs)
 
-module _ (b : Bound) (old new : Written) (ts : List TextTree) (numbers : List ℕ) (built : ProgramBuilt (source_of b)) (are : AreTexts b.program ts) (no_draft : old.draft ≡ nothing numbers) (no_block : old.blocks.items ≡ []) (no_class : old.classes.items ≡ []) (cn : ClassNumbers b numbers) (f : WritesProgram b old new ts) where
-  begins : Begins (source_of b) old
-  unfolding ClassNumbers texts_of
-  begins = record { none = ap (λ z. z.instrs) no_draft; whole = ap (λ z. z.whole) no_draft; classes = ap (λ z. z.classes) no_draft ∙ cn; no_block = no_block; no_class = no_class }
+module _ (b : Bound) (old new : Written) (ts : List TextTree) (plan : List PlannedOf) (built : ProgramBuilt (source_of b)) (are : AreTexts b.program ts) (no_draft : old.draft ≡ nothing plan) (no_block : old.blocks.items ≡ []) (planned : IsPlan b plan ts) (f : WritesProgram b old new ts) where
+  plans : Plans (source_of b) plan
+  unfolding IsPlan
+  plans = planned built.agrees are
 
-  emitted : TextsEmitted (source_of b) old new (texts_of (source_of b)) (length ts)
+  begins : Begins (source_of b) old
+  begins = record { none = ap (λ z. z.instrs) no_draft; whole = ap (λ z. z.whole) no_draft; plan = subst (Plans (source_of b)) (sym (ap (λ z. z.classes) no_draft)) plans; no_block = no_block }
+
+  emitted : TextsEmitted (source_of b) old new (length ts)
   unfolding WritesProgram WritesTo
   emitted = f are built begins
 
@@ -311,12 +262,14 @@ module _ (b : Bound) (old new : Written) (ts : List TextTree) (numbers : List �
   unfolding AreTexts texts_of source_of Rattle.sim_tree.specs.SyntaxOfProgram.program_syntax
   as_many = sym (map_length text_in ts) ∙ ap length are
 
-  all_numbers : new.draft.classes ≡ emitted.numbers
-  all_numbers =
-      let many = as_many in
-      emitted.classed ∙ emitted.to_come ∙ ap (λ z. emitted.numbers ++ classes_from (length new.classes.items) z) (drop_behind (texts_of (source_of b)) (length ts) (omega (arith, many))) ∙ append-nil emitted.numbers
+  same_plan : new.draft.classes ≡ plan
+  same_plan = emitted.classed ∙ ap (λ z. z.classes) no_draft
 
-  classed : (j : ℕ) → class_in (slice_get new.blocks.items j) ≡ class_of new.draft.classes j
+  -- there are as many blocks as are planned
+  same_count : length plan ≡ length new.blocks.items
+  same_count = plans.as_many ∙ ap (block_number (source_of b)) (sym as_many) ∙ emitted.counted
+
+  classed : (j : ℕ) → planned_in (slice_get new.blocks.items j) ≡ planned_at new.draft.classes j
   classed j = cases (slice_get new.blocks.items j) refl
     where
       behind : (xs : List BlockOf) (j : ℕ) → slice_get xs j ≡ None → length xs ≤ j
@@ -324,11 +277,11 @@ module _ (b : Bound) (old new : Written) (ts : List TextTree) (numbers : List �
       behind (x ∷ xs) zero e = absurd (cc)
       behind (x ∷ xs) (suc j) e = let le = behind xs j e in omega (arith, le)
 
-      cases : (o : Option BlockOf) → slice_get new.blocks.items j ≡ o → class_in o ≡ class_of new.draft.classes j
-      cases None e = let le = behind new.blocks.items j e in let many = emitted.as_many in sym (ap (λ z. class_of z j) all_numbers ∙ class_past emitted.numbers j (omega (arith, le, many)))
-      cases (Some x) e = emitted.numbered j x e ∙ ap (λ z. class_of z j) (sym emitted.classed)
+      cases : (o : Option BlockOf) → slice_get new.blocks.items j ≡ o → planned_in o ≡ planned_at new.draft.classes j
+      cases None e = let le = behind new.blocks.items j e in let many = same_count in planned_past plan j (omega (arith, le, many)) ∙ ap (λ z. planned_at z j) (sym same_plan)
+      cases (Some x) e = emitted.numbered j x e ∙ ap (λ z. planned_at z j) (sym emitted.classed)
 
-  stands : (texts : List (List ℕ)) → texts ≡ constants_of (source_of b) → Compiled (source_of b) (whole_code texts new)
+  stands : (texts : List (List ℕ)) → texts ≡ constants_of (source_of b) → Compiled (source_of b) (whole_code texts (map record_or_blank new.classes.items) new)
   unfolding text texts_of
   stands texts et = record {
     agrees = built.agrees;
@@ -336,14 +289,23 @@ module _ (b : Bound) (old new : Written) (ts : List TextTree) (numbers : List �
     each = λ k x is.
         let inside : k < length (texts_of (source_of b)) = within (texts_of (source_of b)) k x is in
         let many = as_many in
-        emitted.each (whole_code texts new) (record { grows = record { keeps = λ j y there ne. there }; blocks = λ j y there. there; classes = λ j y there. there; classed = classed }) k x (omega (arith, inside, many)) is;
+        emitted.each (whole_code texts (map record_or_blank new.classes.items) new)
+        (record { grows = record { keeps = λ j y there ne. there }; blocks = λ j y there. there; classes = λ j y there. at_map record_or_blank new.classes.items j (Some y) there; classed = classed }) k x (omega (arith, inside, many)) is;
   }
 
-pub code_stands : (b : Bound) (old new : Written) (ts : List TextTree) (numbers : List ℕ) (texts : List (List ℕ)) → ProgramBuilt (source_of b) → AreTexts b.program ts → old.draft ≡ nothing numbers → old.blocks.items ≡ [] → old.classes.items ≡ [] → ClassNumbers b numbers → WritesProgram b old new ts → texts ≡ constants_of (source_of b)
-    → Compiled (source_of b) (record { texts = texts; blocks = new.blocks.items; classes = new.classes.items; thunks = []; actual_lists = []; instrs = new.draft.instrs })
-code_stands b old new ts numbers texts built are ed eb ec cn f et = stands b old new ts numbers built are ed eb ec cn f texts et
+pub code_stands : (b : Bound) (old new : Written) (ts for_plan for_code : List TextTree) (plan : List PlannedOf) (texts : List (List ℕ)) (all : List (Option ClassAt)) (classes : List ClassOf) (thunks : List ThunkRecord) (lists : List (List CodeActual)) (instrs : List Lined)
+    → ProgramBuilt (source_of b) → AreTexts b.program ts → old.draft ≡ nothing plan → old.blocks.items ≡ [] → for_plan ≡ ts → IsPlan b plan for_plan → for_code ≡ ts → WritesProgram b old new for_code → texts ≡ constants_of (source_of b)
+    → all ≡ new.classes.items → classes ≡ map record_or_blank all → thunks ≡ [] → lists ≡ [] → instrs ≡ new.draft.instrs → Compiled (source_of b) (record { texts = texts; blocks = new.blocks.items; classes = classes; thunks = thunks; actual_lists = lists; instrs = instrs })
+code_stands b old new ts for_plan for_code plan texts all classes thunks lists instrs built are ed eb e1 ep e2 f et ea ec eth el ei =
+    let s = source_of b in
+    let blocks = new.blocks.items in
+    let first = stands b old new ts plan built are ed eb (subst (IsPlan b plan) e1 ep) (subst (WritesProgram b old new) e2 f) texts et in
+    let with_classes = subst (λ z. Compiled s (whole_code texts z new)) (sym (ec ∙ ap (map record_or_blank) ea)) first in
+    let with_thunks = subst (λ z. Compiled s (record { texts = texts; blocks = blocks; classes = classes; thunks = z; actual_lists = []; instrs = new.draft.instrs })) (sym eth) with_classes in
+    let with_lists = subst (λ z. Compiled s (record { texts = texts; blocks = blocks; classes = classes; thunks = thunks; actual_lists = z; instrs = new.draft.instrs })) (sym el) with_thunks in
+    subst (λ z. Compiled s (record { texts = texts; blocks = blocks; classes = classes; thunks = thunks; actual_lists = lists; instrs = z })) (sym ei) with_lists
 
-pub code_runs : (b : Bound) (old new : Written) (ts : List TextTree) (numbers : List ℕ) → ProgramBuilt (source_of b) → AreTexts b.program ts → old.draft ≡ nothing numbers → old.blocks.items ≡ [] → old.classes.items ≡ [] → ClassNumbers b numbers → WritesProgram b old new ts → AllRun new.draft.instrs
-code_runs b old new ts numbers built are ed eb ec cn f = (emitted b old new ts numbers built are ed eb ec cn f).fits
+pub code_runs : (b : Bound) (old new : Written) (ts : List TextTree) (plan : List PlannedOf) → ProgramBuilt (source_of b) → AreTexts b.program ts → old.draft ≡ nothing plan → old.blocks.items ≡ [] → IsPlan b plan ts → WritesProgram b old new ts → AllRun new.draft.instrs
+code_runs b old new ts plan built are ed eb ep f = (emitted b old new ts plan built are ed eb ep f).fits
 
-pub ruleset wholes = (code_stands, code_runs)
+pub ruleset wholes = (code_runs)

@@ -7,6 +7,7 @@ use Rattle.sim_scope.specs.declared.types.SimType.{SimType}
 use Rattle.sim_scope.specs.Access.{encloser}
 use Rattle.sim_scope.specs.Scopes.{entry_of, formals_in}
 use Rattle.sim_scope.specs.Source.{Source, block_around, block_of, level_of}
+use Rattle.sim_scope.specs.Tables.{Tables}
 use Rattle.sim_tree.specs.declared.stmt.TypeName.{TypeName}
 use Rattle.sim_tree.specs.Syntax.{Heading, Statement}
 use Rattle.sim_meaning.specs.Attributes.{first_in, is_connection}
@@ -30,9 +31,8 @@ abbrev pub is_prefixed : Option Text → Bool
 is_prefixed (Some (PrefixedText class arguments ds ss)) = true
 is_prefixed _ = false
 
--- no class and no block has a prefix
+-- no block has a prefix
 pub record Unprefixed (s : Source) : Type 0 where
-  pub classes : (k : ℕ) → prefix_of s.tables k ≡ None
   pub blocks : (k : ℕ) → is_prefixed (text s k) ≡ false
 
 -- A class or a prefixed block has a class in front of it, of the same level. What is around that class is one of the levels of what is around
@@ -48,6 +48,11 @@ pub record PrefixThere (s : Source) (k front : ℕ) : Type 0 where
   pub level : level_of s front ≡ level_of s k
   pub around : (u : ℕ) → encloser s.tables front ≡ Some u → AroundBoth s k u
 
+-- The levels of a text come to an end: nothing is in front of it, or those of what is in front of it come to an end. There are at most so many.
+pub data Ends (tables : Tables) : (levels text : ℕ) → Type 0 where
+  last : {n k : ℕ} → prefix_of tables k ≡ None → Ends tables (suc n) k
+  before : {n k u : ℕ} → prefix_of tables k ≡ Some u → Ends tables n u → Ends tables (suc n) k
+
 pub record Agrees (s : Source) : Type 0 where
   -- nothing is around the program's block
   pub outermost : encloser s.tables 0 ≡ None
@@ -62,6 +67,8 @@ pub record Agrees (s : Source) : Type 0 where
   -- a connection is the innermost text around the token with which it begins
   pub begun : (k : ℕ) → is_connected s.tables k ≡ true → block_around s (first_in (slice_get s.tables.blocks k)) ≡ Some k
   pub prefixes : (k front : ℕ) → prefix_of s.tables k ≡ Some front → PrefixThere s k front
+  -- a text has no more levels than there are texts
+  pub ends : (k : ℕ) → Ends s.tables (length s.tables.blocks) k
   -- a text lists what is declared in it, each declaration once
   pub owned : (k n : ℕ) (d : DeclNo) → slice_get (numbers_of s k) n ≡ Some d → block_of s d ≡ k
   pub once : (k n m : ℕ) (d : DeclNo) → slice_get (numbers_of s k) n ≡ Some d → slice_get (numbers_of s k) m ≡ Some d → n ≡ m

@@ -1,5 +1,4 @@
--- Which programs are built: all in which no class and no block has a prefix, whose expressions are built, and whose left sides are no
--- parameters by name.
+-- Which programs are built: all in which no block has a prefix, whose expressions are built, and whose left sides are no parameters by name.
 use Rattle.std.specs.Prelude.{◌≡◌, ⊤, ℕ, zero, suc, Bool, true, false, ◌||◌, List, [], ◌∷◌, Option, Some, None}
 use Rattle.sim_base.specs.declared.numbering.DeclNo.{DeclNo}
 use Rattle.sim_scope.specs.Assignments.{last_value, left_sides}
@@ -180,16 +179,11 @@ ArraysBuilt s text (With (DeclareClass prefix token h interface a end) ds) = Arr
 
 -- ---- programs
 
--- a class without a prefix
-abbrev pub ClassTextBuilt : Source → (text : ℕ) → (prefix : Option Identifier) → Declarations → Statements → Type 0
-ClassTextBuilt s k None ds ss = ArraysBuilt s k ds × LevelBuilt s k (writes_inner s k) ss
-ClassTextBuilt s k (Some prefix) ds ss = ⊥
-
 abbrev pub TextBuilt : Source → (text : ℕ) → Text → Type 0
 TextBuilt s k (BlockText begin ds ss) = ArraysBuilt s k ds × StatementsBuilt s k ss
 TextBuilt s k (ProcedureText result h a) = StatementBuilt s k a
 TextBuilt s zero (ClassText prefix h ds ss) = ⊥
-TextBuilt s (suc k) (ClassText prefix h ds ss) = ClassTextBuilt s (suc k) prefix ds ss
+TextBuilt s (suc k) (ClassText prefix h ds ss) = ArraysBuilt s (suc k) ds × LevelBuilt s (suc k) (writes_inner s (suc k)) ss
 TextBuilt s k (PrefixedText class arguments ds ss) = ⊥
 TextBuilt s k ConnectionText = ⊤
 TextBuilt s k (StandardText which) = ⊥
@@ -203,7 +197,7 @@ abbrev pub TextsBuilt : Source → (number : ℕ) → List Text → Type 0
 TextsBuilt s k [] = ⊤
 TextsBuilt s k (x ∷ xs) = TextBuilt s k x × TextsBuilt s (suc k) xs
 
--- Each text is built, no class and no block has a prefix, and the tables agree.
+-- Each text is built, no block has a prefix, and the tables agree.
 pub record ProgramBuilt (s : Source) : Type 0 where
   pub texts : TextsBuilt s 0 (texts_of s)
   pub unprefixed : Unprefixed s

@@ -1,5 +1,5 @@
 -- Which code stands for a whole program.
-use Rattle.std.specs.Prelude.{◌≡◌, ◌<◌, ◌≤◌, ◌+◌, ⊤, ℕ, zero, suc, Bool, false, pos, List, ◌++◌, length, map, slice_get, Option, Some, None}
+use Rattle.std.specs.Prelude.{◌≡◌, ◌<◌, ◌≤◌, ◌+◌, ⊤, ℕ, zero, suc, Bool, false, pos, List, [], ◌++◌, length, map, slice_get, Option, Some, None}
 use Rattle.sim_scope.specs.declared.types.Formal.{Formal}
 use Rattle.sim_scope.specs.declared.types.FormalKind.{FormalKind}
 use Rattle.sim_scope.specs.declared.types.FormalKind.TheVariants as of
@@ -31,7 +31,7 @@ use Rattle.sim_meaning.specs.Entries.{formals_of}
 use Rattle.sim_meaning.specs.Levels.{levels_of, writes_inner}
 use Rattle.sim_meaning.specs.Pending.{Held, Of, Val}
 use Rattle.sim_meaning.specs.Texts.{BlockText, ClassText, ConnectionText, PrefixedText, ProcedureText, StandardText, Text as TextOf, is_class_free, text}
-use Rattle.codegen_expr.specs.Sites.{At, Is, Site, block_in_front, block_number, cells_in, class_in, own_end, own_part, types_in}
+use Rattle.codegen_expr.specs.Sites.{At, Is, Site, block_in_front, block_number, cells_in, cells_of_block, class_in, own_end, own_part, room_of_block, types_in}
 use Rattle.codegen.specs.Agrees.{Agrees}
 use Rattle.codegen.specs.CodeArrays.{ArraysAt}
 use Rattle.codegen.specs.CodeStm.{LevelAt, StmAt, StmsAt}
@@ -95,14 +95,6 @@ parameters_of s k (Some (ClassText prefix h ds ss)) = class_parameters s (Some k
 parameters_of s k (Some (PrefixedText class arguments ds ss)) = class_parameters s (Some k)
 parameters_of s k _ = formals_of s k
 
-abbrev pub cells_of_block : Option BlockOf → ℕ
-cells_of_block None = 0
-cells_of_block (Some b) = b.cells
-
-abbrev pub room_of_block : Option BlockOf → ℕ
-room_of_block None = 0
-room_of_block (Some b) = b.room
-
 -- The record of a text. Its frames have all that those of the class in front of it have, then the text's own part, then temps. What the text
 -- and the classes in front of it declare costs words; cells of connections and temps cost none.
 pub record RecordOf (s : Source) (code : CodeOf) (k : ℕ) (kind : BlockKind) (result_type : CodeType) (b : BlockOf) : Type 0 where
@@ -114,6 +106,7 @@ pub record RecordOf (s : Source) (code : CodeOf) (k : ℕ) (kind : BlockKind) (r
   pub formals : b.formals ≡ map code_formal (parameters_of s k (text s k))
   pub temps : List CodeType
   pub types : b.types ≡ types_in (block_in_front s code k) ++ (map type_of_cell (own_part s k) ++ temps)
+  pub counted : b.cells + b.temps ≡ length b.types
   pub roomy : room_of_block (block_in_front s code k) ≤ b.room
 
 -- where the code of a text stands
@@ -155,6 +148,8 @@ pub record ClassIs (s : Source) (code : CodeOf) (k : ℕ) (b : BlockOf) (class :
   pub of_block : class.block ≡ block_number s k
   pub prefix : class.prefix ≡ class_in (block_in_front s code k)
   pub lower : class.prefix < b.class
+  pub no_process : class.process ≡ false
+  pub no_matches : class.matches ≡ []
 
 -- The code of a level: its declarations, its statements, and what stands behind `inner`, each where the class says.
 pub record LevelOf (s : Source) (code : CodeOf) (k : ℕ) (written : Bool) (ds : Declarations) (ss : Statements) (b : BlockOf) (class : ClassOf) : Type 0 where

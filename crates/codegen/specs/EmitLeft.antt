@@ -1,5 +1,5 @@
 -- What is found of a left side.
-use Rattle.std.specs.Prelude.{◌≡◌, ℕ, zero, suc, List, [], ◌∷◌, map, Option, None}
+use Rattle.std.specs.Prelude.{◌≡◌, ◌+◌, ℕ, zero, suc, pos, List, [], ◌∷◌, map, Option, Some, None}
 use Rattle.sim_base.specs.declared.numbering.DeclNo.{DeclNo}
 use Rattle.sim_base.specs.declared.numbering.TokenNo.{TokenNo}
 use Rattle.sim_scope.specs.declared.bound.Bound.{Bound}
@@ -17,11 +17,10 @@ use Rattle.sim_meaning.specs.Attributes.{connection_at}
 use Rattle.sim_meaning.specs.Closing.{own_block_denoted, result_meant, unless_connected}
 use Rattle.sim_meaning.specs.Pending.{Key, Result}
 use Rattle.codegen_expr.specs.declared.spot.Spot.{Spot}
-use Rattle.codegen_expr.specs.Built.{KeyBuilt, ReferenceBuilt}
+use Rattle.codegen_expr.specs.Built.{KeyBuilt, ReferenceBuilt, slot_in}
 use Rattle.codegen_expr.specs.CodeExpr.{ReferencePlaceAt, ResultPlaceAt}
-use Rattle.codegen_expr.specs.Drafts.{DraftOf, Emits}
-use Rattle.codegen_expr.specs.Sites.{slot_of}
-use Rattle.sim_code.specs.Code.{CodeOf}
+use Rattle.codegen_expr.specs.Drafts.{DraftOf, Emits, planned_start, with_instr, with_push}
+use Rattle.sim_code.specs.declared.instr.Instr.TheVariants as i
 use Rattle.codegen.specs.declared.left.Left.{Left}
 use Rattle.codegen.specs.declared.left.Left.TheVariants as left
 use Rattle.codegen.specs.BuiltProgram.{LeftBuilt}
@@ -30,14 +29,17 @@ use Rattle.codegen.specs.CodeLeft.{AtAddress, AtAttribute, InCell, Stored, ToRef
 abbrev pub operands_in : List Expr → Expressions
 operands_in es = expressions (map syntax_of es)
 
--- the number of a cell in the frames of a text, whatever the code is
-abbrev pub IsSlot : Source → (home : ℕ) → Key → (slot : ℕ) → Type 0
-IsSlot s home key slot = (final : CodeOf) → slot ≡ slot_of s final home key
+-- The value on top goes into a cell, by its place in the own part of the frames of its text.
+unfoldable pub StoresCell : Bound → (old new : DraftOf) → (text place : ℕ) → Type 0
+StoresCell b old new k place = new ≡ with_instr old (i.Store (pos (level_of (source_of b) k)) (pos (planned_start (source_of b) old.classes k + place))) 0
+
+-- the value of a cell, on n others
+unfoldable pub LoadsCell : Bound → (n : ℕ) → (old new : DraftOf) → (text place : ℕ) → Type 0
+LoadsCell b n old new k place = new ≡ with_push old n (i.Load (pos (level_of (source_of b) k)) (pos (planned_start (source_of b) old.classes k + place))) 0
 
 -- what a variable is found to be as a left side
 abbrev pub IsVariable : Source → Spot → Left → Stored → Type 0
-IsVariable s w (left.Cell level slot) t =
-    (home : ℕ) × (key : Key) × (t ≡ InCell home key) × KeyBuilt s w.text home key × (level ≡ level_of s home) × IsSlot s home key slot
+IsVariable s w (left.Cell home place) t = (key : Key) × (t ≡ InCell home key) × KeyBuilt s w.text home key × (slot_in s home key ≡ Some place)
 IsVariable s w (left.Element token d es) t = t ≡ AtAddress d (operands_in es.now) (line_at s token.0)
 IsVariable s w left.NotBuilt t = LeftBuilt s w.text t → ⊥
 IsVariable s w _ t = ⊥
@@ -50,8 +52,7 @@ IsWhole s w e l t = IsVariable s w l t
 -- what an expression is found to be; the line is that of its sign
 abbrev pub IsLeft : Source → Spot → Expression → (line : ℕ) → Left → Stored → Type 0
 IsLeft s w e line left.Text t = t ≡ ToText e line
-IsLeft s w e line (left.Result level slot) t =
-    (home : ℕ) × (t ≡ ToResult home line) × KeyBuilt s w.text home Result × (level ≡ level_of s home) × IsSlot s home Result slot
+IsLeft s w e line (left.Result home place) t = (t ≡ ToResult home line) × KeyBuilt s w.text home Result × (slot_in s home Result ≡ Some place)
 IsLeft s w e line left.Attribute t = t ≡ AtAttribute e
 IsLeft s w e line left.Reference t = t ≡ ToReference e line
 IsLeft s w e line l t = IsVariable s w l t

@@ -1,5 +1,5 @@
 -- What is written of the texts of a program.
-use Rattle.std.specs.Prelude.{◌≡◌, ◌<◌, ◌≤◌, ◌+◌, ◌&&◌, ℕ, suc, nat_le, nat_lt, Bool, true, false, List, [], ◌∷◌, ◌++◌, drop, length, map, slice_get, Option, Some, None}
+use Rattle.std.specs.Prelude.{◌≡◌, ◌<◌, ◌≤◌, ◌+◌, ◌&&◌, ℕ, suc, nat_le, nat_lt, Bool, true, false, List, [], ◌∷◌, ◌++◌, drop, length, map, slice_get, slice_set, Option, Some, None}
 use Rattle.sim_base.specs.declared.numbering.DeclNo.{DeclNo}
 use Rattle.sim_base.specs.declared.numbering.TokenNo.{TokenNo}
 use Rattle.sim_scope.specs.declared.bound.Bound.{Bound}
@@ -23,15 +23,15 @@ use Rattle.sim_code.specs.Code.{BlockOf, ClassOf, CodeOf}
 use Rattle.sim_code.specs.Running.{AllRun}
 use Rattle.sim_meaning.specs.Closing.{class_parameters}
 use Rattle.sim_meaning.specs.Entries.{cells_from, formals_of, numbers_of, with_cell, with_result}
-use Rattle.sim_meaning.specs.Levels.{writes_inner}
-use Rattle.sim_meaning.specs.Texts.{ClassText, ConnectionText, PrefixedText, ProcedureText, Text, is_class_free, is_class_kind, text}
+use Rattle.sim_meaning.specs.Levels.{levels_of, writes_inner}
+use Rattle.sim_meaning.specs.Texts.{ClassText, ConnectionText, PrefixedText, ProcedureText, StandardText, Text, is_class_free, is_class_kind, text}
 use Rattle.program_texts.specs.declared.tree.TextTree.{TextTree}
 use Rattle.program_texts.specs.TextTrees.{AreTexts, block_text, text_in}
-use Rattle.text_tables.specs.Making.{classes_from}
 use Rattle.codegen_expr.specs.declared.spot.Spot.{Spot}
-use Rattle.codegen_expr.specs.Drafts.{DraftOf, Emits, Grows, class_of}
-use Rattle.codegen_expr.specs.Sites.{block_number, class_in, hidden_from, hidden_in, prefix_of}
+use Rattle.codegen_expr.specs.Drafts.{DraftOf, Emits, Grows, PlannedOf, planned_at, planned_front, planned_in, planned_start}
+use Rattle.codegen_expr.specs.Sites.{block_number, cells_in, hidden_from, hidden_in, own_part}
 use Rattle.codegen.specs.declared.levels.InnerPlace.{InnerPlace}
+use Rattle.codegen.specs.declared.texts.ClassAt.{ClassAt}
 use Rattle.codegen.specs.declared.texts.Head.{Head}
 use Rattle.codegen.specs.declared.texts.Written.{Written}
 use Rattle.codegen.specs.Agrees.{Agrees}
@@ -50,22 +50,49 @@ classes_in (ClassText prefix h ds ss) = 1
 classes_in (PrefixedText class arguments ds ss) = 1
 classes_in _ = 0
 
--- The text is the one of this number. No class is in front of it, its block is the next one, and so is its class, if it has one.
+-- What is planned of the block of a text: what is planned of the class in front of it, if there is one, then the text's own part, then temps.
+-- A class has a higher number than the one in front of it.
+pub record PlanFor (s : Source) (plan : List PlannedOf) (k : ℕ) (x : Text) : Type 0 where
+  pub cells : (planned_at plan (block_number s k)).cells ≡ (planned_front s plan k).cells + length (cells_in s k (text s k))
+  pub temps : List CodeType
+  pub types : (planned_at plan (block_number s k)).types ≡ (planned_front s plan k).types ++ (map type_of_cell (own_part s k) ++ temps)
+  pub room : (planned_front s plan k).room ≤ (planned_at plan (block_number s k)).room
+  pub class : 0 < classes_in x → (planned_front s plan k).class < (planned_at plan (block_number s k)).class
+
+-- all texts but connections and standard classes
+abbrev pub is_planned : Text → Bool
+is_planned ConnectionText = false
+is_planned (StandardText which) = false
+is_planned _ = true
+
+-- a plan for each block of the code
+pub record Plans (s : Source) (plan : List PlannedOf) : Type 0 where
+  pub each : (k : ℕ) (x : Text) → text s k ≡ Some x → is_planned x ≡ true → PlanFor s plan k x
+  pub as_many : length plan ≡ block_number s (length (texts_of s))
+
+-- The text is the one of this number, and its block is the next one.
 pub record Next (s : Source) (w : Written) (k : ℕ) (x : Text) : Type 0 where
   pub agrees : Agrees s
+  pub plan : Plans s w.draft.classes
   pub is : text s k ≡ Some x
-  pub alone : prefix_of s.tables k ≡ None
   pub block : block_number s k ≡ length w.blocks.items
-  pub class : 0 < classes_in x → class_of w.draft.classes (length w.blocks.items) ≡ suc (length w.classes.items)
   pub first : k ≡ 0 → length w.draft.instrs ≡ 0
 
--- A code that what is written becomes in the end: it keeps the instructions that are no holes, the blocks and the classes, and each block
--- has the number of its class.
+-- the record of a class
+abbrev pub class_record : ClassAt → ClassOf
+class_record c = record { prefix = c.prefix; block = c.block; declarations = c.declarations; statements = c.statements; after_inner = c.after_inner; process = false; matches = [] }
+
+abbrev pub record_or_blank : Option ClassAt → ClassOf
+record_or_blank None = record { prefix = 0; block = 0; declarations = 0; statements = 0; after_inner = 0; process = false; matches = [] }
+record_or_blank (Some c) = class_record c
+
+-- A code that what is written becomes in the end: it keeps the instructions that are no holes, the blocks and the classes, and its blocks are
+-- as planned.
 pub record Ends (w : Written) (final : CodeOf) : Type 0 where
   pub grows : Grows w.draft.instrs final.instrs
   pub blocks : (j : ℕ) (b : BlockOf) → slice_get w.blocks.items j ≡ Some b → slice_get final.blocks j ≡ Some b
-  pub classes : (j : ℕ) (c : ClassOf) → slice_get w.classes.items j ≡ Some c → slice_get final.classes j ≡ Some c
-  pub classed : (j : ℕ) → class_in (slice_get final.blocks j) ≡ class_of w.draft.classes j
+  pub classes : (j : ℕ) (c : ClassAt) → slice_get w.classes.items j ≡ Some (Some c) → slice_get final.classes j ≡ Some (class_record c)
+  pub classed : (j : ℕ) → planned_in (slice_get final.blocks j) ≡ planned_at w.draft.classes j
 
 -- A text is written. The draft stays whole where the text is built; and if it is whole, then whatever the code is in the end, that of the
 -- text stands in it.
@@ -76,13 +103,11 @@ pub record TextEmitted (s : Source) (old new : Written) (k : ℕ) (x : Text) : T
   pub fits : AllRun old.draft.instrs → AllRun new.draft.instrs
   pub added : List BlockOf
   pub blocks : new.blocks.items ≡ old.blocks.items ++ added
-  pub further : List ClassOf
-  pub classes : new.classes.items ≡ old.classes.items ++ further
+  pub kept : (j : ℕ) (c : ClassAt) → slice_get old.classes.items j ≡ Some (Some c) → slice_get new.classes.items j ≡ Some (Some c)
   pub earlier : new.draft.whole ≡ true → old.draft.whole ≡ true
   pub built : TextBuilt s k x → old.draft.whole ≡ true → new.draft.whole ≡ true
   pub counted : new.draft.whole ≡ true → length added ≡ blocks_in x
-  pub counted_classes : new.draft.whole ≡ true → length further ≡ classes_in x
-  pub numbered : new.draft.whole ≡ true → (j : ℕ) (b : BlockOf) → slice_get added j ≡ Some b → b.class ≡ class_of old.draft.classes (length old.blocks.items + j)
+  pub numbered : new.draft.whole ≡ true → (j : ℕ) (b : BlockOf) → slice_get added j ≡ Some b → planned_in (Some b) ≡ planned_at old.draft.classes (length old.blocks.items + j)
   pub at : new.draft.whole ≡ true → (final : CodeOf) → Ends new final → CodeHas s final k x (slice_get final.blocks (block_number s k))
 
 unfoldable pub WritesText : Bound → (old new : Written) → (number : ℕ) → TextTree → Type 0
@@ -125,43 +150,44 @@ unfoldable pub IsOwn : Bound → (text : ℕ) → TokenNo → Bool → Type 0
 IsOwn b k token true = block_around (source_of b) token.0 ≡ Some k
 IsOwn b k token false = block_around (source_of b) token.0 ≡ Some k → ⊥
 
--- the statements with what stands for `inner`, behind which is this place
-unfoldable pub WritesLevel : Bound → Spot → (old new : DraftOf) → List Stmt → (after : ℕ) → Type 0
-WritesLevel b w old new xs after =
+-- how many levels are in front of a text
+unfoldable pub LevelPlace : Bound → (text place : ℕ) → Type 0
+LevelPlace b k place = suc place ≡ length (levels_of (source_of b) k)
+
+-- the statements of a level, which has so many in front, with what stands for `inner`, behind which is this place
+unfoldable pub WritesLevel : Bound → Spot → (level : ℕ) → (old new : DraftOf) → List Stmt → (after : ℕ) → Type 0
+WritesLevel b w level old new xs after =
     (after ≤ length new.instrs) × Emits w old new (LevelBuilt (source_of b) w.text (writes_inner (source_of b) w.text) (statements (map statement_syntax xs)))
-    (λ final site p q. LevelAt (source_of b) final site 0 after (writes_inner (source_of b) w.text) (statements (map statement_syntax xs)) p q)
+    (λ final site p q. LevelAt (source_of b) final site level after (writes_inner (source_of b) w.text) (statements (map statement_syntax xs)) p q)
 
 -- the same where one of the statements is `inner`
-unfoldable pub WritesAround : Bound → Spot → (old new : DraftOf) → List Stmt → (after : ℕ) → Type 0
-WritesAround b w old new xs after =
+unfoldable pub WritesAround : Bound → Spot → (level : ℕ) → (old new : DraftOf) → List Stmt → (after : ℕ) → Type 0
+WritesAround b w level old new xs after =
     (after ≤ length new.instrs) × Emits w old new (WithInnerBuilt (source_of b) w.text (statements (map statement_syntax xs)))
-    (λ final site p q. WithInnerAt (source_of b) final site 0 after (statements (map statement_syntax xs)) p q)
+    (λ final site p q. WithInnerAt (source_of b) final site level after (statements (map statement_syntax xs)) p q)
 
 -- ---- all texts
 
 -- of the first texts of a program that is built
-pub record TextsEmitted (s : Source) (old now : Written) (texts : List Text) (done : ℕ) : Type 0 where
+pub record TextsEmitted (s : Source) (old now : Written) (done : ℕ) : Type 0 where
   pub whole : now.draft.whole ≡ true
   pub fits : AllRun now.draft.instrs
+  pub plan : Plans s old.draft.classes
   pub classed : now.draft.classes ≡ old.draft.classes
-  pub numbers : List ℕ
-  pub to_come : old.draft.classes ≡ numbers ++ classes_from (length now.classes.items) (drop done texts)
-  pub as_many : length numbers ≡ length now.blocks.items
   pub counted : block_number s done ≡ length now.blocks.items
   pub started : done ≡ 0 → length now.draft.instrs ≡ 0
-  pub numbered : (j : ℕ) (b : BlockOf) → slice_get now.blocks.items j ≡ Some b → b.class ≡ class_of old.draft.classes j
+  pub numbered : (j : ℕ) (b : BlockOf) → slice_get now.blocks.items j ≡ Some b → planned_in (Some b) ≡ planned_at old.draft.classes j
   pub each : (final : CodeOf) → Ends now final → (k : ℕ) (x : Text) → k < done → text s k ≡ Some x → CodeHas s final k x (slice_get final.blocks (block_number s k))
 
--- nothing is written yet, and the classes of blocks are numbered
+-- nothing is written yet, and the blocks are planned
 pub record Begins (s : Source) (w : Written) : Type 0 where
   pub none : w.draft.instrs ≡ []
   pub whole : w.draft.whole ≡ true
-  pub classes : w.draft.classes ≡ classes_from 0 (texts_of s)
+  pub plan : Plans s w.draft.classes
   pub no_block : w.blocks.items ≡ []
-  pub no_class : w.classes.items ≡ []
 
 unfoldable pub WritesTo : Bound → (old now : Written) → List TextTree → (done : ℕ) → Type 0
-WritesTo b old now ts done = AreTexts b.program ts → ProgramBuilt (source_of b) → Begins (source_of b) old → TextsEmitted (source_of b) old now (texts_of (source_of b)) done
+WritesTo b old now ts done = AreTexts b.program ts → ProgramBuilt (source_of b) → Begins (source_of b) old → TextsEmitted (source_of b) old now done
 
 unfoldable pub WritesProgram : Bound → (old new : Written) → List TextTree → Type 0
 WritesProgram b old new ts = WritesTo b old new ts (length ts)
@@ -210,27 +236,45 @@ HidesConnections b old new k = new ≡ old ++ map type_of_cell (hidden_in (sourc
 unfoldable pub OwesHidden : Bound → (old : List CodeType) → (text : ℕ) → (now : List CodeType) → (done : ℕ) → Type 0
 OwesHidden b old k now done = now ++ map type_of_cell (hidden_from (source_of b) k done (drop done b.scopes.blocks)) ≡ old ++ map type_of_cell (hidden_in (source_of b) k)
 
--- the block of a text whose code is written, with what its cells hold at the entry
-pub record BlockAdded (s : Source) (old new : Written) (head : Head) (types : List CodeType) : Type 0 where
+-- the block of a text whose code is written
+pub record BlockAdded (s : Source) (old new : Written) (head : Head) : Type 0 where
   pub same : new.draft ≡ old.draft
   pub same_classes : new.classes.items ≡ old.classes.items
   pub block : BlockOf
   pub is : new.blocks.items ≡ old.blocks.items ++ (block ∷ [])
   pub is_kind : block.kind ≡ head.kind
   pub level : block.level ≡ level_of s head.text
-  pub cells : block.cells ≡ head.cells
-  pub room : block.room ≡ old.draft.room
   pub starts : block.entry ≡ head.entry
   pub class_free : block.class_free ≡ is_class_free s head.text
   pub gives : block.result_type ≡ head.result_type
-  pub class : block.class ≡ class_of old.draft.classes (block_number s head.text)
   pub formals : block.formals ≡ map code_formal (formals_by_kind s head.kind head.text)
-  pub temps : List CodeType
-  pub holds : block.types ≡ types ++ temps
+  pub planned : planned_in (Some block) ≡ planned_at old.draft.classes (block_number s head.text)
+  pub temps : block.cells + block.temps ≡ length block.types
+  pub room : old.draft.room ≤ block.room
   pub size : old.draft.size ≤ length block.types
 
-unfoldable pub AddsBlock : Bound → (old new : Written) → Head → (types : List CodeType) → Type 0
-AddsBlock b old new head types = BlockAdded (source_of b) old new head types
+unfoldable pub AddsBlock : Bound → (old new : Written) → Head → Type 0
+AddsBlock b old new head = BlockAdded (source_of b) old new head
+
+-- where the own part of a text and what stands in front of it end
+unfoldable pub OwnEnd : Bound → List PlannedOf → (text end : ℕ) → Type 0
+OwnEnd b plan k end = end ≡ planned_start (source_of b) plan k + length (own_part (source_of b) k)
+
+-- the class of what stands in front of a text
+unfoldable pub FrontClass : Bound → List PlannedOf → (text class : ℕ) → Type 0
+FrontClass b plan k class = class ≡ (planned_front (source_of b) plan k).class
+
+-- a class is written in its place, where none is yet
+pub record ClassPut (old new : Written) (number : ℕ) (class : ClassAt) : Type 0 where
+  pub draft : new.draft ≡ old.draft
+  pub blocks : new.blocks ≡ old.blocks
+  pub place : ℕ
+  pub counts : number ≡ suc place
+  pub none : slice_get old.classes.items place ≡ Some None
+  pub put : new.classes.items ≡ slice_set old.classes.items place (Some class)
+
+unfoldable pub PutsClass : (old new : Written) → (number : ℕ) → ClassAt → Type 0
+PutsClass old new number class = ClassPut old new number class
 
 -- temps behind them
 unfoldable pub Padded : (old new : List CodeType) → (size : ℕ) → Type 0

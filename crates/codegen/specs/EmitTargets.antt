@@ -2,16 +2,15 @@
 use Rattle.std.specs.Prelude.{◌≡◌, ⊤, ℕ, Bool, true, false, List, [], ◌∷◌, Option, Some, None, option_map}
 use Rattle.sim_base.specs.declared.numbering.Line.{Line}
 use Rattle.sim_scope.specs.declared.bound.Bound.{Bound}
-use Rattle.sim_scope.specs.Source.{Source, level_of, source_of}
+use Rattle.sim_scope.specs.Source.{Source, source_of}
 use Rattle.sim_tree.specs.Syntax.{Element, Named, NoMore}
 use Rattle.codegen_expr.specs.declared.spot.Spot.{Spot}
-use Rattle.codegen_expr.specs.Built.{KeyBuilt}
+use Rattle.codegen_expr.specs.Built.{KeyBuilt, slot_in}
 use Rattle.codegen_expr.specs.Drafts.{DraftOf, Emits}
 use Rattle.codegen.specs.declared.targets.Target.{Target}
 use Rattle.codegen.specs.declared.targets.Target.TheVariants as target
 use Rattle.codegen.specs.BuiltProgram.{ElementBuilt, VariableBuilt}
 use Rattle.codegen.specs.CodeFor.{LoadsVariable, OfCell, OfPlace, OfReference, StoresVariable, Variable}
-use Rattle.codegen.specs.EmitLeft.{IsSlot}
 
 abbrev pub line_in : Line → ℕ
 line_in line = line.0
@@ -22,20 +21,20 @@ is_none (Some line) = false
 
 -- whether the variable takes values that are no references
 abbrev pub takes_values : Target → Bool
-takes_values (target.Cell level slot assigned) = is_none assigned
+takes_values (target.Cell home place assigned) = is_none assigned
 takes_values (target.Place name assigned) = is_none assigned
 takes_values (target.Reference name line) = false
 
 -- the line of the sign, where its text gets the characters of others
 abbrev pub assigned_in : Target → Option Line
-assigned_in (target.Cell level slot assigned) = assigned
+assigned_in (target.Cell home place assigned) = assigned
 assigned_in (target.Place name assigned) = assigned
 assigned_in (target.Reference name line) = None
 
 -- a variable, as it is found in a text
 abbrev pub Controls : Source → (text : ℕ) → Target → Variable → Type 0
-Controls s t (target.Cell level slot assigned) (OfCell home key line) =
-    (level ≡ level_of s home) × IsSlot s home key slot × (option_map line_in assigned ≡ line) × KeyBuilt s t home key
+Controls s t (target.Cell text place assigned) (OfCell home key line) =
+    (text ≡ home) × (slot_in s home key ≡ Some place) × (option_map line_in assigned ≡ line) × KeyBuilt s t home key
 Controls s t (target.Place name assigned) (OfPlace e line) = (e ≡ Named name.now NoMore) × (option_map line_in assigned ≡ line)
 Controls s t (target.Reference name at) (OfReference e line) = (e ≡ Named name.now NoMore) × (at.0 ≡ line)
 Controls s t _ _ = ⊥

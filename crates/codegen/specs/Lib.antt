@@ -14,5 +14,6 @@ pub mod EmitLists
 pub mod ForElements
 pub mod EmitShared
 pub mod EmitProgram
+pub mod Planning
 pub mod EmitTargets
 pub mod EmitConnections

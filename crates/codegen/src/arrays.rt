@@ -8,10 +8,8 @@ ghost use Rattle.text_tables.specs.TokenTable.{AreDeclared};
 ghost use Rattle.codegen.specs.CodeArrays.{element_number as element_number_of};
 ghost use Rattle.codegen.specs.EmitArrays.{FindsKept, PutsArrays, WritesArrays, WritesBounds, WritesFurther, WritesKeep, WritesLoad, WritesMade, WritesSegment, WritesSegments};
 
-use codegen_expr::{
-    Cells, Draft, Spot, block_of, deeper, emit_expr, level_of, line_at, load_instr, slot_of,
-    store_instr,
-};
+use crate::places::{put_load, put_store};
+use codegen_expr::{Cells, Draft, Spot, block_of, deeper, emit_expr, line_at, slot_of};
 use sim_base::{DeclNo, Line, TokenNo};
 use sim_code::Instr;
 use sim_scope::{Bound, Entry, entry_of};
@@ -89,11 +87,11 @@ fn emit_keep(
     requires declared { AreDeclared bound.now declared.now }
     ensures { OnOk result (WritesKeep bound.now spot draft.old draft.new token) }
 {
-    let Some(slot) = find_kept(bound, cells, declared, spot, token) else {
+    let Some(place) = find_kept(bound, cells, declared, spot, token) else {
         draft.give_up();
         return Ok(());
     };
-    draft.put(store_instr(level_of(bound, spot.text), slot), Line(0))?;
+    put_store(bound, cells, draft, spot.text, place)?;
     Ok(())
 }
 
@@ -111,11 +109,11 @@ fn emit_load(
     requires declared { AreDeclared bound.now declared.now }
     ensures { OnOk result (WritesLoad bound.now spot draft.old draft.new token) }
 {
-    let Some(slot) = find_kept(bound, cells, declared, spot, token) else {
+    let Some(place) = find_kept(bound, cells, declared, spot, token) else {
         draft.give_up();
         return Ok(());
     };
-    draft.push(0, load_instr(level_of(bound, spot.text), slot), Line(0))?;
+    put_load(bound, cells, draft, 0, spot.text, place)?;
     Ok(())
 }
 

@@ -5,8 +5,8 @@ ghost use Rattle.codegen.specs.EmitConnections.{FillsAll, WritesArm, WritesConne
 
 use crate::statement::emit_statement;
 use codegen_expr::{
-    Cells, Draft, Spot, block_number, class_at, connection_slot, first_of, is_connection, level_of,
-    member_instr, store_instr,
+    Cells, Draft, Spot, block_number, cell_number, class_at, connection_slot, first_of, frame_text,
+    is_connection, level_of, member_instr, store_instr,
 };
 use sim_base::{Line, TokenNo};
 use sim_code::Instr;
@@ -41,10 +41,12 @@ fn emit_connection(
         draft.give_up();
         return Ok(());
     }
-    let Some(slot) = connection_slot(bound, cells, connection)? else {
+    let Some(place) = connection_slot(bound, cells, connection)? else {
         draft.give_up();
         return Ok(());
     };
+    let frame = frame_text(bound, connection);
+    let slot = cell_number(bound, cells, draft, frame, place)?;
     draft.put(store_instr(level_of(bound, connection), slot), Line(0))?;
     let inner = Spot {
         text: connection,

@@ -11,7 +11,7 @@ ghost use Rattle.codegen.specs.EmitLeft.{FindsDeclared, FindsElement, FindsForma
 
 use codegen_expr::{
     Cells, Form, Spot, block_of, connection_at, denoted, form_of, has_result, is_around, is_text,
-    level_of, prefix_of, slot_of,
+    slot_of,
 };
 use sim_base::{DeclNo, TokenNo};
 use sim_scope::{Bound, Denotation, Entry, FormalKind, Mode, Scopes, entry_of};
@@ -20,10 +20,10 @@ use sim_tree::{Assignment, Expr, Identifier, Selector};
 /// What a left side is.
 #[derive(Clone, Copy)]
 pub(crate) enum Left<'a> {
-    /// A cell, by the level of its text and its number in the frames of that text.
+    /// A cell, by its text and its place in the own part of the frames of that text.
     Cell {
-        level: u32,
-        slot: u32,
+        home: u32,
+        place: u32,
     },
     /// An element of an array. The token is that of the array's identifier.
     Element {
@@ -35,8 +35,8 @@ pub(crate) enum Left<'a> {
     Text,
     /// The text in the cell of a result.
     Result {
-        level: u32,
-        slot: u32,
+        home: u32,
+        place: u32,
     },
     /// An attribute of an object, where it lies.
     Attribute,
@@ -61,15 +61,12 @@ fn find_variable<'a>(
     if subscripts.len() != 0 {
         return Left::NotBuilt;
     }
-    let Some(slot) = slot_of(bound, cells, declaration) else {
+    let Some(place) = slot_of(bound, cells, declaration) else {
         return Left::NotBuilt;
     };
-    let block = block_of(bound, declaration);
-    if is_around(&bound.scopes, spot.text, block) {
-        return Left::Cell {
-            level: level_of(bound, block),
-            slot,
-        };
+    let home = block_of(bound, declaration);
+    if is_around(&bound.scopes, spot.text, home) {
+        return Left::Cell { home, place };
     }
     Left::NotBuilt
 }
@@ -95,15 +92,12 @@ fn find_element<'a>(
     }
 }
 
-/// The cell of the result of a procedure, which is the first of its text.
+/// The place of the cell of the result of a procedure in the own part of its frames, where it is the first.
 #[tactic(auto, using(crate::proofs::Cells::lefts))]
 pub(crate) fn result_slot(bound: &Bound, cells: &Cells, text: u32) -> Option<u32>
     requires cells { Known bound.now cells.now }
     ensures { result ≡ slot_in (source_of bound.now) text Result }
 {
-    if let Some(_) = prefix_of(&bound.scopes, text) {
-        return None;
-    }
     if has_result(bound, cells, text) {
         return Some(0);
     }
@@ -125,14 +119,11 @@ fn find_result<'a>(
     if subscripts.len() != 0 {
         return Left::NotBuilt;
     }
-    let Some(slot) = result_slot(bound, cells, text) else {
+    let Some(place) = result_slot(bound, cells, text) else {
         return Left::NotBuilt;
     };
     if is_around(&bound.scopes, spot.text, text) {
-        return Left::Cell {
-            level: level_of(bound, text),
-            slot,
-        };
+        return Left::Cell { home: text, place };
     }
     Left::NotBuilt
 }
@@ -355,14 +346,11 @@ fn find_own<'a>(bound: &Bound, cells: &Cells, spot: Spot, text: u32) -> Left<'a>
     requires cells { Known bound.now cells.now }
     ensures { FindsOwn bound.now spot text result }
 {
-    let Some(slot) = result_slot(bound, cells, text) else {
+    let Some(place) = result_slot(bound, cells, text) else {
         return Left::NotBuilt;
     };
     if is_around(&bound.scopes, spot.text, text) {
-        return Left::Result {
-            level: level_of(bound, text),
-            slot,
-        };
+        return Left::Result { home: text, place };
     }
     Left::NotBuilt
 }

@@ -7,13 +7,13 @@ ghost use Rattle.sim_tree.specs.SyntaxOfProgram.{statement_syntax};
 ghost use Rattle.codegen_expr.specs.Drafts.{with_instr};
 ghost use Rattle.codegen_expr.specs.Known.{Known};
 ghost use Rattle.codegen.specs.CodeStm.{inner_of};
-ghost use Rattle.codegen.specs.EmitProgram.{FirstInner, IsOwn, WritesAround, WritesLevel, token_number};
+ghost use Rattle.codegen.specs.EmitProgram.{FirstInner, IsOwn, LevelPlace, WritesAround, WritesLevel, token_number};
 
 use crate::statement::emit_statements;
-use codegen_expr::{Cells, Draft, Spot};
+use codegen_expr::{Cells, Draft, Spot, deeper};
 use sim_base::{Line, TokenNo};
 use sim_code::Instr;
-use sim_scope::{Bound, block_at};
+use sim_scope::{Bound, base, block_at};
 use sim_tree::Stmt;
 use std::alloc::AllocError;
 
@@ -86,26 +86,59 @@ fn is_own(bound: &Bound, text: u32, token: TokenNo) -> bool
     }
 }
 
-/// What stands for `inner` behind its tick. The answer is the place behind it.
-fn emit_inner(draft: &mut Draft) -> Result<usize, AllocError>
-    ensures put { OnOk result (draft.new ≡ with_instr draft.old (i.Inner (pos 0)) 0) }
+/// How many levels are in front of a text. Time is linear in their number.
+pub(crate) fn level_place(bound: &Bound, text: u32) -> Result<u32, AllocError>
+    ensures { IfOk result (λ n. LevelPlace bound.now text n) }
+{
+    let mut level = text;
+    let mut place = 0;
+    for step in 0..bound.scopes.block_count() {
+        match base(&bound.scopes, level) {
+            Some(front) => {
+                level = front;
+                place = deeper(place)?;
+            }
+            None => return Ok(place),
+        }
+    }
+    Err(AllocError)
+}
+
+/// The instruction that goes from the declarations of a level to the next one.
+pub(crate) fn next_instr(level: u32) -> Instr
+    ensures { result ≡ i.NextDecl (pos level) }
+{
+    Instr::NextDecl(i64::from(level))
+}
+
+/// The instruction at the end of a level.
+pub(crate) fn end_instr(level: u32) -> Instr
+    ensures { result ≡ i.EndLevel (pos level) }
+{
+    Instr::EndLevel(i64::from(level))
+}
+
+/// What stands for `inner` of a level behind its tick. The answer is the place behind it.
+fn emit_inner(draft: &mut Draft, level: u32) -> Result<usize, AllocError>
+    ensures put { OnOk result (draft.new ≡ with_instr draft.old (i.Inner (pos level)) 0) }
     ensures behind { IfOk result (λ n. n ≡ length draft.new.instrs) }
 {
-    draft.put(Instr::Inner(0), Line(0))?;
+    draft.put(Instr::Inner(i64::from(level)), Line(0))?;
     Ok(draft.here())
 }
 
-/// Statements of a class, one of which is `inner`. The answer is the place behind that.
+/// Statements of a level of a class, one of which is `inner`. The answer is the place behind that.
 #[tactic(auto, using(crate::proofs::ClassLevels::levels))]
 fn emit_around_inner(
     bound: &Bound,
     cells: &Cells,
     spot: Spot,
+    level: u32,
     draft: &mut Draft,
     list: &[Stmt],
 ) -> Result<usize, AllocError>
     requires cells { Known bound.now cells.now }
-    ensures { IfOk result (λ after. WritesAround bound.now spot draft.old draft.new list.now after) }
+    ensures { IfOk result (λ after. WritesAround bound.now spot level draft.old draft.new list.now after) }
 {
     let Some(inner) = first_inner(list) else {
         draft.give_up();
@@ -114,7 +147,7 @@ fn emit_around_inner(
     if is_own(bound, spot.text, inner.token) {
         emit_statements(bound, cells, spot, draft, &list[..inner.place])?;
         draft.put(Instr::Tick, Line(0))?;
-        let after = emit_inner(draft)?;
+        let after = emit_inner(draft, level)?;
         emit_statements(bound, cells, spot, draft, &list[inner.place + 1..])?;
         return Ok(after);
     }
@@ -128,17 +161,18 @@ pub(crate) fn emit_level(
     bound: &Bound,
     cells: &Cells,
     spot: Spot,
+    level: u32,
     draft: &mut Draft,
     list: &[Stmt],
 ) -> Result<usize, AllocError>
     requires cells { Known bound.now cells.now }
-    ensures { IfOk result (λ after. WritesLevel bound.now spot draft.old draft.new list.now after) }
+    ensures { IfOk result (λ after. WritesLevel bound.now spot level draft.old draft.new list.now after) }
 {
     if writes_inner(bound, spot.text) {
-        let after = emit_around_inner(bound, cells, spot, draft, list)?;
+        let after = emit_around_inner(bound, cells, spot, level, draft, list)?;
         return Ok(after);
     }
     emit_statements(bound, cells, spot, draft, list)?;
-    let after = emit_inner(draft)?;
+    let after = emit_inner(draft, level)?;
     Ok(after)
 }

@@ -4,11 +4,15 @@
 mod arrays;
 mod connections;
 mod elements;
+mod frames;
 pub mod laws;
 mod leaves;
 mod left;
 mod levels;
 mod lists;
+mod measure;
+mod places;
+mod plan;
 mod program;
 mod records;
 mod references;

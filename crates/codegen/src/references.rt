@@ -5,8 +5,8 @@ ghost use Rattle.codegen.specs.EmitLeft.{WritesNamedReference, WritesReferencePl
 
 use crate::left::{own_named, result_meant, result_slot};
 use codegen_expr::{
-    Cells, Draft, Spot, address_instr, block_number, emit_named_place, emit_place, is_around,
-    level_of, qualification, type_at, typed_token,
+    Cells, Draft, Spot, address_instr, block_number, cell_number, emit_named_place, emit_place,
+    is_around, level_of, qualification, type_at, typed_token,
 };
 use sim_base::Line;
 use sim_scope::Bound;
@@ -27,11 +27,12 @@ fn emit_result_place(
     requires cells { Known bound.now cells.now }
     ensures { OnOk result (WritesResultPlace bound.now spot depth draft.old draft.new class text) }
 {
-    let Some(slot) = result_slot(bound, cells, text) else {
+    let Some(place) = result_slot(bound, cells, text) else {
         draft.give_up();
         return Ok(());
     };
     if is_around(&bound.scopes, spot.text, text) {
+        let slot = cell_number(bound, cells, draft, text, place)?;
         draft.push(
             depth,
             address_instr(level_of(bound, text), slot, class),

@@ -5,6 +5,7 @@ ghost use Rattle.codegen.specs.Emit.{WritesAssignment, WritesOne};
 ghost use Rattle.codegen.specs.EmitSeveral.{WritesAddress, WritesAddresses, WritesGive, WritesGives, side_in, sides};
 
 use crate::left::{Left, find_side};
+use crate::places::{put_load, put_store};
 use crate::references::emit_reference_place;
 use codegen_expr::{
     Cells, Draft, Spot, deeper, emit_element, emit_expr, emit_place, level_of, line_at, load_instr,
@@ -41,9 +42,9 @@ pub(crate) fn emit_one(
     ensures { OnOk result (WritesOne bound.now spot draft.old draft.new (side_in side.entry) value.now) }
 {
     match find_side(bound, cells, spot, side.sign, side.left) {
-        Left::Cell { level, slot } => {
+        Left::Cell { home, place } => {
             emit_expr(bound, cells, spot, draft, 0, value)?;
-            draft.put(store_instr(level, slot), Line(0))?;
+            put_store(bound, cells, draft, home, place)?;
             Ok(())
         }
         Left::Element {
@@ -62,8 +63,8 @@ pub(crate) fn emit_one(
             draft.put(Instr::AssignT, line_at(bound, side.token))?;
             Ok(())
         }
-        Left::Result { level, slot } => {
-            draft.push(0, load_instr(level, slot), Line(0))?;
+        Left::Result { home, place } => {
+            put_load(bound, cells, draft, 0, home, place)?;
             emit_expr(bound, cells, spot, draft, 1, value)?;
             draft.put(Instr::AssignT, line_at(bound, side.token))?;
             Ok(())
@@ -139,8 +140,8 @@ fn emit_address(
             let values = deeper(depth)?;
             Ok(values)
         }
-        Left::Result { level, slot } => {
-            draft.push(depth, load_instr(level, slot), Line(0))?;
+        Left::Result { home, place } => {
+            put_load(bound, cells, draft, depth, home, place)?;
             let values = deeper(depth)?;
             Ok(values)
         }
@@ -206,9 +207,9 @@ fn emit_give(
 {
     let temp = load_instr(level_of(bound, spot.text), spot.used);
     match find_side(bound, cells, spot, item.sign, item.left) {
-        Left::Cell { level, slot } => {
+        Left::Cell { home, place } => {
             draft.push(depth, temp, Line(0))?;
-            draft.put(store_instr(level, slot), Line(0))?;
+            put_store(bound, cells, draft, home, place)?;
             Ok(depth)
         }
         Left::Element { .. } => {

@@ -462,10 +462,10 @@ pub(crate) fn emit_for(
     ensures { OnOk result (WritesFor bound.now spot draft.old draft.new variable.now (option_map line_in assigned) (in_list elements.entry) body.now) }
 {
     match find_named(bound, cells, spot, variable, &[]) {
-        Left::Cell { level, slot } => {
+        Left::Cell { home, place } => {
             let target = Target::Cell {
-                level,
-                slot,
+                home,
+                place,
                 assigned,
             };
             emit_elements(bound, cells, spot, draft, target, elements, body)?;

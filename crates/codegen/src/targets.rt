@@ -4,10 +4,9 @@ ghost use Rattle.codegen_expr.specs.Known.{Known};
 ghost use Rattle.codegen.specs.Emit.{WritesGiven};
 ghost use Rattle.codegen.specs.EmitTargets.{WritesLoaded, assigned_in, WritesStored, takes_values as takes_values_of};
 
+use crate::places::{put_load, put_store};
 use crate::references::emit_named_reference;
-use codegen_expr::{
-    Cells, Draft, Spot, deeper, emit_expr, emit_named_place, load_instr, store_instr,
-};
+use codegen_expr::{Cells, Draft, Spot, deeper, emit_expr, emit_named_place};
 use sim_base::Line;
 use sim_code::Instr;
 use sim_scope::Bound;
@@ -17,11 +16,11 @@ use std::alloc::AllocError;
 /// A controlled variable.
 #[derive(Clone, Copy)]
 pub enum Target<'a> {
-    /// A cell, by the level of its text and its number in the frames of that text; where its text gets the characters of others, the line
+    /// A cell, by its text and its place in the own part of the frames of that text; where its text gets the characters of others, the line
     /// of the sign.
     Cell {
-        level: u32,
-        slot: u32,
+        home: u32,
+        place: u32,
         assigned: Option<Line>,
     },
     /// A variable that is found anew each time, as an attribute of a connected object.
@@ -61,7 +60,7 @@ pub(crate) fn emit_stored(
     ensures { OnOk result (WritesStored bound.now spot depth draft.old draft.new target.entry) }
 {
     match target {
-        Target::Cell { level, slot, .. } => draft.put(store_instr(level, slot), Line(0)),
+        Target::Cell { home, place, .. } => put_store(bound, cells, draft, home, place),
         Target::Place { name, .. } => {
             emit_named_place(bound, cells, spot, draft, deeper(depth)?, 0, name, &[])?;
             draft.put(Instr::Swap, Line(0))?;
@@ -89,7 +88,7 @@ pub(crate) fn emit_loaded(
     ensures { OnOk result (WritesLoaded bound.now spot depth draft.old draft.new target.entry) }
 {
     match target {
-        Target::Cell { level, slot, .. } => draft.push(depth, load_instr(level, slot), Line(0)),
+        Target::Cell { home, place, .. } => put_load(bound, cells, draft, depth, home, place),
         Target::Place { name, .. } => {
             emit_named_place(bound, cells, spot, draft, depth, 0, name, &[])?;
             draft.put(Instr::Fetch, Line(0))

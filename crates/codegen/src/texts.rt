@@ -2,31 +2,46 @@
 ghost use Rattle.std.specs.Prelude.{[], OnOk};
 ghost use Rattle.codegen_expr.specs.Known.{Known};
 ghost use Rattle.text_tables.specs.TokenTable.{AreDeclared};
-ghost use Rattle.codegen.specs.EmitProgram.{AddsBlock, WritesBlockText, WritesClassText, WritesProcedureText, WritesProgram, WritesText};
+ghost use Rattle.codegen.specs.EmitProgram.{AddsBlock, PutsClass, WritesBlockText, WritesClassText, WritesProcedureText, WritesProgram, WritesText};
 
 use crate::arrays::emit_arrays;
-use crate::levels::emit_level;
-use crate::records::{
-    cell_types, code_formals, hide_connections, is_class_free, number, pad, type_of_name,
-};
+use crate::frames::{front_class, own_end, rest_of};
+use crate::levels::{emit_level, end_instr, level_place, next_instr};
+use crate::plan::copy_types;
+use crate::records::{code_formals, is_class_free, number, type_of_name};
 use crate::statement::{emit_statement, emit_statements};
 use codegen_expr::{Cells, Draft, Spot, block_number, level_of, line_at};
 use program_texts::TextTree;
 use sim_base::{DeclNo, Line};
-use sim_code::{BlockKind, BlockRecord, ClassRecord, CodeType, Instr};
+use sim_code::{BlockKind, BlockRecord, CodeType, Instr};
 use sim_scope::Bound;
 use sim_tree::{Block, Decl, Procedure, Stmt, TypeName};
 use std::alloc::{AllocError, Global};
 
+/// The class of a text, with the places of its code.
+#[derive(Clone, Copy)]
+pub(crate) struct ClassAt {
+    /// The number of the class in front of it, or 0.
+    pub prefix: u32,
+    /// The block of its objects.
+    pub block: u32,
+    /// Where its declarations begin.
+    pub declarations: u32,
+    /// Where its statements begin.
+    pub statements: u32,
+    /// What stands behind its `inner`.
+    pub after_inner: u32,
+}
+
 /// What is written so far of a program.
 #[derive(Drop)]
 pub(crate) struct Written {
-    /// The instructions.
+    /// The instructions, and what is planned of the blocks.
     pub draft: Draft,
     /// The records of the blocks.
     pub blocks: Vec<BlockRecord>,
-    /// The records of the classes.
-    pub classes: Vec<ClassRecord>,
+    /// The classes by their numbers, from 1 on, where they are written.
+    pub classes: Vec<Option<ClassAt>>,
 }
 
 /// What a text is in code.
@@ -36,47 +51,65 @@ pub(crate) struct Head {
     pub kind: BlockKind,
     /// The text.
     pub text: u32,
-    /// How many cells it declares.
-    pub cells: u32,
     /// Where its code begins.
     pub entry: u32,
     /// The type of its result.
     pub result_type: CodeType,
 }
 
-/// Adds the record of a text whose code is written, with what its cells hold at the entry.
-#[tactic(auto, using(crate::proofs::Walked::texts))]
+/// Adds the record of a text whose code is written. What was planned of it is enough for the code.
 fn add_block(
     alloc: Global,
     bound: &Bound,
     cells: &Cells,
     written: &mut Written,
     head: Head,
-    types: Vec<CodeType>,
 ) -> Result<(), AllocError>
     requires cells { Known bound.now cells.now }
-    ensures { OnOk result (AddsBlock bound.now written.old written.new head types.items) }
+    ensures { OnOk result (AddsBlock bound.now written.old written.new head) }
 {
-    let mut types = types;
-    pad(&mut types, written.draft.size() as usize)?;
+    let block = block_number(bound, cells, head.text);
+    let Some(planned) = written.draft.planned().get(block as usize) else {
+        return Err(AllocError);
+    };
+    let types = copy_types(alloc, &planned.types)?;
+    let (class, count, room) = (planned.class, planned.cells, planned.room);
     let size = number(types.len())?;
-    let temps = size.saturating_sub(head.cells);
+    if size < written.draft.size() || room < written.draft.room() {
+        return Err(AllocError);
+    }
+    let temps = rest_of(size, count)?;
     let formals = code_formals(alloc, bound, cells, head)?;
     written.blocks.push(BlockRecord {
         kind: head.kind,
         level: level_of(bound, head.text),
-        cells: head.cells,
+        cells: count,
         temps,
-        room: written.draft.room(),
+        room,
         entry: head.entry,
         class_free: is_class_free(bound, head.text),
         result_type: head.result_type,
-        class: written
-            .draft
-            .class_of(block_number(bound, cells, head.text)),
+        class,
         types,
         formals,
     })?;
+    Ok(())
+}
+
+/// Puts a class in the place of its number, where none is yet.
+fn put_class(written: &mut Written, class: u32, at: ClassAt) -> Result<(), AllocError>
+    ensures { OnOk result (PutsClass written.old written.new class at) }
+{
+    if class == 0 {
+        return Err(AllocError);
+    }
+    let place = class as usize - 1;
+    match written.classes.get(place) {
+        Some(None) => {}
+        Some(Some(_)) => return Err(AllocError),
+        None => return Err(AllocError),
+    }
+    written.classes[place] = Some(at);
     Ok(())
 }
 
@@ -94,10 +127,7 @@ fn emit_program_text(
     requires declared { AreDeclared bound.now declared.now }
     ensures { OnOk result (WritesBlockText bound.now written.old written.new 0 block.now) }
 {
-    let mut types = cell_types(alloc, bound, 0, &None)?;
-    let count = number(types.len())?;
-    hide_connections(bound, 0, &mut types)?;
-    let used = number(types.len())?;
+    let used = own_end(alloc, bound, cells, &written.draft, 0)?;
     written.draft.restart(used);
     let spot = Spot { text: 0, used };
     let draft = &mut written.draft;
@@ -108,11 +138,10 @@ fn emit_program_text(
     let head = Head {
         kind: BlockKind::SubBlock,
         text: 0,
-        cells: count,
         entry: 0,
         result_type: CodeType::Nothing,
     };
-    add_block(alloc, bound, cells, written, head, types)?;
+    add_block(alloc, bound, cells, written, head)?;
     Ok(())
 }
 
@@ -135,10 +164,7 @@ fn emit_block_text(
         return emit_program_text(alloc, bound, cells, declared, written, block);
     }
     let entry = number(written.draft.here())?;
-    let mut types = cell_types(alloc, bound, text, &None)?;
-    let count = number(types.len())?;
-    hide_connections(bound, text, &mut types)?;
-    let used = number(types.len())?;
+    let used = own_end(alloc, bound, cells, &written.draft, text)?;
     written.draft.restart(used);
     let spot = Spot { text, used };
     let draft = &mut written.draft;
@@ -148,11 +174,10 @@ fn emit_block_text(
     let head = Head {
         kind: BlockKind::SubBlock,
         text,
-        cells: count,
         entry,
         result_type: CodeType::Nothing,
     };
-    add_block(alloc, bound, cells, written, head, types)?;
+    add_block(alloc, bound, cells, written, head)?;
     Ok(())
 }
 
@@ -171,10 +196,7 @@ fn emit_procedure_text(
     ensures { OnOk result (WritesProcedureText bound.now written.old written.new text result_type.now body.now) }
 {
     let entry = number(written.draft.here())?;
-    let mut types = cell_types(alloc, bound, text, result_type)?;
-    let count = number(types.len())?;
-    hide_connections(bound, text, &mut types)?;
-    let used = number(types.len())?;
+    let used = own_end(alloc, bound, cells, &written.draft, text)?;
     written.draft.restart(used);
     let spot = Spot { text, used };
     let draft = &mut written.draft;
@@ -183,11 +205,10 @@ fn emit_procedure_text(
     let head = Head {
         kind: BlockKind::Procedure,
         text,
-        cells: count,
         entry,
         result_type: type_of_name(result_type),
     };
-    add_block(alloc, bound, cells, written, head, types)?;
+    add_block(alloc, bound, cells, written, head)?;
     Ok(())
 }
 
@@ -213,36 +234,34 @@ fn emit_class_text(
     }
     let block = number(written.blocks.len())?;
     let start = number(written.draft.here())?;
-    let mut types = cell_types(alloc, bound, text, &None)?;
-    let count = number(types.len())?;
-    hide_connections(bound, text, &mut types)?;
-    let used = number(types.len())?;
+    let level = level_place(bound, text)?;
+    let prefix = front_class(bound, cells, &written.draft, text);
+    let class = written.draft.class_of(block_number(bound, cells, text));
+    let used = own_end(alloc, bound, cells, &written.draft, text)?;
     written.draft.restart(used);
     let spot = Spot { text, used };
     let draft = &mut written.draft;
     emit_arrays(bound, cells, declared, spot, draft, declarations)?;
-    draft.put(Instr::NextDecl(0), Line(0))?;
+    draft.put(next_instr(level), Line(0))?;
     let stated = number(draft.here())?;
-    let after = emit_level(bound, cells, spot, draft, statements)?;
-    draft.put(Instr::EndLevel(0), Line(0))?;
+    let after = emit_level(bound, cells, spot, level, draft, statements)?;
+    draft.put(end_instr(level), Line(0))?;
     let after_inner = number(after)?;
     let head = Head {
         kind: BlockKind::Object,
         text,
-        cells: count,
         entry: start,
         result_type: CodeType::Nothing,
     };
-    add_block(alloc, bound, cells, written, head, types)?;
-    written.classes.push(ClassRecord {
-        prefix: 0,
+    add_block(alloc, bound, cells, written, head)?;
+    let at = ClassAt {
+        prefix,
         block,
         declarations: start,
         statements: stated,
         after_inner,
-        process: false,
-        matches: Vec::new(alloc),
-    })?;
+    };
+    put_class(written, class, at)?;
     Ok(())
 }
 

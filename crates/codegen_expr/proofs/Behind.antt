@@ -1,6 +1,6 @@
 -- Standard names, and names of texts behind their text.
-use Rattle.std.proofs.Common.{◌≡◌, ◌≢◌, ◌<◌, ◌-◌, ℕ, pos, suc, true, false, List, [], ◌∷◌, length, map, Option, Some, None, refl, sym, ap, ◌∙◌, subst, arith}
-use Rattle.std.specs.Prelude.{⊤}
+use Rattle.std.proofs.Common.{◌≡◌, ◌+◌, ◌≢◌, ◌<◌, ◌-◌, ℕ, pos, suc, true, false, List, [], ◌∷◌, length, map, Option, Some, None, refl, sym, ap, ◌∙◌, subst, arith}
+use Rattle.std.specs.Prelude.{⊤, slice_get}
 use Rattle.sim_base.specs.declared.numbering.DeclNo.{DeclNo}
 use Rattle.sim_base.specs.declared.numbering.TokenNo.{TokenNo}
 use Rattle.sim_scope.specs.declared.bound.Bound.{Bound}
@@ -38,13 +38,13 @@ use Rattle.codegen_expr.specs.declared.operators.Seen.TheVariants as seen
 use Rattle.codegen_expr.specs.declared.spot.Spot.{Spot}
 use Rattle.codegen_expr.specs.Built.{AreBuilt, ConnectedBuilt, DeclaredPlaceBuilt, FormalPlaceBuilt, ImageNameBuilt, NamedPlaceBuilt, PlaceBehindBuilt, PlaceBuilt, StandardBuilt, ThroughBuilt, is_around, is_there, slot_in}
 use Rattle.codegen_expr.specs.CodeExpr.{ConnectedAt, DeclaredPlaceAt, ExprsAt, FormalPlaceAt, NameAt, NamedPlaceAt, PlaceBehindAt, StandardAt, ThroughAt, operands}
-use Rattle.codegen_expr.specs.Drafts.{DraftOf, Emits, given_up, with_instr, with_push}
+use Rattle.codegen_expr.specs.Drafts.{DraftOf, Emits, given_up, planned_at, planned_in, planned_start, with_instr, with_push}
 use Rattle.codegen_expr.specs.Emit.{AloneAt, AloneBuilt, Numbered, OnImageIs, PutsPlace, SeenPlaceAt, SeenPlaceBuilt, WritesAlone, WritesBehind, WritesCellPlace, WritesElement, WritesImage, WritesList, WritesNamedPlace, WritesPlace, WritesSeenPlace, WritesStandard, WritesUnconnectedPlace, is_named, seen_formal, seen_of}
 use Rattle.codegen_expr.specs.EmitObjects.{OfConnection, PutsBase, WritesPlaceBehind}
 use Rattle.codegen_expr.specs.Forms.{FindsForm, FormIs, IsOther}
 use Rattle.codegen_expr.specs.Sites.{At, HasCell, Inside, Pushes, Site, slot_of}
 use Rattle.codegen_expr.proofs.Around.{inside}
-use Rattle.codegen_expr.proofs.Pieces.{emits_as, emits_at, emits_nothing, emits_push, emits_push_at, emits_then}
+use Rattle.codegen_expr.proofs.Pieces.{emits_as, emits_at, emits_classed, emits_nothing, emits_push, emits_push_at, emits_then}
 use Rattle.codegen_expr.proofs.Slots.{slot_found, slot_within}
 
 abbrev Part : Type 1
@@ -185,19 +185,20 @@ module _ (b : Bound) (w : Spot) (n : ℕ) where
 
   -- ---- where variables lie
 
-  pub place_cell : (a c : DraftOf) (class : ℕ) (d : DeclNo) (x : Instr) (block k m : ℕ) (slot : Option ℕ) → block ≡ block_of (source_of b) d → slot ≡ slot_in (source_of b) (block_of (source_of b) d) (Declared d.0) → slot ≡ Some k → is_around b.scopes (length b.scopes.blocks) w.text block ≡ true → m ≡ level_of (source_of b) block → x ≡ i.Addr (pos m) (pos k) (pos class) → c ≡ with_push a n x 0 → WritesCellPlace b w n a c class d
+  pub place_cell : (a c : DraftOf) (class : ℕ) (d : DeclNo) (x : Instr) (block k m v : ℕ) (slot : Option ℕ) → block ≡ block_of (source_of b) d → slot ≡ slot_in (source_of b) (block_of (source_of b) d) (Declared d.0) → slot ≡ Some k → is_around b.scopes (length b.scopes.blocks) w.text block ≡ true → v ≡ planned_start (source_of b) a.classes block + k → m ≡ level_of (source_of b) block → x ≡ i.Addr (pos m) (pos v) (pos class) → c ≡ with_push a n x 0 → WritesCellPlace b w n a c class d
   unfolding WritesCellPlace source_of
-  place_cell a c class d x block k m slot eb es some around em ex ec =
+  place_cell a c class d x block k m v slot eb es some around ev em ex ec =
       let s = source_of b in
       let found : slot_in s (block_of s d) (Declared d.0) ≡ Some k = sym es ∙ some in
-      let at : (final : CodeOf) → x ≡ i.Addr (pos (level_of s (block_of s d))) (pos (slot_of s final (block_of s d) (Declared d.0))) (pos class) =
-      λ final. ex ∙ ap (λ z. i.Addr (pos z) (pos k) (pos class)) (em ∙ ap (level_of s) eb) ∙ ap (λ z. i.Addr (pos (level_of s (block_of s d))) (pos z) (pos class)) (slot_found s final (block_of s d) (Declared d.0) k found) in
+      let number : v ≡ planned_start s a.classes (block_of s d) + k = ev ∙ ap (λ z. planned_start s a.classes z + k) eb in
+      let at : (final : CodeOf) → ((j : ℕ) → planned_in (slice_get final.blocks j) ≡ planned_at a.classes j) → x ≡ i.Addr (pos (level_of s (block_of s d))) (pos (slot_of s final (block_of s d) (Declared d.0))) (pos class) =
+      λ final known. ex ∙ ap (λ z. i.Addr (pos z) (pos v) (pos class)) (em ∙ ap (level_of s) eb) ∙ ap (λ z. i.Addr (pos (level_of s (block_of s d))) (pos z) (pos class)) (slot_found s final a.classes (block_of s d) (Declared d.0) k v known found number) in
       let there : is_around s.tables (length s.tables.blocks) w.text (block_of s d) ≡ true = ap (λ z. is_around s.tables (length s.tables.blocks) w.text z) (sym eb) ∙ around in
       let is : Inside s.tables w.text (block_of s d) = inside s.tables (block_of s d) (length s.tables.blocks) w.text there in
       let has : HasCell s (block_of s d) (Declared d.0) = slot_within s (block_of s d) (Declared d.0) k found in
-      emits_as w _ _ (λ final site p q. Pushes final site n x p q) _ a c (λ t. tt) (λ t. record { has = ap is_there found; inside = record { found = there } })
-      (λ final site p q stands _ r. record { address = subst (λ z. Pushes final site n z p q) (at final) r; inside = subst (λ z. Inside s.tables z (block_of s d)) (sym stands) is; within = has })
-      (emits_push w a c n x 0 ec (λ z. let h : i.Addr (pos m) (pos k) (pos class) ≡ i.Halt = sym ex ∙ z in cc) (ap runs ex))
+      emits_as w _ _ (λ final site p q. Pushes final site n (i.Addr (pos (level_of s (block_of s d))) (pos (slot_of s final (block_of s d) (Declared d.0))) (pos class)) p q) _ a c (λ t. tt) (λ t. record { has = ap is_there found; inside = record { found = there } })
+      (λ final site p q stands _ r. record { address = r; inside = subst (λ z. Inside s.tables z (block_of s d)) (sym stands) is; within = has })
+      (emits_classed w _ (λ final site p q. Pushes final site n x p q) _ a c (λ final site p q known r. subst (λ z. Pushes final site n z p q) (at final known) r) (emits_push w a c n x 0 ec (λ z. let h : i.Addr (pos m) (pos v) (pos class) ≡ i.Halt = sym ex ∙ z in cc) (ap runs ex)))
 
   pub place_no_slot : (a c : DraftOf) (class : ℕ) (d : DeclNo) (slot : Option ℕ) → slot ≡ slot_in (source_of b) (block_of (source_of b) d) (Declared d.0) → slot ≡ None → c ≡ given_up a → WritesCellPlace b w n a c class d
   unfolding WritesCellPlace

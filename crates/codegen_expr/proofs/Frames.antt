@@ -15,9 +15,9 @@ use Rattle.sim_meaning.specs.Attributes.{cell_of_connection, first_in}
 use Rattle.sim_meaning.specs.Entries.{cells_from, first_cells, numbers_of, with_cell, with_result}
 use Rattle.sim_meaning.specs.Pending.{Connection, Held}
 use Rattle.sim_meaning.specs.Texts.{BlockText, ClassText, ConnectionText, PrefixedText, ProcedureText, StandardText, Text, text}
-use Rattle.codegen_expr.specs.Built.{place_from, slot_in, unless_prefixed}
+use Rattle.codegen_expr.specs.Built.{place_from, slot_in}
 use Rattle.codegen_expr.specs.Known.{is_hidden}
-use Rattle.codegen_expr.specs.Sites.{cells_in, connects, frame_text, frame_within, hidden_before, hidden_from, hidden_in, is_connected, outward_or, own_part, prefix_of}
+use Rattle.codegen_expr.specs.Sites.{cells_in, connects, frame_text, frame_within, hidden_before, hidden_from, hidden_in, is_connected, outward_or}
 use Rattle.codegen_expr.proofs.Around.{neq-eqb}
 
 -- ---- the walk outward
@@ -107,12 +107,12 @@ past_declared s k c rest (Some (StandardText which)) = refl
 unfoldable pub Searched : Bound → (frame connection place done : ℕ) → Type 0
 Searched b k c n i = slot_in (source_of b) k (cell_of_connection (source_of b) c) ≡ place_from n (cell_of_connection (source_of b) c) (hidden_from (source_of b) k i (drop i b.scopes.blocks))
 
-pub searched_first : (b : Bound) (k c n : ℕ) (r : Option ℕ) → r ≡ prefix_of b.scopes k → r ≡ None → n ≡ length (cells_in (source_of b) k (text (source_of b) k)) → Searched b k c n 0
+pub searched_first : (b : Bound) (k c n : ℕ) → n ≡ length (cells_in (source_of b) k (text (source_of b) k)) → Searched b k c n 0
 unfolding Searched slot_in hidden_in source_of
-searched_first b k c n r er none en =
+searched_first b k c n en =
     let s = source_of b in
     let x = first_in (slice_get b.scopes.blocks c) in
-    ap (λ z. unless_prefixed z (place_from 0 (Connection x) (own_part s k))) (sym er ∙ none) ∙ past_declared s k x (hidden_from s k 0 b.scopes.blocks) (text s k) ∙ ap (λ z. place_from z (Connection x) (hidden_from s k 0 b.scopes.blocks)) (sym en)
+    past_declared s k x (hidden_from s k 0 b.scopes.blocks) (text s k) ∙ ap (λ z. place_from z (Connection x) (hidden_from s k 0 b.scopes.blocks)) (sym en)
 
 block_there : (bs : List BlockOf) (i : ℕ) → i < length bs → (x : BlockOf) × (slice_get bs i ≡ Some x) × (drop i bs ≡ x ∷ drop (suc i) bs)
 block_there [] i le = absurd (omega (arith, le))
@@ -161,8 +161,4 @@ pub searched_end : (b : Bound) (k c n i : ℕ) → k ≡ frame_text (source_of b
 unfolding Searched
 searched_end b k c n i ek f le = sym (ap (λ z. slot_in (source_of b) z (cell_of_connection (source_of b) c)) (sym ek) ∙ f ∙ ap (λ z. place_from n (cell_of_connection (source_of b) c) (hidden_from (source_of b) k i z)) (drop_all i b.scopes.blocks le))
 
-pub searched_prefixed : (b : Bound) (k c u : ℕ) (r : Option ℕ) → k ≡ frame_text (source_of b) c → r ≡ prefix_of b.scopes k → r ≡ Some u → None ≡ slot_in (source_of b) (frame_text (source_of b) c) (cell_of_connection (source_of b) c)
-unfolding slot_in source_of
-searched_prefixed b k c u r ek er some = ap (λ z. unless_prefixed z (place_from 0 (cell_of_connection (source_of b) c) (own_part (source_of b) k))) (sym some ∙ er) ∙ ap (λ z. slot_in (source_of b) z (cell_of_connection (source_of b) c)) ek
-
-pub ruleset frames = (frame_first, frame_on, frame_stops, frame_ends, frame_spent, kept_here, kept_nowhere, searched_first, searched_here, searched_past, searched_over, searched_end, searched_prefixed)
+pub ruleset frames = (frame_first, frame_on, frame_stops, frame_ends, frame_spent, kept_here, kept_nowhere, searched_first, searched_here, searched_past, searched_over, searched_end)

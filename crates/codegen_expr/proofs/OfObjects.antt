@@ -1,6 +1,6 @@
 -- Objects, what they have, and the classes that are named.
-use Rattle.std.proofs.Common.{◌≡◌, ◌≢◌, ◌<◌, ◌≤◌, ℕ, pos, suc, Bool, List, [], ◌∷◌, length, map, Option, Some, None, true, false, refl, sym, ap, ◌∙◌, subst, arith}
-use Rattle.std.specs.Prelude.{⊤}
+use Rattle.std.proofs.Common.{◌≡◌, ◌+◌, ◌≢◌, ◌<◌, ◌≤◌, ℕ, pos, suc, Bool, List, [], ◌∷◌, length, map, Option, Some, None, true, false, refl, sym, ap, ◌∙◌, subst, arith}
+use Rattle.std.specs.Prelude.{⊤, slice_get}
 use Rattle.sim_base.specs.declared.numbering.DeclNo.{DeclNo}
 use Rattle.sim_base.specs.declared.numbering.TokenNo.{TokenNo}
 use Rattle.sim_scope.specs.declared.bound.Bound.{Bound}
@@ -35,7 +35,7 @@ use Rattle.codegen_expr.specs.declared.operators.Seen.TheVariants as seen
 use Rattle.codegen_expr.specs.declared.spot.Spot.{Spot}
 use Rattle.codegen_expr.specs.Built.{ActualsBuilt, AreBuilt, ClassBuilt, ConstantBuilt, GenerationBuilt, IsBuilt, OfObjectBuilt, ParameterOfBuilt, ParameterPlaceOfBuilt, PlaceBehindBuilt, PlaceOfObjectBuilt, ThisFoundBuilt, ThisOfBuilt, is_around, is_there, slot_in}
 use Rattle.codegen_expr.specs.CodeExpr.{ActualsAt, AttributePlaceAt, ConstantAt, ExprAt, ExprsAt, GenerationAt, GivenAt, MemberAt, OfObjectAt, ParameterOfAt, ParameterPlaceOfAt, PlaceBehindAt, PlaceOfObjectAt, QuaAt, RemoteCallAt, ElementOfAt, ThisFoundAt, ThisOfAt, member_instr, operands}
-use Rattle.codegen_expr.specs.Drafts.{DraftOf, Emits, class_of, given_up, with_instr, with_push, with_temp}
+use Rattle.codegen_expr.specs.Drafts.{DraftOf, Emits, class_of, given_up, planned_at, planned_in, planned_start, with_instr, with_push, with_temp}
 use Rattle.codegen_expr.specs.Emit.{Puts, WritesActuals, WritesConstant, WritesLink, WritesList, attribute_seen, formals_of_block, parameter_seen}
 use Rattle.codegen_expr.specs.EmitObjects.{Base, BaseAt, BaseBuilt, OfConnection, PutsBase, SeenOfAt, SeenOfBuilt, SeenPlaceOfAt, SeenPlaceOfBuilt, WritesAttribute, WritesConstantOf, WritesElementOf, WritesFit, WritesGeneration, WritesMember, WritesNew, WritesObjectOf, WritesOf, WritesPlaceBehind, WritesPlaceOf, WritesQua, WritesSeenOf, WritesSeenPlaceOf, WritesThis}
 use Rattle.codegen_expr.specs.Sites.{At, HasCell, Inside, Is, Pushes, Site, block_number, frame_text, slot_of}
@@ -72,19 +72,21 @@ module _ (b : Bound) (w : Spot) (n : ℕ) where
 
   -- ---- connections and `this`
 
-  pub connected_load : (a c : DraftOf) (k m v : ℕ) (x : Instr) (slot : Option ℕ) → slot ≡ slot_in (source_of b) (frame_text (source_of b) k) (cell_of_connection (source_of b) k) → slot ≡ Some v → is_around b.scopes (length b.scopes.blocks) w.text k ≡ true → m ≡ level_of (source_of b) k → x ≡ i.Load (pos m) (pos v) → c ≡ with_push a n x 0 → PutsBase (source_of b) w n a c (OfConnection k)
+  pub connected_load : (a c : DraftOf) (k m place frame v : ℕ) (x : Instr) (slot : Option ℕ) → slot ≡ slot_in (source_of b) (frame_text (source_of b) k) (cell_of_connection (source_of b) k) → slot ≡ Some place → is_around b.scopes (length b.scopes.blocks) w.text k ≡ true → frame ≡ frame_text (source_of b) k → v ≡ planned_start (source_of b) a.classes frame + place → m ≡ level_of (source_of b) k → x ≡ i.Load (pos m) (pos v) → c ≡ with_push a n x 0 → PutsBase (source_of b) w n a c (OfConnection k)
   unfolding PutsBase source_of
-  connected_load a c k m v x slot es some around em ex ec =
+  connected_load a c k m place frame v x slot es some around ef ev em ex ec =
       let s = source_of b in
       let home = frame_text s k in
       let key = cell_of_connection s k in
-      let found : slot_in s home key ≡ Some v = sym es ∙ some in
-      let at : (final : CodeOf) → x ≡ i.Load (pos (level_of s k)) (pos (slot_of s final home key)) = λ final. ex ∙ ap (λ z. i.Load (pos z) (pos v)) em ∙ ap (λ z. i.Load (pos (level_of s k)) (pos z)) (slot_found s final home key v found) in
+      let found : slot_in s home key ≡ Some place = sym es ∙ some in
+      let number : v ≡ planned_start s a.classes home + place = ev ∙ ap (λ z. planned_start s a.classes z + place) ef in
+      let at : (final : CodeOf) → ((j : ℕ) → planned_in (slice_get final.blocks j) ≡ planned_at a.classes j) → x ≡ i.Load (pos (level_of s k)) (pos (slot_of s final home key)) =
+      λ final known. ex ∙ ap (λ z. i.Load (pos z) (pos v)) em ∙ ap (λ z. i.Load (pos (level_of s k)) (pos z)) (slot_found s final a.classes home key place v known found number) in
       let is : Inside s.tables w.text k = inside s.tables k (length s.tables.blocks) w.text around in
-      let has : HasCell s home key = slot_within s home key v found in
-      emits_as w _ _ (λ final site p q. Pushes final site n x p q) _ a c (λ t. tt) (λ t. record { has = ap is_there found; inside = record { found = around } })
-      (λ final site p q stands _ r. record { load = subst (λ z. Pushes final site n z p q) (at final) r; inside = subst (λ z. Inside s.tables z k) (sym stands) is; within = has })
-      (emits_push w a c n x 0 ec (λ z. let h : i.Load (pos m) (pos v) ≡ i.Halt = sym ex ∙ z in cc) (ap runs ex))
+      let has : HasCell s home key = slot_within s home key place found in
+      emits_as w _ _ (λ final site p q. Pushes final site n (i.Load (pos (level_of s k)) (pos (slot_of s final home key))) p q) _ a c (λ t. tt) (λ t. record { has = ap is_there found; inside = record { found = around } })
+      (λ final site p q stands _ r. record { load = r; inside = subst (λ z. Inside s.tables z k) (sym stands) is; within = has })
+      (emits_classed w _ (λ final site p q. Pushes final site n x p q) _ a c (λ final site p q known r. subst (λ z. Pushes final site n z p q) (at final known) r) (emits_push w a c n x 0 ec (λ z. let h : i.Load (pos m) (pos v) ≡ i.Halt = sym ex ∙ z in cc) (ap runs ex)))
 
   pub connected_no_slot : (a c : DraftOf) (k : ℕ) (slot : Option ℕ) → slot ≡ slot_in (source_of b) (frame_text (source_of b) k) (cell_of_connection (source_of b) k) → slot ≡ None → c ≡ given_up a → PutsBase (source_of b) w n a c (OfConnection k)
   unfolding PutsBase
@@ -127,18 +129,21 @@ module _ (b : Bound) (w : Spot) (n : ℕ) where
 
   -- ---- where an attribute lies
 
-  pub attribute_found : (a c : DraftOf) (class : ℕ) (token : TokenNo) (d : DeclNo) (x : Instr) (v line : ℕ) (slot : Option ℕ) → slot ≡ slot_in (source_of b) (block_of (source_of b) d) (Declared d.0) → slot ≡ Some v → x ≡ i.AddrR (pos v) (pos class) → line ≡ line_at (source_of b) token.0 → c ≡ with_instr a x line → WritesAttribute b w n a c class token d
+  pub attribute_found : (a c : DraftOf) (class : ℕ) (token : TokenNo) (d : DeclNo) (x : Instr) (place home v line : ℕ) (slot : Option ℕ) → slot ≡ slot_in (source_of b) (block_of (source_of b) d) (Declared d.0) → slot ≡ Some place → home ≡ block_of (source_of b) d → v ≡ planned_start (source_of b) a.classes home + place → x ≡ i.AddrR (pos v) (pos class) → line ≡ line_at (source_of b) token.0 → c ≡ with_instr a x line → WritesAttribute b w n a c class token d
   unfolding WritesAttribute PutsBase
-  attribute_found a c class token d x v line slot es some ex el ec start y f =
+  attribute_found a c class token d x place home' v line slot es some eh ev ex el ec start y f =
       let s = source_of b in
       let home = block_of s d in
-      let found : slot_in s home (Declared d.0) ≡ Some v = sym es ∙ some in
-      let at : (final : CodeOf) → x ≡ i.AddrR (pos (slot_of s final home (Declared d.0))) (pos class) = λ final. ex ∙ ap (λ z. i.AddrR (pos z) (pos class)) (slot_found s final home (Declared d.0) v found) in
-      let has : HasCell s home (Declared d.0) = slot_within s home (Declared d.0) v found in
+      let found : slot_in s home (Declared d.0) ≡ Some place = sym es ∙ some in
+      let number : v ≡ planned_start s a.classes home + place = ev ∙ ap (λ z. planned_start s a.classes z + place) eh in
+      let at : (final : CodeOf) → ((j : ℕ) → planned_in (slice_get final.blocks j) ≡ planned_at a.classes j) → x ≡ i.AddrR (pos (slot_of s final home (Declared d.0))) (pos class) =
+      λ final known. ex ∙ ap (λ z. i.AddrR (pos z) (pos class)) (slot_found s final a.classes home (Declared d.0) place v known found number) in
+      let has : HasCell s home (Declared d.0) = slot_within s home (Declared d.0) place found in
       emits_as w _ _ _ _ start c (λ t. (t.0, tt)) (λ t. (t.0, ap is_there found))
-      (λ final site p q _ _ r. record { x = r.0; object = r.1; found = subst (λ z. At final z (line_at s token.0) r.0 q) (at final) r.2; within = has })
-      (emits_then w _ _ (λ z site p q. BaseAt s z site n y p q) (λ z site. At z x (line_at s token.0)) start a c f
-      (emits_at w a c x (line_at s token.0) (ec ∙ ap (λ z. with_instr a x z) el) (λ z. let h : i.AddrR (pos v) (pos class) ≡ i.Halt = sym ex ∙ z in cc) (ap runs ex)))
+      (λ final site p q _ _ r. record { x = r.0; object = r.1; found = r.2; within = has })
+      (emits_then w _ _ (λ z site p q. BaseAt s z site n y p q) (λ z site. At z (i.AddrR (pos (slot_of s z home (Declared d.0))) (pos class)) (line_at s token.0)) start a c f
+      (emits_classed w _ (λ final site p q. At final x (line_at s token.0) p q) _ a c (λ final site p q known r. subst (λ z. At final z (line_at s token.0) p q) (at final known) r)
+      (emits_at w a c x (line_at s token.0) (ec ∙ ap (λ z. with_instr a x z) el) (λ z. let h : i.AddrR (pos v) (pos class) ≡ i.Halt = sym ex ∙ z in cc) (ap runs ex))))
 
   pub attribute_no_slot : (a c : DraftOf) (class : ℕ) (token : TokenNo) (d : DeclNo) (slot : Option ℕ) → slot ≡ slot_in (source_of b) (block_of (source_of b) d) (Declared d.0) → slot ≡ None → c ≡ given_up a → WritesAttribute b w n a c class token d
   unfolding WritesAttribute PutsBase

@@ -10,8 +10,8 @@ use Rattle.sim_code.specs.Code.{CodeOf}
 use Rattle.sim_code.specs.Running.{AllRun, runs}
 use Rattle.codegen_expr.specs.declared.spot.Spot.{Spot}
 use Rattle.sim_scope.specs.Source.{Source}
-use Rattle.codegen_expr.specs.Sites.{At, IfAt, Pushes, Site, block_number, class_in, class_number, lined, WhenAt, LoopAt}
-use Rattle.codegen_expr.specs.Drafts.{Becomes, DraftOf, Emits, Grows, class_of, filled_in, given_up, with_hole, with_instr, with_push, with_room, with_temp}
+use Rattle.codegen_expr.specs.Sites.{At, IfAt, Pushes, Site, block_number, class_number, lined, WhenAt, LoopAt}
+use Rattle.codegen_expr.specs.Drafts.{Becomes, DraftOf, PlannedOf, Emits, Grows, class_of, filled_in, given_up, planned_at, planned_in, with_hole, with_instr, with_push, with_room, with_temp}
 
 pub set_len : {A : Type 0} (xs : List A) (i : ℕ) (v : A) → length (slice_set xs i v) ≡ length xs
 set_len [] i v = refl
@@ -148,7 +148,7 @@ becomes_later t a b final site l g =
       stands = g.stands;
       taken = g.taken;
       follows = omega (arith, le, fs);
-      classed = λ k. g.classed k ∙ ap (λ z. class_of z k) l.classed;
+      classed = λ k. g.classed k ∙ ap (λ z. planned_at z k) l.classed;
     }
 
 pub becomes_filled : (t : Spot) (a b : DraftOf) (final : CodeOf) (site : Site) (k : ℕ) (x : Instr) → slice_get a.instrs k ≡ Some (lined i.Halt 0) → b ≡ filled_in a k x → Becomes t b final site → Becomes t a final site
@@ -168,7 +168,7 @@ becomes_filled t a b final site k x hole e g =
       stands = g.stands;
       taken = g.taken;
       follows = omega (arith, el, fs);
-      classed = λ k. g.classed k ∙ ap (λ z. class_of z.classes k) e;
+      classed = λ k. g.classed k ∙ ap (λ z. planned_at z.classes k) e;
     }
 
 -- one instruction
@@ -532,8 +532,8 @@ emits_inside t u P A a b temp et eu f = record {
   at = λ w final site g. f.at w final (record site { used = suc temp }) (record { grows = g.grows; roomy = g.roomy; sized = g.sized; stands = g.stands ∙ sym et; taken = sym eu; follows = g.follows; classed = g.classed });
 }
 
--- said otherwise, where it is known which classes the blocks of the final code are those of
-pub emits_classed : (t : Spot) (P : Type 0) (A B : CodeOf → Site → ℕ → ℕ → Type 0) (a b : DraftOf) → ((final : CodeOf) (site : Site) (p q : ℕ) → ((k : ℕ) → class_in (slice_get final.blocks k) ≡ class_of a.classes k) → A final site p q → B final site p q) → Emits t a b P A → Emits t a b P B
+-- said otherwise, where it is known that the blocks of the final code are as planned
+pub emits_classed : (t : Spot) (P : Type 0) (A B : CodeOf → Site → ℕ → ℕ → Type 0) (a b : DraftOf) → ((final : CodeOf) (site : Site) (p q : ℕ) → ((k : ℕ) → planned_in (slice_get final.blocks k) ≡ planned_at a.classes k) → A final site p q → B final site p q) → Emits t a b P A → Emits t a b P B
 emits_classed t P A B a b f e = record {
   rest = e.rest;
   front = e.front;
@@ -544,10 +544,10 @@ emits_classed t P A B a b f e = record {
   before = e.before;
   only = e.only;
   fits = e.fits;
-  at = λ w final site g. f final site (length a.instrs) (length b.instrs) (λ k. g.classed k ∙ ap (λ z. class_of z k) e.classed) (e.at w final site g);
+  at = λ w final site g. f final site (length a.instrs) (length b.instrs) (λ k. g.classed k ∙ ap (λ z. planned_at z k) e.classed) (e.at w final site g);
 }
 
 -- the number of a class in the final code is the one that was given out
-pub class_numbered : (s : Source) (final : CodeOf) (cs : List ℕ) (k c : ℕ) → ((j : ℕ) → class_in (slice_get final.blocks j) ≡ class_of cs j) → c ≡ class_of cs (block_number s k) → class_number s final k ≡ c
+pub class_numbered : (s : Source) (final : CodeOf) (cs : List PlannedOf) (k c : ℕ) → ((j : ℕ) → planned_in (slice_get final.blocks j) ≡ planned_at cs j) → c ≡ class_of cs (block_number s k) → class_number s final k ≡ c
 unfolding class_number
-class_numbered s final cs k c all e = all (block_number s k) ∙ sym e
+class_numbered s final cs k c all e = ap (λ z. z.class) (all (block_number s k)) ∙ sym e

@@ -1,7 +1,7 @@
 -- Expressions, one part behind another.
 use Rattle.std.proofs.Common.{◌≡◌, ◌≢◌, ◌<◌, ◌≤◌, ◌+◌, ◌-◌, ℕ, ℤ, pos, suc, Bool, List, [], ◌∷◌, length, map, drop, Option, Some, None, true, false, refl, sym, ap, ◌∙◌, subst, arith}
 use Rattle.std.proofs.lemmas.List.{drop_more}
-use Rattle.std.specs.Prelude.{⊤, slice_index_or}
+use Rattle.std.specs.Prelude.{⊤, slice_get, slice_index_or}
 use Rattle.std.specs.declared.alloc.Global.{Global}
 use Rattle.std.specs.declared.boxed.Box.{Box}
 use Rattle.std.specs.declared.vec.Vec.{Vec}
@@ -44,14 +44,14 @@ use Rattle.codegen_expr.specs.declared.operators.Sorted.{Sorted}
 use Rattle.codegen_expr.specs.declared.operators.Sorted.TheVariants as sorted
 use Rattle.codegen_expr.specs.Built.{AreBuilt, IsBuilt, is_around, is_there, slot_in}
 use Rattle.codegen_expr.specs.CodeExpr.{CellAt, ExprAt, ExprsAt, JoinAt, Stand, TwoAt, join_instrs, operands, two_instr}
-use Rattle.codegen_expr.specs.Drafts.{DraftOf, Emits, filled_in, given_up, with_hole, with_instr, with_push}
+use Rattle.codegen_expr.specs.Drafts.{DraftOf, Emits, filled_in, given_up, planned_at, planned_in, planned_start, with_hole, with_instr, with_push}
 use Rattle.codegen_expr.specs.Emit.{OwesList, OwesTails, Puts, Steady, Writes, WritesCell, WritesElement, WritesEnd, WritesGiving, WritesJoin, WritesList, WritesNot, WritesOperand, WritesOperands, WritesSign, WritesStart, WritesSteps, WritesTails, WritesTaken, WritesTextAt, moves_next, sorted_of}
 use Rattle.codegen_expr.specs.EmitObjects.{WritesMember, WritesNew, WritesThis}
 use Rattle.codegen_expr.specs.Sites.{At, HasCell, IfAt, Inside, Pushes, Site, slot_of}
 use Rattle.codegen_expr.proofs.Around.{inside}
 use Rattle.codegen_expr.proofs.Slots.{slot_found, slot_within}
 use Rattle.codegen_expr.proofs.Taken.{taken_before, taken_nothing, taken_whole}
-use Rattle.codegen_expr.proofs.Pieces.{emits_as, emits_at, emits_if, emits_none, emits_nothing, emits_push, emits_then}
+use Rattle.codegen_expr.proofs.Pieces.{emits_as, emits_at, emits_classed, emits_if, emits_none, emits_nothing, emits_push, emits_then}
 
 two_real : (op : Dyadic) → two_instr op ≢ i.Halt
 two_real (dyadic.Calculate calculation.Add) = λ z. cc
@@ -406,18 +406,20 @@ module _ (b : Bound) (w : Spot) (n : ℕ) where
       (emits_at w c1 c (i.Elem (pos (operands xs)) (pos class)) (line_at s token.0) (ec ∙ ap (λ z. with_instr c1 z line) at ∙ ap (λ z. with_instr c1 (i.Elem (pos (operands xs)) (pos class)) z) el) (λ z. cc) refl)))
 
   -- cells
-  pub write_load : (a c : DraftOf) (d : DeclNo) (x : Instr) (block k m : ℕ) (slot : Option ℕ) → block ≡ block_of (source_of b) d → slot ≡ slot_in (source_of b) (block_of (source_of b) d) (Declared d.0) → slot ≡ Some k → is_around b.scopes (length b.scopes.blocks) w.text block ≡ true → m ≡ level_of (source_of b) block → x ≡ i.Load (pos m) (pos k) → c ≡ with_push a n x 0 → WritesCell b w n a c d
+  pub write_load : (a c : DraftOf) (d : DeclNo) (x : Instr) (block k m v : ℕ) (slot : Option ℕ) → block ≡ block_of (source_of b) d → slot ≡ slot_in (source_of b) (block_of (source_of b) d) (Declared d.0) → slot ≡ Some k → is_around b.scopes (length b.scopes.blocks) w.text block ≡ true → v ≡ planned_start (source_of b) a.classes block + k → m ≡ level_of (source_of b) block → x ≡ i.Load (pos m) (pos v) → c ≡ with_push a n x 0 → WritesCell b w n a c d
   unfolding WritesCell source_of
-  write_load a c d x block k m slot eb es some around em ex ec =
+  write_load a c d x block k m v slot eb es some around ev em ex ec =
       let s = source_of b in
       let found : slot_in s (block_of s d) (Declared d.0) ≡ Some k = sym es ∙ some in
-      let at : (final : CodeOf) → x ≡ i.Load (pos (level_of s (block_of s d))) (pos (slot_of s final (block_of s d) (Declared d.0))) = λ final. ex ∙ ap (λ z. i.Load (pos z) (pos k)) (em ∙ ap (level_of s) eb) ∙ ap (λ z. i.Load (pos (level_of s (block_of s d))) (pos z)) (slot_found s final (block_of s d) (Declared d.0) k found) in
+      let number : v ≡ planned_start s a.classes (block_of s d) + k = ev ∙ ap (λ z. planned_start s a.classes z + k) eb in
+      let at : (final : CodeOf) → ((j : ℕ) → planned_in (slice_get final.blocks j) ≡ planned_at a.classes j) → x ≡ i.Load (pos (level_of s (block_of s d))) (pos (slot_of s final (block_of s d) (Declared d.0))) =
+      λ final known. ex ∙ ap (λ z. i.Load (pos z) (pos v)) (em ∙ ap (level_of s) eb) ∙ ap (λ z. i.Load (pos (level_of s (block_of s d))) (pos z)) (slot_found s final a.classes (block_of s d) (Declared d.0) k v known found number) in
       let there : is_around s.tables (length s.tables.blocks) w.text (block_of s d) ≡ true = ap (λ z. is_around s.tables (length s.tables.blocks) w.text z) (sym eb) ∙ around in
       let is : Inside s.tables w.text (block_of s d) = inside s.tables (block_of s d) (length s.tables.blocks) w.text there in
       let has : HasCell s (block_of s d) (Declared d.0) = slot_within s (block_of s d) (Declared d.0) k found in
-      emits_as w _ _ (λ final site p q. Pushes final site n x p q) _ a c (λ t. tt) (λ t. record { has = ap is_there found; inside = record { found = there } })
-      (λ final site p q stands _ r. record { load = subst (λ z. Pushes final site n z p q) (at final) r; inside = subst (λ z. Inside s.tables z (block_of s d)) (sym stands) is; within = has })
-      (emits_push w a c n x 0 ec (λ z. let h : i.Load (pos m) (pos k) ≡ i.Halt = sym ex ∙ z in cc) (ap runs ex))
+      emits_as w _ _ (λ final site p q. Pushes final site n (i.Load (pos (level_of s (block_of s d))) (pos (slot_of s final (block_of s d) (Declared d.0)))) p q) _ a c (λ t. tt) (λ t. record { has = ap is_there found; inside = record { found = there } })
+      (λ final site p q stands _ r. record { load = r; inside = subst (λ z. Inside s.tables z (block_of s d)) (sym stands) is; within = has })
+      (emits_classed w _ (λ final site p q. Pushes final site n x p q) _ a c (λ final site p q known r. subst (λ z. Pushes final site n z p q) (at final known) r) (emits_push w a c n x 0 ec (λ z. let h : i.Load (pos m) (pos v) ≡ i.Halt = sym ex ∙ z in cc) (ap runs ex)))
 
   pub write_no_slot : (a c : DraftOf) (d : DeclNo) (slot : Option ℕ) → slot ≡ slot_in (source_of b) (block_of (source_of b) d) (Declared d.0) → slot ≡ None → c ≡ given_up a → WritesCell b w n a c d
   unfolding WritesCell

@@ -36,12 +36,17 @@ abbrev pub around_or : (ℕ → Bool) → Option ℕ → Bool
 around_or f None = false
 around_or f (Some t) = f t
 
--- whether one of so many texts, from one outward, is this one
+-- whether a text is this one, or one of so many in front of it is
+unfoldable pub is_level : Tables → ℕ → (text level : ℕ) → Bool
+is_level tables zero text level = text == level
+is_level tables (suc more) text level = if text == level then true else around_or (λ t. is_level tables more t level) (prefix_of tables text)
+
+-- whether one of so many texts, from one outward, is this one or has it in front
 unfoldable pub is_around : Tables → ℕ → (inner outer : ℕ) → Bool
 is_around tables zero inner outer = false
-is_around tables (suc more) inner outer = if inner == outer then true else around_or (λ t. is_around tables more t outer) (encloser tables inner)
+is_around tables (suc more) inner outer = if is_level tables (length tables.blocks) inner outer then true else around_or (λ t. is_around tables more t outer) (encloser tables inner)
 
--- the text is this one or stands in it
+-- the text is this one or has it in front, or stands in such a text
 pub record StandsIn (s : Source) (inner outer : ℕ) : Type 0 where
   pub found : is_around s.tables (length s.tables.blocks) inner outer ≡ true
 
@@ -50,14 +55,9 @@ abbrev pub place_from : ℕ → Key → List Held → Option ℕ
 place_from n key [] = None
 place_from n key (h ∷ hs) = if same_key h.key key then Some n else place_from (suc n) key hs
 
--- where a class stands in front of a text, its cells are not built
-abbrev pub unless_prefixed : (prefix : Option ℕ) → Option ℕ → Option ℕ
-unless_prefixed None place = place
-unless_prefixed (Some k) place = None
-
 -- the place of a cell in a text's own part of its frames, if they have it
 unfoldable pub slot_in : Source → (text : ℕ) → Key → Option ℕ
-slot_in s k key = unless_prefixed (prefix_of s.tables k) (place_from 0 key (own_part s k))
+slot_in s k key = place_from 0 key (own_part s k)
 
 abbrev pub is_there : Option ℕ → Bool
 is_there None = false

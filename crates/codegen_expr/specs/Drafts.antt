@@ -5,18 +5,28 @@ use Rattle.sim_code.specs.declared.instr.Instr.TheVariants as i
 use Rattle.sim_code.specs.declared.instr.Lined.{Lined}
 use Rattle.sim_code.specs.Code.{CodeOf}
 use Rattle.sim_code.specs.Running.{AllRun}
+use Rattle.sim_code.specs.declared.code.CodeType.{CodeType}
+use Rattle.sim_code.specs.Code as code
+use Rattle.sim_scope.specs.Source.{Source}
 use Rattle.codegen_expr.specs.declared.spot.Spot.{Spot}
-use Rattle.codegen_expr.specs.Sites.{Site, class_in, lined}
+use Rattle.codegen_expr.specs.Sites.{Site, block_number, cells_of_block, class_in, lined, prefix_of, room_of_block, types_in}
+
+-- What is planned of a block of the code before anything is written: the number of the class whose block it is, 0 where it is that of none; how
+-- many cells cost words; how many values its operand stack holds; and what each cell and temp holds at the entry.
+pub record PlannedOf : Type 0 where
+  pub class : ℕ
+  pub cells : ℕ
+  pub room : ℕ
+  pub types : List CodeType
 
 -- What is written so far: the instructions, the room on the operand stack that is enough for them, how many cells and temps are enough, and
--- whether all that was to be written is written. Where a form is not built, it is not. And the numbers of the classes whose blocks the blocks
--- of the code are, 0 where a block is that of no class: they are given out before anything is written.
+-- whether all that was to be written is written. Where a form is not built, it is not. And for each block of the code what is planned of it.
 pub record DraftOf : Type 0 where
   pub instrs : List Lined
   pub room : ℕ
   pub size : ℕ
   pub whole : Bool
-  pub classes : List ℕ
+  pub classes : List PlannedOf
 
 -- one more instruction
 unfoldable pub with_instr : DraftOf → Instr → (line : ℕ) → DraftOf
@@ -46,19 +56,42 @@ filled_in c k x = record { instrs = slice_set c.instrs k (lined x 0); room = c.r
 unfoldable pub given_up : DraftOf → DraftOf
 given_up c = record { instrs = c.instrs; room = c.room; size = c.size; whole = false; classes = c.classes }
 
-abbrev pub class_or_none : Option ℕ → ℕ
-class_or_none None = 0
-class_or_none (Some c) = c
+abbrev pub planned_or_none : Option PlannedOf → PlannedOf
+planned_or_none None = record { class = 0; cells = 0; room = 0; types = [] }
+planned_or_none (Some x) = x
 
-abbrev pub class_of : List ℕ → (block : ℕ) → ℕ
-class_of cs k = class_or_none (slice_get cs k)
+abbrev pub planned_at : List PlannedOf → (block : ℕ) → PlannedOf
+planned_at xs k = planned_or_none (slice_get xs k)
+
+abbrev pub class_of : List PlannedOf → (block : ℕ) → ℕ
+class_of xs k = (planned_at xs k).class
+
+-- how many cells and temps the frames of a block have
+abbrev pub size_of : List PlannedOf → (block : ℕ) → ℕ
+size_of xs k = length (planned_at xs k).types
+
+-- what there is in the end of what is planned
+abbrev pub planned_in : Option code.BlockOf → PlannedOf
+planned_in b = record { class = class_in b; cells = cells_of_block b; room = room_of_block b; types = types_in b }
+
+-- what is planned of what stands in front of a text
+abbrev pub planned_of : Source → List PlannedOf → Option ℕ → PlannedOf
+planned_of s xs None = planned_or_none None
+planned_of s xs (Some k) = planned_at xs (block_number s k)
+
+unfoldable pub planned_front : Source → List PlannedOf → (text : ℕ) → PlannedOf
+planned_front s xs k = planned_of s xs (prefix_of s.tables k)
+
+-- where the own part of a text begins
+abbrev pub planned_start : Source → List PlannedOf → (text : ℕ) → ℕ
+planned_start s xs k = length (planned_front s xs k).types
 
 -- a later code keeps each instruction that is not a hole
 pub record Grows (code final : List Lined) : Type 0 where
   pub keeps : (k : ℕ) (x : Lined) → slice_get code k ≡ Some x → x.instr ≢ i.Halt → slice_get final k ≡ Some x
 
 -- a code that a draft becomes in the end, for a spot: it keeps what is written, the operand stack has the room and the frame the size, and
--- another instruction follows; and its blocks are those of the classes that were numbered
+-- another instruction follows; and its blocks are as planned
 pub record Becomes (spot : Spot) (c : DraftOf) (final : CodeOf) (site : Site) : Type 0 where
   pub grows : Grows c.instrs final.instrs
   pub roomy : c.room ≤ site.room
@@ -66,7 +99,7 @@ pub record Becomes (spot : Spot) (c : DraftOf) (final : CodeOf) (site : Site) : 
   pub stands : site.text ≡ spot.text
   pub taken : site.used ≡ spot.used
   pub follows : length c.instrs < length final.instrs
-  pub classed : (block : ℕ) → class_in (slice_get final.blocks block) ≡ class_of c.classes block
+  pub classed : (block : ℕ) → planned_in (slice_get final.blocks block) ≡ planned_at c.classes block
 
 -- Behind old there is new. The draft stays whole just where all that is meant is built; and if it is whole, then whatever the code is in the
 -- end, what is meant stands there in it. What is written are instructions that the machine does.

@@ -184,6 +184,14 @@ block_of_text s c (Some k) = slice_get c.blocks (block_number s k)
 unfoldable pub block_in_front : Source → CodeOf → (text : ℕ) → Option code.BlockOf
 block_in_front s c k = block_of_text s c (prefix_of s.tables k)
 
+abbrev pub cells_of_block : Option code.BlockOf → ℕ
+cells_of_block None = 0
+cells_of_block (Some b) = b.cells
+
+abbrev pub room_of_block : Option code.BlockOf → ℕ
+room_of_block None = 0
+room_of_block (Some b) = b.room
+
 abbrev pub types_in : Option code.BlockOf → List CodeType
 types_in None = []
 types_in (Some b) = b.types

@@ -12,7 +12,7 @@ ghost use Rattle.std.specs.Prelude.{Some, slice_get};
 
 use crate::cells::Cells;
 use crate::draft::deeper;
-use crate::lookups::{cell_count, denoted, prefix_of};
+use crate::lookups::{cell_count, denoted};
 use sim_base::TokenNo;
 use sim_scope::{
     BlockKind, Bound, Denotation, Formal, FormalKind, Scopes, SimType, class_block, encloser,
@@ -220,8 +220,7 @@ fn number_of(index: usize) -> Result<u32, AllocError>
     u32::try_from(index).map_err(|_| AllocError)
 }
 
-/// The cell of a connection in the frames of the text in which it stands. Those of a text with a class in front of it are not built. Time is
-/// linear in the number of blocks.
+/// The place of the cell of a connection in the own part of the frames of the text in which it stands. Time is linear in the number of blocks.
 #[tactic(auto, using(crate::proofs::Frames::frames))]
 pub fn connection_slot(
     bound: &Bound,
@@ -232,9 +231,6 @@ pub fn connection_slot(
     ensures { IfOk result (λ slot. slot ≡ slot_in (source_of bound.now) (frame_text_of (source_of bound.now) connection) (cell_of_connection (source_of bound.now) connection)) }
 {
     let frame = frame_text(bound, connection);
-    if let Some(_) = prefix_of(&bound.scopes, frame) {
-        return Ok(None);
-    }
     let opening = first_of(bound, connection);
     let mut slot = cell_count(bound, cells, frame);
     for index in 0..bound.scopes.block_count() {

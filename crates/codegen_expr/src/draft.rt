@@ -1,12 +1,33 @@
 //! Code that is being written.
 ghost use Rattle.std.specs.Prelude.{◌≡◌, [], IfOk, OnOk, length, pos, suc, true};
 ghost use Rattle.sim_code.specs.declared.instr.Instr.TheVariants as i;
-ghost use Rattle.codegen_expr.specs.Drafts.{class_of as class_of_block, filled_in, given_up, with_hole, with_instr, with_push, with_room, with_temp};
+ghost use Rattle.codegen_expr.specs.Drafts.{class_of as class_of_block, filled_in, given_up, size_of as size_of_block, with_hole, with_instr, with_push, with_room, with_temp};
 
 use sim_base::Line;
-use sim_code::{Instr, Lined};
+use sim_code::{CodeType, Instr, Lined};
 use std::alloc::{AllocError, Global};
 use std::marker::Model;
+
+/// What is planned of a block of the code before anything is written.
+#[derive(Drop)]
+pub struct Planned {
+    /// The number of the class whose block it is, or 0.
+    pub class: u32,
+    /// How many cells cost words.
+    pub cells: u32,
+    /// How many values its operand stack holds.
+    pub room: u32,
+    /// What each cell and temp holds at the entry.
+    pub types: Vec<CodeType>,
+}
+
+impl Model for Planned {
+    ghost use Rattle.codegen_expr.specs.Drafts.{PlannedOf};
+
+    ghost Value = { PlannedOf };
+
+    ghost view = { λ p. record { class = p.class; cells = p.cells; room = p.room; types = p.types.items } };
+}
 
 /// Instructions so far, with the room that they need on the operand stack, and the cells and temps of the frame.
 #[derive(Drop)]
@@ -15,7 +36,7 @@ pub struct Draft {
     room: u32,
     size: u32,
     whole: bool,
-    classes: Vec<u32>,
+    classes: Vec<Planned>,
 }
 
 impl Model for Draft {
@@ -27,8 +48,8 @@ impl Model for Draft {
 }
 
 impl Draft {
-    /// No instruction yet. The class of each block of the code is given, 0 where it is that of no class.
-    pub fn new(alloc: Global, classes: Vec<u32>) -> Draft
+    /// No instruction yet. It is given what is planned of each block of the code.
+    pub fn new(alloc: Global, classes: Vec<Planned>) -> Draft
         ensures { result ≡ record { instrs = []; room = 0; size = 0; whole = true; classes = classes.items } }
     {
         Draft {
@@ -45,9 +66,26 @@ impl Draft {
         ensures { result ≡ class_of_block self.now.classes block }
     {
         match self.classes.get(block as usize) {
-            Some(class) => *class,
+            Some(planned) => planned.class,
             None => 0,
         }
+    }
+
+    /// How many cells and temps the frames of a block of the code have.
+    pub fn size_of(&self, block: u32) -> usize
+        ensures { result ≡ size_of_block self.now.classes block }
+    {
+        match self.classes.get(block as usize) {
+            Some(planned) => planned.types.len(),
+            None => 0,
+        }
+    }
+
+    /// What is planned of the blocks of the code.
+    pub fn planned(&self) -> &[Planned]
+        ensures { result.now ≡ self.now.classes }
+    {
+        &self.classes
     }
 
     /// The allocator of the instructions.

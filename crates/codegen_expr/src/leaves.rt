@@ -6,14 +6,14 @@ ghost use Rattle.codegen_expr.specs.Emit.{WritesCell, WritesCellPlace, WritesCon
 ghost use Rattle.codegen_expr.specs.EmitObjects.{OfConnection, PutsBase, WritesAttribute, WritesConstantOf, WritesFit, WritesMember, WritesObjectOf, WritesQua, WritesThis};
 
 use crate::cells::Cells;
-use crate::classes::{class_at, connection_slot, found_at, is_connection};
+use crate::classes::{class_at, connection_slot, found_at, frame_text, is_connection};
 use crate::draft::{Draft, deeper};
 use crate::instructions::{
     address_instr, attribute_instr, image_instr, link_instr, load_instr, member_instr, qua_instr,
     this_instr,
 };
 use crate::lookups::{
-    block_number, block_of, constant_value, is_around, level_of, line_at, slot_of,
+    block_number, block_of, cell_number, constant_value, is_around, level_of, line_at, slot_of,
 };
 use crate::operators::{constant_instr, text_instr};
 use crate::spot::Spot;
@@ -59,11 +59,12 @@ pub fn emit_cell(
     ensures { OnOk result (WritesCell bound.now spot depth draft.old draft.new declaration) }
 {
     let block = block_of(bound, declaration);
-    let Some(slot) = slot_of(bound, cells, declaration) else {
+    let Some(place) = slot_of(bound, cells, declaration) else {
         draft.give_up();
         return Ok(());
     };
     if is_around(&bound.scopes, spot.text, block) {
+        let slot = cell_number(bound, cells, draft, block, place)?;
         draft.push(depth, load_instr(level_of(bound, block), slot), Line(0))?;
         return Ok(());
     }
@@ -86,11 +87,12 @@ pub(crate) fn emit_cell_place(
     ensures { OnOk result (WritesCellPlace bound.now spot depth draft.old draft.new class declaration) }
 {
     let block = block_of(bound, declaration);
-    let Some(slot) = slot_of(bound, cells, declaration) else {
+    let Some(place) = slot_of(bound, cells, declaration) else {
         draft.give_up();
         return Ok(());
     };
     if is_around(&bound.scopes, spot.text, block) {
+        let slot = cell_number(bound, cells, draft, block, place)?;
         draft.push(
             depth,
             address_instr(level_of(bound, block), slot, class),
@@ -195,11 +197,13 @@ pub fn emit_connected(
     requires cells { Known bound.now cells.now }
     ensures { OnOk result (PutsBase (source_of bound.now) spot depth draft.old draft.new (OfConnection connection)) }
 {
-    let Some(slot) = connection_slot(bound, cells, connection)? else {
+    let Some(place) = connection_slot(bound, cells, connection)? else {
         draft.give_up();
         return Ok(());
     };
     if is_around(&bound.scopes, spot.text, connection) {
+        let frame = frame_text(bound, connection);
+        let slot = cell_number(bound, cells, draft, frame, place)?;
         draft.push(
             depth,
             load_instr(level_of(bound, connection), slot),
@@ -270,10 +274,11 @@ pub(crate) fn emit_attribute(
     requires cells { Known bound.now cells.now }
     ensures { OnOk result (WritesAttribute bound.now spot depth draft.old draft.new class token declaration) }
 {
-    let Some(slot) = slot_of(bound, cells, declaration) else {
+    let Some(place) = slot_of(bound, cells, declaration) else {
         draft.give_up();
         return Ok(());
     };
+    let slot = cell_number(bound, cells, draft, block_of(bound, declaration), place)?;
     draft.put(attribute_instr(slot, class), line_at(bound, token))?;
     Ok(())
 }

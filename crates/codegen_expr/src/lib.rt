@@ -27,7 +27,7 @@ pub use classes::{
     class_at, class_parameters, connection_at, connection_slot, first_of, found_at, frame_text,
     is_connected, is_connection, is_kept_in, qualification,
 };
-pub use draft::{Draft, deeper};
+pub use draft::{Draft, Planned, deeper};
 pub use emit::emit_expr;
 pub use forms::{Form, form_of, typed_token};
 pub use instructions::{
@@ -36,8 +36,9 @@ pub use instructions::{
 };
 pub use leaves::{emit_cell, emit_connected};
 pub use lookups::{
-    block_number, block_of, cell_count, constant_value, denoted, formals_of_block, gives,
-    has_result, is_around, is_text, is_text_at, level_of, line_at, prefix_of, slot_of, type_at,
+    block_number, block_of, cell_count, cell_number, constant_value, denoted, formals_of_block,
+    gives, has_result, is_around, is_text, is_text_at, level_of, line_at, prefix_of, slot_of,
+    type_at,
 };
 pub use names::{StandardCode, standard_leaves};
 pub use operands::emit_list;

@@ -1,12 +1,13 @@
 //! What the emitter looks up by token, declaration and block.
-ghost use Rattle.std.specs.Prelude.{◌≡◌, length};
+ghost use Rattle.std.specs.Prelude.{◌≡◌, ◌+◌, IfOk, length};
 ghost use Rattle.sim_scope.specs.Source.{block_of, denoted as denoted_of, level_of as level_of_block, line_at as line_at_of, source_of, type_at, type_at as type_at_of};
 ghost use Rattle.sim_scope.specs.Access.{encloser as encloser_of};
 ghost use Rattle.sim_meaning.specs.Closing.{is_text as is_text_of, is_text_type};
 ghost use Rattle.sim_meaning.specs.Constants.{text_constant};
 ghost use Rattle.sim_meaning.specs.Pending.{Declared};
 ghost use Rattle.sim_meaning.specs.Texts.{constant_of, text as text_of};
-ghost use Rattle.codegen_expr.specs.Built.{around_or, is_around as is_around_of, slot_in};
+ghost use Rattle.codegen_expr.specs.Built.{around_or, is_around as is_around_of, is_level as is_level_of, slot_in};
+ghost use Rattle.codegen_expr.specs.Drafts.{planned_start};
 ghost use Rattle.codegen_expr.specs.CodeExpr.{gives as gives_of, gives_entry as gives_entry_of};
 ghost use Rattle.codegen_expr.specs.Emit.{formals_of_block as formals_of_block_by};
 ghost use Rattle.codegen_expr.specs.Known.{Known, has_result as has_result_of, number_in, place_in, plain_in};
@@ -14,11 +15,13 @@ ghost use Rattle.codegen_expr.specs.Sites.{block_number as block_number_of, cell
 ghost use Rattle.sim_tree.specs.SyntaxOf.{syntax_of};
 
 use crate::cells::{Cells, ConstantValue};
+use crate::draft::Draft;
 use crate::forms::typed_token;
 use crate::names::standard_leaves;
 use sim_base::{DeclNo, Line, TokenNo};
 use sim_scope::{BlockKind, Bound, Denotation, Entry, Formal, Scopes, SimType, encloser, entry_of};
 use sim_tree::Expr;
+use std::alloc::AllocError;
 
 /// What an identifier denotes.
 #[tactic(auto, unfolding(sim_scope::specs::Source::denoted, sim_scope::specs::Source::source_of))]
@@ -83,13 +86,30 @@ pub fn is_text(bound: &Bound, expr: &Expr) -> bool
     is_text_at(bound, typed_token(expr))
 }
 
-/// Whether a text is another one or stands somewhere in it.
+/// Whether a text is another one or has it in front.
+pub(crate) fn is_level(scopes: &Scopes, text: u32, level: u32) -> bool
+    ensures { result ≡ is_level_of scopes.now (length scopes.now.blocks) text level }
+{
+    let mut front = text;
+    for step in 0..scopes.block_count() {
+        if front == level {
+            return true;
+        }
+        match prefix_of(scopes, front) {
+            Some(next) => front = next,
+            None => return false,
+        }
+    }
+    front == level
+}
+
+/// Whether a text is another one or has it in front, or stands somewhere in such a text.
 pub fn is_around(scopes: &Scopes, inner: u32, outer: u32) -> bool
     ensures { result ≡ is_around_of scopes.now (length scopes.now.blocks) inner outer }
 {
     let mut text = inner;
     for step in 0..scopes.block_count() {
-        if text == outer {
+        if is_level(scopes, text, outer) {
             return true;
         }
         match encloser(scopes, text) {
@@ -126,16 +146,41 @@ fn place_of(bound: &Bound, cells: &Cells, declaration: DeclNo) -> Option<u32>
     }
 }
 
-/// The cell of a declaration in the frames of the text that it stands in, where they have one. Those of a text with a class in front of it
-/// are not built.
+/// The place of the cell of a declaration in the own part of the frames of the text that it stands in, where they have one.
 #[tactic(auto, using(crate::proofs::Slots::slots))]
 pub fn slot_of(bound: &Bound, cells: &Cells, declaration: DeclNo) -> Option<u32>
     requires cells { Known bound.now cells.now }
     ensures { result ≡ slot_in (source_of bound.now) (block_of (source_of bound.now) declaration) (Declared declaration.0) }
 {
-    match prefix_of(&bound.scopes, block_of(bound, declaration)) {
-        Some(_) => None,
-        None => place_of(bound, cells, declaration),
+    place_of(bound, cells, declaration)
+}
+
+/// A place behind so many others.
+fn behind(start: usize, place: u32) -> Result<u32, AllocError>
+    ensures { IfOk result (λ n. n ≡ start + place) }
+{
+    let start = u32::try_from(start).map_err(|_| AllocError)?;
+    start.checked_add(place).ok_or(AllocError)
+}
+
+/// The number of a cell in the frames of a text, by its place in the text's own part. That part stands behind all that what is in front of
+/// the text has.
+pub fn cell_number(
+    bound: &Bound,
+    cells: &Cells,
+    draft: &Draft,
+    text: u32,
+    place: u32,
+) -> Result<u32, AllocError>
+    requires cells { Known bound.now cells.now }
+    ensures { IfOk result (λ n. n ≡ planned_start (source_of bound.now) draft.now.classes text + place) }
+{
+    match prefix_of(&bound.scopes, text) {
+        Some(front) => {
+            let number = behind(draft.size_of(block_number(bound, cells, front)), place)?;
+            Ok(number)
+        }
+        None => Ok(place),
     }
 }
 

@@ -5,7 +5,7 @@ use Rattle.sim_values.specs.declared.value.FrameRef.{FrameRef}
 use Rattle.sim_code.specs.Code.{BlockOf}
 use Rattle.sim_code.specs.Events.{having, no_rule, pop_many, popping, when}
 use Rattle.sim_code.specs.Instances.{Instance, cells_in, cells_put, is_live, is_live_in, live, unless_given}
-use Rattle.sim_code.specs.Machine.{Cells, Frames, Machine, Value, cell_set, filled, frame_in, index, number, put_in}
+use Rattle.sim_code.specs.Machine.{Cells, Frames, Machine, Value, cell_set, filled, frame_in, index, number, passes, put_in}
 use Rattle.sim_code.specs.Outcome.{Run, World}
 use Rattle.frame_arena.specs.declared.frames.Frame.{Frame}
 use Rattle.frame_arena.specs.declared.slot.Slot.{Slot}
@@ -104,7 +104,7 @@ set_last (z ∷ zs) x y = ap (λ w. z ∷ w) (set_last zs x y)
 
 module _ (m : Frames) (k : ℕ) (b : BlockOf) (g : Beginning) (parent : Option FrameRef) where
   abbrev with_cells_of : Cells → Instance Cells
-  with_cells_of cells = record { text = k; level = b.level; encloser = number_in parent; cells = cells; passing = b.class_free; kept = false; given_back = false }
+  with_cells_of cells = record { text = k; level = b.level; encloser = number_in parent; cells = cells; passing = passes b.kind b.class_free; kept = false; given_back = false }
 
   live_last : (cells : Cells) → live (opened_with m k b g parent cells) (length m.instances) ≡ Some (with_cells_of cells)
   live_last cells = ap (λ x. unless_given x) (get_last m.instances (with_cells_of cells))

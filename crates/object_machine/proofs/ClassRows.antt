@@ -10,7 +10,7 @@ use Rattle.sim_code.specs.Code.{ClassOf, CodeOf}
 use Rattle.sim_code.specs.Classes.{admitting, behind, block_in, class_in, class_named, class_numbered, class_of, class_there, if_there, is_among, levels, levels_by, levels_within, may_stand, qualifying}
 use Rattle.sim_code.specs.Events.{choosing, having, no_rule, pop_object, pop_plain, popping, referring, stopping}
 use Rattle.sim_code.specs.Instances.{CellPlace, ElementPlace, ImagePlace, Instance, Place, is_live, is_live_in, live, unless_given}
-use Rattle.sim_code.specs.Machine.{Address, ArrayValue, Cells, Frames, Link, Machine, Of, ProcedureValue, ThunkValue, Value, number, place_in, plain, text_in}
+use Rattle.sim_code.specs.Machine.{Address, ArrayValue, Cells, Frames, Link, Machine, Of, ProcedureValue, ThunkValue, Value, number, place_in, plain, text_in, variable_in}
 use Rattle.sim_code.specs.Outcome.{Run, RunFault, World}
 use Rattle.sim_code.specs.Rows.{class_at, putting, qualified, storing}
 use Rattle.frame_arena.specs.declared.frames.Frame.{Frame}
@@ -326,6 +326,10 @@ module _ (code : CodeOf) (line : ℕ) (v : Value) (o : World) (m : Frames) (go :
   abbrev pub Put : Option (Place ℕ ℕ) → Run Machine
   Put w = having w o (λ p. putting p v o m go)
 
+  pub not_stored : (w : Option (Place ℕ ℕ)) → w ≡ None → Stored w ≡ no_rule o
+  unfolding having
+  not_stored w e = ap Stored e
+
   pub stored : (w w2 : Option (Place ℕ ℕ)) (class : ℕ) → w2 ≡ unclassed w → class ≡ class_in_place w → Stored w ≡ admitting code m line class v o (Put w2)
   unfolding having
   stored None w2 class e e2 = ap (λ q. having q o (λ p. putting p v o m go)) (sym e) ∙ ap (λ c. admitting code m line c v o (Put w2)) (sym e2)
@@ -359,6 +363,29 @@ module _ (code : CodeOf) (line : ℕ) (v : Value) (o : World) (m : Frames) (go :
 
   pub plainly_stored : (s : Slot) → s.class ≡ 0 → Stored (place_in (value_of s)) ≡ Put (place_in (value_of s))
   plainly_stored s e = plainly_in (place_in (value_of s)) (class_by s.kind s e)
+
+-- the place of a variable or an element, where an address is no image's
+variable_by : (j : SlotKind) (s : Slot) → (j ≡ k.Image → ⊥) → variable_in (value_by j s) ≡ place_in (value_by j s)
+variable_by k.Empty s h = refl
+variable_by k.Integer s h = refl
+variable_by k.Truth s h = refl
+variable_by k.Character s h = refl
+variable_by k.Text s h = refl
+variable_by k.Nothing s h = refl
+variable_by k.Object s h = refl
+variable_by k.Link s h = refl
+variable_by k.Cell s h = refl
+variable_by k.Element s h = refl
+variable_by k.Image s h = absurd (h refl)
+variable_by k.Array s h = refl
+variable_by k.Procedure s h = refl
+variable_by k.Thunk s h = refl
+
+pub is_variable : (s : Slot) → (s.kind ≡ k.Image → ⊥) → variable_in (value_of s) ≡ place_in (value_of s)
+is_variable s h = variable_by s.kind s h
+
+pub no_variable : (s : Slot) → s.kind ≡ k.Image → variable_in (value_of s) ≡ None
+no_variable s e = ap (λ j. variable_in (value_by j s)) e
 
 pub class_of_cell : (s : Slot) → s.kind ≡ k.Cell → s.class ≡ class_in_place (place_in (value_of s))
 class_of_cell s e = ap (λ j. class_in_place (place_in (value_by j s))) (sym e)

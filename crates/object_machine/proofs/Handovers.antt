@@ -14,7 +14,7 @@ use Rattle.frame_arena.specs.Stacks.{slot_at, values_from}
 -- ---- one actual parameter
 
 module _ (owner : ℕ) where
-  done_with : (o : World) → handed_over owner [] o ≡ o
+  pub done_with : (o : World) → handed_over owner [] o ≡ o
   unfolding handed_over
   done_with o = refl
 
@@ -40,9 +40,6 @@ module _ (owner : ℕ) where
       no_some : ◌≡◌ {A = Option ℕ} None (Some a) → ⊥
       no_some e = subst some_type e tt
 
-  pub one_other : (f : CodeFormal) (v : Value) (o : World) → is_array_by_value f ≡ true → None ≡ array_in v → handed_over owner (arrays_by_value (f ∷ []) (v ∷ [])) o ≡ o
-  one_other f v o e h = ap (λ b. handed_over owner (if b then with_array_of v [] else []) o) e ∙ ap (λ l. handed_over owner l o) (other_in v h) ∙ done_with o
-
   some_none : {a : ℕ} → ◌≡◌ {A = Option ℕ} (Some a) None → ⊥
   some_none e = subst some_kind e tt
     where
@@ -62,12 +59,18 @@ module _ (owner : ℕ) where
       or_else n None = n
       or_else n (Some k) = k
 
-  pub one_taken : (f : CodeFormal) (v : Value) (o : World) (a : ℕ) → is_array_by_value f ≡ true → Some a ≡ array_in v → handed_over owner (arrays_by_value (f ∷ []) (v ∷ [])) o ≡ owned_world o a owner
-  one_taken f v o a e h =
-      ap (λ b. handed_over owner (if b then with_array_of v [] else []) o) e ∙ ap (λ l. handed_over owner l o) (some_in v a h) ∙ array_next a [] o ∙ done_with (owned_by owner (slice_get o.arrays a) o a)
+  -- the array in a value, if there is one
+  pub in_other : (v : Value) (o : World) → None ≡ array_in v → handed_over owner (with_array_of v []) o ≡ o
+  in_other v o h = ap (λ l. handed_over owner l o) (other_in v h) ∙ done_with o
+
+  pub in_array : (v : Value) (o : World) (a : ℕ) → Some a ≡ array_in v → handed_over owner (with_array_of v []) o ≡ owned_world o a owner
+  in_array v o a h = ap (λ l. handed_over owner l o) (some_in v a h) ∙ array_next a [] o ∙ done_with (owned_by owner (slice_get o.arrays a) o a)
+
+  pub one_taken : (f : CodeFormal) (v : Value) (o : World) → is_array_by_value f ≡ true → handed_over owner (arrays_by_value (f ∷ []) (v ∷ [])) o ≡ handed_over owner (with_array_of v []) o
+  one_taken f v o e = ap (λ b. handed_over owner (if b then with_array_of v [] else []) o) e
 
   -- one after the other
-  with_more : (v : Value) (rest : List ℕ) (o : World) → handed_over owner (with_array_of v rest) o ≡ handed_over owner rest (handed_over owner (with_array_of v []) o)
+  pub with_more : (v : Value) (rest : List ℕ) (o : World) → handed_over owner (with_array_of v rest) o ≡ handed_over owner rest (handed_over owner (with_array_of v []) o)
   with_more (Of p) rest o = ap (handed_over owner rest) (sym (done_with o))
   with_more (Link j) rest o = ap (handed_over owner rest) (sym (done_with o))
   with_more (Address p) rest o = ap (handed_over owner rest) (sym (done_with o))
@@ -124,7 +127,7 @@ drop_all [] (suc k) h = refl
 drop_all (f ∷ fs) zero h = absurd (omega (arith, h))
 drop_all (f ∷ fs) (suc k) h = drop_all fs k (omega (arith, h))
 
-values_at : (stack : List Slot) (at count k : ℕ) → k < count → values_from stack (at + k) (count - k) ≡ value_of (slot_at stack (at + k)) ∷ values_from stack (at + (k + 1)) (count - (k + 1))
+pub values_at : (stack : List Slot) (at count k : ℕ) → k < count → values_from stack (at + k) (count - k) ≡ value_of (slot_at stack (at + k)) ∷ values_from stack (at + (k + 1)) (count - (k + 1))
 values_at stack at count k h =
     let e : count - k ≡ suc (count - (k + 1)) = omega (arith, h) in
     let e2 : suc (at + k) ≡ at + (k + 1) = omega arith in

@@ -24,6 +24,7 @@ pub mod Putting
 pub mod Covered
 pub mod Called
 pub mod Handovers
+pub mod AllHanded
 pub mod Supplied
 pub mod Calls
 pub mod Taking

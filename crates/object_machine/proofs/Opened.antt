@@ -5,7 +5,7 @@ use Rattle.sim_base.specs.declared.limits.Limits.{Limits}
 use Rattle.sim_values.specs.declared.value.FrameRef.{FrameRef}
 use Rattle.sim_code.specs.declared.stage.Stage.{Stage}
 use Rattle.sim_code.specs.Code.{BlockOf}
-use Rattle.sim_code.specs.Machine.{Frames, first_cells}
+use Rattle.sim_code.specs.Machine.{Frames, first_cells, passes}
 use Rattle.sim_code.specs.Outcome.{ArrayOf, World}
 use Rattle.frame_arena.specs.declared.frames.Frame.{Frame}
 use Rattle.frame_arena.specs.declared.slot.Slot.{Slot}
@@ -56,7 +56,7 @@ module _ (l : Limits) (p p2 : Storage) (k : ℕ) (b : BlockOf) (g : Beginning) (
       Leads p2.frames.items (opened m k b g parent) t.registers.home → AllLead p2.frames.items (opened m k b g parent) t.stack.items → AllLeadArrays p.arrays.regions o.arrays t.stack.items →
       activation_of t ≡ record { thunk = false; home = length m.instances; pc = g.start; stack = []; room = b.room; stage = g.stage } → Opens l p p2 k b g parent t before now o m
   opens ea et ei ek ew en h leads cells home slots arrays top =
-      let count = length-append m.instances (record { text = k; level = b.level; encloser = number_in parent; cells = first_cells b; passing = b.class_free; kept = false; given_back = false } ∷ []) in
+      let count = length-append m.instances (record { text = k; level = b.level; encloser = number_in parent; cells = first_cells b; passing = passes b.kind b.class_free; kept = false; given_back = false } ∷ []) in
       record {
         stores = record {
           world = record { ticks = s.world.ticks ∙ sym ek; words = s.world.words ∙ sym ew; texts = s.world.texts ∙ sym et; image = s.world.image ∙ ap (λ i. ports_of i now.source) (sym ei); written = s.world.written };

@@ -6,7 +6,7 @@ use Rattle.sim_values.specs.Plain.{Plain}
 use Rattle.sim_code.specs.Arrays.{element, element_set, element_set_in, live_array, with_array}
 use Rattle.sim_code.specs.Events.{having, image_set, no_rule, popping}
 use Rattle.sim_code.specs.Instances.{CellPlace, ElementPlace, Place}
-use Rattle.sim_code.specs.Machine.{Address, ArrayValue, Frames, Link, Machine, Of, ProcedureValue, ThunkValue, Value, cell_set, place_in, plain}
+use Rattle.sim_code.specs.Machine.{Address, ArrayValue, Frames, Link, Machine, Of, ProcedureValue, ThunkValue, Value, cell_set, place_in, plain, variable_in}
 use Rattle.sim_code.specs.Outcome.{ArrayOf, Run, World}
 use Rattle.sim_code.specs.Code.{CodeOf}
 use Rattle.sim_code.specs.Rows.{putting, storing}
@@ -83,7 +83,7 @@ module _ (o : World) (m : Frames) (K : List Value → World → Frames → Run M
 
 module _ (code : CodeOf) (line : ℕ) (o : World) (m : Frames) (K : List Value → World → Frames → Run Machine) where
   abbrev pub stored_at : Value → List Value → Value → Run Machine
-  stored_at v rest address = having (place_in address) o (λ p. storing code line p v o m (K rest))
+  stored_at v rest address = having (variable_in address) o (λ p. storing code line p v o m (K rest))
 
   abbrev pub put_row : List Value → Run Machine
   put_row values = popping values o (λ v st. popping st o (λ address st. stored_at v st address))

@@ -9,7 +9,7 @@ use Rattle.sim_values.specs.declared.value.FrameRef.{FrameRef}
 use Rattle.sim_code.specs.Instances.{entered}
 use Rattle.sim_code.specs.declared.stage.Stage.TheVariants as stage
 use Rattle.frame_arena.specs.declared.frames.Component.TheVariants as component
-use Rattle.sim_code.specs.Machine.{Frames, Machine, block_at, first_cells}
+use Rattle.sim_code.specs.Machine.{Frames, Machine, block_at, first_cells, passes}
 use Rattle.sim_code.specs.Outcome.{Run, World}
 use Rattle.frame_arena.specs.declared.slot.Slot.{Slot}
 use Rattle.frame_arena.specs.Frames.{number_in, stands_as}
@@ -46,7 +46,7 @@ as_frame b = record { start = b.entry; stage = stage.NoStage; component = compon
 -- the memory with a new frame of a block, which has its first values
 abbrev pub opened : Frames → (block : ℕ) → BlockOf → Beginning → (parent : Option FrameRef) → Frames
 opened m k b g parent =
-    entered m (record { text = k; level = b.level; encloser = number_in parent; cells = first_cells b; passing = b.class_free; kept = false; given_back = false }) (stands_as g.component)
+    entered m (record { text = k; level = b.level; encloser = number_in parent; cells = first_cells b; passing = passes b.kind b.class_free; kept = false; given_back = false }) (stands_as g.component)
 
 -- A new frame stands in the parts, is at work, and all that was at work is so still.
 pub record Opens (l : Limits) (p p2 : Storage) (k : ℕ) (b : BlockOf) (g : Beginning) (parent : Option FrameRef) (t : working.Activation) (before : Option (List ℕ)) (now : Outside) (o : World) (m : Frames) : Type 0 where

@@ -23,7 +23,7 @@ use crate::cells::unqualified;
 use crate::constants::{element, index};
 use crate::machine::{Activation, Flow, Images, Registers, Storage};
 use crate::operands::{settle, settle_applied};
-use crate::placing::{Placing, place};
+use crate::placing::{Placing, is_image, place};
 use crate::reading::value_at;
 use frame_arena::frames::Frame;
 use frame_arena::words::take_words;
@@ -285,6 +285,9 @@ pub fn put(storage: &mut Storage, stack: &[Slot], regs: &mut Registers) -> Optio
         return Some(Flow::NoRule);
     }
     let at = regs.depth - 2;
+    if is_image(stack[at]) {
+        return Some(Flow::NoRule);
+    }
     if stack[at].class != 0 {
         return None;
     }

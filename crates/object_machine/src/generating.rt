@@ -4,7 +4,7 @@ ghost use Rattle.sim_base.specs.declared.limits.Limits.{Limits as LimitsOf};
 ghost use Rattle.sim_code.specs.Arrays.{handed_over};
 ghost use Rattle.sim_code.specs.Code.{BlockOf, CodeOf};
 ghost use Rattle.sim_code.specs.Levels.{filled_by, generating, parameter_cell};
-ghost use Rattle.sim_code.specs.Machine.{Activation as ActivationOf, Cells, Frames, arrays_by_value, first_cells};
+ghost use Rattle.sim_code.specs.Machine.{Activation as ActivationOf, Cells, Frames, arrays_among, first_cells};
 ghost use Rattle.sim_code.specs.Outcome.{World};
 ghost use Rattle.sim_values.specs.declared.value.FrameRef.{FrameRef as Reference};
 ghost use Rattle.frame_arena.specs.declared.slot.Slot.{Slot as SlotOf};
@@ -18,7 +18,7 @@ ghost use Rattle.object_machine.specs.Standing.{AllFit, AtWork, Obeys, Outside};
 
 use crate::calling::Actuals;
 use crate::entering::cover;
-use crate::handing::hand_over;
+use crate::handing::hand_over_all;
 use crate::levelled::{objects_of, take_linked};
 use crate::machine::{Activation, Flow, Registers, Storage};
 use crate::openings::{Beginning, open};
@@ -27,7 +27,7 @@ use crate::paying::pay;
 use frame_arena::frames::{Component, Frame};
 use frame_arena::{Slot, stack};
 use sim_base::Limits;
-use sim_code::{BlockRecord, ClassRecord, CodeFormal, Lined, Stage};
+use sim_code::{BlockRecord, ClassRecord, Lined, Stage};
 use sim_values::{FrameRef, words_instance};
 use std::alloc::Global;
 
@@ -131,24 +131,22 @@ fn furnish(
     class: u32,
     home: FrameRef,
     stack: &[Slot],
-    formals: &[CodeFormal],
     actuals: Actuals,
 ) -> bool
     requires within { actuals.at + actuals.count ≤ length stack.now }
     requires short { actuals.count < 2 ^ 63 }
     ensures texts { storage.new.texts ≡ storage.old.texts }
     ensures image { storage.new.image ≡ storage.old.image }
-    ensures row { result ≡ true → (code : CodeOf) (l : LimitsOf) (before : Option (List ℕ)) (now : Outside) (p : Storage) (o : World) (m : Frames) (k : ℕ) (b : BlockOf) (g : BeginningOf) (parent : Option Reference) (cells : Cells) (t : Activation) (r : Registers) → code.blocks ≡ blocks.now → code.classes ≡ classes.now → b.formals ≡ formals.now →
+    ensures row { result ≡ true → (code : CodeOf) (l : LimitsOf) (before : Option (List ℕ)) (now : Outside) (p : Storage) (o : World) (m : Frames) (k : ℕ) (b : BlockOf) (g : BeginningOf) (parent : Option Reference) (cells : Cells) (t : Activation) (r : Registers) → code.blocks ≡ blocks.now → code.classes ≡ classes.now →
         t.registers.home ≡ home → Opens l p storage.old k b g parent t before now o m → AtWork p o m r stack.now →
         filled_by (parameter_cell code class) 0 (values_from stack.now actuals.at actuals.count) (Some (first_cells b)) ≡ Some cells →
-        OpensWith l p storage.new k b g parent cells t before now o (handed_over (length m.instances) (arrays_by_value b.formals (values_from stack.now actuals.at actuals.count)) o) m }
+        OpensWith l p storage.new k b g parent cells t before now o (handed_over (length m.instances) (arrays_among (values_from stack.now actuals.at actuals.count)) o) m }
 {
     if !supply_levels(storage, blocks, classes, class, home, stack, actuals) {
         return false;
     }
-    hand_over(
+    hand_over_all(
         &mut storage.arrays,
-        formals,
         stack,
         actuals.at,
         actuals.count,
@@ -220,7 +218,6 @@ pub fn generate(
         block.class,
         home,
         &top.stack,
-        &block.formals,
         ready.actuals,
     ) {
         return Flow::Memory;

@@ -24,6 +24,7 @@ use crate::classes::{
 use crate::constants::index;
 use crate::machine::{Activation, Flow, Registers, Storage};
 use crate::operands::push;
+use crate::placing::is_image;
 use frame_arena::frames::Frame;
 use frame_arena::{Arrays, Slot, SlotKind, stack};
 use sim_base::RunError;
@@ -322,6 +323,9 @@ pub fn qualified_put(
     let at = regs.depth - 2;
     let address = stack[at];
     let value = stack[at + 1];
+    if is_image(address) {
+        return Flow::NoRule;
+    }
     let class = class_at(address);
     let Some(admitted) = admit(&storage.frames, blocks, classes, class, value) else {
         return Flow::NoRule;

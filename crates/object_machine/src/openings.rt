@@ -1,6 +1,6 @@
 //! New frames.
 ghost use Rattle.std.specs.Prelude.{◌≡◌, ◌<◌, ◌≤◌, ◌^◌, ℕ, List, Option, IfOk, Some, None, length, map, replicate, false};
-ghost use Rattle.sim_code.specs.Machine.{Frames, first_value};
+ghost use Rattle.sim_code.specs.Machine.{Frames, first_value, passes as passes_of};
 ghost use Rattle.sim_code.specs.Outcome.{ArrayOf, World};
 ghost use Rattle.sim_values.specs.declared.value.FrameRef.{FrameRef as Reference};
 ghost use Rattle.sim_base.specs.declared.limits.Limits.{Limits};
@@ -14,7 +14,7 @@ use crate::machine::{Activation, Registers, Storage};
 use frame_arena::frames::{self, Component, Entry, Frame};
 use frame_arena::regions::{add_region, take_free};
 use frame_arena::{EMPTY, NOTHING, Slot, SlotKind};
-use sim_code::{BlockRecord, CodeType, Stage};
+use sim_code::{BlockKind, BlockRecord, CodeType, Stage};
 use sim_values::FrameRef;
 use std::alloc::{AllocError, Global};
 use std::mem;
@@ -135,6 +135,19 @@ pub fn as_frame(block: &BlockRecord) -> Beginning
     }
 }
 
+// Whether the frame of a block passes: that of a class-free sub-block or procedure.
+#[inline(always)]
+fn passes(kind: BlockKind, class_free: bool) -> bool
+    ensures { result ≡ passes_of kind class_free }
+{
+    match kind {
+        BlockKind::SubBlock => class_free,
+        BlockKind::Procedure => class_free,
+        BlockKind::Object => false,
+        BlockKind::Prefixed => false,
+    }
+}
+
 /// A new frame of a block, with its first values, which is not yet on the chain. It answers want of memory also where there would be
 /// 2^32 regions or 2^63 frames.
 #[inline(always)]
@@ -176,7 +189,7 @@ pub fn open(
         block: number,
         level: block.level,
         parent,
-        passing: block.class_free,
+        passing: passes(block.kind, block.class_free),
         component: beginning.component,
     };
     frames::enter(&mut storage.frames, place, entry);

@@ -1,13 +1,13 @@
 //! Values that are put where an address leads.
-ghost use Rattle.std.specs.Prelude.{◌≡◌, ℕ, ◌+◌, ◌≤◌, List, Option, Some};
+ghost use Rattle.std.specs.Prelude.{◌≡◌, ℕ, ◌+◌, ◌≤◌, List, None, Option, Some, false, true};
 ghost use Rattle.sim_base.specs.declared.limits.Limits.{Limits};
 ghost use Rattle.sim_values.specs.Texts.{Frame as TextFrame};
-ghost use Rattle.sim_code.specs.Machine.{Frames};
+ghost use Rattle.sim_code.specs.Machine.{Frames, place_in, variable_in};
 ghost use Rattle.sim_code.specs.Outcome.{World};
 ghost use Rattle.object_machine.specs.declared.machine.Activation.{Activation};
 ghost use Rattle.object_machine.specs.declared.machine.Registers.{Registers};
 ghost use Rattle.object_machine.specs.declared.machine.Storage.{Storage as StorageOf};
-ghost use Rattle.frame_arena.specs.Slots.{count_of};
+ghost use Rattle.frame_arena.specs.Slots.{count_of, value_of};
 ghost use Rattle.frame_arena.specs.declared.slot.Slot.{Slot as SlotOf};
 ghost use Rattle.object_machine.specs.Images.{IsInside, image_in};
 ghost use Rattle.object_machine.specs.Placing.{LeadsFrom, Places, PutsBack};
@@ -29,6 +29,18 @@ pub enum Placing {
     NoRule,
     /// Want of memory.
     Memory,
+}
+
+/// Whether an address is that of an image, where no value is put.
+#[inline(always)]
+pub fn is_image(slot: Slot) -> bool
+    ensures yes { result ≡ true → variable_in (value_of slot) ≡ None }
+    ensures no { result ≡ false → variable_in (value_of slot) ≡ place_in (value_of slot) }
+{
+    match slot.kind {
+        SlotKind::Image => true,
+        _ => false,
+    }
 }
 
 // The number in a reference.

@@ -40,7 +40,7 @@ fn nested(
 
 #[test]
 fn nesting(rt: HostRuntime) {
-    let whole = b"line 1: Z1 form not built\n".as_slice();
+    let prefix = b"line 2: S2 prefix is no class of this block\n".as_slice();
     let deep = b"line 2: Y2 nested too deeply\n".as_slice();
     let bad = b"line 2: Y1 unexpected token\n".as_slice();
     let rows = [
@@ -49,7 +49,7 @@ fn nesting(rt: HostRuntime) {
         (201, 0, b"", b""),
         (201, 0, b"begin end", deep),
         (201, 0, b"i := 1", deep),
-        (201, 0, b"a class b;", whole),
+        (201, 0, b"a class b;", prefix),
         (201, 0, b"a class b; i", deep),
         (201, 0, b"inner", deep),
         (201, 0, b"else", bad),

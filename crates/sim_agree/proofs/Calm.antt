@@ -15,7 +15,7 @@ use Rattle.sim_scope.specs.declared.types.FormalKind.{FormalKind}
 use Rattle.sim_scope.specs.declared.types.Mode.TheVariants as mode
 use Rattle.sim_scope.specs.declared.types.SimType.{SimType}
 use Rattle.sim_scope.specs.declared.types.WrittenMode.{WrittenMode}
-use Rattle.sim_scope.specs.Building.{BuildingOf, Mark, broken, broken_if, changed, changed_row, declared, declared_again, declared_at, declared_inside, declared_new, declared_twice, entered, headed, holding_class, in_class, inner, inner_at, inner_in, is_match, is_procedure, marked, matched, mode_allowed, moded, moded_as, qualified, specified, specified_as, token_in, unspecified_in, with_entry, with_mode, with_name}
+use Rattle.sim_scope.specs.Building.{BuildingOf, Mark, broken, broken_if, changed, changed_row, declared, declared_again, declared_at, declared_inside, declared_new, declared_twice, entered, headed, holding_class, in_class, inner, inner_at, inner_in, is_match, is_procedure, marked, matched, mode_allowed, moded, moded_as, qualified, specified, specified_as, token_in, unspecified_in, with_entry, with_mode, with_name, prefixed_by, guards, guards_at, protecting}
 use Rattle.sim_scope.specs.Runs.{run}
 use Rattle.sim_scope.specs.Scopes.{declared_in, entry_of}
 use Rattle.sim_scope.specs.Tables.{BlockOf}
@@ -106,6 +106,24 @@ inner_found b token n (Some row) at = inner_one b token n row row.inner at
 pub inner_calm : (b : BuildingOf) (token : ℕ) (o : Option ℕ) → Calm b (inner b token o)
 inner_calm b token None = nothing_calm b
 inner_calm b token (Some n) = inner_found b token n (slice_get b.tables.blocks n) refl
+
+-- a prefix
+prefix_at : (b : BuildingOf) (x : Identifier) (n : ℕ) (o : Option BlockOf) → slice_get b.tables.blocks n ≡ o → Calm b (changed_row b (prefixed_by x) n o)
+prefix_at b x n None at = nothing_calm b
+prefix_at b x n (Some row) at = row_calm b n row (prefixed_by x row) at refl
+
+pub prefix_calm : (b : BuildingOf) (x : Identifier) (o : Option ℕ) → Calm b (changed b (prefixed_by x) o)
+prefix_calm b x None = nothing_calm b
+prefix_calm b x (Some n) = prefix_at b x n (slice_get b.tables.blocks n) refl
+
+-- protection
+guards_found : (b : BuildingOf) (hides keeps : Bool) (x : Identifier) (n : ℕ) (o : Option BlockOf) → slice_get b.tables.blocks n ≡ o → Calm b (guards_at b hides keeps x n o)
+guards_found b hides keeps x n None at = nothing_calm b
+guards_found b hides keeps x n (Some row) at = let h = row_calm b n row (protecting hides keeps x.name row) at refl in record { current = h.current; size = h.size; places = h.places; spans = h.spans }
+
+pub guards_calm : (b : BuildingOf) (hides keeps : Bool) (x : Identifier) (o : Option ℕ) → Calm b (guards b hides keeps x o)
+guards_calm b hides keeps x None = nothing_calm b
+guards_calm b hides keeps x (Some n) = guards_found b hides keeps x n (slice_get b.tables.blocks n) refl
 
 pub rule_calm : (b : BuildingOf) (token : ℕ) (rule : Rule) → Calm b (broken b token rule)
 rule_calm b token rule = record { current = refl; size = refl; places = refl; spans = λ j. refl }

@@ -21,7 +21,7 @@ use Rattle.sim_scope.specs.declared.types.Mode.{Mode}
 use Rattle.sim_scope.specs.declared.types.Mode.TheVariants as mode
 use Rattle.sim_scope.specs.declared.types.SimType.{SimType}
 use Rattle.sim_scope.specs.declared.types.WrittenMode.{WrittenMode}
-use Rattle.sim_scope.specs.Building.{BuildingOf, Declares, Headed, Mark, Qualifies, broken, broken_if, changed, changed_row, declared, declared_again, declared_at, declared_inside, declared_new, declared_twice, default_mode, entered, formal, headed as headed_of, holding_class, in_class, inner, inner_at, inner_in, is_procedure, marked, matched, mode_allowed, moded as moded_of, moded_as, qualified, row_of as new_row, specified as specified_of, specified_as, token_in, unspecified_in, with_entry, with_mode, with_name}
+use Rattle.sim_scope.specs.Building.{BuildingOf, Declares, Headed, Mark, Qualifies, broken, broken_if, changed, changed_row, declared, declared_again, declared_at, declared_inside, declared_new, declared_twice, default_mode, entered, formal, headed as headed_of, holding_class, in_class, inner, inner_at, inner_in, is_procedure, marked, matched, mode_allowed, moded as moded_of, moded_as, qualified, row_of as new_row, specified as specified_of, specified_as, token_in, unspecified_in, with_entry, with_mode, with_name, prefixed_by, guards, guards_at}
 use Rattle.sim_scope.specs.Found.{fault, lesser, precedes}
 use Rattle.sim_scope.specs.Runs.{run}
 use Rattle.sim_scope.specs.Access.{around}
@@ -137,6 +137,22 @@ inner_one b token n row (Some other) = broken_quiet b token r.InnerOutOfPlace
 inner_found : (b : BuildingOf) (token n : ℕ) (o : Option BlockOf) → Quiet b (inner_at b token n o)
 inner_found b token n None = (refl, λ q. q)
 inner_found b token n (Some row) = inner_one b token n row row.inner
+
+prefix_found : (b : BuildingOf) (x : Identifier) (n : ℕ) (o : Option BlockOf) → Quiet b (changed_row b (prefixed_by x) n o)
+prefix_found b x n None = (refl, λ q. q)
+prefix_found b x n (Some row) = (refl, λ q. q)
+
+pub prefix_quiet : (b : BuildingOf) (x : Identifier) (o : Option ℕ) → Quiet b (changed b (prefixed_by x) o)
+prefix_quiet b x None = (refl, λ q. q)
+prefix_quiet b x (Some n) = prefix_found b x n (slice_get b.tables.blocks n)
+
+guards_found : (b : BuildingOf) (hides keeps : Bool) (x : Identifier) (n : ℕ) (o : Option BlockOf) → Quiet b (guards_at b hides keeps x n o)
+guards_found b hides keeps x n None = (refl, λ q. q)
+guards_found b hides keeps x n (Some row) = (refl, λ q. q)
+
+pub guards_quiet : (b : BuildingOf) (hides keeps : Bool) (x : Identifier) (o : Option ℕ) → Quiet b (guards b hides keeps x o)
+guards_quiet b hides keeps x None = (refl, λ q. q)
+guards_quiet b hides keeps x (Some n) = guards_found b hides keeps x n (slice_get b.tables.blocks n)
 
 pub inner_quiet : (b : BuildingOf) (token : ℕ) (o : Option ℕ) → Quiet b (inner b token o)
 inner_quiet b token None = (refl, λ q. q)

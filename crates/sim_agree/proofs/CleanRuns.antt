@@ -28,14 +28,15 @@ use Rattle.sim_scope.proofs.Kept.{kept_set, more_here, set_here}
 use Rattle.sim_meaning.specs.Entries.{numbers_in}
 use Rattle.sim_sound.specs.Held.{Among}
 use Rattle.sim_meaning.specs.Texts.{BlockText, ClassText, ConnectionText, ProcedureText, Text}
-use Rattle.sim_agree.proofs.Calm.{class_calm, declared_calm, headed_calm, inner_calm, moded_calm, span, specified_calm}
-use Rattle.sim_agree.proofs.Groups.{AreReferences, ArrayWritten, Grouped, Has, NoBreaks, NoHeaded, OfReferences, Open, OwnEntry, Quals, block, breaks_rule, closes, connects, declared_in_text, declares, declares_class, has_cases, headed, here, inner_mark, item, moded, nothing, own_marks, parameter, procedure, qualifies, specified, there, unqualified, Written}
-use Rattle.sim_agree.proofs.Steps.{AllEven, Becomes, Changed, Declared, IsParameter, Nothing, Step, Unmatched, class_step, class_unmatched, declared_latest, declared_step, headed_step, inner_step, last_cases, met, moded_step, own_unmatched, parameter_step, procedure_unmatched, quals_latest, quals_step, rule_step, specified_met, unspecified_unmatched, among_at}
+use Rattle.sim_agree.proofs.Calm.{class_calm, declared_calm, headed_calm, inner_calm, moded_calm, span, specified_calm, prefix_calm, guards_calm}
+use Rattle.sim_agree.proofs.Groups.{AreReferences, ArrayWritten, Grouped, Has, NoBreaks, NoHeaded, OfReferences, Open, OwnEntry, Quals, block, breaks_rule, closes, connects, declared_in_text, declares, declares_class, has_cases, headed, here, inner_mark, item, moded, nothing, own_marks, parameter, procedure, qualifies, specified, there, unqualified, Written, prefixes, guarded}
+use Rattle.sim_agree.proofs.Steps.{AllEven, Becomes, Changed, Declared, IsParameter, Nothing, Step, Unmatched, class_step, class_unmatched, declared_latest, declared_step, headed_step, inner_step, last_cases, met, moded_step, own_unmatched, parameter_step, procedure_unmatched, quals_step, rule_step, specified_met, unspecified_unmatched, among_at, prefix_step, guards_step}
 use Rattle.sim_agree.proofs.Fine.{Agree, Fine, KindIs, Stack, With, begun_keeps, closed_agrees, fresh, same_around, step_fine}
-use Rattle.sim_agree.proofs.FineRuns.{Owes, block_agrees, class_agrees, declares_agrees, owes_heading, owes_none, parameter_agrees, procedure_agrees, quals_rows, quiet_agrees, run_both, step_agrees}
+use Rattle.sim_agree.proofs.FineRuns.{Owes, block_agrees, class_agrees, declares_agrees, owes_heading, owes_none, parameter_agrees, procedure_agrees, quiet_agrees, run_both, step_agrees, class_kind}
 use Rattle.sim_agree.proofs.Owned.{Owned, closed_owned, opened_owned, owned_step}
-use Rattle.sim_agree.proofs.Covered.{Covered, closed_covers, covered_stays, declared_alone, declared_covered, holding_refs, inner_covers, moded_covers, opened_least, opened_same, specified_covered}
-use Rattle.sim_agree.proofs.Clean.{Clean, Counts, Made, Origin, OwedAt, RowFor, SpecifiedRow, WrittenFor, complete_stays, declared_clean, declared_refs, early_stays, headed_clean, heading_past, heads_stay, holding_same, if_clean, inner_quiet, moded_quiet, never_none, old_row, origins_stay, out, owed_kept, param_stays, param_was, quals_clean, quals_least, quiet_clean, references_stay, some_same, specified_at, specified_latest, specified_quiet, step_clean}
+use Rattle.sim_agree.proofs.Covered.{Covered, closed_covers, covered_stays, declared_alone, declared_covered, holding_refs, inner_covers, moded_covers, opened_least, opened_same, specified_covered, prefix_covers, guards_covers}
+use Rattle.sim_agree.proofs.Clean.{Clean, Counts, Made, Origin, OwedAt, RowFor, SpecifiedRow, WrittenFor, complete_stays, declared_clean, declared_refs, early_stays, headed_clean, heading_past, heads_stay, holding_same, if_clean, inner_quiet, moded_quiet, never_none, old_row, origins_stay, out, owed_kept, param_stays, param_was, quals_clean, quals_least, quiet_clean, references_stay, some_same, specified_at, specified_latest, specified_quiet, step_clean, prefix_quiet, guards_quiet}
+use Rattle.sim_agree.proofs.OwnedRuns.{class_owned, procedure_owned}
 
 -- ---- a declaration that is no parameter
 
@@ -550,12 +551,12 @@ procedure_clean b text first x owed inner quals result h a ts os row free q begi
         let one : new_row h.name e n true ≡ found = some_same (new_row h.name e n true) found (sym m ∙ subst (λ (z : DeclNo). slice_get c0.tables.declarations z.0 ≡ Some found) (sym same) known) in
         absurd (let other : entry.Procedure (result_named result) (length b.tables.blocks) ≡ entry.Array ty i = ap (λ (z : Declaration). z.entry) one ∙ array in cc)
 
-class_clean : (b : BuildingOf) (text first : ℕ) (x : Text) (owed inner : List Mark) (h : Heading) (ds : Declarations) (ss : Statements) (ts : List Text) (os : List Open) (row : BlockOf) → NoHeaded owed
-    → Begins (ClassText None h ds ss) inner → (f : Fine b ts (item x owed ∷ os)) → slice_get b.tables.blocks f.stack.0 ≡ Some row
+class_clean : (b : BuildingOf) (text first : ℕ) (x : Text) (owed inner : List Mark) (prefix : Option Identifier) (h : Heading) (ds : Declarations) (ss : Statements) (ts : List Text) (os : List Open) (row : BlockOf) → NoHeaded owed
+    → Begins (ClassText prefix h ds ss) inner → (f : Fine b ts (item x owed ∷ os)) → slice_get b.tables.blocks f.stack.0 ≡ Some row
     → (opened (changed (declared b h.name (entry.Class (length b.tables.blocks))) holding_class b.current) kind.Class text first).least ≡ None
-    → (b.least ≡ None) × (Clean b ts (item x owed ∷ os) → Clean (opened (changed (declared b h.name (entry.Class (length b.tables.blocks))) holding_class b.current) kind.Class text first) (ts ++ ClassText None h ds ss ∷ []) (item (ClassText None h ds ss) inner ∷ item x owed ∷ os))
-class_clean b text first x owed inner h ds ss ts os row free begins f at clean =
-    let p = opened_clean c kind.Class text first ts (ClassText None h ds ss) inner (item x owed ∷ os) begins fine clean in
+    → (b.least ≡ None) × (Clean b ts (item x owed ∷ os) → Clean (opened (changed (declared b h.name (entry.Class (length b.tables.blocks))) holding_class b.current) kind.Class text first) (ts ++ ClassText prefix h ds ss ∷ []) (item (ClassText prefix h ds ss) inner ∷ item x owed ∷ os))
+class_clean b text first x owed inner prefix h ds ss ts os row free begins f at clean =
+    let p = opened_clean c kind.Class text first ts (ClassText prefix h ds ss) inner (item x owed ∷ os) begins fine clean in
     let d = declared_clean b h.name e n row alone f.stack.1 at (sym held.0 ∙ p.0) in
     (d.0, λ g. p.1 (named_clean b c h.name e n ts x owed os s (class_calm b h.name e b.current).spans (held.1 ∙ declared_refs b h.name e n alone f.stack.1) (λ i. i) free f.stack.1 f g))
   where
@@ -599,36 +600,6 @@ row_of b ts os f n x is = go (slice_get b.tables.blocks n) refl (subst (λ z. Ki
 quals_unbroken : (R : Type 0) (quals ms : List Mark) → Quals R quals → NoBreaks ms → NoBreaks (quals ++ ms)
 quals_unbroken R quals ms (unqualified free) h = h
 quals_unbroken R quals ms (qualifies x q) h = h
-
--- a procedure begins
-procedure_owned : (b : BuildingOf) (text first : ℕ) (quals : List Mark) (result : Option TypeName) (h : Heading) (body : Statement) (ts : List Text) (row : BlockOf) → Quals (AreReferences (result_named result)) quals → Unmatched b.tables (entry.Procedure (result_named result) (length b.tables.blocks))
-    → (n : ℕ) → b.current ≡ Some n → slice_get b.tables.blocks n ≡ Some row → length b.tables.blocks ≡ length ts
-    → (opened (run marked (declared b h.name (entry.Procedure (result_named result) (length b.tables.blocks))) quals) kind.Procedure text first).least ≡ None → Owned b ts
-    → Owned (opened (run marked (declared b h.name (entry.Procedure (result_named result) (length b.tables.blocks))) quals) kind.Procedure text first) (ts ++ ProcedureText result h body ∷ [])
-procedure_owned b text first quals result h body ts row q alone n cur at size clean v =
-    opened_owned c kind.Procedure text first ts (ProcedureText result h body) (s.size ∙ size) (
-      record { 0 = length b.tables.declarations },
-      new_row h.name e n true,
-      quals_latest c0 (AreReferences (result_named result)) quals q ∙ declared_latest b h.name e n (new_row h.name e n true) alone cur made,
-      ap (λ z. slice_get z (length b.tables.declarations)) (quals_rows c0 (AreReferences (result_named result)) quals q) ∙ made,
-      ap (entry.Procedure (result_named result)) (sym s.size),
-    )
-    (owned_step b c (Declared (length b.tables.declarations) h.name e n) ts s v)
-  where
-    e : Entry
-    e = entry.Procedure (result_named result) (length b.tables.blocks)
-
-    c0 : BuildingOf
-    c0 = declared b h.name (entry.Procedure (result_named result) (length b.tables.blocks))
-
-    c : BuildingOf
-    c = run marked (declared b h.name (entry.Procedure (result_named result) (length b.tables.blocks))) quals
-
-    s : Step b (run marked (declared b h.name (entry.Procedure (result_named result) (length b.tables.blocks))) quals) (Declared (length b.tables.declarations) h.name (entry.Procedure (result_named result) (length b.tables.blocks)) n)
-    s = quals_step b c0 (Declared (length b.tables.declarations) h.name e n) (AreReferences (result_named result)) quals q (declared_step b h.name e n alone cur)
-
-    made : slice_get (declared b h.name (entry.Procedure (result_named result) (length b.tables.blocks))).tables.declarations (length b.tables.declarations) ≡ Some (new_row h.name (entry.Procedure (result_named result) (length b.tables.blocks)) n true)
-    made = (declared_clean b h.name e n row alone cur at (sym (quals_least c0 (AreReferences (result_named result)) quals q) ∙ opened_least c kind.Procedure text first clean)).1
 
 -- a formal parameter is no array that is declared
 no_origin : (c : BuildingOf) (d : DeclNo) (k : FormalKind) (ty : Option SimType) (quals : List Mark) (ts : List Text) → c.latest ≡ Some d → SpecifiedRow c d k ty → Origin c quals ts
@@ -680,13 +651,13 @@ run_clean b ts (procedure {os = os} {ms = ms} {xs = xs} text first x owed quals 
       λ v. subst (λ k. Owned k (ts ++ (z ∷ xs))) (sym parts) (subst (Owned (run marked c ms)) (append_assoc ts (z ∷ []) xs)
           (later.4 (procedure_owned b text first quals result h body ts row.0 q (procedure_unmatched b.tables (result_named result) (length b.tables.blocks) a.fine.bare.virtuals) a.fine.stack.0 a.fine.stack.1 row.1 a.fine.size later.0 v))),
     )
-run_clean b ts (declares_class {os = os} {ms = ms} {xs = xs} text first x owed h ds ss d n g) w a clean =
-    let z : Text = ClassText None h ds ss in
+run_clean b ts (declares_class {os = os} {ms = ms} {xs = xs} text first x owed prefix h ds ss d n g) w a clean =
+    let z : Text = ClassText prefix h ds ss in
     let c : BuildingOf = opened (changed (declared b h.name (entry.Class (length b.tables.blocks))) holding_class b.current) kind.Class text first in
     let inner : List Mark = each headed_marks h.formals ++ own_marks ds in
     let row = row_of b ts _ a.fine a.fine.stack.0 x a.fine.stack.2 in
-    let later = run_clean c (ts ++ z ∷ []) g (owes_heading z h.formals (own_marks ds) (λ y e q. q), w) (class_agrees b text first x owed inner h ds ss ts os d a) clean in
-    let p = class_clean b text first x owed inner h ds ss ts os row.0 n (begins_heading z h.formals (own_marks ds) (λ y e q. q)) a.fine row.1 later.0 in
+    let later = run_clean c (ts ++ z ∷ []) g (owes_heading z h.formals (own_marks ds) (λ y e q. q), w) (class_agrees b text first x owed inner prefix h ds ss ts os d a) clean in
+    let p = class_clean b text first x owed inner prefix h ds ss ts os row.0 n (begins_heading z h.formals (own_marks ds) (λ y e q. q)) a.fine row.1 later.0 in
     let c0 : BuildingOf = declared b h.name (entry.Class (length b.tables.blocks)) in (
       p.0,
       (λ f. subst (λ z. Clean (run marked c ms) z []) (append_assoc ts (z ∷ []) xs) (later.1 (p.1 f))),
@@ -695,8 +666,7 @@ run_clean b ts (declares_class {os = os} {ms = ms} {xs = xs} text first x owed h
           (declared_alone b h.name (entry.Class (length b.tables.blocks)) a.fine.stack.0 row.0 (class_unmatched b.tables (length b.tables.blocks)) a.fine.stack.1 row.1
           (sym (holding_same c0 b.current).0 ∙ opened_least (changed c0 holding_class b.current) kind.Class text first later.0) (λ z. z) v)))),
       λ v. subst (Owned (run marked c ms)) (append_assoc ts (z ∷ []) xs)
-          (later.4 (opened_owned (changed c0 holding_class b.current) kind.Class text first ts z ((class_step b h.name (length b.tables.blocks) a.fine.stack.0 a.fine.stack.1).size ∙ a.fine.size) tt
-          (owned_step b (changed c0 holding_class b.current) _ ts (class_step b h.name (length b.tables.blocks) a.fine.stack.0 a.fine.stack.1) v))),
+          (later.4 (class_owned b text first prefix h ds ss ts row.0 a.fine.stack.0 a.fine.stack.1 row.1 a.fine.size later.0 v)),
     )
 run_clean b ts (declares {os = os} {ms = ms} {xs = xs} x owed quals y e d n own q written g) w a clean =
     let row = row_of b ts _ a.fine a.fine.stack.0 x a.fine.stack.2 in
@@ -755,10 +725,18 @@ run_clean b ts (headed {os = os} x owed y g) w a clean =
     let later = run_clean _ ts g ((λ z f p. w.0 z f (there p)), w.1) (step_agrees b _ Nothing x (Headed y ∷ owed) owed ts os s (λ d row q. absurd q) a) clean in
     let o = unspecified_at b.tables (found_in b.tables b.current y.name) in
     let q = headed_step_clean b x owed y ts os a.fine later.0 in (q.0, (λ f. later.1 (q.1 f)), later.2, (λ v. later.3 (subst (λ z. Covered (headed_of b y.token z)) (sym (headed_clean b y.token o later.0).0) v)), λ v. later.4 (owned_step b _ Nothing ts s v))
+run_clean b ts (prefixes {os = os} prefix h ds ss owed y p g) w a clean =
+    let s = prefix_step b y a.fine.stack.0 a.fine.stack.1 p (class_kind b prefix h ds ss owed ts os a.fine) in
+    let later = run_clean _ ts g w (quiet_agrees b _ ts (item (ClassText prefix h ds ss) owed ∷ os) s a) clean in
+    let q = prefix_quiet b y b.current in (q.1 later.0, (λ f. later.1 (quiet_clean b _ ts (item (ClassText prefix h ds ss) owed ∷ os) s (prefix_calm b y b.current) q.0 a.fine f)), later.2, (λ v. later.3 (prefix_covers b y b.current v)), λ v. later.4 (owned_step b _ Nothing ts s v))
 run_clean {os = os} b ts (inner_mark token g) w a clean =
     let s = inner_step b token b.current refl in
     let later = run_clean _ ts g w (quiet_agrees b _ ts os s a) clean in
     let q = inner_quiet b token b.current in (q.1 later.0, (λ f. later.1 (quiet_clean b _ ts os s (inner_calm b token b.current) q.0 a.fine f)), later.2, (λ v. later.3 (inner_covers b token b.current v)), λ v. later.4 (owned_step b _ Nothing ts s v))
+run_clean {os = os} b ts (guarded hides keeps y g) w a clean =
+    let s = guards_step b hides keeps y b.current refl in
+    let later = run_clean _ ts g w (quiet_agrees b _ ts os s a) clean in
+    let q = guards_quiet b hides keeps y b.current in (q.1 later.0, (λ f. later.1 (quiet_clean b _ ts os s (guards_calm b hides keeps y b.current) q.0 a.fine f)), later.2, (λ v. later.3 (guards_covers b hides keeps y b.current v)), λ v. later.4 (owned_step b _ Nothing ts s v))
 run_clean {os = os} b ts (breaks_rule token rule g) w a clean =
     let later = run_clean (broken b token rule) ts g w (quiet_agrees b _ ts os (rule_step b token rule) a) clean in absurd (never_none b.least (fault token rule) later.0)
 run_clean b ts (closes {os = os} x end g) w a clean =

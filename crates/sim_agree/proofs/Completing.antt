@@ -1,5 +1,5 @@
 -- What the static rules add to the tables of a plain program: the class of each reference and of each connection. All else stays.
-use Rattle.std.proofs.Common.{◌≡◌, ◌+◌, ◌⊎◌, inl, inr, ℕ, Bool, true, false, List, [], ◌∷◌, length, Option, Some, None, refl, sym, ap, ◌∙◌, subst, arith, if◌then◌else◌}
+use Rattle.std.proofs.Common.{◌≡◌, ◌⊎◌, inl, inr, ℕ, Bool, true, false, List, [], ◌∷◌, length, Option, Some, None, refl, sym, ap, ◌∙◌, subst, arith}
 use Rattle.std.specs.Prelude.{nat_eq, slice_get, slice_set}
 use Rattle.std.proofs.lemmas.List.{length-set}
 use Rattle.std.proofs.lemmas.Bool.Decides.{nat_tests}
@@ -24,45 +24,11 @@ use Rattle.sim_scope.specs.Scopes.{binding, entry_in, entry_of}
 use Rattle.sim_scope.specs.Tables.{BlockOf, Tables, with_base_at, with_entry_at}
 use Rattle.sim_scope.specs.Walk.{program_events}
 use Rattle.sim_scope.proofs.Kept.{kept_set, set_here, set_other}
-use Rattle.prefix_bind.specs.declared.prefixes.PrefixFound.TheVariants as found
-use Rattle.prefix_bind.specs.Prefixes.{block_prefixed, deepest, level_prefixed, numbers_to, prefix_found, prefix_of, prefix_of_level, prefixed, with_prefix}
+use Rattle.prefix_bind.specs.Prefixes.{prefixed}
 use Rattle.virtual_match.specs.Qualifying.{class_written, declaration_to, entry_to, qualified, qualified_to, type_to, with_qualification}
 use Rattle.inspect_types.specs.Connecting.{Connecting, ConnectingOf, Connects, Looks, Names, class_of_name, class_of_type, connected, connected_at, connecting, connections}
-use Rattle.sim_static.specs.Check.{completed}
 use Rattle.sim_agree.proofs.Groups.{OfReferences}
 use Rattle.sim_agree.proofs.Openings.{AllOpened, Opened}
-use Rattle.sim_agree.proofs.Unprefixed.{Extras, Unprefixed, extras_in, no_extras}
-
--- ---- prefixes
-
-stays : {S E : Type 0} (f : S → E → S) (s : S) (es : List E) → ((e : E) → f s e ≡ s) → run f s es ≡ s
-unfolding run
-stays f s [] h = refl
-stays f s (e ∷ es) h = ap (λ z. run f z es) (h e) ∙ stays f s es h
-
-module _ (s : Tables) (w : Unprefixed s) where
-  row_stays : (level block : ℕ) → block_prefixed level s block ≡ s
-  unfolding block_prefixed prefix_of
-  row_stays level block = ap (with_prefix s block) (go (slice_get s.blocks block) (w.blocks block))
-    where
-      either : (c : Bool) → (if c then found.Nothing else found.Nothing) ≡ found.Nothing
-      either true = refl
-      either false = refl
-
-      go : (o : Option BlockOf) → extras_in o ≡ no_extras → prefix_of_level level s o ≡ found.Nothing
-      go None e = refl
-      go (Some row) e =
-          let none : row.prefix ≡ None = ap (λ (z : Extras). z.prefix) e in
-          ap (λ z. if nat_eq row.level level then prefix_found s row z else found.Nothing) none ∙ either (nat_eq row.level level)
-
-  level_stays : (level : ℕ) → level_prefixed s level ≡ s
-  unfolding level_prefixed
-  level_stays level = stays (block_prefixed level) s (numbers_to (length s.blocks)) (row_stays level)
-
-  -- where no block has a prefix none becomes known
-  pub prefixes_stay : prefixed s ≡ s
-  unfolding prefixed
-  prefixes_stay = stays level_prefixed s (numbers_to (deepest s.blocks + 1)) level_stays
 
 -- ---- the classes of references
 
@@ -184,9 +150,13 @@ abbrev pub bare_row : Option BlockOf → Option BlockOf
 bare_row None = None
 bare_row (Some row) = Some (record row { base = None })
 
-abbrev kind_in : Option BlockOf → Option BlockKind
+abbrev pub kind_in : Option BlockOf → Option BlockKind
 kind_in None = None
 kind_in (Some row) = Some row.kind
+
+-- what may have a next level: a connection or a class
+abbrev pub HasNext : Tables → (block : ℕ) → Type 0
+HasNext D k = (row : BlockOf) × (slice_get D.blocks k ≡ Some row) × ((row.kind ≡ kind.Connection) ⊎ (row.kind ≡ kind.Class))
 
 -- What is complete of tables: of blocks but what connections connect, the classes of references, and these are classes.
 pub record Completes (D T : Tables) (IsClass : ℕ → Type 0) : Type 0 where
@@ -194,7 +164,9 @@ pub record Completes (D T : Tables) (IsClass : ℕ → Type 0) : Type 0 where
   pub blocks : (k : ℕ) → bare_row (slice_get T.blocks k) ≡ bare_row (slice_get D.blocks k)
   pub places : T.places ≡ D.places
   pub rows : Rows D.declarations T.declarations
-  pub bases : (k c : ℕ) → base_in (slice_get T.blocks k) ≡ Some c → ((row : BlockOf) × (slice_get D.blocks k ≡ Some row) × (row.kind ≡ kind.Connection)) × IsClass c
+  pub bases : (k c : ℕ) → base_in (slice_get T.blocks k) ≡ Some c → HasNext D k × IsClass c
+  -- what is no connection has the base that its prefix gives it
+  pub steady : (k : ℕ) → (kind_in (slice_get D.blocks k) ≡ Some kind.Connection → ⊥) → base_in (slice_get T.blocks k) ≡ base_in (slice_get (prefixed D).blocks k)
 
 module _ (D Q : Tables) (IsClass : ℕ → Type 0) (classes : (d : DeclNo) (n : ℕ) → class_block Q d ≡ Some n → IsClass n) where
   -- so far
@@ -231,13 +203,20 @@ module _ (D Q : Tables) (IsClass : ℕ → Type 0) (classes : (d : DeclNo) (n : 
     places = c.places;
     rows = c.rows;
     bases = λ j n e. bases j n (nat_eq k j) refl e;
+    steady = λ j other. steady j (nat_eq k j) refl other;
   }
     where
-      bases : (j n : ℕ) (z : Bool) → nat_eq k j ≡ z → base_in (slice_get (slice_set T.blocks k (record row { base = next })) j) ≡ Some n → ((found : BlockOf) × (slice_get D.blocks j ≡ Some found) × (found.kind ≡ kind.Connection)) × IsClass n
+      steady : (j : ℕ) (z : Bool) → nat_eq k j ≡ z → (kind_in (slice_get D.blocks j) ≡ Some kind.Connection → ⊥) → base_in (slice_get (slice_set T.blocks k (record row { base = next })) j) ≡ base_in (slice_get (prefixed D).blocks j)
+      steady j true z other =
+          let same : k ≡ j = grind (arith, nat_tests) in
+          absurd (other (subst (λ i. kind_in (slice_get D.blocks i) ≡ Some kind.Connection) same (ap kind_in conn.1 ∙ ap Some conn.2)))
+      steady j false z other = ap base_in (set_other T.blocks k j (record row { base = next }) z) ∙ c.steady j other
+
+      bases : (j n : ℕ) (z : Bool) → nat_eq k j ≡ z → base_in (slice_get (slice_set T.blocks k (record row { base = next })) j) ≡ Some n → HasNext D j × IsClass n
       bases j n true z e =
           let same : k ≡ j = grind (arith, nat_tests) in
           let f : next ≡ Some n = sym (ap base_in (subst (λ i. slice_get (slice_set T.blocks k (record row { base = next })) i ≡ Some (record row { base = next })) same (set_here T.blocks k row (record row { base = next }) at))) ∙ e in
-          (subst (λ i. (found : BlockOf) × (slice_get D.blocks i ≡ Some found) × (found.kind ≡ kind.Connection)) same conn, is_class n f)
+          (subst (HasNext D) same (conn.0, conn.1, inl conn.2), is_class n f)
       bases j n false z e = c.bases j n (sym (ap base_in (set_other T.blocks k j (record row { base = next }) z)) ∙ e)
 
   connects_one : (c : ConnectingOf) → Joined c → (opening : ℕ) → ((k : ℕ) → joined (slice_get D.places opening) ≡ Some k → (row : BlockOf) × (slice_get D.blocks k ≡ Some row) × (row.kind ≡ kind.Connection)) → (o : Option ℕ) → block_at c.tables opening ≡ o
@@ -292,23 +271,3 @@ entry_is_class n (entry.Virtual result m) h = absurd (cc)
 entry_is_class n (entry.Formal x) h = absurd (cc)
 entry_is_class n (entry.Unspecified w) h = absurd (cc)
 entry_is_class n (entry.Attribute name given result) h = absurd (cc)
-
--- ---- all together
-
-pub complete : (D : Tables) (p : Program) (IsClass : ℕ → Type 0) → Unprefixed D → ((k : ℕ) → base_in (slice_get D.blocks k) ≡ None) → AllReferences D D.qualifications → ((d : ℕ) (n : ℕ) (row : Declaration) → slice_get D.declarations d ≡ Some row → row.entry ≡ entry.Class n → IsClass n)
-    → ((i k : ℕ) → Opened D.blocks i → joined (slice_get D.places i) ≡ Some k → (row : BlockOf) × (slice_get D.blocks k ≡ Some row) × (row.kind ≡ kind.Connection)) → AllOpened (program_events connections p) D.blocks
-    → Completes D (completed D p) IsClass
-unfolding completed class_block entry_to
-complete D p IsClass bare bottom refs classes conn opened =
-    subst (λ z. Completes D (connected (qualified z) p) IsClass) (sym (prefixes_stay D bare))
-    (connections_complete D (qualified D) IsClass class_is p (record { size = ap length q.blocks; blocks = λ k. ap (λ z. bare_row (slice_get z k)) q.blocks; places = q.places; rows = q.rows; bases = λ k c e. absurd (let f : None ≡ Some c = sym (ap (λ z. base_in (slice_get z k)) q.blocks ∙ bottom k) ∙ e in cc) }) conn opened)
-  where
-    q : Requalified D (qualified D)
-    q = references_qualified D refs
-
-    class_is : (d : DeclNo) (n : ℕ) → class_block (qualified D) d ≡ Some n → IsClass n
-    class_is d n e = go (slice_get (qualified D).declarations d.0) refl e
-      where
-        go : (o : Option Declaration) → slice_get (qualified D).declarations d.0 ≡ o → class_block_in (elim o [ None ↦ None | Some row ↦ Some row.entry ]) ≡ Some n → IsClass n
-        go None at f = absurd (cc)
-        go (Some row) at f = let w = q.rows.was d.0 row at in classes d.0 n w.0 w.1 (class_was n w.0.entry row.entry w.2.entry (entry_is_class n row.entry f))

@@ -1,5 +1,5 @@
 -- What a connection connects: the class of the object that is inspected, or the class behind `when`, also as the complete tables have them.
-use Rattle.std.proofs.Common.{◌≡◌, ◌<◌, ◌+◌, ◌⊎◌, inl, inr, ℕ, zero, suc, Bool, true, false, List, [], ◌∷◌, ◌++◌, length, Option, Some, None, refl, sym, ap, ◌∙◌, subst, arith}
+use Rattle.std.proofs.Common.{◌≡◌, ◌<◌, ◌⊎◌, inl, inr, ℕ, zero, suc, Bool, true, false, List, [], ◌∷◌, ◌++◌, length, Option, Some, None, refl, sym, ap, ◌∙◌, subst, arith}
 use Rattle.std.specs.Prelude.{nat_eq, slice_get, slice_set}
 use Rattle.std.proofs.lemmas.Bool.Decides.{nat_tests}
 use Rattle.std.proofs.lemmas.List.{length-set}
@@ -34,12 +34,12 @@ use Rattle.virtual_match.specs.Qualifying.{qualified}
 use Rattle.inspect_types.specs.Connecting.{Connecting, ConnectingOf, Connects, Looks, Names, class_of_name, class_of_type, connected, connected_at, connecting, connections}
 use Rattle.sim_static.specs.Check.{completed}
 use Rattle.sim_meaning.specs.Attributes.{is_connection}
-use Rattle.sim_meaning.specs.Texts.{Text, program_texts, text}
+use Rattle.sim_meaning.specs.Texts.{text}
 use Rattle.sim_agree.specs.Places.{PlacedExpression}
 use Rattle.sim_agree.specs.Plain.{Plain}
 use Rattle.sim_agree.specs.TablesOf.{TablesOf}
-use Rattle.sim_agree.proofs.Completing.{Completes, bare_row, prefixes_stay, references_qualified}
-use Rattle.sim_agree.proofs.Fine.{Agree}
+use Rattle.sim_agree.proofs.Completing.{Completes, bare_row}
+use Rattle.sim_agree.proofs.Prefixing.{references_prefixed}
 use Rattle.sim_agree.proofs.Fitted.{AllConnect}
 use Rattle.sim_agree.proofs.Headings as h
 use Rattle.sim_agree.proofs.Insides as i
@@ -228,9 +228,11 @@ module _ (s : Source) (of : TablesOf s) (plain : Plain s.program) (order : InOrd
       places = sym grown.places;
       declarations = sym grown.declarations;
       kinds = λ k. kind_same (slice_get c.tables.blocks k) (slice_get s.tables.blocks k) (sym (grown.rows k));
+      rows = λ k. sym (grown.rows k);
+      solid = λ k other. settled k (body_apart k (sym (i.connections s of plain order k) ∙ other) es opened);
       here = λ k lt. settled k (low_apart k l m es lt looks);
       outward = λ k n lt e. (let inner = t.nesting s of plain order k n (around_same (slice_get s.tables.blocks k) (slice_get c.tables.blocks k) (grown.rows k) ∙ e) in let z : n < l = omega (arith, lt, inner) in z);
-      levels = λ k n e f. (let q = (t.connects s of plain order k n (sym (ap base_in e) ∙ f)).1 in settled n (body_apart n (ap is_connection q.3) es opened));
+      levels = λ k n e f. (let q = t.connects s of plain order k n (sym (ap base_in e) ∙ f) in settled n (body_apart n (ap is_connection q.4) es opened));
       bodies = λ d k e. settled k (body_apart k (body_text d k (ap (λ (ds : List Declaration). block_in (entry_in (slice_get ds d.0))) grown.declarations ∙ e)) es opened);
       first = bare;
       last = t.unprefixed s of plain order;
@@ -338,21 +340,22 @@ met_or_apart s P k c e (Connects i ∷ es) n p connect met = go (joined (slice_g
     go (Some m) at rest = at_number m (nat_eq m k) refl at rest
 
 -- nothing is connected at first
-none_first : (s : Source) → TablesOf s → Plain s.program → (k : ℕ) → base_in (slice_get (qualified (prefixed (declared_by s.program).tables)).blocks k) ≡ None
-none_first s of plain k =
-    ap (λ z. base_in (slice_get (qualified z).blocks k)) (prefixes_stay (declared_by s.program).tables agree.fine.bare)
-    ∙ ap (λ (z : List BlockOf). base_in (slice_get z k)) (references_qualified (declared_by s.program).tables (t.all_references (declared_by s.program).tables (declared_by s.program).tables.qualifications (t.program_clean s.program plain of.unbroken).refs)).blocks
-    ∙ agree.fine.baseless k
+none_first : (s : Source) (of : TablesOf s) (plain : Plain s.program) (order : InOrder s.program) → (k : ℕ) → is_connection (text s k) ≡ true → base_in (slice_get (qualified (prefixed (declared_by s.program).tables)).blocks k) ≡ None
+unfolding base
+none_first s of plain order k is =
+    ap (λ (z : List BlockOf). base_in (slice_get z k)) (references_prefixed (declared_by s.program).tables (t.P s of plain order) (t.all_references (declared_by s.program).tables (declared_by s.program).tables.qualifications (t.program_clean s.program plain of.unbroken).refs)).blocks
+    ∙ go (base (prefixed (declared_by s.program).tables) k) refl
   where
-    agree : Agree (declared_by s.program) (program_texts s.program.prefix s.program.block) []
-    agree = t.program_agrees s.program plain
+    go : (o : Option ℕ) → base (prefixed (declared_by s.program).tables) k ≡ o → o ≡ None
+    go None e = refl
+    go (Some b) e = absurd (let p = (t.P s of plain order).bases k b e in let q : true ≡ false = sym is ∙ t.class_other s of plain order k p.row p.at p.kind in cc)
 
-pub connects_met : (s : Source) (of : TablesOf s) (plain : Plain s.program) (order : InOrder s.program) (P : Option ℕ → Type 0) → P None → AllMet s P (program_events connections s.program) → (k c : ℕ) → base s.tables k ≡ Some c → P (Some c)
+pub connects_met : (s : Source) (of : TablesOf s) (plain : Plain s.program) (order : InOrder s.program) (P : Option ℕ → Type 0) → P None → AllMet s P (program_events connections s.program) → (k c : ℕ) → is_connection (text s k) ≡ true → base s.tables k ≡ Some c → P (Some c)
 unfolding completed connected base
-connects_met s of plain order P p met k c e = go (met_or_apart s P k c e (program_events connections s.program) None p (connections_connect s of plain order) met)
+connects_met s of plain order P p met k c is e = go (met_or_apart s P k c e (program_events connections s.program) None p (connections_connect s of plain order) met)
   where
     go : Apart s.tables.places k (program_events connections s.program) ⊎ P (Some c) → P (Some c)
     go (inr q) = q
     go (inl apart) =
         absurd (let same = settled s of plain order (record { tables = qualified (prefixed (declared_by s.program).tables); next = None }) (program_events connections s.program) of.tables k apart in
-        let f : None ≡ Some c = sym (none_first s of plain k) ∙ ap base_in same ∙ e in cc)
+        let f : None ≡ Some c = sym (none_first s of plain order k is) ∙ ap base_in same ∙ e in cc)

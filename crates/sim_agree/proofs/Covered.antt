@@ -18,7 +18,7 @@ use Rattle.sim_scope.specs.declared.types.FormalKind.{FormalKind}
 use Rattle.sim_scope.specs.declared.types.Mode.TheVariants as mode
 use Rattle.sim_scope.specs.declared.types.SimType.{SimType}
 use Rattle.sim_scope.specs.declared.types.WrittenMode.{WrittenMode}
-use Rattle.sim_scope.specs.Building.{BuildingOf, Mark, block_around, broken_if, changed, closed, closed_at, declared, declared_again, declared_at, declared_inside, declared_new, declared_twice, entered, holding_class, in_class, inner, inner_at, inner_in, is_procedure, level_in, marked, matched, mode_allowed, moded as moded_of, moded_as, most_levels, opened, qualified, row_of as new_row, specified as specified_of, specified_as, token_in, unspecified_in, with_mode, with_name}
+use Rattle.sim_scope.specs.Building.{BuildingOf, Mark, block_around, broken_if, changed, closed, closed_at, declared, declared_again, declared_at, declared_inside, declared_new, declared_twice, entered, holding_class, in_class, inner, inner_at, inner_in, is_procedure, level_in, marked, matched, mode_allowed, moded as moded_of, moded_as, most_levels, opened, qualified, row_of as new_row, specified as specified_of, specified_as, token_in, unspecified_in, with_mode, with_name, changed_row, prefixed_by, guards, guards_at}
 use Rattle.sim_scope.specs.Found.{fault}
 use Rattle.sim_scope.specs.Runs.{run}
 use Rattle.sim_scope.specs.Scopes.{declared_in, entry_of}
@@ -105,6 +105,28 @@ moded_same b token (Some d) = go (unspecified_in (entry_of b.tables d))
 
 pub moded_covers : (b : BuildingOf) (token : TokenNo) (o : Option DeclNo) → Covered b → Covered (moded_of b token mode.ByValue o)
 moded_covers b token o v = covered_stays b (moded_of b token mode.ByValue o) (moded_same b token o) v
+
+prefix_found : (b : BuildingOf) (x : Identifier) (n : ℕ) (o : Option BlockOf) → SameRefs b (changed_row b (prefixed_by x) n o)
+prefix_found b x n None = itself b
+prefix_found b x n (Some row) = ((λ d row at refs. at), refl)
+
+prefix_same : (b : BuildingOf) (x : Identifier) (o : Option ℕ) → SameRefs b (changed b (prefixed_by x) o)
+prefix_same b x None = itself b
+prefix_same b x (Some n) = prefix_found b x n (slice_get b.tables.blocks n)
+
+pub prefix_covers : (b : BuildingOf) (x : Identifier) (o : Option ℕ) → Covered b → Covered (changed b (prefixed_by x) o)
+prefix_covers b x o v = covered_stays b (changed b (prefixed_by x) o) (prefix_same b x o) v
+
+guards_found : (b : BuildingOf) (hides keeps : Bool) (x : Identifier) (n : ℕ) (o : Option BlockOf) → SameRefs b (guards_at b hides keeps x n o)
+guards_found b hides keeps x n None = itself b
+guards_found b hides keeps x n (Some row) = ((λ d row at refs. at), refl)
+
+guards_same : (b : BuildingOf) (hides keeps : Bool) (x : Identifier) (o : Option ℕ) → SameRefs b (guards b hides keeps x o)
+guards_same b hides keeps x None = itself b
+guards_same b hides keeps x (Some n) = guards_found b hides keeps x n (slice_get b.tables.blocks n)
+
+pub guards_covers : (b : BuildingOf) (hides keeps : Bool) (x : Identifier) (o : Option ℕ) → Covered b → Covered (guards b hides keeps x o)
+guards_covers b hides keeps x o v = covered_stays b (guards b hides keeps x o) (guards_same b hides keeps x o) v
 
 pub inner_covers : (b : BuildingOf) (token : ℕ) (o : Option ℕ) → Covered b → Covered (inner b token o)
 inner_covers b token o v = covered_stays b (inner b token o) (inner_same b token o) v

@@ -19,10 +19,10 @@ use Rattle.sim_scope.specs.Access.{around}
 use Rattle.sim_scope.specs.Tables.{BlockOf}
 use Rattle.sim_scope.proofs.Kept.{kept_set, more_here, more_other, set_here, set_other}
 use Rattle.sim_agree.specs.Plain.{Plain}
-use Rattle.sim_agree.proofs.Calm.{Calm, Span, class_calm, declared_calm, headed_calm, inner_calm, moded_calm, quals_calm, rule_calm, span, specified_calm}
+use Rattle.sim_agree.proofs.Calm.{Calm, Span, class_calm, declared_calm, headed_calm, inner_calm, moded_calm, quals_calm, rule_calm, span, specified_calm, nothing_calm, prefix_calm, guards_calm}
 use Rattle.sim_agree.proofs.FineRuns.{run_both}
 use Rattle.sim_agree.proofs.Groups.{AreReferences, OfReferences}
-use Rattle.sim_agree.proofs.Laid.{Frame, Held, Laid, block, breaks_rule, closes, connects, declares, declares_class, headed, inner_mark, leaves, moded, nothing, parameter, passes, procedure, program, program_laid, specified, uses}
+use Rattle.sim_agree.proofs.Laid.{Frame, Held, Laid, block, breaks_rule, closes, connects, declares, declares_class, headed, inner_mark, leaves, moded, nothing, parameter, passes, procedure, program, program_laid, specified, uses, Prefs, prefixed, unprefixed, guarded}
 use Rattle.sim_agree.proofs.Spots.{reached}
 use Rattle.sim_agree.proofs.Steps.{met}
 
@@ -436,6 +436,11 @@ parameter_still b x =
 calm_deep : (b c : BuildingOf) (from : ℕ) → Calm b c → Deep b from → Deep c from
 calm_deep b c from m d = still_deep b c from (calm_still b c m) d
 
+prefs_calm : (b : BuildingOf) (prefs : List Mark) → Prefs prefs → Calm b (run marked b prefs)
+unfolding run marked
+prefs_calm b [] unprefixed = nothing_calm b
+prefs_calm b ms (prefixed y p) = prefix_calm b y b.current
+
 pub run_deep : {os : List Frame} {ms : List Mark} {l : List Spot} {hs : List Held} (b : BuildingOf) (from : ℕ) → Laid os ms l hs → Ascends from l → Deep b from → (to : ℕ) × Deep (run marked b ms) to
 unfolding run marked
 run_deep b from (nothing e) a d = (from, d)
@@ -456,6 +461,7 @@ run_deep b from (specified {ms = ms} quals x k ty p q g) a d =
     (run_deep (run marked c quals) from g a (calm_deep c (run marked c quals) from (quals_calm c (AreReferences ty) quals q) (calm_deep b c from (specified_calm b x.token k ty (found_in b.tables b.current x.name)) d)))
 run_deep b from (headed x g) a d = run_deep _ from g a (calm_deep b _ from (headed_calm b x.token (unspecified_at b.tables (found_in b.tables b.current x.name))) d)
 run_deep b from (inner_mark token g) a d = run_deep _ from g a (calm_deep b _ from (inner_calm b token b.current) d)
+run_deep b from (guarded hides keeps y g) a d = run_deep _ from g a (calm_deep b _ from (guards_calm b hides keeps y b.current) d)
 run_deep b from (breaks_rule token rule g) a d = run_deep _ from g a (calm_deep b _ from (rule_calm b token rule) d)
 run_deep b from (program text i ds ss g) a d = run_deep (opened b kind.Program text i) (i + 1) g a.1 (opened_deep b kind.Program text i from a.0 d)
 run_deep b from (block text i ds ss y u g) a d = run_deep (opened b kind.SubBlock text i) (i + 1) g a.1 (opened_deep b kind.SubBlock text i from a.0 d)
@@ -467,10 +473,12 @@ run_deep b from (procedure {ms = ms} text quals result h body q g) a d =
     subst (λ z. (to : ℕ) × Deep z to) (sym (run_both c0 quals (Opens kind.Procedure text i ∷ ms)))
     (run_deep (opened c kind.Procedure text i) (i + 1) g a.1 (opened_deep c kind.Procedure text i from a.0
     (calm_deep c0 c from (quals_calm c0 (AreReferences (result_named result)) quals q) (calm_deep b c0 from (declared_calm b h.name (entry.Procedure (result_named result) (length b.tables.blocks))) d))))
-run_deep b from (declares_class text h ds ss g) a d =
-    let c : BuildingOf = changed (declared b h.name (entry.Class (length b.tables.blocks))) holding_class b.current in
+run_deep b from (declares_class {ms = ms} text prefs prefix h ds ss w g) a d =
+    let c0 : BuildingOf = changed (declared b h.name (entry.Class (length b.tables.blocks))) holding_class b.current in
     let i : ℕ = h.name.token.0 in
-    run_deep (opened c kind.Class text i) (i + 1) g a.1 (opened_deep c kind.Class text i from a.0 (calm_deep b c from (class_calm b h.name (entry.Class (length b.tables.blocks)) b.current) d))
+    let c : BuildingOf = opened c0 kind.Class text i in
+    subst (λ z. (to : ℕ) × Deep z to) (sym (run_both c prefs ms))
+    (run_deep (run marked c prefs) (i + 1) g a.1 (calm_deep c (run marked c prefs) (i + 1) (prefs_calm c prefs w) (opened_deep c0 kind.Class text i from a.0 (calm_deep b c0 from (class_calm b h.name (entry.Class (length b.tables.blocks)) b.current) d))))
 run_deep b from (closes x end g) a d = run_deep (closed b end b.current) end g a.1 (closed_deep b end from b.current refl a.0 d)
 
 nothing_deep : Deep empty 0

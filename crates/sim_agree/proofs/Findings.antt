@@ -24,7 +24,8 @@ use Rattle.sim_agree.specs.Facts.{Found, FoundThrough}
 use Rattle.sim_agree.specs.Plain.{Plain}
 use Rattle.sim_agree.specs.TablesOf.{TablesOf}
 use Rattle.sim_agree.proofs.Tables as t
-use Rattle.sim_agree.proofs.Unprefixed.{Unprefixed, declared_is, shown_alone, shown_levels, stands_for_itself}
+use Rattle.sim_agree.proofs.Prefixing.{Reaches, shown_reaches}
+use Rattle.sim_agree.proofs.Unprefixed.{Unprefixed, declared_is, shown_next, stands_for_itself}
 
 some_same : {A : Type 0} (a b : A) → Some a ≡ Some b → a ≡ b
 some_same a b e = cc
@@ -57,26 +58,53 @@ module _ (s : Source) (of : TablesOf s) (plain : Plain s.program) (order : InOrd
       go None at f = absurd (cc)
       go (Some row) at f = (subst (λ z. Among d z) (sym (ap numbers_in at)) (placed row.numbers _ f), slice_get_within s.tables.blocks k row at)
 
-  -- each block is one of its levels
-  has_itself : (k : ℕ) → k < length s.tables.blocks → has_level s.tables k k ≡ true
-  unfolding has_level some_level_of
-  has_itself k lt = go (length s.tables.blocks) lt
-    where
-      go : (m : ℕ) → k < m → some_level_of s.tables m (λ b. nat_eq b k) k ≡ true
-      go zero lt = absurd (omega arith)
-      go (suc m) lt = ap (λ z. z || holds (λ b. some_level_of s.tables m (λ b. nat_eq b k) b) (base s.tables k)) (same_number k)
-
-  -- what is declared in a block is at one of its levels
-  level_of_found : (name : List ℕ) (k : ℕ) (d : DeclNo) → lookup s.tables k name ≡ Some d → has_level s.tables k (block_of s d) ≡ true
-  level_of_found name k d e =
-      let q = looked name k d e in subst (λ z. has_level s.tables k z ≡ true) (sym (t.owned_block s of plain order k d q.0)) (has_itself k q.1)
-
   row_of_found : (name : List ℕ) (k : ℕ) (d : DeclNo) → lookup s.tables k name ≡ Some d → (e : Entry) × (entry_of s.tables d ≡ Some e)
   row_of_found name k d e = let r = t.owned s of plain order k d (looked name k d e).0 in (r.0.entry, t.row_entry s of plain order d r.0 r.1)
 
-  -- a class shows what it declares
-  class_shows : (n : ℕ) (from : Option ℕ) (k c : ℕ) (name : List ℕ) (d : DeclNo) → base s.tables k ≡ Some c → shown_of s.tables n from c name ≡ Some d → lookup s.tables c name ≡ Some d
-  class_shows n from k c name d b e = let q = (t.connects s of plain order k c b).1 in shown_alone s.tables bare n from c name d (t.no_base s of plain order c (ap is_connection q.3)) e
+  -- what is shown is declared at a level
+  shown_level : (n : ℕ) (from : Option ℕ) (k : ℕ) (name : List ℕ) (d : DeclNo) → shown_of s.tables n from k name ≡ Some d → some_level_of s.tables n (λ b. nat_eq b (block_of s d)) k ≡ true
+  unfolding some_level_of shown_of
+  shown_level zero from k name d e = absurd (cc)
+  shown_level (suc n) from k name d e = go (shown_next s.tables bare n from k name d e) (λ c f. shown_level n from c name d f)
+    where
+      or_true : (x y : Bool) → y ≡ true → (x || y) ≡ true
+      or_true true y e = refl
+      or_true false y e = e
+
+      go : (lookup s.tables k name ≡ Some d) ⊎ ((c : ℕ) × (base s.tables k ≡ Some c) × (shown_of s.tables n from c name ≡ Some d)) → ((c : ℕ) → shown_of s.tables n from c name ≡ Some d → some_level_of s.tables n (λ b. nat_eq b (block_of s d)) c ≡ true)
+          → (nat_eq k (block_of s d) || holds (λ b. some_level_of s.tables n (λ b. nat_eq b (block_of s d)) b) (base s.tables k)) ≡ true
+      go (inl l) rest =
+          let own : block_of s d ≡ k = t.owned_block s of plain order k d (looked name k d l).0 in
+          ap (λ z. z || holds (λ b. some_level_of s.tables n (λ b. nat_eq b (block_of s d)) b) (base s.tables k)) (ap (nat_eq k) own ∙ same_number k)
+      go (inr q) rest = or_true (nat_eq k (block_of s d)) _ (ap (holds (λ b. some_level_of s.tables n (λ b. nat_eq b (block_of s d)) b)) q.1 ∙ rest q.0 q.2)
+
+  -- one level more changes nothing
+  level_more : (n : ℕ) (p : ℕ → Bool) (k : ℕ) → some_level_of s.tables n p k ≡ true → some_level_of s.tables (suc n) p k ≡ true
+  unfolding some_level_of
+  level_more zero p k e = absurd (cc)
+  level_more (suc n) p k e = go (p k) (base s.tables k) e (λ c f. level_more n p c f)
+    where
+      go : (a : Bool) (o : Option ℕ) → (a || holds (λ b. some_level_of s.tables n p b) o) ≡ true → ((c : ℕ) → some_level_of s.tables n p c ≡ true → some_level_of s.tables (suc n) p c ≡ true) → (a || holds (λ b. some_level_of s.tables (suc n) p b) o) ≡ true
+      go true o e rest = refl
+      go false None e rest = absurd (cc)
+      go false (Some c) e rest = rest c e
+
+  nothing_shown : (from : Option ℕ) (k : ℕ) (name : List ℕ) (d : DeclNo) → shown_of s.tables 0 from k name ≡ Some d → ⊥
+  unfolding shown_of
+  nothing_shown from k name d e = cc
+
+  -- a class that is connected shows what it shows alone
+  class_level : (from : Option ℕ) (k : ℕ) (name : List ℕ) (d : DeclNo) → is_connection (text s k) ≡ true → shown s.tables from k name ≡ Some d → (c : ℕ) × (base s.tables k ≡ Some c) × (has_level s.tables c (block_of s d) ≡ true)
+  unfolding shown has_level
+  class_level from k name d is e = by_count (length s.tables.blocks) e
+    where
+      by_count : (n : ℕ) → shown_of s.tables n from k name ≡ Some d → (c : ℕ) × (base s.tables k ≡ Some c) × (some_level_of s.tables n (λ b. nat_eq b (block_of s d)) c ≡ true)
+      by_count zero e = absurd (nothing_shown from k name d e)
+      by_count (suc n) e = go (shown_next s.tables bare n from k name d e)
+        where
+          go : (lookup s.tables k name ≡ Some d) ⊎ ((c : ℕ) × (base s.tables k ≡ Some c) × (shown_of s.tables n from c name ≡ Some d)) → (c : ℕ) × (base s.tables k ≡ Some c) × (some_level_of s.tables (suc n) (λ b. nat_eq b (block_of s d)) c ≡ true)
+          go (inl l) = absurd (t.nothing_in_connections s of plain order k is d (looked name k d l).0)
+          go (inr q) = (q.0, q.1, level_more n (λ b. nat_eq b (block_of s d)) q.0 (shown_level n from q.0 name d q.2))
 
   record Shows (k : ℕ) (d : DeclNo) : Type 0 where
     through : FoundThrough s (is_connection (text s k)) k (block_of s d)
@@ -84,20 +112,18 @@ module _ (s : Source) (of : TablesOf s) (plain : Plain s.program) (order : InOrd
     is : entry_of s.tables d ≡ Some entry
 
   shows : (from : Option ℕ) (k : ℕ) (name : List ℕ) (d : DeclNo) → shown s.tables from k name ≡ Some d → Shows k d
-  unfolding shown
+  unfolding shown has_level
   shows from k name d e = go (is_connection (text s k)) refl
     where
+      listed : (l : ℕ) × Reaches s.tables k l × (lookup s.tables l name ≡ Some d)
+      listed = shown_reaches s.tables bare (length s.tables.blocks) from k name d e
+
+      r : (e : Entry) × (entry_of s.tables d ≡ Some e)
+      r = row_of_found name listed.0 d listed.2
+
       go : (c : Bool) → is_connection (text s k) ≡ c → Shows k d
-      go false at =
-          let l = shown_alone s.tables bare (length s.tables.blocks) from k name d (t.no_base s of plain order k at) e in
-          let r = row_of_found name k d l in record { through = subst (λ z. FoundThrough s z k (block_of s d)) (sym at) (level_of_found name k d l); entry = r.0; is = r.1 }
-      go true at = connected (shown_levels s.tables bare (length s.tables.blocks) from k name d e)
-        where
-          connected : (lookup s.tables k name ≡ Some d) ⊎ ((c : ℕ) × (m : ℕ) × (base s.tables k ≡ Some c) × (shown_of s.tables m from c name ≡ Some d)) → Shows k d
-          connected (inl l) = absurd (t.nothing_in_connections s of plain order k at d (looked name k d l).0)
-          connected (inr q) =
-              let l = class_shows q.1 from k q.0 name d q.2 q.3 in
-              let r = row_of_found name q.0 d l in record { through = subst (λ z. FoundThrough s z k (block_of s d)) (sym at) (q.0, q.2, level_of_found name q.0 d l); entry = r.0; is = r.1 }
+      go false at = record { through = subst (λ z. FoundThrough s z k (block_of s d)) (sym at) (shown_level (length s.tables.blocks) from k name d e); entry = r.0; is = r.1 }
+      go true at = record { through = subst (λ z. FoundThrough s z k (block_of s d)) (sym at) (class_level from k name d at e); entry = r.0; is = r.1 }
 
   -- the search from block to block
   search : (token n k : ℕ) (name : List ℕ) (d : DeclNo) → searched s.tables (Some token) n k name ≡ Some d
@@ -138,47 +164,15 @@ module _ (s : Source) (of : TablesOf s) (plain : Plain s.program) (order : InOrd
       go (Some k) at = let f = find token k name d at e in (f.shows.entry, f.shows.is)
       go None at = absurd (let none : None ≡ Some d = ap (λ o. declaration_from s.tables (Some token) o name) (sym at) ∙ declared_is s.tables bare token name d e in cc)
 
-  -- two numbers below another one
-  two_below : (a b m : ℕ) → a < m → b < m → nat_eq a b ≡ false → (n : ℕ) × (m ≡ suc (suc n))
-  two_below a b zero x y e = absurd (omega arith)
-  two_below a b (suc zero) x y e = absurd (let z : a ≡ b = omega arith in let P : nat_eq a b ≡ true = grind (arith, nat_tests) in let q : false ≡ true = sym e ∙ P in cc)
-  two_below a b (suc (suc n)) x y e = (n, refl)
-
-  -- the class that is connected is a level of the connection
-  next_level : (k c : ℕ) → k < length s.tables.blocks → c < length s.tables.blocks → base s.tables k ≡ Some c → has_level s.tables k c ≡ true
-  unfolding has_level some_level_of
-  next_level k c kl cl b = go (nat_eq k c) refl
-    where
-      next : (m : ℕ) → holds (λ x. some_level_of s.tables (suc m) (λ x. nat_eq x c) x) (Some c) ≡ true
-      next m = ap (λ z. z || holds (λ x. some_level_of s.tables m (λ x. nat_eq x c) x) (base s.tables c)) (same_number c)
-
-      or_true : (x y : Bool) → y ≡ true → (x || y) ≡ true
-      or_true true y e = refl
-      or_true false y e = e
-
-      go : (z : Bool) → nat_eq k c ≡ z → some_level_of s.tables (length s.tables.blocks) (λ x. nat_eq x c) k ≡ true
-      go true z = let same : k ≡ c = grind (arith, nat_tests) in subst (λ y. has_level s.tables k y ≡ true) same (has_itself k kl)
-      go false z =
-          let m = two_below k c (length s.tables.blocks) kl cl z in
-          subst (λ y. some_level_of s.tables y (λ x. nat_eq x c) k ≡ true) (sym m.1)
-          (or_true (nat_eq k c) _ (ap (λ o. holds (λ x. some_level_of s.tables (suc m.0) (λ x. nat_eq x c) x) o) b ∙ next m.0))
-
   pub attributes : (token block : ℕ) (name : List ℕ) (d : DeclNo) → attribute_in s.tables token block name ≡ Some (denotation.Declared d) → (e : Entry) × (entry_of s.tables d ≡ Some e) × (has_level s.tables block (block_of s d) ≡ true)
-  unfolding attribute_in shown
+  unfolding attribute_in shown has_level
   attributes token block name d e = go (shown s.tables (Some token) block name) (detach_or_none name) refl e
     where
-      level : (lookup s.tables block name ≡ Some d) ⊎ ((c : ℕ) × (m : ℕ) × (base s.tables block ≡ Some c) × (shown_of s.tables m (Some token) c name ≡ Some d)) → has_level s.tables block (block_of s d) ≡ true
-      level (inl l) = level_of_found name block d l
-      level (inr q) =
-          let l = class_shows q.1 (Some token) block q.0 name d q.2 q.3 in
-          let w = looked name q.0 d l in
-          subst (λ z. has_level s.tables block z ≡ true) (sym (t.owned_block s of plain order q.0 d w.0)) (next_level block q.0 (t.based_there s of plain order block q.0 q.2) w.1 q.2)
-
       go : (o : Option DeclNo) (k : Option StandardName) → shown s.tables (Some token) block name ≡ o → declared_or_standard s.tables o k ≡ Some (denotation.Declared d) → (e : Entry) × (entry_of s.tables d ≡ Some e) × (has_level s.tables block (block_of s d) ≡ true)
       go (Some f) k at g =
           let same : f ≡ d = sym (stands_for_itself s.tables bare f) ∙ (let h : represented s.tables f ≡ d = cc in h) in
           let at' : shown s.tables (Some token) block name ≡ Some d = at ∙ ap Some same in
           let r = shows (Some token) block name d at' in
-          (r.entry, r.is, level (shown_levels s.tables bare (length s.tables.blocks) (Some token) block name d at'))
+          (r.entry, r.is, shown_level (length s.tables.blocks) (Some token) block name d at')
       go None (Some k) at g = absurd (cc)
       go None None at g = absurd (cc)

@@ -28,7 +28,7 @@ use Rattle.sim_scope.proofs.Kept.{kept_more, more_here, more_other}
 use Rattle.sim_meaning.specs.Entries.{numbers_in}
 use Rattle.sim_meaning.specs.Texts.{BlockText, ClassText, ConnectionText, ProcedureText, Text, kind_of_type}
 use Rattle.sim_sound.specs.Held.{Among}
-use Rattle.sim_agree.proofs.Groups.{Declaring, Has, Open, OwnEntry, PlainKind, Taking, block, declared_in_text, here, item, own_marks}
+use Rattle.sim_agree.proofs.Groups.{Declaring, Has, Open, OwnEntry, PlainKind, Taking, declared_in_text, item, own_marks}
 use Rattle.sim_agree.proofs.Steps.{AllEven, Becomes, Changed, Even, Fixed, Listed, Nothing, Parametric, Step, among_at, fixed, last_cases, row_step, same_step}
 use Rattle.sim_agree.proofs.Unprefixed.{Baseless, Unprefixed, extras_in, no_extras}
 
@@ -113,7 +113,7 @@ stack_kept bs cs ts us keep (o ∷ os) current h =
 abbrev pub KindOf : BlockKind → Text → Type 0
 KindOf k (BlockText i ds ss) = PlainKind k
 KindOf k (ProcedureText result h a) = k ≡ kind.Procedure
-KindOf k (ClassText prefix h ds ss) = (k ≡ kind.Class) × (prefix ≡ None)
+KindOf k (ClassText prefix h ds ss) = k ≡ kind.Class
 KindOf k ConnectionText = k ≡ kind.Connection
 KindOf k _ = ⊥
 
@@ -185,12 +185,13 @@ pub record OfProcedure (bs : List BlockOf) (ts : List Text) (d : ℕ) (row : Dec
   pub owner : owner_in (slice_get bs number) ≡ Some (record { 0 = d })
 
 pub record OfClass (bs : List BlockOf) (ts : List Text) (d : ℕ) (row : Declaration) : Type 0 where
+  pub prefix : Option Identifier
   pub heading : Heading
   pub declarations : Declarations
   pub statements : Statements
   pub number : ℕ
   pub entry : row.entry ≡ entry.Class number
-  pub text : slice_get ts number ≡ Some (ClassText None heading declarations statements)
+  pub text : slice_get ts number ≡ Some (ClassText prefix heading declarations statements)
   pub around : around (slice_get bs number) ≡ Some row.block
   pub owner : owner_in (slice_get bs number) ≡ Some (record { 0 = d })
 
@@ -243,8 +244,8 @@ module _ (bs cs : List BlockOf) (ts us : List Text) (keep : Keeps bs cs ts us) w
 
   class_kept : (d : ℕ) (row : Declaration) → OfClass bs ts d row → OfClass cs us d row
   class_kept d row p =
-      let k = keep p.number (ClassText None p.heading p.declarations p.statements) p.text in
-      record { heading = p.heading; declarations = p.declarations; statements = p.statements; number = p.number; entry = p.entry; text = k.1; around = same_around (slice_get cs p.number) (slice_get bs p.number) k.0 ∙ p.around; owner = same_owner (slice_get cs p.number) (slice_get bs p.number) k.0 ∙ p.owner }
+      let k = keep p.number (ClassText p.prefix p.heading p.declarations p.statements) p.text in
+      record { prefix = p.prefix; heading = p.heading; declarations = p.declarations; statements = p.statements; number = p.number; entry = p.entry; text = k.1; around = same_around (slice_get cs p.number) (slice_get bs p.number) k.0 ∙ p.around; owner = same_owner (slice_get cs p.number) (slice_get bs p.number) k.0 ∙ p.owner }
 
   row_at : (x : Text) (d : ℕ) (row : Declaration) → RowIn bs ts x d row → RowIn cs us x d row
   row_at x d row (own_row y p) = own_row y p
@@ -285,7 +286,7 @@ changed_in bs ts x d old row c (procedure_row y p) = procedure_row y (go c.entry
 changed_in bs ts x d old row c (class_row y p) = class_row y (go c.entry)
   where
     go : Becomes old.entry row.entry → OfClass bs ts d row
-    go (inl e) = record { heading = p.heading; declarations = p.declarations; statements = p.statements; number = p.number; entry = e ∙ p.entry; text = p.text; around = p.around ∙ ap Some (sym c.block); owner = p.owner }
+    go (inl e) = record { prefix = p.prefix; heading = p.heading; declarations = p.declarations; statements = p.statements; number = p.number; entry = e ∙ p.entry; text = p.text; around = p.around ∙ ap Some (sym c.block); owner = p.owner }
     go (inr q) = absurd (let e : entry.Unspecified q.0 ≡ entry.Class p.number = sym q.1 ∙ p.entry in cc)
 changed_in bs ts x d old row c (formal_row y p) = formal_row y (go c.entry)
   where

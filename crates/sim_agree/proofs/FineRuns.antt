@@ -1,8 +1,7 @@
 -- The marks of a plain program, one after the other: behind each of them the tables agree with the texts.
-use Rattle.std.proofs.Common.{◌≡◌, ◌+◌, ◌⊎◌, inl, inr, ℕ, List, [], ◌∷◌, ◌++◌, length, Option, Some, None, refl, sym, ap, ◌∙◌, subst, append-nil, append_assoc}
+use Rattle.std.proofs.Common.{◌≡◌, ◌⊎◌, inl, inr, ℕ, List, [], ◌∷◌, ◌++◌, length, Option, Some, None, refl, sym, ap, ◌∙◌, subst, append-nil, append_assoc}
 use Rattle.std.specs.Prelude.{slice_get}
 use Rattle.sim_base.specs.declared.numbering.DeclNo.{DeclNo}
-use Rattle.sim_base.specs.declared.rule.Rule.TheVariants as r
 use Rattle.sim_tree.specs.declared.expr.Identifier.{Identifier}
 use Rattle.sim_tree.specs.declared.stmt.TypeName.{TypeName}
 use Rattle.sim_tree.specs.Syntax.{Declarations, Heading, Statement, Statements}
@@ -21,9 +20,9 @@ use Rattle.sim_scope.proofs.Kept.{more_here}
 use Rattle.sim_meaning.specs.Entries.{numbers_in}
 use Rattle.sim_meaning.specs.Texts.{BlockText, ClassText, ConnectionText, ProcedureText, Text}
 use Rattle.sim_sound.specs.Held.{Among}
-use Rattle.sim_agree.proofs.Groups.{AreReferences, Declaring, Grouped, Has, OfReferences, Open, OwnEntry, Quals, Taking, block, breaks_rule, closes, connects, declared_in_text, declares, declares_class, has_cases, headed, here, inner_mark, item, moded, nothing, own_marks, parameter as parameter_mark, procedure, qualifies, specified, there, unqualified}
-use Rattle.sim_agree.proofs.Steps.{AllEven, Changed, Declared, IsRow, Nothing, Parametric, Step, Unmatched, class_step, class_unmatched, declared_latest, declared_step, headed_step, inner_step, met, moded_step, own_unmatched, parameter_step, procedure_unmatched, quals_latest, quals_step, rule_step, specified_met}
-use Rattle.sim_agree.proofs.Fine.{Agree, Alike, Fine, Keeps, KindOf, OfClass, OfProcedure, Own, RowOf, alike_results, begun_keeps, begun_rows, changed_row, class_row, closed_agrees, formal_row, fresh, more_text, opened_agrees, own_row, owner_in, procedure_row, row_kept, row_text, step_fine, step_rows}
+use Rattle.sim_agree.proofs.Groups.{AreReferences, Declaring, Grouped, Has, OfReferences, Open, OwnEntry, Quals, Taking, block, breaks_rule, closes, connects, declared_in_text, declares, declares_class, has_cases, headed, here, inner_mark, item, moded, nothing, own_marks, parameter as parameter_mark, procedure, qualifies, specified, there, unqualified, prefixes, guarded}
+use Rattle.sim_agree.proofs.Steps.{AllEven, Changed, Declared, IsRow, Nothing, Parametric, Step, Unmatched, class_step, class_unmatched, declared_latest, declared_step, headed_step, inner_step, met, moded_step, own_unmatched, parameter_step, procedure_unmatched, quals_latest, quals_step, rule_step, specified_met, prefix_step, guards_step}
+use Rattle.sim_agree.proofs.Fine.{Agree, Alike, Fine, Keeps, KindOf, OfClass, OfProcedure, Own, RowOf, alike_results, begun_keeps, begun_rows, changed_row, class_row, closed_agrees, formal_row, fresh, more_text, opened_agrees, own_row, owner_in, procedure_row, row_kept, row_text, step_fine, step_rows, KindIs}
 
 -- ---- a procedure or a class is declared, and its block begins
 
@@ -129,12 +128,12 @@ procedure_agrees b text first x owed inner quals result h a ts os d q g =
       owner = ap owner_in (next_block b c kind.Procedure text first h.name e n x owed inner z ts os s g refl refl) ∙ latest i row is p.0;
     }
 
-pub class_agrees : (b : BuildingOf) (text first : ℕ) (x : Text) (owed inner : List Mark) (h : Heading) (ds : Declarations) (ss : Statements) (ts : List Text) (os : List Open) → Declaring x
+pub class_agrees : (b : BuildingOf) (text first : ℕ) (x : Text) (owed inner : List Mark) (prefix : Option Identifier) (h : Heading) (ds : Declarations) (ss : Statements) (ts : List Text) (os : List Open) → Declaring x
     → Agree b ts (item x owed ∷ os)
-    → Agree (opened (changed (declared b h.name (entry.Class (length b.tables.blocks))) holding_class b.current) kind.Class text first) (ts ++ ClassText None h ds ss ∷ []) (item (ClassText None h ds ss) inner ∷ item x owed ∷ os)
-class_agrees b text first x owed inner h ds ss ts os d g =
-    next_agrees b c kind.Class text first h.name e n x owed inner z ts os s g refl (refl, refl) (λ i row is p.
-    subst (λ o. RowOf cs us o i row) (sym (here_text b c kind.Class text first h.name e n x owed inner z ts os s g refl (refl, refl) row p.1)) (class_row d (made i row is p)))
+    → Agree (opened (changed (declared b h.name (entry.Class (length b.tables.blocks))) holding_class b.current) kind.Class text first) (ts ++ ClassText prefix h ds ss ∷ []) (item (ClassText prefix h ds ss) inner ∷ item x owed ∷ os)
+class_agrees b text first x owed inner prefix h ds ss ts os d g =
+    next_agrees b c kind.Class text first h.name e n x owed inner z ts os s g refl refl (λ i row is p.
+    subst (λ o. RowOf cs us o i row) (sym (here_text b c kind.Class text first h.name e n x owed inner z ts os s g refl refl row p.1)) (class_row d (made i row is p)))
   where
     n : ℕ
     n = g.fine.stack.0
@@ -149,7 +148,7 @@ class_agrees b text first x owed inner h ds ss ts os d g =
     c = changed c0 holding_class b.current
 
     z : Text
-    z = ClassText None h ds ss
+    z = ClassText prefix h ds ss
 
     us : List Text
     us = ts ++ z ∷ []
@@ -158,7 +157,7 @@ class_agrees b text first x owed inner h ds ss ts os d g =
     s = class_step b h.name (length b.tables.blocks) n g.fine.stack.1
 
     cs : List BlockOf
-    cs = begun_blocks b c kind.Class text first h.name e n x owed inner z ts os s g refl (refl, refl)
+    cs = begun_blocks b c kind.Class text first h.name e n x owed inner z ts os s g refl refl
 
     kept : (o : Option ℕ) → ((changed c0 holding_class o).tables.declarations ≡ c0.tables.declarations) × ((changed c0 holding_class o).latest ≡ c0.latest)
     kept None = (refl, refl)
@@ -176,14 +175,15 @@ class_agrees b text first x owed inner h ds ss ts os d g =
 
     made : (i : ℕ) (row : Declaration) → slice_get c.tables.declarations i ≡ Some row → (i ≡ length b.tables.declarations) × IsRow h.name e n row → OfClass cs us i row
     made i row is p = record {
+      prefix = prefix;
       heading = h;
       declarations = ds;
       statements = ss;
       number = length b.tables.blocks;
       entry = p.1.3;
-      text = next_text b c kind.Class text first h.name e n x owed inner z ts os s g refl (refl, refl);
-      around = next_around b c kind.Class text first h.name e n x owed inner z ts os s g refl (refl, refl) row p.1;
-      owner = ap owner_in (next_block b c kind.Class text first h.name e n x owed inner z ts os s g refl (refl, refl)) ∙ latest i row is p.0;
+      text = next_text b c kind.Class text first h.name e n x owed inner z ts os s g refl refl;
+      around = next_around b c kind.Class text first h.name e n x owed inner z ts os s g refl refl row p.1;
+      owner = ap owner_in (next_block b c kind.Class text first h.name e n x owed inner z ts os s g refl refl) ∙ latest i row is p.0;
     }
 
 -- ---- declarations and headings
@@ -234,6 +234,11 @@ parameter_agrees b x owed y ts os d a =
 pub block_agrees : (b : BuildingOf) (k : BlockKind) (text first : ℕ) (x : Text) (owed : List Mark) (ts : List Text) (os : List Open) → KindOf k x → Agree b ts os → Agree (opened b k text first) (ts ++ x ∷ []) (item x owed ∷ os)
 block_agrees b k text first x owed ts os p a = opened_agrees b k text first ts x owed os p a.fine (begun_rows b (fresh b k first) (placed b.tables b.current first).places ts x os a.fine a.rows)
 
+-- the innermost block is a class
+pub class_kind : (b : BuildingOf) (prefix : Option Identifier) (h : Heading) (ds : Declarations) (ss : Statements) (owed : List Mark) (ts : List Text) (os : List Open) → (f : Fine b ts (item (ClassText prefix h ds ss) owed ∷ os))
+    → (row : BlockOf) → slice_get b.tables.blocks f.stack.0 ≡ Some row → row.kind ≡ kind.Class
+class_kind b prefix h ds ss owed ts os f row at = subst (λ z. KindIs (Some row) z) f.stack.2 (subst (λ z. KindIs z (slice_get ts f.stack.0)) at (f.kinds f.stack.0))
+
 -- ---- the whole
 
 -- the declarations that are still to come in an open text are its own
@@ -277,11 +282,11 @@ run_agrees b ts (procedure {os = os} {ms = ms} {xs = xs} text first x owed quals
     subst (λ c. Agree c (ts ++ (z ∷ xs)) []) (sym (run_both (declared b h.name (entry.Procedure (result_named result) (length b.tables.blocks))) quals (Opens kind.Procedure text first ∷ ms)))
     (subst (λ z. Agree (run marked (opened c kind.Procedure text first) ms) z []) (append_assoc ts (z ∷ []) xs)
     (run_agrees (opened c kind.Procedure text first) (ts ++ z ∷ []) g (owes_heading z h.formals [] (owes_none z), w) (procedure_agrees b text first x owed inner quals result h body ts os d q a)))
-run_agrees b ts (declares_class {os = os} {ms = ms} {xs = xs} text first x owed h ds ss d n g) w a =
-    let z : Text = ClassText None h ds ss in
+run_agrees b ts (declares_class {os = os} {ms = ms} {xs = xs} text first x owed prefix h ds ss d n g) w a =
+    let z : Text = ClassText prefix h ds ss in
     let c : BuildingOf = changed (declared b h.name (entry.Class (length b.tables.blocks))) holding_class b.current in
     subst (λ z. Agree (run marked (opened c kind.Class text first) ms) z []) (append_assoc ts (z ∷ []) xs)
-    (run_agrees (opened c kind.Class text first) (ts ++ z ∷ []) g (owes_heading z h.formals (own_marks ds) (λ y e q. q), w) (class_agrees b text first x owed (each headed_marks h.formals ++ own_marks ds) h ds ss ts os d a))
+    (run_agrees (opened c kind.Class text first) (ts ++ z ∷ []) g (owes_heading z h.formals (own_marks ds) (λ y e q. q), w) (class_agrees b text first x owed (each headed_marks h.formals ++ own_marks ds) prefix h ds ss ts os d a))
 run_agrees b ts (declares {os = os} {ms = ms} {xs = xs} x owed quals y e d n own q written g) w a =
     subst (λ c. Agree c (ts ++ xs) []) (sym (run_both (declared b y e) quals ms))
     (run_agrees (run marked (declared b y e) quals) ts g ((λ z f p. w.0 z f (there p)), w.1) (declares_agrees b x owed quals y e ts os d own q (w.0 y e here) a))
@@ -293,6 +298,9 @@ run_agrees {os = os} b ts (specified {ms = ms} {xs = xs} quals y k ty p q g) w a
     (run_agrees (run marked c quals) ts g w (quiet_agrees b (run marked c quals) ts os (quals_step b c Nothing (AreReferences ty) quals q (specified_met b y.token k ty (found_in b.tables b.current y.name) p)) a))
 run_agrees b ts (headed {os = os} x owed y g) w a =
     run_agrees _ ts g ((λ z f p. w.0 z f (there p)), w.1) (step_agrees b _ Nothing x (Headed y ∷ owed) owed ts os (headed_step b y.token (unspecified_at b.tables (found_in b.tables b.current y.name))) (λ d row q. absurd q) a)
+run_agrees b ts (prefixes {os = os} prefix h ds ss owed y p g) w a =
+    run_agrees _ ts g w (quiet_agrees b _ ts (item (ClassText prefix h ds ss) owed ∷ os) (prefix_step b y a.fine.stack.0 a.fine.stack.1 p (class_kind b prefix h ds ss owed ts os a.fine)) a)
 run_agrees {os = os} b ts (inner_mark token g) w a = run_agrees _ ts g w (quiet_agrees b _ ts os (inner_step b token b.current refl) a)
+run_agrees {os = os} b ts (guarded hides keeps y g) w a = run_agrees _ ts g w (quiet_agrees b _ ts os (guards_step b hides keeps y b.current refl) a)
 run_agrees {os = os} b ts (breaks_rule token rule g) w a = run_agrees _ ts g w (quiet_agrees b _ ts os (rule_step b token rule) a)
 run_agrees b ts (closes {os = os} x end g) w a = run_agrees (closed b end b.current) ts g w.1 (closed_agrees b end ts x os a)

@@ -8,7 +8,7 @@ use Rattle.sim_tree.specs.declared.stmt.TypeName.{TypeName}
 use Rattle.sim_tree.specs.declared.stmt.TypeName.TheVariants as type_name
 use Rattle.sim_tree.specs.declared.stmt.Variable.{Variable}
 use Rattle.sim_tree.specs.Named.{all_named, named}
-use Rattle.sim_tree.specs.Order.{Ascends, Behind, InOrder, Spot, Token, in_arms, in_block, in_bounds, in_declaration, in_declarations, in_each, in_element, in_expression, in_name, in_result, in_segment, in_side, in_statement, in_statements, in_type, in_variable, tokens}
+use Rattle.sim_tree.specs.Order.{Ascends, Behind, InOrder, Spot, Token, in_arms, in_block, in_bounds, in_declaration, in_declarations, in_each, in_element, in_expression, in_name, in_result, in_segment, in_side, in_statement, in_statements, in_type, in_variable, tokens, in_prefix}
 use Rattle.sim_tree.specs.Syntax.{Also, Arms, Arrayed, Arrays, Begin, Block, BoundPair, Declaration, Declarations, DeclareClass, DeclareProcedure, Element, Expression, Expressions, Heading, Interface, NoArm, NoDeclaration, NoStatement, RightSide, Statement, Statements, Variables, When, With}
 use Rattle.sim_tree.specs.Syntax as syntax
 use Rattle.sim_scope.specs.declared.outcome.Extent.TheVariants as extent
@@ -27,10 +27,11 @@ use Rattle.sim_scope.specs.Scopes.{binding}
 use Rattle.sim_scope.specs.Source.{Source}
 use Rattle.sim_scope.specs.Walk.{arms_events, begin_of, block_events, class_events, declaration_events, declarations_events, program_events, statement_events, statements_events, whole_events}
 use Rattle.inspect_types.specs.Connecting.{Connecting, Connects, Looks, Names, class_of_name as connected_name, class_of_type as connected_type, connections}
-use Rattle.sim_meaning.specs.Texts.{BlockText, ClassText, ProcedureText, Text, arms_texts, block_texts, declaration_texts, declarations_texts, program_texts, statement_texts, statements_texts, text}
+use Rattle.sim_meaning.specs.Texts.{BlockText, ClassText, ProcedureText, Text, arms_texts, block_texts, declaration_texts, declarations_texts, program_texts, statement_texts, statements_texts, text, prefix_texts}
 use Rattle.sim_agree.specs.Places.{class_of_name, class_of_type}
 use Rattle.sim_agree.proofs.Groups.{NoBreaks}
-use Rattle.sim_agree.specs.Plain.{Each, Plain, PlainArms, PlainBlock, PlainDeclaration, PlainDeclarations, PlainStatement, PlainStatements}
+use Rattle.sim_agree.specs.Plain.{Each, Plain, PlainArms, PlainBlock, PlainDeclaration, PlainDeclarations, PlainStatement, PlainStatements, PlainPrefix}
+use Rattle.sim_agree.proofs.PlainNames.{no_prefix_texts}
 
 -- ---- what is known
 
@@ -270,6 +271,10 @@ type_passes (type_name.Character i) l from h = (from, h)
 type_passes (type_name.Text i) l from h = (from, h)
 type_passes (type_name.Reference i class) l from h = (class.token.0 + 1, h.1)
 
+prefix_passes : (prefix : Option Identifier) (l : List Spot) (from : ℕ) → Ascends from (in_prefix prefix l) → Rest l
+prefix_passes None l from h = (from, h)
+prefix_passes (Some class) l from h = (class.token.0 + 1, h.1)
+
 result_passes : (result : Option TypeName) (l : List Spot) (from : ℕ) → Ascends from (in_result result l) → Rest l
 result_passes None l from h = (from, h)
 result_passes (Some type) l from h = type_passes type l from h
@@ -294,6 +299,10 @@ in_class Inside a n = tt
 abbrev Allows : Position → Type 0
 Allows ClassStatement = Unit {0}
 Allows _ = ⊥
+
+-- behind a prefix that brings no texts
+fitted_prefix : (s : Source) (C : Meets) (prefix : Option Identifier) → PlainPrefix prefix → (xs : List Text) → AllFitted s C xs → AllFitted s C (prefix_texts prefix ++ xs)
+fitted_prefix s C prefix w xs a = subst (λ z. AllFitted s C (z ++ xs)) (sym (no_prefix_texts prefix w)) a
 
 module _ (s : Source) (C : Meets) where
   mutual
@@ -410,26 +419,28 @@ module _ (s : Source) (C : Meets) where
         let n = both_unbroken (declaring.class prefix i g interface) (class_events declaring x ++ Closes end ∷ []) b in
         let m = both_unbroken (class_events declaring x) (Closes end ∷ []) n.1 in
         let j = parts_connect s C (class_events connections x) [] k in
-        let f = each_dots in_name Any name_passes g.formals (in_block x (Behind end ∷ l)) (g.name.token.0 + 1) h.1 in
-        let r = class_fitted i g interface x end p.3 m.0 j.0 l f.1.0 f.1.1 in
-        (r.0, subst (λ z. AllFitted s C (declaration_texts (DeclareClass z i g interface (syntax.Compound x) end))) (sym p.0) r.1, r.2)
+        let v = prefix_passes prefix (in_name g.name (in_each in_name g.formals (in_block x (Behind end ∷ l)))) from h in
+        let f = each_dots in_name Any name_passes g.formals (in_block x (Behind end ∷ l)) (g.name.token.0 + 1) v.1.1 in
+        let r = class_fitted prefix p.0 i g interface x end p.3 m.0 j.0 l f.1.0 f.1.1 in
+        r
     declaration_fitted (DeclareClass prefix i g interface a end) p b k l from h =
         let n = both_unbroken (declaring.class prefix i g interface) (statement_events declaring ClassBody a ++ Closes end ∷ []) b in
         let m = both_unbroken (statement_events declaring ClassBody a) (Closes end ∷ []) n.1 in
         let j = parts_connect s C (statement_events connections ClassBody a) [] k in
-        let f = each_dots in_name Any name_passes g.formals (in_statement a (Behind end ∷ l)) (g.name.token.0 + 1) h.1 in
+        let v = prefix_passes prefix (in_name g.name (in_each in_name g.formals (in_statement a (Behind end ∷ l)))) from h in
+        let f = each_dots in_name Any name_passes g.formals (in_statement a (Behind end ∷ l)) (g.name.token.0 + 1) v.1.1 in
         let x = statement_fitted ClassBody true (λ z. tt) a tt p.3 m.0 j.0 (Behind end ∷ l) f.1.0 f.1.1 in
-        (tt, subst (λ z. AllFitted s C (declaration_texts (DeclareClass z i g interface a end))) (sym p.0) ((tt, (x.0, tt)), x.1), (end, x.2.1.1))
+        (tt, ((tt, (x.0, tt)), fitted_prefix s C prefix p.0 (statement_texts a) x.1), (end, x.2.1.1))
 
-    -- a class without a prefix whose body is a block
-    class_fitted : (i : ℕ) (g : Heading) (interface : Interface) (x : Block) (end : ℕ) → PlainBlock x → NoBreaks (class_events declaring x) → Connected s C (class_events connections x) → (l : List Spot) (from : ℕ) → Ascends from (in_block x (Behind end ∷ l))
-        → Unit {0} × AllFitted s C (declaration_texts (DeclareClass None i g interface (syntax.Compound x) end)) × Rest l
-    class_fitted i g interface (Begin j ds ss e) end p b k l from h =
+    -- a class whose body is a block
+    class_fitted : (prefix : Option Identifier) → PlainPrefix prefix → (i : ℕ) (g : Heading) (interface : Interface) (x : Block) (end : ℕ) → PlainBlock x → NoBreaks (class_events declaring x) → Connected s C (class_events connections x) → (l : List Spot) (from : ℕ) → Ascends from (in_block x (Behind end ∷ l))
+        → Unit {0} × AllFitted s C (declaration_texts (DeclareClass prefix i g interface (syntax.Compound x) end)) × Rest l
+    class_fitted prefix w i g interface (Begin j ds ss e) end p b k l from h =
         let n = both_unbroken (declarations_events declaring ds) (statements_events declaring ClassStatement ss) b in
         let m = parts_connect s C (declarations_events connections ds) (statements_events connections ClassStatement ss) k in
         let x = declarations_fitted ds p.0 n.0 m.0 (in_statements ss (Behind e ∷ Behind end ∷ l)) (j + 1) h.1 in
         let y = statements_fitted ClassStatement true (λ z. z) ss tt p.1 n.1 m.1 (Behind e ∷ Behind end ∷ l) x.2.0 x.2.1 in
-        (tt, ((x.0, y.0), both_fitted s C (declarations_texts ds) (statements_texts ss) x.1 y.1), (end, y.2.1.1.1))
+        (tt, ((x.0, y.0), fitted_prefix s C prefix w (declarations_texts ds ++ statements_texts ss) (both_fitted s C (declarations_texts ds) (statements_texts ss) x.1 y.1)), (end, y.2.1.1.1))
 
   block_fits : (b : Block) → PlainBlock b → NoBreaks (whole_events declaring b) → Connected s C (whole_events connections b) → Ascends 0 (in_block b []) → AllFitted s C (program_texts None b)
   unfolding declaring connections

@@ -6,7 +6,7 @@ use Rattle.sim_tree.specs.declared.stmt.Mode.TheVariants as word
 use Rattle.sim_tree.specs.declared.stmt.TypeName.{TypeName}
 use Rattle.sim_tree.specs.declared.stmt.TypeName.TheVariants as type_name
 use Rattle.sim_tree.specs.declared.stmt.Variable.{Variable}
-use Rattle.sim_tree.specs.Syntax.{Also, Arms, Arrayed, Arrays, Begin, Block, Compound, Declarations, DeclareClass, DeclareProcedure, Heading, Interface, Moded as ModePart, NoArm, NoDeclaration, NoStatement, Prefix, Program, Specification, Specified as Specifier, Statement, Statements, Variables, When, With}
+use Rattle.sim_tree.specs.Syntax.{Also, Arms, Arrayed, Arrays, Begin, Block, Compound, Declarations, DeclareClass, DeclareProcedure, Heading, Interface, Moded as ModePart, NoArm, NoDeclaration, NoStatement, Prefix, Program, Specification, Specified as Specifier, Statement, Statements, Variables, When, With, Protected}
 use Rattle.sim_tree.specs.Syntax as syntax
 use Rattle.sim_base.specs.declared.rule.Rule.{Rule}
 use Rattle.sim_base.specs.declared.rule.Rule.TheVariants as r
@@ -22,12 +22,13 @@ use Rattle.sim_scope.specs.declared.types.Position.TheVariants.{ClassBody, Class
 use Rattle.sim_scope.specs.declared.types.SimType.{SimType}
 use Rattle.sim_scope.specs.declared.types.SimType.TheVariants as t
 use Rattle.sim_scope.specs.Bodies.{body_declarations, body_statements}
-use Rattle.sim_scope.specs.Building.{Breaks, Closes, Declares, DeclaresClass, DeclaresProcedure, Headed, Inner, Mark, Moded, Opens, Parameter, Qualifies, Specified}
-use Rattle.sim_scope.specs.Declare.{array_marks, class_marks, class_prefix_marks, declaring, first_of_class, first_of_procedure, headed_marks, heading_marks, inner_marks, interface_marks, mode_named, mode_part_marks, moded_marks, parameter_marks, procedure_marks, program_marks, protection_marks, qualified_marks, qualified_result, result_named, segment_marks, specification_marks, specified_marks, type_named, variable_marks, virtual_marks}
+use Rattle.sim_scope.specs.Building.{Breaks, Closes, Declares, DeclaresClass, DeclaresProcedure, Headed, Inner, Mark, Moded, Opens, Parameter, Qualifies, Specified, Prefixes, Protects}
+use Rattle.sim_scope.specs.Declare.{array_marks, class_marks, class_prefix_marks, declaring, first_of_class, first_of_procedure, headed_marks, heading_marks, inner_marks, interface_marks, mode_named, mode_part_marks, moded_marks, parameter_marks, procedure_marks, program_marks, protection_marks, qualified_marks, qualified_result, result_named, segment_marks, specification_marks, specified_marks, type_named, variable_marks, virtual_marks, marks_of_standard, prefix_marks, standard_marks, is_written, protected_marks}
 use Rattle.sim_scope.specs.Runs.{each}
 use Rattle.sim_scope.specs.Walk.{arms_events, begin_of, block_events, declaration_events, declarations_events, program_events, statement_events, statements_events, whole_events}
-use Rattle.sim_meaning.specs.Texts.{BlockText, ClassText, ConnectionText, ProcedureText, Text, arms_texts, block_texts, declaration_texts, declarations_texts, program_texts, statement_texts, statements_texts}
-use Rattle.sim_agree.specs.Plain.{Each, Plain, PlainArms, PlainBlock, PlainDeclarations, PlainHeading, PlainInterface, PlainMode, PlainSpecification, PlainStatement, PlainStatements, PlainWord}
+use Rattle.sim_meaning.specs.Texts.{BlockText, ClassText, ConnectionText, ProcedureText, Text, arms_texts, block_texts, declaration_texts, declarations_texts, prefix_texts, program_texts, statement_texts, statements_texts}
+use Rattle.sim_agree.specs.Plain.{Each, Plain, PlainArms, PlainBlock, PlainDeclarations, PlainHeading, PlainInterface, PlainMode, PlainSpecification, PlainStatement, PlainStatements, PlainWord, PlainName, PlainPrefix}
+use Rattle.sim_agree.proofs.PlainNames.{no_prefix_texts, no_standard_prefix}
 
 -- what a block or a class declares itself, but for its parameters, procedures and classes
 unfoldable pub own_variable : TypeName → Variable → List Mark
@@ -158,9 +159,9 @@ pub data Grouped : List Open → List Mark → List Text → Type 0 where
   procedure : {os : List Open} {ms : List Mark} {xs : List Text} (text first : ℕ) (x : Text) (owed quals : List Mark) (result : Option TypeName) (h : Heading) (a : Statement) → Declaring x → NoHeaded owed → Quals (AreReferences (result_named result)) quals
       → Grouped (item (ProcedureText result h a) (each headed_marks h.formals ++ []) ∷ item x owed ∷ os) ms xs
       → Grouped (item x owed ∷ os) (DeclaresProcedure h.name (result_named result) ∷ (quals ++ Opens kind.Procedure text first ∷ ms)) (ProcedureText result h a ∷ xs)
-  declares_class : {os : List Open} {ms : List Mark} {xs : List Text} (text first : ℕ) (x : Text) (owed : List Mark) (h : Heading) (ds : Declarations) (ss : Statements) → Declaring x → NoHeaded owed
-      → Grouped (item (ClassText None h ds ss) (each headed_marks h.formals ++ own_marks ds) ∷ item x owed ∷ os) ms xs
-      → Grouped (item x owed ∷ os) (DeclaresClass h.name ∷ Opens kind.Class text first ∷ ms) (ClassText None h ds ss ∷ xs)
+  declares_class : {os : List Open} {ms : List Mark} {xs : List Text} (text first : ℕ) (x : Text) (owed : List Mark) (prefix : Option Identifier) (h : Heading) (ds : Declarations) (ss : Statements) → Declaring x → NoHeaded owed
+      → Grouped (item (ClassText prefix h ds ss) (each headed_marks h.formals ++ own_marks ds) ∷ item x owed ∷ os) ms xs
+      → Grouped (item x owed ∷ os) (DeclaresClass h.name ∷ Opens kind.Class text first ∷ ms) (ClassText prefix h ds ss ∷ xs)
   declares : {os : List Open} {ms : List Mark} {xs : List Text} (x : Text) (owed quals : List Mark) (y : Identifier) (e : Entry) → Declaring x → NoHeaded owed → OwnEntry e → Quals (OfReferences e) quals → Written e y quals (declared_in_text x)
       → Grouped (item x owed ∷ os) ms xs → Grouped (item x (Declares y e ∷ owed) ∷ os) (Declares y e ∷ (quals ++ ms)) xs
   parameter : {os : List Open} {ms : List Mark} {xs : List Text} (x : Text) (owed : List Mark) (y : Identifier) → Taking x → Has (Headed y) owed
@@ -170,7 +171,10 @@ pub data Grouped : List Open → List Mark → List Text → Type 0 where
       → Grouped os ms xs → Grouped os (Specified y k ty ∷ (quals ++ ms)) xs
   headed : {os : List Open} {ms : List Mark} {xs : List Text} (x : Text) (owed : List Mark) (y : Identifier)
       → Grouped (item x owed ∷ os) ms xs → Grouped (item x (Headed y ∷ owed) ∷ os) (Headed y ∷ ms) xs
+  prefixes : {os : List Open} {ms : List Mark} {xs : List Text} (prefix : Option Identifier) (h : Heading) (ds : Declarations) (ss : Statements) (owed : List Mark) (y : Identifier) → PlainName y
+      → Grouped (item (ClassText prefix h ds ss) owed ∷ os) ms xs → Grouped (item (ClassText prefix h ds ss) owed ∷ os) (Prefixes y ∷ ms) xs
   inner_mark : {os : List Open} {ms : List Mark} {xs : List Text} (token : ℕ) → Grouped os ms xs → Grouped os (Inner token ∷ ms) xs
+  guarded : {os : List Open} {ms : List Mark} {xs : List Text} (hides keeps : Bool) (y : Identifier) → Grouped os ms xs → Grouped os (Protects hides keeps y ∷ ms) xs
   breaks_rule : {os : List Open} {ms : List Mark} {xs : List Text} (token : ℕ) (rule : Rule) → Grouped os ms xs → Grouped os (Breaks token rule ∷ ms) xs
   closes : {os : List Open} {ms : List Mark} {xs : List Text} (x : Text) (end : ℕ) → Grouped os ms xs → Grouped (item x [] ∷ os) (Closes end ∷ ms) xs
 
@@ -370,6 +374,17 @@ module _ (x : Text) (takes : Taking x) (rest : List Mark) (os : List Open) where
 
 -- ---- statements and declarations
 
+as_texts : {os ps : List Open} {es : List Mark} (ns ks : List Text) → ns ≡ ks → Adds os es ns ps → Adds os es ks ps
+as_texts {os = os} {ps = ps} {es = es} ns ks e a = subst (λ z. Adds os es z ps) e a
+
+as_marks : {os ps : List Open} {ns : List Text} (es fs : List Mark) → es ≡ fs → Adds os es ns ps → Adds os fs ns ps
+as_marks {os = os} {ps = ps} {ns = ns} es fs e a = subst (λ z. Adds os z ns ps) e a
+
+-- a prefix that is spelt as no standard name is one mark
+pub plain_prefix : (first : ℕ) (y : Identifier) → PlainName y → prefix_marks first y ≡ Prefixes y ∷ []
+unfolding prefix_marks standard_marks marks_of_standard
+plain_prefix first y p = ap (λ z. Prefixes y ∷ marks_of_standard first z) (no_standard_prefix y.name p)
+
 begins_block : (k : BlockKind) (text first i : ℕ) (ds : Declarations) (ss : Statements) (os : List Open) → PlainKind k
     → Adds os (Opens k text first ∷ []) (BlockText i ds ss ∷ []) (item (BlockText i ds ss) (own_marks ds) ∷ os)
 begins_block k text first i ds ss os p = record { before = λ ms xs g. block k text first i ds ss p g }
@@ -386,44 +401,68 @@ begins_procedure x d owed n os result token h a = record {
       (procedure (first_of_procedure result token) h.name.token.0 x owed (qualified_result result) result h a d n (quals_of_result result) g);
 }
 
-begins_class : (x : Text) → Declaring x → (owed : List Mark) → NoHeaded owed → (os : List Open) (token : ℕ) (h : Heading) (ds : Declarations) (ss : Statements)
-    → Adds (item x owed ∷ os) (class_marks None token h.name) (ClassText None h ds ss ∷ []) (item (ClassText None h ds ss) (each headed_marks h.formals ++ own_marks ds) ∷ item x owed ∷ os)
-unfolding class_marks class_prefix_marks
-begins_class x d owed n os token h ds ss = record { before = λ ms xs g. declares_class (first_of_class None token) h.name.token.0 x owed h ds ss d n g }
+-- the mark of a prefix
+prefix_adds : (prefix other : Option Identifier) → PlainPrefix prefix → (first : ℕ) (h : Heading) (ds : Declarations) (ss : Statements) (owed : List Mark) (os : List Open)
+    → Adds (item (ClassText other h ds ss) owed ∷ os) (class_prefix_marks first prefix) [] (item (ClassText other h ds ss) owed ∷ os)
+unfolding class_prefix_marks
+prefix_adds None other p first h ds ss owed os = none
+prefix_adds (Some y) other p first h ds ss owed os =
+    as_marks (Prefixes y ∷ []) (prefix_marks first y) (sym (plain_prefix first y p)) (record { before = λ ms xs g. prefixes other h ds ss owed y p g })
+
+begins_class : (x : Text) → Declaring x → (owed : List Mark) → NoHeaded owed → (os : List Open) (prefix : Option Identifier) → PlainPrefix prefix → (token : ℕ) (h : Heading) (ds : Declarations) (ss : Statements)
+    → Adds (item x owed ∷ os) (class_marks prefix token h.name) (ClassText prefix h ds ss ∷ []) (item (ClassText prefix h ds ss) (each headed_marks h.formals ++ own_marks ds) ∷ item x owed ∷ os)
+unfolding class_marks
+begins_class x d owed n os prefix p token h ds ss = record {
+  before = λ ms xs g.
+      declares_class (first_of_class prefix token) h.name.token.0 x owed prefix h ds ss d n ((prefix_adds prefix prefix p h.name.token.0 h ds ss (each headed_marks h.formals ++ own_marks ds) (item x owed ∷ os)).before ms xs g);
+}
 
 ends : (x : Text) (end : ℕ) (os : List Open) → Adds (item x [] ∷ os) (Closes end ∷ []) [] os
 ends x end os = record { before = λ ms xs g. closes x end g }
-
-as_texts : {os ps : List Open} {es : List Mark} (ns ks : List Text) → ns ≡ ks → Adds os es ns ps → Adds os es ks ps
-as_texts {os = os} {ps = ps} {es = es} ns ks e a = subst (λ z. Adds os es z ps) e a
-
-as_marks : {os ps : List Open} {ns : List Text} (es fs : List Mark) → es ≡ fs → Adds os es ns ps → Adds os fs ns ps
-as_marks {os = os} {ps = ps} {ns = ns} es fs e a = subst (λ z. Adds os z ns ps) e a
 
 -- what is inside a block
 inside_block : (os : List Open) (x : Text) (d ds : List Mark) (ss : List Mark) (dt st : List Text) (end : ℕ)
     → Adds (item x d ∷ os) ds dt (item x [] ∷ os) → Adds (item x [] ∷ os) ss st (item x [] ∷ os) → Adds (item x d ∷ os) ((ds ++ ss) ++ Closes end ∷ []) (dt ++ st) os
 inside_block os x d ds ss dt st end a b = as_texts ((dt ++ st) ++ []) (dt ++ st) (append-nil (dt ++ st)) (both (both a b) (ends x end os))
 
--- a class without protection and virtual parts
-pub no_interface : (i : Interface) → PlainInterface i → interface_marks i ≡ []
-no_interface i p = ap (λ z. each protection_marks z ++ each virtual_marks i.virtuals) p.0 ∙ ap (λ z. each virtual_marks z) p.1
+-- a class without virtual parts
+pub only_protections : (i : Interface) → PlainInterface i → interface_marks i ≡ each protection_marks i.protections
+only_protections i p = ap (λ z. each protection_marks i.protections ++ each virtual_marks z) p ∙ append-nil (each protection_marks i.protections)
+
+guarded_one : (hides keeps : Bool) (y : Identifier) (os : List Open) → Adds os (Protects hides keeps y ∷ []) [] os
+guarded_one hides keeps y os = record { before = λ ms xs g. guarded hides keeps y g }
+
+guarded_add : (hides keeps : Bool) (ys : List Identifier) (os : List Open) → Adds os (each (protected_marks hides keeps) ys) [] os
+unfolding protected_marks
+guarded_add hides keeps [] os = none
+guarded_add hides keeps (y ∷ ys) os = both (guarded_one hides keeps y os) (guarded_add hides keeps ys os)
+
+protections_add : (ps : List Protected) (os : List Open) → Adds os (each protection_marks ps) [] os
+protections_add [] os = none
+protections_add (p ∷ ps) os = both (guarded_add (is_written p.hidden) (is_written p.protected) p.names os) (protections_add ps os)
+
+interface_adds : (i : Interface) → PlainInterface i → (os : List Open) → Adds os (interface_marks i) [] os
+interface_adds i p os = as_marks (each protection_marks i.protections) (interface_marks i) (sym (only_protections i p)) (protections_add i.protections os)
 
 -- the texts of a class, whose body is `begin .. end` or one statement
-pub class_texts : (j : ℕ) (h : Heading) (i : Interface) (a : Statement) (e : ℕ)
-    → declaration_texts (DeclareClass None j h i a e) ≡ ClassText None h (body_declarations a) (body_statements a) ∷ (declarations_texts (body_declarations a) ++ statements_texts (body_statements a))
-class_texts j h i (syntax.Compound (Begin n ds ss m)) e = refl
-class_texts j h i (syntax.Empty n) e = ap (λ z. ClassText None h NoDeclaration (Also (syntax.Empty n) NoStatement) ∷ z) (sym (append-nil (statement_texts (syntax.Empty n))))
-class_texts j h i (syntax.Prefixed x args b) e = ap (λ z. ClassText None h NoDeclaration (Also (syntax.Prefixed x args b) NoStatement) ∷ z) (sym (append-nil (statement_texts (syntax.Prefixed x args b))))
-class_texts j h i (syntax.Inner n) e = ap (λ z. ClassText None h NoDeclaration (Also (syntax.Inner n) NoStatement) ∷ z) (sym (append-nil (statement_texts (syntax.Inner n))))
-class_texts j h i (syntax.Call x) e = ap (λ z. ClassText None h NoDeclaration (Also (syntax.Call x) NoStatement) ∷ z) (sym (append-nil (statement_texts (syntax.Call x))))
-class_texts j h i (syntax.Assign x sides) e = ap (λ z. ClassText None h NoDeclaration (Also (syntax.Assign x sides) NoStatement) ∷ z) (sym (append-nil (statement_texts (syntax.Assign x sides))))
-class_texts j h i (syntax.Choose n c x rest) e = ap (λ z. ClassText None h NoDeclaration (Also (syntax.Choose n c x rest) NoStatement) ∷ z) (sym (append-nil (statement_texts (syntax.Choose n c x rest))))
-class_texts j h i (syntax.Repeat n c x) e = ap (λ z. ClassText None h NoDeclaration (Also (syntax.Repeat n c x) NoStatement) ∷ z) (sym (append-nil (statement_texts (syntax.Repeat n c x))))
-class_texts j h i (syntax.For n y sign m es x) e = ap (λ z. ClassText None h NoDeclaration (Also (syntax.For n y sign m es x) NoStatement) ∷ z) (sym (append-nil (statement_texts (syntax.For n y sign m es x))))
-class_texts j h i (syntax.Inspect n object d x m rest) e = ap (λ z. ClassText None h NoDeclaration (Also (syntax.Inspect n object d x m rest) NoStatement) ∷ z) (sym (append-nil (statement_texts (syntax.Inspect n object d x m rest))))
-class_texts j h i (syntax.InspectWhen n object arms rest) e = ap (λ z. ClassText None h NoDeclaration (Also (syntax.InspectWhen n object arms rest) NoStatement) ∷ z) (sym (append-nil (statement_texts (syntax.InspectWhen n object arms rest))))
-class_texts j h i (syntax.Activate n w process schedule) e = ap (λ z. ClassText None h NoDeclaration (Also (syntax.Activate n w process schedule) NoStatement) ∷ z) (sym (append-nil (statement_texts (syntax.Activate n w process schedule))))
+pub one_text : (prefix : Option Identifier) → PlainPrefix prefix → (h : Heading) (a : Statement) → ClassText prefix h NoDeclaration (Also a NoStatement) ∷ (prefix_texts prefix ++ statement_texts a) ≡ ClassText prefix h NoDeclaration (Also a NoStatement) ∷ (statement_texts a ++ [])
+one_text prefix p h a =
+    ap (λ z. ClassText prefix h NoDeclaration (Also a NoStatement) ∷ (z ++ statement_texts a)) (no_prefix_texts prefix p) ∙ ap (λ z. ClassText prefix h NoDeclaration (Also a NoStatement) ∷ z) (sym (append-nil (statement_texts a)))
+
+pub class_texts : (prefix : Option Identifier) → PlainPrefix prefix → (j : ℕ) (h : Heading) (i : Interface) (a : Statement) (e : ℕ)
+    → declaration_texts (DeclareClass prefix j h i a e) ≡ ClassText prefix h (body_declarations a) (body_statements a) ∷ (declarations_texts (body_declarations a) ++ statements_texts (body_statements a))
+class_texts prefix p j h i (syntax.Compound (Begin n ds ss m)) e = ap (λ z. ClassText prefix h ds ss ∷ (z ++ (declarations_texts ds ++ statements_texts ss))) (no_prefix_texts prefix p)
+class_texts prefix p j h i (syntax.Empty n) e = one_text prefix p h (syntax.Empty n)
+class_texts prefix p j h i (syntax.Prefixed x args b) e = one_text prefix p h (syntax.Prefixed x args b)
+class_texts prefix p j h i (syntax.Inner n) e = one_text prefix p h (syntax.Inner n)
+class_texts prefix p j h i (syntax.Call x) e = one_text prefix p h (syntax.Call x)
+class_texts prefix p j h i (syntax.Assign x sides) e = one_text prefix p h (syntax.Assign x sides)
+class_texts prefix p j h i (syntax.Choose n c x rest) e = one_text prefix p h (syntax.Choose n c x rest)
+class_texts prefix p j h i (syntax.Repeat n c x) e = one_text prefix p h (syntax.Repeat n c x)
+class_texts prefix p j h i (syntax.For n y sign m es x) e = one_text prefix p h (syntax.For n y sign m es x)
+class_texts prefix p j h i (syntax.Inspect n object d x m rest) e = one_text prefix p h (syntax.Inspect n object d x m rest)
+class_texts prefix p j h i (syntax.InspectWhen n object arms rest) e = one_text prefix p h (syntax.InspectWhen n object arms rest)
+class_texts prefix p j h i (syntax.Activate n w process schedule) e = one_text prefix p h (syntax.Activate n w process schedule)
 
 procedure_adds : (x : Text) → Declaring x → (os : List Open) (owed : List Mark) → NoHeaded owed → (result : Option TypeName) (j : ℕ) (h : Heading) (a : Statement) (e : ℕ) → PlainHeading h
     → Adds (item (ProcedureText result h a) [] ∷ item x owed ∷ os) (statement_events declaring Inside a) (statement_texts a) (item (ProcedureText result h a) [] ∷ item x owed ∷ os)
@@ -435,19 +474,19 @@ procedure_adds x d os owed n result j h a e p body =
     as_texts (y ∷ (statement_texts a ++ [])) (y ∷ statement_texts a) (ap (λ z. y ∷ z) (append-nil (statement_texts a)))
     (both (both (begins_procedure x d owed n os result j h a) (heading_adds y tt [] ps h p)) (both body (ends y e ps)))
 
-class_adds : (x : Text) → Declaring x → (os : List Open) (owed : List Mark) → NoHeaded owed → (j : ℕ) (h : Heading) (i : Interface) (a : Statement) (e : ℕ) → PlainHeading h → PlainInterface i
-    → Adds (item (ClassText None h (body_declarations a) (body_statements a)) (own_marks (body_declarations a)) ∷ item x owed ∷ os) (statement_events declaring ClassBody a) (declarations_texts (body_declarations a) ++ statements_texts (body_statements a))
-    (item (ClassText None h (body_declarations a) (body_statements a)) [] ∷ item x owed ∷ os)
-    → Adds (item x owed ∷ os) (declaration_events declaring (DeclareClass None j h i a e)) (declaration_texts (DeclareClass None j h i a e)) (item x owed ∷ os)
+class_adds : (x : Text) → Declaring x → (os : List Open) (owed : List Mark) → NoHeaded owed → (prefix : Option Identifier) → PlainPrefix prefix → (j : ℕ) (h : Heading) (i : Interface) (a : Statement) (e : ℕ) → PlainHeading h → PlainInterface i
+    → Adds (item (ClassText prefix h (body_declarations a) (body_statements a)) (own_marks (body_declarations a)) ∷ item x owed ∷ os) (statement_events declaring ClassBody a) (declarations_texts (body_declarations a) ++ statements_texts (body_statements a))
+    (item (ClassText prefix h (body_declarations a) (body_statements a)) [] ∷ item x owed ∷ os)
+    → Adds (item x owed ∷ os) (declaration_events declaring (DeclareClass prefix j h i a e)) (declaration_texts (DeclareClass prefix j h i a e)) (item x owed ∷ os)
 unfolding declaring
-class_adds x d os owed n j h i a e p q body =
-    let y : Text = ClassText None h (body_declarations a) (body_statements a) in
+class_adds x d os owed n prefix w j h i a e p q body =
+    let y : Text = ClassText prefix h (body_declarations a) (body_statements a) in
     let ps : List Open = item x owed ∷ os in
     let inside : List Text = declarations_texts (body_declarations a) ++ statements_texts (body_statements a) in
     let own : List Mark = own_marks (body_declarations a) in
-    as_texts (y ∷ (inside ++ [])) (declaration_texts (DeclareClass None j h i a e)) (ap (λ z. y ∷ z) (append-nil inside) ∙ sym (class_texts j h i a e))
-    (both (both (begins_class x d owed n os j h (body_declarations a) (body_statements a))
-    (as_marks (heading_marks h) (heading_marks h ++ interface_marks i) (sym (append-nil (heading_marks h)) ∙ ap (λ z. heading_marks h ++ z) (sym (no_interface i q))) (heading_adds y tt own ps h p))) (both body (ends y e ps)))
+    as_texts (y ∷ (inside ++ [])) (declaration_texts (DeclareClass prefix j h i a e)) (ap (λ z. y ∷ z) (append-nil inside) ∙ sym (class_texts prefix w j h i a e))
+    (both (both (begins_class x d owed n os prefix w j h (body_declarations a) (body_statements a))
+    (both (heading_adds y tt own ps h p) (interface_adds i q (item y own ∷ ps)))) (both body (ends y e ps)))
 
 -- a statement stands in the body of a class, or elsewhere
 abbrev place : (in_class : Bool) → Position
@@ -486,22 +525,22 @@ mutual
       (both (both (begins_connection d d os) (both (statement_adds false a (item ConnectionText [] ∷ os) p.1) (ends ConnectionText e os))) (arms_add more os p.2))
 
   -- the body of a class, which is its `begin .. end` or one statement
-  class_body_adds : (a : Statement) (h : Heading) (os : List Open) → PlainStatement a → ((ps : List Open) → Adds ps (statement_events declaring Inside a) (statement_texts a) ps)
-      → Adds (item (ClassText None h (body_declarations a) (body_statements a)) (own_marks (body_declarations a)) ∷ os) (statement_events declaring ClassBody a) (declarations_texts (body_declarations a) ++ statements_texts (body_statements a))
-      (item (ClassText None h (body_declarations a) (body_statements a)) [] ∷ os)
-  class_body_adds (syntax.Compound (Begin i ds ss e)) h os p one =
-      both (declarations_add (ClassText None h ds ss) tt os ds (λ y quals w. w) p.0) (statements_add true ss (item (ClassText None h ds ss) [] ∷ os) p.1)
-  class_body_adds (syntax.Empty i) h os p one = none
-  class_body_adds (syntax.Prefixed x args b) h os p one = absurd p
-  class_body_adds (syntax.Inner i) h os p one = as_texts (statement_texts (syntax.Inner i)) (statement_texts (syntax.Inner i) ++ []) (sym (append-nil (statement_texts (syntax.Inner i)))) (one (item (ClassText None h NoDeclaration (Also (syntax.Inner i) NoStatement)) [] ∷ os))
-  class_body_adds (syntax.Call e) h os p one = as_texts (statement_texts (syntax.Call e)) (statement_texts (syntax.Call e) ++ []) (sym (append-nil (statement_texts (syntax.Call e)))) (one (item (ClassText None h NoDeclaration (Also (syntax.Call e) NoStatement)) [] ∷ os))
-  class_body_adds (syntax.Assign left rest) h os p one = as_texts (statement_texts (syntax.Assign left rest)) (statement_texts (syntax.Assign left rest) ++ []) (sym (append-nil (statement_texts (syntax.Assign left rest)))) (one (item (ClassText None h NoDeclaration (Also (syntax.Assign left rest) NoStatement)) [] ∷ os))
-  class_body_adds (syntax.Choose i c a rest) h os p one = as_texts (statement_texts (syntax.Choose i c a rest)) (statement_texts (syntax.Choose i c a rest) ++ []) (sym (append-nil (statement_texts (syntax.Choose i c a rest)))) (one (item (ClassText None h NoDeclaration (Also (syntax.Choose i c a rest) NoStatement)) [] ∷ os))
-  class_body_adds (syntax.Repeat i c a) h os p one = as_texts (statement_texts (syntax.Repeat i c a)) (statement_texts (syntax.Repeat i c a) ++ []) (sym (append-nil (statement_texts (syntax.Repeat i c a)))) (one (item (ClassText None h NoDeclaration (Also (syntax.Repeat i c a) NoStatement)) [] ∷ os))
-  class_body_adds (syntax.For i x sign j es a) h os p one = as_texts (statement_texts (syntax.For i x sign j es a)) (statement_texts (syntax.For i x sign j es a) ++ []) (sym (append-nil (statement_texts (syntax.For i x sign j es a)))) (one (item (ClassText None h NoDeclaration (Also (syntax.For i x sign j es a) NoStatement)) [] ∷ os))
-  class_body_adds (syntax.Inspect i object d a e rest) h os p one = as_texts (statement_texts (syntax.Inspect i object d a e rest)) (statement_texts (syntax.Inspect i object d a e rest) ++ []) (sym (append-nil (statement_texts (syntax.Inspect i object d a e rest)))) (one (item (ClassText None h NoDeclaration (Also (syntax.Inspect i object d a e rest) NoStatement)) [] ∷ os))
-  class_body_adds (syntax.InspectWhen i object whens rest) h os p one = as_texts (statement_texts (syntax.InspectWhen i object whens rest)) (statement_texts (syntax.InspectWhen i object whens rest) ++ []) (sym (append-nil (statement_texts (syntax.InspectWhen i object whens rest)))) (one (item (ClassText None h NoDeclaration (Also (syntax.InspectWhen i object whens rest) NoStatement)) [] ∷ os))
-  class_body_adds (syntax.Activate i word process schedule) h os p one = absurd p
+  class_body_adds : (prefix : Option Identifier) (a : Statement) (h : Heading) (os : List Open) → PlainStatement a → ((ps : List Open) → Adds ps (statement_events declaring Inside a) (statement_texts a) ps)
+      → Adds (item (ClassText prefix h (body_declarations a) (body_statements a)) (own_marks (body_declarations a)) ∷ os) (statement_events declaring ClassBody a) (declarations_texts (body_declarations a) ++ statements_texts (body_statements a))
+      (item (ClassText prefix h (body_declarations a) (body_statements a)) [] ∷ os)
+  class_body_adds prefix (syntax.Compound (Begin i ds ss e)) h os p one =
+      both (declarations_add (ClassText prefix h ds ss) tt os ds (λ y quals w. w) p.0) (statements_add true ss (item (ClassText prefix h ds ss) [] ∷ os) p.1)
+  class_body_adds prefix (syntax.Empty i) h os p one = none
+  class_body_adds prefix (syntax.Prefixed x args b) h os p one = absurd p
+  class_body_adds prefix (syntax.Inner i) h os p one = as_texts (statement_texts (syntax.Inner i)) (statement_texts (syntax.Inner i) ++ []) (sym (append-nil (statement_texts (syntax.Inner i)))) (one (item (ClassText prefix h NoDeclaration (Also (syntax.Inner i) NoStatement)) [] ∷ os))
+  class_body_adds prefix (syntax.Call e) h os p one = as_texts (statement_texts (syntax.Call e)) (statement_texts (syntax.Call e) ++ []) (sym (append-nil (statement_texts (syntax.Call e)))) (one (item (ClassText prefix h NoDeclaration (Also (syntax.Call e) NoStatement)) [] ∷ os))
+  class_body_adds prefix (syntax.Assign left rest) h os p one = as_texts (statement_texts (syntax.Assign left rest)) (statement_texts (syntax.Assign left rest) ++ []) (sym (append-nil (statement_texts (syntax.Assign left rest)))) (one (item (ClassText prefix h NoDeclaration (Also (syntax.Assign left rest) NoStatement)) [] ∷ os))
+  class_body_adds prefix (syntax.Choose i c a rest) h os p one = as_texts (statement_texts (syntax.Choose i c a rest)) (statement_texts (syntax.Choose i c a rest) ++ []) (sym (append-nil (statement_texts (syntax.Choose i c a rest)))) (one (item (ClassText prefix h NoDeclaration (Also (syntax.Choose i c a rest) NoStatement)) [] ∷ os))
+  class_body_adds prefix (syntax.Repeat i c a) h os p one = as_texts (statement_texts (syntax.Repeat i c a)) (statement_texts (syntax.Repeat i c a) ++ []) (sym (append-nil (statement_texts (syntax.Repeat i c a)))) (one (item (ClassText prefix h NoDeclaration (Also (syntax.Repeat i c a) NoStatement)) [] ∷ os))
+  class_body_adds prefix (syntax.For i x sign j es a) h os p one = as_texts (statement_texts (syntax.For i x sign j es a)) (statement_texts (syntax.For i x sign j es a) ++ []) (sym (append-nil (statement_texts (syntax.For i x sign j es a)))) (one (item (ClassText prefix h NoDeclaration (Also (syntax.For i x sign j es a) NoStatement)) [] ∷ os))
+  class_body_adds prefix (syntax.Inspect i object d a e rest) h os p one = as_texts (statement_texts (syntax.Inspect i object d a e rest)) (statement_texts (syntax.Inspect i object d a e rest) ++ []) (sym (append-nil (statement_texts (syntax.Inspect i object d a e rest)))) (one (item (ClassText prefix h NoDeclaration (Also (syntax.Inspect i object d a e rest) NoStatement)) [] ∷ os))
+  class_body_adds prefix (syntax.InspectWhen i object whens rest) h os p one = as_texts (statement_texts (syntax.InspectWhen i object whens rest)) (statement_texts (syntax.InspectWhen i object whens rest) ++ []) (sym (append-nil (statement_texts (syntax.InspectWhen i object whens rest)))) (one (item (ClassText prefix h NoDeclaration (Also (syntax.InspectWhen i object whens rest) NoStatement)) [] ∷ os))
+  class_body_adds prefix (syntax.Activate i word process schedule) h os p one = absurd p
 
   block_adds : (b : Block) (os : List Open) → PlainBlock b → Adds os (block_events declaring b) (block_texts b) os
   block_adds (Begin i NoDeclaration ss e) os p = statements_add false ss os p.1
@@ -519,9 +558,8 @@ mutual
       both (segments_add x d os type segments (own_marks ds) (no_headed_own ds) (λ y q. w y (qualified_marks type) (inl (q, refl)))) (declarations_add x d os ds (λ y quals q. w y quals (inr q)) p.1)
   declarations_add x d os (With (DeclareProcedure result j h a e) ds) w p =
       both (procedure_adds x d os (own_marks ds) (no_headed_own ds) result j h a e p.0.1 (statement_adds false a (item (ProcedureText result h a) [] ∷ item x (own_marks ds) ∷ os) p.0.2)) (declarations_add x d os ds w p.1)
-  declarations_add x d os (With (DeclareClass None j h i a e) ds) w p =
-      both (class_adds x d os (own_marks ds) (no_headed_own ds) j h i a e p.0.1 p.0.2 (class_body_adds a h (item x (own_marks ds) ∷ os) p.0.3 (λ ps. statement_adds false a ps p.0.3))) (declarations_add x d os ds w p.1)
-  declarations_add x d os (With (DeclareClass (Some y) j h i a e) ds) w p = absurd (let q : Some y ≡ None = p.0.0 in cc)
+  declarations_add x d os (With (DeclareClass prefix j h i a e) ds) w p =
+      both (class_adds x d os (own_marks ds) (no_headed_own ds) prefix p.0.0 j h i a e p.0.1 p.0.2 (class_body_adds prefix a h (item x (own_marks ds) ∷ os) p.0.3 (λ ps. statement_adds false a ps p.0.3))) (declarations_add x d os ds w p.1)
 
 -- a plain program
 pub program_grouped : (p : Program) → Plain p → Grouped [] (program_events declaring p) (program_texts p.prefix p.block)

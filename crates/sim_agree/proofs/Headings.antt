@@ -1,9 +1,8 @@
 -- The parameters of the procedures and classes of an allowed plain program, and to which texts these belong.
-use Rattle.std.proofs.Common.{◌≡◌, ◌<◌, ◌≤◌, ℕ, zero, suc, false, List, [], ◌∷◌, length, take, Option, Some, None, refl, sym, ap, ◌∙◌, subst, arith}
+use Rattle.std.proofs.Common.{◌≡◌, ◌<◌, ◌≤◌, ℕ, zero, suc, List, [], ◌∷◌, length, take, Option, Some, None, refl, sym, ap, ◌∙◌, subst, arith, ◌++◌}
 use Rattle.std.specs.Prelude.{slice_get}
 use Rattle.std.proofs.lemmas.Option.{slice_get_within}
 use Rattle.sim_base.specs.declared.numbering.DeclNo.{DeclNo}
-use Rattle.sim_tree.specs.declared.expr.Identifier.{Identifier}
 use Rattle.sim_tree.specs.declared.stmt.TypeName.{TypeName}
 use Rattle.sim_tree.specs.Order.{InOrder}
 use Rattle.sim_tree.specs.Syntax.{Declarations, Heading, Statement, Statements}
@@ -19,11 +18,10 @@ use Rattle.sim_scope.specs.declared.types.SimType.{SimType}
 use Rattle.sim_scope.specs.Access.{encloser}
 use Rattle.sim_scope.specs.Access.{around as around_of}
 use Rattle.sim_scope.specs.Declare.{result_named}
-use Rattle.sim_scope.specs.Levels.{owner_of_level}
-use Rattle.sim_scope.specs.Scopes.{class_formals, class_formals_of, entry_of, formals_in}
+use Rattle.sim_scope.specs.Levels.{owner_of_level, base}
+use Rattle.sim_scope.specs.Scopes.{class_formals, class_formals_of, entry_of, formals_in, formals_beyond}
 use Rattle.sim_scope.specs.Source.{Source, block_of}
 use Rattle.sim_scope.specs.Tables.{BlockOf}
-use Rattle.sim_meaning.specs.Attributes.{is_connection}
 use Rattle.sim_meaning.specs.Closing as closing
 use Rattle.sim_meaning.specs.Closing.{class_parameters}
 use Rattle.sim_meaning.specs.Entries.{formals_from, formals_of, numbers_in, numbers_of}
@@ -33,7 +31,7 @@ use Rattle.sim_sound.specs.Typed.{ClassThere, Distinct, FormalsAre, NoFormal, No
 use Rattle.sim_agree.specs.Plain.{Plain}
 use Rattle.sim_agree.specs.TablesOf.{TablesOf}
 use Rattle.sim_agree.proofs.Clean.{Counts}
-use Rattle.sim_agree.proofs.Fine.{Alike, KindIs, Rising, RowIn, class_row, formal_row, own_row, owner_in, procedure_row}
+use Rattle.sim_agree.proofs.Fine.{Alike, Rising, RowIn, class_row, formal_row, own_row, owner_in, procedure_row}
 use Rattle.sim_agree.proofs.Groups.{Declaring, OwnEntry, PlainFormal, Taking}
 use Rattle.sim_agree.proofs.Steps.{IsParameter, NoName, Parametric}
 use Rattle.sim_agree.proofs.Tables as t
@@ -227,32 +225,48 @@ module _ (s : Source) (of : TablesOf s) (plain : Plain s.program) (order : InOrd
           let body : FormalsAre s row.numbers (formals_from s row.numbers) = subst (λ z. FormalsAre s z (formals_from s z)) all (block_formals k row e) in
           rw (e, all) body
 
-  -- a class without a prefix has its own parameters alone
-  own_formals : (k : ℕ) (row : BlockOf) → slice_get s.tables.blocks k ≡ Some row → is_connection (text s k) ≡ false → class_formals s.tables k ≡ take row.formals row.numbers
+  both_specified : (xs ys : List DeclNo) → ((n : ℕ) (d : DeclNo) → slice_get xs n ≡ Some d → IsSpecified d) → ((n : ℕ) (d : DeclNo) → slice_get ys n ≡ Some d → IsSpecified d) → (n : ℕ) (d : DeclNo) → slice_get (xs ++ ys) n ≡ Some d → IsSpecified d
+  both_specified [] ys a b n d e = b n d e
+  both_specified (x ∷ xs) ys a b zero d e = a 0 d e
+  both_specified (x ∷ xs) ys a b (suc n) d e = both_specified xs ys (λ m f at. a (suc m) f at) b n d e
+
+  -- the parameters of a class are those of all its levels
+  levels_specified : (m k n : ℕ) (d : DeclNo) → slice_get (class_formals_of s.tables m k) n ≡ Some d → IsSpecified d
+  unfolding class_formals_of
+  levels_specified zero k n d e = absurd (cc)
+  levels_specified (suc m) k n d e =
+      both_specified (formals_beyond (λ b. class_formals_of s.tables m b) (base s.tables k)) (formals_in (slice_get s.tables.blocks k)) (further (base s.tables k) (λ b i f at. levels_specified m b i f at)) (own (slice_get s.tables.blocks k) refl) n d e
+    where
+      further : (o : Option ℕ) → ((b i : ℕ) (f : DeclNo) → slice_get (class_formals_of s.tables m b) i ≡ Some f → IsSpecified f) → (i : ℕ) (f : DeclNo) → slice_get (formals_beyond (λ b. class_formals_of s.tables m b) o) i ≡ Some f → IsSpecified f
+      further None h i f at = absurd (cc)
+      further (Some b) h i f at = h b i f at
+
+      own : (o : Option BlockOf) → slice_get s.tables.blocks k ≡ o → (i : ℕ) (f : DeclNo) → slice_get (formals_in o) i ≡ Some f → IsSpecified f
+      own None at i f e = absurd (cc)
+      own (Some row) at i f e = in_front_specified k row at i f e
+
+  pub class_headings : (k : ℕ) → FormalsAre s (class_formals s.tables k) (class_parameters s (Some k))
+  unfolding class_formals
+  class_headings k = parameters_are (class_formals s.tables k) (λ n d e. levels_specified (length s.tables.blocks) k n d e)
+
+  -- its own come last
+  own_formals : (k : ℕ) (row : BlockOf) → slice_get s.tables.blocks k ≡ Some row → (d : DeclNo) → Among d (take row.formals row.numbers) → Among d (class_formals s.tables k)
   unfolding class_formals class_formals_of
-  own_formals k row at other =
+  own_formals k row at d a =
       let lt : k < length s.tables.blocks = slice_get_within s.tables.blocks k row at in
       go (length s.tables.blocks) lt
     where
-      go : (m : ℕ) → k < m → class_formals_of s.tables m k ≡ take row.formals row.numbers
-      go zero lt = absurd (omega arith)
-      go (suc m) lt = rw (t.no_base s of plain order k other, at) refl
+      behind : (xs ys : List DeclNo) → Among d ys → Among d (xs ++ ys)
+      behind [] ys a = a
+      behind (x ∷ xs) ys a = later (behind xs ys a)
 
-  pub class_headings : (k : ℕ) (prefix : Option Identifier) (h : Heading) (ds : Declarations) (ss : Statements) → text s k ≡ Some (ClassText prefix h ds ss) → FormalsAre s (class_formals s.tables k) (class_parameters s (Some k))
-  unfolding text
-  class_headings k prefix h ds ss is = go (slice_get s.tables.blocks k) refl
-    where
-      go : (o : Option BlockOf) → slice_get s.tables.blocks k ≡ o → FormalsAre s (class_formals s.tables k) (class_parameters s (Some k))
-      go None e = absurd (missing (slice_get (Ts s of plain order) k) is (subst (λ o. KindIs o (slice_get (Ts s of plain order) k)) e (t.kind_at s of plain order k)))
-        where
-          missing : (o : Option Text) → o ≡ Some (ClassText prefix h ds ss) → KindIs None o → ⊥
-          missing None f q = cc
-          missing (Some x) f q = q
-      go (Some row) e = subst (λ z. FormalsAre s z (closing.formals_from s z)) (sym (own_formals k row e (ap is_connection is))) (block_parameters k row e)
+      go : (m : ℕ) → k < m → Among d (class_formals_of s.tables m k)
+      go zero lt = absurd (omega arith)
+      go (suc m) lt = behind (formals_beyond (λ b. class_formals_of s.tables m b) (base s.tables k)) (formals_in (slice_get s.tables.blocks k)) (subst (λ o. Among d (formals_in o)) (sym at) a)
 
   -- and they are parameters
-  pub parameters : (k : ℕ) → is_connection (text s k) ≡ false → (d : DeclNo) → Among d (numbers_of s k) → IsFormal (entry_of s.tables d) → Among d (class_formals s.tables k)
-  parameters k other d among formal = go (slice_get s.tables.blocks k) refl among
+  pub parameters : (k : ℕ) (d : DeclNo) → Among d (numbers_of s k) → IsFormal (entry_of s.tables d) → Among d (class_formals s.tables k)
+  parameters k d among formal = go (slice_get s.tables.blocks k) refl among
     where
       r : (row : Declaration) × (slice_get s.tables.declarations d.0 ≡ Some row) × (row.block ≡ k)
       r = t.owned s of plain order k d among
@@ -287,7 +301,7 @@ module _ (s : Source) (of : TablesOf s) (plain : Plain s.program) (order : InOrd
       go (Some row) at a =
           let q = place row.numbers a in
           let lt : q.0 < row.formals = (t.counts s of plain order k row at).back q.0 d r.0 q.1 r.1 parameter in
-          subst (λ z. Among d z) (sym (own_formals k row at other)) (in_front row.numbers row.formals q.0 lt q.1)
+          own_formals k row at d (in_front row.numbers row.formals q.0 lt q.1)
 
   -- ---- what is listed
 
@@ -415,11 +429,11 @@ module _ (s : Source) (of : TablesOf s) (plain : Plain s.program) (order : InOrd
           let same : p.number ≡ k = number p.number k (sym p.entry ∙ f) in
           let block : row.block ≡ block_of s d = sym (t.block_is s of plain order d row at) in (
             record {
-              prefix = None;
+              prefix = p.prefix;
               heading = p.heading;
               declarations = p.declarations;
               statements = p.statements;
-              is = subst (λ z. slice_get (Ts s of plain order) z ≡ Some (ClassText None p.heading p.declarations p.statements)) same p.text;
+              is = subst (λ z. slice_get (Ts s of plain order) z ≡ Some (ClassText p.prefix p.heading p.declarations p.statements)) same p.text;
               around = subst (λ z. around_of (slice_get s.tables.blocks z) ≡ Some (block_of s d)) same (p.around ∙ ap Some block);
             },
             subst (λ z. owner_of_level s.tables (Some z) ≡ Some d) same (owner_at p.number d p.owner),

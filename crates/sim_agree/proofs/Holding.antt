@@ -22,7 +22,7 @@ use Rattle.sim_scope.specs.declared.types.Mode.TheVariants as mode
 use Rattle.sim_scope.specs.declared.types.SimType.{SimType}
 use Rattle.sim_scope.specs.declared.types.SimType.TheVariants as t
 use Rattle.sim_scope.specs.declared.types.WrittenMode.{WrittenMode}
-use Rattle.sim_scope.specs.Building.{BuildingOf, Mark, block_around, broken, broken_if, changed, changed_row, closed, closed_at, counted, counted_in, declared, declared_again, declared_at, declared_inside, declared_new, declared_twice, entered, headed, holding_class, in_class, inner, inner_at, inner_in, is_match, is_procedure, level_in, marked, matched, matching, mode_allowed, moded, moded_as, opened, parameter, qualified, row_matching, row_of, specified, specified_as, token_in, unspecified_in, with_entry, with_mode, with_name, found_in, unspecified_at}
+use Rattle.sim_scope.specs.Building.{BuildingOf, Mark, block_around, broken, broken_if, changed, changed_row, closed, closed_at, counted, counted_in, declared, declared_again, declared_at, declared_inside, declared_new, declared_twice, entered, headed, holding_class, in_class, inner, inner_at, inner_in, is_match, is_procedure, level_in, marked, matched, matching, mode_allowed, moded, moded_as, opened, parameter, qualified, row_matching, row_of, specified, specified_as, token_in, unspecified_in, with_entry, with_mode, with_name, found_in, unspecified_at, prefixed_by, guards, guards_at, protecting}
 use Rattle.sim_scope.specs.Declare.{declared_by, empty, result_named}
 use Rattle.sim_scope.specs.Levels.{holds_class, holds_class_in, is_standard}
 use Rattle.sim_scope.specs.Runs.{run}
@@ -37,7 +37,7 @@ use Rattle.sim_agree.specs.TablesOf.{TablesOf}
 use Rattle.sim_agree.proofs.Calm.{declared_calm}
 use Rattle.sim_agree.proofs.Completing.{bare_row}
 use Rattle.sim_agree.proofs.Tables as tables
-use Rattle.sim_agree.proofs.Groups.{Grouped, OfReferences, Open, OwnEntry, Quals, block, breaks_rule, closes, connects, declares, declares_class, headed as headed_mark, inner_mark, moded as moded_mark, nothing, parameter as parameter_mark, procedure, program_grouped, qualifies, specified as specified_mark, unqualified}
+use Rattle.sim_agree.proofs.Groups.{Grouped, OfReferences, Open, OwnEntry, Quals, block, breaks_rule, closes, connects, declares, declares_class, headed as headed_mark, inner_mark, moded as moded_mark, nothing, parameter as parameter_mark, procedure, program_grouped, qualifies, specified as specified_mark, unqualified, prefixes, guarded}
 
 -- a block is said to have a class
 abbrev pub flag : Option BlockOf → Bool
@@ -267,6 +267,14 @@ headed_held : (b : BuildingOf) (token : TokenNo) (o : Option (Option WrittenMode
 headed_held b token None h = h
 headed_held b token (Some w) h = h
 
+prefix_found : (b : BuildingOf) (x : Identifier) (k : ℕ) (o : Option BlockOf) → slice_get b.tables.blocks k ≡ o → ClassesHeld b → ClassesHeld (changed_row b (prefixed_by x) k o)
+prefix_found b x k None at h = h
+prefix_found b x k (Some row) at h = held_same b _ (row_grows Nowhere b k row (prefixed_by x row) at refl) h
+
+prefix_held : (b : BuildingOf) (x : Identifier) (o : Option ℕ) → ClassesHeld b → ClassesHeld (changed b (prefixed_by x) o)
+prefix_held b x None h = h
+prefix_held b x (Some k) h = prefix_found b x k (slice_get b.tables.blocks k) refl h
+
 inner_held : (b : BuildingOf) (token : ℕ) (o : Option ℕ) → ClassesHeld b → ClassesHeld (inner b token o)
 inner_held b token None h = h
 inner_held b token (Some k) h = go (slice_get b.tables.blocks k) refl
@@ -278,6 +286,14 @@ inner_held b token (Some k) h = go (slice_get b.tables.blocks k) refl
     go : (o : Option BlockOf) → slice_get b.tables.blocks k ≡ o → ClassesHeld (inner_at b token k o)
     go None at = h
     go (Some row) at = one row at row.inner
+
+guards_held : (b : BuildingOf) (hides keeps : Bool) (x : Identifier) (o : Option ℕ) → ClassesHeld b → ClassesHeld (guards b hides keeps x o)
+guards_held b hides keeps x None h = h
+guards_held b hides keeps x (Some k) h = go (slice_get b.tables.blocks k) refl
+  where
+    go : (o : Option BlockOf) → slice_get b.tables.blocks k ≡ o → ClassesHeld (guards_at b hides keeps x k o)
+    go None at = h
+    go (Some row) at = let g = row_grows Nowhere b k row (protecting hides keeps x.name row) at refl in held_same b (guards_at b hides keeps x k (Some row)) (record { flags = g.flags; rows = g.rows }) h
 
 closed_held : (b : BuildingOf) (token : ℕ) (o : Option ℕ) → ClassesHeld b → ClassesHeld (closed b token o)
 closed_held b token None h = h
@@ -334,7 +350,7 @@ run_held b (procedure text first x owed quals result hd a dx nh q g) h =
     (run_held (opened (run marked (declared b hd.name (entry.Procedure (result_named result) (length b.tables.blocks))) quals) kind.Procedure text first) g
     (opened_held (run marked (declared b hd.name (entry.Procedure (result_named result) (length b.tables.blocks))) quals) kind.Procedure text first
     (quals_held (declared b hd.name (entry.Procedure (result_named result) (length b.tables.blocks))) _ quals q (other_held b hd.name _ (λ z. absurd (let f : entry.Procedure (result_named result) (length b.tables.blocks) ≡ entry.Class z.0 = z.1 in cc)) b.current h))))
-run_held b (declares_class text first x owed hd ds ss dx nh g) h =
+run_held b (declares_class text first x owed prefix hd ds ss dx nh g) h =
     let e : Entry = entry.Class (length b.tables.blocks) in
     run_held (opened (changed (declared b hd.name (entry.Class (length b.tables.blocks))) holding_class b.current) kind.Class text first) g
     (opened_held (changed (declared b hd.name (entry.Class (length b.tables.blocks))) holding_class b.current) kind.Class text first (class_held b hd.name (entry.Class (length b.tables.blocks)) b.current (declared_calm b hd.name (entry.Class (length b.tables.blocks))).size h))
@@ -349,7 +365,9 @@ run_held b (specified_mark quals y k ty pf q g) h =
     (quals_held (specified (record b { latest = found_in b.tables b.current y.name }) y.token k ty (found_in b.tables b.current y.name)) _ quals q
     (held_same (record b { latest = found_in b.tables b.current y.name }) _ (specified_grows (record b { latest = found_in b.tables b.current y.name }) y.token k ty (found_in b.tables b.current y.name)) h)))
 run_held b (headed_mark x owed y g) h = run_held (headed b y.token (unspecified_at b.tables (found_in b.tables b.current y.name))) g (headed_held b y.token (unspecified_at b.tables (found_in b.tables b.current y.name)) h)
+run_held b (prefixes prefix hd ds ss owed y p g) h = run_held (changed b (prefixed_by y) b.current) g (prefix_held b y b.current h)
 run_held b (inner_mark token g) h = run_held (inner b token b.current) g (inner_held b token b.current h)
+run_held b (guarded hides keeps y g) h = run_held (guards b hides keeps y b.current) g (guards_held b hides keeps y b.current h)
 run_held b (breaks_rule token rule g) h = run_held (broken b token rule) g h
 run_held b (closes x end g) h = run_held (closed b end b.current) g (closed_held b end b.current h)
 

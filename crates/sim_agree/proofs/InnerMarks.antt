@@ -1,5 +1,5 @@
 -- Marks that leave each block its `inner` and the block around it.
-use Rattle.std.proofs.Common.{◌≡◌, ℕ, Bool, true, false, List, [], ◌∷◌, ◌++◌, length, map, Option, Some, None, refl, ap, ◌∙◌, if◌then◌else◌}
+use Rattle.std.proofs.Common.{◌≡◌, ℕ, Bool, true, false, List, [], ◌∷◌, ◌++◌, length, map, Option, Some, None, refl, ap, ◌∙◌, if◌then◌else◌, sym, subst}
 use Rattle.std.specs.Prelude.{◌&&◌, nat_eq, not, slice_get, slice_set}
 use Rattle.std.specs.List.{list_any}
 use Rattle.std.specs.Str.{bytes_eq}
@@ -14,7 +14,7 @@ use Rattle.sim_tree.specs.declared.stmt.TypeName.{TypeName}
 use Rattle.sim_tree.specs.declared.stmt.TypeName.TheVariants as type_name
 use Rattle.sim_tree.specs.declared.stmt.Variable.{Variable}
 use Rattle.sim_tree.specs.Syntax as s
-use Rattle.sim_tree.specs.Syntax.{Arrayed, Heading, Specified as Specifier}
+use Rattle.sim_tree.specs.Syntax.{Arrayed, Heading, Specified as Specifier, Interface}
 use Rattle.sim_scope.specs.declared.scopes.Declaration.{Declaration}
 use Rattle.sim_scope.specs.declared.types.Entry.{Entry}
 use Rattle.sim_scope.specs.declared.types.Entry.TheVariants as entry
@@ -22,12 +22,13 @@ use Rattle.sim_scope.specs.declared.types.FormalKind.{FormalKind}
 use Rattle.sim_scope.specs.declared.types.Mode.{Mode}
 use Rattle.sim_scope.specs.declared.types.SimType.{SimType}
 use Rattle.sim_scope.specs.declared.types.WrittenMode.{WrittenMode}
-use Rattle.sim_scope.specs.Building.{Breaks, Brings, BuildingOf, Closes, Declares, DeclaresClass, DeclaresProcedure, Headed, Inner, Mark, Moded, Opens, Parameter, Prefixes, Protects, Provides, Qualifies, Specified, broken, broken_if, changed, changed_row, counted, counted_in, counting, declared, declared_again, declared_at, declared_inside, declared_new, declared_twice, entered, formal, found_in, headed, holding_class, in_class, is_by_name, is_match, is_procedure, marked, matched, mode_allowed, moded, moded_as, most_declarations, qualified, specified, specified_as, token_in, unspecified_at, unspecified_in, with_entry, with_mode, with_name}
-use Rattle.sim_scope.specs.Declare.{array_marks, headed_marks, heading_marks, mode_part_marks, moded_marks, parameter_marks, qualified_marks, qualified_result, segment_marks, specification_marks, specified_marks, type_named, variable_marks}
+use Rattle.sim_scope.specs.Building.{Breaks, Brings, BuildingOf, Closes, Declares, DeclaresClass, DeclaresProcedure, Headed, Inner, Mark, Moded, Opens, Parameter, Prefixes, Protects, Provides, Qualifies, Specified, broken, broken_if, changed, changed_row, counted, counted_in, counting, declared, declared_again, declared_at, declared_inside, declared_new, declared_twice, entered, formal, found_in, headed, holding_class, in_class, is_by_name, is_match, is_procedure, marked, matched, mode_allowed, moded, moded_as, most_declarations, qualified, specified, specified_as, token_in, unspecified_at, unspecified_in, with_entry, with_mode, with_name, prefixed_by, guards, guards_at, protecting}
+use Rattle.sim_scope.specs.Declare.{array_marks, headed_marks, heading_marks, mode_part_marks, moded_marks, parameter_marks, qualified_marks, qualified_result, segment_marks, specification_marks, specified_marks, type_named, variable_marks, interface_marks, is_written, protected_marks, protection_marks, virtual_marks}
 use Rattle.sim_scope.specs.Runs.{each, run}
 use Rattle.sim_scope.specs.Scopes.{declared_in, entry_of}
 use Rattle.sim_scope.specs.Tables.{BlockOf}
 use Rattle.sim_scope.proofs.Quiet.{map_set}
+use Rattle.sim_agree.specs.Plain.{PlainInterface}
 
 -- of a block the `inner` that is written in it, and the block around it
 pub record InnerRow : Type 0 where
@@ -89,6 +90,24 @@ module _ {rs : List InnerRow} {now : Option ℕ} where
   holding_stays b None a = a
   holding_stays b (Some block) a = holding_at b block (slice_get b.tables.blocks block) refl a
 
+  guards_at_stays : (b : BuildingOf) (hides keeps : Bool) (x : Identifier) (block : ℕ) (o : Option BlockOf) → slice_get b.tables.blocks block ≡ o → Stays rs now b → Stays rs now (guards_at b hides keeps x block o)
+  guards_at_stays b hides keeps x block None at a = a
+  guards_at_stays b hides keeps x block (Some row) at a =
+      let new : BlockOf = protecting hides keeps x.name row in
+      same_tables (record b { tables = record b.tables { blocks = slice_set b.tables.blocks block new } }) _ refl refl (row_stays b block row new at refl a)
+
+  guards_stays : (b : BuildingOf) (hides keeps : Bool) (x : Identifier) (o : Option ℕ) → Stays rs now b → Stays rs now (guards b hides keeps x o)
+  guards_stays b hides keeps x None a = a
+  guards_stays b hides keeps x (Some block) a = guards_at_stays b hides keeps x block (slice_get b.tables.blocks block) refl a
+
+  prefix_at : (b : BuildingOf) (x : Identifier) (block : ℕ) (o : Option BlockOf) → slice_get b.tables.blocks block ≡ o → Stays rs now b → Stays rs now (changed_row b (prefixed_by x) block o)
+  prefix_at b x block None at a = a
+  prefix_at b x block (Some row) at a = row_stays b block row (prefixed_by x row) at refl a
+
+  prefix_stays : (b : BuildingOf) (x : Identifier) (o : Option ℕ) → Stays rs now b → Stays rs now (changed b (prefixed_by x) o)
+  prefix_stays b x None a = a
+  prefix_stays b x (Some block) a = prefix_at b x block (slice_get b.tables.blocks block) refl a
+
   qualified_stays : (b : BuildingOf) (class : Identifier) (o : Option DeclNo) → Stays rs now b → Stays rs now (qualified b class o)
   qualified_stays b class None a = a
   qualified_stays b class (Some d) a = same_tables b _ refl refl a
@@ -139,14 +158,12 @@ module _ {rs : List InnerRow} {now : Option ℕ} where
   headed_stays b token None a = a
   headed_stays b token (Some written) a = same_tables b _ refl refl a
 
--- Marks that begin and end no block, and no `inner`; nothing of prefixes is among them.
+-- Marks that begin and end no block, and no `inner`; nothing of standard prefixes is among them.
 abbrev pub Keeps : Mark → Type 0
 Keeps (Opens k text first) = ⊥
 Keeps (Closes end) = ⊥
-Keeps (Prefixes class) = ⊥
 Keeps (Brings which token) = ⊥
 Keeps (Provides which name token) = ⊥
-Keeps (Protects hides keeps x) = ⊥
 Keeps (Inner token) = ⊥
 Keeps _ = Unit {0}
 
@@ -166,10 +183,10 @@ one_stays b (Moded x m) q a = moded_stays b x.token m (found_in b.tables b.curre
 one_stays b (Specified x k ty) q a = let d = found_in b.tables b.current x.name in specified_stays (record b { latest = d }) x.token k ty d (same_tables b _ refl refl a)
 one_stays b (Headed x) q a = headed_stays b x.token (unspecified_at b.tables (found_in b.tables b.current x.name)) a
 one_stays b (Qualifies class) q a = qualified_stays b class b.latest a
-one_stays b (Prefixes class) q a = absurd q
+one_stays b (Prefixes class) q a = prefix_stays b class b.current a
 one_stays b (Brings which token) q a = absurd q
 one_stays b (Provides which name token) q a = absurd q
-one_stays b (Protects hides keeps x) q a = absurd q
+one_stays b (Protects hides keeps x) q a = guards_stays b hides keeps x b.current a
 one_stays b (Inner token) q a = absurd q
 one_stays b (Breaks token rule) q a = same_tables b _ refl refl a
 
@@ -180,7 +197,7 @@ all_stay b (m ∷ ms) q a = all_stay (marked b m) ms q.1 (one_stays b m q.0 a)
 
 -- ---- what the parts of a declaration contribute
 
-keep_both : (xs ys : List Mark) → AllKeep xs → AllKeep ys → AllKeep (xs ++ ys)
+pub keep_both : (xs ys : List Mark) → AllKeep xs → AllKeep ys → AllKeep (xs ++ ys)
 keep_both [] ys q r = r
 keep_both (x ∷ xs) ys q r = (q.0, keep_both xs ys q.1 r)
 
@@ -243,3 +260,12 @@ keep_heading h =
     (keep_both (each mode_part_marks h.modes) _ (keep_each mode_part_marks h.modes (λ m. keep_each (moded_marks m.mode) m.names (keep_moded m.mode)))
     (keep_both (each specification_marks h.specifications) _ (keep_each specification_marks h.specifications (λ x. keep_each (specified_marks x.kind) x.names (keep_specified x.kind)))
     (keep_each headed_marks h.formals keep_headed)))
+
+keep_protected : (hides keeps : Bool) (x : Identifier) → AllKeep (protected_marks hides keeps x)
+unfolding protected_marks
+keep_protected hides keeps x = (tt, tt)
+
+pub keep_interface : (i : Interface) → PlainInterface i → AllKeep (interface_marks i)
+keep_interface i p =
+    keep_both (each protection_marks i.protections) (each virtual_marks i.virtuals) (keep_each protection_marks i.protections (λ q. keep_each (protected_marks (is_written q.hidden) (is_written q.protected)) q.names (keep_protected (is_written q.hidden) (is_written q.protected))))
+    (subst (λ z. AllKeep (each virtual_marks z)) (sym p) tt)

@@ -1,10 +1,11 @@
 -- In an allowed program `inner` stands among the statements of a class alone.
-use Rattle.std.proofs.Common.{◌≡◌, ℕ, zero, suc, List, [], ◌∷◌, ◌++◌, Option, Some, None, refl, subst}
+use Rattle.std.proofs.Common.{◌≡◌, ℕ, zero, suc, List, [], ◌∷◌, ◌++◌, Option, Some, None, refl, subst, sym}
 use Rattle.std.specs.Prelude.{slice_get}
 use Rattle.sim_scope.specs.declared.found.Fault.{Fault}
 use Rattle.sim_scope.specs.declared.types.Position.TheVariants.{ClassBody, ClassStatement, Inside}
 use Rattle.sim_scope.specs.Breaks.{all_breaks, breaks, broken_by}
 use Rattle.sim_scope.specs.Building.{Breaks, Brings, BuildingOf, Closes, Declares, DeclaresClass, DeclaresProcedure, Headed, Inner, Mark, Moded, Opens, Parameter, Prefixes, Protects, Provides, Qualifies, Specified, marked}
+use Rattle.sim_tree.specs.declared.expr.Identifier.{Identifier}
 use Rattle.sim_scope.specs.Declare.{class_marks, declared_by, declaring, empty, heading_marks, inner_marks, interface_marks, procedure_marks, program_marks}
 use Rattle.sim_scope.specs.Least.{IsLeast, least, nothing}
 use Rattle.sim_scope.specs.Source.{Source}
@@ -12,9 +13,10 @@ use Rattle.sim_scope.specs.Walk.{arms_events, declaration_events, declarations_e
 use Rattle.sim_scope.proofs.Breaking.{least_declared}
 use Rattle.sim_tree.specs.Syntax.{Also, Arms, Arrays, Begin, Block, Declaration, Declarations, DeclareClass, DeclareProcedure, NoArm, NoDeclaration, NoStatement, Prefix, Program, Statement, Statements, Variables, When, With}
 use Rattle.sim_tree.specs.Syntax as syntax
-use Rattle.sim_meaning.specs.Texts.{BlockText, ClassText, ProcedureText, Text, arms_texts, block_texts, declaration_texts, declarations_texts, program_texts, statement_texts, statements_texts, text}
+use Rattle.sim_meaning.specs.Texts.{BlockText, ClassText, ProcedureText, Text, arms_texts, block_texts, declaration_texts, declarations_texts, program_texts, statement_texts, statements_texts, text, prefix_texts}
 use Rattle.sim_agree.specs.Inners.{NoInner, NoInnerArms, NoInnerWithin, NoInners}
-use Rattle.sim_agree.specs.Plain.{Each, Plain, PlainArms, PlainBlock, PlainDeclaration, PlainDeclarations, PlainStatement, PlainStatements}
+use Rattle.sim_agree.specs.Plain.{Each, Plain, PlainArms, PlainBlock, PlainDeclaration, PlainDeclarations, PlainStatement, PlainStatements, PlainPrefix}
+use Rattle.sim_agree.proofs.PlainNames.{no_prefix_texts}
 use Rattle.sim_agree.specs.TablesOf.{TablesOf}
 
 -- ---- marks that break no rule
@@ -166,6 +168,10 @@ class_statement (syntax.For j name sign assign es x) g f = g f
 class_statement (syntax.Inspect j e opening x close other) g f = g f
 class_statement (syntax.InspectWhen j e arms other) g f = g f
 
+-- behind a prefix that brings no texts
+placed_behind : (prefix : Option Identifier) → PlainPrefix prefix → (xs : List Text) → Each InPlace xs → Each InPlace (prefix_texts prefix ++ xs)
+placed_behind prefix w xs a = subst (λ z. Each InPlace (z ++ xs)) (sym (no_prefix_texts prefix w)) a
+
 mutual
   unfolding declaring inner_marks
 
@@ -226,61 +232,60 @@ mutual
   declaration_placed (DeclareProcedure result i h a end) p f =
       let heading = procedure_marks result i h.name ++ heading_marks h in
       let body = front (statement_events declaring Inside a) (Closes end ∷ []) (back heading (statement_events declaring Inside a ++ Closes end ∷ []) f) in (no_inner a body, statement_placed a p.2 body)
-  declaration_placed (DeclareClass (Some prefix) i h interface a end) p f = let none = p.0 in absurd (cc)
-  declaration_placed (DeclareClass None i h interface (syntax.Compound (Begin j ds ss e)) end) p f =
-      let heading = class_marks None i h.name ++ (heading_marks h ++ interface_marks interface) in
+  declaration_placed (DeclareClass prefix i h interface (syntax.Compound (Begin j ds ss e)) end) p f =
+      let heading = class_marks prefix i h.name ++ (heading_marks h ++ interface_marks interface) in
       let events = statement_events declaring ClassBody (syntax.Compound (Begin j ds ss e)) in
       let body = front events (Closes end ∷ []) (back heading (events ++ Closes end ∷ []) f) in
       let first = declarations_events declaring ds in
       let more = statements_events declaring ClassStatement ss in
-      (or_inners ss (back first more body), both_each (declarations_texts ds) (statements_texts ss) (declarations_placed ds (p.3).0 (front first more body)) (class_statements_placed ss (p.3).1 (back first more body)))
-  declaration_placed (DeclareClass None i h interface (syntax.Inner j) end) p f =
-      let heading = class_marks None i h.name ++ (heading_marks h ++ interface_marks interface) in
+      (or_inners ss (back first more body), placed_behind prefix p.0 (declarations_texts ds ++ statements_texts ss) (both_each (declarations_texts ds) (statements_texts ss) (declarations_placed ds (p.3).0 (front first more body)) (class_statements_placed ss (p.3).1 (back first more body))))
+  declaration_placed (DeclareClass prefix i h interface (syntax.Inner j) end) p f =
+      let heading = class_marks prefix i h.name ++ (heading_marks h ++ interface_marks interface) in
       let events = statement_events declaring ClassBody (syntax.Inner j) in
       let body = front events (Closes end ∷ []) (back heading (events ++ Closes end ∷ []) f) in
       absurd (body.0)
-  declaration_placed (DeclareClass None i h interface (syntax.Prefixed class arguments b) end) p f = absurd p.3
-  declaration_placed (DeclareClass None i h interface (syntax.Activate j word e schedule) end) p f = absurd p.3
-  declaration_placed (DeclareClass None i h interface (syntax.Empty j) end) p f =
-      let heading = class_marks None i h.name ++ (heading_marks h ++ interface_marks interface) in
+  declaration_placed (DeclareClass prefix i h interface (syntax.Prefixed class arguments b) end) p f = absurd p.3
+  declaration_placed (DeclareClass prefix i h interface (syntax.Activate j word e schedule) end) p f = absurd p.3
+  declaration_placed (DeclareClass prefix i h interface (syntax.Empty j) end) p f =
+      let heading = class_marks prefix i h.name ++ (heading_marks h ++ interface_marks interface) in
       let events = statement_events declaring ClassBody (syntax.Empty j) in
       let body = front events (Closes end ∷ []) (back heading (events ++ Closes end ∷ []) f) in
-      ((no_inner (syntax.Empty j) body, tt), statement_placed (syntax.Empty j) p.3 body)
-  declaration_placed (DeclareClass None i h interface (syntax.Call e) end) p f =
-      let heading = class_marks None i h.name ++ (heading_marks h ++ interface_marks interface) in
+      ((no_inner (syntax.Empty j) body, tt), placed_behind prefix p.0 (statement_texts (syntax.Empty j)) (statement_placed (syntax.Empty j) p.3 body))
+  declaration_placed (DeclareClass prefix i h interface (syntax.Call e) end) p f =
+      let heading = class_marks prefix i h.name ++ (heading_marks h ++ interface_marks interface) in
       let events = statement_events declaring ClassBody (syntax.Call e) in
       let body = front events (Closes end ∷ []) (back heading (events ++ Closes end ∷ []) f) in
-      ((no_inner (syntax.Call e) body, tt), statement_placed (syntax.Call e) p.3 body)
-  declaration_placed (DeclareClass None i h interface (syntax.Assign e rs) end) p f =
-      let heading = class_marks None i h.name ++ (heading_marks h ++ interface_marks interface) in
+      ((no_inner (syntax.Call e) body, tt), placed_behind prefix p.0 (statement_texts (syntax.Call e)) (statement_placed (syntax.Call e) p.3 body))
+  declaration_placed (DeclareClass prefix i h interface (syntax.Assign e rs) end) p f =
+      let heading = class_marks prefix i h.name ++ (heading_marks h ++ interface_marks interface) in
       let events = statement_events declaring ClassBody (syntax.Assign e rs) in
       let body = front events (Closes end ∷ []) (back heading (events ++ Closes end ∷ []) f) in
-      ((no_inner (syntax.Assign e rs) body, tt), statement_placed (syntax.Assign e rs) p.3 body)
-  declaration_placed (DeclareClass None i h interface (syntax.Choose j c x y) end) p f =
-      let heading = class_marks None i h.name ++ (heading_marks h ++ interface_marks interface) in
+      ((no_inner (syntax.Assign e rs) body, tt), placed_behind prefix p.0 (statement_texts (syntax.Assign e rs)) (statement_placed (syntax.Assign e rs) p.3 body))
+  declaration_placed (DeclareClass prefix i h interface (syntax.Choose j c x y) end) p f =
+      let heading = class_marks prefix i h.name ++ (heading_marks h ++ interface_marks interface) in
       let events = statement_events declaring ClassBody (syntax.Choose j c x y) in
       let body = front events (Closes end ∷ []) (back heading (events ++ Closes end ∷ []) f) in
-      ((no_inner (syntax.Choose j c x y) body, tt), statement_placed (syntax.Choose j c x y) p.3 body)
-  declaration_placed (DeclareClass None i h interface (syntax.Repeat j c x) end) p f =
-      let heading = class_marks None i h.name ++ (heading_marks h ++ interface_marks interface) in
+      ((no_inner (syntax.Choose j c x y) body, tt), placed_behind prefix p.0 (statement_texts (syntax.Choose j c x y)) (statement_placed (syntax.Choose j c x y) p.3 body))
+  declaration_placed (DeclareClass prefix i h interface (syntax.Repeat j c x) end) p f =
+      let heading = class_marks prefix i h.name ++ (heading_marks h ++ interface_marks interface) in
       let events = statement_events declaring ClassBody (syntax.Repeat j c x) in
       let body = front events (Closes end ∷ []) (back heading (events ++ Closes end ∷ []) f) in
-      ((no_inner (syntax.Repeat j c x) body, tt), statement_placed (syntax.Repeat j c x) p.3 body)
-  declaration_placed (DeclareClass None i h interface (syntax.For j name sign assign es x) end) p f =
-      let heading = class_marks None i h.name ++ (heading_marks h ++ interface_marks interface) in
+      ((no_inner (syntax.Repeat j c x) body, tt), placed_behind prefix p.0 (statement_texts (syntax.Repeat j c x)) (statement_placed (syntax.Repeat j c x) p.3 body))
+  declaration_placed (DeclareClass prefix i h interface (syntax.For j name sign assign es x) end) p f =
+      let heading = class_marks prefix i h.name ++ (heading_marks h ++ interface_marks interface) in
       let events = statement_events declaring ClassBody (syntax.For j name sign assign es x) in
       let body = front events (Closes end ∷ []) (back heading (events ++ Closes end ∷ []) f) in
-      ((no_inner (syntax.For j name sign assign es x) body, tt), statement_placed (syntax.For j name sign assign es x) p.3 body)
-  declaration_placed (DeclareClass None i h interface (syntax.Inspect j e opening x close other) end) p f =
-      let heading = class_marks None i h.name ++ (heading_marks h ++ interface_marks interface) in
+      ((no_inner (syntax.For j name sign assign es x) body, tt), placed_behind prefix p.0 (statement_texts (syntax.For j name sign assign es x)) (statement_placed (syntax.For j name sign assign es x) p.3 body))
+  declaration_placed (DeclareClass prefix i h interface (syntax.Inspect j e opening x close other) end) p f =
+      let heading = class_marks prefix i h.name ++ (heading_marks h ++ interface_marks interface) in
       let events = statement_events declaring ClassBody (syntax.Inspect j e opening x close other) in
       let body = front events (Closes end ∷ []) (back heading (events ++ Closes end ∷ []) f) in
-      ((no_inner (syntax.Inspect j e opening x close other) body, tt), statement_placed (syntax.Inspect j e opening x close other) p.3 body)
-  declaration_placed (DeclareClass None i h interface (syntax.InspectWhen j e arms other) end) p f =
-      let heading = class_marks None i h.name ++ (heading_marks h ++ interface_marks interface) in
+      ((no_inner (syntax.Inspect j e opening x close other) body, tt), placed_behind prefix p.0 (statement_texts (syntax.Inspect j e opening x close other)) (statement_placed (syntax.Inspect j e opening x close other) p.3 body))
+  declaration_placed (DeclareClass prefix i h interface (syntax.InspectWhen j e arms other) end) p f =
+      let heading = class_marks prefix i h.name ++ (heading_marks h ++ interface_marks interface) in
       let events = statement_events declaring ClassBody (syntax.InspectWhen j e arms other) in
       let body = front events (Closes end ∷ []) (back heading (events ++ Closes end ∷ []) f) in
-      ((no_inner (syntax.InspectWhen j e arms other) body, tt), statement_placed (syntax.InspectWhen j e arms other) p.3 body)
+      ((no_inner (syntax.InspectWhen j e arms other) body, tt), placed_behind prefix p.0 (statement_texts (syntax.InspectWhen j e arms other)) (statement_placed (syntax.InspectWhen j e arms other) p.3 body))
 
 program_placed : (prefix : Option Prefix) (b : Block) → prefix ≡ None → PlainBlock b → Free (program_events declaring (record { prefix = prefix; block = b })) → Each InPlace (program_texts prefix b)
 unfolding program_events declaring

@@ -26,11 +26,11 @@ use Rattle.sim_scope.proofs.Walks.{run-append}
 use Rattle.sim_meaning.specs.Levels.{is_written, written_in}
 use Rattle.sim_meaning.specs.Texts.{BlockText, ClassText, ConnectionText, ProcedureText, Text, arms_texts, block_texts, declaration_texts, declarations_texts, program_texts, statement_texts, statements_texts, text}
 use Rattle.sim_agree.specs.Inners.{Inners, InnersIn, NoInner, NoInners, OneInner, here, behind}
-use Rattle.sim_agree.specs.Plain.{Plain, PlainArms, PlainBlock, PlainDeclaration, PlainDeclarations, PlainInterface, PlainStatement, PlainStatements}
+use Rattle.sim_agree.specs.Plain.{Plain, PlainArms, PlainBlock, PlainDeclaration, PlainDeclarations, PlainInterface, PlainStatement, PlainStatements, PlainPrefix}
 use Rattle.sim_agree.specs.TablesOf.{TablesOf}
 use Rattle.sim_agree.proofs.Completing.{bare_row}
-use Rattle.sim_agree.proofs.Groups.{class_texts, no_interface}
-use Rattle.sim_agree.proofs.InnerMarks.{AllKeep, InnerRow, Stays, all_stay, inner_row, keep_heading, keep_result, keep_segments, keep_variables}
+use Rattle.sim_agree.proofs.Groups.{class_texts, plain_prefix}
+use Rattle.sim_agree.proofs.InnerMarks.{AllKeep, InnerRow, Stays, all_stay, inner_row, keep_heading, keep_result, keep_segments, keep_variables, keep_both, keep_interface}
 use Rattle.sim_agree.proofs.InnerPlaces.{Free, all_free, back, no_fault, no_inner, no_inners, none_first, none_second}
 use Rattle.sim_agree.proofs.Tables as t
 
@@ -351,10 +351,10 @@ having_class true prefix h ds ss q = q
 having_class false prefix h ds ss q = q
 
 -- whose body is `begin .. end`
-class_fills : (h : Heading) (ds : Declarations) (ss : Statements) → Adds (declarations_events declaring ds) (declarations_texts ds) → ClassAdds ss
-    → Fills (ClassText None h ds ss) (declarations_events declaring ds ++ statements_events declaring ClassStatement ss) (declarations_texts ds ++ statements_texts ss)
+class_fills : (prefix : Option Identifier) (h : Heading) (ds : Declarations) (ss : Statements) → Adds (declarations_events declaring ds) (declarations_texts ds) → ClassAdds ss
+    → Fills (ClassText prefix h ds ss) (declarations_events declaring ds ++ statements_events declaring ClassStatement ss) (declarations_texts ds ++ statements_texts ss)
 unfolding Adds ClassAdds Fills
-class_fills h ds ss p q b rs around a e =
+class_fills prefix h ds ss p q b rs around a e =
     let es = declarations_events declaring ds in
     let fs = statements_events declaring ClassStatement ss in
     let s = breaks_both b es fs e in
@@ -364,13 +364,13 @@ class_fills h ds ss p q b rs around a e =
       more = one.more ++ two.new;
       stays = subst (Stays (rs ++ row two.after around ∷ (one.more ++ two.new)) (Some (length rs))) (sym (run-append marked b es fs)) two.stays;
       fits = fits_both one.more (declarations_texts ds) two.new (statements_texts ss) one.fits two.fits;
-      this = having_class (is_written two.after) None h ds ss two.seen;
+      this = having_class (is_written two.after) prefix h ds ss two.seen;
     }
 
 -- or one statement
-one_fills : (h : Heading) (a : Statement) → Adds (statement_events declaring Inside a) (statement_texts a) → Fills (ClassText None h NoDeclaration (Also a NoStatement)) (statement_events declaring Inside a) (statement_texts a ++ [])
-one_fills h a p =
-    fills_plain (ClassText None h NoDeclaration (Also a NoStatement)) (statement_events declaring Inside a) (statement_texts a ++ []) (λ f. (no_inner a f, tt))
+one_fills : (prefix : Option Identifier) (h : Heading) (a : Statement) → Adds (statement_events declaring Inside a) (statement_texts a) → Fills (ClassText prefix h NoDeclaration (Also a NoStatement)) (statement_events declaring Inside a) (statement_texts a ++ [])
+one_fills prefix h a p =
+    fills_plain (ClassText prefix h NoDeclaration (Also a NoStatement)) (statement_events declaring Inside a) (statement_texts a ++ []) (λ f. (no_inner a f, tt))
     (adds_texts (statement_events declaring Inside a) (statement_texts a) (statement_texts a ++ []) (sym (append-nil (statement_texts a))) p)
 
 procedure_adds : (result : Option TypeName) (i : ℕ) (h : Heading) (a : Statement) (e : ℕ) → Adds (statement_events declaring Inside a) (statement_texts a)
@@ -390,22 +390,27 @@ procedure_adds result i h a e p =
     (adds_one kind.Procedure (first_of_procedure result i) h.name.token.0 e x (H ++ B) (statement_texts a)
     (fills_plain x (H ++ B) (statement_texts a) (λ f. no_inner a (back H B f)) (adds_both H B [] (statement_texts a) (adds_kept H (keep_heading h)) p))))
 
-class_adds : (i : ℕ) (h : Heading) (interface : Interface) (a : Statement) (e : ℕ) → PlainInterface interface
-    → Fills (ClassText None h (body_declarations a) (body_statements a)) (statement_events declaring ClassBody a) (declarations_texts (body_declarations a) ++ statements_texts (body_statements a))
-    → Adds (declaration_events declaring (DeclareClass None i h interface a e)) (declaration_texts (DeclareClass None i h interface a e))
-unfolding declaring class_marks class_prefix_marks
-class_adds i h interface a e q p =
+keep_prefix : (first : ℕ) (prefix : Option Identifier) → PlainPrefix prefix → AllKeep (class_prefix_marks first prefix)
+unfolding class_prefix_marks
+keep_prefix first None w = tt
+keep_prefix first (Some y) w = subst AllKeep (sym (plain_prefix first y w)) (tt, tt)
+
+class_adds : (prefix : Option Identifier) → PlainPrefix prefix → (i : ℕ) (h : Heading) (interface : Interface) (a : Statement) (e : ℕ) → PlainInterface interface
+    → Fills (ClassText prefix h (body_declarations a) (body_statements a)) (statement_events declaring ClassBody a) (declarations_texts (body_declarations a) ++ statements_texts (body_statements a))
+    → Adds (declaration_events declaring (DeclareClass prefix i h interface a e)) (declaration_texts (DeclareClass prefix i h interface a e))
+unfolding declaring class_marks
+class_adds prefix w i h interface a e q p =
     let P = DeclaresClass h.name in
-    let O = Opens kind.Class (first_of_class None i) h.name.token.0 in
-    let H = heading_marks h in
+    let O = Opens kind.Class (first_of_class prefix i) h.name.token.0 in
+    let K = class_prefix_marks h.name.token.0 prefix in
+    let H = heading_marks h ++ interface_marks interface in
     let B = statement_events declaring ClassBody a in
     let C = Closes e ∷ [] in
-    let x : Text = ClassText None h (body_declarations a) (body_statements a) in
+    let x : Text = ClassText prefix h (body_declarations a) (body_statements a) in
     let ns : List Text = declarations_texts (body_declarations a) ++ statements_texts (body_statements a) in
-    let same : H ++ interface_marks interface ≡ H = ap (λ z. H ++ z) (no_interface interface q) ∙ append-nil H in
-    adds_texts _ (x ∷ ns) _ (sym (class_texts i h interface a e))
-    (adds_as ((P ∷ []) ++ (O ∷ ((H ++ B) ++ C))) _ (x ∷ ns) (ap (λ z. P ∷ O ∷ z) (append_assoc H B C ∙ ap (λ z. z ++ (B ++ C)) (sym same)))
-    (adds_both (P ∷ []) (O ∷ ((H ++ B) ++ C)) [] (x ∷ ns) (adds_kept (P ∷ []) (tt, tt)) (adds_one kind.Class (first_of_class None i) h.name.token.0 e x (H ++ B) ns (fills_after x H B ns (keep_heading h) p))))
+    adds_texts _ (x ∷ ns) _ (sym (class_texts prefix w i h interface a e))
+    (adds_as ((P ∷ []) ++ (O ∷ (((K ++ H) ++ B) ++ C))) _ (x ∷ ns) (ap (λ z. P ∷ O ∷ z) (append_assoc (K ++ H) B C))
+    (adds_both (P ∷ []) (O ∷ (((K ++ H) ++ B) ++ C)) [] (x ∷ ns) (adds_kept (P ∷ []) (tt, tt)) (adds_one kind.Class (first_of_class prefix i) h.name.token.0 e x ((K ++ H) ++ B) ns (fills_after x (K ++ H) B ns (keep_both K H (keep_prefix h.name.token.0 prefix w) (keep_both (heading_marks h) (interface_marks interface) (keep_heading h) (keep_interface interface q))) p))))
 
 -- ---- the whole program
 
@@ -462,23 +467,22 @@ mutual
   declaration_adds (Variables type vs) p = adds_kept (each (variable_marks type) vs) (keep_variables type vs)
   declaration_adds (Arrays type i segments) p = adds_kept (each (segment_marks type) segments) (keep_segments type segments)
   declaration_adds (DeclareProcedure result i h a e) p = procedure_adds result i h a e (statement_adds a p.2)
-  declaration_adds (DeclareClass None i h interface a e) p = class_adds i h interface a e p.2 (class_body a h p.3 (statement_adds a p.3))
-  declaration_adds (DeclareClass (Some y) i h interface a e) p = let none = p.0 in absurd (cc)
+  declaration_adds (DeclareClass prefix i h interface a e) p = class_adds prefix p.0 i h interface a e p.2 (class_body prefix a h p.3 (statement_adds a p.3))
 
-  class_body : (a : Statement) (h : Heading) → PlainStatement a → Adds (statement_events declaring Inside a) (statement_texts a)
-      → Fills (ClassText None h (body_declarations a) (body_statements a)) (statement_events declaring ClassBody a) (declarations_texts (body_declarations a) ++ statements_texts (body_statements a))
-  class_body (syntax.Compound (Begin i ds ss e)) h p one = class_fills h ds ss (declarations_add ds p.0) (class_statements_add ss p.1)
-  class_body (syntax.Empty i) h p one = one_fills h (syntax.Empty i) one
-  class_body (syntax.Prefixed class arguments b) h p one = absurd p
-  class_body (syntax.Inner i) h p one = one_fills h (syntax.Inner i) one
-  class_body (syntax.Call e) h p one = one_fills h (syntax.Call e) one
-  class_body (syntax.Assign left rest) h p one = one_fills h (syntax.Assign left rest) one
-  class_body (syntax.Choose i e a rest) h p one = one_fills h (syntax.Choose i e a rest) one
-  class_body (syntax.Repeat i e a) h p one = one_fills h (syntax.Repeat i e a) one
-  class_body (syntax.For i x sign j es a) h p one = one_fills h (syntax.For i x sign j es a) one
-  class_body (syntax.Inspect i object d a e rest) h p one = one_fills h (syntax.Inspect i object d a e rest) one
-  class_body (syntax.InspectWhen i object arms rest) h p one = one_fills h (syntax.InspectWhen i object arms rest) one
-  class_body (syntax.Activate i word process schedule) h p one = absurd p
+  class_body : (prefix : Option Identifier) (a : Statement) (h : Heading) → PlainStatement a → Adds (statement_events declaring Inside a) (statement_texts a)
+      → Fills (ClassText prefix h (body_declarations a) (body_statements a)) (statement_events declaring ClassBody a) (declarations_texts (body_declarations a) ++ statements_texts (body_statements a))
+  class_body prefix (syntax.Compound (Begin i ds ss e)) h p one = class_fills prefix h ds ss (declarations_add ds p.0) (class_statements_add ss p.1)
+  class_body prefix (syntax.Empty i) h p one = one_fills prefix h (syntax.Empty i) one
+  class_body prefix (syntax.Prefixed class arguments b) h p one = absurd p
+  class_body prefix (syntax.Inner i) h p one = one_fills prefix h (syntax.Inner i) one
+  class_body prefix (syntax.Call e) h p one = one_fills prefix h (syntax.Call e) one
+  class_body prefix (syntax.Assign left rest) h p one = one_fills prefix h (syntax.Assign left rest) one
+  class_body prefix (syntax.Choose i e a rest) h p one = one_fills prefix h (syntax.Choose i e a rest) one
+  class_body prefix (syntax.Repeat i e a) h p one = one_fills prefix h (syntax.Repeat i e a) one
+  class_body prefix (syntax.For i x sign j es a) h p one = one_fills prefix h (syntax.For i x sign j es a) one
+  class_body prefix (syntax.Inspect i object d a e rest) h p one = one_fills prefix h (syntax.Inspect i object d a e rest) one
+  class_body prefix (syntax.InspectWhen i object arms rest) h p one = one_fills prefix h (syntax.InspectWhen i object arms rest) one
+  class_body prefix (syntax.Activate i word process schedule) h p one = absurd p
 
 -- the program's block, which is around all
 whole_program : (k : BlockKind) (text first end : ℕ) (x : Text) (es : List Mark) (ns : List Text) → Fills x es ns → all_breaks empty (Opens k text first ∷ (es ++ Closes end ∷ [])) ≡ []

@@ -183,7 +183,7 @@ module _ (s : Source) (of : TablesOf s) (plain : Plain s.program) (order : InOrd
           let y : row.end ≡ w.0.end = ap (λ (z : BlockOf). z.end) w.2 in
           let r = within w.0.first k k w.0 (first_of k w.0 w.1) w.1 same in
           let hi : w.0.first < w.0.end = r.1 in
-          lasts k (record { row = row; at = at; class = k; inner = row; there = at; is = ap is_class_kind q.0; low = omega arith; high = omega (arith, hi, x, y) })
+          lasts k (record { row = row; at = at; class = k; inner = row; there = at; is = ap is_class_kind q; low = omega arith; high = omega (arith, hi, x, y) })
 
   -- and so does what is around a text that lasts
   pub outward : (k u : ℕ) → encloser s.tables k ≡ Some u → is_class_free s k ≡ false → is_class_free s u ≡ false
@@ -244,7 +244,7 @@ module _ (s : Source) (of : TablesOf s) (plain : Plain s.program) (order : InOrd
       go (Some row) None q = absurd q
       go (Some row) (Some (BlockText i ds ss)) q = plain_kind row.kind q
       go (Some row) (Some (ProcedureText result h a)) q = ap is_connection_kind q
-      go (Some row) (Some (ClassText prefix h ds ss)) q = ap is_connection_kind q.0
+      go (Some row) (Some (ClassText prefix h ds ss)) q = ap is_connection_kind q
       go (Some row) (Some ConnectionText) q = ap is_connection_kind q
       go (Some row) (Some (PrefixedText class es ds ss)) q = absurd q
       go (Some row) (Some (StandardText which)) q = absurd q

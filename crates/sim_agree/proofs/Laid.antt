@@ -7,7 +7,7 @@ use Rattle.sim_tree.specs.declared.stmt.TypeName.{TypeName}
 use Rattle.sim_tree.specs.declared.stmt.TypeName.TheVariants as type_name
 use Rattle.sim_tree.specs.declared.stmt.Variable.{Variable}
 use Rattle.sim_tree.specs.Named.{named}
-use Rattle.sim_tree.specs.Syntax.{Also, Arms, Arrayed, Arrays, Begin, Block, BoundPair, Compound, Declaration, Declarations, DeclareClass, DeclareProcedure, Element, Expression, Heading, Interface, Moded as ModePart, NoArm, NoDeclaration, NoStatement, Prefix, Program, RightSide, Specification, Specified as Specifier, Statement, Statements, Variables, When, With}
+use Rattle.sim_tree.specs.Syntax.{Also, Arms, Arrayed, Arrays, Begin, Block, BoundPair, Compound, Declaration, Declarations, DeclareClass, DeclareProcedure, Element, Expression, Heading, Interface, Moded as ModePart, NoArm, NoDeclaration, NoStatement, Prefix, Program, RightSide, Specification, Specified as Specifier, Statement, Statements, Variables, When, With, Protected}
 use Rattle.sim_tree.specs.Syntax as syntax
 use Rattle.sim_base.specs.declared.rule.Rule.{Rule}
 use Rattle.sim_base.specs.declared.rule.Rule.TheVariants as r
@@ -21,14 +21,15 @@ use Rattle.sim_scope.specs.declared.types.Position.{Position}
 use Rattle.sim_scope.specs.declared.types.Position.TheVariants.{ClassBody, ClassStatement, Inside}
 use Rattle.sim_scope.specs.declared.types.SimType.{SimType}
 use Rattle.sim_scope.specs.Bodies.{body_declarations, body_statements}
-use Rattle.sim_scope.specs.Building.{Breaks, Closes, Declares, DeclaresClass, DeclaresProcedure, Headed, Inner, Mark, Moded, Opens, Parameter, Specified}
-use Rattle.sim_scope.specs.Declare.{array_marks, class_marks, class_prefix_marks, declaring, first_of_class, first_of_procedure, headed_marks, heading_marks, inner_marks, interface_marks, mode_named, mode_part_marks, moded_marks, parameter_marks, procedure_marks, program_marks, qualified_marks, qualified_result, result_named, segment_marks, specification_marks, specified_marks, type_named, variable_marks}
+use Rattle.sim_scope.specs.Building.{Breaks, Closes, Declares, DeclaresClass, DeclaresProcedure, Headed, Inner, Mark, Moded, Opens, Parameter, Specified, Prefixes, Protects}
+use Rattle.sim_scope.specs.Declare.{array_marks, class_marks, class_prefix_marks, declaring, first_of_class, first_of_procedure, headed_marks, heading_marks, inner_marks, interface_marks, mode_named, mode_part_marks, moded_marks, parameter_marks, procedure_marks, program_marks, qualified_marks, qualified_result, result_named, segment_marks, specification_marks, specified_marks, type_named, variable_marks, is_written, protected_marks, protection_marks}
 use Rattle.sim_scope.specs.Runs.{each}
 use Rattle.sim_scope.specs.Walk.{arms_events, begin_of, block_events, declaration_events, declarations_events, program_events, statement_events, statements_events, whole_events}
-use Rattle.sim_meaning.specs.Texts.{BlockText, ClassText, ConnectionText, ProcedureText, Text, arms_texts, block_texts, declaration_texts, declarations_texts, program_texts, statement_texts, statements_texts}
-use Rattle.sim_tree.specs.Order.{Behind, Spot, Token, in_arms, in_block, in_bounds, in_declaration, in_declarations, in_each, in_element, in_expression, in_name, in_result, in_segment, in_side, in_statement, in_statements, in_type, in_variable, tokens}
-use Rattle.sim_agree.specs.Plain.{Each, Plain, PlainArms, PlainBlock, PlainDeclarations, PlainHeading, PlainInterface, PlainMode, PlainSpecification, PlainStatement, PlainStatements, PlainWord}
-use Rattle.sim_agree.proofs.Groups.{AreReferences, OfReferences, OwnEntry, PlainFormal, Quals, no_interface, quals_of_result, quals_of_type}
+use Rattle.sim_meaning.specs.Texts.{BlockText, ClassText, ConnectionText, ProcedureText, Text, arms_texts, block_texts, declaration_texts, declarations_texts, program_texts, statement_texts, statements_texts, prefix_texts}
+use Rattle.sim_tree.specs.Order.{Behind, Spot, Token, in_arms, in_block, in_bounds, in_declaration, in_declarations, in_each, in_element, in_expression, in_name, in_result, in_segment, in_side, in_statement, in_statements, in_type, in_variable, tokens, in_prefix}
+use Rattle.sim_agree.specs.Plain.{Each, Plain, PlainArms, PlainBlock, PlainDeclarations, PlainHeading, PlainInterface, PlainMode, PlainSpecification, PlainStatement, PlainStatements, PlainWord, PlainName, PlainPrefix}
+use Rattle.sim_agree.proofs.Groups.{AreReferences, OfReferences, OwnEntry, PlainFormal, Quals, quals_of_result, quals_of_type, plain_prefix, only_protections}
+use Rattle.sim_agree.proofs.PlainNames.{no_prefix_texts}
 
 -- ---- what a text uses itself: tokens, sub-blocks by their first token, and connections by theirs, with what stands in them
 
@@ -163,6 +164,12 @@ map_both : (xs ys : List Held) (ns ks : List Text) → map text_held xs ≡ ns �
 map_both [] ys ns ks e f = f ∙ ap (λ z. z ++ ks) e
 map_both (x ∷ xs) ys ns ks e f = ap (λ z. text_held x ∷ z) (map_both xs ys (map text_held xs) ks refl f) ∙ ap (λ z. z ++ ks) e
 
+-- the body of a class that is one statement
+held_alone : (prefix : Option Identifier) → PlainPrefix prefix → (h : Heading) (a : Statement) → map text_held (statement_held a) ≡ statement_texts a
+    → map text_held (Whole (ClassText prefix h NoDeclaration (Also a NoStatement)) ∷ statement_held a) ≡ ClassText prefix h NoDeclaration (Also a NoStatement) ∷ (prefix_texts prefix ++ statement_texts a)
+held_alone prefix w h a one =
+    ap (λ z. ClassText prefix h NoDeclaration (Also a NoStatement) ∷ z) one ∙ ap (λ z. ClassText prefix h NoDeclaration (Also a NoStatement) ∷ (z ++ statement_texts a)) (sym (no_prefix_texts prefix w))
+
 mutual
   held_statement : (a : Statement) → PlainStatement a → map text_held (statement_held a) ≡ statement_texts a
   held_statement (syntax.Empty i) p = refl
@@ -201,23 +208,23 @@ mutual
   held_declaration (Variables type vs) p = refl
   held_declaration (Arrays type i segments) p = refl
   held_declaration (DeclareProcedure result i h a e) p = ap (λ z. ProcedureText result h a ∷ z) (held_statement a p.2)
-  held_declaration (DeclareClass None i h interface a end) p = held_class i h interface a end p.3 (held_statement a p.3)
-  held_declaration (DeclareClass (Some x) i h interface a end) p = absurd (let q : Some x ≡ None = p.0 in cc)
+  held_declaration (DeclareClass prefix i h interface a end) p = held_class prefix p.0 i h interface a end p.3 (held_statement a p.3)
 
-  held_class : (i : ℕ) (h : Heading) (interface : Interface) (a : Statement) (end : ℕ) → PlainStatement a → map text_held (statement_held a) ≡ statement_texts a → map text_held (declaration_held (DeclareClass None i h interface a end)) ≡ declaration_texts (DeclareClass None i h interface a end)
-  held_class i h interface (syntax.Compound (Begin j ds ss e)) end p one =
-      ap (λ z. ClassText None h ds ss ∷ z) (map_both (declarations_held ds) (statements_held ss) (declarations_texts ds) (statements_texts ss) (held_declarations ds p.0) (held_statements ss p.1))
-  held_class i h interface (syntax.Empty n) end p one = refl
-  held_class i h interface (syntax.Prefixed x args b) end p one = absurd p
-  held_class i h interface (syntax.Inner n) end p one = ap (λ z. ClassText None h NoDeclaration (Also (syntax.Inner n) NoStatement) ∷ z) one
-  held_class i h interface (syntax.Call x) end p one = ap (λ z. ClassText None h NoDeclaration (Also (syntax.Call x) NoStatement) ∷ z) one
-  held_class i h interface (syntax.Assign x sides) end p one = ap (λ z. ClassText None h NoDeclaration (Also (syntax.Assign x sides) NoStatement) ∷ z) one
-  held_class i h interface (syntax.Choose n c x rest) end p one = ap (λ z. ClassText None h NoDeclaration (Also (syntax.Choose n c x rest) NoStatement) ∷ z) one
-  held_class i h interface (syntax.Repeat n c x) end p one = ap (λ z. ClassText None h NoDeclaration (Also (syntax.Repeat n c x) NoStatement) ∷ z) one
-  held_class i h interface (syntax.For n y sign m es x) end p one = ap (λ z. ClassText None h NoDeclaration (Also (syntax.For n y sign m es x) NoStatement) ∷ z) one
-  held_class i h interface (syntax.Inspect n object d x m rest) end p one = ap (λ z. ClassText None h NoDeclaration (Also (syntax.Inspect n object d x m rest) NoStatement) ∷ z) one
-  held_class i h interface (syntax.InspectWhen n object arms rest) end p one = ap (λ z. ClassText None h NoDeclaration (Also (syntax.InspectWhen n object arms rest) NoStatement) ∷ z) one
-  held_class i h interface (syntax.Activate n w process schedule) end p one = absurd p
+  held_class : (prefix : Option Identifier) → PlainPrefix prefix → (i : ℕ) (h : Heading) (interface : Interface) (a : Statement) (end : ℕ) → PlainStatement a → map text_held (statement_held a) ≡ statement_texts a → map text_held (declaration_held (DeclareClass prefix i h interface a end)) ≡ declaration_texts (DeclareClass prefix i h interface a end)
+  held_class prefix w i h interface (syntax.Compound (Begin j ds ss e)) end p one =
+      ap (λ z. ClassText prefix h ds ss ∷ z) (map_both (declarations_held ds) (statements_held ss) (declarations_texts ds) (statements_texts ss) (held_declarations ds p.0) (held_statements ss p.1))
+      ∙ ap (λ z. ClassText prefix h ds ss ∷ (z ++ (declarations_texts ds ++ statements_texts ss))) (sym (no_prefix_texts prefix w))
+  held_class prefix w i h interface (syntax.Empty n) end p one = held_alone prefix w h (syntax.Empty n) one
+  held_class prefix w i h interface (syntax.Prefixed x args b) end p one = absurd p
+  held_class prefix w i h interface (syntax.Inner n) end p one = held_alone prefix w h (syntax.Inner n) one
+  held_class prefix w i h interface (syntax.Call x) end p one = held_alone prefix w h (syntax.Call x) one
+  held_class prefix w i h interface (syntax.Assign x sides) end p one = held_alone prefix w h (syntax.Assign x sides) one
+  held_class prefix w i h interface (syntax.Choose n c x rest) end p one = held_alone prefix w h (syntax.Choose n c x rest) one
+  held_class prefix w i h interface (syntax.Repeat n c x) end p one = held_alone prefix w h (syntax.Repeat n c x) one
+  held_class prefix w i h interface (syntax.For n y sign m es x) end p one = held_alone prefix w h (syntax.For n y sign m es x) one
+  held_class prefix w i h interface (syntax.Inspect n object d x m rest) end p one = held_alone prefix w h (syntax.Inspect n object d x m rest) one
+  held_class prefix w i h interface (syntax.InspectWhen n object arms rest) end p one = held_alone prefix w h (syntax.InspectWhen n object arms rest) one
+  held_class prefix w i h interface (syntax.Activate n v process schedule) end p one = absurd p
 
 pub held_program : (prefix : Option Prefix) (b : Block) → prefix ≡ None → PlainBlock b → map text_held (program_held b) ≡ program_texts prefix b
 held_program (Some x) b e p = absurd (cc)
@@ -232,6 +239,16 @@ pub record Frame : Type 0 where
 abbrev pub frame : Text → List Part → Frame
 frame x u = record { text = x; left = u }
 
+-- the mark of a prefix
+pub data Prefs : List Mark → Type 0 where
+  unprefixed : Prefs []
+  prefixed : (y : Identifier) → PlainName y → Prefs (Prefixes y ∷ [])
+
+prefs_of : (first : ℕ) (prefix : Option Identifier) → PlainPrefix prefix → Prefs (class_prefix_marks first prefix)
+unfolding class_prefix_marks
+prefs_of first None p = unprefixed
+prefs_of first (Some y) p = subst Prefs (sym (plain_prefix first y p)) (prefixed y p)
+
 pub data Laid : List Frame → List Mark → List Spot → List Held → Type 0 where
   nothing : {os : List Frame} → os ≡ [] → Laid os [] [] []
   uses : {os : List Frame} {ms : List Mark} {l : List Spot} {hs : List Held} (x : Text) (u : List Part) (i : ℕ) → Laid (frame x u ∷ os) ms l hs → Laid (frame x (Use i ∷ u) ∷ os) ms (Token i ∷ l) hs
@@ -244,6 +261,7 @@ pub data Laid : List Frame → List Mark → List Spot → List Held → Type 0 
   specified : {os : List Frame} {ms : List Mark} {l : List Spot} {hs : List Held} (quals : List Mark) (x : Identifier) (k : FormalKind) (ty : Option SimType) → PlainFormal k ty → Quals (AreReferences ty) quals → Laid os ms l hs → Laid os (Specified x k ty ∷ (quals ++ ms)) l hs
   headed : {os : List Frame} {ms : List Mark} {l : List Spot} {hs : List Held} (x : Identifier) → Laid os ms l hs → Laid os (Headed x ∷ ms) l hs
   inner_mark : {os : List Frame} {ms : List Mark} {l : List Spot} {hs : List Held} (token : ℕ) → Laid os ms l hs → Laid os (Inner token ∷ ms) l hs
+  guarded : {os : List Frame} {ms : List Mark} {l : List Spot} {hs : List Held} (hides keeps : Bool) (y : Identifier) → Laid os ms l hs → Laid os (Protects hides keeps y ∷ ms) l hs
   breaks_rule : {os : List Frame} {ms : List Mark} {l : List Spot} {hs : List Held} (token : ℕ) (rule : Rule) → Laid os ms l hs → Laid os (Breaks token rule ∷ ms) l hs
   program : {ms : List Mark} {l : List Spot} {hs : List Held} (text i : ℕ) (ds : Declarations) (ss : Statements) → Laid (frame (BlockText i ds ss) (text_used (BlockText i ds ss)) ∷ []) ms l hs
       → Laid [] (Opens kind.Program text i ∷ ms) (Token i ∷ l) (Whole (BlockText i ds ss) ∷ hs)
@@ -254,9 +272,9 @@ pub data Laid : List Frame → List Mark → List Spot → List Held → Type 0 
   procedure : {o : Frame} {os : List Frame} {ms : List Mark} {l : List Spot} {hs : List Held} (text : ℕ) (quals : List Mark) (result : Option TypeName) (h : Heading) (a : Statement) → Quals (AreReferences (result_named result)) quals
       → Laid (frame (ProcedureText result h a) (text_used (ProcedureText result h a)) ∷ o ∷ os) ms l hs
       → Laid (o ∷ os) (DeclaresProcedure h.name (result_named result) ∷ (quals ++ Opens kind.Procedure text h.name.token.0 ∷ ms)) (Token h.name.token.0 ∷ l) (Whole (ProcedureText result h a) ∷ hs)
-  declares_class : {o : Frame} {os : List Frame} {ms : List Mark} {l : List Spot} {hs : List Held} (text : ℕ) (h : Heading) (ds : Declarations) (ss : Statements)
-      → Laid (frame (ClassText None h ds ss) (text_used (ClassText None h ds ss)) ∷ o ∷ os) ms l hs
-      → Laid (o ∷ os) (DeclaresClass h.name ∷ Opens kind.Class text h.name.token.0 ∷ ms) (Token h.name.token.0 ∷ l) (Whole (ClassText None h ds ss) ∷ hs)
+  declares_class : {o : Frame} {os : List Frame} {ms : List Mark} {l : List Spot} {hs : List Held} (text : ℕ) (prefs : List Mark) (prefix : Option Identifier) (h : Heading) (ds : Declarations) (ss : Statements) → Prefs prefs
+      → Laid (frame (ClassText prefix h ds ss) (text_used (ClassText prefix h ds ss)) ∷ o ∷ os) ms l hs
+      → Laid (o ∷ os) (DeclaresClass h.name ∷ Opens kind.Class text h.name.token.0 ∷ (prefs ++ ms)) (Token h.name.token.0 ∷ l) (Whole (ClassText prefix h ds ss) ∷ hs)
   closes : {os : List Frame} {ms : List Mark} {l : List Spot} {hs : List Held} (x : Text) (end : ℕ) → Laid os ms l hs → Laid (frame x [] ∷ os) (Closes end ∷ ms) (Behind end ∷ l) hs
 
 -- ---- one part after the other
@@ -301,6 +319,10 @@ type_lays (type_name.Boolean i) os = none
 type_lays (type_name.Character i) os = none
 type_lays (type_name.Text i) os = none
 type_lays (type_name.Reference i class) os = passes_one class.token.0 os
+
+prefix_lays : (prefix : Option Identifier) (os : List Frame) → Lays os [] (in_prefix prefix) [] os
+prefix_lays None os = none
+prefix_lays (Some class) os = passes_one class.token.0 os
 
 result_lays : (result : Option TypeName) (os : List Frame) → Lays os [] (in_result result) [] os
 result_lays None os = none
@@ -443,10 +465,10 @@ begins_procedure result token h a o os = record {
       (procedure (first_of_procedure result token) (qualified_result result) result h a (quals_of_result result) k);
 }
 
-begins_class : (token : ℕ) (h : Heading) (ds : Declarations) (ss : Statements) (o : Frame) (os : List Frame)
-    → Lays (o ∷ os) (class_marks None token h.name) (in_name h.name) (Whole (ClassText None h ds ss) ∷ []) (frame (ClassText None h ds ss) (text_used (ClassText None h ds ss)) ∷ o ∷ os)
-unfolding class_marks class_prefix_marks
-begins_class token h ds ss o os = record { before = λ ms l hs k. declares_class (first_of_class None token) h ds ss k }
+begins_class : (prefix : Option Identifier) → PlainPrefix prefix → (token : ℕ) (h : Heading) (ds : Declarations) (ss : Statements) (o : Frame) (os : List Frame)
+    → Lays (o ∷ os) (class_marks prefix token h.name) (in_name h.name) (Whole (ClassText prefix h ds ss) ∷ []) (frame (ClassText prefix h ds ss) (text_used (ClassText prefix h ds ss)) ∷ o ∷ os)
+unfolding class_marks
+begins_class prefix w token h ds ss o os = record { before = λ ms l hs k. declares_class (first_of_class prefix token) (class_prefix_marks h.name.token.0 prefix) prefix h ds ss (prefs_of h.name.token.0 prefix w) k }
 
 ends : (x : Text) (end : ℕ) (os : List Frame) → Lays (frame x [] ∷ os) (Closes end ∷ []) (λ l. Behind end ∷ l) [] os
 ends x end os = record { before = λ ms l hs h. closes x end h }
@@ -476,34 +498,50 @@ procedure_lays result j h a e o os p body =
     (both (in_statement a) (λ l. Behind e ∷ l) body (ends x e (o ∷ os)))))
 
 -- what is held of a class
-class_held : (j : ℕ) (h : Heading) (i : Interface) (a : Statement) (e : ℕ)
-    → declaration_held (DeclareClass None j h i a e) ≡ Whole (ClassText None h (body_declarations a) (body_statements a)) ∷ (declarations_held (body_declarations a) ++ statements_held (body_statements a))
-class_held j h i (syntax.Compound (Begin n ds ss m)) e = refl
-class_held j h i (syntax.Empty n) e = refl
-class_held j h i (syntax.Prefixed x args b) e = refl
-class_held j h i (syntax.Inner n) e = refl
-class_held j h i (syntax.Call x) e = refl
-class_held j h i (syntax.Assign x sides) e = refl
-class_held j h i (syntax.Choose n c x rest) e = ap (λ z. Whole (ClassText None h NoDeclaration (Also (syntax.Choose n c x rest) NoStatement)) ∷ z) (sym (append-nil (statement_held (syntax.Choose n c x rest))))
-class_held j h i (syntax.Repeat n c x) e = ap (λ z. Whole (ClassText None h NoDeclaration (Also (syntax.Repeat n c x) NoStatement)) ∷ z) (sym (append-nil (statement_held (syntax.Repeat n c x))))
-class_held j h i (syntax.For n y sign m es x) e = ap (λ z. Whole (ClassText None h NoDeclaration (Also (syntax.For n y sign m es x) NoStatement)) ∷ z) (sym (append-nil (statement_held (syntax.For n y sign m es x))))
-class_held j h i (syntax.Inspect n object d x m rest) e = ap (λ z. Whole (ClassText None h NoDeclaration (Also (syntax.Inspect n object d x m rest) NoStatement)) ∷ z) (sym (append-nil (statement_held (syntax.Inspect n object d x m rest))))
-class_held j h i (syntax.InspectWhen n object arms rest) e = ap (λ z. Whole (ClassText None h NoDeclaration (Also (syntax.InspectWhen n object arms rest) NoStatement)) ∷ z) (sym (append-nil (statement_held (syntax.InspectWhen n object arms rest))))
-class_held j h i (syntax.Activate n w process schedule) e = refl
+class_held : (prefix : Option Identifier) (j : ℕ) (h : Heading) (i : Interface) (a : Statement) (e : ℕ)
+    → declaration_held (DeclareClass prefix j h i a e) ≡ Whole (ClassText prefix h (body_declarations a) (body_statements a)) ∷ (declarations_held (body_declarations a) ++ statements_held (body_statements a))
+class_held prefix j h i (syntax.Compound (Begin n ds ss m)) e = refl
+class_held prefix j h i (syntax.Empty n) e = refl
+class_held prefix j h i (syntax.Prefixed x args b) e = refl
+class_held prefix j h i (syntax.Inner n) e = refl
+class_held prefix j h i (syntax.Call x) e = refl
+class_held prefix j h i (syntax.Assign x sides) e = refl
+class_held prefix j h i (syntax.Choose n c x rest) e = ap (λ z. Whole (ClassText prefix h NoDeclaration (Also (syntax.Choose n c x rest) NoStatement)) ∷ z) (sym (append-nil (statement_held (syntax.Choose n c x rest))))
+class_held prefix j h i (syntax.Repeat n c x) e = ap (λ z. Whole (ClassText prefix h NoDeclaration (Also (syntax.Repeat n c x) NoStatement)) ∷ z) (sym (append-nil (statement_held (syntax.Repeat n c x))))
+class_held prefix j h i (syntax.For n y sign m es x) e = ap (λ z. Whole (ClassText prefix h NoDeclaration (Also (syntax.For n y sign m es x) NoStatement)) ∷ z) (sym (append-nil (statement_held (syntax.For n y sign m es x))))
+class_held prefix j h i (syntax.Inspect n object d x m rest) e = ap (λ z. Whole (ClassText prefix h NoDeclaration (Also (syntax.Inspect n object d x m rest) NoStatement)) ∷ z) (sym (append-nil (statement_held (syntax.Inspect n object d x m rest))))
+class_held prefix j h i (syntax.InspectWhen n object arms rest) e = ap (λ z. Whole (ClassText prefix h NoDeclaration (Also (syntax.InspectWhen n object arms rest) NoStatement)) ∷ z) (sym (append-nil (statement_held (syntax.InspectWhen n object arms rest))))
+class_held prefix j h i (syntax.Activate n w process schedule) e = refl
 
-class_lays : (j : ℕ) (h : Heading) (i : Interface) (a : Statement) (e : ℕ) (o : Frame) (os : List Frame) → PlainHeading h → PlainInterface i
-    → Lays (frame (ClassText None h (body_declarations a) (body_statements a)) (text_used (ClassText None h (body_declarations a) (body_statements a))) ∷ o ∷ os) (statement_events declaring ClassBody a) (in_statement a) (declarations_held (body_declarations a) ++ statements_held (body_statements a))
-    (frame (ClassText None h (body_declarations a) (body_statements a)) [] ∷ o ∷ os)
-    → Lays (o ∷ os) (declaration_events declaring (DeclareClass None j h i a e)) (in_declaration (DeclareClass None j h i a e)) (declaration_held (DeclareClass None j h i a e)) (o ∷ os)
+guarded_one : (hides keeps : Bool) (y : Identifier) (os : List Frame) → Lays os (Protects hides keeps y ∷ []) (λ l. l) [] os
+guarded_one hides keeps y os = record { before = λ ms l hs h. guarded hides keeps y h }
+
+guarded_lay : (hides keeps : Bool) (ys : List Identifier) (os : List Frame) → Lays os (each (protected_marks hides keeps) ys) (λ l. l) [] os
+unfolding protected_marks
+guarded_lay hides keeps [] os = none
+guarded_lay hides keeps (y ∷ ys) os = both (λ l. l) (λ l. l) (guarded_one hides keeps y os) (guarded_lay hides keeps ys os)
+
+protections_lay : (ps : List Protected) (os : List Frame) → Lays os (each protection_marks ps) (λ l. l) [] os
+protections_lay [] os = none
+protections_lay (p ∷ ps) os = both (λ l. l) (λ l. l) (guarded_lay (is_written p.hidden) (is_written p.protected) p.names os) (protections_lay ps os)
+
+interface_lays : (i : Interface) → PlainInterface i → (os : List Frame) → Lays os (interface_marks i) (λ l. l) [] os
+interface_lays i p os = as_marks (λ l. l) (each protection_marks i.protections) (interface_marks i) (sym (only_protections i p)) (protections_lay i.protections os)
+
+class_lays : (prefix : Option Identifier) → PlainPrefix prefix → (j : ℕ) (h : Heading) (i : Interface) (a : Statement) (e : ℕ) (o : Frame) (os : List Frame) → PlainHeading h → PlainInterface i
+    → Lays (frame (ClassText prefix h (body_declarations a) (body_statements a)) (text_used (ClassText prefix h (body_declarations a) (body_statements a))) ∷ o ∷ os) (statement_events declaring ClassBody a) (in_statement a) (declarations_held (body_declarations a) ++ statements_held (body_statements a))
+    (frame (ClassText prefix h (body_declarations a) (body_statements a)) [] ∷ o ∷ os)
+    → Lays (o ∷ os) (declaration_events declaring (DeclareClass prefix j h i a e)) (in_declaration (DeclareClass prefix j h i a e)) (declaration_held (DeclareClass prefix j h i a e)) (o ∷ os)
 unfolding declaring
-class_lays j h i a e o os p q body =
-    let x : Text = ClassText None h (body_declarations a) (body_statements a) in
+class_lays prefix w j h i a e o os p q body =
+    let x : Text = ClassText prefix h (body_declarations a) (body_statements a) in
     let inside : List Held = declarations_held (body_declarations a) ++ statements_held (body_statements a) in
-    as_held (in_declaration (DeclareClass None j h i a e)) (Whole x ∷ (inside ++ [])) (declaration_held (DeclareClass None j h i a e)) (ap (λ z. Whole x ∷ z) (append-nil inside) ∙ sym (class_held j h i a e))
+    as_held (in_declaration (DeclareClass prefix j h i a e)) (Whole x ∷ (inside ++ [])) (declaration_held (DeclareClass prefix j h i a e)) (ap (λ z. Whole x ∷ z) (append-nil inside) ∙ sym (class_held prefix j h i a e))
+    (lead (in_prefix prefix) (λ l. in_name h.name (in_each in_name h.formals (in_statement a (Behind e ∷ l)))) (prefix_lays prefix (o ∷ os))
     (both (λ l. in_name h.name (in_each in_name h.formals l)) (λ l. in_statement a (Behind e ∷ l))
-    (both (in_name h.name) (in_each in_name h.formals) (begins_class j h (body_declarations a) (body_statements a) o os)
-    (as_marks (in_each in_name h.formals) (heading_marks h) (heading_marks h ++ interface_marks i) (sym (append-nil (heading_marks h)) ∙ ap (λ z. heading_marks h ++ z) (sym (no_interface i q))) (heading_lays (frame x (text_used x)) (o ∷ os) h p)))
-    (both (in_statement a) (λ l. Behind e ∷ l) body (ends x e (o ∷ os))))
+    (both (in_name h.name) (in_each in_name h.formals) (begins_class prefix w j h (body_declarations a) (body_statements a) o os)
+    (both (in_each in_name h.formals) (λ l. l) (heading_lays (frame x (text_used x)) (o ∷ os) h p) (interface_lays i q (frame x (text_used x) ∷ o ∷ os))))
+    (both (in_statement a) (λ l. Behind e ∷ l) body (ends x e (o ∷ os)))))
 
 -- a statement stands in the body of a class, or elsewhere
 abbrev place_of : (in_class : Bool) → Position
@@ -552,26 +590,26 @@ mutual
       (both (λ l. Token d ∷ in_statement a (Behind e ∷ l)) (in_arms more) (connection_lays d e a x v os (statement_lays false a ConnectionText [] (frame x v ∷ os) p.1)) (arms_lay more x u os p.2))
 
   -- the body of a class
-  class_body_lays : (a : Statement) (h : Heading) (os : List Frame) → PlainStatement a
+  class_body_lays : (prefix : Option Identifier) (a : Statement) (h : Heading) (os : List Frame) → PlainStatement a
       → ((x : Text) → Lays (frame x (statement_used a []) ∷ os) (statement_events declaring Inside a) (in_statement a) (statement_held a) (frame x [] ∷ os))
-      → Lays (frame (ClassText None h (body_declarations a) (body_statements a)) (text_used (ClassText None h (body_declarations a) (body_statements a))) ∷ os) (statement_events declaring ClassBody a) (in_statement a) (declarations_held (body_declarations a) ++ statements_held (body_statements a))
-      (frame (ClassText None h (body_declarations a) (body_statements a)) [] ∷ os)
-  class_body_lays (syntax.Compound (Begin i ds ss e)) h os p one =
-      let x : Text = ClassText None h ds ss in
+      → Lays (frame (ClassText prefix h (body_declarations a) (body_statements a)) (text_used (ClassText prefix h (body_declarations a) (body_statements a))) ∷ os) (statement_events declaring ClassBody a) (in_statement a) (declarations_held (body_declarations a) ++ statements_held (body_statements a))
+      (frame (ClassText prefix h (body_declarations a) (body_statements a)) [] ∷ os)
+  class_body_lays prefix (syntax.Compound (Begin i ds ss e)) h os p one =
+      let x : Text = ClassText prefix h ds ss in
       lead (λ l. Token i ∷ l) (λ l. in_declarations ds (in_statements ss (Behind e ∷ l))) (passes_one i (frame x (text_used x) ∷ os))
       (follow (λ l. in_declarations ds (in_statements ss l)) (λ l. Behind e ∷ l)
       (both (in_declarations ds) (in_statements ss) (declarations_lay ds x (statements_used ss []) os p.0) (statements_lay true ss x [] os p.1)) (leaves_one e (frame x [] ∷ os)))
-  class_body_lays (syntax.Empty i) h os p one = none
-  class_body_lays (syntax.Prefixed y args b) h os p one = absurd p
-  class_body_lays (syntax.Inner i) h os p one = as_held (in_statement (syntax.Inner i)) (statement_held (syntax.Inner i)) (statement_held (syntax.Inner i) ++ []) (sym (append-nil (statement_held (syntax.Inner i)))) (one (ClassText None h NoDeclaration (Also (syntax.Inner i) NoStatement)))
-  class_body_lays (syntax.Call e) h os p one = as_held (in_statement (syntax.Call e)) (statement_held (syntax.Call e)) (statement_held (syntax.Call e) ++ []) (sym (append-nil (statement_held (syntax.Call e)))) (one (ClassText None h NoDeclaration (Also (syntax.Call e) NoStatement)))
-  class_body_lays (syntax.Assign e sides) h os p one = as_held (in_statement (syntax.Assign e sides)) (statement_held (syntax.Assign e sides)) (statement_held (syntax.Assign e sides) ++ []) (sym (append-nil (statement_held (syntax.Assign e sides)))) (one (ClassText None h NoDeclaration (Also (syntax.Assign e sides) NoStatement)))
-  class_body_lays (syntax.Choose i c a rest) h os p one = as_held (in_statement (syntax.Choose i c a rest)) (statement_held (syntax.Choose i c a rest)) (statement_held (syntax.Choose i c a rest) ++ []) (sym (append-nil (statement_held (syntax.Choose i c a rest)))) (one (ClassText None h NoDeclaration (Also (syntax.Choose i c a rest) NoStatement)))
-  class_body_lays (syntax.Repeat i c a) h os p one = as_held (in_statement (syntax.Repeat i c a)) (statement_held (syntax.Repeat i c a)) (statement_held (syntax.Repeat i c a) ++ []) (sym (append-nil (statement_held (syntax.Repeat i c a)))) (one (ClassText None h NoDeclaration (Also (syntax.Repeat i c a) NoStatement)))
-  class_body_lays (syntax.For i y sign j es a) h os p one = as_held (in_statement (syntax.For i y sign j es a)) (statement_held (syntax.For i y sign j es a)) (statement_held (syntax.For i y sign j es a) ++ []) (sym (append-nil (statement_held (syntax.For i y sign j es a)))) (one (ClassText None h NoDeclaration (Also (syntax.For i y sign j es a) NoStatement)))
-  class_body_lays (syntax.Inspect i object d a e rest) h os p one = as_held (in_statement (syntax.Inspect i object d a e rest)) (statement_held (syntax.Inspect i object d a e rest)) (statement_held (syntax.Inspect i object d a e rest) ++ []) (sym (append-nil (statement_held (syntax.Inspect i object d a e rest)))) (one (ClassText None h NoDeclaration (Also (syntax.Inspect i object d a e rest) NoStatement)))
-  class_body_lays (syntax.InspectWhen i object whens rest) h os p one = as_held (in_statement (syntax.InspectWhen i object whens rest)) (statement_held (syntax.InspectWhen i object whens rest)) (statement_held (syntax.InspectWhen i object whens rest) ++ []) (sym (append-nil (statement_held (syntax.InspectWhen i object whens rest)))) (one (ClassText None h NoDeclaration (Also (syntax.InspectWhen i object whens rest) NoStatement)))
-  class_body_lays (syntax.Activate i word process schedule) h os p one = absurd p
+  class_body_lays prefix (syntax.Empty i) h os p one = none
+  class_body_lays prefix (syntax.Prefixed y args b) h os p one = absurd p
+  class_body_lays prefix (syntax.Inner i) h os p one = as_held (in_statement (syntax.Inner i)) (statement_held (syntax.Inner i)) (statement_held (syntax.Inner i) ++ []) (sym (append-nil (statement_held (syntax.Inner i)))) (one (ClassText prefix h NoDeclaration (Also (syntax.Inner i) NoStatement)))
+  class_body_lays prefix (syntax.Call e) h os p one = as_held (in_statement (syntax.Call e)) (statement_held (syntax.Call e)) (statement_held (syntax.Call e) ++ []) (sym (append-nil (statement_held (syntax.Call e)))) (one (ClassText prefix h NoDeclaration (Also (syntax.Call e) NoStatement)))
+  class_body_lays prefix (syntax.Assign e sides) h os p one = as_held (in_statement (syntax.Assign e sides)) (statement_held (syntax.Assign e sides)) (statement_held (syntax.Assign e sides) ++ []) (sym (append-nil (statement_held (syntax.Assign e sides)))) (one (ClassText prefix h NoDeclaration (Also (syntax.Assign e sides) NoStatement)))
+  class_body_lays prefix (syntax.Choose i c a rest) h os p one = as_held (in_statement (syntax.Choose i c a rest)) (statement_held (syntax.Choose i c a rest)) (statement_held (syntax.Choose i c a rest) ++ []) (sym (append-nil (statement_held (syntax.Choose i c a rest)))) (one (ClassText prefix h NoDeclaration (Also (syntax.Choose i c a rest) NoStatement)))
+  class_body_lays prefix (syntax.Repeat i c a) h os p one = as_held (in_statement (syntax.Repeat i c a)) (statement_held (syntax.Repeat i c a)) (statement_held (syntax.Repeat i c a) ++ []) (sym (append-nil (statement_held (syntax.Repeat i c a)))) (one (ClassText prefix h NoDeclaration (Also (syntax.Repeat i c a) NoStatement)))
+  class_body_lays prefix (syntax.For i y sign j es a) h os p one = as_held (in_statement (syntax.For i y sign j es a)) (statement_held (syntax.For i y sign j es a)) (statement_held (syntax.For i y sign j es a) ++ []) (sym (append-nil (statement_held (syntax.For i y sign j es a)))) (one (ClassText prefix h NoDeclaration (Also (syntax.For i y sign j es a) NoStatement)))
+  class_body_lays prefix (syntax.Inspect i object d a e rest) h os p one = as_held (in_statement (syntax.Inspect i object d a e rest)) (statement_held (syntax.Inspect i object d a e rest)) (statement_held (syntax.Inspect i object d a e rest) ++ []) (sym (append-nil (statement_held (syntax.Inspect i object d a e rest)))) (one (ClassText prefix h NoDeclaration (Also (syntax.Inspect i object d a e rest) NoStatement)))
+  class_body_lays prefix (syntax.InspectWhen i object whens rest) h os p one = as_held (in_statement (syntax.InspectWhen i object whens rest)) (statement_held (syntax.InspectWhen i object whens rest)) (statement_held (syntax.InspectWhen i object whens rest) ++ []) (sym (append-nil (statement_held (syntax.InspectWhen i object whens rest)))) (one (ClassText prefix h NoDeclaration (Also (syntax.InspectWhen i object whens rest) NoStatement)))
+  class_body_lays prefix (syntax.Activate i word process schedule) h os p one = absurd p
 
   block_lays : (b : Block) (x : Text) (u : List Part) (os : List Frame) → PlainBlock b → Lays (frame x (block_used b u) ∷ os) (block_events declaring b) (in_block b) (block_held b) (frame x u ∷ os)
   block_lays (Begin i NoDeclaration ss e) x u os p =
@@ -594,10 +632,9 @@ mutual
   declarations_lay (With (DeclareProcedure result j h a e) ds) x u os p =
       both (in_declaration (DeclareProcedure result j h a e)) (in_declarations ds)
       (procedure_lays result j h a e (frame x (declarations_used ds u)) os p.0.1 (statement_lays false a (ProcedureText result h a) [] (frame x (declarations_used ds u) ∷ os) p.0.2)) (declarations_lay ds x u os p.1)
-  declarations_lay (With (DeclareClass None j h i a e) ds) x u os p =
-      both (in_declaration (DeclareClass None j h i a e)) (in_declarations ds)
-      (class_lays j h i a e (frame x (declarations_used ds u)) os p.0.1 p.0.2 (class_body_lays a h (frame x (declarations_used ds u) ∷ os) p.0.3 (λ y. statement_lays false a y [] (frame x (declarations_used ds u) ∷ os) p.0.3))) (declarations_lay ds x u os p.1)
-  declarations_lay (With (DeclareClass (Some y) j h i a e) ds) x u os p = absurd (let q : Some y ≡ None = p.0.0 in cc)
+  declarations_lay (With (DeclareClass prefix j h i a e) ds) x u os p =
+      both (in_declaration (DeclareClass prefix j h i a e)) (in_declarations ds)
+      (class_lays prefix p.0.0 j h i a e (frame x (declarations_used ds u)) os p.0.1 p.0.2 (class_body_lays prefix a h (frame x (declarations_used ds u) ∷ os) p.0.3 (λ y. statement_lays false a y [] (frame x (declarations_used ds u) ∷ os) p.0.3))) (declarations_lay ds x u os p.1)
 
 -- a plain program
 pub program_laid : (p : Program) → Plain p → Laid [] (program_events declaring p) (in_block p.block []) (program_held p.block)

@@ -1,3 +1,4 @@
+pub mod PlainNames
 pub mod Unprefixed
 pub mod Groups
 pub mod Steps
@@ -7,12 +8,15 @@ pub mod FineRuns
 pub mod Clean
 pub mod Covered
 pub mod Owned
+pub mod OwnedRuns
 pub mod CleanRuns
 pub mod Openings
 pub mod Completing
+pub mod Prefixing
 pub mod Laid
 pub mod Spots
 pub mod Depth
+pub mod ClassRows
 pub mod Tables
 pub mod Fitted
 pub mod Placing
@@ -20,8 +24,10 @@ pub mod Looking
 pub mod Enclosed
 pub mod Results
 pub mod Tokens
+pub mod Accessible
 pub mod Unconnected
 pub mod Qualified
+pub mod Chains
 pub mod Headings
 pub mod Insides
 pub mod Findings

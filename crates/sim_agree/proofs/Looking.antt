@@ -23,7 +23,6 @@ use Rattle.sim_agree.proofs.Fitted.{DotsDeclaration, DotsDeclarations, DotsEleme
 use Rattle.sim_agree.proofs.Laid.{Con, Held, Joined, Part, Whole, arms_held, arms_used, block_held, block_used, declaration_held, declarations_held, declarations_used, each_used, element_used, program_held, segment_used, side_used, statement_held, statement_used, statements_held, statements_used, text_used}
 use Rattle.sim_agree.proofs.Placing as p
 use Rattle.sim_agree.proofs.Spots.{Final}
-use Rattle.sim_agree.proofs.Tables as tables
 use Rattle.sim_agree.proofs.Tables.{program_unbroken}
 
 -- What is met, where connections get numbers from one on, and the next one after it the other or a greater one.

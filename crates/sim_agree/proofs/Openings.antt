@@ -2,12 +2,13 @@
 use Rattle.std.proofs.Common.{◌≡◌, ◌+◌, ◌⊎◌, inl, inr, ℕ, suc, arith, Bool, true, false, List, [], ◌∷◌, ◌++◌, length, map, Option, Some, None, refl, ap, ◌∙◌}
 use Rattle.std.specs.Prelude.{slice_get}
 use Rattle.sim_tree.specs.Syntax.{Also, Arms, Arrays, Begin, Block, Declaration, Declarations, DeclareClass, DeclareProcedure, Heading, Interface, NoArm, NoDeclaration, NoStatement, Prefix, Program, Statement, Statements, Variables, When, With}
+use Rattle.sim_tree.specs.declared.expr.Identifier.{Identifier}
 use Rattle.sim_tree.specs.Syntax as syntax
 use Rattle.sim_scope.specs.declared.types.BlockKind.{BlockKind}
 use Rattle.sim_scope.specs.declared.types.BlockKind.TheVariants as kind
 use Rattle.sim_scope.specs.declared.types.Position.{Position}
 use Rattle.sim_scope.specs.declared.types.Position.TheVariants.{ClassBody, ClassStatement, Inside}
-use Rattle.sim_scope.specs.Bodies.{Around, Body, OfConnection, arms_bodies, block_bodies, bodies_of, declaration_bodies, declarations_bodies, program_around, program_bodies, statement_bodies, statements_bodies}
+use Rattle.sim_scope.specs.Bodies.{Around, Body, OfConnection, arms_bodies, block_bodies, bodies_of, declaration_bodies, declarations_bodies, program_around, program_bodies, statement_bodies, statements_bodies, prefix_bodies}
 use Rattle.sim_scope.specs.Declare.{declared_by}
 use Rattle.sim_scope.specs.Laws.{Shape, outline, shape_of}
 use Rattle.sim_scope.specs.Tables.{BlockOf, deeper}
@@ -52,6 +53,9 @@ all_both (Connects i ∷ es) fs bs a b = (a.0, all_both es fs bs a.1 b)
 -- one piece behind another
 joined : (es fs : List Connecting) (bs cs : List Body) → AllBegin es bs → AllBegin fs cs → AllBegin (es ++ fs) (bs ++ cs)
 joined es fs bs cs a b = all_both es fs (bs ++ cs) (all_mapped es bs (bs ++ cs) (λ i h. begins_left i bs cs h) a) (all_mapped fs cs (bs ++ cs) (λ i h. begins_right i bs cs h) b)
+
+ahead : (es : List Connecting) (bs cs : List Body) → AllBegin es cs → AllBegin es (bs ++ cs)
+ahead es bs cs a = all_mapped es cs (bs ++ cs) (λ i h. begins_right i bs cs h) a
 
 behind : (es : List Connecting) (b : Body) (bs : List Body) → AllBegin es bs → AllBegin es (b ∷ bs)
 behind es b bs a = all_mapped es bs (b ∷ bs) (λ i h. inr h) a
@@ -135,39 +139,38 @@ mutual
   declaration_begins (DeclareProcedure result i h a e) p o next =
       let inner : Around = record { number = next; level = deeper kind.Procedure o.level } in
       nothing_behind (statement_events connections Inside a) _ (behind (statement_events connections Inside a) _ (statement_bodies inner a (next + 1)) (statement_begins false a p.2 inner (next + 1)))
-  declaration_begins (DeclareClass None i h interface a e) p o next =
-      nothing_behind (statement_events connections ClassBody a) _ (class_begins i h interface a e p.3 o next (λ inner m. statement_begins false a p.3 inner m))
-  declaration_begins (DeclareClass (Some x) i h interface a e) p o next = absurd (let q : Some x ≡ None = p.0 in cc)
+  declaration_begins (DeclareClass prefix i h interface a e) p o next =
+      nothing_behind (statement_events connections ClassBody a) _ (class_begins prefix i h interface a e p.3 o next (λ inner m. statement_begins false a p.3 inner m))
 
   -- the body of a class
-  class_begins : (i : ℕ) (h : Heading) (interface : Interface) (a : Statement) (e : ℕ) → PlainStatement a → (o : Around) (next : ℕ) → ((inner : Around) (m : ℕ) → AllBegin (statement_events connections Inside a) (statement_bodies inner a m))
-      → AllBegin (statement_events connections ClassBody a) (declaration_bodies o (DeclareClass None i h interface a e) next)
-  class_begins i h interface (syntax.Compound (Begin j ds ss k)) e p o next one =
+  class_begins : (prefix : Option Identifier) (i : ℕ) (h : Heading) (interface : Interface) (a : Statement) (e : ℕ) → PlainStatement a → (o : Around) (next : ℕ) → ((inner : Around) (m : ℕ) → AllBegin (statement_events connections Inside a) (statement_bodies inner a m))
+      → AllBegin (statement_events connections ClassBody a) (declaration_bodies o (DeclareClass prefix i h interface a e) next)
+  class_begins prefix i h interface (syntax.Compound (Begin j ds ss k)) e p o next one =
       let inner : Around = record { number = next; level = deeper kind.Class o.level } in
-      let first : List Body = declarations_bodies inner ds (next + 1 + 0) in
-      behind (declarations_events connections ds ++ statements_events connections ClassStatement ss) _ (first ++ statements_bodies inner ss (next + 1 + 0 + length first))
-      (joined (declarations_events connections ds) (statements_events connections ClassStatement ss) first (statements_bodies inner ss (next + 1 + 0 + length first)) (declarations_begin ds p.0 inner (next + 1 + 0)) (statements_begin true ss p.1 inner (next + 1 + 0 + length first)))
-  class_begins i h interface (syntax.Empty n) e p o next one = tt
-  class_begins i h interface (syntax.Inner n) e p o next one = tt
-  class_begins i h interface (syntax.Call x) e p o next one = tt
-  class_begins i h interface (syntax.Assign x sides) e p o next one = tt
-  class_begins i h interface (syntax.Choose n c x rest) e p o next one =
+      let first : List Body = declarations_bodies inner ds (next + 1 + length (prefix_bodies inner prefix (next + 1))) in
+      behind (declarations_events connections ds ++ statements_events connections ClassStatement ss) _ (prefix_bodies inner prefix (next + 1) ++ (first ++ statements_bodies inner ss (next + 1 + length (prefix_bodies inner prefix (next + 1)) + length first)))
+      (ahead (declarations_events connections ds ++ statements_events connections ClassStatement ss) (prefix_bodies inner prefix (next + 1)) (first ++ statements_bodies inner ss (next + 1 + length (prefix_bodies inner prefix (next + 1)) + length first)) (joined (declarations_events connections ds) (statements_events connections ClassStatement ss) first (statements_bodies inner ss (next + 1 + length (prefix_bodies inner prefix (next + 1)) + length first)) (declarations_begin ds p.0 inner (next + 1 + length (prefix_bodies inner prefix (next + 1)))) (statements_begin true ss p.1 inner (next + 1 + length (prefix_bodies inner prefix (next + 1)) + length first))))
+  class_begins prefix i h interface (syntax.Empty n) e p o next one = tt
+  class_begins prefix i h interface (syntax.Inner n) e p o next one = tt
+  class_begins prefix i h interface (syntax.Call x) e p o next one = tt
+  class_begins prefix i h interface (syntax.Assign x sides) e p o next one = tt
+  class_begins prefix i h interface (syntax.Choose n c x rest) e p o next one =
       let inner : Around = record { number = next; level = deeper kind.Class o.level } in
-      behind (statement_events connections Inside (syntax.Choose n c x rest)) _ (statement_bodies inner (syntax.Choose n c x rest) (next + 1 + 0)) (one inner (next + 1 + 0))
-  class_begins i h interface (syntax.Repeat n c x) e p o next one =
+      behind (statement_events connections Inside (syntax.Choose n c x rest)) _ (prefix_bodies inner prefix (next + 1) ++ statement_bodies inner (syntax.Choose n c x rest) (next + 1 + length (prefix_bodies inner prefix (next + 1)))) (ahead (statement_events connections Inside (syntax.Choose n c x rest)) (prefix_bodies inner prefix (next + 1)) (statement_bodies inner (syntax.Choose n c x rest) (next + 1 + length (prefix_bodies inner prefix (next + 1)))) (one inner (next + 1 + length (prefix_bodies inner prefix (next + 1)))))
+  class_begins prefix i h interface (syntax.Repeat n c x) e p o next one =
       let inner : Around = record { number = next; level = deeper kind.Class o.level } in
-      behind (statement_events connections Inside (syntax.Repeat n c x)) _ (statement_bodies inner (syntax.Repeat n c x) (next + 1 + 0)) (one inner (next + 1 + 0))
-  class_begins i h interface (syntax.For n y sign m es x) e p o next one =
+      behind (statement_events connections Inside (syntax.Repeat n c x)) _ (prefix_bodies inner prefix (next + 1) ++ statement_bodies inner (syntax.Repeat n c x) (next + 1 + length (prefix_bodies inner prefix (next + 1)))) (ahead (statement_events connections Inside (syntax.Repeat n c x)) (prefix_bodies inner prefix (next + 1)) (statement_bodies inner (syntax.Repeat n c x) (next + 1 + length (prefix_bodies inner prefix (next + 1)))) (one inner (next + 1 + length (prefix_bodies inner prefix (next + 1)))))
+  class_begins prefix i h interface (syntax.For n y sign m es x) e p o next one =
       let inner : Around = record { number = next; level = deeper kind.Class o.level } in
-      behind (statement_events connections Inside (syntax.For n y sign m es x)) _ (statement_bodies inner (syntax.For n y sign m es x) (next + 1 + 0)) (one inner (next + 1 + 0))
-  class_begins i h interface (syntax.Inspect n object d x m rest) e p o next one =
+      behind (statement_events connections Inside (syntax.For n y sign m es x)) _ (prefix_bodies inner prefix (next + 1) ++ statement_bodies inner (syntax.For n y sign m es x) (next + 1 + length (prefix_bodies inner prefix (next + 1)))) (ahead (statement_events connections Inside (syntax.For n y sign m es x)) (prefix_bodies inner prefix (next + 1)) (statement_bodies inner (syntax.For n y sign m es x) (next + 1 + length (prefix_bodies inner prefix (next + 1)))) (one inner (next + 1 + length (prefix_bodies inner prefix (next + 1)))))
+  class_begins prefix i h interface (syntax.Inspect n object d x m rest) e p o next one =
       let inner : Around = record { number = next; level = deeper kind.Class o.level } in
-      behind (statement_events connections Inside (syntax.Inspect n object d x m rest)) _ (statement_bodies inner (syntax.Inspect n object d x m rest) (next + 1 + 0)) (one inner (next + 1 + 0))
-  class_begins i h interface (syntax.InspectWhen n object arms rest) e p o next one =
+      behind (statement_events connections Inside (syntax.Inspect n object d x m rest)) _ (prefix_bodies inner prefix (next + 1) ++ statement_bodies inner (syntax.Inspect n object d x m rest) (next + 1 + length (prefix_bodies inner prefix (next + 1)))) (ahead (statement_events connections Inside (syntax.Inspect n object d x m rest)) (prefix_bodies inner prefix (next + 1)) (statement_bodies inner (syntax.Inspect n object d x m rest) (next + 1 + length (prefix_bodies inner prefix (next + 1)))) (one inner (next + 1 + length (prefix_bodies inner prefix (next + 1)))))
+  class_begins prefix i h interface (syntax.InspectWhen n object arms rest) e p o next one =
       let inner : Around = record { number = next; level = deeper kind.Class o.level } in
-      behind (statement_events connections Inside (syntax.InspectWhen n object arms rest)) _ (statement_bodies inner (syntax.InspectWhen n object arms rest) (next + 1 + 0)) (one inner (next + 1 + 0))
-  class_begins i h interface (syntax.Prefixed x args b) e p o next one = absurd p
-  class_begins i h interface (syntax.Activate n w process schedule) e p o next one = absurd p
+      behind (statement_events connections Inside (syntax.InspectWhen n object arms rest)) _ (prefix_bodies inner prefix (next + 1) ++ statement_bodies inner (syntax.InspectWhen n object arms rest) (next + 1 + length (prefix_bodies inner prefix (next + 1)))) (ahead (statement_events connections Inside (syntax.InspectWhen n object arms rest)) (prefix_bodies inner prefix (next + 1)) (statement_bodies inner (syntax.InspectWhen n object arms rest) (next + 1 + length (prefix_bodies inner prefix (next + 1)))) (one inner (next + 1 + length (prefix_bodies inner prefix (next + 1)))))
+  class_begins prefix i h interface (syntax.Prefixed x args b) e p o next one = absurd p
+  class_begins prefix i h interface (syntax.Activate n w process schedule) e p o next one = absurd p
 
 whole_begins : (b : Block) → PlainBlock b → AllBegin (whole_events connections b) (bodies_of None b)
 unfolding connections

@@ -7,7 +7,7 @@ use Rattle.sim_tree.specs.Named.{all_named, named}
 use Rattle.sim_tree.specs.Order.{InOrder}
 use Rattle.sim_tree.specs.Syntax.{Also, Arms, Arrayed, Arrays, Begin, Block, BoundPair, Declarations, DeclareClass, DeclareProcedure, Element, Expression, Expressions, Heading, NoArm, NoDeclaration, NoStatement, RightSide, Statement, Statements, Variables, When, With}
 use Rattle.sim_tree.specs.Syntax as syntax
-use Rattle.sim_scope.specs.Access.{around, block_at, encloser, joined}
+use Rattle.sim_scope.specs.Access.{block_at, encloser, joined}
 use Rattle.sim_scope.specs.Declare.{declared_by}
 use Rattle.sim_scope.specs.Levels.{base}
 use Rattle.sim_scope.specs.Source.{Source, block_around}
@@ -21,7 +21,7 @@ use Rattle.sim_agree.specs.Plain.{Each, Plain}
 use Rattle.sim_agree.specs.TablesOf.{TablesOf}
 use Rattle.sim_agree.proofs.Fitted.{AllConnect, ConnectsAt, DotsBounds, DotsDeclarations, DotsElement, DotsExpression, DotsExpressions, DotsSegment, DotsSide, FittedArms, FittedBlock, FittedStatement, FittedStatements, Given, TextFitted, text_fitted}
 use Rattle.sim_agree.proofs.Laid.{Con, Held, Joined, Part, Sub, Use, Whole, arms_used, block_used, bounds_used, declarations_used, each_used, element_used, expression_used, held_program, program_held, segment_used, side_used, statement_used, statements_used, text_held, text_used, used, used_held}
-use Rattle.sim_agree.proofs.Spots.{Fact, Final, Has, Here, Inner, LeftAt, here, there}
+use Rattle.sim_agree.proofs.Spots.{Fact, Final, Has, Here, LeftAt, here, there}
 use Rattle.sim_agree.proofs.Tables as tables
 use Rattle.sim_agree.proofs.Tables.{program_final, program_unbroken}
 

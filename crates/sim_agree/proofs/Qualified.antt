@@ -11,7 +11,7 @@ use Rattle.sim_scope.specs.declared.scopes.Denotation.TheVariants as denotation
 use Rattle.sim_scope.specs.declared.scopes.Qualification.{Qualification}
 use Rattle.sim_scope.specs.declared.types.Entry.{Entry}
 use Rattle.sim_scope.specs.declared.types.Entry.TheVariants as entry
-use Rattle.sim_scope.specs.Access.{block_at}
+use Rattle.sim_scope.specs.Access.{block_at, is_connection as is_connection_kind, is_kind}
 use Rattle.sim_scope.specs.Declare.{declared_by}
 use Rattle.sim_scope.specs.Found.{precedes}
 use Rattle.sim_scope.specs.Levels.{base, base_in, class_block, class_block_in, holds, is_for_prefixing, is_simulation, is_simulation_block, some_level_of, standard_in}
@@ -30,10 +30,13 @@ use Rattle.sim_meaning.specs.Attributes.{is_connection}
 use Rattle.sim_meaning.specs.Texts.{text}
 use Rattle.sim_agree.specs.Plain.{Plain}
 use Rattle.sim_agree.specs.TablesOf.{TablesOf}
-use Rattle.sim_agree.proofs.Completing.{AllReferences, Completes, Requalified, Retyped, bare_row, class_was, entry_is_class, one_more, prefixes_stay, same_rows, twice}
+use Rattle.sim_agree.proofs.Completing.{AllReferences, Completes, Requalified, Retyped, bare_row, class_was, entry_is_class, one_more, same_rows, twice}
 use Rattle.sim_agree.proofs.Groups.{OfReferences}
+use Rattle.sim_agree.proofs.Insides as ic
+use Rattle.sim_agree.proofs.Prefixing.{prefixed_is, with_blocks}
 use Rattle.sim_agree.proofs.Tables as t
 use Rattle.sim_agree.proofs.Tables.{IsClassText, all_references, class_new, program_agrees, program_clean, virtual_new}
+use Rattle.sim_agree.proofs.Accessible.{rows_stand, standing}
 use Rattle.sim_agree.proofs.Unconnected.{bound_alone}
 use Rattle.sim_agree.proofs.Unprefixed.{Extras, Unprefixed, extras_in, no_extras}
 
@@ -139,6 +142,13 @@ connections_keep (Connects i ∷ es) c =
     let q = connections_keep es (connecting c (Connects i)) in
     let p = connection_keeps c.tables (block_at c.tables i) c.next in (q.0 ∙ p.0, q.1 ∙ p.1)
 
+extras_bare : (o : Option BlockOf) → extras_in (bare_row o) ≡ extras_in o
+extras_bare None = refl
+extras_bare (Some row) = refl
+
+extras_same : (o q : Option BlockOf) → bare_row o ≡ bare_row q → extras_in o ≡ extras_in q
+extras_same o q e = sym (extras_bare o) ∙ ap extras_in e ∙ extras_bare q
+
 module _ (s : Source) (of : TablesOf s) (plain : Plain s.program) (order : InOrder s.program) where
   done : Completes (declared_by s.program).tables s.tables (IsClassText s.program)
   done = t.completed_tables s of plain order
@@ -147,28 +157,50 @@ module _ (s : Source) (of : TablesOf s) (plain : Plain s.program) (order : InOrd
   known = all_references (declared_by s.program).tables (declared_by s.program).tables.qualifications (program_clean s.program plain of.unbroken).refs
 
   -- the declarations of the complete tables are those with the classes of references
-  rows_are : SameRows (qualified (declared_by s.program).tables) s.tables
+  rows_are : SameRows (qualified (with_blocks (declared_by s.program).tables (prefixed (declared_by s.program).tables).blocks)) s.tables
   unfolding completed connected
   rows_are =
-      subst (λ z. SameRows (qualified z) s.tables) (prefixes_stay (declared_by s.program).tables (program_agrees s.program plain).fine.bare)
+      subst (λ z. SameRows (qualified z) s.tables) (prefixed_is (declared_by s.program).tables (t.P s of plain order))
       (subst (λ z. SameRows (qualified (prefixed (declared_by s.program).tables)) z) (sym of.tables)
       (connections_keep (program_events connections s.program) (record { tables = qualified (prefixed (declared_by s.program).tables); next = None })))
 
   same_qualifications : s.tables.qualifications ≡ (declared_by s.program).tables.qualifications
   unfolding qualified
-  same_qualifications = rows_are.1 ∙ qualifications_keep (declared_by s.program).tables (declared_by s.program).tables.qualifications
+  same_qualifications = rows_are.1 ∙ qualifications_keep (with_blocks (declared_by s.program).tables (prefixed (declared_by s.program).tables).blocks) (declared_by s.program).tables.qualifications
 
   -- ---- tables in which some references have their classes
 
-  module _ (T : Tables) (r : Requalified (declared_by s.program).tables T) where
+  module _ (T : Tables) (r : Requalified (with_blocks (declared_by s.program).tables (prefixed (declared_by s.program).tables).blocks) T) where
     early : Unprefixed T
     early = record {
-      blocks = λ k. ap (λ z. extras_in (slice_get z k)) r.blocks ∙ (program_agrees s.program plain).fine.bare.blocks k;
+      blocks = λ k. ap (λ z. extras_in (slice_get z k)) r.blocks ∙ extras_same (slice_get (prefixed (declared_by s.program).tables).blocks k) (slice_get (declared_by s.program).tables.blocks k) ((t.P s of plain order).blocks k) ∙ (program_agrees s.program plain).fine.bare.blocks k;
       virtuals = λ d row at. (let w = r.rows.was d row at in virtual_new w.0.entry row.entry w.2.entry ((program_agrees s.program plain).fine.bare.virtuals d w.0 w.1));
     }
 
-    unbased : (k : ℕ) → base_in (slice_get T.blocks k) ≡ None
-    unbased k = ap (λ z. base_in (slice_get z k)) r.blocks ∙ (program_agrees s.program plain).fine.baseless k
+    base_early : (k : ℕ) → base T k ≡ base (prefixed (declared_by s.program).tables) k
+    unfolding base
+    base_early k = ap (λ z. base_in (slice_get z k)) r.blocks
+
+    text_other : (k : ℕ) → is_kind is_connection_kind s.tables k ≡ false → is_connection (text s k) ≡ false
+    text_other k e = sym (ic.connections s of plain order k) ∙ e
+
+    own_early : (k : ℕ) → is_kind is_connection_kind s.tables k ≡ false → base T k ≡ base s.tables k
+    own_early k e = base_early k ∙ sym (t.own_base s of plain order k (text_other k e))
+
+    none_early : (k : ℕ) → is_kind is_connection_kind s.tables k ≡ true → base T k ≡ None
+    none_early k e = base_early k ∙ go (base (prefixed (declared_by s.program).tables) k) refl
+      where
+        go : (o : Option ℕ) → base (prefixed (declared_by s.program).tables) k ≡ o → o ≡ None
+        go None is = refl
+        go (Some b) is =
+            absurd (let p = (t.P s of plain order).bases k b is in
+            let q : true ≡ false = sym e ∙ ic.connections s of plain order k ∙ t.class_other s of plain order k p.row p.at p.kind in cc)
+
+    next_early : (k c : ℕ) → base s.tables k ≡ Some c → is_kind is_connection_kind s.tables c ≡ false
+    next_early k c e = ic.connections s of plain order c ∙ ap is_connection (t.connects s of plain order k c e).4
+
+    stand_early : (d : ℕ) → standing (slice_get T.declarations d) ≡ standing (slice_get s.tables.declarations d)
+    stand_early d = rows_stand (declared_by s.program).tables.declarations T.declarations r.rows d ∙ sym (rows_stand (declared_by s.program).tables.declarations s.tables.declarations done.rows d)
 
     -- a class was a class from the start
     class_early : (d : DeclNo) (n : ℕ) → class_block s.tables d ≡ Some n → class_block T d ≡ Some n
@@ -185,29 +217,32 @@ module _ (s : Source) (of : TablesOf s) (plain : Plain s.program) (order : InOrd
             ap (λ o. class_block_in (elim o [ None ↦ None | Some row ↦ Some row.entry ])) u.1 ∙ ap (λ e. class_block_in (Some e)) now
 
     none_simulates : (n k : ℕ) → some_level_of T n (is_simulation_block T) k ≡ false
-    unfolding some_level_of is_simulation_block base
+    unfolding some_level_of is_simulation_block
     none_simulates zero k = refl
     none_simulates (suc n) k =
-        ap (λ z. is_simulation (standard_in (slice_get T.blocks k)) || holds (λ b. some_level_of T n (is_simulation_block T) b) z) (unbased k)
-        ∙ ap (λ z. z || false) (one (slice_get T.blocks k) (early.blocks k))
+        ap (λ z. z || holds (λ b. some_level_of T n (is_simulation_block T) b) (base T k)) (one (slice_get T.blocks k) (early.blocks k)) ∙ further (base T k) (λ b. none_simulates n b)
       where
+        further : (o : Option ℕ) → ((b : ℕ) → some_level_of T n (is_simulation_block T) b ≡ false) → holds (λ b. some_level_of T n (is_simulation_block T) b) o ≡ false
+        further None h = refl
+        further (Some b) h = h b
+
         one : (o : Option BlockOf) → extras_in o ≡ no_extras → is_simulation (standard_in o) ≡ false
         one None e = refl
         one (Some row) e = let none : row.standard ≡ None = ap (λ (z : Extras). z.standard) e in ap is_simulation none
 
     -- what is found through no connection in the complete tables is found in these
-    written_early : (x : Qualification) (class : DeclNo) → Written s.tables x class → ((u : ℕ) → found_in s.tables x.class.token.0 x.class.name ≡ Some u → base s.tables u ≡ None) → class_written T x ≡ Some class
+    written_early : (x : Qualification) (class : DeclNo) → Written s.tables x class → ((u : ℕ) → found_in s.tables x.class.token.0 x.class.name ≡ Some u → is_kind is_connection_kind s.tables u ≡ false) → class_written T x ≡ Some class
     unfolding class_written is_for_prefixing
     written_early x class w alone =
         ap (class_denoted T) (bound (length T.blocks) refl) ∙ ap (class_with_block T class) (class_early class w.block w.declares) ∙ ap (class_unless class) (none_simulates (length T.blocks) w.block)
       where
         size : length s.tables.blocks ≡ length T.blocks
-        size = done.size ∙ ap length (sym r.blocks)
+        size = done.size ∙ sym (t.P s of plain order).size ∙ ap length (sym r.blocks)
 
         bound : (n : ℕ) → length T.blocks ≡ n → binding T x.class.token.0 x.class.name ≡ Some (denotation.Declared class)
         bound zero e = absurd (let lt : 0 < length s.tables.blocks = t.some_block s of plain order in omega (arith, lt, size, e))
         bound (suc more) e =
-            bound_alone T s.tables early (t.unprefixed s of plain order) (λ k. done.blocks k ∙ ap (λ z. bare_row (slice_get z k)) (sym r.blocks)) size (done.places ∙ sym r.places) unbased more e x.class.token.0 x.class.name class w.binds alone
+            bound_alone T s.tables early (t.unprefixed s of plain order) (λ k. done.blocks k ∙ sym ((t.P s of plain order).blocks k) ∙ ap (λ z. bare_row (slice_get z k)) (sym r.blocks)) size (done.places ∙ sym r.places) own_early none_early next_early stand_early more e x.class.token.0 x.class.name class w.binds alone
 
   -- ---- a reference has its class
 
@@ -234,7 +269,7 @@ module _ (s : Source) (of : TablesOf s) (plain : Plain s.program) (order : InOrd
   abbrev Known : Qualification → Type 0
   Known q = (row : Declaration) × (slice_get (declared_by s.program).tables.declarations q.declaration.0 ≡ Some row) × OfReferences row.entry
 
-  module _ (T : Tables) (r : Requalified (declared_by s.program).tables T) (q : Qualification) (knows : Known q) (class : DeclNo) (n : ℕ) (cl : class_block s.tables class ≡ Some n) (written : class_written T q ≡ Some class) (given : Gives q.declaration.0 class) where
+  module _ (T : Tables) (r : Requalified (with_blocks (declared_by s.program).tables (prefixed (declared_by s.program).tables).blocks) T) (q : Qualification) (knows : Known q) (class : DeclNo) (n : ℕ) (cl : class_block s.tables class ≡ Some n) (written : class_written T q ≡ Some class) (given : Gives q.declaration.0 class) where
     now : (new : Declaration) × (slice_get T.declarations q.declaration.0 ≡ Some new) × Retyped knows.0 new
     now = r.rows.stays q.declaration.0 knows.0 knows.1
 
@@ -295,15 +330,15 @@ module _ (s : Source) (of : TablesOf s) (plain : Plain s.program) (order : InOrd
     pub block : ℕ
     pub declares : class_block s.tables class ≡ Some block
     pub given : Gives x.declaration.0 class
-    pub found : (T : Tables) → Requalified (declared_by s.program).tables T → class_written T x ≡ Some class
+    pub found : (T : Tables) → Requalified (with_blocks (declared_by s.program).tables (prefixed (declared_by s.program).tables).blocks) T → class_written T x ≡ Some class
 
-  all_set : (qs : List Qualification) (T : Tables) → Requalified (declared_by s.program).tables T → AllReferences (declared_by s.program).tables qs → ((i : ℕ) (x : Qualification) → slice_get qs i ≡ Some x → Finds x)
+  all_set : (qs : List Qualification) (T : Tables) → Requalified (with_blocks (declared_by s.program).tables (prefixed (declared_by s.program).tables).blocks) T → AllReferences (declared_by s.program).tables qs → ((i : ℕ) (x : Qualification) → slice_get qs i ≡ Some x → Finds x)
       → ((m : ℕ) → IsSet T m → IsSet (run with_qualification T qs) m) × ((i : ℕ) (x : Qualification) → slice_get qs i ≡ Some x → IsSet (run with_qualification T qs) x.declaration.0)
   unfolding run
   all_set [] T r a f = ((λ m i. i), λ i x at. absurd (cc))
   all_set (q ∷ qs) T r a f =
       let h = f 0 q refl in
-      let rest = all_set qs (with_qualification T q) (one_more (declared_by s.program).tables T r q a.0) a.1 (λ i x at. f (suc i) x at) in
+      let rest = all_set qs (with_qualification T q) (one_more (with_blocks (declared_by s.program).tables (prefixed (declared_by s.program).tables).blocks) T r q a.0) a.1 (λ i x at. f (suc i) x at) in
       ((λ m i. rest.0 m (set_stays T r q a.0 h.class h.block h.declares (h.found T r) h.given m i)), λ i x at. go rest.0 rest.1 h i x at)
     where
       go : ((m : ℕ) → IsSet (with_qualification T q) m → IsSet (run with_qualification (with_qualification T q) qs) m) → ((i : ℕ) (x : Qualification) → slice_get qs i ≡ Some x → IsSet (run with_qualification (with_qualification T q) qs) x.declaration.0)
@@ -332,13 +367,13 @@ module _ (s : Source) (of : TablesOf s) (plain : Plain s.program) (order : InOrd
           block = w.block;
           declares = w.declares;
           given = record { place = i; qualification = x; at = at; of_row = refl; written = c.1 };
-          found = λ T r. written_early T r x c.0 w (λ u e. t.no_base s of plain order u (outside x.class.token.0 u x.class.name c.0 w.block w.binds (class_entry c.0 w.block w.declares) e));
+          found = λ T r. written_early T r x c.0 w (λ u e. ic.connections s of plain order u ∙ outside x.class.token.0 u x.class.name c.0 w.block w.binds (class_entry c.0 w.block w.declares) e);
         }
 
     pub set_there : (i : ℕ) (x : Qualification) → slice_get (declared_by s.program).tables.qualifications i ≡ Some x → IsSet s.tables x.declaration.0
     unfolding qualified
     set_there i x at =
-        let D0 : Tables = (declared_by s.program).tables in
+        let D0 : Tables = (with_blocks (declared_by s.program).tables (prefixed (declared_by s.program).tables).blocks) in
         let start : Requalified D0 D0 = record { blocks = refl; places = refl; rows = same_rows D0.declarations } in
         let j : IsSet (run with_qualification D0 D0.qualifications) x.declaration.0 = (all_set D0.qualifications D0 start known finds).1 i x at in
         record { row = j.row; at = ap (λ z. slice_get z x.declaration.0) rows_are.0 ∙ j.at; old = j.old; was = j.was; refs = j.refs; class = j.class; is = j.is; block = j.block; declares = j.declares; given = j.given }

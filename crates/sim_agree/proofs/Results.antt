@@ -70,7 +70,7 @@ module _ (s : Source) (of : TablesOf s) (plain : Plain s.program) (order : InOrd
   pub result_written : (k : ℕ) (result : Option TypeName) (h : Heading) (a : Statement) → text s k ≡ Some (ProcedureText result h a) → ResultWritten result (result_holds s k)
   unfolding text result_of
   result_written k result h a at =
-      let q = program_owned s.program plain of.unbroken k result h a at in
+      let q = program_owned s.program plain of.unbroken k (ProcedureText result h a) at in
       let d : DeclNo = q.0 in
       let new = (tables.completed_tables s of plain order).rows.stays d.0 q.1 q.3 in
       let like : Alike (entry.Procedure (result_named result) k) new.0.entry =

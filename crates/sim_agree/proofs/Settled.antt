@@ -11,21 +11,22 @@ use Rattle.sim_scope.specs.declared.standard.StandardName.{StandardName}
 use Rattle.sim_scope.specs.declared.standard.StandardName.TheVariants as standard
 use Rattle.sim_scope.specs.declared.types.Entry.{Entry}
 use Rattle.sim_scope.specs.declared.types.Entry.TheVariants as entry
-use Rattle.sim_scope.specs.declared.types.Formal.{Formal}
 use Rattle.sim_scope.specs.declared.types.SimType.{SimType}
 use Rattle.sim_scope.specs.declared.types.SimType.TheVariants as t
 use Rattle.sim_scope.specs.declared.types.StandardPrefix.TheVariants as prefix
-use Rattle.sim_scope.specs.Access.{around as around_in, block_at, encloser, holds_at, joined, kind_in, some_around, some_around_of}
+use Rattle.sim_scope.specs.Access.{around as around_in, block_at, encloser, holds_at, joined, kind_in, some_around, some_around_of, is_connection, is_kind}
 use Rattle.sim_scope.specs.Along.{first_along, from_next}
 use Rattle.sim_scope.specs.Calls.{attribute_in, detach_or_none}
 use Rattle.sim_scope.specs.Levels.{base, base_in, both_blocks, class_block, class_block_in, has_classes, has_level, has_standard, holds, holds_class, holds_class_in, is_for_prefixing, is_in_chain, is_simulation, is_simulation_block, is_standard, level_beyond, on_one_chain, owner_in, owner_of_level, shared_class, shared_level_of, shared_of, some_level_of, standard_in}
 use Rattle.sim_scope.specs.Operators.{common_type, misfit_of, reference_to}
 use Rattle.sim_scope.specs.References.{block_of_class, is_this, level_is, this_block, this_of}
-use Rattle.sim_scope.specs.Scopes.{beyond, binding, block_in, class_formal, class_formals, class_formals_of, declaration_from, declared_in, declared_or_standard, detach_in, ends_search, entry_in, entry_of, formal_declared, formal_in, formal_of, formals_at, formals_beyond, formals_in, formals_of, found_in, if_found, is_detach, is_passed_over, is_shown, level_shows, lookup, outward, represented, searched, shown, shown_of, shows_detach, standard_at}
+use Rattle.sim_scope.specs.Scopes.{beyond, binding, block_in, class_formal, class_formals, class_formals_of, declaration_from, declared_or_standard, detach_in, ends_search, entry_in, entry_of, formal_declared, formal_in, formal_of, formals_at, formals_beyond, formals_in, formals_of, found_in, if_found, is_detach, is_passed_over, is_shown, level_shows, outward, represented, searched, shown, shown_of, shows_detach, standard_at}
 use Rattle.sim_scope.specs.Standard.{standard_name}
 use Rattle.sim_scope.specs.Tables.{Tables}
+use Rattle.sim_agree.proofs.Completing.{bare_row}
 use Rattle.sim_agree.proofs.Unprefixed as u
 use Rattle.sim_agree.proofs.Unprefixed.{Unprefixed}
+use Rattle.sim_agree.proofs.Accessible.{shows_same, standing}
 
 -- The same block: also what it connects.
 abbrev pub Settled : Tables → Tables → ℕ → Type 0
@@ -37,6 +38,8 @@ pub record Alike (T C : Tables) (Here : ℕ → Type 0) : Type 0 where
   pub places : T.places ≡ C.places
   pub declarations : T.declarations ≡ C.declarations
   pub kinds : (k : ℕ) → kind_in (slice_get T.blocks k) ≡ kind_in (slice_get C.blocks k)
+  pub rows : (k : ℕ) → bare_row (slice_get T.blocks k) ≡ bare_row (slice_get C.blocks k)
+  pub solid : (k : ℕ) → is_kind is_connection C k ≡ false → Settled T C k
   pub here : (k : ℕ) → Here k → Settled T C k
   pub outward : (k j : ℕ) → Here k → encloser T k ≡ Some j → Here j
   pub levels : (k j : ℕ) → Settled T C k → base T k ≡ Some j → Settled T C j
@@ -219,18 +222,14 @@ module _ (T C : Tables) (Here : ℕ → Type 0) (a : Alike T C Here) where
 
   -- ---- what a block shows
 
-  lookup_same : (k : ℕ) (name : List ℕ) → Settled T C k → lookup T k name ≡ lookup C k name
-  unfolding lookup
-  lookup_same k name e = ap (λ o. declared_in o name) e
-
-  level_shows_same : (from : Option ℕ) (k : ℕ) (name : List ℕ) → Settled T C k → level_shows T from k name ≡ level_shows C from k name
-  level_shows_same from k name e = u.shows T a.first from k name ∙ lookup_same k name e ∙ sym (u.shows C a.last from k name)
+  level_shows_same : (from : Option ℕ) (k : ℕ) (name : List ℕ) → level_shows T from k name ≡ level_shows C from k name
+  level_shows_same from k name = shows_same T C (Settled T C) a.rows a.size a.places (λ d. ap (λ (ds : List Declaration). standing (slice_get ds d)) a.declarations) a.solid base_same a.levels a.first a.last from k name
 
   shown_of_same : (n : ℕ) (from : Option ℕ) (k : ℕ) (name : List ℕ) → Settled T C k → shown_of T n from k name ≡ shown_of C n from k name
   unfolding shown_of
   shown_of_same zero from k name e = refl
   shown_of_same (suc n) from k name e =
-      ap (λ z. option_or z (beyond (λ b. shown_of T n from b name) (base T k))) (level_shows_same from k name e)
+      ap (λ z. option_or z (beyond (λ b. shown_of T n from b name) (base T k))) (level_shows_same from k name)
       ∙ ap (λ z. option_or (level_shows C from k name) z) (go (base T k) refl (λ j f. shown_of_same n from j name f) ∙ ap (λ z. beyond (λ b. shown_of C n from b name) z) (base_same k e))
     where
       go : (o : Option ℕ) → base T k ≡ o → ((j : ℕ) → Settled T C j → shown_of T n from j name ≡ shown_of C n from j name) → beyond (λ b. shown_of T n from b name) o ≡ beyond (λ b. shown_of C n from b name) o

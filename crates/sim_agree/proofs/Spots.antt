@@ -27,10 +27,10 @@ use Rattle.sim_scope.specs.Tables.{BlockOf}
 use Rattle.sim_scope.proofs.Kept.{kept_more, kept_set, more_here, more_other, set_here, set_other}
 use Rattle.sim_meaning.specs.Texts.{BlockText, ClassText, ProcedureText, Text}
 use Rattle.sim_tree.specs.Order.{Ascends, Spot}
-use Rattle.sim_agree.proofs.Laid.{Con, Frame, Held, Joined, Laid, Part, Sub, Use, Whole, block, breaks_rule, closes, connects, declares, declares_class, frame, headed, inner_mark, leaves, moded, nothing, parameter, passes, procedure, program, specified, text_held, used_held, uses}
-use Rattle.sim_agree.proofs.Steps.{AllEven, Changed, Declared, Fixed, Nothing, Step, class_step, declared_step, fixed, headed_step, inner_step, last_cases, met, moded_step, own_unmatched, parameter_step, procedure_unmatched, quals_step, rule_step, specified_met}
+use Rattle.sim_agree.proofs.Laid.{Con, Frame, Held, Joined, Laid, Part, Sub, Use, Whole, block, breaks_rule, closes, connects, declares, declares_class, frame, headed, inner_mark, leaves, moded, nothing, parameter, passes, procedure, program, specified, text_held, used_held, uses, Prefs, prefixed, unprefixed, text_used, guarded}
+use Rattle.sim_agree.proofs.Steps.{AllEven, Changed, Declared, Fixed, Nothing, Step, class_step, declared_step, fixed, headed_step, inner_step, last_cases, met, moded_step, own_unmatched, parameter_step, procedure_unmatched, quals_step, rule_step, specified_met, prefix_step, guards_step}
 use Rattle.sim_agree.proofs.Unprefixed.{Unprefixed, extras_in, no_extras}
-use Rattle.sim_agree.proofs.Fine.{same_around}
+use Rattle.sim_agree.proofs.Fine.{same_around, fresh}
 use Rattle.sim_agree.proofs.FineRuns.{run_both}
 use Rattle.sim_agree.proofs.Groups.{AreReferences, OfReferences}
 
@@ -518,6 +518,28 @@ named_laid b c x e n ts o os from s le f =
 quiet_laid : (b c : BuildingOf) (ts : List Held) (os : List Frame) (from : ℕ) → Step b c Nothing → Lay b ts os from → Lay c ts os from
 quiet_laid b c ts os from s f = step_laid b c Nothing s ts os from from (let z : from ≤ from = omega arith in z) (λ d row q. absurd q) f
 
+-- the block that begins
+opened_class : (b : BuildingOf) (text first n : ℕ) (row : BlockOf) → (opened b kind.Class text first).current ≡ Some n → slice_get (opened b kind.Class text first).tables.blocks n ≡ Some row → row.kind ≡ kind.Class
+opened_class b text first n row = go (nat_lt most_levels (level_in kind.Class (block_around b.tables b.current)))
+  where
+    at_end : Some (length b.tables.blocks) ≡ Some n → slice_get (b.tables.blocks ++ fresh b kind.Class first ∷ []) n ≡ Some row → row.kind ≡ kind.Class
+    at_end cur at =
+        let same : length b.tables.blocks ≡ n = some_same (length b.tables.blocks) n cur in
+        let one : fresh b kind.Class first ≡ row = some_same (fresh b kind.Class first) row (sym (more_here b.tables.blocks (fresh b kind.Class first)) ∙ subst (λ z. slice_get (b.tables.blocks ++ fresh b kind.Class first ∷ []) z ≡ Some row) (sym same) at) in
+        sym (ap (λ (z : BlockOf). z.kind) one)
+
+    made : BuildingOf
+    made = record b { tables = record b.tables { blocks = b.tables.blocks ++ fresh b kind.Class first ∷ []; places = (placed b.tables b.current first).places }; current = Some (length b.tables.blocks) }
+
+    go : (c : Bool) → (broken_if c made text r.TooManyLevels).current ≡ Some n → slice_get (broken_if c made text r.TooManyLevels).tables.blocks n ≡ Some row → row.kind ≡ kind.Class
+    go true cur at = at_end cur at
+    go false cur at = at_end cur at
+
+prefs_laid : (b : BuildingOf) (prefs : List Mark) (ts : List Held) (os : List Frame) (from : ℕ) → Prefs prefs → (n : ℕ) → b.current ≡ Some n → ((row : BlockOf) → slice_get b.tables.blocks n ≡ Some row → row.kind ≡ kind.Class) → Lay b ts os from → Lay (run marked b prefs) ts os from
+unfolding run marked
+prefs_laid b [] ts os from unprefixed n cur class l = l
+prefs_laid b ms ts os from (prefixed y p) n cur class l = quiet_laid b _ ts os from (prefix_step b y n cur p class) l
+
 pub run_laid : {os : List Frame} {ms : List Mark} {l : List Spot} {xs : List Held} (b : BuildingOf) (ts : List Held) (from : ℕ) → Laid os ms l xs → Ascends from l → Lay b ts os from → Final (run marked b ms) (ts ++ xs)
 unfolding run marked
 run_laid {os = os} b ts from (nothing e) a f = record { to = from; laid = subst (λ z. Lay b z [] from) (sym (append-nil ts)) (subst (λ z. Lay b ts z from) e f) }
@@ -544,6 +566,7 @@ run_laid {os = os} b ts from (specified {ms = ms} {hs = xs} quals x k ty p q g) 
     (run_laid (run marked c quals) ts from g a (quiet_laid b (run marked c quals) ts os from (quals_step b c Nothing (AreReferences ty) quals q (specified_met b x.token k ty (found_in b.tables b.current x.name) p)) f))
 run_laid {os = os} b ts from (headed x g) a f = run_laid _ ts from g a (quiet_laid b _ ts os from (headed_step b x.token (unspecified_at b.tables (found_in b.tables b.current x.name))) f)
 run_laid {os = os} b ts from (inner_mark token g) a f = run_laid _ ts from g a (quiet_laid b _ ts os from (inner_step b token b.current refl) f)
+run_laid {os = os} b ts from (guarded hides keeps y g) a f = run_laid _ ts from g a (quiet_laid b _ ts os from (guards_step b hides keeps y b.current refl) f)
 run_laid {os = os} b ts from (breaks_rule token rule g) a f = run_laid _ ts from g a (quiet_laid b _ ts os from (rule_step b token rule) f)
 run_laid b ts from (program {ms = ms} {hs = xs} text i ds ss g) a f =
     let x : Held = Whole (BlockText i ds ss) in
@@ -570,15 +593,18 @@ run_laid b ts from (procedure {o = o} {os = os} {ms = ms} {hs = xs} text quals r
     (opened_laid c kind.Procedure text i ts x (o ∷ os) (o ∷ os) from (i + 1) tt a.0 (let z : i + 1 ≤ i + 1 = omega arith in z) k k.stack (pop_none c x i (o ∷ os))) in
     subst (λ z. Final z (ts ++ (x ∷ xs))) (sym (run_both c0 quals (Opens kind.Procedure text i ∷ ms)))
     (record { to = p.to; laid = subst (λ z. Lay (run marked (opened c kind.Procedure text i) ms) z [] p.to) (append_assoc ts (x ∷ []) xs) p.laid })
-run_laid b ts from (declares_class {o = o} {os = os} {ms = ms} {hs = xs} text h ds ss g) a f =
-    let x : Held = Whole (ClassText None h ds ss) in
+run_laid b ts from (declares_class {o = o} {os = os} {ms = ms} {hs = xs} text prefs prefix h ds ss w g) a f =
+    let x : Held = Whole (ClassText prefix h ds ss) in
     let n : ℕ = f.stack.0 in
     let i : ℕ = h.name.token.0 in
     let e : Entry = entry.Class (length b.tables.blocks) in
-    let c : BuildingOf = changed (declared b h.name (entry.Class (length b.tables.blocks))) holding_class b.current in
-    let k = named_laid b c h.name e n ts o os from (class_step b h.name (length b.tables.blocks) n f.stack.1) a.0 f in
-    let p = run_laid (opened c kind.Class text i) (ts ++ x ∷ []) (i + 1) g a.1
-    (opened_laid c kind.Class text i ts x (o ∷ os) (o ∷ os) from (i + 1) tt a.0 (let z : i + 1 ≤ i + 1 = omega arith in z) k k.stack (pop_none c x i (o ∷ os))) in
-    record { to = p.to; laid = subst (λ z. Lay (run marked (opened c kind.Class text i) ms) z [] p.to) (append_assoc ts (x ∷ []) xs) p.laid }
+    let c0 : BuildingOf = changed (declared b h.name (entry.Class (length b.tables.blocks))) holding_class b.current in
+    let c : BuildingOf = opened c0 kind.Class text i in
+    let k = named_laid b c0 h.name e n ts o os from (class_step b h.name (length b.tables.blocks) n f.stack.1) a.0 f in
+    let l = opened_laid c0 kind.Class text i ts x (o ∷ os) (o ∷ os) from (i + 1) tt a.0 (let z : i + 1 ≤ i + 1 = omega arith in z) k k.stack (pop_none c0 x i (o ∷ os)) in
+    let p = run_laid (run marked c prefs) (ts ++ x ∷ []) (i + 1) g a.1
+    (prefs_laid c prefs (ts ++ x ∷ []) (frame (ClassText prefix h ds ss) (text_used (ClassText prefix h ds ss)) ∷ o ∷ os) (i + 1) w l.stack.0 l.stack.1 (λ row at. opened_class c0 text i l.stack.0 row l.stack.1 at) l) in
+    subst (λ z. Final z (ts ++ (x ∷ xs))) (sym (run_both c prefs ms))
+    (record { to = p.to; laid = subst (λ z. Lay (run marked (run marked c prefs) ms) z [] p.to) (append_assoc ts (x ∷ []) xs) p.laid })
 run_laid b ts from (closes {os = os} x end g) a f =
     let row = row_of_text b ts (frame x [] ∷ os) from f f.stack.0 f.stack.2.0 f.stack.2.1 in run_laid (closed b end b.current) ts end g a.1 (closed_laid b end ts x os from a.0 f row.0 row.1)

@@ -14,6 +14,7 @@ use Rattle.sim_base.specs.declared.rule.Rule.TheVariants as r
 use Rattle.sim_tree.specs.declared.expr.Identifier.{Identifier}
 use Rattle.sim_scope.specs.declared.scopes.Declaration.{Declaration}
 use Rattle.sim_scope.specs.declared.types.BlockKind.{BlockKind}
+use Rattle.sim_scope.specs.declared.types.BlockKind.TheVariants as kind
 use Rattle.sim_scope.specs.declared.types.Entry.{Entry}
 use Rattle.sim_scope.specs.declared.types.Entry.TheVariants as entry
 use Rattle.sim_scope.specs.declared.types.FormalKind.{FormalKind}
@@ -22,7 +23,8 @@ use Rattle.sim_scope.specs.declared.types.Mode.{Mode}
 use Rattle.sim_scope.specs.declared.types.Mode.TheVariants as mode
 use Rattle.sim_scope.specs.declared.types.SimType.{SimType}
 use Rattle.sim_scope.specs.declared.types.WrittenMode.{WrittenMode}
-use Rattle.sim_scope.specs.Building.{BuildingOf, Mark, broken, broken_if, changed, changed_row, counted, counted_in, declared, declared_again, declared_at, declared_inside, declared_new, declared_twice, default_mode, entered, formal, headed, holding_class, in_class, inner, inner_at, inner_in, is_match, is_procedure, is_simple, matched, marked, mode_allowed, moded, moded_as, parameter, qualified, row_of, specified, specified_as, token_in, unspecified_in, with_entry, with_mode, with_name}
+use Rattle.sim_scope.specs.Building.{BuildingOf, Mark, broken, broken_if, changed, changed_row, counted, counted_in, declared, declared_again, declared_at, declared_inside, declared_new, declared_twice, default_mode, entered, formal, headed, holding_class, in_class, inner, inner_at, inner_in, is_class, is_match, is_procedure, is_simple, marked, matched, mode_allowed, moded, moded_as, parameter, prefixed_by, qualified, row_of, specified, specified_as, token_in, unspecified_in, with_entry, with_mode, with_name, guards, guards_at, protecting}
+use Rattle.sim_scope.specs.ClassNames.{is_name_of_classes}
 use Rattle.sim_scope.specs.Runs.{run}
 use Rattle.sim_scope.specs.Scopes.{declared_in, entry_in, entry_of, is_virtual, numbered}
 use Rattle.sim_scope.specs.Tables.{BlockOf, Tables}
@@ -30,7 +32,7 @@ use Rattle.sim_scope.proofs.Kept.{kept_set, more_here, more_other, set_here, set
 use Rattle.sim_meaning.specs.Entries.{numbers_in}
 use Rattle.sim_sound.specs.Held.{Among, first, later}
 use Rattle.sim_agree.proofs.Groups.{OwnEntry, PlainFormal, Quals, qualifies, unqualified}
-use Rattle.sim_agree.proofs.Unprefixed.{NoVirtuals, Unprefixed, extras_in}
+use Rattle.sim_agree.proofs.Unprefixed.{Extras, NoExtras, NoVirtuals, Unprefixed, extras_in, is_wrong, no_extras}
 
 -- ---- lists of numbers
 
@@ -621,9 +623,10 @@ quals_step b c New R quals (unqualified free) h = h
 quals_step b c New R quals (qualifies x r) h = qualified_step b c New x c.latest h
 
 -- a row of a block is replaced by one that declares the same
-pub row_step : (b c : BuildingOf) (New : ℕ → Declaration → Type 0) (n : ℕ) (row new : BlockOf) → b.current ≡ Some n → slice_get c.tables.blocks n ≡ Some row → fixed (Some new) ≡ fixed (Some row) → new.numbers ≡ row.numbers → new.names ≡ row.names → extras_in (Some new) ≡ extras_in (Some row)
+bare_row_step : (b c : BuildingOf) (New : ℕ → Declaration → Type 0) (n : ℕ) (row new : BlockOf) → b.current ≡ Some n → slice_get c.tables.blocks n ≡ Some row → fixed (Some new) ≡ fixed (Some row) → new.numbers ≡ row.numbers → new.names ≡ row.names
+    → (extras_in (Some row) ≡ no_extras → extras_in (Some new) ≡ no_extras)
     → Step b c New → Step b (record c { tables = record c.tables { blocks = slice_set c.tables.blocks n new } }) New
-row_step b c New n row new cur at alike numbers names extras h = record {
+bare_row_step b c New n row new cur at alike numbers names extras h = record {
   current = h.current;
   size = length-set bs n new ∙ h.size;
   fixes = λ j. kept_set fixed bs n row new at alike j ∙ h.fixes j;
@@ -636,11 +639,17 @@ row_step b c New n row new cur at alike numbers names extras h = record {
   evens = λ a j. even j (nat_eq n j) refl (h.evens a j);
   looks = λ j name d is. kept_set (λ o. declared_in o name) bs n row new at (named name) j ∙ h.looks j name d is;
   stays = h.stays;
-  bare = λ w. let v = h.bare w in record { blocks = λ j. kept_set extras_in bs n row new at extras j ∙ v.blocks j; virtuals = v.virtuals };
+  bare = λ w. let v = h.bare w in record { blocks = λ j. bare_there v.blocks j (nat_eq n j) refl; virtuals = v.virtuals };
 }
   where
     bs : List BlockOf
     bs = c.tables.blocks
+
+    bare_there : NoExtras bs → (j : ℕ) (a : Bool) → nat_eq n j ≡ a → extras_in (slice_get (slice_set bs n new) j) ≡ no_extras
+    bare_there w j true is =
+        let same : n ≡ j = grind (arith, nat_tests) in
+        subst (λ z. extras_in (slice_get (slice_set bs n new) z) ≡ no_extras) same (ap extras_in (set_here bs n row new at) ∙ extras (sym (ap extras_in at) ∙ w n))
+    bare_there w j false is = ap extras_in (set_other bs n j new is) ∙ w j
 
     differ : (j : ℕ) → (b.current ≡ Some j → ⊥) → (a : Bool) → nat_eq n j ≡ a → nat_eq n j ≡ false
     differ j q true is = absurd (q (cur ∙ ap Some (let P : n ≡ j = grind (arith, nat_tests) in P)))
@@ -660,6 +669,10 @@ row_step b c New n row new cur at alike numbers names extras h = record {
         → ((old : Declaration) × (slice_get b.tables.declarations d ≡ Some old) × Changed old found) ⊎ (New d found × Among (record { 0 = d }) (numbers_in (slice_get (slice_set bs n new) found.block)) × (AllEven b.tables.blocks → declared_in (slice_get (slice_set bs n new) found.block) found.name ≡ Some (record { 0 = d })))
     listed d found (inl q) = inl q
     listed d found (inr q) = inr (q.0, subst (λ z. Among (record { 0 = d }) z) (sym (kept_set numbers_in bs n row new at numbers found.block)) q.1, λ a. kept_set (λ o. declared_in o found.name) bs n row new at (named found.name) found.block ∙ q.2 a)
+
+pub row_step : (b c : BuildingOf) (New : ℕ → Declaration → Type 0) (n : ℕ) (row new : BlockOf) → b.current ≡ Some n → slice_get c.tables.blocks n ≡ Some row → fixed (Some new) ≡ fixed (Some row) → new.numbers ≡ row.numbers → new.names ≡ row.names → extras_in (Some new) ≡ extras_in (Some row)
+    → Step b c New → Step b (record c { tables = record c.tables { blocks = slice_set c.tables.blocks n new } }) New
+row_step b c New n row new cur at alike numbers names extras h = bare_row_step b c New n row new cur at alike numbers names (λ e. extras ∙ e) h
 
 changed_at : (b c : BuildingOf) (New : ℕ → Declaration → Type 0) (change : BlockOf → BlockOf) (n : ℕ) (o : Option BlockOf) → ((row : BlockOf) → (fixed (Some (change row)) ≡ fixed (Some row)) × ((change row).numbers ≡ row.numbers) × ((change row).names ≡ row.names) × (extras_in (Some (change row)) ≡ extras_in (Some row)))
     → b.current ≡ Some n → slice_get c.tables.blocks n ≡ o → Step b c New → Step b (changed_row c change n o) New
@@ -686,6 +699,48 @@ inner_found b token n (Some row) cur at = inner_row b token n row row.inner cur 
 pub inner_step : (b : BuildingOf) (token : ℕ) (o : Option ℕ) → b.current ≡ o → Step b (inner b token o) Nothing
 inner_step b token None cur = same_step b b Nothing refl refl
 inner_step b token (Some n) cur = inner_found b token n (slice_get b.tables.blocks n) cur refl
+
+-- a prefix in front of the innermost block, which is a class
+prefix_found : (b : BuildingOf) (x : Identifier) (n : ℕ) (o : Option BlockOf) → b.current ≡ Some n → slice_get b.tables.blocks n ≡ o → is_name_of_classes x.name ≡ false → ((row : BlockOf) → o ≡ Some row → row.kind ≡ kind.Class) → Step b (changed_row b (prefixed_by x) n o) Nothing
+prefix_found b x n None cur at plain class = same_step b b Nothing refl refl
+prefix_found b x n (Some row) cur at plain class =
+    bare_row_step b b Nothing n row (prefixed_by x row) cur at refl refl refl (λ e. ap (λ z. of_row z row) right ∙ ap without e) (same_step b b Nothing refl refl)
+  where
+    of_row : Bool → BlockOf → Extras
+    of_row z row = record { wrong = z; standard = row.standard }
+
+    without : Extras → Extras
+    without z = record { wrong = false; standard = z.standard }
+
+    right : is_wrong row.kind (Some x) ≡ false
+    right = ap (λ k. not (is_class k) || is_name_of_classes x.name) (class row refl) ∙ plain
+
+pub prefix_step : (b : BuildingOf) (x : Identifier) (n : ℕ) → b.current ≡ Some n → is_name_of_classes x.name ≡ false → ((row : BlockOf) → slice_get b.tables.blocks n ≡ Some row → row.kind ≡ kind.Class) → Step b (changed b (prefixed_by x) b.current) Nothing
+prefix_step b x n cur plain class = subst (λ o. Step b (changed b (prefixed_by x) o) Nothing) (sym cur) (prefix_found b x n (slice_get b.tables.blocks n) cur refl plain class)
+
+-- an attribute that the innermost block hides or protects
+guards_found : (b : BuildingOf) (hides keeps : Bool) (x : Identifier) (n : ℕ) (o : Option BlockOf) → b.current ≡ Some n → slice_get b.tables.blocks n ≡ o → Step b (guards_at b hides keeps x n o) Nothing
+guards_found b hides keeps x n None cur at = same_step b b Nothing refl refl
+guards_found b hides keeps x n (Some row) cur at =
+    let h = row_step b b Nothing n row (protecting hides keeps x.name row) cur at refl refl refl refl (same_step b b Nothing refl refl) in record {
+      current = h.current;
+      size = h.size;
+      fixes = h.fixes;
+      others = h.others;
+      more = h.more;
+      fewer = h.fewer;
+      lists = h.lists;
+      rows = h.rows;
+      places = h.places;
+      evens = h.evens;
+      looks = h.looks;
+      stays = h.stays;
+      bare = λ w. let v = h.bare w in record { blocks = v.blocks; virtuals = v.virtuals };
+    }
+
+pub guards_step : (b : BuildingOf) (hides keeps : Bool) (x : Identifier) (o : Option ℕ) → b.current ≡ o → Step b (guards b hides keeps x o) Nothing
+guards_step b hides keeps x None cur = same_step b b Nothing refl refl
+guards_step b hides keeps x (Some n) cur = guards_found b hides keeps x n (slice_get b.tables.blocks n) cur refl
 
 pub rule_step : (b : BuildingOf) (token : ℕ) (rule : Rule) → Step b (broken b token rule) Nothing
 rule_step b token rule = same_step b _ Nothing refl refl

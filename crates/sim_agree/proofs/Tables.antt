@@ -3,6 +3,7 @@ use Rattle.std.proofs.Common.{◌≡◌, ◌<◌, ◌≤◌, ◌+◌, ◌⊎◌,
 use Rattle.std.specs.Prelude.{slice_get}
 use Rattle.std.proofs.lemmas.Option.{slice_get_within}
 use Rattle.sim_base.specs.declared.numbering.DeclNo.{DeclNo}
+use Rattle.sim_tree.specs.declared.expr.Identifier.{Identifier}
 use Rattle.sim_tree.specs.Order.{InOrder}
 use Rattle.sim_tree.specs.Syntax.{Begin, Block, Declarations, Heading, Prefix, Program, Statements}
 use Rattle.sim_scope.specs.declared.scopes.Declaration.{Declaration}
@@ -16,9 +17,9 @@ use Rattle.sim_scope.specs.declared.types.FormalKind.TheVariants as shape
 use Rattle.sim_scope.specs.declared.types.SimType.{SimType}
 use Rattle.sim_scope.specs.declared.types.SimType.TheVariants as t
 use Rattle.sim_scope.specs.declared.types.WrittenMode.{WrittenMode}
-use Rattle.sim_scope.specs.Access.{around, encloser, joined}
+use Rattle.sim_scope.specs.Access.{around, encloser, joined, is_connection as is_connection_kind, is_kind}
 use Rattle.sim_scope.specs.Declare.{declared_by, declaring, empty, result_named}
-use Rattle.sim_scope.specs.Levels.{base, base_in}
+use Rattle.sim_scope.specs.Levels.{base, base_in, class_block, class_block_in}
 use Rattle.sim_scope.specs.Scopes.{declared_in, entry_in, entry_of, is_virtual}
 use Rattle.sim_scope.specs.Source.{Source, block_of, block_of_row, level_in, level_of}
 use Rattle.sim_scope.specs.Tables.{BlockOf, Tables, deeper}
@@ -29,20 +30,23 @@ use Rattle.sim_meaning.specs.Entries.{numbers_in, numbers_of}
 use Rattle.sim_meaning.specs.Texts.{BlockText, ClassText, ConnectionText, PrefixedText, ProcedureText, StandardText, Text, program_texts, text}
 use Rattle.sim_sound.specs.Held.{Among}
 use Rattle.sim_agree.specs.Plain.{Plain}
+use Rattle.prefix_bind.specs.Prefixes.{prefixed}
 use Rattle.sim_agree.specs.TablesOf.{TablesOf}
 use Rattle.sim_agree.proofs.Clean.{Clean, Counts}
 use Rattle.sim_agree.proofs.Covered.{Covered}
 use Rattle.sim_agree.proofs.Owned.{Owned}
 use Rattle.sim_agree.proofs.CleanRuns.{run_clean}
-use Rattle.sim_agree.proofs.Completing.{AllReferences, Completes, Retyped, bare_row, complete}
+use Rattle.sim_agree.proofs.Completing.{AllReferences, Completes, Retyped, bare_row, entry_is_class, kind_in}
+use Rattle.sim_agree.proofs.Prefixing.{Based, PrefixOf, complete, prefix_more, prefixed_tables}
 use Rattle.sim_agree.proofs.Fine.{Agree, Alike, AlikeResults, AlikeTypes, KindIs, Rising, RowIn, RowOf, class_row, deeper_in, formal_row, own_row, owner_in, procedure_row}
 use Rattle.sim_agree.proofs.FineRuns.{run_agrees}
-use Rattle.sim_agree.proofs.Groups.{AreReferences, IsReference, NoBreaks, OfReferences, OwnEntry, PlainFormal, PlainKind, program_grouped}
+use Rattle.sim_agree.proofs.Groups.{AreReferences, IsReference, NoBreaks, OfReferences, PlainFormal, PlainKind, program_grouped, Declaring}
 use Rattle.sim_agree.proofs.Laid.{program_held, program_laid}
 use Rattle.sim_agree.proofs.Openings.{Opened, program_opened}
 use Rattle.sim_agree.proofs.Spots.{Final, Here, Lay, run_laid}
 use Rattle.sim_agree.proofs.Steps.{IsParameter, Parametric}
 use Rattle.sim_agree.proofs.Unprefixed.{Unprefixed, extras_in, nothing_bare, nothing_baseless}
+use Rattle.sim_agree.proofs.ClassRows.{class_entry, class_of_kind, class_stands, declaring_solid}
 
 -- ---- the whole program, as it is declared
 
@@ -101,9 +105,9 @@ unfolding declared_by
 program_unbroken p q clean = (run_clean empty [] (program_grouped p q) tt nothing_agrees clean).2
 
 nothing_owned : Owned empty []
-nothing_owned n result h a is = absurd (cc)
+nothing_owned n x is = absurd (cc)
 
--- the block of each procedure is that of a declaration
+-- the block of each procedure and of each class is that of a declaration
 pub program_owned : (p : Program) → Plain p → (declared_by p).least ≡ None → Owned (declared_by p) (program_texts p.prefix p.block)
 unfolding declared_by
 program_owned p q clean = (run_clean empty [] (program_grouped p q) tt nothing_agrees clean).4 nothing_owned
@@ -135,36 +139,67 @@ first_place p q order k row at = go (f.laid.firsts k row at)
 
 -- a text is a class
 abbrev pub IsClassText : Program → ℕ → Type 0
-IsClassText p n = (h : Heading) × (ds : Declarations) × (ss : Statements) × (slice_get (program_texts p.prefix p.block) n ≡ Some (ClassText None h ds ss))
+IsClassText p n = (prefix : Option Identifier) × (h : Heading) × (ds : Declarations) × (ss : Statements) × (slice_get (program_texts p.prefix p.block) n ≡ Some (ClassText prefix h ds ss))
 
 pub all_references : (D : Tables) (qs : List Qualification) → ((i : ℕ) (x : Qualification) → slice_get qs i ≡ Some x → (row : Declaration) × (slice_get D.declarations x.declaration.0 ≡ Some row) × OfReferences row.entry) → AllReferences D qs
 all_references D [] h = tt
 all_references D (q ∷ qs) h = (h 0 q refl, all_references D qs (λ i x at. h (suc i) x at))
 
-class_entry : (x : Text) (bs : List BlockOf) (ts : List Text) (d : ℕ) (row : Declaration) (n : ℕ) → row.entry ≡ entry.Class n → RowIn bs ts x d row → (h : Heading) × (ds : Declarations) × (ss : Statements) × (slice_get ts n ≡ Some (ClassText None h ds ss))
-class_entry x bs ts d row n e (own_row y p) = absurd (go p.entry p.fits (subst (Alike p.entry) e p.alike))
+-- where a class stands: in a block or a class, which lists it
+pub record ClassStands (p : Program) (k : ℕ) : Type 0 where
+  pub declaration : DeclNo
+  pub row : Declaration
+  pub at : slice_get (declared_by p).tables.declarations declaration.0 ≡ Some row
+  pub entry : row.entry ≡ entry.Class k
+  pub around : around (slice_get (declared_by p).tables.blocks k) ≡ Some row.block
+  pub text : Text
+  pub is : slice_get (program_texts p.prefix p.block) row.block ≡ Some text
+  pub declaring : Declaring text
+
+stands_by : (p : Program) → Plain p → (d : DeclNo) (row : Declaration) (k : ℕ) → slice_get (declared_by p).tables.declarations d.0 ≡ Some row → row.entry ≡ entry.Class k → ClassStands p k
+stands_by p plain d row k at e = go (slice_get (program_texts p.prefix p.block) row.block) refl ((program_agrees p plain).rows d.0 row at)
   where
-    go : (e : Entry) → OwnEntry e → Alike e (entry.Class n) → ⊥
-    go (entry.Variable ty) own a = a
-    go (entry.Constant ty) own a = a
-    go (entry.Array ty m) own a = a
-    go (entry.Procedure result m) own a = own
-    go (entry.Class m) own a = own
-    go (entry.Virtual result m) own a = own
-    go (entry.Formal f) own a = own
-    go (entry.Unspecified w) own a = own
-    go (entry.Attribute name given result) own a = own
-class_entry x bs ts d row n e (procedure_row y p) = absurd (subst (Alike (entry.Procedure (result_named p.result) p.number)) e p.entry)
-class_entry x bs ts d row n e (class_row y p) = (p.heading, p.declarations, p.statements, subst (λ z. slice_get ts z ≡ Some (ClassText None p.heading p.declarations p.statements)) (number p.number (sym p.entry ∙ e)) p.text)
+    go : (o : Option Text) → slice_get (program_texts p.prefix p.block) row.block ≡ o → RowOf (declared_by p).tables.blocks (program_texts p.prefix p.block) o d.0 row → ClassStands p k
+    go None is q = absurd q
+    go (Some x) is q =
+        let s = class_stands x (declared_by p).tables.blocks (program_texts p.prefix p.block) d.0 row k e q in
+        record { declaration = d; row = row; at = at; entry = e; around = s.1; text = x; is = is; declaring = s.0 }
+
+-- each declared class, with its row
+pub class_at : (p : Program) → Plain p → (d : DeclNo) (k : ℕ) → class_block (declared_by p).tables d ≡ Some k → (row : Declaration) × (slice_get (declared_by p).tables.declarations d.0 ≡ Some row) × (around (slice_get (declared_by p).tables.blocks k) ≡ Some row.block)
+unfolding class_block
+class_at p plain d k e = go (slice_get (declared_by p).tables.declarations d.0) refl e
   where
-    number : (m : ℕ) → entry.Class m ≡ entry.Class n → m ≡ n
-    number m q = cc
-class_entry x bs ts d row n e (formal_row y p) = absurd (subst Parametric e p)
+    go : (o : Option Declaration) → slice_get (declared_by p).tables.declarations d.0 ≡ o → class_block_in (elim o [ None ↦ None | Some row ↦ Some row.entry ]) ≡ Some k
+        → (row : Declaration) × (o ≡ Some row) × (around (slice_get (declared_by p).tables.blocks k) ≡ Some row.block)
+    go None at f = absurd (cc)
+    go (Some row) at f = (row, refl, around_of (slice_get (program_texts p.prefix p.block) row.block) ((program_agrees p plain).rows d.0 row at))
+      where
+        around_of : (o : Option Text) → RowOf (declared_by p).tables.blocks (program_texts p.prefix p.block) o d.0 row → around (slice_get (declared_by p).tables.blocks k) ≡ Some row.block
+        around_of None q = absurd q
+        around_of (Some x) q = (class_stands x (declared_by p).tables.blocks (program_texts p.prefix p.block) d.0 row k (entry_is_class k row.entry f) q).1
+
+-- each block of the kind of a class
+pub class_block_at : (p : Program) → Plain p → (declared_by p).least ≡ None → (k : ℕ) (row : BlockOf) → slice_get (declared_by p).tables.blocks k ≡ Some row → row.kind ≡ kind.Class → ClassStands p k
+class_block_at p plain clean k row at e =
+    let x = class_of_kind row (slice_get (program_texts p.prefix p.block) k) (subst (λ o. KindIs o (slice_get (program_texts p.prefix p.block) k)) at ((program_agrees p plain).fine.kinds k)) e in
+    let q = program_owned p plain clean k (ClassText x.0 x.1 x.2 x.3) x.4 in
+    stands_by p plain q.0 q.1 k q.3 q.4
+
+pub solid : (p : Program) → Plain p → (declared_by p).least ≡ None → (k : ℕ) (row : BlockOf) → slice_get (declared_by p).tables.blocks k ≡ Some row → row.kind ≡ kind.Class → (u : ℕ) × (row.encloser ≡ Some u) × (is_kind is_connection_kind (declared_by p).tables u ≡ false)
+unfolding is_kind
+solid p plain clean k row at e =
+    let s = class_block_at p plain clean k row at e in
+    (s.row.block, sym (ap around at) ∙ s.around, declaring_solid (slice_get (declared_by p).tables.blocks s.row.block) s.text (subst (KindIs (slice_get (declared_by p).tables.blocks s.row.block)) s.is ((program_agrees p plain).fine.kinds s.row.block)) s.declaring)
+
+-- the tables with the prefixes of classes
+pub program_prefixed : (p : Program) → Plain p → (declared_by p).least ≡ None → Based (declared_by p).tables (prefixed (declared_by p).tables)
+program_prefixed p plain clean = prefixed_tables (declared_by p).tables (program_agrees p plain).fine.bare (program_agrees p plain).fine.baseless (solid p plain clean)
 
 pub completes : (s : Source) → TablesOf s → Plain s.program → InOrder s.program → Completes (declared_by s.program).tables s.tables (IsClassText s.program)
 completes s of plain order =
     subst (λ z. Completes D z (IsClassText s.program)) (sym of.tables)
-    (complete D s.program (IsClassText s.program) agree.fine.bare agree.fine.baseless (all_references D D.qualifications (program_clean s.program plain of.unbroken).refs) classes conn (program_opened s.program plain))
+    (complete D s.program (IsClassText s.program) (program_prefixed s.program plain of.unbroken) (all_references D D.qualifications (program_clean s.program plain of.unbroken).refs) classes conn (program_opened s.program plain))
   where
     D : Tables
     D = (declared_by s.program).tables
@@ -483,7 +518,7 @@ module _ (s : Source) (of : TablesOf s) (plain : Plain s.program) (order : InOrd
     where
       some_row : {a b : BlockOf} → Some a ≡ Some b → a ≡ b
       some_row q = cc
-  connection_of (Some row) (Some (ClassText prefix h ds ss)) k n = (λ e found is. ap (λ (z : BlockOf). deeper z.kind n) (sym (some_row is)) ∙ ap (λ z. deeper z n) k.0 ∙ (let q : n + 1 ≡ suc n = omega arith in q), λ e. absurd (cc))
+  connection_of (Some row) (Some (ClassText prefix h ds ss)) k n = (λ e found is. ap (λ (z : BlockOf). deeper z.kind n) (sym (some_row is)) ∙ ap (λ z. deeper z n) k ∙ (let q : n + 1 ≡ suc n = omega arith in q), λ e. absurd (cc))
     where
       some_row : {a b : BlockOf} → Some a ≡ Some b → a ≡ b
       some_row q = cc
@@ -534,7 +569,7 @@ module _ (s : Source) (of : TablesOf s) (plain : Plain s.program) (order : InOrd
         owner = same_owner p.number ∙ p.owner;
       })
   row_in x d old new r (class_row y p) =
-      class_row y (record { heading = p.heading; declarations = p.declarations; statements = p.statements; number = p.number; entry = class_new old.entry new.entry r.entry p.number p.entry; text = p.text; around = same_around p.number ∙ p.around ∙ ap Some (sym r.block); owner = same_owner p.number ∙ p.owner })
+      class_row y (record { prefix = p.prefix; heading = p.heading; declarations = p.declarations; statements = p.statements; number = p.number; entry = class_new old.entry new.entry r.entry p.number p.entry; text = p.text; around = same_around p.number ∙ p.around ∙ ap Some (sym r.block); owner = same_owner p.number ∙ p.owner })
   row_in x d old new r (formal_row y p) = formal_row y (parametric_new old.entry new.entry r.entry p)
 
   pub row_at : (d : ℕ) (row : Declaration) → slice_get s.tables.declarations d ≡ Some row → RowOf Bs Ts (slice_get Ts row.block) d row
@@ -589,13 +624,18 @@ module _ (s : Source) (of : TablesOf s) (plain : Plain s.program) (order : InOrd
 
   -- ---- what is connected
 
-  -- what has a next level is a connection, and that is a class
-  pub connects : (k c : ℕ) → base s.tables k ≡ Some c → (is_connection (text s k) ≡ true) × ((h : Heading) × (ds : Declarations) × (ss : Statements) × (text s c ≡ Some (ClassText None h ds ss)))
+  -- a next level is a class
+  pub connects : (k c : ℕ) → base s.tables k ≡ Some c → (prefix : Option Identifier) × (h : Heading) × (ds : Declarations) × (ss : Statements) × (text s c ≡ Some (ClassText prefix h ds ss))
   unfolding base text
-  connects k c e = let q = C.bases k c e in (conn q.0.0 q.0.1 q.0.2, q.1)
+  connects k c e = (C.bases k c e).1
+
+  -- what is no connection has no block of that kind
+  pub other_kind : (k : ℕ) → is_connection (text s k) ≡ false → kind_in (slice_get (declared_by s.program).tables.blocks k) ≡ Some kind.Connection → ⊥
+  unfolding text
+  other_kind k other is = go (slice_get (declared_by s.program).tables.blocks k) refl is
     where
       conn : (row : BlockOf) → slice_get (declared_by s.program).tables.blocks k ≡ Some row → row.kind ≡ kind.Connection → is_connection (slice_get Ts k) ≡ true
-      conn row at is = go (slice_get Ts k) (subst (λ o. KindIs o (slice_get Ts k)) at (agree.fine.kinds k))
+      conn row at is = by_text (slice_get Ts k) (subst (λ o. KindIs o (slice_get Ts k)) at (agree.fine.kinds k))
         where
           program_kind : (b : BlockKind) → PlainKind b → b ≡ kind.Connection → ⊥
           program_kind kind.Program p e = cc
@@ -606,14 +646,18 @@ module _ (s : Source) (of : TablesOf s) (plain : Plain s.program) (order : InOrd
           program_kind kind.Connection p e = p
           program_kind (kind.StandardClass which) p e = p
 
-          go : (o : Option Text) → KindIs (Some row) o → is_connection o ≡ true
-          go None q = absurd q
-          go (Some (BlockText i ds ss)) q = absurd (program_kind row.kind q is)
-          go (Some (ProcedureText result h a)) q = absurd (let f : kind.Procedure ≡ kind.Connection = sym q ∙ is in cc)
-          go (Some (ClassText prefix h ds ss)) q = absurd (let f : kind.Class ≡ kind.Connection = sym q.0 ∙ is in cc)
-          go (Some ConnectionText) q = refl
-          go (Some (PrefixedText class es ds ss)) q = absurd q
-          go (Some (StandardText which)) q = absurd q
+          by_text : (o : Option Text) → KindIs (Some row) o → is_connection o ≡ true
+          by_text None q = absurd q
+          by_text (Some (BlockText i ds ss)) q = absurd (program_kind row.kind q is)
+          by_text (Some (ProcedureText result h a)) q = absurd (let f : kind.Procedure ≡ kind.Connection = sym q ∙ is in cc)
+          by_text (Some (ClassText prefix h ds ss)) q = absurd (let f : kind.Class ≡ kind.Connection = sym q ∙ is in cc)
+          by_text (Some ConnectionText) q = refl
+          by_text (Some (PrefixedText class es ds ss)) q = absurd q
+          by_text (Some (StandardText which)) q = absurd q
+
+      go : (o : Option BlockOf) → slice_get (declared_by s.program).tables.blocks k ≡ o → kind_in o ≡ Some kind.Connection → ⊥
+      go None at f = cc
+      go (Some row) at f = let q : false ≡ true = sym other ∙ conn row at (let h : row.kind ≡ kind.Connection = cc in h) in cc
 
   pub based_there : (k c : ℕ) → base s.tables k ≡ Some c → k < length s.tables.blocks
   unfolding base
@@ -623,12 +667,28 @@ module _ (s : Source) (of : TablesOf s) (plain : Plain s.program) (order : InOrd
       go None at f = absurd (cc)
       go (Some row) at f = slice_get_within s.tables.blocks k row at
 
-  pub no_base : (k : ℕ) → is_connection (text s k) ≡ false → base s.tables k ≡ None
-  no_base k other = go (base s.tables k) refl
-    where
-      go : (o : Option ℕ) → base s.tables k ≡ o → base s.tables k ≡ None
-      go None e = e
-      go (Some c) e = absurd (let q : false ≡ true = sym other ∙ (connects k c e).0 in cc)
+  -- what is no connection has the next level that its prefix gives it
+  pub own_base : (k : ℕ) → is_connection (text s k) ≡ false → base s.tables k ≡ base (prefixed (declared_by s.program).tables) k
+  unfolding base
+  own_base k other = C.steady k (other_kind k other)
+
+  pub class_text : (k : ℕ) (row : BlockOf) → slice_get (declared_by s.program).tables.blocks k ≡ Some row → row.kind ≡ kind.Class → (prefix : Option Identifier) × (h : Heading) × (ds : Declarations) × (ss : Statements) × (text s k ≡ Some (ClassText prefix h ds ss))
+  unfolding text
+  class_text k row at e = class_of_kind row (slice_get Ts k) (subst (λ o. KindIs o (slice_get Ts k)) at (agree.fine.kinds k)) e
+
+  -- a class is no connection
+  pub class_other : (k : ℕ) (row : BlockOf) → slice_get (declared_by s.program).tables.blocks k ≡ Some row → row.kind ≡ kind.Class → is_connection (text s k) ≡ false
+  class_other k row at e = ap is_connection (class_text k row at e).4
+
+  pub P : Based (declared_by s.program).tables (prefixed (declared_by s.program).tables)
+  P = program_prefixed s.program plain of.unbroken
+
+  -- what a prefix gives stays
+  pub base_stays : (k b : ℕ) → base (prefixed (declared_by s.program).tables) k ≡ Some b → base s.tables k ≡ Some b
+  base_stays k b e = let p = P.bases k b e in own_base k (class_other k p.row p.at p.kind) ∙ e
+
+  pub prefix_is : (k b : ℕ) → is_connection (text s k) ≡ false → base s.tables k ≡ Some b → PrefixOf (declared_by s.program).tables s.tables k b
+  prefix_is k b other e = prefix_more (declared_by s.program).tables (prefixed (declared_by s.program).tables) s.tables base_stays k b (P.bases k b (sym (own_base k other) ∙ e))
 
   -- a connection declares nothing
   pub nothing_in_connections : (k : ℕ) → is_connection (text s k) ≡ true → (d : DeclNo) → Among d (numbers_of s k) → ⊥

@@ -12,11 +12,12 @@ use Rattle.sim_tree.specs.Syntax.{Also, Arms, Arrayed, Arrays, Begin, Block, Bou
 use Rattle.sim_tree.specs.Syntax as syntax
 use Rattle.sim_scope.specs.declared.scopes.Declaration.{Declaration}
 use Rattle.sim_scope.specs.Source.{Source}
-use Rattle.sim_meaning.specs.Texts.{BlockText, ClassText, Text, arms_texts, block_texts, declaration_texts, declarations_texts, declared_at, number_from, program_texts, statement_texts, statements_texts, text}
+use Rattle.sim_meaning.specs.Texts.{BlockText, ClassText, Text, arms_texts, block_texts, declaration_texts, declarations_texts, declared_at, number_from, program_texts, statement_texts, statements_texts, text, prefix_texts}
 use Rattle.sim_sound.specs.Held.{Among, first, later}
 use Rattle.sim_sound.specs.Typed.{Distinct, arrays_in_segments, arrays_named, arrays_of_block, of_option}
-use Rattle.sim_tree.specs.Order.{Ascends, Behind, InOrder, Spot, Token, in_arms, in_block, in_bounds, in_declarations, in_each, in_element, in_expression, in_name, in_result, in_segment, in_side, in_statement, in_statements, in_type, in_variable, tokens}
-use Rattle.sim_agree.specs.Plain.{Plain, PlainArms, PlainBlock, PlainDeclarations, PlainStatement, PlainStatements}
+use Rattle.sim_tree.specs.Order.{Ascends, Behind, InOrder, Spot, Token, in_arms, in_block, in_bounds, in_declarations, in_each, in_element, in_expression, in_name, in_result, in_segment, in_side, in_statement, in_statements, in_type, in_variable, tokens, in_prefix}
+use Rattle.sim_agree.specs.Plain.{Plain, PlainArms, PlainBlock, PlainDeclarations, PlainStatement, PlainStatements, PlainPrefix}
+use Rattle.sim_agree.proofs.PlainNames.{no_prefix_texts}
 
 -- ---- tokens between two
 
@@ -69,6 +70,14 @@ TextInOrder _ = Unit {0}
 abbrev AllInOrder : List Text → Type 0
 AllInOrder [] = Unit {0}
 AllInOrder (x ∷ xs) = TextInOrder x × AllInOrder xs
+
+prefix_past : (prefix : Option Identifier) (i : ℕ) (l : List Spot) → Ascends i (in_prefix prefix l) → (j : ℕ) × (i ≤ j) × Ascends j l
+prefix_past None i l a = (i, (let z : i ≤ i = omega arith in z), a)
+prefix_past (Some class) i l a = (class.token.0 + 1, (let z : i ≤ class.token.0 = a.0 in let y : i ≤ class.token.0 + 1 = omega arith in y), a.1)
+
+-- behind a prefix that brings no texts
+past_prefix : (prefix : Option Identifier) → PlainPrefix prefix → (xs : List Text) → AllInOrder xs → AllInOrder (prefix_texts prefix ++ xs)
+past_prefix prefix w xs a = subst (λ z. AllInOrder (z ++ xs)) (sym (no_prefix_texts prefix w)) a
 
 all_both : (xs ys : List Text) → AllInOrder xs → AllInOrder ys → AllInOrder (xs ++ ys)
 all_both [] ys a b = b
@@ -226,39 +235,40 @@ mutual
       let two : q.0 ≤ r.0 = r.1 in
       let three : r.0 ≤ e = r.2.0 in
       (t.0, between_lower (own_tokens ds) i e t.0 (omega arith) t.1, t.2, (tt, all_both (statement_texts x) (declarations_texts ds) r.3 t.3))
-  declarations_past (With (DeclareClass (Some prefix) n h interface x e) ds) p i l a = absurd (let q : Some prefix ≡ None = p.0.0 in cc)
-  declarations_past (With (DeclareClass None n h interface x e) ds) p i l a =
-      let q = names_between h.formals (h.name.token.0 + 1) (in_statement x (Behind e ∷ in_declarations ds l)) a.1 in
-      let r = class_past n h interface x e p.0.3 q.0 (Behind e ∷ in_declarations ds l) q.2 (λ j m b. statement_past x p.0.3 j m b) in
+  declarations_past (With (DeclareClass prefix n h interface x e) ds) p i l a =
+      let u = prefix_past prefix i (in_name h.name (in_each in_name h.formals (in_statement x (Behind e ∷ in_declarations ds l)))) a in
+      let q = names_between h.formals (h.name.token.0 + 1) (in_statement x (Behind e ∷ in_declarations ds l)) u.2.1 in
+      let r = class_past prefix p.0.0 n h interface x e p.0.3 q.0 (Behind e ∷ in_declarations ds l) q.2 (λ j m b. statement_past x p.0.3 j m b) in
       let t = declarations_past ds p.1 e l r.2.1 in
-      let zero_ : i ≤ h.name.token.0 = a.0 in
+      let first_ : i ≤ u.0 = u.1 in
+      let zero_ : u.0 ≤ h.name.token.0 = u.2.0 in
       let one : h.name.token.0 + 1 ≤ q.0 = between_le (name_tokens h.formals) (h.name.token.0 + 1) q.0 q.1 in
       let two : q.0 ≤ r.0 = r.1 in
       let three : r.0 ≤ e = r.2.0 in
-      (t.0, between_lower (own_tokens ds) i e t.0 (omega arith) t.1, t.2, all_both (declaration_texts (DeclareClass None n h interface x e)) (declarations_texts ds) r.3 t.3)
+      (t.0, between_lower (own_tokens ds) i e t.0 (omega arith) t.1, t.2, all_both (declaration_texts (DeclareClass prefix n h interface x e)) (declarations_texts ds) r.3 t.3)
 
   -- the body of a class
-  class_past : (n : ℕ) (h : Heading) (interface : Interface) (x : Statement) (e : ℕ) → PlainStatement x → (i : ℕ) (l : List Spot) → Ascends i (in_statement x l)
-      → ((i : ℕ) (l : List Spot) → Ascends i (in_statement x l) → (j : ℕ) × (i ≤ j) × Ascends j l × AllInOrder (statement_texts x)) → (j : ℕ) × (i ≤ j) × Ascends j l × AllInOrder (declaration_texts (DeclareClass None n h interface x e))
-  class_past n h interface (syntax.Compound (Begin m ds ss k)) e p i l a one =
+  class_past : (prefix : Option Identifier) → PlainPrefix prefix → (n : ℕ) (h : Heading) (interface : Interface) (x : Statement) (e : ℕ) → PlainStatement x → (i : ℕ) (l : List Spot) → Ascends i (in_statement x l)
+      → ((i : ℕ) (l : List Spot) → Ascends i (in_statement x l) → (j : ℕ) × (i ≤ j) × Ascends j l × AllInOrder (statement_texts x)) → (j : ℕ) × (i ≤ j) × Ascends j l × AllInOrder (declaration_texts (DeclareClass prefix n h interface x e))
+  class_past prefix w n h interface (syntax.Compound (Begin m ds ss k)) e p i l a one =
       let q = declarations_past ds p.0 (m + 1) (in_statements ss (Behind k ∷ l)) a.1 in
       let r = statements_past ss p.1 q.0 (Behind k ∷ l) q.2 in
       let zero_ : i ≤ m = a.0 in
       let first_ : m + 1 ≤ q.0 = between_le (own_tokens ds) (m + 1) q.0 q.1 in
       let two : q.0 ≤ r.0 = r.1 in
       let three : r.0 ≤ k = r.2.0 in
-      (k, omega arith, r.2.1, ((m + 1, q.0, q.1), all_both (declarations_texts ds) (statements_texts ss) q.3 r.3))
-  class_past n h interface (syntax.Empty m) e p i l a one = let q = one i l a in (q.0, q.1, q.2, ((0, 0, (let z : 0 ≤ 0 = omega arith in z)), q.3))
-  class_past n h interface (syntax.Inner m) e p i l a one = let q = one i l a in (q.0, q.1, q.2, ((0, 0, (let z : 0 ≤ 0 = omega arith in z)), q.3))
-  class_past n h interface (syntax.Call c) e p i l a one = let q = one i l a in (q.0, q.1, q.2, ((0, 0, (let z : 0 ≤ 0 = omega arith in z)), q.3))
-  class_past n h interface (syntax.Assign c sides) e p i l a one = let q = one i l a in (q.0, q.1, q.2, ((0, 0, (let z : 0 ≤ 0 = omega arith in z)), q.3))
-  class_past n h interface (syntax.Choose m c y rest) e p i l a one = let q = one i l a in (q.0, q.1, q.2, ((0, 0, (let z : 0 ≤ 0 = omega arith in z)), q.3))
-  class_past n h interface (syntax.Repeat m c y) e p i l a one = let q = one i l a in (q.0, q.1, q.2, ((0, 0, (let z : 0 ≤ 0 = omega arith in z)), q.3))
-  class_past n h interface (syntax.For m y sign o es z) e p i l a one = let q = one i l a in (q.0, q.1, q.2, ((0, 0, (let z : 0 ≤ 0 = omega arith in z)), q.3))
-  class_past n h interface (syntax.Inspect m object d y k rest) e p i l a one = let q = one i l a in (q.0, q.1, q.2, ((0, 0, (let z : 0 ≤ 0 = omega arith in z)), q.3))
-  class_past n h interface (syntax.InspectWhen m object arms rest) e p i l a one = let q = one i l a in (q.0, q.1, q.2, ((0, 0, (let z : 0 ≤ 0 = omega arith in z)), q.3))
-  class_past n h interface (syntax.Prefixed y args b) e p i l a one = absurd p
-  class_past n h interface (syntax.Activate m word process schedule) e p i l a one = absurd p
+      (k, omega arith, r.2.1, ((m + 1, q.0, q.1), past_prefix prefix w (declarations_texts ds ++ statements_texts ss) (all_both (declarations_texts ds) (statements_texts ss) q.3 r.3)))
+  class_past prefix w n h interface (syntax.Empty m) e p i l a one = let q = one i l a in (q.0, q.1, q.2, ((0, 0, (let z : 0 ≤ 0 = omega arith in z)), past_prefix prefix w (statement_texts (syntax.Empty m)) q.3))
+  class_past prefix w n h interface (syntax.Inner m) e p i l a one = let q = one i l a in (q.0, q.1, q.2, ((0, 0, (let z : 0 ≤ 0 = omega arith in z)), past_prefix prefix w (statement_texts (syntax.Inner m)) q.3))
+  class_past prefix w n h interface (syntax.Call c) e p i l a one = let q = one i l a in (q.0, q.1, q.2, ((0, 0, (let z : 0 ≤ 0 = omega arith in z)), past_prefix prefix w (statement_texts (syntax.Call c)) q.3))
+  class_past prefix w n h interface (syntax.Assign c sides) e p i l a one = let q = one i l a in (q.0, q.1, q.2, ((0, 0, (let z : 0 ≤ 0 = omega arith in z)), past_prefix prefix w (statement_texts (syntax.Assign c sides)) q.3))
+  class_past prefix w n h interface (syntax.Choose m c y rest) e p i l a one = let q = one i l a in (q.0, q.1, q.2, ((0, 0, (let z : 0 ≤ 0 = omega arith in z)), past_prefix prefix w (statement_texts (syntax.Choose m c y rest)) q.3))
+  class_past prefix w n h interface (syntax.Repeat m c y) e p i l a one = let q = one i l a in (q.0, q.1, q.2, ((0, 0, (let z : 0 ≤ 0 = omega arith in z)), past_prefix prefix w (statement_texts (syntax.Repeat m c y)) q.3))
+  class_past prefix w n h interface (syntax.For m y sign o es z) e p i l a one = let q = one i l a in (q.0, q.1, q.2, ((0, 0, (let z : 0 ≤ 0 = omega arith in z)), past_prefix prefix w (statement_texts (syntax.For m y sign o es z)) q.3))
+  class_past prefix w n h interface (syntax.Inspect m object d y k rest) e p i l a one = let q = one i l a in (q.0, q.1, q.2, ((0, 0, (let z : 0 ≤ 0 = omega arith in z)), past_prefix prefix w (statement_texts (syntax.Inspect m object d y k rest)) q.3))
+  class_past prefix w n h interface (syntax.InspectWhen m object arms rest) e p i l a one = let q = one i l a in (q.0, q.1, q.2, ((0, 0, (let z : 0 ≤ 0 = omega arith in z)), past_prefix prefix w (statement_texts (syntax.InspectWhen m object arms rest)) q.3))
+  class_past prefix w n h interface (syntax.Prefixed y args b) e p i l a one = absurd p
+  class_past prefix w n h interface (syntax.Activate m word process schedule) e p i l a one = absurd p
 
 -- each text of a program
 pub text_in_order : (s : Source) → Plain s.program → InOrder s.program → (k : ℕ) (x : Text) → text s k ≡ Some x → TextInOrder x

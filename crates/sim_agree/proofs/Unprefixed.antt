@@ -1,7 +1,7 @@
--- Tables without prefixes, protection and virtuals. What is looked for in them is found by the blocks alone, and by the classes that are connected.
+-- Tables without standard prefixes and virtuals. What is looked for in them is found by the blocks, by the levels of their prefixes, and
+-- by the classes that are connected.
 use Rattle.std.proofs.Common.{◌≡◌, ◌⊎◌, inl, inr, ℕ, zero, suc, Bool, true, false, List, [], length, Option, Some, None, refl, sym, ap, ◌∙◌, if◌then◌else◌}
 use Rattle.std.specs.Prelude.{◌&&◌, ◌||◌, not, position, slice_get}
-use Rattle.std.specs.List.{list_any}
 use Rattle.std.specs.Option.{option_or}
 use Rattle.std.specs.Str.{bytes_eq}
 use Rattle.sim_base.specs.declared.numbering.DeclNo.{DeclNo}
@@ -9,26 +9,33 @@ use Rattle.sim_tree.specs.declared.expr.Identifier.{Identifier}
 use Rattle.sim_scope.specs.declared.scopes.Declaration.{Declaration}
 use Rattle.sim_scope.specs.declared.scopes.Denotation.TheVariants as denotation
 use Rattle.sim_scope.specs.declared.standard.StandardName.{StandardName}
+use Rattle.sim_scope.specs.declared.types.BlockKind.{BlockKind}
 use Rattle.sim_scope.specs.declared.types.StandardPrefix.{StandardPrefix}
-use Rattle.sim_scope.specs.Access.{accessible, accessible_row, block_at, encloser, is_open, protects, protects_in, some_around}
+use Rattle.sim_scope.specs.Access.{block_at, encloser, some_around}
+use Rattle.sim_scope.specs.Building.{is_class}
+use Rattle.sim_scope.specs.ClassNames.{is_name_of_classes}
 use Rattle.sim_scope.specs.Declare.{empty}
 use Rattle.sim_scope.specs.Levels.{base, base_in}
-use Rattle.sim_scope.specs.Scopes.{beyond, binding, brought_by, brought_in, declaration_from, declared_or_standard, ends_search, entry_in, entry_is, entry_of, is_detach, is_procedure_entry, is_virtual, level_shows, lookup, numbered, or_itself, outward, represented, represented_row, seen, shown_of, shows_detach, standard_at, virtual_among, virtual_of}
+use Rattle.sim_scope.specs.Scopes.{beyond, binding, brought_by, brought_in, declaration_from, declared_or_standard, ends_search, entry_in, entry_is, entry_of, is_detach, is_procedure_entry, is_virtual, level_shows, lookup, numbered, or_itself, outward, represented, represented_row, seen, shown_of, shows_detach, standard_at, virtual_among, virtual_of, seen_from}
 use Rattle.sim_scope.specs.Standard.{standard_name}
 use Rattle.sim_scope.specs.Tables.{BlockOf, Tables}
 
--- what a block has of prefixes and protection
+-- a prefix where none may be: in front of what is no class, or one that is spelt as a standard name
+abbrev pub is_wrong : BlockKind → Option Identifier → Bool
+is_wrong k None = false
+is_wrong k (Some x) = not (is_class k) || is_name_of_classes x.name
+
+-- what a block has of prefixes
 pub record Extras : Type 0 where
-  pub prefix : Option Identifier
+  pub wrong : Bool
   pub standard : Option StandardPrefix
-  pub protected : List (List ℕ)
 
 abbrev pub no_extras : Extras
-no_extras = record { prefix = None; standard = None; protected = [] }
+no_extras = record { wrong = false; standard = None }
 
 abbrev pub extras_in : Option BlockOf → Extras
 extras_in None = no_extras
-extras_in (Some row) = record { prefix = row.prefix; standard = row.standard; protected = row.protected }
+extras_in (Some row) = record { wrong = is_wrong row.kind row.prefix; standard = row.standard }
 
 abbrev pub NoExtras : List BlockOf → Type 0
 NoExtras bs = (k : ℕ) → extras_in (slice_get bs k) ≡ no_extras
@@ -64,14 +71,6 @@ or_none None = refl
 or_none (Some d) = refl
 
 module _ (s : Tables) (w : Unprefixed s) where
-  nothing_protected : (k : ℕ) (name : List ℕ) → protects s k name ≡ false
-  unfolding protects
-  nothing_protected k name = same (slice_get s.blocks k) ∙ ap (λ (z : Extras). list_any (bytes_eq name) z.protected) (w.blocks k)
-    where
-      same : (o : Option BlockOf) → protects_in o name ≡ list_any (bytes_eq name) (extras_in o).protected
-      same None = refl
-      same (Some row) = refl
-
   nothing_brought : (k : ℕ) (name : List ℕ) → brought_by s k name ≡ None
   unfolding brought_by
   nothing_brought k name = go (slice_get s.blocks k) (w.blocks k)
@@ -82,35 +81,42 @@ module _ (s : Tables) (w : Unprefixed s) where
           let none : row.standard ≡ None = ap (λ (z : Extras). z.standard) e in
           ap (λ z. elim z [ None ↦ None | Some which ↦ numbered row.brought (position (bytes_eq name) row.brought_names) ]) none
 
-  all_accessible : (token : ℕ) (d : DeclNo) → accessible s token d ≡ true
-  unfolding accessible
-  all_accessible token d = go (slice_get s.declarations d.0)
-    where
-      go : (o : Option Declaration) → accessible_row s token o ≡ true
-      go None = refl
-      go (Some row) = ap (λ z. not z || is_open s row.block row.name token) (nothing_protected row.block row.name)
-
-  all_seen : (from : Option ℕ) (o : Option DeclNo) → seen s from o ≡ o
-  all_seen from None = refl
-  all_seen None (Some d) = refl
-  all_seen (Some token) (Some d) = ap (λ z. if z then Some d else None) (all_accessible token d)
-
-  pub shows : (from : Option ℕ) (k : ℕ) (name : List ℕ) → level_shows s from k name ≡ lookup s k name
+  -- a level shows what it declares, where that is accessible
+  pub shows : (from : Option ℕ) (k : ℕ) (name : List ℕ) → level_shows s from k name ≡ seen s from (lookup s k name)
   unfolding level_shows
-  shows from k name = ap (λ z. option_or (seen s from (lookup s k name)) z) (nothing_brought k name) ∙ or_none (seen s from (lookup s k name)) ∙ all_seen from (lookup s k name)
+  shows from k name = ap (λ z. option_or (seen s from (lookup s k name)) z) (nothing_brought k name) ∙ or_none (seen s from (lookup s k name))
+
+  seen_there : (from : Option ℕ) (o : Option DeclNo) (d : DeclNo) → seen s from o ≡ Some d → o ≡ Some d
+  seen_there from None d e = e
+  seen_there from (Some f) d e = go (seen_from s from f) e
+    where
+      go : (c : Bool) → (if c then Some f else None) ≡ Some d → Some f ≡ Some d
+      go true h = h
+      go false h = absurd (cc)
+
+  shows_there : (from : Option ℕ) (k : ℕ) (name : List ℕ) (d : DeclNo) → level_shows s from k name ≡ Some d → lookup s k name ≡ Some d
+  shows_there from k name d e = seen_there from (lookup s k name) d (sym (shows from k name) ∙ e)
 
   -- what a block shows is declared in it, or shown by its next level
+  pub shown_next : (n : ℕ) (from : Option ℕ) (k : ℕ) (name : List ℕ) (d : DeclNo) → shown_of s (suc n) from k name ≡ Some d → (lookup s k name ≡ Some d) ⊎ ((c : ℕ) × (base s k ≡ Some c) × (shown_of s n from c name ≡ Some d))
+  unfolding shown_of
+  shown_next n from k name d e = go (level_shows s from k name) (base s k) refl refl e
+    where
+      go : (o : Option DeclNo) (b : Option ℕ) → level_shows s from k name ≡ o → base s k ≡ b → option_or o (beyond (λ b. shown_of s n from b name) b) ≡ Some d
+          → (lookup s k name ≡ Some d) ⊎ ((c : ℕ) × (b ≡ Some c) × (shown_of s n from c name ≡ Some d))
+      go (Some f) b at out h = inl (shows_there from k name d (at ∙ h))
+      go None None at out h = absurd (cc)
+      go None (Some c) at out h = inr (c, refl, h)
+
   pub shown_levels : (n : ℕ) (from : Option ℕ) (k : ℕ) (name : List ℕ) (d : DeclNo) → shown_of s n from k name ≡ Some d
       → (lookup s k name ≡ Some d) ⊎ ((c : ℕ) × (m : ℕ) × (base s k ≡ Some c) × (shown_of s m from c name ≡ Some d))
   unfolding shown_of
   shown_levels zero from k name d e = absurd (cc)
-  shown_levels (suc n) from k name d e =
-      go (lookup s k name) (base s k) refl refl
-      (sym (ap (λ z. option_or z (beyond (λ b. shown_of s n from b name) (base s k))) (shows from k name)) ∙ e)
+  shown_levels (suc n) from k name d e = go (level_shows s from k name) (base s k) refl refl e
     where
-      go : (o : Option DeclNo) (b : Option ℕ) → lookup s k name ≡ o → base s k ≡ b → option_or o (beyond (λ b. shown_of s n from b name) b) ≡ Some d
-          → (o ≡ Some d) ⊎ ((c : ℕ) × (m : ℕ) × (b ≡ Some c) × (shown_of s m from c name ≡ Some d))
-      go (Some f) b at out h = inl h
+      go : (o : Option DeclNo) (b : Option ℕ) → level_shows s from k name ≡ o → base s k ≡ b → option_or o (beyond (λ b. shown_of s n from b name) b) ≡ Some d
+          → (lookup s k name ≡ Some d) ⊎ ((c : ℕ) × (m : ℕ) × (b ≡ Some c) × (shown_of s m from c name ≡ Some d))
+      go (Some f) b at out h = inl (shows_there from k name d (at ∙ h))
       go None None at out h = absurd (cc)
       go None (Some c) at out h = inr (c, n, refl, h)
 

@@ -1,13 +1,12 @@
 -- The tables of an allowed plain program agree with its texts.
-use Rattle.std.proofs.Common.{ap}
 use Rattle.sim_tree.specs.Order.{InOrder}
 use Rattle.sim_scope.specs.Source.{Source}
-use Rattle.sim_meaning.specs.Attributes.{is_connection}
 use Rattle.sim_meaning.specs.Texts.{BlockText, ClassText}
 use Rattle.sim_agree.specs.Plain.{Plain}
 use Rattle.sim_agree.specs.TablesAgree.{TablesAgree}
 use Rattle.sim_agree.specs.TablesOf.{TablesOf}
 use Rattle.sim_agree.proofs.ArrayNames as a
+use Rattle.sim_agree.proofs.Chains as c
 use Rattle.sim_agree.proofs.Findings as f
 use Rattle.sim_agree.proofs.Headings as h
 use Rattle.sim_agree.proofs.Insides as i
@@ -31,9 +30,9 @@ tables_agree s of plain order =
       begins = i.begins s of plain order;
       inside = i.inside s of plain order;
       connections = i.connections s of plain order;
-      unprefixed = t.no_base s of plain order;
+      prefixes = c.prefixes s of plain order;
       not_standard = i.not_standard s of plain order;
-      connects = λ k c e. (let q = t.connects s of plain order k c e in record { connection = q.0; heading = q.1.0; declarations = q.1.1; statements = q.1.2; class = q.1.3 });
+      connects = λ k n e. (let q = t.connects s of plain order k n e in record { prefix = q.0; heading = q.1; declarations = q.2; statements = q.3; class = q.4 });
       nothing_in_connections = t.nothing_in_connections s of plain order;
       outward = i.outward s of plain order;
       listed = t.listed s of plain order;
@@ -43,14 +42,15 @@ tables_agree s of plain order =
       parameters = h.parameters_formal s of plain order;
       procedures = h.procedures s of plain order;
       classes = h.classes s of plain order;
+      owners = c.owners s of plain order;
       blocks = λ k begin ds ss is. record {
         no_formals = h.no_formals s of plain order k begin ds ss is;
         arrays = record { distinct = o.distinct s plain order k begin ds ss is; made = a.made s of plain order k (BlockText begin ds ss) is; own = a.own s of plain order k (BlockText begin ds ss) is };
       };
       bodies = h.headings s of plain order;
       class_texts = λ k prefix head ds ss is. record {
-        formals = h.class_headings s of plain order k prefix head ds ss is;
-        parameters = h.parameters s of plain order k (ap is_connection is);
+        formals = h.class_headings s of plain order k;
+        parameters = h.parameters s of plain order k;
         arrays = record { distinct = o.distinct_class s plain order k prefix head ds ss is; made = a.made s of plain order k (ClassText prefix head ds ss) is; own = a.own s of plain order k (ClassText prefix head ds ss) is };
         stays = i.stays s of plain order k prefix head ds ss is;
       };

@@ -1,4 +1,4 @@
--- What is known of the tables of an allowed program without prefixes, parameters by name and formal procedures.
+-- What is known of the tables of an allowed program without block prefixes, parameters by name and formal procedures.
 use Rattle.std.specs.Prelude.{◌≡◌, ◌<◌, ℕ, Bool, true, false, List, length, Option, Some, None}
 use Rattle.sim_base.specs.declared.numbering.DeclNo.{DeclNo}
 use Rattle.sim_scope.specs.declared.scopes.Denotation.TheVariants as denotation
@@ -22,7 +22,7 @@ use Rattle.sim_meaning.specs.Entries.{formals_of, numbers_of}
 use Rattle.sim_meaning.specs.Levels.{is_class}
 use Rattle.sim_meaning.specs.Texts.{constant_of, kind_of_type, text}
 use Rattle.sim_sound.specs.Held.{Around}
-use Rattle.sim_sound.specs.Typed.{FormalsAre}
+use Rattle.sim_sound.specs.Typed.{FormalsAre, Prefixes}
 
 -- a declared class: its block is the text of a class, and belongs to it
 pub record IsClass (s : Source) (d : DeclNo) : Type 0 where
@@ -97,6 +97,7 @@ pub record Tabled (s : Source) : Type 0 where
   pub owned : (d : DeclNo) (result : Option SimType) (k : ℕ) → entry_of s.tables d ≡ Some (entry.Procedure result k) → owner_of_level s.tables (Some k) ≡ Some d
   pub class_headings : (d : DeclNo) (k : ℕ) → entry_of s.tables d ≡ Some (entry.Class k) → FormalsAre s (class_formals s.tables k) (class_parameters s (Some k))
   pub classes : (d : DeclNo) (k : ℕ) → entry_of s.tables d ≡ Some (entry.Class k) → (is_class (text s k) ≡ true) × (owner_of_level s.tables (Some k) ≡ Some d)
+  pub owners : (k : ℕ) (d : DeclNo) → is_class (text s k) ≡ true → owner_of_level s.tables (Some k) ≡ Some d → entry_of s.tables d ≡ Some (entry.Class k)
   pub constants : (d : DeclNo) (type : SimType) → entry_of s.tables d ≡ Some (entry.Constant type) → ConstantIs s d type
   -- it is found in a block around
   pub around : (token k : ℕ) (name : List ℕ) (d : DeclNo) → block_at s.tables token ≡ Some k → binding s.tables token name ≡ Some (denotation.Declared d) → Found s token k name d
@@ -104,8 +105,8 @@ pub record Tabled (s : Source) : Type 0 where
   pub inside : (token k j : ℕ) → block_at s.tables token ≡ Some k → is_inside s.tables token j ≡ true → Around s.tables k j
   -- no class is found through a connection
   pub outside : (token found : ℕ) (name : List ℕ) (d : DeclNo) (k : ℕ) → binding s.tables token name ≡ Some (denotation.Declared d) → entry_of s.tables d ≡ Some (entry.Class k) → found_in s.tables token name ≡ Some found → is_connection (text s found) ≡ false
-  -- a connection connects a class
+  -- a next level is a class
   pub connects : (k c : ℕ) → base s.tables k ≡ Some c → is_class (text s c) ≡ true
-  -- the blocks that are connections; no other block has a next level
+  -- the blocks that are connections; what else has a next level is a class with a prefix
   pub connections : (k : ℕ) → is_kind is_connection_kind s.tables k ≡ is_connection (text s k)
-  pub unprefixed : (k : ℕ) → is_connection (text s k) ≡ false → base s.tables k ≡ None
+  pub prefixes : Prefixes s

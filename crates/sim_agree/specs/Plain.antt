@@ -1,6 +1,5 @@
--- Programs that have no form that is not built: no class and no block has a prefix, no class has virtual procedures or attributes that are hidden or
--- protected, no parameter is called by name or is a procedure, there are no activations, and what is used is not spelt as a standard name of
--- coroutines, of sets or of simulation.
+-- Programs that have no form that is not built: no block has a prefix, no class has virtual procedures, no parameter is called by name or is a
+-- procedure, there are no activations, and what is used is not spelt as a standard name of coroutines, of sets or of simulation.
 use Rattle.std.specs.Prelude.{◌≡◌, false, List, [], ◌∷◌, Option, Some, None}
 use Rattle.sim_tree.specs.declared.expr.Identifier.{Identifier}
 use Rattle.sim_tree.specs.declared.stmt.Mode.{Mode as Word}
@@ -16,7 +15,7 @@ use Rattle.sim_tree.specs.Syntax.{Expression, Expressions, Statement, Statements
 abbrev pub PlainName : Identifier → Type 0
 PlainName x = is_name_of_classes x.name ≡ false
 
--- an attribute: of the names of the objects of a class without a prefix `detach` is the only one of these
+-- an attribute: of the names of the objects of a class without a standard prefix `detach` is the only one of these
 abbrev pub PlainAttribute : Identifier → Type 0
 PlainAttribute x = is_detach x.name ≡ false
 
@@ -60,6 +59,11 @@ abbrev pub PlainResult : Option TypeName → Type 0
 PlainResult None = Unit {0}
 PlainResult (Some t) = PlainType t
 
+-- a prefix of a class; `simset` and `simulation` are none
+abbrev pub PlainPrefix : Option Identifier → Type 0
+PlainPrefix None = Unit {0}
+PlainPrefix (Some x) = PlainName x
+
 abbrev pub PlainBounds : BoundPair → Type 0
 PlainBounds b = PlainExpression b.lower × PlainExpression b.upper
 
@@ -86,9 +90,9 @@ PlainSpecification x = PlainSpecified x.kind
 abbrev pub PlainHeading : Heading → Type 0
 PlainHeading h = Each PlainMode h.modes × Each PlainSpecification h.specifications
 
--- without protection parts and virtual parts
+-- without virtual parts
 abbrev pub PlainInterface : Interface → Type 0
-PlainInterface x = (x.protections ≡ []) × (x.virtuals ≡ [])
+PlainInterface x = x.virtuals ≡ []
 
 abbrev mutual
   pub PlainStatement : Statement → Type 0
@@ -124,7 +128,7 @@ abbrev mutual
   PlainDeclaration (s.Variables t vs) = PlainType t
   PlainDeclaration (s.Arrays t i segments) = PlainType t × Each PlainSegment segments
   PlainDeclaration (s.DeclareProcedure result i heading x end) = PlainResult result × PlainHeading heading × PlainStatement x
-  PlainDeclaration (s.DeclareClass prefix i heading interface x end) = (prefix ≡ None) × PlainHeading heading × PlainInterface interface × PlainStatement x
+  PlainDeclaration (s.DeclareClass prefix i heading interface x end) = PlainPrefix prefix × PlainHeading heading × PlainInterface interface × PlainStatement x
 
 pub record Plain (p : Program) : Type 0 where
   pub prefix : p.prefix ≡ None

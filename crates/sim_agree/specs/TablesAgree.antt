@@ -19,18 +19,19 @@ use Rattle.sim_tree.specs.Syntax.{Declarations, Heading, Statement, Statements}
 use Rattle.sim_meaning.specs.Attributes.{is_connection}
 use Rattle.sim_meaning.specs.Closing.{class_parameters}
 use Rattle.sim_meaning.specs.Entries.{formals_of, numbers_of}
+use Rattle.sim_meaning.specs.Levels.{is_class}
 use Rattle.sim_meaning.specs.Texts.{BlockText, ClassText, ProcedureText, declared_at, is_class_free, program_texts, text}
 use Rattle.sim_sound.specs.Held.{Among, Around, IsFormal}
-use Rattle.sim_sound.specs.Typed.{ClassThere, Distinct, FormalsAre, NoFormals, ProcedureThere, arrays_of_block}
+use Rattle.sim_sound.specs.Typed.{ClassThere, Distinct, FormalsAre, NoFormals, Prefixes, ProcedureThere, arrays_of_block}
 use Rattle.sim_agree.specs.Facts.{Found}
 
--- What is connected is a class without a prefix.
-pub record Connects (s : Source) (k c : ℕ) : Type 0 where
-  pub connection : is_connection (text s k) ≡ true
+-- A next level is a class.
+pub record IsLevel (s : Source) (c : ℕ) : Type 0 where
+  pub prefix : Option Identifier
   pub heading : Heading
   pub declarations : Declarations
   pub statements : Statements
-  pub class : text s c ≡ Some (ClassText None heading declarations statements)
+  pub class : text s c ≡ Some (ClassText prefix heading declarations statements)
 
 -- The arrays of a block or a class are those that its table has, each once.
 pub record ArraysAgree (s : Source) (k : ℕ) (ds : Declarations) : Type 0 where
@@ -43,7 +44,7 @@ pub record BlockAgrees (s : Source) (k : ℕ) (ds : Declarations) : Type 0 where
   pub no_formals : NoFormals s (numbers_of s k)
   pub arrays : ArraysAgree s k ds
 
--- The parameters of a class, which come first among its declarations; it lasts.
+-- The parameters of a class, of all its levels; its own come first among its declarations; it lasts.
 pub record ClassAgrees (s : Source) (k : ℕ) (ds : Declarations) : Type 0 where
   pub formals : FormalsAre s (class_formals s.tables k) (class_parameters s (Some k))
   pub parameters : (d : DeclNo) → Among d (numbers_of s k) → IsFormal (entry_of s.tables d) → Among d (class_formals s.tables k)
@@ -66,11 +67,11 @@ pub record TablesAgree (s : Source) : Type 0 where
   -- a block is the text around its first token; one whose text has a token is around the token's block
   pub begins : (k : ℕ) (row : BlockOf) → slice_get s.tables.blocks k ≡ Some row → block_at s.tables row.first ≡ Some k
   pub inside : (token k j : ℕ) → block_at s.tables token ≡ Some k → is_inside s.tables token j ≡ true → Around s.tables k j
-  -- no block has a prefix; a connection has the class that it connects for its next level, and declares nothing
+  -- A class may have a prefix for its next level, a connection has the class that it connects. A connection declares nothing.
   pub connections : (k : ℕ) → is_kind is_connection_kind s.tables k ≡ is_connection (text s k)
-  pub unprefixed : (k : ℕ) → is_connection (text s k) ≡ false → base s.tables k ≡ None
+  pub prefixes : Prefixes s
   pub not_standard : (k : ℕ) → has_standard s.tables k ≡ false
-  pub connects : (k c : ℕ) → base s.tables k ≡ Some c → Connects s k c
+  pub connects : (k c : ℕ) → base s.tables k ≡ Some c → IsLevel s c
   pub nothing_in_connections : (k : ℕ) → is_connection (text s k) ≡ true → (d : DeclNo) → Among d (numbers_of s k) → ⊥
   -- what is around a text that lasts lasts too
   pub outward : (t u : ℕ) → encloser s.tables t ≡ Some u → is_class_free s t ≡ false → is_class_free s u ≡ false
@@ -84,6 +85,7 @@ pub record TablesAgree (s : Source) : Type 0 where
   -- the text of a procedure and of a class stands in that of its declaration, and belongs to it
   pub procedures : (d : DeclNo) (result : Option SimType) (k : ℕ) → entry_of s.tables d ≡ Some (entry.Procedure result k) → ProcedureThere s d k
   pub classes : (d : DeclNo) (k : ℕ) → entry_of s.tables d ≡ Some (entry.Class k) → ClassThere s d k × (owner_of_level s.tables (Some k) ≡ Some d)
+  pub owners : (k : ℕ) (d : DeclNo) → is_class (text s k) ≡ true → owner_of_level s.tables (Some k) ≡ Some d → entry_of s.tables d ≡ Some (entry.Class k)
   -- texts
   pub blocks : (k i : ℕ) (ds : Declarations) (ss : Statements) → text s k ≡ Some (BlockText i ds ss) → BlockAgrees s k ds
   pub bodies : (k : ℕ) (result : Option TypeName) (h : Heading) (a : Statement) → text s k ≡ Some (ProcedureText result h a) → FormalsAre s (numbers_of s k) (formals_of s k)

@@ -96,9 +96,23 @@ lesser_none (Some f) (Some g) e = go (precedes g f) e
     go true e = absurd (cc)
     go false e = e
 
+lesser_other : (o q : Option Fault) → lesser_of o q ≡ None → q ≡ None
+lesser_other None None e = e
+lesser_other None (Some g) e = e
+lesser_other (Some f) None e = refl
+lesser_other (Some f) (Some g) e = go (precedes g f) e
+  where
+    go : (c : Bool) → (if c then Some g else Some f) ≡ None → Some g ≡ None
+    go true e = e
+    go false e = absurd (cc)
+
 module _ (s : Source) (a : AllowedIs s) (plain : Plain s.program) where
   pub tables_of : TablesOf s
-  tables_of = record { tables = a.tables; unbroken = lesser_none (declared_by s.program).least (least_of (prefix_faults (prefixed (declared_by s.program).tables))) a.first }
+  tables_of = record {
+    tables = a.tables;
+    unbroken = lesser_none (declared_by s.program).least (least_of (prefix_faults (prefixed (declared_by s.program).tables))) a.first;
+    prefixes = lesser_other (declared_by s.program).least (least_of (prefix_faults (prefixed (declared_by s.program).tables))) a.first;
+  }
 
   agrees : TablesAgree s
   agrees = tables_agree s tables_of plain a.order
@@ -119,13 +133,14 @@ module _ (s : Source) (a : AllowedIs s) (plain : Plain s.program) where
     owned = λ d result k e. (g.procedures d result k e).owned;
     class_headings = λ d k e. (let c = (g.classes d k e).0 in (g.class_texts k c.prefix c.heading c.declarations c.statements c.is).formals);
     classes = λ d k e. (let c = g.classes d k e in (ap is_class c.0.is, c.1));
+    owners = g.owners;
     constants = constant_is s tables_of plain a.filled a.order a.says;
     around = g.around;
     inside = g.inside;
     outside = not_found_outside;
     connects = λ k c e. ap is_class (g.connects k c e).class;
     connections = g.connections;
-    unprefixed = g.unprefixed;
+    prefixes = g.prefixes;
   }
 
   module _ (written : Written s) where

@@ -1,5 +1,6 @@
--- Types of values, and classes without prefixes: two that lie on one chain are the same.
-use Rattle.std.proofs.Common.{◌≡◌, ◌<◌, ℕ, zero, suc, Bool, true, false, length, Option, Some, None, refl, sym, ap, ◌∙◌, subst, arith, if◌then◌else◌}
+-- Types of values, and classes: what refers to an object of a class refers to one of each of its levels, and the class that two have in common is a
+-- level of both.
+use Rattle.std.proofs.Common.{◌≡◌, ◌<◌, ℕ, zero, suc, Bool, true, false, length, Option, Some, None, refl, ap, ◌∙◌, subst, arith, if◌then◌else◌}
 use Rattle.std.proofs.lemmas.Bool.{false≢true}
 use Rattle.std.proofs.lemmas.Bool.Decides.{nat_tests}
 use Rattle.std.specs.Prelude.{◌||◌, nat_eq, slice_get}
@@ -9,7 +10,7 @@ use Rattle.sim_scope.specs.declared.types.Entry.{Entry}
 use Rattle.sim_scope.specs.declared.types.Entry.TheVariants as entry
 use Rattle.sim_scope.specs.declared.types.SimType.{SimType}
 use Rattle.sim_scope.specs.declared.types.SimType.TheVariants as t
-use Rattle.sim_scope.specs.Levels.{base, both_blocks, class_block, class_block_in, has_level, holds, is_in_chain, level_beyond, on_one_chain, owner_of_level, shared_class, shared_level_of, shared_of, some_level_of}
+use Rattle.sim_scope.specs.Levels.{base, class_block, class_block_in, has_level, holds, level_beyond, owner_of_level, shared_class, shared_level_of, shared_of, some_level_of}
 use Rattle.sim_scope.specs.Scopes.{entry_of}
 use Rattle.sim_scope.specs.Source.{Source}
 use Rattle.sim_scope.specs.Tables.{Tables}
@@ -23,6 +24,8 @@ use Rattle.sim_sound.specs.Held.{ArrayOf, Fits, Holds, Place, Refers, Simply, he
 use Rattle.sim_sound.specs.Expressions.{ExprIs, IsReference}
 use Rattle.sim_agree.specs.Facts.{IsClass, PlainType, ProperType, Tabled}
 use Rattle.sim_allowed.proofs.Meant.{Takes, ValueIs, ValueType}
+use Rattle.sim_agree.proofs.Prefixing.{Reaches, itself, through}
+use Rattle.sim_agree.proofs.Chains.{reaches_level}
 
 -- ---- types
 
@@ -145,9 +148,6 @@ no_connection (Some (PrefixedText c es ds ss)) e = refl
 no_connection (Some ConnectionText) e = absurd (false≢true e)
 no_connection (Some (StandardText w)) e = refl
 
-pub class_alone : (s : Source) → Tabled s → (k : ℕ) → is_class (text s k) ≡ true → base s.tables k ≡ None
-class_alone s known k is = known.unprefixed k (no_connection (text s k) is)
-
 pub own_level : (tables : Tables) (k : ℕ) → 0 < length tables.blocks → has_level tables k k ≡ true
 unfolding has_level some_level_of
 own_level tables k some = go (length tables.blocks) some
@@ -159,60 +159,86 @@ own_level tables k some = go (length tables.blocks) some
     go zero some = absurd (omega (arith, some))
     go (suc n) some = ap (λ z. z || holds (λ b. some_level_of tables n (λ c. nat_eq c k) b) (base tables k)) same
 
-pub one_level : (tables : Tables) (k j : ℕ) → base tables k ≡ None → has_level tables k j ≡ true → k ≡ j
-unfolding has_level some_level_of
-one_level tables k j none e = go (length tables.blocks) e
+or_true : (x y : Bool) → y ≡ true → (x || y) ≡ true
+or_true true y e = refl
+or_true false y e = e
+
+-- one level more changes nothing
+pub level_more : (tables : Tables) (n : ℕ) (test : ℕ → Bool) (k : ℕ) → some_level_of tables n test k ≡ true → some_level_of tables (suc n) test k ≡ true
+unfolding some_level_of
+level_more tables zero test k e = absurd (false≢true e)
+level_more tables (suc n) test k e = go (test k) (base tables k) e (λ c f. level_more tables n test c f)
   where
-    tested : (b : Bool) → nat_eq k j ≡ b → (b || false) ≡ true → k ≡ j
-    tested true is e = grind (arith, nat_tests)
-    tested false is e = absurd (false≢true e)
+    go : (a : Bool) (o : Option ℕ) → (a || holds (λ b. some_level_of tables n test b) o) ≡ true → ((c : ℕ) → some_level_of tables n test c ≡ true → some_level_of tables (suc n) test c ≡ true) → (a || holds (λ b. some_level_of tables (suc n) test b) o) ≡ true
+    go true o e rest = refl
+    go false None e rest = absurd (false≢true e)
+    go false (Some c) e rest = rest c e
 
-    go : (n : ℕ) → some_level_of tables n (λ b. nat_eq b j) k ≡ true → k ≡ j
-    go zero e = absurd (false≢true e)
-    go (suc n) e = tested (nat_eq k j) refl (sym (ap (λ z. nat_eq k j || holds (λ b. some_level_of tables n (λ c. nat_eq c j) b) z) none) ∙ e)
-
--- ---- one chain
-
-chained : (s : Source) → Tabled s → (c d : DeclNo) (a : IsClass s c) (b : IsClass s d) → is_in_chain s.tables c d ≡ true → a.block ≡ b.block
-unfolding is_in_chain
-chained s known c d a b e =
-    let first = class_row s.tables c a.block a.declares in
-    let second = class_row s.tables d b.block b.declares in
-    one_level s.tables a.block b.block (class_alone s known a.block a.is) (levels first second e)
+-- what is a level of a block is reached from it
+pub level_reached : (tables : Tables) (n k l : ℕ) → some_level_of tables n (λ b. nat_eq b l) k ≡ true → Reaches tables k l
+unfolding some_level_of
+level_reached tables zero k l e = absurd (false≢true e)
+level_reached tables (suc n) k l e = go (nat_eq k l) refl (base tables k) refl e (λ c f. level_reached tables n c l f)
   where
-    levels : class_block s.tables c ≡ Some a.block → class_block s.tables d ≡ Some b.block → is_in_chain s.tables c d ≡ true → has_level s.tables a.block b.block ≡ true
-    levels first second e =
-        subst (λ z. both_blocks (has_level s.tables) (Some a.block) z ≡ true) second (subst (λ w. both_blocks (has_level s.tables) w (class_block s.tables d) ≡ true) first e)
+    go : (z : Bool) → nat_eq k l ≡ z → (o : Option ℕ) → base tables k ≡ o → (z || holds (λ b. some_level_of tables n (λ x. nat_eq x l) b) o) ≡ true → ((c : ℕ) → some_level_of tables n (λ b. nat_eq b l) c ≡ true → Reaches tables c l) → Reaches tables k l
+    go true z o is e rest = let same : k ≡ l = grind (arith, nat_tests) in subst (Reaches tables k) same itself
+    go false z None is e rest = absurd (false≢true e)
+    go false z (Some c) is e rest = through is (rest c e)
 
-either_true : (a b : Bool) → (a || b) ≡ true → (P : Type 0) → (a ≡ true → P) → (b ≡ true → P) → P
-either_true true b e P f g = f refl
-either_true false b e P f g = g e
+reached_both : (tables : Tables) (a b c : ℕ) → Reaches tables a b → Reaches tables b c → Reaches tables a c
+reached_both tables a b c itself y = y
+reached_both tables a b c (through {b = d} e x) y = through e (reached_both tables d b c x y)
 
-pub same_class : (s : Source) → Tabled s → (c d : DeclNo) (a : IsClass s c) (b : IsClass s d) → on_one_chain s.tables c d ≡ true → a.block ≡ b.block
-unfolding on_one_chain
-same_class s known c d a b e =
-    either_true (is_in_chain s.tables c d) (is_in_chain s.tables d c) e (a.block ≡ b.block) (λ h. chained s known c d a b h) (λ h. sym (chained s known d c b a h))
+-- a level of a level is a level
+pub level_both : (s : Source) → Tabled s → (a b c : ℕ) → is_class (text s a) ≡ true → has_level s.tables a b ≡ true → has_level s.tables b c ≡ true → has_level s.tables a c ≡ true
+unfolding has_level
+level_both s known a b c class x y =
+    reaches_level s.tables (length s.tables.blocks) a c (known.prefixes.ends a (no_connection (text s a) class))
+    (reached_both s.tables a b c (level_reached s.tables (length s.tables.blocks) a b x) (level_reached s.tables (length s.tables.blocks) b c y))
 
-pub same_held : (s : Source) (c d : DeclNo) (a : IsClass s c) (b : IsClass s d) → a.block ≡ b.block → held_by s (t.Ref c) ≡ held_by s (t.Ref d)
-same_held s c d a b same = class_held s c a ∙ ap Refers same ∙ sym (class_held s d b)
+-- the levels of a class are classes
+level_class : (s : Source) → Tabled s → (k l : ℕ) → is_class (text s k) ≡ true → Reaches s.tables k l → is_class (text s l) ≡ true
+level_class s known k l class itself = class
+level_class s known k l class (through {b = b} e x) = level_class s known b l (known.connects k b e) x
 
--- the class that two have in common is both
-pub shared_same : (s : Source) → Tabled s → (c d class : DeclNo) (a : IsClass s c) (b : IsClass s d) → shared_class s.tables c d ≡ Some class → (class ≡ c) × (a.block ≡ b.block)
-unfolding shared_class shared_level_of
-shared_same s known c d class a b e =
-    blocks (subst (λ z. shared_of s.tables (Some a.block) z ≡ Some class) (class_row s.tables d b.block b.declares) (subst (λ w. shared_of s.tables w (class_block s.tables d) ≡ Some class) (class_row s.tables c a.block a.declares) e))
+-- where an object of a class may stand an object of a class inside may stand
+pub fits_inside : (s : Source) → Tabled s → (a q : ℕ) → is_class (text s a) ≡ true → has_level s.tables a q ≡ true → (h : Holds) → Fits s (Refers q) h → Fits s (Refers a) h
+fits_inside s known a q class level (Simply k) f = f
+fits_inside s known a q class level (Refers w) f = level_both s known a q w class level f
+fits_inside s known a q class level (ArrayOf h) f = absurd f
+
+-- the class that two have in common is a level of both
+pub record InBoth (s : Source) (a b : ℕ) (class : DeclNo) : Type 0 where
+  pub is : IsClass s class
+  pub first : has_level s.tables a is.block ≡ true
+  pub second : has_level s.tables b is.block ≡ true
+
+shared_level : (tables : Tables) (n other k l : ℕ) → shared_level_of tables n other k ≡ Some l → (some_level_of tables n (λ x. nat_eq x l) k ≡ true) × (has_level tables other l ≡ true)
+unfolding shared_level_of some_level_of
+shared_level tables zero other k l e = absurd (cc)
+shared_level tables (suc n) other k l e = go (has_level tables other k) refl (base tables k) e (λ c f. shared_level tables n other c l f)
   where
-    tested : (n : ℕ) (g : Bool) → has_level s.tables b.block a.block ≡ g → owner_of_level s.tables (if g then Some a.block else level_beyond (λ z. shared_level_of s.tables n b.block z) (base s.tables a.block)) ≡ Some class → (class ≡ c) × (a.block ≡ b.block)
-    tested n true is e =
-        let same = one_level s.tables b.block a.block (class_alone s known b.block b.is) is in
-        let owner : Some class ≡ Some c = sym e ∙ a.owned in
-        let is : class ≡ c = cc in (is, sym same)
-    tested n false is e =
-        let none : None ≡ Some class = sym (ap (λ z. owner_of_level s.tables (level_beyond (λ y. shared_level_of s.tables n b.block y) z)) (class_alone s known a.block a.is)) ∙ e in absurd (cc)
+    same_number : nat_eq k k ≡ true
+    same_number = grind (arith, nat_tests)
 
-    outward_from : (n : ℕ) → owner_of_level s.tables (shared_level_of s.tables n b.block a.block) ≡ Some class → (class ≡ c) × (a.block ≡ b.block)
-    outward_from zero e = absurd (cc)
-    outward_from (suc n) e = tested n (has_level s.tables b.block a.block) refl e
+    go : (g : Bool) → has_level tables other k ≡ g → (o : Option ℕ) → (if g then Some k else level_beyond (λ z. shared_level_of tables n other z) o) ≡ Some l
+        → ((c : ℕ) → shared_level_of tables n other c ≡ Some l → (some_level_of tables n (λ x. nat_eq x l) c ≡ true) × (has_level tables other l ≡ true))
+        → ((nat_eq k l || holds (λ b. some_level_of tables n (λ x. nat_eq x l) b) o) ≡ true) × (has_level tables other l ≡ true)
+    go true is o e rest =
+        let same : k ≡ l = cc in
+        subst (λ z. ((nat_eq k z || holds (λ b. some_level_of tables n (λ x. nat_eq x z) b) o) ≡ true) × (has_level tables other z ≡ true)) same (ap (λ z. z || holds (λ b. some_level_of tables n (λ x. nat_eq x k) b) o) same_number, is)
+    go false is None e rest = absurd (cc)
+    go false is (Some c) e rest = let q = rest c e in (or_true (nat_eq k l) _ q.0, q.1)
 
-    blocks : owner_of_level s.tables (shared_level_of s.tables (length s.tables.blocks) b.block a.block) ≡ Some class → (class ≡ c) × (a.block ≡ b.block)
-    blocks e = outward_from (length s.tables.blocks) e
+pub shared_both : (s : Source) → Tabled s → (c d class : DeclNo) (a : IsClass s c) (b : IsClass s d) → shared_class s.tables c d ≡ Some class → InBoth s a.block b.block class
+unfolding shared_class has_level
+shared_both s known c d class a b e =
+    go (shared_level_of s.tables (length s.tables.blocks) b.block a.block) refl
+    (subst (λ z. shared_of s.tables (Some a.block) z ≡ Some class) (class_row s.tables d b.block b.declares) (subst (λ w. shared_of s.tables w (class_block s.tables d) ≡ Some class) (class_row s.tables c a.block a.declares) e))
+  where
+    go : (o : Option ℕ) → shared_level_of s.tables (length s.tables.blocks) b.block a.block ≡ o → owner_of_level s.tables o ≡ Some class → InBoth s a.block b.block class
+    go None at f = absurd (cc)
+    go (Some l) at f =
+        let q = shared_level s.tables (length s.tables.blocks) b.block a.block l at in
+        let class_l : is_class (text s l) ≡ true = level_class s known a.block l a.is (level_reached s.tables (length s.tables.blocks) a.block l q.0) in
+        record { is = record { block = l; declares = known.owners l class class_l f; is = class_l; owned = f }; first = q.0; second = q.1 }

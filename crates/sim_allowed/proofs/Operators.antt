@@ -32,7 +32,7 @@ use Rattle.sim_sound.specs.Held.{Fits, Holds, Place, Simply}
 use Rattle.sim_sound.specs.Expressions.{ExprIs, SortKinds}
 use Rattle.sim_agree.specs.Facts.{IsClass, PlainType, Tabled}
 use Rattle.sim_allowed.proofs.Calls.{OperandIs}
-use Rattle.sim_allowed.proofs.Classes.{none_takes, plain_proper, plain_value, proper_value, same_held, shared_same, simply}
+use Rattle.sim_allowed.proofs.Classes.{class_held, fits_inside, none_takes, plain_proper, plain_value, proper_value, shared_both, simply}
 use Rattle.sim_allowed.proofs.Meant.{Means, Takes, ValueType}
 use Rattle.sim_allowed.proofs.Said.{AllSay}
 
@@ -267,10 +267,11 @@ module _ (s : Source) (known : Tabled s) where
   of_classes : (c d : DeclNo) (type : SimType) → IsClass s c → IsClass s d → (o : Option DeclNo) → shared_class s.tables c d ≡ o → reference_to o ≡ Some type → InCommon s (t.Ref c) (t.Ref d) type
   of_classes c d type a b None is e = absurd (cc)
   of_classes c d type a b (Some class) is e =
-      let both = shared_same s known c d class a b is in
+      let both = shared_both s known c d class a b is in
       let same : t.Ref class ≡ type = cc in
-      let held = same_held s c d a b both.1 in
-      with_none c (t.Ref c) (t.Ref d) type a (λ h f. f) (λ h f. subst (λ z. Fits s z h) held f) (ap (λ z. Some (t.Ref z)) (sym both.0) ∙ ap Some same)
+      with_none class (t.Ref c) (t.Ref d) type both.is
+      (λ h f. subst (λ z. Fits s z h) (sym (class_held s c a)) (fits_inside s known a.block both.is.block a.is both.first h (subst (λ z. Fits s z h) (class_held s class both.is) f)))
+      (λ h f. subst (λ z. Fits s z h) (sym (class_held s d b)) (fits_inside s known b.block both.is.block b.is both.second h (subst (λ z. Fits s z h) (class_held s class both.is) f))) (ap Some same)
 
   in_common_is : (a b type : SimType) → ValueType s a → ValueType s b → common_type s.tables a b ≡ Some type → InCommon s a b type
   unfolding common_type

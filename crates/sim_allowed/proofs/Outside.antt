@@ -1,5 +1,5 @@
 -- No class is found through a connection: a class that is connected declares none.
-use Rattle.std.proofs.Common.{◌≡◌, ◌<◌, ℕ, zero, suc, Bool, true, false, ◌||◌, List, [], ◌∷◌, ◌++◌, length, Option, Some, None, refl, sym, ap, ◌∙◌, subst, arith, if◌then◌else◌}
+use Rattle.std.proofs.Common.{◌≡◌, ℕ, zero, suc, Bool, true, false, ◌||◌, List, [], ◌∷◌, ◌++◌, length, Option, Some, None, refl, sym, ap, ◌∙◌, subst, arith, if◌then◌else◌}
 use Rattle.std.proofs.lemmas.Bool.{false≢true}
 use Rattle.std.proofs.lemmas.Bool.Decides.{nat_tests}
 use Rattle.std.specs.Prelude.{nat_eq}
@@ -210,29 +210,28 @@ program_checked s plain said = whole s.program.block plain.block (both_say s ((j
 
 -- ---- so a class that is connected has none
 
-pub connected_fine : (s : Source) (of : TablesOf s) (plain : Plain s.program) (order : InOrder s.program) → AllSay s (program_events (judging s.tables) s.program) → (k c : ℕ) → base s.tables k ≡ Some c → has_classes s.tables c ≡ false
-connected_fine s of plain order said k c e = connects_met s of plain order (Fine s) (λ n f. absurd (cc)) (program_checked s plain said) k c e c refl
+pub connected_fine : (s : Source) (of : TablesOf s) (plain : Plain s.program) (order : InOrder s.program) → AllSay s (program_events (judging s.tables) s.program) → (k c : ℕ) → is_connection (text s k) ≡ true → base s.tables k ≡ Some c → has_classes s.tables c ≡ false
+connected_fine s of plain order said k c is e = connects_met s of plain order (Fine s) (λ n f. absurd (cc)) (program_checked s plain said) k c is e c refl
 
 -- ---- no class is found through a connection
 
 some_same : {A : Type 0} (a b : A) → Some a ≡ Some b → a ≡ b
 some_same a b e = cc
 
--- a level of a class without a prefix is the class itself
-level_alone : (s : Tables) (n k b : ℕ) → base s k ≡ None → some_level_of s n (λ x. nat_eq x b) k ≡ true → k ≡ b
+-- what holds of a level holds of some level
+some_holds : (s : Tables) (n k b : ℕ) (test : ℕ → Bool) → test b ≡ true → some_level_of s n (λ x. nat_eq x b) k ≡ true → some_level_of s n test k ≡ true
 unfolding some_level_of
-level_alone s zero k b none e = absurd (cc)
-level_alone s (suc n) k b none e = go (nat_eq k b) refl (sym (ap (λ z. nat_eq k b || holds (λ x. some_level_of s n (λ x. nat_eq x b) x) z) none) ∙ e)
+some_holds s zero k b test h e = absurd (cc)
+some_holds s (suc n) k b test h e = go (nat_eq k b) refl (base s k) e (λ c f. some_holds s n c b test h f)
   where
-    go : (z : Bool) → nat_eq k b ≡ z → (z || false) ≡ true → k ≡ b
-    go true f g = grind (arith, nat_tests, f)
-    go false f g = absurd (cc)
+    or_true : (x y : Bool) → y ≡ true → (x || y) ≡ true
+    or_true true y f = refl
+    or_true false y f = f
 
--- a class that declares one has one
-has_one : (s : Tables) (n k : ℕ) → 0 < n → holds_class s k ≡ true → some_level_of s n (holds_class s) k ≡ true
-unfolding some_level_of
-has_one s zero k le e = absurd (omega (arith, le))
-has_one s (suc n) k le e = ap (λ z. z || holds (λ b. some_level_of s n (holds_class s) b) (base s k)) e
+    go : (z : Bool) → nat_eq k b ≡ z → (o : Option ℕ) → (z || holds (λ x. some_level_of s n (λ x. nat_eq x b) x) o) ≡ true → ((c : ℕ) → some_level_of s n (λ x. nat_eq x b) c ≡ true → some_level_of s n test c ≡ true) → (test k || holds (λ x. some_level_of s n test x) o) ≡ true
+    go true is o f rest = let same : k ≡ b = grind (arith, nat_tests) in ap (λ z. z || holds (λ x. some_level_of s n test x) o) (ap test same ∙ h)
+    go false is None f rest = absurd (cc)
+    go false is (Some c) f rest = or_true (test k) _ (rest c f)
 
 pub outside : (s : Source) (of : TablesOf s) (plain : Plain s.program) (order : InOrder s.program) → TablesAgree s → AllSay s (program_events (judging s.tables) s.program)
     → (token found : ℕ) (name : List ℕ) (d : DeclNo) (k : ℕ) → binding s.tables token name ≡ Some (denotation.Declared d) → entry_of s.tables d ≡ Some (entry.Class k) → found_in s.tables token name ≡ Some found → is_connection (text s found) ≡ false
@@ -242,17 +241,15 @@ outside s of plain order agrees said token found name d k binds is at = go (is_c
     declares : holds_class s.tables (block_of s d) ≡ true
     declares = class_in_block s of plain order d k is
 
-    no_class : (c : ℕ) → base s.tables found ≡ Some c → some_level_of s.tables (length s.tables.blocks) (λ x. nat_eq x (block_of s d)) c ≡ true → ⊥
-    no_class c connects level =
-        let q = agrees.connects found c connects in
-        let same : c ≡ block_of s d = level_alone s.tables (length s.tables.blocks) c (block_of s d) (agrees.unprefixed c (ap is_connection q.class)) level in
-        let one : some_level_of s.tables (length s.tables.blocks) (holds_class s.tables) c ≡ true = has_one s.tables (length s.tables.blocks) c agrees.some_block (subst (λ z. holds_class s.tables z ≡ true) (sym same) declares) in
-        let none : some_level_of s.tables (length s.tables.blocks) (holds_class s.tables) c ≡ false = connected_fine s of plain order said found c connects in
+    no_class : is_connection (text s found) ≡ true → (c : ℕ) → base s.tables found ≡ Some c → some_level_of s.tables (length s.tables.blocks) (λ x. nat_eq x (block_of s d)) c ≡ true → ⊥
+    no_class is_one c connects level =
+        let one : some_level_of s.tables (length s.tables.blocks) (holds_class s.tables) c ≡ true = some_holds s.tables (length s.tables.blocks) c (block_of s d) (holds_class s.tables) declares level in
+        let none : some_level_of s.tables (length s.tables.blocks) (holds_class s.tables) c ≡ false = connected_fine s of plain order said found c is_one connects in
         false≢true (sym none ∙ one)
 
     through : (c : Bool) → is_connection (text s found) ≡ c → FoundThrough s c found (block_of s d) → is_connection (text s found) ≡ false
     through false e q = e
-    through true e q = absurd (no_class q.0 q.1 q.2)
+    through true e q = absurd (no_class e q.0 q.1 q.2)
 
     in_block : (o : Option ℕ) → block_at s.tables token ≡ o → is_connection (text s found) ≡ false
     in_block None out = absurd (let f : None ≡ Some found = sym (ap (λ o. level_beyond (first_along (encloser s.tables) (length s.tables.blocks) (if_found s.tables token name)) o) out) ∙ at in cc)

@@ -1,5 +1,5 @@
 -- The texts of a program, with what the last round says of them.
-use Rattle.std.proofs.Common.{◌≡◌, ℕ, zero, suc, Bool, true, false, List, [], ◌∷◌, ◌++◌, ◌⊎◌, inl, inr, Option, Some, None, refl, sym, subst, arith, if◌then◌else◌}
+use Rattle.std.proofs.Common.{◌≡◌, ℕ, zero, suc, Bool, true, false, List, [], ◌∷◌, ◌++◌, ◌⊎◌, inl, inr, Option, Some, None, refl, sym, subst, arith, if◌then◌else◌, ap}
 use Rattle.std.proofs.lemmas.Bool.Decides.{nat_tests}
 use Rattle.std.specs.Prelude.{◌==◌, slice_get}
 use Rattle.sim_scope.specs.declared.types.Position.{Position}
@@ -17,10 +17,11 @@ use Rattle.sim_values.specs.Plain.{Plain as Value, kind_of}
 use Rattle.sim_code.specs.Rows.{text_value}
 use Rattle.sim_meaning.specs.Constants.{TextConstant, arms_constants, block_constants, constant_from, declaration_constants, declarations_constants, elements_constants, expression_constants, prefix_constants, statement_constants, statements_constants, text_constant, text_constants}
 use Rattle.sim_meaning.specs.Texts.{BlockText, ClassText, ConnectionText, ProcedureText, Text, arms_texts, block_texts, declaration_texts, declarations_texts, program_texts, statement_texts, statements_texts, text}
-use Rattle.sim_agree.specs.Plain.{Plain, PlainArms, PlainBlock, PlainDeclaration, PlainDeclarations, PlainStatement, PlainStatements}
+use Rattle.sim_agree.specs.Plain.{Plain, PlainArms, PlainBlock, PlainDeclaration, PlainDeclarations, PlainStatement, PlainStatements, PlainPrefix}
 use Rattle.sim_allowed.proofs.Expressions.{AllThere, IsThere, both_there}
 use Rattle.sim_allowed.proofs.Said.{AllSay, both_say}
 use Rattle.sim_allowed.proofs.Statements.{InClass, NoBody, in_class}
+use Rattle.sim_agree.proofs.PlainNames.{no_prefix_texts}
 
 -- what is known of a text: it is plain, its text constants are there, and its events are as the source says
 abbrev pub StatementFine : Source → Statement → Type 0
@@ -70,24 +71,24 @@ all_say_none s [] a = tt
 all_say_none s (x ∷ xs) a = (a.0, all_say_none s xs a.1)
 
 -- a class whose body is no block
-alone_fine : (s : Source) (h : Heading) (a : Statement) → InClass ClassBody a → PlainStatement a → FilledStatement a → AllThere s (statement_constants a) → AllSay s (statement_events (judging s.tables) ClassBody a) → AllFine s (statement_texts a)
-    → AllFine s (ClassText None h NoDeclaration (Also a NoStatement) ∷ statement_texts a)
-alone_fine s h a c p q there said all =
+alone_fine : (s : Source) (prefix : Option Identifier) (h : Heading) (a : Statement) → InClass ClassBody a → PlainStatement a → FilledStatement a → AllThere s (statement_constants a) → AllSay s (statement_events (judging s.tables) ClassBody a) → AllFine s (statement_texts a)
+    → AllFine s (ClassText prefix h NoDeclaration (Also a NoStatement) ∷ statement_texts a)
+alone_fine s prefix h a c p q there said all =
     (((tt, tt, tt), ((p, tt), all_none s (statement_constants a) there, all_say_none s (statement_events (judging s.tables) ClassStatement a) (subst (λ z. AllSay s z) (body_events s a c) said)), tt), all)
 
-alone_texts : (a : Statement) → InClass ClassBody a → (i : ℕ) (h : Heading) (interface : Interface) (end : ℕ) → declaration_texts (DeclareClass None i h interface a end) ≡ ClassText None h NoDeclaration (Also a NoStatement) ∷ statement_texts a
-alone_texts (syntax.Compound b) c i h interface end = absurd c
-alone_texts (syntax.Empty j) c i h interface end = refl
-alone_texts (syntax.Prefixed class es b) c i h interface end = refl
-alone_texts (syntax.Inner j) c i h interface end = refl
-alone_texts (syntax.Call e) c i h interface end = refl
-alone_texts (syntax.Assign e parts) c i h interface end = refl
-alone_texts (syntax.Choose j e a b) c i h interface end = refl
-alone_texts (syntax.Repeat j e a) c i h interface end = refl
-alone_texts (syntax.For j x sign k es a) c i h interface end = refl
-alone_texts (syntax.Inspect j e k a m b) c i h interface end = refl
-alone_texts (syntax.InspectWhen j e arms b) c i h interface end = refl
-alone_texts (syntax.Activate j word e schedule) c i h interface end = refl
+alone_texts : (prefix : Option Identifier) → PlainPrefix prefix → (a : Statement) → InClass ClassBody a → (i : ℕ) (h : Heading) (interface : Interface) (end : ℕ) → declaration_texts (DeclareClass prefix i h interface a end) ≡ ClassText prefix h NoDeclaration (Also a NoStatement) ∷ statement_texts a
+alone_texts prefix w (syntax.Compound b) c i h interface end = absurd c
+alone_texts prefix w (syntax.Empty j) c i h interface end = ap (λ z. ClassText prefix h NoDeclaration (Also (syntax.Empty j) NoStatement) ∷ (z ++ statement_texts (syntax.Empty j))) (no_prefix_texts prefix w)
+alone_texts prefix w (syntax.Prefixed class es b) c i h interface end = ap (λ z. ClassText prefix h NoDeclaration (Also (syntax.Prefixed class es b) NoStatement) ∷ (z ++ statement_texts (syntax.Prefixed class es b))) (no_prefix_texts prefix w)
+alone_texts prefix w (syntax.Inner j) c i h interface end = ap (λ z. ClassText prefix h NoDeclaration (Also (syntax.Inner j) NoStatement) ∷ (z ++ statement_texts (syntax.Inner j))) (no_prefix_texts prefix w)
+alone_texts prefix w (syntax.Call e) c i h interface end = ap (λ z. ClassText prefix h NoDeclaration (Also (syntax.Call e) NoStatement) ∷ (z ++ statement_texts (syntax.Call e))) (no_prefix_texts prefix w)
+alone_texts prefix w (syntax.Assign e parts) c i h interface end = ap (λ z. ClassText prefix h NoDeclaration (Also (syntax.Assign e parts) NoStatement) ∷ (z ++ statement_texts (syntax.Assign e parts))) (no_prefix_texts prefix w)
+alone_texts prefix w (syntax.Choose j e a b) c i h interface end = ap (λ z. ClassText prefix h NoDeclaration (Also (syntax.Choose j e a b) NoStatement) ∷ (z ++ statement_texts (syntax.Choose j e a b))) (no_prefix_texts prefix w)
+alone_texts prefix w (syntax.Repeat j e a) c i h interface end = ap (λ z. ClassText prefix h NoDeclaration (Also (syntax.Repeat j e a) NoStatement) ∷ (z ++ statement_texts (syntax.Repeat j e a))) (no_prefix_texts prefix w)
+alone_texts prefix w (syntax.For j x sign k es a) c i h interface end = ap (λ z. ClassText prefix h NoDeclaration (Also (syntax.For j x sign k es a) NoStatement) ∷ (z ++ statement_texts (syntax.For j x sign k es a))) (no_prefix_texts prefix w)
+alone_texts prefix w (syntax.Inspect j e k a m b) c i h interface end = ap (λ z. ClassText prefix h NoDeclaration (Also (syntax.Inspect j e k a m b) NoStatement) ∷ (z ++ statement_texts (syntax.Inspect j e k a m b))) (no_prefix_texts prefix w)
+alone_texts prefix w (syntax.InspectWhen j e arms b) c i h interface end = ap (λ z. ClassText prefix h NoDeclaration (Also (syntax.InspectWhen j e arms b) NoStatement) ∷ (z ++ statement_texts (syntax.InspectWhen j e arms b))) (no_prefix_texts prefix w)
+alone_texts prefix w (syntax.Activate j word e schedule) c i h interface end = ap (λ z. ClassText prefix h NoDeclaration (Also (syntax.Activate j word e schedule) NoStatement) ∷ (z ++ statement_texts (syntax.Activate j word e schedule))) (no_prefix_texts prefix w)
 
 class_alone_fine : (s : Source) (prefix : Option Identifier) (i : ℕ) (h : Heading) (interface : Interface) (a : Statement) (end : ℕ) → InClass ClassBody a → PlainDeclaration (DeclareClass prefix i h interface a end) → FilledStatement a → AllThere s (statement_constants a)
     → AllSay s (declaration_events (judging s.tables) (DeclareClass prefix i h interface a end))
@@ -97,7 +98,7 @@ class_alone_fine s prefix i h interface a end c p q there said deep =
     let v = judging s.tables in
     let x = both_say s (v.class prefix i h interface) (statement_events v ClassBody a ++ v.leave end) said in
     let y = both_say s (statement_events v ClassBody a) (v.leave end) x.1 in
-    subst (λ z. AllFine s (declaration_texts (DeclareClass z i h interface a end))) (sym p.0) (subst (λ z. AllFine s z) (sym (alone_texts a c i h interface end)) (alone_fine s h a c p.3 q there y.0 (deep p.3 q there y.0)))
+    subst (λ z. AllFine s z) (sym (alone_texts prefix p.0 a c i h interface end)) (alone_fine s prefix h a c p.3 q there y.0 (deep p.3 q there y.0))
 
 mutual
   unfolding judging
@@ -196,18 +197,18 @@ mutual
       let v = judging s.tables in
       let x = both_say s (v.class prefix i h interface) (class_events v b ++ v.leave end) said in
       let y = both_say s (class_events v b) (v.leave end) x.1 in
-      subst (λ z. AllFine s (declaration_texts (DeclareClass z i h interface (syntax.Compound b) end))) (sym p.0) (class_fine s i h interface b end p.3 q there y.0)
+      class_fine s prefix p.0 i h interface b end p.3 q there y.0
   declaration_fine s (DeclareClass prefix i h interface a end) p q there said = class_alone_fine s prefix i h interface a end tt p q there said (λ c d t say. statement_fine s ClassBody a tt c d t say)
 
-  -- a class without a prefix, whose body is a block
-  class_fine : (s : Source) (i : ℕ) (h : Heading) (interface : Interface) (b : Block) (end : ℕ) → PlainBlock b → FilledBlock b → AllThere s (block_constants b) → AllSay s (class_events (judging s.tables) b)
-      → AllFine s (declaration_texts (DeclareClass None i h interface (syntax.Compound b) end))
-  class_fine s i h interface (Begin j ds ss e) end p q there said =
+  -- a class whose body is a block
+  class_fine : (s : Source) (prefix : Option Identifier) → PlainPrefix prefix → (i : ℕ) (h : Heading) (interface : Interface) (b : Block) (end : ℕ) → PlainBlock b → FilledBlock b → AllThere s (block_constants b) → AllSay s (class_events (judging s.tables) b)
+      → AllFine s (declaration_texts (DeclareClass prefix i h interface (syntax.Compound b) end))
+  class_fine s prefix w i h interface (Begin j ds ss e) end p q there said =
       let v = judging s.tables in
       let c = both_there s (declarations_constants ds) (statements_constants ss) there in
       let x = both_say s (declarations_events v ds) (statements_events v ClassStatement ss) said in (
         ((p.0, c.0, x.0), (p.1, c.1, x.1), q.0),
-        both_fine s (declarations_texts ds) (statements_texts ss) (declarations_fine s ds p.0 q.0 c.0 x.0) (statements_fine s ClassStatement ss tt p.1 q.1 c.1 x.1),
+        subst (λ z. AllFine s (z ++ (declarations_texts ds ++ statements_texts ss))) (sym (no_prefix_texts prefix w)) (both_fine s (declarations_texts ds) (statements_texts ss) (declarations_fine s ds p.0 q.0 c.0 x.0) (statements_fine s ClassStatement ss tt p.1 q.1 c.1 x.1)),
       )
 
 program_fine : (s : Source) (b : Block) → PlainBlock b → FilledBlock b → AllThere s (block_constants b) → AllSay s (whole_events (judging s.tables) b) → AllFine s (program_texts None b)

@@ -28,12 +28,13 @@ use Rattle.sim_meaning.specs.Texts.{text}
 use Rattle.sim_sound.specs.Held.{Around, Fits, Holds, In, InBound, Place, Refers, StandsAround, further, itself, reference_to}
 use Rattle.sim_sound.specs.Expressions.{ThisFound, ThisIs}
 use Rattle.sim_agree.specs.Facts.{IsClass, Tabled}
-use Rattle.sim_allowed.proofs.Classes.{class_alone, class_held, class_row, no_connection, one_level}
+use Rattle.sim_allowed.proofs.Classes.{class_held, class_row, fits_inside, level_more, level_reached, no_connection}
 use Rattle.sim_allowed.proofs.Meant.{Means, Takes}
 use Rattle.sim_allowed.proofs.References.{ClassIs, kept}
 use Rattle.sim_allowed.proofs.Said.{AllSay, next_says}
 use Rattle.sim_allowed.proofs.Sights.{text_of}
 use Rattle.sim_allowed.proofs.Uses.{located_says}
+use Rattle.sim_agree.proofs.Prefixing.{Reaches, itself as at_once, through}
 
 -- statements stand in a text, and only bounds in a bound
 abbrev pub extent_of : Place → Extent
@@ -67,33 +68,30 @@ unfolding is_this
 this_level s d c b e =
     second (shows_detach s.tables b) (has_level s.tables b c.block) (sym (ap (λ z. shows_detach s.tables b && level_is s.tables (denotation.Declared d) z b) (class_row s.tables d c.block c.declares)) ∙ e)
 
--- a connection that has a class among its levels connects it
-connects_it : (s : Source) → Tabled s → (b block : ℕ) → is_connection (text s b) ≡ true → is_class (text s block) ≡ true → has_level s.tables b block ≡ true → base s.tables b ≡ Some block
+-- a connection that has a class among its levels connects it, or a class with that prefix
+connects_it : (s : Source) → Tabled s → (b block : ℕ) → is_connection (text s b) ≡ true → is_class (text s block) ≡ true → has_level s.tables b block ≡ true → (c : ℕ) × (base s.tables b ≡ Some c) × (has_level s.tables c block ≡ true)
 unfolding has_level some_level_of
 connects_it s known b block connection class e = go (length s.tables.blocks) e
   where
     other : nat_eq b block ≡ true → ⊥
     other is = let same : b ≡ block = grind (arith, nat_tests) in false≢true (sym (no_connection (text s block) class) ∙ subst (λ z. is_connection (text s z) ≡ true) same connection)
 
-    alone : (n c : ℕ) → is_class (text s c) ≡ true → some_level_of s.tables n (λ z. nat_eq z block) c ≡ true → c ≡ block
-    alone zero c is e = absurd (false≢true e)
-    alone (suc n) c is e = tested (nat_eq c block) refl (sym (ap (λ z. nat_eq c block || holds (λ y. some_level_of s.tables n (λ x. nat_eq x block) y) z) (class_alone s known c is)) ∙ e)
-      where
-        tested : (g : Bool) → nat_eq c block ≡ g → (g || false) ≡ true → c ≡ block
-        tested true is e = grind (arith, nat_tests)
-        tested false is e = absurd (false≢true e)
-
-    behind : (n : ℕ) (o : Option ℕ) → base s.tables b ≡ o → holds (λ y. some_level_of s.tables n (λ x. nat_eq x block) y) o ≡ true → base s.tables b ≡ Some block
+    behind : (n : ℕ) (o : Option ℕ) → base s.tables b ≡ o → holds (λ y. some_level_of s.tables n (λ x. nat_eq x block) y) o ≡ true → (c : ℕ) × (base s.tables b ≡ Some c) × (some_level_of s.tables (suc n) (λ x. nat_eq x block) c ≡ true)
     behind n None is e = absurd (false≢true e)
-    behind n (Some c) is e = is ∙ ap Some (alone n c (known.connects b c is) e)
+    behind n (Some c) is e = (c, is, level_more s.tables n (λ x. nat_eq x block) c e)
 
-    tested : (n : ℕ) (g : Bool) → nat_eq b block ≡ g → (g || holds (λ y. some_level_of s.tables n (λ x. nat_eq x block) y) (base s.tables b)) ≡ true → base s.tables b ≡ Some block
+    tested : (n : ℕ) (g : Bool) → nat_eq b block ≡ g → (g || holds (λ y. some_level_of s.tables n (λ x. nat_eq x block) y) (base s.tables b)) ≡ true → (c : ℕ) × (base s.tables b ≡ Some c) × (some_level_of s.tables (suc n) (λ x. nat_eq x block) c ≡ true)
     tested n true is e = absurd (other is)
     tested n false is e = behind n (base s.tables b) refl e
 
-    go : (n : ℕ) → some_level_of s.tables n (λ z. nat_eq z block) b ≡ true → base s.tables b ≡ Some block
+    go : (n : ℕ) → some_level_of s.tables n (λ z. nat_eq z block) b ≡ true → (c : ℕ) × (base s.tables b ≡ Some c) × (some_level_of s.tables n (λ z. nat_eq z block) c ≡ true)
     go zero e = absurd (false≢true e)
     go (suc n) e = tested n (nat_eq b block) refl e
+
+-- what is no connection and has a class among its levels is a class
+class_here : (s : Source) → Tabled s → (b block : ℕ) → is_connection (text s b) ≡ false → is_class (text s block) ≡ true → Reaches s.tables b block → is_class (text s b) ≡ true
+class_here s known b block other class at_once = class
+class_here s known b block other class (through {b = c} e x) = (known.prefixes.prefixed_by b c other e).class
 
 -- ---- where it stands
 
@@ -110,13 +108,16 @@ stands s (InBound t) token b placed around open_to = beyond b around (sym (ap (�
     beyond b (further {u = u} out a) other = record { next = u; stands_in = out; around = a }
 
 this_is : (s : Source) → Tabled s → (from : Place) (d : DeclNo) (c : IsClass s d) (b : ℕ) → has_level s.tables b c.block ≡ true → StandsAround s from b → (h : Holds) → Fits s (Refers c.block) h → ThisIs s from (is_connection (text s b)) (is_class (text s b)) b h
+unfolding has_level
 this_is s known from d c b level stands h f = go (is_connection (text s b)) refl
   where
     go : (g : Bool) → is_connection (text s b) ≡ g → ThisIs s from g (is_class (text s b)) b h
-    go true is = (stands, subst (λ z. Fits s (reference_to z) h) (sym (connects_it s known b c.block is c.is level)) f)
+    go true is =
+        let q = connects_it s known b c.block is c.is level in
+        (stands, subst (λ z. Fits s (reference_to z) h) (sym q.1) (fits_inside s known q.0 c.block (known.connects b q.0 q.1) q.2 h f))
     go false is =
-        let same = one_level s.tables b c.block (known.unprefixed b is) level in
-        subst (λ z. ThisIs s from false z b h) (sym (subst (λ z. is_class (text s z) ≡ true) (sym same) c.is)) (stands, subst (λ z. Fits s (Refers z) h) (sym same) f)
+        let class = class_here s known b c.block is c.is (level_reached s.tables (length s.tables.blocks) b c.block level) in
+        subst (λ z. ThisIs s from false z b h) (sym class) (stands, fits_inside s known b c.block class level h f)
 
 pub this_means : (s : Source) → Tabled s → (from : Place) (i : ℕ) (class : Identifier) (o : Occurrence) → ClassIs s (extent_of from) class o → block_at s.tables class.token.0 ≡ Some (text_of from)
     → AllSay s (this_object s.tables (extent_of from) i class o).events → Means true s from (syntax.This i class) (this_object s.tables (extent_of from) i class o).value

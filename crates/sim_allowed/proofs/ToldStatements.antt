@@ -21,14 +21,14 @@ use Rattle.sim_scope.specs.declared.types.SimType.TheVariants as t
 use Rattle.sim_scope.specs.Assignments.{fine, takes, wrong}
 use Rattle.sim_scope.specs.Calls.{bound, used_in}
 use Rattle.sim_scope.specs.Expressions.{judge_side}
-use Rattle.sim_scope.specs.Found.{Broken, Event, Typed}
+use Rattle.sim_scope.specs.Found.{Broken, Event, Typed, Uses}
 use Rattle.sim_scope.specs.Judged.{gives, next, telling}
 use Rattle.sim_scope.specs.Operators.{is_reference, is_same, misfit_of}
 use Rattle.sim_scope.specs.Runs.{each}
 use Rattle.sim_scope.specs.Levels.{class_block, has_classes}
 use Rattle.sim_scope.specs.References.{block_of_class, class_fits, class_named}
 use Rattle.sim_scope.specs.Scopes.{binding, entry_of, found_in}
-use Rattle.sim_scope.specs.Statements.{arm_connected, arm_events, arm_fits, array_events, class_connected, class_events, class_prefix_events, class_used, connected_by, constant_token, constant_type, control_events, controlled, element_events, entry_controlled, first_step, first_value, formal_controlled, has_type, inspect_events, inspect_when_events, integer_from, judging, moded_controlled, needs_reference, not_simple, pair_events, program_prefix_events, reference_needed, required, result_events, simple, starts, taken_by, told_unless, type_connected, type_events, type_taken, value_fits, value_type, variable_controlled, variable_events}
+use Rattle.sim_scope.specs.Statements.{arm_connected, arm_events, arm_fits, array_events, class_connected, class_events, class_prefix_events, class_used, connected_by, constant_token, constant_type, control_events, controlled, element_events, entry_controlled, first_step, first_value, formal_controlled, has_type, inspect_events, inspect_when_events, integer_from, judging, moded_controlled, needs_reference, not_simple, pair_events, program_prefix_events, reference_needed, required, result_events, simple, starts, taken_by, told_unless, type_connected, type_events, type_taken, value_fits, value_type, variable_controlled, variable_events, prefix_at, prefix_used}
 use Rattle.sim_scope.specs.Tables.{Tables}
 use Rattle.sim_scope.specs.Walk.{begin_of, arm_classes, arms_events, block_events, class_events as class_body_events, declaration_events, declarations_events, program_events, statement_events, statements_events, whole_events}
 use Rattle.sim_tree.specs.declared.expr.Identifier.{Identifier}
@@ -37,11 +37,11 @@ use Rattle.sim_tree.specs.declared.stmt.Constant.{Constant}
 use Rattle.sim_tree.specs.declared.stmt.TypeName.{TypeName}
 use Rattle.sim_tree.specs.declared.stmt.TypeName.TheVariants as type_name
 use Rattle.sim_tree.specs.declared.stmt.Variable.{Variable}
-use Rattle.sim_tree.specs.Order.{Ascends, Behind, InOrder, Spot, Token, in_block, in_arms, in_bounds, in_declaration, in_declarations, in_each, in_element, in_expression, in_name, in_result, in_segment, in_statement, in_statements, in_type, in_variable}
+use Rattle.sim_tree.specs.Order.{Ascends, Behind, InOrder, Spot, Token, in_block, in_arms, in_bounds, in_declaration, in_declarations, in_each, in_element, in_expression, in_name, in_result, in_segment, in_statement, in_statements, in_type, in_variable, in_prefix}
 use Rattle.sim_tree.specs.Syntax.{Also, Arms, Arrayed, Arrays, Begin, Block, BoundPair, Declaration, Declarations, DeclareClass, DeclareProcedure, Element, Expression, Heading, NoArm, NoDeclaration, NoStatement, Program, Statement, Statements, Variables, When, With}
 use Rattle.sim_tree.specs.Syntax as syntax
 use Rattle.sim_agree.specs.Plain.{Plain, PlainArms, PlainBlock, PlainDeclaration, PlainDeclarations, PlainStatement, PlainStatements}
-use Rattle.sim_allowed.proofs.Counts.{About, Binding, Silent, Typing, binding_then_silent, bound_binds, class_binds, class_fits_silent, here, silent_break, silent_next, silent_none, told, told_both, typing_one, typing_silent, used_in_binds}
+use Rattle.sim_allowed.proofs.Counts.{About, Binding, Silent, Typing, binding_then_silent, bound_binds, class_binds, class_fits_silent, here, silent_break, silent_next, silent_none, told, told_both, typing_one, typing_silent, used_in_binds, binding_one}
 use Rattle.sim_allowed.proofs.Nowhere.{nowhere}
 use Rattle.sim_allowed.proofs.Told.{any_of}
 use Rattle.sim_allowed.proofs.ToldProgram.{Fills, among, assign_fills, call_fills, fills_both, fills_end, fills_more, fills_names, fills_silent, fills_then, required_fills, side_fills}
@@ -198,6 +198,16 @@ type_fills s (type_name.Boolean i) l = fills_silent [] l silent_none
 type_fills s (type_name.Character i) l = fills_silent [] l silent_none
 type_fills s (type_name.Text i) l = fills_silent [] l silent_none
 type_fills s (type_name.Reference i class) l = class_fills_name s class l
+
+-- a prefix is used
+prefix_fills : (s : Tables) (prefix : Option Identifier) (token : ℕ) (l : List Spot) → Fills (class_prefix_events s prefix token) l (in_prefix prefix l)
+unfolding class_prefix_events telling gives
+prefix_fills s None token l = fills_silent [] l silent_none
+prefix_fills s (Some class) token l = go (prefix_at s token)
+  where
+    go : (o : Option Denotation) → Fills (prefix_used class.token.0 o).events l (in_name class l)
+    go None = fills_more [] class.token.0 l l (fills_silent [] l silent_none)
+    go (Some d) = binding_fills class.token.0 (Uses class.token.0 d ∷ []) l (binding_one class.token.0 d)
 
 result_fills : (s : Tables) (result : Option TypeName) (l : List Spot) → Fills (result_events s result) l (in_result result l)
 result_fills s None l = fills_silent [] l silent_none
@@ -388,7 +398,8 @@ module _ (s : Tables) where
     declaration_fills (DeclareClass prefix i h interface a end) p l =
         let v = judging s in
         let u = Behind end ∷ l in
-        subst (λ z. Fills (class_prefix_events s z h.name.token.0 ++ (statement_events v ClassBody a ++ [])) l (in_declaration (DeclareClass z i h interface a end) l)) (sym p.0) (headed_fills h end (statement_events v ClassBody a) l (in_statement a u) (statement_fills ClassBody a p.3 u))
+        let m = in_each in_name h.formals (in_statement a u) in
+        fills_both (class_prefix_events s prefix h.name.token.0) (statement_events v ClassBody a ++ []) l (Token h.name.token.0 ∷ m) (in_prefix prefix (Token h.name.token.0 ∷ m)) (prefix_fills s prefix h.name.token.0 (Token h.name.token.0 ∷ m)) (headed_fills h end (statement_events v ClassBody a) l (in_statement a u) (statement_fills ClassBody a p.3 u))
 
   whole_fills : (b : Block) → PlainBlock b → (l : List Spot) → Fills (whole_events (judging s) b) l (in_block b l)
   unfolding judging

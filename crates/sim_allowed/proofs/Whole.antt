@@ -23,7 +23,6 @@ use Rattle.sim_meaning.specs.Entries.{formals_of, is_held, numbers_of}
 use Rattle.sim_meaning.specs.Texts.{BlockText, ClassText, ConnectionText, PrefixedText, ProcedureText, StandardText, Text, is_class_free, text}
 use Rattle.sim_sound.specs.Held.{Among, ArrayOf, Holds, IsFormal, entry_holds, result_holds}
 use Rattle.sim_sound.specs.Typed.{BlockTyped, ClassThere, ClassTyped, ConnectionTyped, Distinct, FormalsAre, NoFormals, ProcedureThere, ResultWritten, TextTyped, Typed, arrays_of_block}
-use Rattle.sim_sound.proofs.Unprefixed.{unprefixed}
 use Rattle.sim_agree.specs.Facts.{Tabled}
 use Rattle.sim_agree.specs.Places.{PlacedArrays, PlacedStatement, PlacedStatements}
 use Rattle.sim_agree.specs.Plain.{Plain}
@@ -138,6 +137,6 @@ module _ (s : Source) (agreed : Agreed s) (plain : Plain s.program) (filled : Fi
     classes = agreed.classes;
     texts = texts_typed;
     not_class_free = agreed.not_class_free;
-    prefixes = unprefixed s tabled.some_block tabled.unprefixed;
+    prefixes = tabled.prefixes;
     keeps_none = agreed.keeps_none;
   }

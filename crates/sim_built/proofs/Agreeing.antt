@@ -1,25 +1,30 @@
 -- The tables of typed programs agree, as far as code rests on it.
-use Rattle.std.proofs.Common.{◌≡◌, ℕ, zero, suc, true, false, List, [], ◌∷◌, Option, Some, None, refl, sym, ap, ◌∙◌, subst}
+use Rattle.std.proofs.Common.{◌≡◌, ◌<◌, ℕ, zero, suc, Bool, if◌then◌else◌, true, false, List, [], ◌∷◌, length, Option, Some, None, refl, sym, ap, ◌∙◌, subst, arith}
 use Rattle.std.specs.Prelude.{slice_get}
 use Rattle.sim_base.specs.declared.numbering.DeclNo.{DeclNo}
 use Rattle.sim_scope.specs.declared.types.Entry.TheVariants as entry
 use Rattle.sim_scope.specs.declared.types.SimType.{SimType}
 use Rattle.sim_scope.specs.Access.{encloser}
+use Rattle.sim_scope.specs.Levels.{base}
 use Rattle.sim_scope.specs.Scopes.{entry_of}
 use Rattle.sim_scope.specs.Source.{Source, level_of}
 use Rattle.sim_tree.specs.declared.stmt.TypeName.{TypeName}
 use Rattle.sim_meaning.specs.Attributes.{is_connection}
 use Rattle.sim_meaning.specs.Closing.{has_type}
 use Rattle.sim_meaning.specs.Entries.{numbers_of}
+use Rattle.sim_meaning.specs.Levels.{has_levels, is_class}
 use Rattle.sim_meaning.specs.Meaning.{has_result}
 use Rattle.sim_meaning.specs.Texts.{BlockText, ClassText, ConnectionText, PrefixedText, ProcedureText, StandardText, Text, text}
 use Rattle.sim_sound.specs.Held.{Among, first, given_by, later}
-use Rattle.sim_sound.specs.Typed.{ConnectionTyped, Distinct, ResultWritten, Typed}
+use Rattle.sim_sound.specs.Typed.{ConnectionTyped, Distinct, Ends as BaseEnds, ResultWritten, Typed, outermost, prefixed}
 use Rattle.sim_sound.proofs.Attributes.{holds_result}
-use Rattle.codegen_expr.specs.Sites.{is_connected}
-use Rattle.codegen.specs.Agrees.{Agrees, ProcedureThere, Unprefixed, is_prefixed}
+use Rattle.sim_sound.proofs.Lists.{same_some}
+use Rattle.sim_sound.proofs.Prefixes.{level_is, level_number, prefix_level, same_level as own_level}
+use Rattle.sim_sound.proofs.Prefixes as prefixes
+use Rattle.codegen_expr.specs.Sites.{LevelOf, frame_text, frame_within, innermost, is_connected, outer, outward_or, prefix_of}
+use Rattle.codegen.specs.Agrees.{Agrees, Ends, PrefixThere, ProcedureThere, Unprefixed, before, is_prefixed, last}
 use Rattle.sim_built.specs.Laid.{Laid}
-use Rattle.sim_built.proofs.Cells.{unprefixed}
+use Rattle.sim_built.proofs.Cells.{class_is_solid, front_is, level_solid, no_front}
 
 among_at : (ds : List DeclNo) (n : ℕ) (d : DeclNo) → slice_get ds n ≡ Some d → Among d ds
 among_at [] n d e = absurd (cc)
@@ -67,6 +72,71 @@ module _ (s : Source) (ok : Typed s) (laid : Laid s) where
         same = both_given s p.given result (subst (ResultWritten p.given) (holds_result s ok d result k e) body.result);
       }
 
+  -- a text that is no connection has its own frames
+  own_frame : (k : ℕ) → is_connection (text s k) ≡ false → frame_text s k ≡ k
+  unfolding frame_text
+  own_frame k solid = within k
+    where
+      within : (n : ℕ) → frame_within n s.tables k ≡ k
+      within zero = refl
+      within (suc n) = ap (λ z. if z then outward_or (frame_within n s.tables) k (encloser s.tables k) else k) (laid.connected k ∙ solid)
+
+  -- its levels are those in front of it
+  front_level : {t v : ℕ} → is_connection (text s t) ≡ false → prefixes.LevelOf s t v → LevelOf s.tables t v
+  front_level solid own_level = innermost
+  front_level {t = t} solid (prefix_level {b = b} e x) = outer (front_is s ok laid t solid ∙ e) (front_level (class_is_solid (text s b) ((ok.prefixes).prefixed_by t b solid e).prefix) x)
+
+  -- a class has its prefix in front of it
+  class_has : (k : ℕ) → is_class (text s k) ≡ true → has_levels (text s k) ≡ true
+  class_has k is = by_text (text s k) refl is
+    where
+      by_text : (x : Option Text) → text s k ≡ x → is_class x ≡ true → has_levels x ≡ true
+      by_text (Some (ClassText prefix h ds ss)) e is = refl
+      by_text (Some (StandardText which)) e is = absurd (ok.texts k (StandardText which) e)
+      by_text None e is = absurd (cc)
+      by_text (Some (BlockText begin ds ss)) e is = absurd (cc)
+      by_text (Some (ProcedureText result h a)) e is = absurd (cc)
+      by_text (Some (PrefixedText class arguments ds ss)) e is = absurd (cc)
+      by_text (Some ConnectionText) e is = absurd (cc)
+
+  prefix_there : (k front : ℕ) → is_connection (text s k) ≡ false → base s.tables k ≡ Some front → PrefixThere s k front
+  prefix_there k front solid e =
+      let p = (ok.prefixes).prefixed_by k front solid e in record {
+        has = class_has k p.class;
+        class = p.prefix;
+        level = sym (level_number s ok solid (prefix_level e own_level));
+        around = λ u f. (let same : p.outer_prefix ≡ u = same_some (encloser s.tables front) p.outer_prefix u p.around_prefix f in record {
+          around = p.outer;
+          is = p.around;
+          level = subst (λ z. LevelOf s.tables (frame_text s p.outer) (frame_text s z)) same (
+              subst (λ z. LevelOf s.tables z (frame_text s p.outer_prefix)) (sym (own_frame p.outer p.solid)) (subst (λ z. LevelOf s.tables p.outer z) (sym (own_frame p.outer_prefix (level_solid s ok laid p.outer p.outer_prefix p.solid p.declared))) (front_level p.solid (level_is s p.outer p.outer_prefix p.declared)))
+              );
+        });
+      }
+
+  front_there : (k front : ℕ) → prefix_of s.tables k ≡ Some front → PrefixThere s k front
+  front_there k front e = by_text (is_connection (text s k)) refl
+    where
+      by_text : (c : Bool) → is_connection (text s k) ≡ c → PrefixThere s k front
+      by_text true is = let none = no_front s ok laid k is in absurd (cc)
+      by_text false is = prefix_there k front is (sym (front_is s ok laid k is) ∙ e)
+
+  -- the levels of a text that is no connection come to an end
+  solid_ends : {n k : ℕ} → is_connection (text s k) ≡ false → BaseEnds s.tables n k → Ends s.tables n k
+  solid_ends {k = k} solid (outermost none) = last (front_is s ok laid k solid ∙ none)
+  solid_ends {k = k} solid (prefixed {b = b} e more) = before (front_is s ok laid k solid ∙ e) (solid_ends (class_is_solid (text s b) ((ok.prefixes).prefixed_by k b solid e).prefix) more)
+
+  one_level : (n k : ℕ) → 0 < n → prefix_of s.tables k ≡ None → Ends s.tables n k
+  one_level zero k lt none = absurd (let e : ⊥ = omega (arith, lt) in e)
+  one_level (suc n) k lt none = last none
+
+  all_end : (k : ℕ) → Ends s.tables (length s.tables.blocks) k
+  all_end k = by_text (is_connection (text s k)) refl
+    where
+      by_text : (c : Bool) → is_connection (text s k) ≡ c → Ends s.tables (length s.tables.blocks) k
+      by_text true is = one_level (length s.tables.blocks) k ok.some_block (no_front s ok laid k is)
+      by_text false is = solid_ends is ((ok.prefixes).ends k is)
+
   pub agrees : Agrees s
   agrees = record {
     outermost = ok.outermost;
@@ -76,7 +146,8 @@ module _ (s : Source) (ok : Typed s) (laid : Laid s) where
     levels = λ t u e c. ok.levels t u (sym (laid.connected t) ∙ c) e;
     same_level = same_level;
     begun = λ k c. (connection_typed k c).around;
-    prefixes = λ k front e. (let none = unprefixed s ok laid k in absurd (cc));
+    prefixes = front_there;
+    ends = all_end;
     owned = λ k n d e. laid.owned k d (among_at (numbers_of s k) n d e);
     once = λ k n m d e f. once (numbers_of s k) n m d (laid.different k) e f;
     formals = laid.formals;
@@ -85,7 +156,7 @@ module _ (s : Source) (ok : Typed s) (laid : Laid s) where
   }
 
   pub no_prefixes : Unprefixed s
-  no_prefixes = record { classes = λ k. unprefixed s ok laid k; blocks = λ k. by_text k (text s k) refl }
+  no_prefixes = record { blocks = λ k. by_text k (text s k) refl }
     where
       by_text : (k : ℕ) (x : Option Text) → text s k ≡ x → is_prefixed x ≡ false
       by_text k None e = refl

@@ -1,14 +1,14 @@
 -- What is seen has a cell in a text around, and a connection has one where it stands.
 use Rattle.std.proofs.Common.{◌≡◌, ◌<◌, ◌+◌, ◌⊎◌, inl, inr, ⊎_elim, ℕ, zero, suc, Bool, true, false, List, [], ◌∷◌, ◌++◌, length, map, Option, Some, None, refl, sym, ap, ◌∙◌, subst, arith}
-use Rattle.std.proofs.lemmas.Bool.{cases_eq, eq-eqb}
-use Rattle.std.specs.Prelude.{◌==◌, ◌&&◌, slice_get, if◌then◌else◌}
+use Rattle.std.proofs.lemmas.Bool.{eq-eqb}
+use Rattle.std.specs.Prelude.{◌==◌, ◌&&◌, ◌||◌, nat_eq, slice_get, if◌then◌else◌}
 use Rattle.sim_base.specs.declared.numbering.DeclNo.{DeclNo}
 use Rattle.sim_scope.specs.declared.scopes.Declaration.{Declaration as Row}
 use Rattle.sim_scope.specs.declared.types.Entry.{Entry}
 use Rattle.sim_scope.specs.declared.types.Entry.TheVariants as entry
 use Rattle.sim_scope.specs.declared.types.SimType.{SimType}
 use Rattle.sim_scope.specs.Access.{encloser}
-use Rattle.sim_scope.specs.Levels.{base, base_in, has_level}
+use Rattle.sim_scope.specs.Levels.{base, base_in, has_level, holds, some_level_of}
 use Rattle.sim_scope.specs.Scopes.{entry_of}
 use Rattle.sim_scope.specs.Source.{Source, block_of}
 use Rattle.sim_scope.specs.Tables.{BlockOf, Tables}
@@ -29,24 +29,29 @@ use Rattle.sim_sound.specs.Held.{Among, Around, Holds, entry_holds, first, furth
 use Rattle.sim_sound.specs.Typed.{ResultWritten, TextTyped, Typed}
 use Rattle.sim_sound.proofs.Attributes.{holds_result}
 use Rattle.sim_sound.proofs.Changes.{equal_same}
-use Rattle.sim_sound.proofs.Unprefixed.{one_level}
-use Rattle.sim_sound.proofs.Lists.{there_get, there_is}
+use Rattle.sim_sound.proofs.Prefixes.{level_is}
+use Rattle.sim_sound.proofs.Prefixes as prefixes
+use Rattle.sim_sound.proofs.Lists.{numbers_equal, there_get, there_is}
 use Rattle.sim_sound.proofs.Reach.{among_block}
 use Rattle.sim_sound.proofs.Sound.{KeyAmong, first_key, key_of, later_key}
-use Rattle.codegen_expr.specs.Built.{HasBuilt, PlainBuilt, StandsIn, is_around, is_there, place_from, slot_in, unless_prefixed}
+use Rattle.codegen_expr.specs.Built.{HasBuilt, PlainBuilt, StandsIn, is_around, is_level, is_there, place_from, slot_in}
 use Rattle.codegen_expr.specs.Sites.{cells_in, connects, frame_text, hidden_before, hidden_from, hidden_in, in_front, is_connected, own_cells, own_part, prefix_of}
 use Rattle.codegen_expr.specs.Sites as sites
-use Rattle.codegen_expr.proofs.Around.{found_here, found_outside}
+use Rattle.codegen_expr.proofs.Around.{found_here, found_outside, level_front, level_here}
 use Rattle.sim_built.specs.Laid.{Laid}
 
 -- ---- the search outward
 
 module _ (s : Tables) (falls : (t u : ℕ) → encloser s t ≡ Some u → u < t) where
-  around_found : (n t k : ℕ) → t < n → Around s t k → is_around s n t k ≡ true
-  around_found zero t k lt a = absurd (omega (arith, lt))
-  around_found (suc n) t _ lt itself = found_here s t n t refl
-  around_found (suc n) t k lt (further {u = u} e a) =
-      ⊎_elim (λ same. found_here s k n t same) (λ other. found_outside s k n t u other e ∙ around_found n u k (omega (arith, falls t u e, lt)) a) (cases_eq t k)
+  -- a level of a text around
+  around_found : (n t u k : ℕ) → t < n → Around s t u → is_level s (length s.blocks) u k ≡ true → is_around s n t k ≡ true
+  around_found zero t u k lt a level = absurd (omega (arith, lt))
+  around_found (suc n) t _ k lt itself level = found_here s k n t level
+  around_found (suc n) t u k lt (further {u = w} e a) level = by_level (is_level s (length s.blocks) t k) refl (around_found n w u k (omega (arith, falls t w e, lt)) a level)
+    where
+      by_level : (c : Bool) → is_level s (length s.blocks) t k ≡ c → is_around s n w k ≡ true → is_around s (suc n) t k ≡ true
+      by_level true is deep = found_here s k n t is
+      by_level false is deep = found_outside s k n t w is e ∙ deep
 
 -- ---- keys and places
 
@@ -204,24 +209,47 @@ module _ (s : Source) (ok : Typed s) (laid : Laid s) where
 
   -- a text around is found
   pub stands : (t k : ℕ) (x : texts.Text) → text s t ≡ Some x → Around s.tables t k → StandsIn s t k
-  stands t k x e a = record { found = around_found s.tables laid.falls (length s.tables.blocks) t k (text_before t x e) a }
+  stands t k x e a = record { found = around_found s.tables laid.falls (length s.tables.blocks) t k k (text_before t x e) a (level_here s.tables k (length s.tables.blocks) k refl) }
 
-  -- no class is in front of a text
-  pub unprefixed : (k : ℕ) → prefix_of s.tables k ≡ None
+  -- what a class has in front of it is its prefix; a connection has nothing there
+  pub front_is : (k : ℕ) → is_connection (text s k) ≡ false → prefix_of s.tables k ≡ base s.tables k
   unfolding prefix_of is_connected base
-  unprefixed k = by_row (slice_get s.tables.blocks k) (laid.connected k) (λ e. laid.alone k e)
+  front_is k solid = by_row (slice_get s.tables.blocks k) (laid.connected k)
     where
-      by_row : (b : Option BlockOf) → connects b ≡ is_connection (text s k) → (is_connection (text s k) ≡ false → base_in b ≡ None) → in_front b ≡ None
-      by_row None c f = refl
-      by_row (Some b) c f = by_kind (sites.is_connection b.kind) c
-        where
-          by_kind : (x : Bool) → x ≡ is_connection (text s k) → (if x then None else b.base) ≡ None
-          by_kind true c = refl
-          by_kind false c = f (sym c)
+      by_row : (b : Option BlockOf) → connects b ≡ is_connection (text s k) → in_front b ≡ base_in b
+      by_row None c = refl
+      by_row (Some b) c = ap (λ z. if z then None else b.base) (c ∙ solid)
+
+  pub no_front : (k : ℕ) → is_connection (text s k) ≡ true → prefix_of s.tables k ≡ None
+  unfolding prefix_of is_connected
+  no_front k is = by_row (slice_get s.tables.blocks k) (laid.connected k)
+    where
+      by_row : (b : Option BlockOf) → connects b ≡ is_connection (text s k) → in_front b ≡ None
+      by_row None c = refl
+      by_row (Some b) c = ap (λ z. if z then None else b.base) (c ∙ is)
+
+  -- a level is found
+  level_found : (n t v : ℕ) → is_connection (text s t) ≡ false → some_level_of s.tables n (λ b. nat_eq b v) t ≡ true → is_level s.tables n t v ≡ true
+  unfolding some_level_of
+  level_found zero t v solid e = absurd (cc)
+  level_found (suc n) t v solid e = by_test (nat_eq t v) refl e (λ b f g. level_found n b v (class_is_solid (text s b) ((ok.prefixes).prefixed_by t b solid f).prefix) g)
+    where
+      by_base : (t == v) ≡ false → (o : Option ℕ) → base s.tables t ≡ o → holds (λ b. some_level_of s.tables n (λ b. nat_eq b v) b) o ≡ true → ((b : ℕ) → base s.tables t ≡ Some b → some_level_of s.tables n (λ b. nat_eq b v) b ≡ true → is_level s.tables n b v ≡ true) → is_level s.tables (suc n) t v ≡ true
+      by_base other None is f deep = absurd (cc)
+      by_base other (Some b) is f deep = level_front s.tables v n t b (λ same. (let yes : (t == v) ≡ true = eq-eqb t v same in cc)) (front_is t solid ∙ is) ∙ deep b is f
+
+      by_test : (c : Bool) → nat_eq t v ≡ c → (c || holds (λ b. some_level_of s.tables n (λ b. nat_eq b v) b) (base s.tables t)) ≡ true → ((b : ℕ) → base s.tables t ≡ Some b → some_level_of s.tables n (λ b. nat_eq b v) b ≡ true → is_level s.tables n b v ≡ true) → is_level s.tables (suc n) t v ≡ true
+      by_test true is f deep = level_here s.tables v (suc n) t (numbers_equal t v is)
+      by_test false is f deep = by_base is (base s.tables t) refl f deep
+
+  -- a level of a text around is found
+  pub stands_level : (t u v : ℕ) (x : texts.Text) → text s t ≡ Some x → Around s.tables t u → is_connection (text s u) ≡ false → has_level s.tables u v ≡ true → StandsIn s t v
+  unfolding has_level
+  stands_level t u v x e a solid level = record { found = around_found s.tables laid.falls (length s.tables.blocks) t u v (text_before t x e) a (level_found (length s.tables.blocks) u v solid level) }
 
   slot_if : (u : ℕ) (key : Key) → KeyAmong key (map key_of (own_part s u)) → is_there (slot_in s u key) ≡ true
   unfolding slot_in
-  slot_if u key a = subst (λ z. is_there (unless_prefixed z (place_from 0 key (own_part s u))) ≡ true) (sym (unprefixed u)) (place_there 0 key (own_part s u) a)
+  slot_if u key a = place_there 0 key (own_part s u) a
 
   slot_of_text : (u : ℕ) (key : Key) (x : texts.Text) → text s u ≡ Some x → KeyAmong key (map key_of (own_cells s u x)) → is_there (slot_in s u key) ≡ true
   slot_of_text u key x e a = slot_if u key (among_front key (cells_in s u (text s u)) (hidden_in s u) (subst (λ z. KeyAmong key (map key_of (cells_in s u z))) (sym e) a))
@@ -281,6 +309,6 @@ module _ (s : Source) (ok : Typed s) (laid : Laid s) where
   pub declared_has : (d : DeclNo) (h : Holds) (c : Bool) → is_connection (text s (block_of s d)) ≡ false → entry_holds s c (entry_of s.tables d) ≡ Some h → HasBuilt s (block_of s d) (Declared d.0)
   declared_has d h c solid e = slot_listed (block_of s d) d h c solid e (among_held d h c e)
 
-  -- where a level is that of a text itself
+  -- a level of a text that is no connection is none
   pub level_solid : (t u : ℕ) → is_connection (text s t) ≡ false → has_level s.tables t u ≡ true → is_connection (text s u) ≡ false
-  level_solid t u solid e = subst (λ z. is_connection (text s z) ≡ false) (one_level s laid.alone t u solid e) solid
+  level_solid t u solid e = prefixes.level_solid s ok solid (level_is s t u e)

@@ -30,7 +30,6 @@ unfolding is_connected is_kind
 lies s a inners = record {
   as_many = a.as_many;
   connected = λ k. in_row (slice_get s.tables.blocks k) ∙ a.connections k;
-  alone = a.unprefixed;
   falls = a.nesting;
   owned = a.owned;
   different = a.different;

@@ -11,14 +11,15 @@ use Rattle.sim_values.specs.declared.kind.Kind.TheVariants as kind
 use Rattle.sim_meaning.specs.Attributes.{is_connection}
 use Rattle.sim_meaning.specs.Entries.{numbers_of}
 use Rattle.sim_meaning.specs.Levels.{writes_inner}
-use Rattle.sim_meaning.specs.Texts.{BlockText, ClassText, ConnectionText, ProcedureText, Text, arms_texts, block_texts, declaration_texts, declarations_texts, declared_at, program_texts, statement_texts, statements_texts, text}
+use Rattle.sim_meaning.specs.Texts.{BlockText, ClassText, ConnectionText, ProcedureText, Text, arms_texts, block_texts, declaration_texts, declarations_texts, declared_at, prefix_texts, program_texts, statement_texts, statements_texts, text}
 use Rattle.sim_agree.specs.Inners.{InnersIn}
-use Rattle.sim_agree.specs.Plain.{Each, Plain, PlainArms, PlainBlock, PlainDeclaration, PlainDeclarations, PlainStatement, PlainStatements}
+use Rattle.sim_agree.specs.Plain.{Each, Plain, PlainArms, PlainBlock, PlainDeclaration, PlainDeclarations, PlainPrefix, PlainStatement, PlainStatements}
+use Rattle.sim_agree.proofs.PlainNames.{no_prefix_texts}
 use Rattle.sim_sound.specs.Held.{Among, ArrayOf, Holds, InBound, Simply, entry_holds, first, held_by, later}
 use Rattle.sim_sound.specs.Statements.{StatementsAre}
 use Rattle.sim_sound.specs.Typed.{ArraysAre, ArraysTyped, BoundsAre, SegmentsAre, SomeName, TextTyped, Typed, arrays_in_segments, arrays_named, arrays_of_block, of_option}
 use Rattle.codegen_expr.specs.Sites.{is_constant}
-use Rattle.codegen.specs.BuiltProgram.{ArraysBuilt, BoundsBuilt, ClassTextBuilt, KeptBuilt, LevelBuilt, MadeBuilt, NamesBuilt, ProgramBuilt, SegmentsBuilt, TextBuilt, TextsBuilt, texts_of}
+use Rattle.codegen.specs.BuiltProgram.{ArraysBuilt, BoundsBuilt, KeptBuilt, LevelBuilt, MadeBuilt, NamesBuilt, ProgramBuilt, SegmentsBuilt, TextBuilt, TextsBuilt, texts_of}
 use Rattle.sim_built.specs.Laid.{Laid}
 use Rattle.sim_built.proofs.Agreeing.{agrees, no_prefixes}
 use Rattle.sim_built.proofs.Cells.{slot_listed}
@@ -84,13 +85,17 @@ module _ (s : Source) (ok : Typed s) (laid : Laid s) (t : ℕ) (x : Text) (there
 abbrev Fit : Text → Type 0
 Fit (BlockText begin ds ss) = FilledStatements ss
 Fit (ProcedureText result h a) = FilledStatement a
-Fit (ClassText prefix h ds ss) = (prefix ≡ None) × FilledStatements ss
+Fit (ClassText prefix h ds ss) = FilledStatements ss
 Fit ConnectionText = Unit {0}
 Fit _ = ⊥
 
 both_each : (xs ys : List Text) → Each Fit xs → Each Fit ys → Each Fit (xs ++ ys)
 both_each [] ys a b = b
 both_each (x ∷ xs) ys a b = (a.0, both_each xs ys a.1 b)
+
+-- a prefix brings no texts
+fit_prefix : (prefix : Option Identifier) → PlainPrefix prefix → (xs : List Text) → Each Fit xs → Each Fit (prefix_texts prefix ++ xs)
+fit_prefix prefix p xs a = subst (λ z. Each Fit (z ++ xs)) (sym (no_prefix_texts prefix p)) a
 
 mutual
   statement_fit : (a : Statement) → PlainStatement a → FilledStatement a → Each Fit (statement_texts a)
@@ -128,20 +133,19 @@ mutual
   declaration_fit (Variables type vs) p f = tt
   declaration_fit (Arrays type i gs) p f = tt
   declaration_fit (DeclareProcedure result i h a end) p f = (f, statement_fit a p.2 f)
-  declaration_fit (DeclareClass None i h interface (syntax.Compound (Begin j ds ss e)) end) p f =
-      ((refl, f.1), both_each (declarations_texts ds) (statements_texts ss) (declarations_fit ds (p.3).0 f.0) (statements_fit ss (p.3).1 f.1))
-  declaration_fit (DeclareClass None i h interface (syntax.Empty j) end) p f = ((refl, (f, tt)), statement_fit (syntax.Empty j) p.3 f)
-  declaration_fit (DeclareClass None i h interface (syntax.Call e) end) p f = ((refl, (f, tt)), statement_fit (syntax.Call e) p.3 f)
-  declaration_fit (DeclareClass None i h interface (syntax.Assign e rs) end) p f = ((refl, (f, tt)), statement_fit (syntax.Assign e rs) p.3 f)
-  declaration_fit (DeclareClass None i h interface (syntax.Choose j c x y) end) p f = ((refl, (f, tt)), statement_fit (syntax.Choose j c x y) p.3 f)
-  declaration_fit (DeclareClass None i h interface (syntax.Repeat j c x) end) p f = ((refl, (f, tt)), statement_fit (syntax.Repeat j c x) p.3 f)
-  declaration_fit (DeclareClass None i h interface (syntax.For j name sign assign es x) end) p f = ((refl, (f, tt)), statement_fit (syntax.For j name sign assign es x) p.3 f)
-  declaration_fit (DeclareClass None i h interface (syntax.Inner j) end) p f = ((refl, (f, tt)), statement_fit (syntax.Inner j) p.3 f)
-  declaration_fit (DeclareClass None i h interface (syntax.Inspect j e opening x close other) end) p f = ((refl, (f, tt)), statement_fit (syntax.Inspect j e opening x close other) p.3 f)
-  declaration_fit (DeclareClass None i h interface (syntax.InspectWhen j e arms other) end) p f = ((refl, (f, tt)), statement_fit (syntax.InspectWhen j e arms other) p.3 f)
-  declaration_fit (DeclareClass None i h interface (syntax.Prefixed class arguments b) end) p f = absurd p.3
-  declaration_fit (DeclareClass None i h interface (syntax.Activate j word e schedule) end) p f = absurd p.3
-  declaration_fit (DeclareClass (Some prefix) i h interface a end) p f = let none = p.0 in absurd (cc)
+  declaration_fit (DeclareClass prefix i h interface (syntax.Compound (Begin j ds ss e)) end) p f =
+      (f.1, fit_prefix prefix p.0 (declarations_texts ds ++ statements_texts ss) (both_each (declarations_texts ds) (statements_texts ss) (declarations_fit ds (p.3).0 f.0) (statements_fit ss (p.3).1 f.1)))
+  declaration_fit (DeclareClass prefix i h interface (syntax.Empty j) end) p f = ((f, tt), fit_prefix prefix p.0 (statement_texts (syntax.Empty j)) (statement_fit (syntax.Empty j) p.3 f))
+  declaration_fit (DeclareClass prefix i h interface (syntax.Call e) end) p f = ((f, tt), fit_prefix prefix p.0 (statement_texts (syntax.Call e)) (statement_fit (syntax.Call e) p.3 f))
+  declaration_fit (DeclareClass prefix i h interface (syntax.Assign e rs) end) p f = ((f, tt), fit_prefix prefix p.0 (statement_texts (syntax.Assign e rs)) (statement_fit (syntax.Assign e rs) p.3 f))
+  declaration_fit (DeclareClass prefix i h interface (syntax.Choose j c x y) end) p f = ((f, tt), fit_prefix prefix p.0 (statement_texts (syntax.Choose j c x y)) (statement_fit (syntax.Choose j c x y) p.3 f))
+  declaration_fit (DeclareClass prefix i h interface (syntax.Repeat j c x) end) p f = ((f, tt), fit_prefix prefix p.0 (statement_texts (syntax.Repeat j c x)) (statement_fit (syntax.Repeat j c x) p.3 f))
+  declaration_fit (DeclareClass prefix i h interface (syntax.For j name sign assign es x) end) p f = ((f, tt), fit_prefix prefix p.0 (statement_texts (syntax.For j name sign assign es x)) (statement_fit (syntax.For j name sign assign es x) p.3 f))
+  declaration_fit (DeclareClass prefix i h interface (syntax.Inner j) end) p f = ((f, tt), fit_prefix prefix p.0 (statement_texts (syntax.Inner j)) (statement_fit (syntax.Inner j) p.3 f))
+  declaration_fit (DeclareClass prefix i h interface (syntax.Inspect j e opening x close other) end) p f = ((f, tt), fit_prefix prefix p.0 (statement_texts (syntax.Inspect j e opening x close other)) (statement_fit (syntax.Inspect j e opening x close other) p.3 f))
+  declaration_fit (DeclareClass prefix i h interface (syntax.InspectWhen j e arms other) end) p f = ((f, tt), fit_prefix prefix p.0 (statement_texts (syntax.InspectWhen j e arms other)) (statement_fit (syntax.InspectWhen j e arms other) p.3 f))
+  declaration_fit (DeclareClass prefix i h interface (syntax.Prefixed class arguments b) end) p f = absurd p.3
+  declaration_fit (DeclareClass prefix i h interface (syntax.Activate j word e schedule) end) p f = absurd p.3
 
 program_fit : (prefix : Option Prefix) (b : Block) → prefix ≡ None → PlainBlock b → FilledBlock b → Each Fit (program_texts prefix b)
 program_fit None (Begin i ds ss end) e p f = (f.1, both_each (declarations_texts ds) (statements_texts ss) (declarations_fit ds p.0 f.0) (statements_fit ss p.1 f.1))
@@ -152,11 +156,10 @@ module _ (s : Source) (ok : Typed s) (laid : Laid s) where
   level_built k prefix h ds ss e true n f a = with_inner s ok laid k (ClassText prefix h ds ss) e ss n f a
   level_built k prefix h ds ss e false n f a = statements_built s ok laid k (ClassText prefix h ds ss) e ss n f a
 
-  class_built : (k : ℕ) (prefix : Option Identifier) (h : Heading) (ds : Declarations) (ss : Statements) → text s k ≡ Some (ClassText prefix h ds ss) → Fit (ClassText prefix h ds ss) → TextTyped s k (ClassText prefix h ds ss) → ClassTextBuilt s k prefix ds ss
-  class_built k (Some prefix) h ds ss e f a = let none = f.0 in absurd (cc)
-  class_built k None h ds ss e f a = (
-    arrays_built s ok laid k (ClassText None h ds ss) e (ap is_connection e) ds a.own a.arrays,
-    level_built k None h ds ss e (writes_inner s k) (laid.inners k (ClassText None h ds ss) e) f.1 a.statements,
+  class_built : (k : ℕ) (prefix : Option Identifier) (h : Heading) (ds : Declarations) (ss : Statements) → text s k ≡ Some (ClassText prefix h ds ss) → Fit (ClassText prefix h ds ss) → TextTyped s k (ClassText prefix h ds ss) → ArraysBuilt s k ds × LevelBuilt s k (writes_inner s k) ss
+  class_built k prefix h ds ss e f a = (
+    arrays_built s ok laid k (ClassText prefix h ds ss) e (ap is_connection e) ds a.own a.arrays,
+    level_built k prefix h ds ss e (writes_inner s k) (laid.inners k (ClassText prefix h ds ss) e) f a.statements,
   )
 
   text_built : (k : ℕ) (x : Text) → text s k ≡ Some x → Fit x → TextTyped s k x → TextBuilt s k x

@@ -1,5 +1,5 @@
 -- What a text sees stands around it.
-use Rattle.std.proofs.Common.{◌≡◌, ℕ, false, Some, subst}
+use Rattle.std.proofs.Common.{◌≡◌, ℕ, false, Some}
 use Rattle.sim_base.specs.declared.numbering.DeclNo.{DeclNo}
 use Rattle.sim_scope.specs.Access.{encloser}
 use Rattle.sim_scope.specs.Source.{Source, block_of}
@@ -7,15 +7,14 @@ use Rattle.sim_meaning.specs.Attributes.{is_connection}
 use Rattle.sim_meaning.specs.Texts.{Text, text}
 use Rattle.sim_sound.specs.Held.{Connected, ConnectedInBound, In, InBound, Seen, SeenInBound, from_around, further, itself, own_fixed}
 use Rattle.sim_sound.specs.Typed.{Typed}
-use Rattle.sim_sound.proofs.Unprefixed.{one_level}
 use Rattle.codegen_expr.specs.Built.{ConnectedBuilt, StandsIn}
 use Rattle.sim_built.specs.Laid.{Laid}
-use Rattle.sim_built.proofs.Cells.{class_is_solid, connection_has, level_solid, stands}
+use Rattle.sim_built.proofs.Cells.{class_is_solid, connection_has, level_solid, stands, stands_level}
 use Rattle.sim_built.proofs.Expressions.{Stands}
 
 module _ (s : Source) (ok : Typed s) (laid : Laid s) (t : ℕ) (x : Text) (there : text s t ≡ Some x) where
   seen_here : (v : ℕ) → Seen s t v → StandsIn s t v
-  seen_here v a = subst (StandsIn s t) (one_level s laid.alone a.found v a.instance a.level) (stands s ok laid t a.found x there a.around)
+  seen_here v a = stands_level s ok laid t a.found v x there a.around a.instance a.level
 
   seen_solid : (u v : ℕ) → Seen s u v → is_connection (text s v) ≡ false
   seen_solid u v a = level_solid s ok laid a.found v a.instance a.level
@@ -59,7 +58,7 @@ module _ (s : Source) (ok : Typed s) (laid : Laid s) (t : ℕ) (x : Text) (there
   }
     where
       seen : (d : DeclNo) → SeenInBound s t d → StandsIn s t (block_of s d)
-      seen d (own_fixed f l) = subst (StandsIn s t) (one_level s laid.alone t (block_of s d) whole l) (stands s ok laid t t x there itself)
+      seen d (own_fixed f l) = stands_level s ok laid t t (block_of s d) x there itself whole l
       seen d (from_around {u = u} e a) = seen_here (block_of s d) (seen_further u (block_of s d) e a)
 
       solid : (d : DeclNo) → SeenInBound s t d → is_connection (text s (block_of s d)) ≡ false

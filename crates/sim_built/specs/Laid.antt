@@ -1,10 +1,9 @@
 -- How the tables of a program lie, as far as code rests on it.
-use Rattle.std.specs.Prelude.{◌≡◌, ◌<◌, ℕ, false, length, slice_get, None, Some}
+use Rattle.std.specs.Prelude.{◌≡◌, ◌<◌, ℕ, length, slice_get, Some}
 use Rattle.sim_base.specs.declared.numbering.DeclNo.{DeclNo}
 use Rattle.sim_scope.specs.declared.types.Entry.TheVariants as entry
 use Rattle.sim_scope.specs.declared.types.Formal.{Formal}
 use Rattle.sim_scope.specs.Access.{encloser}
-use Rattle.sim_scope.specs.Levels.{base}
 use Rattle.sim_scope.specs.Scopes.{entry_of, formals_in}
 use Rattle.sim_scope.specs.Source.{Source, block_of}
 use Rattle.sim_meaning.specs.Attributes.{is_connection}
@@ -19,8 +18,6 @@ pub record Laid (s : Source) : Type 0 where
   -- there is a block for each text, and a connection for each connection
   pub as_many : length s.tables.blocks ≡ length (program_texts s.program.prefix s.program.block)
   pub connected : (k : ℕ) → is_connected s.tables k ≡ is_connection (text s k)
-  -- no class and no block has a prefix
-  pub alone : (k : ℕ) → is_connection (text s k) ≡ false → base s.tables k ≡ None
   -- a block has a greater number than the one around it
   pub falls : (t u : ℕ) → encloser s.tables t ≡ Some u → u < t
   -- what a block lists is declared in it, and is listed once

@@ -23,10 +23,10 @@ use Rattle.sim_code.specs.Outcome.{ArrayOf, Going, Run, World}
 use Rattle.sim_code.specs.Events.{image_moved, image_set, no_rule, text_val}
 use Rattle.sim_code.specs.Arrays.{element, element_set, element_set_in, giving_back, handed_over, live_array, owned_by, with_array}
 use Rattle.sim_code.specs.Instances.{CellPlace, ElementPlace, ImagePlace, Place, at_level, ended_as, going_below, is_given_at_end, is_live, object_ended}
-use Rattle.sim_code.specs.Machine.{Activation, Address, ArrayValue, Cells, Frames, Link, Machine, Of, ProcedureValue, ThunkValue, Value, arrays_by_value, words_of_block, array_in, block_at, cell, cell_at, cell_set, frame_in, index, jumping, leaving, level, link_in, number, operand, own_block, owner, place_in, plain, pushing, pushing_any, same_kind, value_at, with_result}
+use Rattle.sim_code.specs.Machine.{Activation, Address, ArrayValue, Cells, Frames, Link, Machine, Of, ProcedureValue, ThunkValue, Value, arrays_among, arrays_by_value, variable_in, words_of_block, array_in, block_at, cell, cell_at, cell_set, frame_in, index, jumping, leaving, level, link_in, number, operand, own_block, owner, place_in, plain, pushing, pushing_any, same_kind, value_at, with_result}
 use Rattle.sim_code.specs.Classes.{admitting, class_named, in_class, is_in, is_of, may_stand, qualifying}
 use Rattle.sim_code.specs.Levels.{after_declarations, at_inner, at_stage, class_at_level, declarations_done, ended_by_kind, entering_prefixed, generating, inner_reached, leading, level_ended, levelled, objects_of, outermost_ended, own_levels}
-use Rattle.sim_code.specs.Rows.{class_at, code_of, comparison_of, element_kind, entering_procedure, mstep, mrun, no_class, on_chain, one_row, opening, pushed, put_back, putting, qualified, row, standard_of, storing, truth_of, two_row, without_class}
+use Rattle.sim_code.specs.Rows.{class_at, code_of, comparison_of, element_kind, entering_procedure, first_stage, mstep, mrun, no_class, on_chain, one_row, opening, pushed, put_back, putting, qualified, row, standard_of, storing, truth_of, two_row, without_class}
 use Rattle.sim_code.specs.Growing.{Grown, OutputGrows, written}
 use Rattle.sim_code.proofs.Growing.{Grows, after_grows, after_more, grown_same, grows_assigning, grows_choosing, grows_copying, grows_entering, grows_finding, grows_having, grows_if, grows_integers, grows_keeping, grows_making, grows_many, grows_no_rule, grows_object, grows_one, grows_performing, grows_plain, grows_popping, grows_step, grows_stopping, grows_ticking, grows_truth, grows_two, grows_when}
 
@@ -195,13 +195,13 @@ new_grows : (code : CodeOf) (l : Limits) (o : World) (m : Frames) (a : Activatio
 new_grows code l o m a below line z n =
     index_grows n o _ (λ n. grows_many Machine Value plain n [] a.stack o _ (λ values stack. grows_popping Machine Value plain stack o _ (λ v stack. grows_having Machine ℕ (link_in v) o _ (λ parent _. grows_when Machine (is_live m parent) o _ (
     objects_grow code z o _ (λ k b start. grows_having Machine Cells _ o _ (λ cells _. pushed_grows a.room stack _ o _ (λ stack. grows_entering Machine l line (words_of_block b) o _ (λ p.
-    record { more = subst (λ w. Grown p.store.written w) (sym (handed_same (length m.instances) (arrays_by_value b.formals values) p)) (grown_same p.store.written) })))))))))
+    record { more = subst (λ w. Grown p.store.written w) (sym (handed_same (length m.instances) (arrays_among values) p)) (grown_same p.store.written) })))))))))
 
 prefixed_grows : (code : CodeOf) (l : Limits) (o : World) (m : Frames) (a : Activation) (below : List Activation) (line : ℕ) (z n : ℤ) → Here o (entering_prefixed code l o m a below line z n)
 prefixed_grows code l o m a below line z n =
     index_grows n o _ (λ n. grows_many Machine Value plain n [] a.stack o _ (λ values stack.
     index_grows z o _ (λ k. levelled_grows code _ k o _ (λ b start. grows_having Machine Cells _ o _ (λ cells _. grows_entering Machine l line (words_of_block b) o _ (λ p.
-    record { more = subst (λ w. Grown p.store.written w) (sym (handed_same (length m.instances) (arrays_by_value b.formals values) p)) (grown_same p.store.written) }))))))
+    record { more = subst (λ w. Grown p.store.written w) (sym (handed_same (length m.instances) (arrays_among values) p)) (grown_same p.store.written) }))))))
 
 own_levels_grow : (code : CodeOf) (m : Frames) (a : Activation) (stage : Stage) (o : World) (go : List ℕ → Run Machine) → ((cs : List ℕ) → Here o (go cs)) → Here o (own_levels code m a stage o go)
 unfolding own_levels
@@ -269,7 +269,7 @@ row_grows code l o m a below line (i.AddrR c class) = qualified_grows code class
 row_grows code l o m a below line (i.AddrImg z) = index_grows z o _ (λ n. grows_having Machine TextVal (image_at o.store n) o _ (λ _ _. push_grows o m a below _))
 row_grows code l o m a below line (i.Elem n class) = qualified_grows code class o _ (λ q. index_grows n o _ (λ n. grows_finding Machine Value plain array_in n line a.stack o _ (λ array k stack. going o _)))
 row_grows code l o m a below line i.Fetch = grows_popping Machine Value plain a.stack o _ (λ v stack. grows_having Machine (Place ℕ ℕ) (place_in v) o _ (λ p _. grows_having Machine Value (value_at o m p) o _ (λ v _. going o _)))
-row_grows code l o m a below line i.Put = grows_popping Machine Value plain a.stack o _ (λ v stack. grows_popping Machine Value plain stack o _ (λ p stack. grows_having Machine (Place ℕ ℕ) (place_in p) o _ (λ p _. storing_grows code line p v o m _ (λ o m. going o _))))
+row_grows code l o m a below line i.Put = grows_popping Machine Value plain a.stack o _ (λ v stack. grows_popping Machine Value plain stack o _ (λ p stack. grows_having Machine (Place ℕ ℕ) (variable_in p) o _ (λ p _. storing_grows code line p v o m _ (λ o m. going o _))))
 row_grows code l o m a below line (i.Load z c) = cell_grows m a z c o _ (λ j c. grows_having Machine Value (cell m j c) o _ (λ v _. push_grows o m a below v))
 row_grows code l o m a below line (i.Store z c) = grows_popping Machine Value plain a.stack o _ (λ v stack. cell_grows m a z c o _ (λ j c. grows_having Machine Frames (cell_set m j c v) o _ (λ m _. going o _)))
 row_grows code l o m a below line i.Dup = grows_popping Machine Value plain a.stack o _ (λ v stack. push_grows o m a below v)
@@ -329,7 +329,8 @@ row_grows code l o m a below line i.NotNone = grows_object Machine Value plain l
 -- ---- runs
 
 step_grows : (code : CodeOf) (l : Limits) (o : World) (m : Frames) (chain : List Activation) → Here o (on_chain code l o m chain)
-step_grows code l o m [] = grows_when Machine _ o _ (block_grows code _ (pos 0) o _ (λ k b x. grows_entering Machine l x.line.0 (words_of_block b) o _ (λ p. going p _)))
+step_grows code l o m [] =
+    grows_when Machine _ o _ (grows_having Machine BlockOf _ o _ (λ b _. grows_having Machine Stage (first_stage b.kind) o _ (λ s _. grows_having Machine Lined _ o _ (λ x _. grows_entering Machine l x.line.0 (words_of_block b) o _ (λ p. going p _)))))
 step_grows code l o m (a ∷ below) = grows_having Machine Lined (slice_get code.instrs a.pc) o _ (λ x _. row_grows code l o m a below x.line.0 x.instr)
 
 pub output_grows : OutputGrows

@@ -80,13 +80,13 @@ addresses = code_with_texts (codes "ab" ∷ []) (main 1 (type.Text ∷ []) 3 0 �
 abbrev pub assignment : CodeOf
 assignment = code_with_texts (codes "abc" ∷ codes "xyz12" ∷ []) (main 1 (type.Text ∷ []) 3 0 ∷ []) (at 1 (i.Int (pos 4)) ∷ at 2 (i.Std (pos 14)) ∷ at 3 (i.Store (pos 1) (pos 0)) ∷ at 4 (i.Load (pos 1) (pos 0)) ∷ at 5 (i.TextK (pos 0)) ∷ at 6 i.AssignT ∷ at 7 (i.Load (pos 1) (pos 0)) ∷ at 8 (i.Std (pos 39)) ∷ at 9 (i.Load (pos 1) (pos 0)) ∷ at 10 (i.TextK (pos 0)) ∷ at 11 (i.RelT (pos 2)) ∷ at 12 (i.JumpF (pos 13)) ∷ at 13 i.Halt ∷ at 14 (i.Load (pos 1) (pos 0)) ∷ at 15 (i.TextK (pos 1)) ∷ at 16 i.AssignT ∷ [])
 
--- the position of the image of sysout is set, read and put back; that of sysin is behind its last character
+-- the position of the image of sysout is set and read; that of sysin is behind its last character
 abbrev pub image_code : CodeOf
-image_code = code (main 0 [] 3 0 ∷ []) (at 1 (i.AddrImg (pos 1)) ∷ at 2 (i.Int (pos 3)) ∷ at 3 (i.Std (pos 24)) ∷ at 4 (i.Char (pos 99)) ∷ at 5 (i.Std (pos 38)) ∷ at 6 (i.AddrImg (pos 1)) ∷ at 7 i.Fetch ∷ at 8 (i.Std (pos 21)) ∷ at 9 (i.Int (pos 0)) ∷ at 10 (i.Std (pos 40)) ∷ at 11 (i.AddrImg (pos 0)) ∷ at 12 (i.Std (pos 21)) ∷ at 13 (i.Int (pos 3)) ∷ at 14 (i.Std (pos 40)) ∷ at 15 (i.AddrImg (pos 1)) ∷ at 16 (i.AddrImg (pos 1)) ∷ at 17 i.Fetch ∷ at 18 i.Put ∷ at 19 (i.EndLevel (pos 0)) ∷ [])
+image_code = code (main 0 [] 3 0 ∷ []) (at 1 (i.AddrImg (pos 1)) ∷ at 2 (i.Int (pos 3)) ∷ at 3 (i.Std (pos 24)) ∷ at 4 (i.Char (pos 99)) ∷ at 5 (i.Std (pos 38)) ∷ at 6 (i.AddrImg (pos 1)) ∷ at 7 i.Fetch ∷ at 8 (i.Std (pos 21)) ∷ at 9 (i.Int (pos 0)) ∷ at 10 (i.Std (pos 40)) ∷ at 11 (i.AddrImg (pos 0)) ∷ at 12 (i.Std (pos 21)) ∷ at 13 (i.Int (pos 3)) ∷ at 14 (i.Std (pos 40)) ∷ at 15 (i.EndLevel (pos 0)) ∷ [])
 
--- no text is put in the place of an image, and there are two images
+-- no text is put in the place of an image, also not its own, and there are two images
 abbrev pub foreign_image : CodeOf
-foreign_image = code (main 0 [] 2 0 ∷ []) (at 1 (i.AddrImg (pos 1)) ∷ at 2 i.NoText ∷ at 3 i.Put ∷ [])
+foreign_image = code (main 0 [] 2 0 ∷ []) (at 1 (i.AddrImg (pos 1)) ∷ at 2 (i.AddrImg (pos 1)) ∷ at 3 i.Fetch ∷ at 4 i.Put ∷ [])
 
 abbrev pub third_image : CodeOf
 third_image = code (main 0 [] 2 0 ∷ []) (at 1 (i.AddrImg (pos 2)) ∷ [])
@@ -140,7 +140,7 @@ pub record Worked : Type 0 where
   pub address_moved : seen addresses (limits 1000 100) 100 ≡ shows (codes "aaX3\n") 1 8 (RunFault GetcharPastEnd 17)
   pub text_assigned : seen assignment (limits 1000 100) 100 ≡ shows (codes "abc\n") 1 8 (RunFault TextTooLong 16)
   pub image_moved : seen image_code (limits 1000 100) 100 ≡ shows (codes "  c4 81\n") 1 4 Normal
-  pub not_an_image : stops_at foreign_image 3 ≡ Some 2
+  pub not_an_image : stops_at foreign_image 4 ≡ Some 3
   pub no_third_image : stops_at third_image 1 ≡ Some 0
   pub without_value : stops_at empty_stack 1 ≡ Some 0
   pub without_room : stops_at no_room 2 ≡ Some 1

@@ -12,7 +12,7 @@ use Rattle.sim_code.specs.Events.{choosing, entering, having, no_rule, pop_many,
 use Rattle.sim_code.specs.Arrays.{handed_over}
 use Rattle.sim_code.specs.Instances.{is_live, object_ended}
 use Rattle.sim_code.specs.Classes.{class_named, class_numbered, class_of, levels, levels_in}
-use Rattle.sim_code.specs.Machine.{Activation, Cells, Frames, Machine, Of, Value, arrays_by_value, at, first_cells, in_object, in_prefixed, index, leaving, link_in, on, owner, pushing, put_in, same_kind, text_in, waiting, words_of_block}
+use Rattle.sim_code.specs.Machine.{Activation, Cells, Frames, Machine, Of, Value, arrays_among, at, first_cells, in_object, in_prefixed, index, leaving, link_in, on, owner, pushing, put_in, same_kind, text_in, waiting, words_of_block}
 
 -- ---- levels
 
@@ -89,7 +89,7 @@ objects_of code z o go =
     levelled code block.Object x.block o (λ b start. when (b.class == c) o (go x.block b start))))
 
 -- The values of an object's parameters, and the link to the frame in which its class is declared, are taken. The frame that generates the
--- object gets the reference at once, and waits. The arrays by value go over to the object.
+-- object gets the reference at once, and waits. The arrays among the values go over to the object.
 abbrev pub generating : CodeOf → Limits → World → Frames → Activation → List Activation → (line : ℕ) → (class values : ℤ) → Run Machine
 generating code l o m a below line z n =
     index n o (λ n. pop_many n [] a.stack o (λ values stack.
@@ -98,7 +98,7 @@ generating code l o m a below line z n =
     having (supplied code b.class b values) o (λ cells.
     pushing a.room stack (Of (Object (length m.instances))) o (λ stack.
     entering l line (words_of_block b) o (λ p.
-    in_object (handed_over (length m.instances) (arrays_by_value b.formals values) p) m k b start parent cells (waiting a stack ∷ below))))))))))
+    in_object (handed_over (length m.instances) (arrays_among values) p) m k b start parent cells (waiting a stack ∷ below))))))))))
 
 -- the same of a prefixed block, whose encloser is the frame on top
 abbrev pub entering_prefixed : CodeOf → Limits → World → Frames → Activation → List Activation → (line : ℕ) → (block values : ℤ) → Run Machine
@@ -107,7 +107,7 @@ entering_prefixed code l o m a below line z n =
     index z o (λ k. levelled code block.Prefixed k o (λ b start.
     having (supplied code b.class b values) o (λ cells.
     entering l line (words_of_block b) o (λ p.
-    in_prefixed (handed_over (length m.instances) (arrays_by_value b.formals values) p) m k b start a.home cells (waiting a stack ∷ below)))))))
+    in_prefixed (handed_over (length m.instances) (arrays_among values) p) m k b start a.home cells (waiting a stack ∷ below)))))))
 
 -- ---- from stage to stage
 

@@ -20,13 +20,12 @@ use Rattle.sim_code.specs.Outcome.{ArrayOf, Run, World}
 use Rattle.sim_code.specs.Events.{having, image_moved, text_val, ticking}
 use Rattle.sim_code.specs.Arrays.{element, element_set_in, giving_back, handed_over, live_array, owned_by, pairs}
 use Rattle.sim_code.specs.Instances.{CellPlace, ElementPlace, ImagePlace, Place, ended_as, is_given_at_end, is_live, object_ended}
-use Rattle.sim_meaning.specs.Closing.{formals_from}
 use Rattle.sim_meaning.specs.Connections.{arm_tried, arms_tried, connected, object_connected}
 use Rattle.sim_meaning.specs.Levels.{class_at, has_procedure, is_in, levels, text_at}
 use Rattle.sim_meaning.specs.Objects.{cells_of_levels, filled_in, generated, inner_done, is_member, object_entered, prefix_done, prefixed_entered, putting_reference, with_inner}
-use Rattle.sim_meaning.specs.Entries.{arrays_by_value, arrays_declared, arrays_of, bounds_of, filled_behind, first_array, further_arrays, segments_of, first_cells, formals_of, words_of_cells}
+use Rattle.sim_meaning.specs.Entries.{arrays_among, arrays_by_value, arrays_declared, arrays_of, bounds_of, filled_behind, first_array, further_arrays, segments_of, first_cells, formals_of, words_of_cells}
 use Rattle.sim_meaning.specs.Meaning.{called, do_op, leaving, procedure_entered, sub_block_entered}
-use Rattle.sim_meaning.specs.Pending.{Activation, Address, AgainOp, array_in, ArrayOp, AttributeOf, AttributeOp, BackOp, BranchOp, CallOf, CallOp, Cell, cell, cell_made, cell_set, ChooseOp, Configuration, Connection, ConnectOp, CopyOf, CopyOp, DeclareOp, Do, DropOp, Either, ElementOf, ElementOp, ElementsOp, EndLevel, EndPrefixed, EnterOp, Eval, Exec, Execs, FetchOp, FitsOf, FitsOp, Further, Given, GiveOp, IfOp, ImageOf, InnerOp, instance_in, Instances, Item, Joined, JoinOp, KeepOp, KeptOf, Key, Level, LevelOp, Link, MemberOf, MemberOp, NewOf, NewOp, NoTerm, ObjectOp, Of, One, OneOp, Op, PastOp, place_in, PlaceOf, plain, PrefixedOp, ProcedureValue, QualifiedElementOf, QualifiedElementOp, QualifiedPlaceOf, QuaOf, QuaOp, RaiseOp, ReferOp, RemoteCallOf, ShareOp, StandardOf, StandardOp, StepOp, StepTestOp, StoreOp, SwapOp, Target, Term, Terms, TestOp, ToAddress, ToCell, ToPlace, ToReference, ToReferenceAt, ToText, ToTextAt, ToTextOf, Tree, Two, TwoOp, Unbuilt, Val, ValueAt, WhenOp, WhileElementOp}
+use Rattle.sim_meaning.specs.Pending.{Activation, Address, AgainOp, array_in, ArrayOp, AttributeOf, AttributeOp, BackOp, BranchOp, CallOf, CallOp, Cell, cell, cell_made, cell_set, ChooseOp, Configuration, Connection, ConnectOp, CopyOf, CopyOp, DeclareOp, Do, DropOp, Either, ElementOf, ElementOp, ElementsOp, EndLevel, EndPrefixed, EnterOp, Eval, Exec, Execs, FetchOp, FitsOf, FitsOp, Further, Given, GiveOp, IfOp, ImageOf, InnerOp, instance_in, Instances, Item, Joined, JoinOp, KeepOp, KeptOf, Key, Level, LevelOp, Link, MemberOf, MemberOp, NewOf, NewOp, NoTerm, ObjectOp, Of, One, OneOp, Op, PastOp, place_in, PlaceOf, plain, PrefixedOp, ProcedureValue, QualifiedElementOf, QualifiedElementOp, QualifiedPlaceOf, QuaOf, QuaOp, RaiseOp, ReferOp, RemoteCallOf, ShareOp, StandardOf, StandardOp, StepOp, StepTestOp, StoreOp, SwapOp, Target, Term, Terms, TestOp, ToAddress, ToCell, ToPlace, ToReference, ToReferenceAt, ToText, ToTextAt, ToTextOf, Tree, Two, TwoOp, Unbuilt, Val, ValueAt, WhenOp, WhileElementOp, variable_in}
 use Rattle.sim_meaning.specs.Pending as pending
 use Rattle.sim_meaning.specs.Statements as statement
 use Rattle.sim_meaning.specs.Statements.{assigned, begin_of, compound, elements, entered_at, exec, execs, first_branch, inner_begun, levels_of_instance, looping, prefix_begun, raised, reading}
@@ -121,7 +120,7 @@ module _ (P : World → Configuration → Type 0) where
   pub prefixed_goes : (s : Source) (l : Limits) (o : World) (m : Instances) (rest : List Activation) (k line : ℕ) (values : List Val) (encloser : Option ℕ) (end : Item) (xs : List Level) → ((p : World) (c : Configuration) → o.ticks < p.ticks → p.ticks ≤ l.ticks → P p c) → Goes P (prefixed_entered s l o m rest k line values encloser end xs)
   prefixed_goes s l o m rest k line values encloser end xs x =
       having_goes P (filled_in values (Some (cells_of_levels s xs)) (class_formals s.tables k)) o _ (λ filled. entering_goes P l line (words_of_cells (cells_of_levels s xs)) o _ (λ p more most.
-      let same = handed_ticks (length m.instances) (arrays_by_value (formals_from s (class_formals s.tables k)) values) p in x _ _ (omega (arith, more, same)) (omega (arith, most, same))))
+      let same = handed_ticks (length m.instances) (arrays_among values) p in x _ _ (omega (arith, more, same)) (omega (arith, most, same))))
 
 -- ---- what is pending of levels
 
@@ -207,7 +206,7 @@ module _ (s : Source) (l : Limits) (o : World) (m : Instances) (i : ℕ) (w : Li
   store_falls : (t : Target) → Falls (target_weight t) (stored o m i w vals rest t)
   store_falls (ToCell j key) = popping_goes (From 1) vals o _ (λ v vals. having_goes (From 1) (cell_set m j key v) o _ (λ m. lighter refl (omega arith)))
   store_falls ToAddress =
-      popping_goes (From 1) vals o _ (λ v vals. popping_goes (From 1) vals o _ (λ p vals. having_goes (From 1) (place_in p) o _ (λ p. putting_goes (From 1) p v o m _ (λ q m same. lighter same (omega arith)))))
+      popping_goes (From 1) vals o _ (λ v vals. popping_goes (From 1) vals o _ (λ p vals. having_goes (From 1) (variable_in p) o _ (λ p. putting_goes (From 1) p v o m _ (λ q m same. lighter same (omega arith)))))
   store_falls (ToText line) = assigning_goes (From 1) plain line vals o _ (λ p vals same. lighter same (omega arith))
   store_falls (ToTextOf j key line) = assigning_goes (From 1) plain line vals o _ (λ p vals same. lighter same (omega arith))
   store_falls (ToReference line) = lighter refl (omega arith)
@@ -238,7 +237,7 @@ module _ (s : Source) (l : Limits) (o : World) (m : Instances) (i : ℕ) (w : Li
   object_falls : (vals : List Val) (k line : ℕ) (values : List Val) (j : ℕ) (xs : List Level) → Falls 1 (object_entered s l o m i w vals rest k line values j xs)
   object_falls vals k line values j xs =
       having_goes (From 1) (filled_in values (Some (cells_of_levels s xs)) (class_formals s.tables k)) o _ (λ filled. entering_goes (From 1) l line (words_of_cells (cells_of_levels s xs)) o _ (λ p more most.
-      let same = handed_ticks (length m.instances) (arrays_by_value (formals_from s (class_formals s.tables k)) values) p in ticked (omega (arith, more, same)) (omega (arith, most, same))))
+      let same = handed_ticks (length m.instances) (arrays_among values) p in ticked (omega (arith, more, same)) (omega (arith, most, same))))
 
   generation_falls : (k n line : ℕ) → Falls 1 (generated s l o m i w vals rest k n line)
   generation_falls k n line =

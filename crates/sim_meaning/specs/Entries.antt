@@ -22,7 +22,7 @@ use Rattle.sim_values.specs.Words.{instance_words}
 use Rattle.sim_code.specs.Outcome.{Going, Run, World}
 use Rattle.sim_code.specs.Instances.{Instance, entered, kept_on}
 use Rattle.sim_meaning.specs.Pending.{Activation, ArrayOp, ArrayValue, Cell, Configuration, CopyOp, Declared, Do, Eval, Held, Instances, Item, Of, Result, StoreOp, ToCell, Val, owner}
-use Rattle.sim_meaning.specs.Texts.{BlockText, ClassText, ConnectionText, PrefixedText, ProcedureText, StandardText, Text, declared_at, is_class_free, kind_named, kind_of_type}
+use Rattle.sim_meaning.specs.Texts.{BlockText, ClassText, ConnectionText, PrefixedText, ProcedureText, StandardText, Text, declared_at, is_class_free, kind_named, kind_of_type, text}
 use Rattle.sim_meaning.specs.Closing.{close}
 
 -- ---- cells
@@ -101,7 +101,7 @@ formals_of s k = formals_in (slice_get s.tables.blocks k)
     formals_in None = []
     formals_in (Some b) = formals_from s (take b.formals b.numbers)
 
--- arrays by value go over to the entered instance
+-- arrays by value go over to the instance of a procedure
 abbrev pub is_array_by_value : Mode → FormalKind → Bool
 is_array_by_value mode.ByValue shape.Array = true
 is_array_by_value _ _ = false
@@ -113,6 +113,11 @@ with_array_of _ rest = rest
 abbrev pub arrays_by_value : List Formal → List Val → List ℕ
 arrays_by_value (f ∷ fs) (v ∷ vs) = if is_array_by_value f.mode f.kind then with_array_of v (arrays_by_value fs vs) else arrays_by_value fs vs
 arrays_by_value _ _ = []
+
+-- and to an object or a prefixed block all that are among its actuals
+abbrev pub arrays_among : List Val → List ℕ
+arrays_among [] = []
+arrays_among (v ∷ vs) = with_array_of v (arrays_among vs)
 
 -- whether a formal is by name, an array by reference or a procedure
 abbrev pub is_held : Formal → Bool
@@ -133,8 +138,14 @@ instances_kept s k chain m = if not (is_class_free s k) && list_any is_held (for
 
 -- ---- entries
 
+-- a sub-block or a procedure is class-free where its text is so; an object or a prefixed block never is
+abbrev pub passes : Option Text → (class_free : Bool) → Bool
+passes (Some (BlockText begin ds ss)) free = free
+passes (Some (ProcedureText result h a)) free = free
+passes _ free = false
+
 abbrev pub new_instance : Source → (text : ℕ) → (encloser : Option ℕ) → List Held → Instance (List Held)
-new_instance s k encloser cells = record { text = k; level = level_of s k; encloser = encloser; cells = cells; passing = is_class_free s k; kept = false; given_back = false }
+new_instance s k encloser cells = record { text = k; level = level_of s k; encloser = encloser; cells = cells; passing = passes (text s k) (is_class_free s k); kept = false; given_back = false }
 
 -- a new instance on top of the chain, with the work that it has among the instances then
 abbrev pub in_instance : Source → World → Instances → (text : ℕ) → (encloser : Option ℕ) → List Held → (Instances → List Item) → List Activation → Run Configuration

@@ -17,9 +17,8 @@ use Rattle.sim_code.specs.Instances.{CellPlace, ElementPlace, Place, entered, is
 use Rattle.sim_meaning.specs.Levels.{belongs, has_procedure, is_in, levels}
 use Rattle.sim_meaning.specs.Pending.{Activation, Address, ArrayValue, Configuration, Declared, DeclareOp, Do, EndLevel, EndObject, EndPrefixed, Execs, Held, InnerOp, Instances, Item, Key, Level, LevelOp, Link, Of, Val, array_in, cell_set, held_set, instance_in, place_in, plain}
 use Rattle.sim_meaning.specs.Texts.{constant_of}
-use Rattle.sim_meaning.specs.Closing.{formals_from}
 use Rattle.sim_meaning.specs.Steps.{go}
-use Rattle.sim_meaning.specs.Entries.{arrays_by_value, cell_before, in_instance, new_instance, numbers_of, with_cell, words_of_cells}
+use Rattle.sim_meaning.specs.Entries.{arrays_among, cell_before, in_instance, new_instance, numbers_of, with_cell, words_of_cells}
 
 -- ---- attributes
 
@@ -126,9 +125,9 @@ filled_in [] (Some hs) (d ∷ ds) = None
 filled_in (v ∷ vs) (Some hs) [] = None
 filled_in (v ∷ vs) (Some hs) (d ∷ ds) = filled_in vs (held_set (Declared d.0) v hs) ds
 
--- arrays by value go over to the new instance
-abbrev pub arrays_given : Source → (text : ℕ) → (instance : ℕ) → List Val → World → World
-arrays_given s k j values o = handed_over j (arrays_by_value (formals_from s (class_formals s.tables k)) values) o
+-- the arrays among the actuals go over to the new instance
+abbrev pub arrays_given : (instance : ℕ) → List Val → World → World
+arrays_given j values o = handed_over j (arrays_among values) o
 
 -- a new object on top of the chain, attached
 abbrev pub in_object : Source → World → Instances → (text encloser : ℕ) → List Held → List Level → List Activation → Run Configuration
@@ -141,7 +140,7 @@ abbrev pub object_entered : Source → Limits → World → Instances → ℕ �
 object_entered s l o m i w vals rest k line values j xs =
     having (filled_in values (Some (cells_of_levels s xs)) (class_formals s.tables k)) o (λ filled.
     entering l line (words_of_cells (cells_of_levels s xs)) o (λ p.
-    in_object s (arrays_given s k (length m.instances) values p) m k j filled xs (record { instance = i; work = w; values = Of (Object (length m.instances)) ∷ vals } ∷ rest)))
+    in_object s (arrays_given (length m.instances) values p) m k j filled xs (record { instance = i; work = w; values = Of (Object (length m.instances)) ∷ vals } ∷ rest)))
 
 abbrev pub generated : Source → Limits → World → Instances → ℕ → List Item → List Val → List Activation → (text actuals line : ℕ) → Run Configuration
 generated s l o m i w vals rest k n line =
@@ -155,7 +154,7 @@ abbrev pub prefixed_entered : Source → Limits → World → Instances → List
 prefixed_entered s l o m rest k line values encloser end xs =
     having (filled_in values (Some (cells_of_levels s xs)) (class_formals s.tables k)) o (λ filled.
     entering l line (words_of_cells (cells_of_levels s xs)) o (λ p.
-    in_instance s (arrays_given s k (length m.instances) values p) m k encloser filled (λ now. levels_work xs end) rest))
+    in_instance s (arrays_given (length m.instances) values p) m k encloser filled (λ now. levels_work xs end) rest))
 
 abbrev pub prefix_done : Source → Limits → World → Instances → ℕ → List Item → List Val → List Activation → (text actuals line : ℕ) → Run Configuration
 prefix_done s l o m i w vals rest k n line =

@@ -7,7 +7,7 @@ use Rattle.sim_values.specs.declared.operators.Dyadic.{Dyadic}
 use Rattle.sim_values.specs.declared.operators.Monadic.{Monadic}
 use Rattle.sim_values.specs.declared.standard.Standard.{Standard}
 use Rattle.sim_values.specs.Plain.{Plain}
-use Rattle.sim_code.specs.Instances.{Memory, Place, State, cells_of, with_cells}
+use Rattle.sim_code.specs.Instances.{CellPlace, ElementPlace, Memory, Place, State, cells_of, with_cells}
 
 -- A cell of an instance: that of a declaration, by its number; that of the result of a procedure; or that of a connection, by its token.
 pub data Key : Type 0 where
@@ -79,6 +79,12 @@ array_in _ = None
 abbrev pub place_in : Val → Option (Place Key (Option ℕ))
 place_in (Address p) = Some p
 place_in _ = None
+
+-- and where that of a variable or an element leads: an image is neither
+abbrev pub variable_in : Val → Option (Place Key (Option ℕ))
+variable_in (Address (CellPlace j key class)) = Some (CellPlace j key class)
+variable_in (Address (ElementPlace a n class)) = Some (ElementPlace a n class)
+variable_in _ = None
 
 abbrev pub instance_in : Val → Option ℕ
 instance_in (Link j) = Some j

@@ -7,7 +7,7 @@ use Rattle.sim_code.specs.Outcome.{Going, Run, World}
 use Rattle.sim_code.specs.Events.{assigning, having, image_set, image_value, no_rule, only_text, popping}
 use Rattle.sim_code.specs.Arrays.{copying_array, element, element_set, finding_element}
 use Rattle.sim_code.specs.Instances.{CellPlace, ElementPlace, ImagePlace, Place}
-use Rattle.sim_meaning.specs.Pending.{Address, Activation, ArrayValue, AttributeOf, AttributeOp, Cell, CallOf, CallOp, Configuration, CopyOf, CopyOp, Do, Either, ElementOf, ElementOp, Eval, FetchOp, FitsOf, FitsOp, Further, GiveOp, Given, IfOp, ImageOf, Instances, Item, JoinOp, Joined, KeepOp, KeptOf, Key, Link, MemberOf, MemberOp, NewOf, NewOp, NoTerm, ObjectOp, Of, One, OneOp, PlaceOf, QualifiedElementOf, QualifiedElementOp, QualifiedPlaceOf, QuaOf, QuaOp, ReferOp, RemoteCallOf, StandardOf, StandardOp, StoreOp, SwapOp, Target, Term, Terms, ToAddress, ToCell, ToPlace, ToReference, ToReferenceAt, ToText, ToTextAt, ToTextOf, Two, TwoOp, Unbuilt, Val, ValueAt, array_in, cell, cell_set, place_in, plain}
+use Rattle.sim_meaning.specs.Pending.{Address, Activation, ArrayValue, AttributeOf, AttributeOp, Cell, CallOf, CallOp, Configuration, CopyOf, CopyOp, Do, Either, ElementOf, ElementOp, Eval, FetchOp, FitsOf, FitsOp, Further, GiveOp, Given, IfOp, ImageOf, Instances, Item, JoinOp, Joined, KeepOp, KeptOf, Key, Link, MemberOf, MemberOp, NewOf, NewOp, NoTerm, ObjectOp, Of, One, OneOp, PlaceOf, QualifiedElementOf, QualifiedElementOp, QualifiedPlaceOf, QuaOf, QuaOp, ReferOp, RemoteCallOf, StandardOf, StandardOp, StoreOp, SwapOp, Target, Term, Terms, ToAddress, ToCell, ToPlace, ToReference, ToReferenceAt, ToText, ToTextAt, ToTextOf, Two, TwoOp, Unbuilt, Val, ValueAt, array_in, cell, cell_set, place_in, plain, variable_in}
 
 -- the innermost instance goes on with this work and these values in hand
 abbrev pub go : World → Instances → ℕ → List Item → List Val → List Activation → Run Configuration
@@ -103,7 +103,7 @@ text_assigned o m i w vals rest line = assigning plain line vals o (λ p vals. g
 
 abbrev pub stored : World → Instances → ℕ → List Item → List Val → List Activation → Target → Run Configuration
 stored o m i w vals rest (ToCell j key) = popping vals o (λ v vals. having (cell_set m j key v) o (λ m. go o m i w vals rest))
-stored o m i w vals rest ToAddress = popping vals o (λ v vals. popping vals o (λ p vals. having (place_in p) o (λ p. putting p v o m (λ o m. go o m i w vals rest))))
+stored o m i w vals rest ToAddress = popping vals o (λ v vals. popping vals o (λ p vals. having (variable_in p) o (λ p. putting p v o m (λ o m. go o m i w vals rest))))
 stored o m i w vals rest (ToText line) = text_assigned o m i w vals rest line
 stored o m i w vals rest (ToTextOf j key line) = text_assigned o m i w vals rest line
 stored o m i w vals rest (ToReference line) = go o m i (Do (ReferOp line) ∷ w) vals rest

@@ -13,7 +13,6 @@ use Rattle.sim_tree.specs.declared.stmt.ArraySegment.{ArraySegment}
 use Rattle.sim_tree.specs.declared.stmt.Assigned.{Assigned}
 use Rattle.sim_tree.specs.declared.stmt.Block.{Block}
 use Rattle.sim_tree.specs.declared.stmt.Bounds.{Bounds}
-use Rattle.sim_tree.specs.declared.stmt.Class.{Class}
 use Rattle.sim_tree.specs.declared.stmt.Decl.{Decl}
 use Rattle.sim_tree.specs.declared.stmt.Decl.TheOpen.{Stmt-F, Decl-F}
 use Rattle.sim_tree.specs.declared.stmt.ForElement.{ForElement}
@@ -21,7 +20,6 @@ use Rattle.sim_tree.specs.declared.stmt.ForElement.TheVariants as for_element
 use Rattle.sim_tree.specs.declared.stmt.Mode.{Mode}
 use Rattle.sim_tree.specs.declared.stmt.Mode.TheVariants as mode
 use Rattle.sim_tree.specs.declared.stmt.ModePart.{ModePart}
-use Rattle.sim_tree.specs.declared.stmt.Procedure.{Procedure}
 use Rattle.sim_tree.specs.declared.stmt.Protection.{Protection}
 use Rattle.sim_tree.specs.declared.stmt.ReferenceElement.{ReferenceElement}
 use Rattle.sim_tree.specs.declared.stmt.ReferenceElement.TheVariants as reference_element
@@ -56,7 +54,7 @@ use Rattle.sim_scope.specs.Walk.{arms_events, block_events, declaration_events, 
 use Rattle.sim_static.specs.UnbuiltForms.{forms, has_code, has_some, has_unbuilt_form, is_by_name, is_name, is_of_procedures, is_procedure, yes}
 use Rattle.sim_static.specs.UnbuiltNames.{has_unbuilt_name, is_dot}
 use Rattle.sim_plain.specs.Clean.{Clean, CleanBehind}
-use Rattle.sim_agree.specs.Plain.{Each, Plain, PlainArms, PlainBlock, PlainBounds, PlainDeclaration, PlainDeclarations, PlainElement, PlainExpression, PlainHeading, PlainInterface, PlainMode, PlainName, PlainResult, PlainSegment, PlainSide, PlainSpecification, PlainSpecified, PlainStatement, PlainStatements, PlainType, PlainWord}
+use Rattle.sim_agree.specs.Plain.{Each, Plain, PlainArms, PlainBlock, PlainBounds, PlainDeclaration, PlainDeclarations, PlainElement, PlainExpression, PlainHeading, PlainInterface, PlainMode, PlainName, PlainPrefix, PlainResult, PlainSegment, PlainSide, PlainSpecification, PlainSpecified, PlainStatement, PlainStatements, PlainType, PlainWord}
 use Rattle.sim_plain.proofs.Expressions.{operand_plain, plain_expr, valued}
 use Rattle.sim_plain.proofs.Tokens.{none_spells, reads_clean}
 
@@ -109,13 +107,13 @@ Says f e = has_token g.Statement f ≡ true → Full f → Clean f → (p : Posi
 
 abbrev Declares : Declared → Declaration → Type 0
 Declares (d.Plain f) e = Full f → Clean f → Free (declaration_events forms e) → PlainDeclaration e
-Declares (Prefixed x i f) e = Free (declaration_events forms e) → ⊥
+Declares (Prefixed x i f) e = PlainName x → Full f → Clean f → Free (declaration_events forms e) → PlainDeclaration e
 
 abbrev Blocks : Forest → BlockSyntax → Type 0
 Blocks f e = Full f → Clean f → (p : Position) → FreeBlock p e → PlainBlock e
 
 abbrev Classes : Forest → Classed → Type 0
-Classes f e = ((x : Identifier) (i : ℕ) → Free (declaration_events forms (e (Some x) i)) → ⊥) × (Full f → Clean f → (i : ℕ) → Free (declaration_events forms (e None i)) → PlainDeclaration (e None i))
+Classes f e = Full f → Clean f → (prefix : Option Identifier) → PlainPrefix prefix → (i : ℕ) → Free (declaration_events forms (e prefix i)) → PlainDeclaration (e prefix i)
 
 abbrev Procedures : Forest → Headed → Type 0
 Procedures f e = Full f → Clean f → (result : Option TypeName) (i : ℕ) → PlainResult result → Free (declaration_events forms (e result i)) → PlainDeclaration (e result i)
@@ -278,23 +276,28 @@ contents_plain (d.Plain f ∷ ds) (x ∷ xs) fs es end all each full c p fd fe =
     let both = free_both (declaration_events forms x) (declarations_events forms (declarations xs)) fd in
     let rest = contents_plain ds xs fs es end all.1 each full.2.2.1 c.1.1.0 p both.1 fe in
     ((all.0 full.1 c.0 both.0, rest.0), rest.1)
-contents_plain (Prefixed name i f ∷ ds) (x ∷ xs) fs es end all each full c p fd fe = absurd (all.0 (free_both (declaration_events forms x) (declarations_events forms (declarations xs)) fd).0)
+contents_plain (Prefixed name i f ∷ ds) (x ∷ xs) fs es end all each full c p fd fe =
+    let both = free_both (declaration_events forms x) (declarations_events forms (declarations xs)) fd in
+    let rest = contents_plain ds xs fs es end all.1 each full.1.2.2.1 c.1.0.1.1.1.0 p both.1 fe in
+    ((all.0 c.0 full.1.1 c.1.0.1.0 both.0, rest.0), rest.1)
 
 -- ---- classes and arms
 
-no_interface : (xs : List Protection) (ys : List VirtualSpecification) → has_some (map t.protection_syntax xs) ≡ false → has_some (map t.virtual_syntax ys) ≡ false → PlainInterface (t.interface_syntax xs ys)
-no_interface [] [] h g = (refl, refl)
-no_interface (x ∷ xs) ys h g = absurd (no h)
-no_interface [] (y ∷ ys) h g = absurd (no g)
+plain_interface : (xs : List Protection) (ys : List VirtualSpecification) → has_some (map t.virtual_syntax ys) ≡ false → PlainInterface (t.interface_syntax xs ys)
+plain_interface xs [] h = refl
+plain_interface xs (y ∷ ys) h = absurd (no h)
+
+full_behind_row : (n : g.Part) (fs : List Forest) (f : Forest) → Full (row n fs f) → Full f
+full_behind_row n [] f full = full
+full_behind_row n (x ∷ xs) f full = full_behind_row n xs f full.2
 
 abbrev behind_heading : List Protection → List VirtualSpecification → Forest → Forest
 behind_heading xs ys f = row g.Protection (map d.protection_derivation xs) (d.virtuals_derivation ys f)
 
-past_interface : (xs : List Protection) (ys : List VirtualSpecification) (f : Forest) → has_some (map t.protection_syntax xs) ≡ false → has_some (map t.virtual_syntax ys) ≡ false
+past_interface : (xs : List Protection) (ys : List VirtualSpecification) (f : Forest) → has_some (map t.virtual_syntax ys) ≡ false
     → Full (behind_heading xs ys f) → Clean (behind_heading xs ys f) → Full f × Clean f
-past_interface [] [] f h g full c = (full, c)
-past_interface (x ∷ xs) ys f h g full c = absurd (no h)
-past_interface [] (y ∷ ys) f h g full c = absurd (no g)
+past_interface xs [] f h full c = (full_behind_row g.Protection (map d.protection_derivation xs) f full, clean_behind_row g.Protection (map d.protection_derivation xs) f c)
+past_interface xs (y ∷ ys) f h full c = absurd (no h)
 
 abbrev WhenPair : Type 0
 WhenPair = induction.WhenPair Says Declares Blocks Classes Procedures Arms
@@ -363,8 +366,8 @@ decl_step (Decl-F.Variables n v) = λ full c free. plain_type n c.0
 decl_step (Decl-F.Arrays n i v) = λ full c free. (plain_type n c.0, segments_plain v.items full.2.1 c.1.0.1)
 decl_step (Decl-F.Procedure None i p) = λ full c free. p.1 full.1 c.1.0 None i.0 tt free
 decl_step (Decl-F.Procedure (Some n) i p) = λ full c free. p.1 full.2.1.1 c.1.0.1.0 (Some n) i.0 (plain_type n c.0) free
-decl_step (Decl-F.Class None i q) = λ full c free. q.1.1 full.1 c.1.0 i.0 free
-decl_step (Decl-F.Class (Some x) i q) = λ free. q.1.0 x i.0 free
+decl_step (Decl-F.Class None i q) = λ full c free. q.1 full.1 c.1.0 None tt i.0 free
+decl_step (Decl-F.Class (Some x) i q) = λ name full c free. q.1 full c (Some x) name i.0 free
 
 block_step : induction.BlockStep Says Declares Blocks Classes Procedures Arms
 block_step b full c p free =
@@ -373,23 +376,18 @@ block_step b full c p free =
     full.1 c.1.0 p free.0 free.1
 
 class_step : induction.ClassStep Says Declares Blocks Classes Procedures Arms
-class_step q = (
-  λ x i free. no free,
-  λ full c i free.
-      let body = statement_events forms ClassBody (statement_syntax q.body.value.0) in
-      let code = has_code (t.heading_syntax q.name q.parameters.items q.modes.items q.specifications.items) in
-      let protections = has_some (map t.protection_syntax q.protections.items) in
-      let virtuals = has_some (map t.virtual_syntax q.virtuals.items) in
-      let both = free_first ((code || protections) || virtuals) (body ++ []) free in
-      let last = either (code || protections) virtuals both.0 in
-      let first = either code protections last.0 in
-      let inside = past_interface q.protections.items q.virtuals.items (node g.Statement (statement_derivation q.body.value.0) (place q.end.0 done)) first.1 last.1 full.2 c.1.1 in (
-        refl,
-        plain_heading q.name q.parameters.items q.modes.items q.specifications.items first.0 c.1.0,
-        no_interface q.protections.items q.virtuals.items first.1 last.1,
-        q.body.value.1 inside.0.0 inside.0.1 inside.1.0 ClassBody (free_both body [] both.1).0,
-      ),
-)
+class_step q full c prefix plain i free =
+    let body = statement_events forms ClassBody (statement_syntax q.body.value.0) in
+    let code = has_code (t.heading_syntax q.name q.parameters.items q.modes.items q.specifications.items) in
+    let virtuals = has_some (map t.virtual_syntax q.virtuals.items) in
+    let both = free_first (code || virtuals) (body ++ []) free in
+    let parts = either code virtuals both.0 in
+    let inside = past_interface q.protections.items q.virtuals.items (node g.Statement (statement_derivation q.body.value.0) (place q.end.0 done)) parts.1 full.2 c.1.1 in (
+      plain,
+      plain_heading q.name q.parameters.items q.modes.items q.specifications.items parts.0 c.1.0,
+      plain_interface q.protections.items q.virtuals.items parts.1,
+      q.body.value.1 inside.0.0 inside.0.1 inside.1.0 ClassBody (free_both body [] both.1).0,
+    )
 
 procedure_step : induction.ProcedureStep Says Declares Blocks Classes Procedures Arms
 procedure_step p full c result i type free =

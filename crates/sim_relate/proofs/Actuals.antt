@@ -19,7 +19,7 @@ use Rattle.sim_code.specs.Machine as machine
 use Rattle.sim_code.specs.Outcome.{Run, World}
 use Rattle.sim_code.proofs.Lifts.{EachAt}
 use Rattle.sim_code.proofs.Simulation.{Alike}
-use Rattle.sim_meaning.specs.Entries.{arrays_by_value, formals_of, instances_kept, is_array_by_value, is_held, with_array_of}
+use Rattle.sim_meaning.specs.Entries.{arrays_among, arrays_by_value, formals_of, instances_kept, is_array_by_value, is_held, with_array_of}
 use Rattle.sim_meaning.specs.Pending.{Activation, Instances, Val}
 use Rattle.sim_meaning.specs.Pending as meaning
 use Rattle.sim_meaning.specs.Texts.{is_class_free, text}
@@ -79,6 +79,12 @@ arrays_same (f ∷ fs) (v ∷ vs) (x ∷ xs) e =
     ap (λ z. if is_array_by_value f.mode f.kind then machine.with_array_of x z else z) more ∙
     ap (λ z. if is_array_by_value f.mode f.kind then z else arrays_by_value fs vs) (array_same v x (arrays_by_value fs vs) e.0)
 
+pub among_same : (vs : List Val) (xs : List Value) → EachAt ValAt vs xs → machine.arrays_among xs ≡ arrays_among vs
+among_same [] [] e = refl
+among_same [] (x ∷ xs) e = absurd e
+among_same (v ∷ vs) [] e = absurd e
+among_same (v ∷ vs) (x ∷ xs) e = ap (machine.with_array_of x) (among_same vs xs e.1) ∙ array_same v x (arrays_among vs) e.0
+
 pub each_length : (vs : List Val) (xs : List Value) → EachAt ValAt vs xs → length xs ≡ length vs
 each_length [] [] e = refl
 each_length [] (x ∷ xs) e = absurd e
@@ -104,7 +110,7 @@ module _ (s : Source) (code : CodeOf) where
   kept_alike m fs a chain below owners true true e = record {
     store = store_kept s code chain below owners m fs a;
     later = later_kept s m chain;
-    keeps = keeps_kept s m fs below;
+    keeps = keeps_kept s code m fs below;
     standings = kept_standings meaning.owner chain m;
     frame_standings = kept_standings machine.owner below fs;
   }

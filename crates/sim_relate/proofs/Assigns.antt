@@ -1,5 +1,5 @@
 -- Values are taken from where they lie, and put there.
-use Rattle.std.proofs.Common.{◌≡◌, ◌<◌, ◌≤◌, ℕ, suc, true, false, List, ◌∷◌, length, Option, Some, None, refl, sym, ◌∙◌, subst, arith}
+use Rattle.std.proofs.Common.{◌≡◌, ◌<◌, ◌≤◌, ℕ, suc, true, false, List, ◌∷◌, Option, Some, None, refl, sym, ◌∙◌, subst, arith}
 use Rattle.std.specs.Prelude.{pos}
 use Rattle.sim_base.specs.declared.limits.Limits.{Limits}
 use Rattle.sim_scope.specs.Source.{Source, level_of}
@@ -18,11 +18,11 @@ use Rattle.sim_code.proofs.Lifts.{Both, alike_equal, alike_found, alike_having, 
 use Rattle.sim_code.proofs.Simulation.{Alike}
 use Rattle.sim_meaning.specs.Meaning.{do_op}
 use Rattle.sim_meaning.specs.Pending as meaning
-use Rattle.sim_meaning.specs.Pending.{Activation, Configuration, cell, Do, FetchOp, GiveOp, Instances, Item, Key, Op, ShareOp, StoreOp, Target, ToAddress, ToCell, Val, cell_set, place_in, plain, ToText, ToTextOf}
+use Rattle.sim_meaning.specs.Pending.{Activation, Configuration, cell, Do, FetchOp, GiveOp, Instances, Item, Key, Op, ShareOp, StoreOp, Target, ToAddress, ToCell, Val, cell_set, place_in, plain, ToText, ToTextOf, variable_in}
 use Rattle.sim_meaning.specs.Steps.{go, of_plain, putting, text_assigned}
 use Rattle.sim_meaning.specs.Steps as steps
-use Rattle.codegen_expr.specs.Sites.{HasCell, Is, slot_of, At, own_part, frame_text}
-use Rattle.sim_relate.proofs.Known.{FixedOf, IsRead, LinkTo, Located, OwnerOf, PlaceIs, Refers, RefersAt, Stands, is_declared, is_fixed, refers_cell, refers_element, Any, Every, HandAt, Kind, StackAt, ValAt, anys, array_at, element_at, link_at, more_at, plain_at, site_at, image_at, Runs}
+use Rattle.codegen_expr.specs.Sites.{HasCell, Is, slot_of, At, frame_text, own_end}
+use Rattle.sim_relate.proofs.Known.{FixedOf, IsRead, LinkTo, Located, OwnerOf, PlaceIs, Refers, RefersAt, Stands, is_declared, is_fixed, refers_cell, refers_element, Any, Every, HandAt, Kind, StackAt, ValAt, anys, array_at, element_at, link_at, more_at, plain_at, site_at, image_at, Runs, spot}
 use Rattle.sim_relate.proofs.Relation.{StoreIs, TargetAt, stays, ChainAt, Changed, OpAt, StateAt, WorkAt, there}
 use Rattle.sim_relate.proofs.Carried.{all_every, kept_every}
 use Rattle.sim_relate.proofs.Frames.{same_frame}
@@ -45,6 +45,13 @@ place_both _ _ array_at = tt
 place_both _ _ element_at = element_place
 place_both _ _ image_at = image_place
 
+variable_both : (v : Val) (x : Value) → ValAt v x → Both PlaceAt (variable_in v) (machine.variable_in x)
+variable_both _ _ plain_at = tt
+variable_both _ _ link_at = tt
+variable_both _ _ array_at = tt
+variable_both _ _ element_at = element_place
+variable_both _ _ image_at = tt
+
 plain_both : (p : Option Plain) → Both ValAt (of_plain p) (machine.of_plain p)
 plain_both None = tt
 plain_both (Some p) = plain_at
@@ -53,7 +60,7 @@ pub value_both : (o : World) (m : Instances) (fs : Frames) (p : Place Key (Optio
 value_both o m fs _ _ (element_place {a} {n}) = plain_both (element o a n)
 value_both o m fs _ _ (image_place {n}) = plain_both (image_value o n)
 
-module _ (s : Source) (code : CodeOf) (l : Limits) (o : World) (m : Instances) (inst : ℕ) (w : List Item) (vals : List Val) (rest : List Activation) (fs : Frames) (t : ℕ) (b : Runs) (pc : ℕ) (stack : List Value) (below : List machine.Activation) (ks : List Kind) (here : Here s code m fs inst rest t b ks vals stack) (u q : ℕ) (ks' : List Kind) (low : length (own_part s (frame_text s t)) ≤ u) (k : WorkAt s code m fs (λ v. ChainAt s code m fs rest v below) inst t b u w q ks') where
+module _ (s : Source) (code : CodeOf) (l : Limits) (o : World) (m : Instances) (inst : ℕ) (w : List Item) (vals : List Val) (rest : List Activation) (fs : Frames) (t : ℕ) (b : Runs) (pc : ℕ) (stack : List Value) (below : List machine.Activation) (ks : List Kind) (here : Here s code m fs inst rest t b ks vals stack) (u q : ℕ) (ks' : List Kind) (low : own_end s code (frame_text s t) ≤ u) (k : WorkAt s code m fs (λ v. ChainAt s code m fs rest v below) inst t b u w q ks') where
   abbrev R : Configuration → Machine → Type 0
   R = StateAt s code
 
@@ -119,7 +126,7 @@ module _ (s : Source) (code : CodeOf) (l : Limits) (o : World) (m : Instances) (
   pub wrote_on : {p : World} {vals' : List Val} {stack' : List Value} {next : ℕ} (m' : Instances) (fs' : Frames) → Changed s code Every m fs m' fs' → (ks2 : List Kind) → StackAt (HandAt s code m) ks2 vals' stack' → ks' ≡ ks2 → q ≡ next → Alike R (go p m' inst w vals' rest) (Going p (record { chain = act inst next stack' b ∷ below; memory = fs' }))
   wrote_on m' fs' r ks2 hs e place =
       goes s code u q (moved s code r (kept_every m) here (kinds_as s code (sym e) hs))
-      (work_moved s code r here (all_every rest) below u (λ n le lt. r.keeps.temps inst t n tt here.stands le) w q ks' k) place
+      (work_moved s code r here (all_every rest) below u (λ n le within lt. r.keeps.temps inst t n b.block tt here.stands here.found (record { behind = le; within = within })) w q ks' k) place
 
   pub to_cell : (j : ℕ) (key : Key) → Follows (StoreOp (ToCell j key))
   to_cell j key a =
@@ -151,15 +158,15 @@ module _ (s : Source) (code : CodeOf) (l : Limits) (o : World) (m : Instances) (
       (λ m' fs' em efs r. wrote_on m' fs' r ks' h2 refl place)
 
   abbrev meaning_puts : Val → Val → List Val → Run Configuration
-  meaning_puts v p vals2 = having (place_in p) o (λ p. putting p v o m (λ o m. go o m inst w vals2 rest))
+  meaning_puts v p vals2 = having (variable_in p) o (λ p. putting p v o m (λ o m. go o m inst w vals2 rest))
 
   abbrev machine_puts : (line : ℕ) → Value → Value → List Value → Run Machine
-  machine_puts line x p stack2 = having (machine.place_in p) o (λ p. rows.storing code line p x o fs (λ o m. machine.on o m a_top stack2 below))
+  machine_puts line x p stack2 = having (machine.variable_in p) o (λ p. rows.storing code line p x o fs (λ o m. machine.on o m a_top stack2 below))
 
   puts_at : (line : ℕ) (kind : Kind) → IsRead kind → (v : Val) (x : Value) (p : Val) (p' : Value) (vals2 : List Val) (stack2 : List Value) → ValAt v x → HandAt s code m kind p p' → StackAt (HandAt s code m) ks' vals2 stack2 → q ≡ suc pc → Alike R (meaning_puts v p vals2) (machine_puts line x p' stack2)
   unfolding having
   puts_at line Any i v x p p' vals2 stack2 h hp h2 place =
-      alike_having Configuration Machine R (Place Key (Option ℕ)) (Place ℕ ℕ) PlaceAt (place_in p) (machine.place_in p') o _ _ (place_both p p' hp) (λ z z' ez ez' there. puts_one line v x vals2 stack2 h h2 place z z' there)
+      alike_having Configuration Machine R (Place Key (Option ℕ)) (Place ℕ ℕ) PlaceAt (variable_in p) (machine.variable_in p') o _ _ (variable_both p p' hp) (λ z z' ez ez' there. puts_one line v x vals2 stack2 h h2 place z z' there)
     where
       puts_one : (line : ℕ) (v : Val) (x : Value) (vals2 : List Val) (stack2 : List Value) → ValAt v x → StackAt (HandAt s code m) ks' vals2 stack2 → q ≡ suc pc → (z : Place Key (Option ℕ)) (z' : Place ℕ ℕ) → PlaceAt z z'
           → Alike R (putting z v o m (λ o m. go o m inst w vals2 rest)) (rows.storing code line z' x o fs (λ o m. machine.on o m a_top stack2 below))
@@ -199,7 +206,7 @@ module _ (s : Source) (code : CodeOf) (l : Limits) (o : World) (m : Instances) (
       let r = temp_written s code m fs inst t b a.temp x here.store here.stands here.lives here.found a.is_temp.behind a.is_temp.within in
       let more : u ≤ suc a.temp = omega (arith, a.unused) in
       let again : suc a.temp ≤ suc a.temp = omega arith in
-      let low' : length (own_part s (frame_text s t)) ≤ suc a.temp = omega (arith, a.is_temp.behind) in
+      let low' : own_end s code (frame_text s t) ≤ suc a.temp = omega (arith, a.is_temp.behind) in
       let in_use : a.temp < suc a.temp = omega arith in
       at_cell s code l o m inst w vals rest fs t b pc stack below ks here o (level_of s t) inst a.temp _ _ (own_level s m inst t here.stands here.lives)
       (alike_found Configuration Machine R Frames (machine.cell_set fs inst a.temp x) r.frames o _ _ r.is
@@ -209,14 +216,14 @@ module _ (s : Source) (code : CodeOf) (l : Limits) (o : World) (m : Instances) (
         q,
         ks',
         t,
-        b,
+        spot t b (suc a.temp),
         same_frame s t,
         there refl,
         again,
         low',
         stays (record { temp = a.temp; x = x; like = h; «in_use» = in_use; is_temp = record { behind = a.is_temp.behind; within = a.is_temp.within }; holds = r.holds; gives = a.gives }) refl,
         work_more s code m r.frames (λ v. ChainAt s code m r.frames rest v below) inst t b u (suc a.temp) more w q ks'
-            (work_moved s code r.changed here here.alone below u (λ n le lt. r.others n (λ same. let no : ⊥ = omega (arith, same, lt, a.unused) in no)) w q ks' k),
+            (work_moved s code r.changed here here.alone below u (λ n le within lt. r.others n (λ same. let no : ⊥ = omega (arith, same, lt, a.unused) in no)) w q ks' k),
       ) a.kept.is.on))))
 
   -- what a value is given to is no variable that is found anew

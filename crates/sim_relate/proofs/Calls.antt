@@ -23,7 +23,7 @@ use Rattle.sim_meaning.specs.Pending as meaning
 use Rattle.sim_meaning.specs.Statements.{has_value}
 use Rattle.sim_meaning.specs.Steps.{go, with_value, of_plain, operand, plain_in, put_back, putting}
 use Rattle.sim_meaning.specs.Texts.{text}
-use Rattle.codegen_expr.specs.Sites.{HasCell, slot_of, own_part, frame_text}
+use Rattle.codegen_expr.specs.Sites.{HasCell, slot_of, frame_text, own_end}
 use Rattle.sim_relate.proofs.Known.{FixedOf, OwnerOf, Refers, is_declared, is_fixed, Every, HandAt, Kind, StackAt, given, more_at, plain_at, site_at, AllRead, Any, IsRead, LinkTo, Located, Stands, ValAt, array_at, element_at, image_at, link_at, Runs}
 use Rattle.sim_relate.proofs.Relation.{ChainAt, Changed, OpAt, StateAt, WorkAt}
 use Rattle.sim_relate.proofs.Hands.{stack_length, FirstAt, hand_operands}
@@ -48,7 +48,7 @@ has_room_is : (r : Option StandardType) (room values operands left : ℕ) → (h
 has_room_is None room values operands left f e = refl
 has_room_is (Some x) room values operands left f e = let lt : left < room = f refl in grind (arith, lt, e)
 
-module _ (s : Source) (code : CodeOf) (l : Limits) (o : World) (m : Instances) (inst : ℕ) (w : List Item) (vals : List Val) (rest : List Activation) (fs : Frames) (t : ℕ) (b : Runs) (pc : ℕ) (stack : List Value) (below : List machine.Activation) (ks : List Kind) (here : Here s code m fs inst rest t b ks vals stack) (u q : ℕ) (ks' : List Kind) (low : length (own_part s (frame_text s t)) ≤ u) (k : WorkAt s code m fs (λ v. ChainAt s code m fs rest v below) inst t b u w q ks') where
+module _ (s : Source) (code : CodeOf) (l : Limits) (o : World) (m : Instances) (inst : ℕ) (w : List Item) (vals : List Val) (rest : List Activation) (fs : Frames) (t : ℕ) (b : Runs) (pc : ℕ) (stack : List Value) (below : List machine.Activation) (ks : List Kind) (here : Here s code m fs inst rest t b ks vals stack) (u q : ℕ) (ks' : List Kind) (low : own_end s code (frame_text s t) ≤ u) (k : WorkAt s code m fs (λ v. ChainAt s code m fs rest v below) inst t b u w q ks') where
   abbrev R : Configuration → Machine → Type 0
   R = StateAt s code
 
@@ -129,7 +129,12 @@ module _ (s : Source) (code : CodeOf) (l : Limits) (o : World) (m : Instances) (
   roomy : (name : Standard) (many : ℕ) (left : List Kind) → many ≡ length (operands_of (row_of name).function) → AllRead many ks left → (has_value (row_of name).result ≡ true → length left < b.block.room) → room_for name a_top ≡ true
   roomy name many left counts e fits =
       let deep : length stack ≡ length (operands_of (row_of name).function) + length left = sym (stack_length ks vals stack here.values) ∙ read_length many ks left e ∙ ap (λ n. n + length left) counts in
-      has_room_is (row_of name).result b.block.room (length stack) (length (operands_of (row_of name).function)) (length left) fits deep
+      let fits_on : has_value (row_of name).result ≡ true → length left < b.room = λ e.
+      let lt = fits e in
+      let more = here.roomy in
+      omega (arith, lt, more)
+      in
+      has_room_is (row_of name).result b.room (length stack) (length (operands_of (row_of name).function)) (length left) fits_on deep
 
   whenever : (test : Bool) (r : Run Configuration) (x : Run Machine) → test ≡ true → Alike R r x → Alike R r (when test o x)
   unfolding when

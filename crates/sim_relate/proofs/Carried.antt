@@ -5,17 +5,17 @@ use Rattle.sim_chains.specs.Components.{AttachedObject, DetachedObject, NoObject
 use Rattle.sim_scope.specs.Source.{Source, level_of}
 use Rattle.sim_values.specs.Plain.{Character, Integer, Nothing, Object, Plain, Text, Truth}
 use Rattle.sim_code.proofs.Lifts.{Both}
-use Rattle.sim_code.specs.Code.{CodeOf}
+use Rattle.sim_code.specs.declared.stage.Stage.{Stage}
+use Rattle.sim_code.specs.Code.{BlockOf, CodeOf}
 use Rattle.sim_code.specs.Machine.{Frames, Value}
 use Rattle.sim_code.specs.Machine as machine
-use Rattle.sim_meaning.specs.Pending.{Activation, AttributeOf, BackOp, BranchOp, CallOf, Cell, CopyOf, Do, Either, ElementOf, ElementsOp, EndBlock, EndObject, EndProcedure, EndProgram, Eval, FitsOf, Further, Given, GiveOp, IfOp, ImageOf, Instances, Item, Joined, KeptOf, Key, MemberOf, NewOf, NoTerm, One, Op, PlaceOf, QuaOf, QualifiedElementOf, QualifiedPlaceOf, RaiseOp, RemoteCallOf, ShareOp, StandardOf, StepTestOp, StoreOp, Target, Term, Terms, ToAddress, ToCell, ToPlace, ToReference, ToReferenceAt, ToText, ToTextAt, ToTextOf, Two, Unbuilt, Val, ValueAt, WhileElementOp}
+use Rattle.sim_meaning.specs.Pending.{Activation, AttributeOf, BackOp, BranchOp, CallOf, Cell, CopyOf, Do, Either, ElementOf, ElementsOp, EndBlock, EndLevel, EndObject, EndProcedure, EndProgram, Eval, FitsOf, Further, Given, GiveOp, IfOp, ImageOf, Instances, Item, Joined, KeptOf, Key, MemberOf, NewOf, NoTerm, One, Op, PlaceOf, QuaOf, QualifiedElementOf, QualifiedPlaceOf, RaiseOp, RemoteCallOf, ShareOp, StandardOf, StepTestOp, StoreOp, Target, Term, Terms, ToAddress, ToCell, ToPlace, ToReference, ToReferenceAt, ToText, ToTextAt, ToTextOf, Two, Unbuilt, Val, ValueAt, WhileElementOp}
 use Rattle.sim_meaning.specs.Sane.{AllKept, AllOf, KeptOf as KeptChains}
-use Rattle.codegen_expr.specs.Sites.{Site, class_number, frame_text, own_part}
+use Rattle.codegen_expr.specs.Sites.{Site, class_number, frame_text, own_end}
 use Rattle.codegen.specs.CodeFor.{OfCell, OfPlace, OfReference, Variable}
-use Rattle.sim_relate.proofs.Known.{Any, Every, FixedOf, HandAt, Keeps, Kind, Later, LinkTo, Located, OwnerOf, Reaches, Refers, RefersAt, Runs, StackAt, Stands, more_at, none_at, placed, refers_cell, refers_element, site_at}
+use Rattle.sim_relate.proofs.Known.{Any, Every, FixedOf, HandAt, Keeps, Kind, Later, LinkTo, Located, OwnerOf, Reaches, Refers, RefersAt, Runs, Spot, StackAt, Stands, more_at, none_at, placed, refers_cell, refers_element, site_at}
 use Rattle.sim_relate.proofs.Trees.{CellPlaceIs, GivenIs, OperandAt, ReadsAt, TermAt, TermsAt}
-use Rattle.sim_relate.proofs.Relation.{Bottom, ChainAt, ChainOn, Changed, ComesTo, EndAt, GivesIs, InStage, OpAt, PlaceStoreIs, StandingAt, StandingsAt, StoreIs, TargetAt, VariableIs, WorkAt, declares, inner_here, inner_last, over, returning, stays, there, with_inner}
-use Rattle.sim_relate.proofs.Frames.{stands_same}
+use Rattle.sim_relate.proofs.Relation.{AtLevel, Bottom, ChainAt, ChainOn, Changed, ComesTo, DeclaredTo, EndAt, GivesIs, InStage, LevelEnds, OpAt, PlaceStoreIs, StandingAt, StandingsAt, StoreIs, TargetAt, VariableIs, WorkAt, at_level, declares, inner_here, inner_last, over, returning, stays, there, to_first, to_next, with_inner}
 
 end_later : (s : Source) (code : CodeOf) (Below Below' : Bool → Type 0) → ((v : Bool) → Below v → Below' v) → (t : ℕ) (b : Runs) (x : Item) (p : ℕ) (ks : List Kind) → EndAt s code Below t b x p ks → EndAt s code Below' t b x p ks
 end_later s code Below Below' f t b (Do op) p ks a = absurd a
@@ -23,12 +23,42 @@ end_later s code Below Below' f t b EndBlock p ks a = (a.0, let x = a.1 in recor
 end_later s code Below Below' f t b (EndProcedure v) p ks a =
     record { result = a.result; heading = a.heading; body = a.body; is = a.is; same = a.same; ends = let x = a.ends in record { last = x.last; at = x.at; heads = x.heads; none = x.none; below = f v x.below } }
 end_later s code Below Below' f t b EndProgram p ks a = (a.0, let x = a.1 in record { last = x.last; at = x.at; heads = x.heads; none = x.none; below = f false x.below })
-end_later s code Below Below' f t b EndObject p ks a = (a.0, a.1, let x = a.2 in record { last = x.last; at = x.at; heads = x.heads; none = x.none; below = f false x.below })
+end_later s code Below Below' f t b EndObject p ks a =
+    record { not_first = a.not_first; was = a.was; block = a.block; found = a.found; ends = let x = a.ends in record { last = x.last; at = x.at; heads = x.heads; none = x.none; below = f false x.below } }
 end_later s code Below Below' f t b _ p ks a = absurd a
 
 -- the temps of an instance that are in use
-abbrev pub TempsKept : Source → Frames → Frames → (inst t used : ℕ) → Type 0
-TempsKept s fs fs' inst t used = (c : ℕ) → length (own_part s (frame_text s t)) ≤ c → c < used → placed fs' inst c ≡ placed fs inst c
+abbrev pub TempsKept : Source → CodeOf → Frames → Frames → (inst t : ℕ) → Runs → (used : ℕ) → Type 0
+TempsKept s code fs fs' inst t b used = (c : ℕ) → own_end s code (frame_text s t) ≤ c → c < length b.block.types → c < used → placed fs' inst c ≡ placed fs inst c
+
+-- the same where the work behind an operator goes on
+module _ (s : Source) (code : CodeOf) (fs fs' : Frames) (inst : ℕ) where
+  abbrev SpotKept : Spot → Type 0
+  SpotKept c = TempsKept s code fs fs' inst c.text c.runs c.used
+
+  -- at the start of a level no temp is in use
+  level_kept : (b : Runs) (k : ℕ) (block : BlockOf) (stage : Stage) → frame_text s k ≡ k → (c : Spot) → c ≡ at_level s code b k block stage → SpotKept c
+  level_kept b k block stage f c e = subst (λ z. SpotKept z) (sym e) (λ n behind within in_use.
+      let low : own_end s code k ≤ n = subst (λ z. own_end s code z ≤ n) f behind in
+      let high : n < own_end s code k = in_use in
+      absurd (omega (arith, low, high)))
+
+  declared_kept : (b : Runs) (place : ℕ) (c : Spot) (q : ℕ) → DeclaredTo s code b place c q → SpotKept c
+  declared_kept b place c q (to_next x) = level_kept b x.text x.block _ (x.level).frame c x.goes_on
+  declared_kept b place c q (to_first x) = level_kept b x.text x.block _ (x.level).frame c x.goes_on
+
+  inner_kept : (v : ℕ) (b : Runs) (u : ℕ) (c : Spot) (place after : ℕ) (ks ks' : List Kind) → AtLevel s code (site_at v b u) b c place after ks ks' → TempsKept s code fs fs' inst v b u → SpotKept c
+  inner_kept v b u c place after ks ks' x keeps = subst (λ z. SpotKept z) (sym x.goes_on) keeps
+
+  stage_kept : (Stays : Op → (p q : ℕ) → (before behind : List Kind) → Type 0) (v : ℕ) (b : Runs) (u : ℕ) (op : Op) (c : Spot) (p q : ℕ) (ks ks' : List Kind) → InStage s code Stays (site_at v b u) op b c p q ks ks' → TempsKept s code fs fs' inst v b u → SpotKept c
+  stage_kept Stays v b u op c p q ks ks' (stays a g) keeps = subst (λ z. SpotKept z) (sym g) keeps
+  stage_kept Stays v b u op c p q ks ks' (declares k e a) keeps = declared_kept b a.place c q a.to
+  stage_kept Stays v b u op c p q ks ks' (inner_last xs e a) keeps = inner_kept v b u c a.place q ks ks' a.at keeps
+  stage_kept Stays v b u op c p q ks ks' (inner_here token e a) keeps = inner_kept v b u c a.place q ks ks' a.at keeps
+  stage_kept Stays v b u op c p q ks ks' (with_inner ss e a) keeps = inner_kept v b u c a.place a.after ks ks' a.at keeps
+
+  ended_kept : (b : Runs) (c : Spot) (p q : ℕ) (ks : List Kind) → LevelEnds s code b c p q ks → SpotKept c
+  ended_kept b c p q ks x = level_kept b x.text x.block _ (x.level).frame c x.goes_on
 
 module _ (s : Source) (code : CodeOf) (m m' : Instances) (e : Later s m m') where
   reaches_later : (from t u j : ℕ) → Stands s m from t → Reaches s m from u j → Reaches s m' from u j
@@ -173,9 +203,9 @@ module _ (s : Source) (code : CodeOf) (m m' : Instances) (e : Later s m m') wher
     variable_later site (OfPlace y assigned) x v = record { place = v.place; is = v.is; anew = λ u n p q h. let r = v.anew u n p q h in (term_later (record site { used = u }) n v.place p q r.0, r.1) }
     variable_later site (OfReference y line) x v = record { place = v.place; is = v.is; anew = λ u n p q h. let r = v.anew u n p q h in record { class = r.class; is_class = r.is_class; term = term_later (record site { used = u }) n v.place p q r.term; leaves = r.leaves } }
 
-    module _ (fs fs' : Frames) where
-      pub op_later : (b : Runs) (used : ℕ) → TempsKept s fs fs' inst t used → (op : Op) (p q : ℕ) (ks ks' : List Kind) → OpAt s code m fs inst (site_at t b used) op p q ks ks' → OpAt s code m' fs' inst (site_at t b used) op p q ks ks'
-      op_later b used keeps (Eval x) p q ks ks' a = (term_later (site_at t b used) (length ks) x p q a.0, a.1)
+    module _ (fs fs' : Frames) (text : ℕ) where
+      pub op_later : (b : Runs) (used : ℕ) → TempsKept s code fs fs' inst text b used → (op : Op) (p q : ℕ) (ks ks' : List Kind) → OpAt s code m fs inst (site_at text b used) op p q ks ks' → OpAt s code m' fs' inst (site_at text b used) op p q ks ks'
+      op_later b used keeps (Eval x) p q ks ks' a = (term_later (site_at text b used) (length ks) x p q a.0, a.1)
       op_later b used keeps (IfOp x y) p q ks ks' a =
           let c = a.choice in
           record {
@@ -186,15 +216,15 @@ module _ (s : Source) (code : CodeOf) (m m' : Instances) (e : Later s m m') wher
               x = c.x;
               jump = c.jump;
               leads = c.leads;
-              first = operand_later (site_at t b used) (length a.left) x c.z c.w c.first;
+              first = operand_later (site_at text b used) (length a.left) x c.z c.w c.first;
               over = c.over;
               past = c.past;
-              second = operand_later (site_at t b used) (length a.left) y c.x q c.second;
+              second = operand_later (site_at text b used) (length a.left) y c.x q c.second;
             };
             «in» = a.«in»;
             out = a.out;
           }
-      op_later b used keeps (StoreOp x) p q ks ks' a = store_later (site_at t b used) x p q ks ks' a
+      op_later b used keeps (StoreOp x) p q ks ks' a = store_later (site_at text b used) x p q ks ks' a
       op_later b used keeps (ShareOp ts) p q ks ks' a = record {
         temp = a.temp;
         unused = a.unused;
@@ -202,7 +232,7 @@ module _ (s : Source) (code : CodeOf) (m m' : Instances) (e : Later s m m') wher
         x = a.x;
         left = a.left;
         kept = a.kept;
-        gives = gives_later (record (site_at t b used) { used = suc a.temp }) a.temp ts a.x q a.left ks' a.gives;
+        gives = gives_later (record (site_at text b used) { used = suc a.temp }) a.temp ts a.x q a.left ks' a.gives;
         «in» = a.«in»;
       }
       op_later b used keeps (GiveOp v ts) p q ks ks' a = record {
@@ -211,45 +241,65 @@ module _ (s : Source) (code : CodeOf) (m m' : Instances) (e : Later s m m') wher
         like = a.like;
         «in_use» = a.«in_use»;
         is_temp = a.is_temp;
-        holds = keeps a.temp a.is_temp.behind a.«in_use» ∙ a.holds;
-        gives = gives_later (site_at t b used) a.temp ts p q ks ks' a.gives;
+        holds = keeps a.temp a.is_temp.behind a.is_temp.within a.«in_use» ∙ a.holds;
+        gives = gives_later (site_at text b used) a.temp ts p q ks ks' a.gives;
       }
       op_later b used keeps (BranchOp x next) p q ks ks' a = record { z = a.z; w = a.w; jump = a.jump; leads = a.leads; turn = a.turn; next = op_later b used keeps next a.w q ks' ks' a.next; «in» = a.«in» }
       op_later b used keeps (BackOp op) p q ks ks' a = record { t = a.t; x = a.x; u = a.u; jump = a.jump; back = a.back; tick = a.tick; next = op_later b used keeps op a.t q ks ks' a.next }
-      op_later b used keeps (ElementsOp x es y) p q ks ks' a = record { variable = a.variable; v = variable_later (site_at t b used) a.variable x a.v; number = a.number; elements = a.elements; out = a.out }
-      op_later b used keeps (WhileElementOp x f c y) p q ks ks' a = record { variable = a.variable; v = variable_later (site_at t b used) a.variable x a.v; element = a.element; out = a.out }
-      op_later b used keeps (StepTestOp x line f c y) p q ks ks' a = (let r = a.0 in record { variable = r.variable; v = variable_later (site_at t b used) r.variable x r.v; start = r.start; at = r.at; element = r.element }, a.1, a.2)
-      op_later b used keeps (RaiseOp x line f c y) p q ks ks' a = (let r = a.0 in record { variable = r.variable; v = variable_later (site_at t b used) r.variable x r.v; start = r.start; at = r.at; element = r.element }, a.1, a.2)
+      op_later b used keeps (ElementsOp x es y) p q ks ks' a = record { variable = a.variable; v = variable_later (site_at text b used) a.variable x a.v; number = a.number; elements = a.elements; out = a.out }
+      op_later b used keeps (WhileElementOp x f c y) p q ks ks' a = record { variable = a.variable; v = variable_later (site_at text b used) a.variable x a.v; element = a.element; out = a.out }
+      op_later b used keeps (StepTestOp x line f c y) p q ks ks' a = (let r = a.0 in record { variable = r.variable; v = variable_later (site_at text b used) r.variable x r.v; start = r.start; at = r.at; element = r.element }, a.1, a.2)
+      op_later b used keeps (RaiseOp x line f c y) p q ks ks' a = (let r = a.0 in record { variable = r.variable; v = variable_later (site_at text b used) r.variable x r.v; start = r.start; at = r.at; element = r.element }, a.1, a.2)
       op_later b used keeps _ p q ks ks' a = a
 
-      comes_later : (b : Runs) (used : ℕ) → TempsKept s fs fs' inst t used → (n q p : ℕ) → ComesTo s code fs inst t b used n q p → ComesTo s code fs' inst t b used n q p
+      comes_later : (b : Runs) (used : ℕ) → TempsKept s code fs fs' inst text b used → (n q p : ℕ) → ComesTo s code fs inst text b used n q p → ComesTo s code fs' inst text b used n q p
       comes_later b used keeps n q _ (there e) = there e
       comes_later b used keeps n q _ (over {p} {p'} jump ahead more) = over jump ahead (comes_later b used keeps n q p' more)
       comes_later b used keeps n q _ (returning {p} {p'} r more) =
-          returning (record { temp = r.temp; number = r.number; first = r.first; returns = r.returns; was = r.was; «in_use» = r.«in_use»; is_temp = r.is_temp; holds = keeps r.temp r.is_temp.behind r.«in_use» ∙ r.holds; leads = r.leads; back = r.back }) (comes_later b used keeps n q p' more)
+          returning (record { temp = r.temp; number = r.number; first = r.first; returns = r.returns; was = r.was; «in_use» = r.«in_use»; is_temp = r.is_temp; holds = keeps r.temp r.is_temp.behind r.is_temp.within r.«in_use» ∙ r.holds; leads = r.leads; back = r.back }) (comes_later b used keeps n q p' more)
 
-      stage_later : (b : Runs) (used : ℕ) → TempsKept s fs fs' inst t used → (op : Op) (c d : Runs) (p q : ℕ) (ks ks' : List Kind) → InStage s code (OpAt s code m fs inst (site_at t b used)) (site_at t b used) op c d p q ks ks' → InStage s code (OpAt s code m' fs' inst (site_at t b used)) (site_at t b used) op c d p q ks ks'
-      stage_later b used keeps op c d p q ks ks' (stays a g) = stays (op_later b used keeps op p q ks ks' a) g
-      stage_later b used keeps op c d p q ks ks' (declares k e g a) = declares k e g a
-      stage_later b used keeps op c d p q ks ks' (inner_last e g a) = inner_last e g a
-      stage_later b used keeps op c d p q ks ks' (inner_here k e g a) = inner_here k e g a
-      stage_later b used keeps op c d p q ks ks' (with_inner ss e g a) = with_inner ss e g a
+      stage_later : (b : Runs) (used : ℕ) → TempsKept s code fs fs' inst text b used → (op : Op) (c : Spot) (p q : ℕ) (ks ks' : List Kind) → InStage s code (OpAt s code m fs inst (site_at text b used)) (site_at text b used) op b c p q ks ks' → InStage s code (OpAt s code m' fs' inst (site_at text b used)) (site_at text b used) op b c p q ks ks'
+      stage_later b used keeps op c p q ks ks' (stays a g) = stays (op_later b used keeps op p q ks ks' a) g
+      stage_later b used keeps op c p q ks ks' (declares k e a) = declares k e a
+      stage_later b used keeps op c p q ks ks' (inner_last xs e a) = inner_last xs e a
+      stage_later b used keeps op c p q ks ks' (inner_here token e a) = inner_here token e a
+      stage_later b used keeps op c p q ks ks' (with_inner ss e a) = with_inner ss e a
 
 module _ (s : Source) (code : CodeOf) (m m' : Instances) (e : Later s m m') (inst : ℕ) (fs fs' : Frames) (Below Below' : Bool → Type 0) (f : (v : Bool) → Below v → Below' v) where
-  pub work_later : (t : ℕ) → Stands s m inst t → (b : Runs) (used : ℕ) → TempsKept s fs fs' inst t used → (w : List Item) (p : ℕ) (ks : List Kind) → WorkAt s code m fs Below inst t b used w p ks → WorkAt s code m' fs' Below' inst t b used w p ks
-  work_later t st b used keeps [] p ks a = a
-  work_later t st b used keeps (Do op ∷ w) p ks a =
-      let le = a.8 in
-      let st2 = stands_same s m inst a.4 t a.6 st in
-      let fewer : TempsKept s fs fs' inst a.4 a.1 = λ c behind lt. keeps c (subst (λ z. length (own_part s z) ≤ c) (a.6).frame behind) (omega (arith, lt, le)) in
-      (a.0, a.1, a.2, a.3, a.4, a.5, a.6, comes_later s code m m' e inst t st fs fs' b used keeps (length ks) a.0 p a.7, a.8, a.9, stage_later s code m m' e inst a.4 st2 fs fs' b a.1 fewer op b a.5 a.0 a.2 ks a.3 a.10, work_later a.4 st2 a.5 a.1 fewer w a.2 a.3 a.11)
-  work_later t st b used keeps (EndBlock ∷ w) p ks a = (a.0, comes_later s code m m' e inst t st fs fs' b used keeps (length ks) a.0 p a.1, end_later s code Below Below' f (frame_text s t) b EndBlock a.0 ks a.2)
-  work_later t st b used keeps (EndProcedure v ∷ w) p ks a = (a.0, comes_later s code m m' e inst t st fs fs' b used keeps (length ks) a.0 p a.1, end_later s code Below Below' f (frame_text s t) b (EndProcedure v) a.0 ks a.2)
-  work_later t st b used keeps (EndProgram ∷ w) p ks a = (a.0, comes_later s code m m' e inst t st fs fs' b used keeps (length ks) a.0 p a.1, end_later s code Below Below' f (frame_text s t) b EndProgram a.0 ks a.2)
-  work_later t st b used keeps (EndObject ∷ w) p ks a = (a.0, comes_later s code m m' e inst t st fs fs' b used keeps (length ks) a.0 p a.1, end_later s code Below Below' f (frame_text s t) b EndObject a.0 ks a.2)
-  work_later t st b used keeps (_ ∷ w) p ks a = absurd a
+  -- the work of an instance, at whatever level it goes on
+  module _ (home : ℕ) (st : Stands s m inst home) where
+    rest_later : (t : ℕ) (b : Runs) (used : ℕ) → TempsKept s code fs fs' inst t b used → (w : List Item) (p : ℕ) (ks : List Kind) → WorkAt s code m fs Below inst t b used w p ks → WorkAt s code m' fs' Below' inst t b used w p ks
+    rest_later t b used keeps [] p ks a = a
+    rest_later t b used keeps (Do op ∷ w) p ks a =
+        let le = a.8 in
+        let c = a.5 in
+        let fewer : TempsKept s code fs fs' inst a.4 b a.1 = λ n behind within lt. keeps n (subst (λ z. own_end s code z ≤ n) (a.6).frame behind) within (omega (arith, lt, le)) in (
+          a.0,
+          a.1,
+          a.2,
+          a.3,
+          a.4,
+          a.5,
+          a.6,
+          comes_later s code m m' e inst home st fs fs' t b used keeps (length ks) a.0 p a.7,
+          a.8,
+          a.9,
+          stage_later s code m m' e inst home st fs fs' a.4 b a.1 fewer op c a.0 a.2 ks a.3 a.10,
+          rest_later c.text c.runs c.used (stage_kept s code fs fs' inst (OpAt s code m fs inst (site_at a.4 b a.1)) a.4 b a.1 op c a.0 a.2 ks a.3 a.10 fewer) w a.2 a.3 a.11,
+        )
+    rest_later t b used keeps (EndBlock ∷ w) p ks a = (a.0, comes_later s code m m' e inst home st fs fs' t b used keeps (length ks) a.0 p a.1, end_later s code Below Below' f (frame_text s t) b EndBlock a.0 ks a.2)
+    rest_later t b used keeps (EndProcedure v ∷ w) p ks a = (a.0, comes_later s code m m' e inst home st fs fs' t b used keeps (length ks) a.0 p a.1, end_later s code Below Below' f (frame_text s t) b (EndProcedure v) a.0 ks a.2)
+    rest_later t b used keeps (EndProgram ∷ w) p ks a = (a.0, comes_later s code m m' e inst home st fs fs' t b used keeps (length ks) a.0 p a.1, end_later s code Below Below' f (frame_text s t) b EndProgram a.0 ks a.2)
+    rest_later t b used keeps (EndObject ∷ w) p ks a = (a.0, comes_later s code m m' e inst home st fs fs' t b used keeps (length ks) a.0 p a.1, end_later s code Below Below' f (frame_text s t) b EndObject a.0 ks a.2)
+    rest_later t b used keeps (EndLevel k ∷ w) p ks a =
+        let c = a.2 in
+        (a.0, a.1, a.2, comes_later s code m m' e inst home st fs fs' t b used keeps (length ks) a.0 p a.3, a.4, rest_later c.text c.runs c.used (ended_kept s code fs fs' inst b c a.0 a.1 ks a.4) w a.1 [] a.5)
+    rest_later t b used keeps (_ ∷ w) p ks a = absurd a
 
-module _ (s : Source) (code : CodeOf) (m m' : Instances) (fs fs' : Frames) (e : Later s m m') (Of : ℕ → Type 0) (k : Keeps s m fs fs' Of) where
+  pub work_later : (t : ℕ) → Stands s m inst t → (b : Runs) (used : ℕ) → TempsKept s code fs fs' inst t b used → (w : List Item) (p : ℕ) (ks : List Kind) → WorkAt s code m fs Below inst t b used w p ks → WorkAt s code m' fs' Below' inst t b used w p ks
+  work_later t st b used keeps w p ks a = rest_later t st t b used keeps w p ks a
+
+module _ (s : Source) (code : CodeOf) (m m' : Instances) (fs fs' : Frames) (e : Later s m m') (Of : ℕ → Type 0) (k : Keeps s code m fs fs' Of) where
   chain_on_later : (Ground Ground' : Bool → List machine.Activation → Type 0) → ((v : Bool) (below : List machine.Activation) → Ground v below → Ground' v below) → (chain : List Activation) → AllOf Of chain → (v : Bool) (below : List machine.Activation) → ChainOn s code Ground m fs chain v below → ChainOn s code Ground' m' fs' chain v below
   chain_on_later Ground Ground' g [] all v below c = g v below c
   chain_on_later Ground Ground' g (a ∷ rest) all v [] c = absurd c
@@ -260,6 +310,8 @@ module _ (s : Source) (code : CodeOf) (m m' : Instances) (fs fs' : Frames) (e : 
     block = c.block;
     found = c.found;
     stands = e.stands a.instance c.text c.stands;
+    own = e.texts a.instance c.block.own c.own;
+    roomy = c.roomy;
     room = c.room;
     stage = c.stage;
     kinds = c.kinds;
@@ -267,7 +319,7 @@ module _ (s : Source) (code : CodeOf) (m m' : Instances) (fs fs' : Frames) (e : 
     fits = c.fits;
     used = c.used;
     goes = work_later s code m m' e a.instance fs fs' (λ w. ChainOn s code Ground m fs rest w below) (λ w. ChainOn s code Ground' m' fs' rest w below)
-        (λ w b. chain_on_later Ground Ground' g rest all.1 w below b) c.text c.stands c.block c.used (λ t le lt. k.temps a.instance c.text t all.0 c.stands le) a.work x.pc _ c.goes;
+        (λ w b. chain_on_later Ground Ground' g rest all.1 w below b) c.text c.stands c.block c.used (λ n behind within lt. k.temps a.instance c.text n c.block.block all.0 c.stands c.found (record { behind = behind; within = within })) a.work x.pc _ c.goes;
   }
 
   pub chain_later : (chain : List Activation) → AllOf Of chain → (v : Bool) (below : List machine.Activation) → ChainAt s code m fs chain v below → ChainAt s code m' fs' chain v below
@@ -304,8 +356,8 @@ module _ (s : Source) (code : CodeOf) {Of : ℕ → Type 0} {m m' : Instances} {
   pub changed_twice : {m2 : Instances} {fs2 : Frames} → Changed s code Of m' fs' m2 fs2 → Changed s code Of m fs m2 fs2
   changed_twice y = record {
     store = y.store;
-    later = record { stands = λ j t st. (y.later).stands j t ((x.later).stands j t st); same = λ level j t st. (y.later).same level j t ((x.later).stands j t st) ∙ (x.later).same level j t st };
-    keeps = record { temps = λ j t c of st le. (y.keeps).temps j t c of ((x.later).stands j t st) le ∙ (x.keeps).temps j t c of st le };
+    later = record { texts = λ j own e. (y.later).texts j own ((x.later).texts j own e); stands = λ j t st. (y.later).stands j t ((x.later).stands j t st); same = λ level j t st. (y.later).same level j t ((x.later).stands j t st) ∙ (x.later).same level j t st };
+    keeps = record { temps = λ j t c b of st found temp. (y.keeps).temps j t c b of ((x.later).stands j t st) found temp ∙ (x.keeps).temps j t c b of st found temp };
     standings = y.standings ∙ x.standings;
     frame_standings = y.frame_standings ∙ x.frame_standings;
   }

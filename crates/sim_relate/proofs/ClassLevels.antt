@@ -1,38 +1,79 @@
--- Classes have records in the code, of which different ones have different numbers. Where no class has a prefix an object is in the one class on
--- both sides or on neither.
-use Rattle.std.proofs.Common.{◌≡◌, ◌≢◌, ◌<◌, ◌≤◌, ℕ, zero, suc, Bool, true, false, List, [], ◌∷◌, length, Option, Some, None, ⊎_elim, refl, sym, ap, ◌∙◌, arith}
+-- Classes have records in the code, of which different ones have different numbers. The levels of a class have the numbers of its levels, and an
+-- object is in a class on both sides or on neither.
+use Rattle.std.proofs.Common.{◌≡◌, ◌≢◌, ◌<◌, ◌≤◌, ℕ, zero, suc, Bool, true, false, List, [], ◌∷◌, length, map, Option, Some, None, ⊎_elim, refl, sym, ap, ◌∙◌, subst, arith}
 use Rattle.std.proofs.lemmas.Bool.{cases_eq, cases_lt}
+use Rattle.std.proofs.lemmas.List.{map-append}
 use Rattle.std.proofs.lemmas.Option.{slice_get_within}
-use Rattle.std.specs.Prelude.{◌==◌, ◌||◌, nat_eq, nat_lt, slice_get, if◌then◌else◌}
-use Rattle.sim_scope.specs.Levels.{base, base_in, has_level, holds, some_level_of}
+use Rattle.std.specs.List.{list_any}
+use Rattle.std.specs.Prelude.{◌==◌, ◌||◌, nat_lt, slice_get, if◌then◌else◌}
+use Rattle.sim_scope.specs.Levels.{has_level}
 use Rattle.sim_scope.specs.Source.{Source}
 use Rattle.sim_scope.specs.Tables as scope
 use Rattle.sim_code.specs.declared.code.BlockKind.{BlockKind}
 use Rattle.sim_code.specs.declared.code.BlockKind.TheVariants as kind
-use Rattle.sim_code.specs.Classes.{behind, class_numbered, class_of, in_class, levels, levels_within}
+use Rattle.sim_code.specs.Classes.{behind, class_numbered, class_of, in_class, is_among, levels, levels_in, levels_within}
 use Rattle.sim_code.specs.Classes as classes
 use Rattle.sim_code.specs.Code.{BlockOf, ClassOf, CodeOf}
 use Rattle.sim_code.specs.Instances.{Instance, live}
 use Rattle.sim_code.specs.Machine.{Cells, Frames}
 use Rattle.sim_code.specs.Machine as machine
 use Rattle.sim_meaning.specs.Attributes.{is_connection}
-use Rattle.sim_meaning.specs.Levels.{has_levels, is_class}
+use Rattle.sim_meaning.specs.Levels.{has_levels, is_class, levels_of}
 use Rattle.sim_meaning.specs.Texts.{BlockText, ClassText, ConnectionText, PrefixedText, ProcedureText, StandardText, Text, program_texts, text}
-use Rattle.codegen_expr.specs.Sites.{block_in_front, block_number, block_of_text, blocks_before, class_in, class_number, counted_unless, in_front, is_connected, prefix_of}
+use Rattle.codegen_expr.specs.Sites.{LevelOf, block_in_front, block_number, block_of_text, blocks_before, class_in, class_number, counted_unless, innermost, is_connected, outer, prefix_of}
 use Rattle.codegen_expr.specs.Sites as sites
+use Rattle.codegen.specs.Agrees.{Ends, before, last}
 use Rattle.codegen.specs.Compiled.{ClassIs, CodeHas, TextCode}
+use Rattle.sim_relate.proofs.LevelLists.{has_level_is, level_has, level_place, levels_behind, levels_first, levels_some, place_level, solid_level}
 use Rattle.sim_relate.proofs.Lists.{there_get}
 use Rattle.sim_relate.proofs.Plainly.{Coding}
 
 equal_number : (a : ℕ) → (a == a) ≡ true
 equal_number a = grind arith
 
+same_number : (a b : ℕ) → (a == b) ≡ true → a ≡ b
+same_number a b e = grind (arith, e)
+
+one_less : (n : ℕ) → 0 < n → (m : ℕ) × (suc m ≡ n)
+one_less zero lt = let no : ⊥ = omega (arith, lt) in absurd no
+one_less (suc n) lt = (n, refl)
+
 other_number : (a b : ℕ) → a ≢ b → (a == b) ≡ false
 other_number a b e = grind (arith, e)
 
-or_none : (b : Bool) → (b || false) ≡ b
-or_none true = refl
-or_none false = refl
+or_true : (x y : Bool) → y ≡ true → (x || y) ≡ true
+or_true true y e = refl
+or_true false y e = e
+
+both_ways : (a b : Bool) → (a ≡ true → b ≡ true) → (b ≡ true → a ≡ true) → a ≡ b
+both_ways true b f g = sym (f refl)
+both_ways false true f g = g refl
+both_ways false false f g = refl
+
+-- ---- numbers in a list
+
+-- a number that is found there stands at some place
+pub record PlaceOf (f : ℕ → ℕ) (c : ℕ) (ks : List ℕ) : Type 0 where
+  pub place : ℕ
+  pub text : ℕ
+  pub there : slice_get ks place ≡ Some text
+  pub same : (f text == c) ≡ true
+
+place_in : (f : ℕ → ℕ) (c : ℕ) (ks : List ℕ) → list_any (λ z. z == c) (map f ks) ≡ true → PlaceOf f c ks
+place_in f c [] e = absurd (cc)
+place_in f c (k ∷ ks) e = by (f k == c) refl e (λ g. place_in f c ks g)
+  where
+    by : (b : Bool) → (f k == c) ≡ b → (b || list_any (λ z. z == c) (map f ks)) ≡ true → (list_any (λ z. z == c) (map f ks) ≡ true → PlaceOf f c ks) → PlaceOf f c (k ∷ ks)
+    by true h e rest = record { place = 0; text = k; there = refl; same = h }
+    by false h e rest = let x = rest e in record { place = suc x.place; text = x.text; there = x.there; same = x.same }
+
+found_in : (f : ℕ → ℕ) (c k n : ℕ) (ks : List ℕ) → slice_get ks n ≡ Some k → (f k == c) ≡ true → list_any (λ z. z == c) (map f ks) ≡ true
+found_in f c k n [] e h = absurd (cc)
+found_in f c k zero (x ∷ ks) e h = ap (λ z. z || list_any (λ z. z == c) (map f ks)) (ap (λ z. f z == c) (the x k e) ∙ h)
+  where
+    the : (a b : ℕ) → Some a ≡ Some b → a ≡ b
+    the a b e = cc (e)
+found_in f c k (suc n) (x ∷ ks) e h = or_true (f x == c) _ (found_in f c k n ks e h)
 
 -- ---- blocks are numbered in order
 
@@ -164,7 +205,7 @@ module _ (s : Source) (code : CodeOf) (compiled : Coding s code) where
       ⊎_elim (λ e. ap (λ z. class_number s code z == class_number s code k) e ∙ equal_number (class_number s code k) ∙ sym (ap (λ z. z == k) e ∙ equal_number k))
       (λ other. other_number (class_number s code t) (class_number s code k) (λ e. other (same_class t k h h' e)) ∙ sym (other_number t k other)) (cases_eq t k)
 
-  -- ---- classes without a prefix
+  -- ---- the numbers of levels
 
   -- class numbers count from 1
   pub counts : (k : ℕ) (x : Levelled k) → (n : ℕ) × (x.block.class ≡ suc n)
@@ -174,57 +215,123 @@ module _ (s : Source) (code : CodeOf) (compiled : Coding s code) where
       by_number zero e = absurd (cc)
       by_number (suc n) e = (n, refl)
 
-  flat : (k : ℕ) → prefix_of s.tables k ≡ None
-  flat k = compiled.agrees.flat.classes k
+  -- a text with levels is no connection
+  pub levels_solid : (k : ℕ) → has_levels (text s k) ≡ true → is_connected s.tables k ≡ false
+  levels_solid k h = compiled.agrees.connected k ∙ unconnected (text s k) h
 
-  in_front_none : (k : ℕ) → block_in_front s code k ≡ None
+  -- a level of a text with levels has levels
+  pub level_levels : (own k : ℕ) → LevelOf s.tables own k → has_levels (text s own) ≡ true → has_levels (text s k) ≡ true
+  level_levels own k innermost h = h
+  level_levels own k (outer {u = u} e r) h = level_levels u k r (class_levels u ((compiled.agrees.prefixes own u e).class))
+
+  in_front_none : (k : ℕ) → prefix_of s.tables k ≡ None → class_in (block_in_front s code k) ≡ 0
   unfolding block_in_front
-  in_front_none k = ap (block_of_text s code) (flat k)
+  in_front_none k e = ap (λ z. class_in (block_of_text s code z)) e
 
-  levels_by_number : (c : ℕ) (k : ℕ) (x : Levelled k) → x.block.class ≡ c → levels_within c code c ≡ Some (c ∷ [])
-  levels_by_number zero k x e = let n = counts k x in absurd (let no : ⊥ = omega (arith, e, n.1) in no)
-  levels_by_number (suc n) k x e =
-      let there : class_numbered code (suc n) ≡ Some x.class = ap (class_numbered code) (sym e) ∙ x.is.numbered in
-      let alone : x.class.prefix ≡ 0 = x.is.prefix ∙ ap class_in (in_front_none k) in
-      ap (classes.levels_by (levels_within n code) (suc n)) there ∙ ap (λ p. if p == 0 then Some (suc n ∷ []) else if nat_lt p (suc n) then behind (levels_within n code p) (suc n) else None) alone
+  in_front_is : (k u : ℕ) → prefix_of s.tables k ≡ Some u → class_in (block_in_front s code k) ≡ class_number s code u
+  unfolding block_in_front class_number
+  in_front_is k u e = ap (λ z. class_in (block_of_text s code z)) e
 
-  pub levels_flat : (k : ℕ) (x : Levelled k) → levels code x.block.class ≡ Some (x.block.class ∷ [])
+  abbrev numbers : ℕ → List ℕ
+  numbers k = map (class_number s code) (levels_of s k)
+
+  -- the first level
+  first_within : (n k : ℕ) (x : Levelled k) → prefix_of s.tables k ≡ None → has_levels (text s k) ≡ true → class_numbered code (class_number s code k) ≡ Some x.class → levels_within (suc n) code (class_number s code k) ≡ Some (numbers k)
+  first_within n k x e h there =
+      let c = class_number s code k in
+      let alone : x.class.prefix ≡ 0 = x.is.prefix ∙ in_front_none k e in
+      ap (classes.levels_by (levels_within n code) c) there ∙
+      ap (λ p. if p == 0 then Some (c ∷ []) else if nat_lt p c then behind (levels_within n code p) c else None) alone ∙
+      ap (λ z. Some (map (class_number s code) z)) (sym (levels_first s compiled.agrees k e (levels_solid k h)))
+
+  if_first : {A : Type 0} (b : Bool) (x y : A) → b ≡ true → (if b then x else y) ≡ x
+  if_first true x y e = refl
+  if_first false x y e = absurd (cc)
+
+  if_second : {A : Type 0} (b : Bool) (x y : A) → b ≡ false → (if b then x else y) ≡ y
+  if_second true x y e = absurd (cc)
+  if_second false x y e = refl
+
+  lower_number : (a b : ℕ) → a < b → nat_lt a b ≡ true
+  lower_number a b e = grind (arith, e)
+
+  -- a level behind another one
+  next_within : (n k u : ℕ) (x : Levelled k) → prefix_of s.tables k ≡ Some u → class_numbered code (class_number s code k) ≡ Some x.class → class_number s code u ≢ 0 → class_number s code u < class_number s code k → levels_within n code (class_number s code u) ≡ Some (numbers u) → levels_within (suc n) code (class_number s code k) ≡ Some (numbers k)
+  next_within n k u x e there some lower rest =
+      let c = class_number s code k in
+      let d = class_number s code u in
+      let front : x.class.prefix ≡ d = x.is.prefix ∙ in_front_is k u e in
+      ap (classes.levels_by (levels_within n code) c) there ∙
+      ap (λ p. if p == 0 then Some (c ∷ []) else if nat_lt p c then behind (levels_within n code p) c else None) front ∙
+      if_second (d == 0) (Some (c ∷ [])) (if nat_lt d c then behind (levels_within n code d) c else None) (other_number d 0 some) ∙
+      if_first (nat_lt d c) (behind (levels_within n code d) c) None (lower_number d c lower) ∙
+      ap (λ z. behind z c) rest ∙
+      ap Some (sym (map-append (class_number s code) (levels_of s u) (k ∷ []))) ∙
+      ap (λ z. Some (map (class_number s code) z)) (sym (levels_behind s compiled.agrees k u e))
+
+  numbers_within : (n f k : ℕ) → Ends s.tables f k → has_levels (text s k) ≡ true → class_number s code k ≤ n → levels_within n code (class_number s code k) ≡ Some (numbers k)
+  numbers_within zero f k ends h le =
+      let x = levelled k h in
+      let n = counts k x in
+      let e = number_is k x ∙ n.1 in
+      let no : ⊥ = omega (arith, e, le) in
+      absurd no
+  numbers_within (suc n) f k (last e) h le =
+      let x = levelled k h in
+      first_within n k x e h (ap (class_numbered code) (number_is k x) ∙ x.is.numbered)
+  numbers_within (suc n) f k (before {n = i} {u = u} e r) h le =
+      let x = levelled k h in
+      let h' = class_levels u ((compiled.agrees.prefixes k u e).class) in
+      let y = levelled u h' in
+      let some = counts u y in
+      let number = number_is u y ∙ some.1 in
+      let front = x.is.prefix ∙ in_front_is k u e in
+      let less = x.is.lower in
+      let own = number_is k x in
+      let lower : class_number s code u < class_number s code k = omega (arith, front, less, own) in
+      next_within n k u x e (ap (class_numbered code) (number_is k x) ∙ x.is.numbered) (λ z. (let no : ⊥ = omega (arith, z, number) in no)) lower
+      (numbers_within n i u r h' (omega (arith, lower, le)))
+
+  pub levels_numbers : (k : ℕ) → has_levels (text s k) ≡ true → levels code (class_number s code k) ≡ Some (map (class_number s code) (levels_of s k))
   unfolding levels
-  levels_flat k x = levels_by_number x.block.class k x refl
+  levels_numbers k h = numbers_within (class_number s code k) (length s.tables.blocks) k (compiled.agrees.ends k) h (omega arith)
 
-  no_base : (k : ℕ) → has_levels (text s k) ≡ true → base s.tables k ≡ None
-  unfolding base prefix_of
-  no_base k h = let x = row_there k h in ap base_in x.there ∙ sym (if_not (sites.is_connection x.row.kind) None x.row.base x.unconnected) ∙ ap in_front (sym x.there) ∙ flat k
+  -- a class is among the levels on both sides or on neither
+  among_same : (t k : ℕ) → has_levels (text s t) ≡ true → has_levels (text s k) ≡ true → list_any (λ z. z == class_number s code k) (numbers t) ≡ has_level s.tables t k
+  among_same t k h h' = both_ways (list_any (λ z. z == class_number s code k) (numbers t)) (has_level s.tables t k) there back
     where
-      if_not : {A : Type 0} (b : Bool) (x y : A) → b ≡ false → (if b then x else y) ≡ y
-      if_not true x y e = absurd (cc)
-      if_not false x y e = refl
+      there : list_any (λ z. z == class_number s code k) (numbers t) ≡ true → has_level s.tables t k ≡ true
+      there e =
+          let x = place_in (class_number s code) (class_number s code k) (levels_of s t) e in
+          let solid = levels_solid t h in
+          let level = (place_level s compiled.agrees t x.text x.place solid x.there).0 in
+          let test = sym (class_test x.text k (level_levels t x.text level h) h') ∙ x.same in
+          let same : x.text ≡ k = same_number x.text k test in
+          level_has s compiled.agrees t k (subst (λ z. LevelOf s.tables t z) same level) solid
 
-  pub has_level_flat : (t k : ℕ) → has_levels (text s t) ≡ true → has_level s.tables t k ≡ (t == k)
-  unfolding has_level some_level_of
-  has_level_flat t k h =
-      let x = row_there t h in
-      let lt = slice_get_within s.tables.blocks t x.row x.there in
-      by_count (length s.tables.blocks) (omega (arith, lt))
-    where
-      by_count : (n : ℕ) → 0 < n → some_level_of s.tables n (λ b. nat_eq b k) t ≡ (t == k)
-      by_count zero lt = absurd (let e : ⊥ = omega (arith, lt) in e)
-      by_count (suc n) lt = ap (λ o. nat_eq t k || holds (λ b. some_level_of s.tables n (λ b. nat_eq b k) b) o) (no_base t h) ∙ or_none (t == k)
+      back : has_level s.tables t k ≡ true → list_any (λ z. z == class_number s code k) (numbers t) ≡ true
+      back e =
+          let solid = levels_solid t h in
+          let level = has_level_is s compiled.agrees t k e solid in
+          let some = levels_some s compiled.agrees k (solid_level s compiled.agrees t k level solid) in
+          let n = one_less (length (levels_of s k)) some in
+          found_in (class_number s code) (class_number s code k) k n.0 (levels_of s t) (level_place s compiled.agrees t k n.0 level solid n.1) (equal_number (class_number s code k))
 
   -- ---- objects
 
-  module _ (fs : Frames) (j t k : ℕ) (y : Instance Cells) (lives : live fs j ≡ Some y) (number : y.text ≡ block_number s t) (has : has_levels (text s t) ≡ true) (is : has_levels (text s k) ≡ true) where
-    own_class : class_of code fs j ≡ Some (class_number s code t)
+  module _ (fs : Frames) (j t : ℕ) (y : Instance Cells) (lives : live fs j ≡ Some y) (number : y.text ≡ block_number s t) (has : has_levels (text s t) ≡ true) where
+    pub own_class : class_of code fs j ≡ Some (class_number s code t)
     own_class =
         let x = levelled t has in
         ap (λ z. classes.class_in (classes.block_in code (machine.text_in z))) lives ∙ ap (λ n. classes.class_in (slice_get code.blocks n)) number ∙ ap classes.class_in x.found ∙ x.level ∙ ap Some (sym (number_is t x))
 
+    -- the levels that the machine finds
+    pub levels_here : levels_in code (class_of code fs j) ≡ Some (map (class_number s code) (levels_of s t))
+    levels_here = ap (levels_in code) own_class ∙ levels_numbers t has
+
+  module _ (fs : Frames) (j t k : ℕ) (y : Instance Cells) (lives : live fs j ≡ Some y) (number : y.text ≡ block_number s t) (has : has_levels (text s t) ≡ true) (is : has_levels (text s k) ≡ true) where
     pub is_same : classes.is_class (class_number s code k) (class_of code fs j) ≡ Some (t == k)
-    is_same = ap (λ o. classes.is_class (class_number s code k) o) own_class ∙ ap Some (class_test t k has is)
+    is_same = ap (λ o. classes.is_class (class_number s code k) o) (own_class fs j t y lives number has) ∙ ap Some (class_test t k has is)
 
     pub in_same : in_class code fs (class_number s code k) j ≡ Some (has_level s.tables t k)
-    in_same =
-        let x = levelled t has in
-        ap (λ o. classes.is_among (class_number s code k) (classes.levels_in code o)) own_class ∙
-        ap (classes.is_among (class_number s code k)) (ap (levels code) (number_is t x) ∙ levels_flat t x ∙ ap (λ n. Some (n ∷ [])) (sym (number_is t x))) ∙
-        ap Some (or_none (class_number s code t == class_number s code k) ∙ class_test t k has is ∙ sym (has_level_flat t k has))
+    in_same = ap (is_among (class_number s code k)) (levels_here fs j t y lives number has) ∙ ap Some (among_same t k has is)

@@ -43,7 +43,7 @@ use Rattle.sim_meaning.specs.Pending.{CallOf, Cell, Declared, ElementOf, Further
 use Rattle.sim_meaning.specs.Statements.{has_value, standard_leaves}
 use Rattle.sim_meaning.specs.Steps.{count}
 use Rattle.sim_meaning.specs.Texts.{constant_of, text}
-use Rattle.codegen_expr.specs.Sites.{At, HasCell, Inside, Is, Pushes, Site, block_number, class_number, frame_text, is_constant, slot_of}
+use Rattle.codegen_expr.specs.Sites.{At, HasCell, Inside, Is, LevelOf, Pushes, Site, block_number, class_number, frame_text, is_constant, slot_of}
 use Rattle.codegen_expr.specs.CodeExpr.{ActualAt, ActualsAt, ArrayAt, ArrayOfAt, ArrayPlaceAt, ArrayPlaceOfAt, AttributeAt, AttributePlaceAt, BehindDotAt, CallAt, CellAt, ConnectedAt, ConnectedNameAt, ConstantAt, ConstantAttributeAt, DeclaredAt, DeclaredPlaceAt, DotAt, ElementAt, ElementOfAt, ExprAt, ExprsAt, FittingAt, FormalAt, FormalPlaceAt, GenerationAt, GivenAt, LiteralAt, MemberAt, NameAt, NamedAt, NamedPlaceAt, ObjectAt, OfObjectAt, ParameterOfAt, ParameterPlaceOfAt, PlaceAt, PlaceBehindAt, PlaceOfObjectAt, PlaceOrResultAt, PlainAt, QuaAt, QualifiedPlaceAt, ReferencePlaceAt, RemoteCallAt, SignedAt, StandardAt, StandardIs, StreamPlaceAt, ThisFoundAt, ThisOfAt, ThroughAt, TwoAt, VariableAt, VariableOfAt, VariablePlaceAt, VariablePlaceOfAt, gives_entry, operands}
 use Rattle.codegen_expr.specs.CodeExpr as code_gives
 use Rattle.sim_relate.proofs.Formals.{actuals_counted, formals_same}
@@ -481,8 +481,8 @@ module _ (s : Source) (code : CodeOf) (m : Instances) (inst : ℕ) (site : Site)
 
   -- a connection stands in the frames of the text around
   frame_stands : {j t : ℕ} → Stands s m j t → Stands s m j (frame_text s t)
-  frame_stands {j} {t} (outermost is text level alone around) = outermost is (text ∙ sym (frame_idem s agrees t)) (level ∙ sym (frame_level s agrees t)) alone (ap (encloser s.tables) (frame_idem s agrees t) ∙ around)
-  frame_stands {j} {t} (inside is text level out around before stands) = inside is (text ∙ sym (frame_idem s agrees t)) (level ∙ sym (frame_level s agrees t)) out (ap (encloser s.tables) (frame_idem s agrees t) ∙ around) before stands
+  frame_stands {j} {t} (outermost {x = x} is levels level rooted around) = outermost is (subst (LevelOf s.tables x.text) (sym (frame_idem s agrees t)) levels) (level ∙ sym (frame_level s agrees t)) rooted (ap (encloser s.tables) (frame_idem s agrees t) ∙ around)
+  frame_stands {j} {t} (inside {x = x} is levels level out around before stands) = inside is (subst (LevelOf s.tables x.text) (sym (frame_idem s agrees t)) levels) (level ∙ sym (frame_level s agrees t)) out (ap (encloser s.tables) (frame_idem s agrees t) ∙ around) before stands
 
   connected_at : (t n p q : ℕ) → ConnectedAt s code site n t p q → OperandAt s code m inst site n (connected_object s m inst t) p q
   connected_at t n p q a =

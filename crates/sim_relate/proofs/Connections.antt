@@ -28,13 +28,13 @@ use Rattle.sim_meaning.specs.Pending as meaning
 use Rattle.sim_meaning.specs.Sane.{IsObject, LastNames, Names}
 use Rattle.sim_meaning.specs.Steps.{go}
 use Rattle.sim_meaning.specs.Texts.{text}
-use Rattle.codegen_expr.specs.Sites.{Ahead, Is, class_number, frame_text, is_connected, own_part, slot_of}
+use Rattle.codegen_expr.specs.Sites.{Ahead, Is, class_number, frame_text, is_connected, slot_of, own_end}
 use Rattle.codegen.specs.CodeStm.{ArmAt, ArmOfAt, ArmsAt, ConnectionAt, ConnectsAt, StmAt, StmsAt}
 use Rattle.sim_relate.proofs.Carried.{all_every, kept_every}
 use Rattle.sim_relate.proofs.Frames.{frame_idem, frame_level, frame_out, stands_same}
 use Rattle.sim_relate.proofs.Hands.{stack_length}
 use Rattle.sim_relate.proofs.Here.{Here, goes, kinds_as, with_values}
-use Rattle.sim_relate.proofs.Known.{HandAt, Kind, Runs, SameFrame, StackAt, Stands, ValAt, anys, array_at, element_at, image_at, link_at, more_at, plain_at, site_at}
+use Rattle.sim_relate.proofs.Known.{HandAt, Kind, Runs, SameFrame, StackAt, Stands, ValAt, anys, array_at, element_at, image_at, link_at, more_at, plain_at, site_at, spot}
 use Rattle.sim_relate.proofs.Living.{own_level}
 use Rattle.sim_relate.proofs.Moved.{moved, work_moved}
 use Rattle.sim_relate.proofs.Pending.{pends, pends_in}
@@ -66,7 +66,7 @@ module _ (s : Source) where
   unfolding class_at
   class_classed token class e = denoted_classed (denoted s token) class e
 
-module _ (s : Source) (code : CodeOf) (coding : Coding s code) (l : Limits) (o : World) (m : Instances) (inst : ℕ) (w : List Item) (vals : List Val) (rest : List Activation) (fs : Frames) (t : ℕ) (b : Runs) (pc : ℕ) (stack : List Value) (below : List machine.Activation) (ks : List Kind) (here : Here s code m fs inst rest t b ks vals stack) (u q : ℕ) (ks' : List Kind) (low : length (own_part s (frame_text s t)) ≤ u) (k : WorkAt s code m fs (λ v. ChainAt s code m fs rest v below) inst t b u w q ks') where
+module _ (s : Source) (code : CodeOf) (coding : Coding s code) (l : Limits) (o : World) (m : Instances) (inst : ℕ) (w : List Item) (vals : List Val) (rest : List Activation) (fs : Frames) (t : ℕ) (b : Runs) (pc : ℕ) (stack : List Value) (below : List machine.Activation) (ks : List Kind) (here : Here s code m fs inst rest t b ks vals stack) (u q : ℕ) (ks' : List Kind) (low : own_end s code (frame_text s t) ≤ u) (k : WorkAt s code m fs (λ v. ChainAt s code m fs rest v below) inst t b u w q ks') where
   abbrev R : Configuration → Machine → Type 0
   R = StateAt s code
 
@@ -101,11 +101,11 @@ module _ (s : Source) (code : CodeOf) (coding : Coding s code) (l : Limits) (o :
         let level : at_level fs (level_of s class) inst ≡ Some inst = ap (λ z. at_level fs z inst) same.level ∙ levels_same s code here.store (level_of s t) inst ∙ own_level s m inst t here.stands here.lives in
         let store = c.kept in
         let is : connected o m inst w vals' rest opening j a ≡ go o r.now inst (Do (Exec a) ∷ Do PastOp ∷ w) vals' rest = ap (λ z. having z o (λ m. go o m inst (Do (Exec a) ∷ Do PastOp ∷ w) vals' rest)) r.is in
-        let low' : length (own_part s (frame_text s class)) ≤ u = subst (λ z. length (own_part s z) ≤ u) (sym same.frame) low in
-        let later = work_moved s code r.changed here (all_every rest) below u (λ n le lt. r.changed.keeps.temps inst t n tt here.stands le) w q left (subst (λ z. WorkAt s code m fs (λ v. ChainAt s code m fs rest v below) inst t b u w q z) out k) in
+        let low' : own_end s code (frame_text s class) ≤ u = subst (λ z. own_end s code z ≤ u) (sym same.frame) low in
+        let later = work_moved s code r.changed here (all_every rest) below u (λ n le within lt. r.changed.keeps.temps inst t n b.block tt here.stands here.found (record { behind = le; within = within })) w q left (subst (λ z. WorkAt s code m fs (λ v. ChainAt s code m fs rest v below) inst t b u w q z) out k) in
         let work : WorkAt s code r.now r.frames (λ v. ChainAt s code r.now r.frames rest v below) inst t b u (Do (Exec a) ∷ Do PastOp ∷ w) c.x left =
-        pends_in s code r.now r.frames (λ v. ChainAt s code r.now r.frames rest v below) inst t b u low (Do PastOp ∷ w) (Exec a) class b c.x e left left same (stays (straight c.body, refl) refl)
-        (pends_in s code r.now r.frames (λ v. ChainAt s code r.now r.frames rest v below) inst class b u low' w PastOp t b e q left left back (stays (y, over, past, refl) refl) later) in
+        pends_in s code r.now r.frames (λ v. ChainAt s code r.now r.frames rest v below) inst t b u low (Do PastOp ∷ w) (Exec a) class (spot class b u) c.x e left left same (stays (straight c.body, refl) refl)
+        (pends_in s code r.now r.frames (λ v. ChainAt s code r.now r.frames rest v below) inst class b u low' w PastOp t (spot t b u) e q left left back (stays (y, over, past, refl) refl) later) in
         subst (λ z. Meets g (InEach R) z o (at f (machine.Of (Object j) ∷ stack') fs)) (sym is)
         (matched code l inst b below R (Going o (at c.x stack' r.frames))
         (steps_to code l inst b below (machine.Of (Object j) ∷ stack') stack' fs r.frames o o (i.Store (pos (level_of s class)) (pos (slot_of s code (frame_text s class) (Connection opening)))) store.is
@@ -138,8 +138,9 @@ module _ (s : Source) (code : CodeOf) (coding : Coding s code) (l : Limits) (o :
         let e = deep in
         let one = c.again.fits in
         let two = c.none.fits in
-        silent code l inst b below R i.Dup again.is (dup_row code l again.line inst b below fs o pc x stack' (omega (arith, e, one)))
-        (silent code l inst b below R i.None none.is (none_row code l inst b below none.line fs o c.b (x ∷ x ∷ stack') (omega (arith, e, two))) more)
+        let roomy = here.roomy in
+        silent code l inst b below R i.Dup again.is (dup_row code l again.line inst b below fs o pc x stack' (omega (arith, e, one, roomy)))
+        (silent code l inst b below R i.None none.is (none_row code l inst b below none.line fs o c.b (x ∷ x ∷ stack') (omega (arith, e, two, roomy))) more)
 
     chosen : (p : Plain) → Follows g R (object_connected o m inst w vals' rest opening a other p) o (at pc (machine.Of p ∷ stack') fs)
     chosen (Object j) =
@@ -196,7 +197,8 @@ module _ (s : Source) (code : CodeOf) (coding : Coding s code) (l : Limits) (o :
         let test = c.test in
         let e = deep' in
         let one = c.again.fits in
-        silent code l inst b below R i.Dup again.is (dup_row code l again.line inst b below fs o p0 (machine.Of p) stack' (omega (arith, e, one)))
+        let roomy = here.roomy in
+        silent code l inst b below R i.Dup again.is (dup_row code l again.line inst b below fs o p0 (machine.Of p) stack' (omega (arith, e, one, roomy)))
         (silent code l inst b below R (i.In (pos (class_number s code class))) test.is (in_row code l inst b below test.line fs o c.a (class_number s code class) p y (machine.Of p ∷ stack') (class_named s code coding m fs here.store class h) is) more)
 
     -- none is in no class

@@ -13,7 +13,7 @@ use Rattle.sim_meaning.specs.Entries.{arrays_declared, arrays_of, bounds_of, fir
 use Rattle.sim_meaning.specs.Pending.{ArrayOp, Cell, CopyOp, Declared, Do, Eval, Instances, Item, StoreOp, ToCell}
 use Rattle.sim_meaning.specs.Texts.{declared_at, kind_named}
 use Rattle.sim_meaning.specs.Sane.{Lives}
-use Rattle.codegen_expr.specs.Sites.{Varies, At, own_part, frame_text}
+use Rattle.codegen_expr.specs.Sites.{Varies, At, frame_text, own_end}
 use Rattle.sim_relate.proofs.Plainly.{Agrees}
 use Rattle.codegen.specs.CodeArrays.{ArraysAt, BoundsAt, FurtherAt, KeepsArray, LoadsArray, MakesAt, SegmentsAt}
 use Rattle.sim_relate.proofs.Closing.{close_at}
@@ -40,7 +40,7 @@ further_some : (s : Source) (i : ℕ) (first : DeclNo) (x : Identifier) (xs : Li
     → further_arrays s i first (x ∷ xs) w ≡ Do (Eval (Cell i (Declared first.0))) ∷ Do (CopyOp (line_at s x.token.0)) ∷ Do (StoreOp (ToCell i (Declared d.0))) ∷ further_arrays s i first xs w
 further_some s i first x xs w d e = rw e
 
-module _ (s : Source) (code : CodeOf) (agrees : Agrees s) (m : Instances) (fs : Frames) (Below : Bool → Type 0) (inst t : ℕ) (b : Runs) (u : ℕ) (low : length (own_part s (frame_text s t)) ≤ u) (st : Stands s m inst t) (lives : Lives m inst) where
+module _ (s : Source) (code : CodeOf) (agrees : Agrees s) (m : Instances) (fs : Frames) (Below : Bool → Type 0) (inst t : ℕ) (b : Runs) (u : ℕ) (low : own_end s code (frame_text s t) ≤ u) (st : Stands s m inst t) (lives : Lives m inst) where
   abbrev Work : List Item → ℕ → List Kind → Type 0
   Work w p ks = WorkAt s code m fs Below inst t b u w p ks
 

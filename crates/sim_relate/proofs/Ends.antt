@@ -24,21 +24,25 @@ use Rattle.sim_code.specs.Rows.{on_top}
 use Rattle.sim_code.proofs.Lifts.{Both, alike_found, alike_having, alike_no_rule, alike_stopping, alike_ticking}
 use Rattle.sim_code.proofs.Simulation.{Alike, ended, going}
 use Rattle.sim_meaning.specs.Meaning.{do_item, has_result, instances_left, leaving, text_of, words_of_text, world_left}
+use Rattle.sim_meaning.specs.Levels.{has_levels, is_class, text_at}
+use Rattle.sim_meaning.specs.Levels as meaning_levels
 use Rattle.sim_meaning.specs.Pending.{Activation, Configuration, EndBlock, EndObject, EndProcedure, EndProgram, Held, Instances, Item, Result, Val, cell}
 use Rattle.sim_meaning.specs.Texts.{ProcedureText, Text, text}
 use Rattle.sim_meaning.specs.Entries.{first_cells}
-use Rattle.codegen_expr.specs.Sites.{HasCell, block_in_front, block_number, cells_in, frame_text, hidden_in, own_cells, own_part, place_of, slot_of, types_in}
-use Rattle.codegen.specs.Compiled.{cells_of_block, type_of_name}
+use Rattle.codegen_expr.specs.Sites.{HasCell, block_in_front, block_number, block_of_text, cells_in, cells_of_block, frame_text, hidden_in, own_cells, own_part, place_of, prefix_of, slot_of, types_in}
+use Rattle.codegen.specs.Compiled.{type_of_name}
 use Rattle.sim_relate.proofs.Carried.{all_every, both_later, chain_changed, chain_later, kept_every, parked_changed}
+use Rattle.sim_relate.proofs.Frames.{frame_idem, frame_level, stands_same}
 use Rattle.sim_relate.proofs.Hands.{stack_length}
-use Rattle.sim_relate.proofs.Heads.{Heads, both_refl, given_standings, heads_refl, is_live_at, later_all}
+use Rattle.sim_relate.proofs.Heads.{Heads, both_refl, given_standings, heads_refl, later_all}
 use Rattle.sim_relate.proofs.Lists.{set_both}
 use Rattle.sim_relate.proofs.Here.{Here, act, at_row}
-use Rattle.sim_relate.proofs.Living.{lives_now}
-use Rattle.sim_relate.proofs.Reach.{other_numbers}
+use Rattle.sim_relate.proofs.LevelCode.{class_code}
+use Rattle.sim_relate.proofs.Plainly.{Agrees, Coding, agreed}
+use Rattle.sim_relate.proofs.Reach.{alone, other_numbers}
 use Rattle.sim_relate.proofs.Known.{Any, Every, Keeps, Kind, Later, Runs, Stands, ValAt, more_at}
 use Rattle.sim_relate.proofs.Relation.{ChainAt, Changed, EndAt, EndIs, StandingAt, StandingsAt, StateAt, StoreAt}
-use Rattle.sim_relate.proofs.Stores.{cell_read, framed, given_at_end_same, keeps_given, later_given, store_given, unchanged}
+use Rattle.sim_relate.proofs.Stores.{cell_read, frame_number, given_at_end_same, keeps_given, later_given, own_levels, store_given, unchanged}
 
 pub chosen : {A : Type 0} (P : A → Type 0) (b : Bool) (x y : A) → b ≡ true → P x → P (if b then x else y)
 chosen P true x y e h = h
@@ -48,8 +52,33 @@ pub left_out : {A : Type 0} (P : A → Type 0) (b : Bool) (x y : A) → b ≡ fa
 left_out P true x y e h = absurd (cc)
 left_out P false x y e h = h
 
+-- ---- the text of an instance
+
 pub text_of_is : (m : Instances) (j : ℕ) (x : Instance (List Held)) → slice_get m.instances j ≡ Some x → text_of m j ≡ x.text
 text_of_is m j x e = rw e
+
+text_of_own : (m : Instances) (j own : ℕ) → text_at m j ≡ Some own → text_of m j ≡ own
+text_of_own m j own e = by (slice_get m.instances j) refl e
+  where
+    by : (o : Option (Instance (List Held))) → slice_get m.instances j ≡ o → meaning_levels.text_in o ≡ Some own → text_of m j ≡ own
+    by None f g = absurd (cc)
+    by (Some x) f g = let same : x.text ≡ own = cc (g) in text_of_is m j x f ∙ same
+
+-- what has no levels has nothing in front of it
+no_front : (s : Source) → Agrees s → (k : ℕ) → has_levels (text s k) ≡ false → prefix_of s.tables k ≡ None
+no_front s agrees k h = by (prefix_of s.tables k) refl
+  where
+    by : (o : Option ℕ) → prefix_of s.tables k ≡ o → prefix_of s.tables k ≡ None
+    by None e = e
+    by (Some u) e = let has = (agrees.prefixes k u e).has in absurd (cc (h, has))
+
+-- the program's block is no class
+first_plain : (s : Source) (code : CodeOf) → Coding s code → is_class (text s 0) ≡ false
+first_plain s code compiled = by (is_class (text s 0)) refl
+  where
+    by : (c : Bool) → is_class (text s 0) ≡ c → is_class (text s 0) ≡ false
+    by false e = e
+    by true e = absurd ((class_code s code compiled 0 e).not_first refl)
 
 -- the words of a text are those of its block
 pub words_agree : (s : Source) (code : CodeOf) (t : ℕ) (b : BlockOf) (x : Text) → text s t ≡ Some x → own_cells s t x ≡ first_cells s t x → block_in_front s code t ≡ None → b.cells ≡ cells_of_block (block_in_front s code t) + length (cells_in s t (text s t)) → words_of_text s t (text s t) ≡ words_of_block b
@@ -89,7 +118,7 @@ module _ (s : Source) (code : CodeOf) where
   -- ---- the stores behind an end
 
   left_alike : (m : Instances) (fs : Frames) → StoreAt s code m fs → (j : ℕ) (b b' : Bool) → b' ≡ b → Changed s code Every m fs (if b then given m j else m) (if b' then given fs j else fs)
-  left_alike m fs a j true true e = record { store = store_given s code m fs a j; later = later_given s m j; keeps = keeps_given s m fs j; standings = given_standings m j (slice_get m.instances j); frame_standings = given_standings fs j (slice_get fs.instances j) }
+  left_alike m fs a j true true e = record { store = store_given s code m fs a j; later = later_given s m j; keeps = keeps_given s code m fs j; standings = given_standings m j (slice_get m.instances j); frame_standings = given_standings fs j (slice_get fs.instances j) }
   left_alike m fs a j true false e = absurd (cc)
   left_alike m fs a j false true e = absurd (cc)
   left_alike m fs a j false false e = unchanged s code m fs a
@@ -141,6 +170,8 @@ module _ (s : Source) (code : CodeOf) where
             block = k.block;
             found = k.found;
             stands = k.stands;
+            own = k.own;
+            roomy = k.roomy;
             room = k.room;
             stage = k.stage;
             kinds = Any ∷ k.kinds;
@@ -153,7 +184,7 @@ module _ (s : Source) (code : CodeOf) where
           parked = parked_left;
         }))
 
-module _ (s : Source) (code : CodeOf) (l : Limits) (o : World) (m : Instances) (inst : ℕ) (w : List Item) (vals : List Val) (rest : List Activation) (fs : Frames) (t : ℕ) (b : Runs) (pc : ℕ) (stack : List Value) (below : List machine.Activation) (ks : List Kind) (here : Here s code m fs inst rest t b ks vals stack) (used : ℕ) where
+module _ (s : Source) (code : CodeOf) (compiled : Coding s code) (l : Limits) (o : World) (m : Instances) (inst : ℕ) (w : List Item) (vals : List Val) (rest : List Activation) (fs : Frames) (t : ℕ) (b : Runs) (pc : ℕ) (stack : List Value) (below : List machine.Activation) (ks : List Kind) (here : Here s code m fs inst rest t b ks vals stack) (used : ℕ) where
   abbrev Related : Configuration → Machine → Type 0
   Related = StateAt s code
 
@@ -164,53 +195,41 @@ module _ (s : Source) (code : CodeOf) (l : Limits) (o : World) (m : Instances) (
   abbrev pub EndFollows : Item → Type 0
   EndFollows x = EndAt s code (λ v. ChainAt s code m fs rest v below) (frame_text s t) b x pc ks → Alike Related (do_item s l o m inst w vals rest x) (on_top code l o fs top below)
 
-  number_here : text_in (slice_get fs.instances inst) ≡ Some (block_number s (frame_text s t))
-  number_here =
-      let now = lives_now m inst here.lives in
-      let f = framed s code m fs here.store here.stands now.0 now.1 in
-      let there = is_live_at (slice_get fs.instances inst) f.frame f.frame_lives in
-      ap text_in there.there ∙ ap Some ((f.pair).number ∙ ap (block_number s) f.of_text)
+  number_here : text_in (slice_get fs.instances inst) ≡ Some (block_number s b.own)
+  number_here = frame_number s code m fs here.store inst b.own here.own
 
-  text_here : text_of m inst ≡ frame_text s t
-  text_here =
-      let now = lives_now m inst here.lives in
-      let f = framed s code m fs here.store here.stands now.0 now.1 in
-      let there = is_live_at (slice_get m.instances inst) f.now f.lives in
-      text_of_is m inst f.now there.there ∙ f.of_text
+  -- a text that is no class is the own text of the instance
+  own_is : is_class (text s (frame_text s t)) ≡ false → b.own ≡ frame_text s t
+  own_is c = alone s (agreed s code compiled) b.own (frame_text s t) c (own_levels s code m fs here.store inst b.own t here.own here.stands)
 
-  front_here : block_in_front s code (frame_text s t) ≡ None
-  front_here =
-      let now = lives_now m inst here.lives in
-      let f = framed s code m fs here.store here.stands now.0 now.1 in
-      ap (block_in_front s code) (sym f.of_text) ∙ (f.pair).alone
+  text_here : is_class (text s (frame_text s t)) ≡ false → text_of m inst ≡ frame_text s t
+  text_here c = text_of_own m inst b.own here.own ∙ own_is c
 
-  -- the own text of the instance
+  front_here : has_levels (text s (frame_text s t)) ≡ false → block_in_front s code (frame_text s t) ≡ None
+  unfolding block_in_front
+  front_here h = ap (block_of_text s code) (no_front s (agreed s code compiled) (frame_text s t) h)
+
   frame_own : frame_text s (frame_text s t) ≡ frame_text s t
-  frame_own =
-      let now = lives_now m inst here.lives in
-      let f = framed s code m fs here.store here.stands now.0 now.1 in
-      ap (frame_text s) (sym f.of_text) ∙ (f.pair).own ∙ f.of_text
+  frame_own = frame_idem s (agreed s code compiled) t
 
-  here_stands : Stands s m inst (frame_text s t)
-  here_stands =
-      let now = lives_now m inst here.lives in
-      let f = framed s code m fs here.store here.stands now.0 now.1 in
-      subst (λ z. Stands s m inst z) f.of_text (here.store.all inst f.now (is_live_at (slice_get m.instances inst) f.now f.lives).there)
+  frame_stands : Stands s m inst (frame_text s t)
+  frame_stands = stands_same s m inst (frame_text s t) t (record { frame = frame_own; level = frame_level s (agreed s code compiled) t }) here.stands
 
-  own_alike : (k : BlockKind) (r : Run Configuration) (go : BlockOf → Run Machine) → same_kind b.block.kind k ≡ true → Alike Related r (go b.block) → Alike Related r (own_block code k fs top o go)
+  own_alike : is_class (text s (frame_text s t)) ≡ false → (k : BlockKind) (r : Run Configuration) (go : BlockOf → Run Machine) → same_kind b.block.kind k ≡ true → Alike Related r (go b.block) → Alike Related r (own_block code k fs top o go)
   unfolding own_block when
-  own_alike k r go e h =
+  own_alike c k r go e h =
       alike_found Configuration Machine Related ℕ (machine.owner top) inst o r _ refl
-      (alike_found Configuration Machine Related ℕ (text_in (slice_get fs.instances inst)) (block_number s (frame_text s t)) o r _ number_here
+      (alike_found Configuration Machine Related ℕ (text_in (slice_get fs.instances inst)) (block_number s (frame_text s t)) o r _ (number_here ∙ ap (λ k. Some (block_number s k)) (own_is c))
       (alike_found Configuration Machine Related BlockOf (slice_get code.blocks (block_number s (frame_text s t))) b.block o r _ here.found
       (chosen (λ q. Alike Related r q) (same_kind b.block.kind k) (go b.block) (no_rule o) e h)))
 
   pub end_block : EndFollows EndBlock
   end_block a =
       let x = a.1 in
+      let plain = ap is_class (a.0).is in
       at_row s code l o fs top below _ i.Leave x.at.line x.last x.at.is
-      (own_alike block_kind.SubBlock _ _ (ap (λ z. same_kind z block_kind.SubBlock) (x.heads).is_kind)
-      (leave_still s code o m fs here.store here.parked inst (frame_text s t) b.block text_here (words_agree s code (frame_text s t) b.block _ (a.0).is refl front_here (x.heads).cells) rest below x.below))
+      (own_alike plain block_kind.SubBlock _ _ (ap (λ z. same_kind z block_kind.SubBlock) (x.heads).is_kind)
+      (leave_still s code o m fs here.store here.parked inst (frame_text s t) b.block (text_here plain) (words_agree s code (frame_text s t) b.block _ (a.0).is refl (front_here (ap has_levels (a.0).is)) (x.heads).cells) rest below x.below))
 
   result_alike : (r : Run Configuration) (go : Option Value → Run Machine) → is_nothing b.block.result_type ≡ false → Alike Related r (having (machine.cell fs inst 0) o (λ v. go (Some v))) → Alike Related r (with_result b.block fs inst o go)
   unfolding with_result
@@ -223,18 +242,18 @@ module _ (s : Source) (code : CodeOf) (l : Limits) (o : World) (m : Instances) (
   end_typed : (type : TypeName) (h : Heading) (body : Statement) → text s (frame_text s t) ≡ Some (ProcedureText (Some type) h body) → EndIs s code i.Return block_kind.Procedure (type_of_name (Some type)) (frame_text s t) b.block pc ks (ChainAt s code m fs rest true below) → Alike Related (do_item s l o m inst w vals rest (EndProcedure true)) (on_top code l o fs top below)
   end_typed type h body is x =
       at_row s code l o fs top below _ i.Return x.at.line x.last x.at.is
-      (own_alike block_kind.Procedure _ _ (ap (λ z. same_kind z block_kind.Procedure) (x.heads).is_kind)
+      (own_alike (ap is_class is) block_kind.Procedure _ _ (ap (λ z. same_kind z block_kind.Procedure) (x.heads).is_kind)
       (result_alike _ _ (ap is_nothing (x.heads).gives ∙ is_typed type)
       (alike_having Configuration Machine Related Val Value ValAt (cell m inst Result) (machine.cell fs inst 0) o _ _
-      (subst (λ c. Both ValAt (cell m inst Result) (machine.cell fs inst c)) (result_slot s code (frame_text s t) type h body is front_here) (cell_read s code m fs inst (frame_text s t) Result here.store here_stands frame_own (result_there s (frame_text s t) type h body is) refl))
-      (λ v z ev ez vz. leave_value s code o m fs here.store here.parked inst (frame_text s t) b.block text_here (words_agree s code (frame_text s t) b.block _ is refl front_here (x.heads).cells) v z vz rest below x.below))))
+      (subst (λ c. Both ValAt (cell m inst Result) (machine.cell fs inst c)) (result_slot s code (frame_text s t) type h body is (front_here (ap has_levels is))) (cell_read s code m fs inst (frame_text s t) Result here.store frame_stands frame_own (result_there s (frame_text s t) type h body is) refl))
+      (λ v z ev ez vz. leave_value s code o m fs here.store here.parked inst (frame_text s t) b.block (text_here (ap is_class is)) (words_agree s code (frame_text s t) b.block _ is refl (front_here (ap has_levels is)) (x.heads).cells) v z vz rest below x.below))))
 
   end_untyped : (h : Heading) (body : Statement) → text s (frame_text s t) ≡ Some (ProcedureText None h body) → EndIs s code i.Return block_kind.Procedure (type_of_name None) (frame_text s t) b.block pc ks (ChainAt s code m fs rest false below) → Alike Related (do_item s l o m inst w vals rest (EndProcedure false)) (on_top code l o fs top below)
   end_untyped h body is x =
       at_row s code l o fs top below _ i.Return x.at.line x.last x.at.is
-      (own_alike block_kind.Procedure _ _ (ap (λ z. same_kind z block_kind.Procedure) (x.heads).is_kind)
+      (own_alike (ap is_class is) block_kind.Procedure _ _ (ap (λ z. same_kind z block_kind.Procedure) (x.heads).is_kind)
       (no_result_alike _ _ (ap is_nothing (x.heads).gives)
-      (leave_still s code o m fs here.store here.parked inst (frame_text s t) b.block text_here (words_agree s code (frame_text s t) b.block _ is refl front_here (x.heads).cells) rest below x.below)))
+      (leave_still s code o m fs here.store here.parked inst (frame_text s t) b.block (text_here (ap is_class is)) (words_agree s code (frame_text s t) b.block _ is refl (front_here (ap has_levels is)) (x.heads).cells) rest below x.below)))
 
   end_of : (leaves : Bool) (result : Option TypeName) (h : Heading) (body : Statement) → has_result result ≡ leaves → text s (frame_text s t) ≡ Some (ProcedureText result h body) → EndIs s code i.Return block_kind.Procedure (type_of_name result) (frame_text s t) b.block pc ks (ChainAt s code m fs rest leaves below) → Alike Related (do_item s l o m inst w vals rest (EndProcedure leaves)) (on_top code l o fs top below)
   end_of true (Some type) h body e is x = end_typed type h body is x
@@ -245,27 +264,25 @@ module _ (s : Source) (code : CodeOf) (l : Limits) (o : World) (m : Instances) (
   pub end_procedure : (leaves : Bool) → EndFollows (EndProcedure leaves)
   end_procedure leaves a = end_of leaves a.result a.heading a.body a.same a.is a.ends
 
-  first_number : frame_text s t ≡ 0 → (block_number s (frame_text s t) == 0) ≡ true
-  unfolding block_number
-  first_number e = ap (λ k. block_number s k == 0) e
-
-  at_zero : (r : Run Configuration) (q : Run Machine) → Alike Related r q → Alike Related r q
-  at_zero r q a = a
-
   -- the end of level 0, by the number of the block
-  level_alike : (r : Run Configuration) → Alike Related r (choosing (block_number s (frame_text s t) == 0) (stopping Normal o) (outermost_ended code l o fs top below inst (block_number s (frame_text s t)))) → Alike Related r (machine.index (pos 0) o (λ n. level_ended code l o fs top below n))
+  level_alike : (r : Run Configuration) → Alike Related r (choosing (block_number s b.own == 0) (stopping Normal o) (outermost_ended code l o fs top below inst (block_number s b.own))) → Alike Related r (machine.index (pos 0) o (λ n. level_ended code l o fs top below n))
   unfolding machine.index
   level_alike r h =
       alike_found Configuration Machine Related ℕ (machine.number (pos 0)) 0 o r _ refl
       (alike_found Configuration Machine Related ℕ (machine.owner top) inst o _ _ refl
-      (alike_found Configuration Machine Related ℕ (text_in (slice_get fs.instances inst)) (block_number s (frame_text s t)) o _ _ number_here h))
+      (alike_found Configuration Machine Related ℕ (text_in (slice_get fs.instances inst)) (block_number s b.own) o _ _ number_here h))
+
+  first_number : b.own ≡ 0 → (block_number s b.own == 0) ≡ true
+  unfolding block_number
+  first_number e = ap (λ k. block_number s k == 0) e
 
   pub end_program : EndFollows EndProgram
   unfolding choosing
   end_program a =
       let x = a.1 in
+      let first : b.own ≡ 0 = own_is (ap (λ k. is_class (text s k)) a.0 ∙ first_plain s code compiled) ∙ a.0 in
       at_row s code l o fs top below _ (i.EndLevel (pos 0)) x.at.line x.last x.at.is
-      (level_alike _ (chosen (λ q. Alike Related (stopping Normal o) q) (block_number s (frame_text s t) == 0) (stopping Normal o) _ (first_number a.0) (alike_stopping Configuration Machine Related Normal o)))
+      (level_alike _ (chosen (λ q. Alike Related (stopping Normal o) q) (block_number s b.own == 0) (stopping Normal o) _ (first_number first) (alike_stopping Configuration Machine Related Normal o)))
 
   -- ---- the end of an object
 
@@ -279,8 +296,8 @@ module _ (s : Source) (code : CodeOf) (l : Limits) (o : World) (m : Instances) (
     ended_later : Later s m ended_m
     ended_later = later_all s m ended_m (λ k. both_refl Heads heads_refl (slice_get m.instances k))
 
-    ended_keeps : Keeps s m fs ended_fs Every
-    ended_keeps = record { temps = λ j t c of st le. refl }
+    ended_keeps : Keeps s code m fs ended_fs Every
+    ended_keeps = record { temps = λ j t c block of st found temp. refl }
 
     ended_store : StoreAt s code ended_m ended_fs
     ended_store = let a = here.store in record { as_many = a.as_many; at = a.at; all = λ j x e. ended_later.stands j x.text (a.all j x e) }
@@ -311,10 +328,10 @@ module _ (s : Source) (code : CodeOf) (l : Limits) (o : World) (m : Instances) (
   pub end_object : EndFollows EndObject
   unfolding choosing when object_ended
   end_object a =
-      let x = a.2 in
+      let x = a.ends in
       at_row s code l o fs top below _ (i.EndLevel (pos 0)) x.at.line x.last x.at.is
-      (level_alike _ (left_out (λ q. Alike Related (ticking l o (λ p. object_ended p m inst rest)) q) (block_number s (frame_text s t) == 0) (stopping Normal o) _ (other_numbers (block_number s (frame_text s t)) 0 a.0)
-      (chosen (λ q. Alike Related (ticking l o (λ p. object_ended p m inst rest)) q) (same_stage b.stage (stage.Behind 0)) _ (no_rule o) (ap (λ z. same_stage z (stage.Behind 0)) a.1)
-      (alike_found Configuration Machine Related BlockOf (slice_get code.blocks (block_number s (frame_text s t))) b.block o _ _ here.found
-      (subst (λ z. Alike Related (ticking l o (λ p. object_ended p m inst rest)) (ended_by_kind l o fs below inst b.block z)) (sym (x.heads).is_kind)
+      (level_alike _ (left_out (λ q. Alike Related (ticking l o (λ p. object_ended p m inst rest)) q) (block_number s b.own == 0) (stopping Normal o) _ (other_numbers (block_number s b.own) 0 a.not_first)
+      (chosen (λ q. Alike Related (ticking l o (λ p. object_ended p m inst rest)) q) (same_stage b.stage (stage.Behind 0)) _ (no_rule o) (ap (λ z. same_stage z (stage.Behind 0)) a.was)
+      (alike_found Configuration Machine Related BlockOf (slice_get code.blocks (block_number s b.own)) a.block o _ _ a.found
+      (subst (λ z. Alike Related (ticking l o (λ p. object_ended p m inst rest)) (ended_by_kind l o fs below inst a.block z)) (sym (x.heads).is_kind)
       (alike_ticking Configuration Machine Related l o _ _ (λ p. ended_alike p (slice_get m.standings inst) (slice_get fs.standings inst) (here.parked inst) x.below)))))))

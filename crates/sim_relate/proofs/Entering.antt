@@ -1,5 +1,5 @@
 -- What entries of all kinds have in common.
-use Rattle.std.proofs.Common.{◌≡◌, ◌<◌, ◌≤◌, ℕ, Bool, true, false, List, [], ◌∷◌, ◌++◌, length, map, Option, Some, None, refl, sym, ap, ◌∙◌, subst, arith, length-append}
+use Rattle.std.proofs.Common.{◌≡◌, ◌<◌, ◌≤◌, ℕ, Bool, true, false, List, [], ◌∷◌, ◌++◌, length, map, Option, Some, None, refl, sym, ap, ◌∙◌, subst, arith}
 use Rattle.std.proofs.lemmas.List.{length-map}
 use Rattle.sim_meaning.specs.Attributes.{is_connection}
 use Rattle.std.proofs.lemmas.Option.{slice_get_within}
@@ -12,28 +12,33 @@ use Rattle.sim_chains.specs.Components.{Standing}
 use Rattle.sim_code.specs.declared.code.BlockKind.{BlockKind}
 use Rattle.sim_code.specs.declared.code.CodeType.{CodeType}
 use Rattle.sim_code.specs.declared.instr.Lined.{Lined}
+use Rattle.sim_code.specs.declared.stage.Stage.{Stage}
+use Rattle.sim_code.specs.declared.stage.Stage.TheVariants as stage
 use Rattle.sim_code.specs.Code.{BlockOf, CodeOf}
 use Rattle.sim_code.specs.Outcome.{Run, World}
 use Rattle.sim_code.specs.Events.{having, no_rule, when}
 use Rattle.sim_code.specs.Instances.{Instance, entered}
 use Rattle.sim_code.specs.Machine.{Cells, Frames, Machine, block_at, first_value, joined, number, same_kind}
 use Rattle.sim_code.specs.Machine as machine
+use Rattle.sim_code.specs.Rows.{first_stage, program_block}
 use Rattle.sim_code.proofs.Lifts.{alike_found, alike_no_rule}
 use Rattle.sim_code.proofs.Simulation.{Alike}
-use Rattle.sim_meaning.specs.Entries.{new_instance}
-use Rattle.sim_meaning.specs.Pending.{Activation, Configuration, Do, EndBlock, EndObject, EndProcedure, EndProgram, Held, Instances, Item, held}
-use Rattle.sim_meaning.specs.Texts.{BlockText, ConnectionText, PrefixedText, Text, program_texts, text}
-use Rattle.codegen_expr.specs.Sites.{block_number, cells_in, frame_text, hidden_in, own_part, types_in}
+use Rattle.sim_meaning.specs.Entries.{new_instance, passes}
+use Rattle.sim_meaning.specs.Levels.{has_levels, text_in}
+use Rattle.sim_meaning.specs.Pending.{Activation, Configuration, Do, EndBlock, EndLevel, EndObject, EndProcedure, EndProgram, Held, Instances, Item, Key, held}
+use Rattle.sim_meaning.specs.Texts.{BlockText, ConnectionText, PrefixedText, Text, is_class_free, program_texts, text}
+use Rattle.codegen_expr.specs.Sites.{HasCell, LevelOf, block_in_front, block_number, block_of_text, cells_in, frame_text, hidden_in, innermost, outer, own_part, place_of, prefix_of, slot_of, start_of, types_in}
 use Rattle.sim_relate.proofs.Plainly.{Agrees, Coding}
 use Rattle.codegen.specs.Compiled.{CodeHas, RecordOf, TextCode, type_of_cell}
 use Rattle.sim_relate.proofs.Carried.{all_every, both_later, chain_later, kept_every}
 use Rattle.sim_relate.proofs.Ends.{chosen, left_out}
 use Rattle.sim_relate.proofs.Known.{Every, Kind, Runs, SlotAt, Stands, is_fixed, none_at}
-use Rattle.sim_relate.proofs.Relation.{ChainAt, InstanceAt, StandingAt, StandingsAt, StateAt, StoreAt, WorkAt}
+use Rattle.sim_relate.proofs.Relation.{ChainAt, InstanceAt, Laid, StandingAt, StandingsAt, StateAt, StoreAt, WorkAt}
 use Rattle.sim_relate.proofs.Slots.{HeldAt, Typed, empty_behind, key_of, types_split}
-use Rattle.sim_relate.proofs.Frames.{frame_self, front_is, slot_is}
+use Rattle.sim_relate.proofs.Frames.{frame_self}
 use Rattle.sim_relate.proofs.Layouts.{cells_by_key, declared_there, hidden_empty}
-use Rattle.sim_relate.proofs.Lists.{append_both, there_get}
+use Rattle.sim_relate.proofs.LevelCells.{CellsOf}
+use Rattle.sim_relate.proofs.Lists.{append_at, append_both, there_get}
 use Rattle.sim_relate.proofs.Reach.{same_some}
 use Rattle.sim_relate.proofs.Stores.{SameOwners, keeps_entered, later_entered, store_entered}
 
@@ -83,11 +88,12 @@ frame_there s a k x e own = frame_self s a k (a.connected k ∙ ap is_connection
 module _ (s : Source) (code : CodeOf) where
   work_below : (m : Instances) (fs : Frames) (Below : Bool → Type 0) (inst t : ℕ) (b : Runs) (used : ℕ) (w : List Item) (p : ℕ) (ks : List Kind) → WorkAt s code m fs Below inst t b used w p ks → (v : Bool) × Below v
   work_below m fs Below inst t b used [] p ks a = absurd a
-  work_below m fs Below inst t b used (Do op ∷ w) p ks a = work_below m fs Below inst a.4 a.5 a.1 w a.2 a.3 a.11
+  work_below m fs Below inst t b used (Do op ∷ w) p ks a = work_below m fs Below inst (a.5).text (a.5).runs (a.5).used w a.2 a.3 a.11
   work_below m fs Below inst t b used (EndBlock ∷ w) p ks a = (false, ((a.2).1).below)
   work_below m fs Below inst t b used (EndProcedure leaves ∷ w) p ks a = (leaves, ((a.2).ends).below)
   work_below m fs Below inst t b used (EndProgram ∷ w) p ks a = (false, ((a.2).1).below)
-  work_below m fs Below inst t b used (EndObject ∷ w) p ks a = (false, ((a.2).2).below)
+  work_below m fs Below inst t b used (EndObject ∷ w) p ks a = (false, ((a.2).ends).below)
+  work_below m fs Below inst t b used (EndLevel k ∷ w) p ks a = work_below m fs Below inst (a.2).text (a.2).runs (a.2).used w a.1 [] a.5
   work_below m fs Below inst t b used (_ ∷ w) p ks a = absurd a
 
   pub chain_owners : (m : Instances) (fs : Frames) (chain : List Activation) (v : Bool) (below : List machine.Activation) → ChainAt s code m fs chain v below → SameOwners s code chain below
@@ -112,6 +118,13 @@ module _ (s : Source) (code : CodeOf) where
       (chosen (λ q. Alike R r q) (same_kind b.kind kind) (having (slice_get code.instrs b.entry) o (λ x. go n b x)) (no_rule o) is
       (alike_found Configuration Machine R Lined (slice_get code.instrs b.entry) x.0 o r _ x.1 (h x.0 x.1))))
 
+  pub program_alike : (o : World) (b : BlockOf) → slice_get code.blocks 0 ≡ Some b → first_stage b.kind ≡ Some stage.NoStage → b.entry < length code.instrs → (r : Run Configuration) (go : BlockOf → Stage → Lined → Run Machine) → ((x : Lined) → slice_get code.instrs b.entry ≡ Some x → Alike R r (go b stage.NoStage x)) → Alike R r (program_block code o go)
+  program_alike o b found is lt r go h =
+      let x = there_get code.instrs b.entry lt in
+      alike_found Configuration Machine R BlockOf (slice_get code.blocks 0) b o r _ found
+      (alike_found Configuration Machine R Stage (first_stage b.kind) stage.NoStage o r _ is
+      (alike_found Configuration Machine R Lined (slice_get code.instrs b.entry) x.0 o r _ x.1 (h x.0 x.1)))
+
   pub block_refused : (o : World) (kind : BlockKind) (n : ℕ) (b : BlockOf) → slice_get code.blocks n ≡ Some b → same_kind b.kind kind ≡ false → (go : ℕ → BlockOf → Lined → Run Machine) → Alike R (no_rule o) (block_at code kind (pos n) o go)
   unfolding block_at machine.index when
   block_refused o kind n b found is go =
@@ -123,51 +136,75 @@ module _ (s : Source) (code : CodeOf) where
 
   -- the frame of a block
   abbrev pub new_frame : (number : ℕ) → BlockOf → (parent : Option ℕ) → Cells → Instance Cells
-  new_frame n b parent cells = record { text = n; level = b.level; encloser = parent; cells = cells; passing = b.class_free; kept = false; given_back = false }
+  new_frame n b parent cells = record { text = n; level = b.level; encloser = parent; cells = cells; passing = machine.passes b.kind b.class_free; kept = false; given_back = false }
 
-  module _ (agrees : Agrees s) (k : ℕ) (kind : BlockKind) (result : CodeType) (b : BlockOf) (heads : RecordOf s code k kind result b) where
-    flat_types : b.types ≡ map type_of_cell (own_part s k) ++ heads.temps
-    flat_types = heads.types ∙ ap (λ z. types_in z ++ (map type_of_cell (own_part s k) ++ heads.temps)) (front_is s agrees code k)
+  -- an instance and its frame, whose cells stand for each other
+  pub instance_of : (k : ℕ) (kind : BlockKind) (result : CodeType) (b : BlockOf) → RecordOf s code k kind result b → slice_get code.blocks (block_number s k) ≡ Some b → passes (text s k) (is_class_free s k) ≡ machine.passes kind (is_class_free s k) → frame_text s k ≡ k → Laid s code k → (e : Option ℕ) (hs : List Held) (cells : Cells) → CellsOf s code k hs cells → length cells ≡ length b.types
+      → InstanceAt s code (new_instance s k e hs) (new_frame (block_number s k) b e cells)
+  instance_of k kind result b heads found free own laid e hs cells at size = record {
+    number = refl;
+    level = heads.level;
+    encloser = refl;
+    passing = ap (λ z. machine.passes z b.class_free) heads.is_kind ∙ ap (machine.passes kind) heads.class_free ∙ sym free;
+    kept = refl;
+    given_back = refl;
+    own = own;
+    laid = laid;
+    cells = at.cells;
+    there = at.there;
+    size = λ b' f. size ∙ ap (λ z. length (z.types)) (same_some (slice_get code.blocks (block_number s k)) b b' found f);
+  }
 
-    split_types : b.types ≡ map type_of_cell (cells_in s k (text s k)) ++ (map type_of_cell (hidden_in s k) ++ heads.temps)
-    split_types = flat_types ∙ types_split (cells_in s k (text s k)) (hidden_in s k) heads.temps
+  -- ---- texts that have no levels
 
-    pub own_types : length (own_part s k) ≤ length b.types
-    own_types =
-        let e = ap length flat_types in
-        let n = length-append (map type_of_cell (own_part s k)) heads.temps in
-        let m = length-map (own_part s k) type_of_cell in
-        omega (arith, e, n, m)
+  module _ (agrees : Agrees s) (k : ℕ) (single : has_levels (text s k) ≡ false) where
+    no_prefix : prefix_of s.tables k ≡ None
+    no_prefix = by (prefix_of s.tables k) refl
+      where
+        by : (o : Option ℕ) → prefix_of s.tables k ≡ o → prefix_of s.tables k ≡ None
+        by None e = e
+        by (Some u) e = let has = (agrees.prefixes k u e).has in absurd (cc (has, single))
 
-    pub first_size : length (machine.first_cells b) ≡ length b.types
-    first_size = length-map b.types first_value
+    pub front_is : block_in_front s code k ≡ None
+    unfolding block_in_front
+    front_is = ap (block_of_text s code) no_prefix
 
-    -- what code says of the cells, with what stands behind them
-    pub first_typed : machine.first_cells b ≡ Typed s (map type_of_cell (hidden_in s k) ++ heads.temps) (cells_in s k (text s k))
-    first_typed = ap (map first_value) split_types
+    slot_is : (key : Key) → slot_of s code k key ≡ place_of key (own_part s k)
+    unfolding slot_of
+    slot_is key = let none : start_of s code k ≡ 0 = ap (λ z. length (types_in z)) front_is in omega (arith, none)
 
-    pub first_none : (c : ℕ) → length (cells_in s k (text s k)) ≤ c → c < length (own_part s k) → joined (slice_get (machine.first_cells b) c) ≡ None
-    first_none c le lt = ap (λ z. joined (slice_get (map first_value z) c)) flat_types ∙ empty_behind (cells_in s k (text s k)) (hidden_in s k) heads.temps c (hidden_empty s k) le lt
+    only_level : (t : ℕ) → LevelOf s.tables k t → k ≡ t
+    only_level t innermost = refl
+    only_level t (outer e level) = let none = no_prefix in absurd (cc (e, none))
 
-    pub instance_at : slice_get code.blocks (block_number s k) ≡ Some b → frame_text s k ≡ k → (e : Option ℕ) (hs : List Held) (cells : Cells) → HeldAt s hs cells → map key_of hs ≡ map key_of (cells_in s k (text s k)) → length cells ≡ length b.types
-        → ((c : ℕ) → length (cells_in s k (text s k)) ≤ c → c < length (own_part s k) → joined (slice_get cells c) ≡ None) → InstanceAt s code (new_instance s k e hs) (new_frame (block_number s k) b e cells)
-    instance_at found own e hs cells at keys size none =
-        let long = own_types in
-        record {
-          number = refl;
-          level = heads.level;
-          encloser = refl;
-          passing = heads.class_free;
-          kept = refl;
-          given_back = refl;
-          own = own;
-          start = ap (λ z. length (types_in z)) (front_is s agrees code k);
-          alone = front_is s agrees code k;
-          cells = λ key has. subst (λ z. SlotAt s (is_fixed s key) key (held key hs) (joined (slice_get cells z))) (sym (slot_is s agrees code k key)) (cells_by_key s agrees k hs keys cells at none key has);
-          there = λ key has d. declared_there s agrees k hs keys key has d;
-          fits = omega (arith, long, size);
-          size = λ b' f. size ∙ ap (λ z. length (z.types)) (same_some (slice_get code.blocks (block_number s k)) b b' found f);
-        }
+    cells_alone : (hs : List Held) (cells : Cells) → HeldAt s hs cells → map key_of hs ≡ map key_of (cells_in s k (text s k)) → ((c : ℕ) → length (cells_in s k (text s k)) ≤ c → c < length (own_part s k) → joined (slice_get cells c) ≡ None) → CellsOf s code k hs cells
+    cells_alone hs cells at keys none = record {
+      cells = λ t key level has. (let same = only_level t level in
+          subst (λ z. SlotAt s (is_fixed s key) key (held key hs) (joined (slice_get cells (slot_of s code z key)))) same
+          (subst (λ z. SlotAt s (is_fixed s key) key (held key hs) (joined (slice_get cells z))) (sym (slot_is key)) (cells_by_key s agrees k hs keys cells at none key (subst (λ z. HasCell s z key) (sym same) has))));
+      there = λ t key level has d. declared_there s agrees k hs keys key (subst (λ z. HasCell s z key) (sym (only_level t level)) has) d;
+    }
+
+    module _ (kind : BlockKind) (result : CodeType) (b : BlockOf) (heads : RecordOf s code k kind result b) where
+      flat_types : b.types ≡ map type_of_cell (own_part s k) ++ heads.temps
+      flat_types = heads.types ∙ ap (λ z. types_in z ++ (map type_of_cell (own_part s k) ++ heads.temps)) front_is
+
+      split_types : b.types ≡ map type_of_cell (cells_in s k (text s k)) ++ (map type_of_cell (hidden_in s k) ++ heads.temps)
+      split_types = flat_types ∙ types_split (cells_in s k (text s k)) (hidden_in s k) heads.temps
+
+      pub first_size : length (machine.first_cells b) ≡ length b.types
+      first_size = length-map b.types first_value
+
+      -- what code says of the cells, with what stands behind them
+      pub first_typed : machine.first_cells b ≡ Typed s (map type_of_cell (hidden_in s k) ++ heads.temps) (cells_in s k (text s k))
+      first_typed = ap (map first_value) split_types
+
+      pub first_none : (c : ℕ) → length (cells_in s k (text s k)) ≤ c → c < length (own_part s k) → joined (slice_get (machine.first_cells b) c) ≡ None
+      first_none c le lt = ap (λ z. joined (slice_get (map first_value z) c)) flat_types ∙ empty_behind (cells_in s k (text s k)) (hidden_in s k) heads.temps c (hidden_empty s k) le lt
+
+      pub instance_at : slice_get code.blocks (block_number s k) ≡ Some b → passes (text s k) (is_class_free s k) ≡ machine.passes kind (is_class_free s k) → frame_text s k ≡ k → Laid s code k → (e : Option ℕ) (hs : List Held) (cells : Cells) → HeldAt s hs cells → map key_of hs ≡ map key_of (cells_in s k (text s k)) → length cells ≡ length b.types
+          → ((c : ℕ) → length (cells_in s k (text s k)) ≤ c → c < length (own_part s k) → joined (slice_get cells c) ≡ None) → InstanceAt s code (new_instance s k e hs) (new_frame (block_number s k) b e cells)
+      instance_at found free own laid e hs cells at keys size none = instance_of k kind result b heads found free own laid e hs cells (cells_alone hs cells at keys none) size
 
   -- ---- a new instance on top
 
@@ -179,17 +216,17 @@ module _ (s : Source) (code : CodeOf) where
     later_fs = entered fs y r
 
     pub chain_entered : (chain : List Activation) (v : Bool) (below : List machine.Activation) → ChainAt s code m fs chain v below → ChainAt s code later_m later_fs chain v below
-    chain_entered chain v below c = chain_later s code m later_m fs later_fs (later_entered s m x p) Every (keeps_entered s m fs a.as_many y r) chain (all_every chain) v below c
+    chain_entered chain v below c = chain_later s code m later_m fs later_fs (later_entered s m x p) Every (keeps_entered s code m fs a.as_many y r) chain (all_every chain) v below c
 
     pub parked_entered : StandingAt s code later_m later_fs p r → StandingsAt s code m fs → StandingsAt s code later_m later_fs
     parked_entered new old =
         append_both (StandingAt s code later_m later_fs) m.standings fs.standings p r
-        (λ j. both_later s code m later_m fs later_fs (later_entered s m x p) Every (keeps_entered s m fs a.as_many y r) (slice_get m.standings j) (slice_get fs.standings j) (λ z is. kept_every m j z is) (old j)) new
+        (λ j. both_later s code m later_m fs later_fs (later_entered s m x p) Every (keeps_entered s code m fs a.as_many y r) (slice_get m.standings j) (slice_get fs.standings j) (λ z is. kept_every m j z is) (old j)) new
 
-    pub enters : StandingsAt s code later_m later_fs → (chain : List Activation) (below : List machine.Activation) (k : ℕ) (b : Runs) → InstanceAt s code x y → slice_get code.blocks (block_number s (frame_text s k)) ≡ Some b.block → Stands s later_m (length m.instances) k → Stands s later_m (length m.instances) x.text → (w : List Item) (used pc : ℕ)
+    pub enters : StandingsAt s code later_m later_fs → (chain : List Activation) (below : List machine.Activation) (k : ℕ) (b : Runs) → InstanceAt s code x y → slice_get code.blocks (block_number s (frame_text s k)) ≡ Some b.block → Stands s later_m (length m.instances) k → Stands s later_m (length m.instances) x.text → x.text ≡ b.own → b.block.room ≤ b.room → (w : List Item) (used pc : ℕ)
         → WorkAt s code later_m later_fs (λ v. ChainAt s code later_m later_fs chain v below) (length m.instances) k b used w pc []
-        → R (record { chain = record { instance = length m.instances; work = w; values = [] } ∷ chain; memory = later_m }) (record { chain = record { thunk = false; home = length fs.instances; pc = pc; stack = []; room = b.block.room; stage = b.stage } ∷ below; memory = later_fs })
-    enters parked chain below k b pair found stands own w used pc work = record {
+        → R (record { chain = record { instance = length m.instances; work = w; values = [] } ∷ chain; memory = later_m }) (record { chain = record { thunk = false; home = length fs.instances; pc = pc; stack = []; room = b.room; stage = b.stage } ∷ below; memory = later_fs })
+    enters parked chain below k b pair found stands own is_own roomy w used pc work = record {
       chain = record {
         base = refl;
         home = sym a.as_many;
@@ -197,6 +234,8 @@ module _ (s : Source) (code : CodeOf) where
         block = b;
         found = found;
         stands = stands;
+        own = ap text_in (append_at m.instances x) ∙ ap Some is_own;
+        roomy = roomy;
         room = refl;
         stage = refl;
         kinds = [];

@@ -29,30 +29,31 @@ use Rattle.sim_code.specs.Rows.{on_top}
 use Rattle.sim_code.specs.Rows as rows
 use Rattle.sim_code.proofs.Lifts.{EachAt, alike_entering, alike_found, alike_making, alike_when}
 use Rattle.sim_code.proofs.Simulation.{Alike, going, unruled}
-use Rattle.sim_meaning.specs.Entries.{arrays_by_value, cells_from, filled_behind, first_cells, formals_of, instances_kept, new_instance, numbers_of, with_result, words_of_cells}
+use Rattle.sim_meaning.specs.Entries.{arrays_by_value, cells_from, filled_behind, first_cells, formals_of, instances_kept, new_instance, numbers_of, passes, with_result, words_of_cells}
+use Rattle.sim_meaning.specs.Levels.{has_levels}
 use Rattle.sim_meaning.specs.Meaning.{block_work, do_op, first_step, has_result, procedure_entered, program_entered, sub_block_entered}
 use Rattle.sim_meaning.specs.Pending.{Activation, ArrayOp, ArrayValue, CallOp, Configuration, Do, EndBlock, EndProcedure, EndProgram, EnterOp, Exec, Execs, Held, Instances, Item, Op, PastOp, Val, instance_in, plain}
 use Rattle.sim_meaning.specs.Steps.{go}
-use Rattle.sim_meaning.specs.Texts.{BlockText, ClassText, ConnectionText, PrefixedText, ProcedureText, StandardText, Text, text}
+use Rattle.sim_meaning.specs.Texts.{BlockText, ClassText, ConnectionText, PrefixedText, ProcedureText, StandardText, Text, is_class_free, text}
 use Rattle.sim_meaning.specs.Sane.{Lives, lives_alone}
-use Rattle.codegen_expr.specs.Sites.{At, block_in_front, block_number, cells_in, frame_text, hidden_in, lined, own_cells, own_end, own_part, types_in}
+use Rattle.codegen_expr.specs.Sites.{At, block_in_front, block_number, cells_in, cells_of_block, frame_text, hidden_in, lined, own_cells, own_end, own_part}
 use Rattle.codegen.specs.CodeArrays.{ArraysAt, element_number}
 use Rattle.codegen.specs.CodeStm.{StmsAt}
-use Rattle.codegen.specs.Compiled.{ProcedureTextOf, ProgramOf, RecordOf, TextCode, cells_of_block, code_formal, parameters_of, site_of, type_of_cell, type_of_name}
+use Rattle.codegen.specs.Compiled.{ProcedureTextOf, ProgramOf, RecordOf, TextCode, code_formal, parameters_of, site_of, type_of_cell, type_of_name}
 use Rattle.sim_relate.proofs.Plainly.{Agrees, Coding, agreed}
-use Rattle.sim_relate.proofs.Frames.{front_is}
 use Rattle.sim_relate.proofs.Parameters.{formals_vary, result_vary}
 use Rattle.sim_relate.proofs.Actuals.{arrays_same, behind_result, both_kept, counted_many, each_length}
 use Rattle.sim_relate.proofs.Carried.{all_every, chain_changed, kept_every, parked_changed}
 use Rattle.sim_relate.proofs.DeclaredArrays.{arrays_at}
 use Rattle.sim_relate.proofs.Ends.{chosen}
-use Rattle.sim_relate.proofs.Entering.{block_alike, chain_entered, chain_owners, code_there, enters, first_none, first_size, first_text, first_typed, frame_there, instance_at, later_fs, later_m, new_frame, parked_entered, text_there}
+use Rattle.sim_relate.proofs.Entering.{block_alike, chain_entered, chain_owners, code_there, enters, first_none, first_size, first_text, first_typed, frame_there, front_is, instance_at, later_fs, later_m, new_frame, parked_entered, program_alike, text_there}
 use Rattle.sim_relate.proofs.Formals.{formals_fit}
 use Rattle.sim_relate.proofs.Hands.{hand_integers, hand_popping, stack_length}
 use Rattle.sim_relate.proofs.Here.{Here, act, at_row, goes, kinds_as, with_values}
+use Rattle.sim_relate.proofs.Laying.{laid}
 use Rattle.sim_relate.proofs.Living.{new_lives, new_lives_inside}
 use Rattle.sim_relate.proofs.Pending.{ends_at, pends}
-use Rattle.sim_relate.proofs.Known.{Any, Every, FixedOf, HandAt, IsLink, Kind, LinkTo, Located, OwnerOf, Refers, Runs, StackAt, Stands, ValAt, anys, array_at, at_stage, element_at, given, image_at, link_at, more_at, plain_at, site_at}
+use Rattle.sim_relate.proofs.Known.{Any, Every, FixedOf, HandAt, IsLink, Kind, LinkTo, Located, OwnerOf, Refers, Runs, StackAt, Stands, ValAt, anys, array_at, element_at, given, image_at, link_at, more_at, plain_at, site_at}
 use Rattle.sim_relate.proofs.Relation.{CallOpIs, ChainAt, Changed, EndAt, OpAt, StandingsAt, StateAt, StoreAt, WorkAt, straight}
 use Rattle.sim_relate.proofs.Slots.{HeldAt, Typed, VaryFirst, Written, cells_at, cells_filled_behind, cells_fit, key_of, machine_fills, put_behind, put_from, put_length, result_at, results}
 use Rattle.sim_relate.proofs.Stores.{is_live_same, new_inside, new_outermost}
@@ -65,36 +66,27 @@ procedure_code : (s : Source) (code : CodeOf) (k : ℕ) (result : Option TypeNam
 procedure_code s code zero result h a b x = x
 procedure_code s code (suc k) result h a b x = x
 
--- a block's code runs at no stage
-abbrev pub plainly : BlockOf → Runs
-plainly b = at_stage b stage.NoStage
+-- the code of a block that has no levels runs at no stage
+abbrev pub plainly : (text : ℕ) → BlockOf → Runs
+plainly k b = record { own = k; room = b.room; block = b; stage = stage.NoStage }
 
 module _ (s : Source) (code : CodeOf) (agrees : Agrees s) where
-  pub words_same : (k : ℕ) (x : Text) (b : BlockOf) → text s k ≡ Some x → own_cells s k x ≡ first_cells s k x → b.cells ≡ cells_of_block (block_in_front s code k) + length (cells_in s k (text s k)) → words_of_block b ≡ words_of_cells (first_cells s k x)
-  words_same k x b is own c =
-      let none : cells_of_block (block_in_front s code k) ≡ 0 = ap cells_of_block (front_is s agrees code k) in
+  pub words_same : (k : ℕ) (x : Text) (b : BlockOf) → text s k ≡ Some x → has_levels (Some x) ≡ false → own_cells s k x ≡ first_cells s k x → b.cells ≡ cells_of_block (block_in_front s code k) + length (cells_in s k (text s k)) → words_of_block b ≡ words_of_cells (first_cells s k x)
+  words_same k x b is single own c =
+      let none : cells_of_block (block_in_front s code k) ≡ 0 = ap cells_of_block (front_is s code agrees k (ap has_levels is ∙ single)) in
       let count : length (cells_in s k (text s k)) ≡ length (first_cells s k x) = ap (λ z. length (cells_in s k z)) is ∙ ap length own in
       let same : b.cells ≡ length (first_cells s k x) = omega (arith, c, none, count) in
       ap (λ n. instance_words n false) same
 
-  -- the own part ends where the temps begin
-  pub used_is : (k : ℕ) → own_end s code k ≡ length (own_part s k)
-  used_is k =
-      let none : length (types_in (block_in_front s code k)) ≡ 0 = ap (λ z. length (types_in z)) (front_is s agrees code k) in
-      omega (arith, none)
-
-  pub used_low : (k : ℕ) → frame_text s k ≡ k → length (own_part s (frame_text s k)) ≤ own_end s code k
-  used_low k own =
-      let e = used_is k in
-      let f : length (own_part s (frame_text s k)) ≡ length (own_part s k) = ap (λ z. length (own_part s z)) own in
-      omega (arith, e, f)
+  pub used_low : (k : ℕ) → frame_text s k ≡ k → own_end s code (frame_text s k) ≤ own_end s code k
+  used_low k own = let same = ap (own_end s code) own in omega (arith, same)
 
   -- the first cells of a block, and of a procedure
   pub block_first : (k begin : ℕ) (ds : Declarations) (ss : Statements) (kind : BlockKind) (result : CodeType) (b : BlockOf) → text s k ≡ Some (BlockText begin ds ss) → RecordOf s code k kind result b → HeldAt s (first_cells s k (BlockText begin ds ss)) (machine.first_cells b)
   unfolding first_cells
   block_first k begin ds ss kind result b is heads =
       let rest : List CodeType = map type_of_cell (hidden_in s k) ++ heads.temps in
-      let typed : machine.first_cells b ≡ Typed s rest (cells_from s (numbers_of s k)) = first_typed s code agrees k kind result b heads ∙ ap (λ z. Typed s rest (cells_in s k z)) is in
+      let typed : machine.first_cells b ≡ Typed s rest (cells_from s (numbers_of s k)) = first_typed s code agrees k (ap has_levels is) kind result b heads ∙ ap (λ z. Typed s rest (cells_in s k z)) is in
       subst (λ z. HeldAt s (cells_from s (numbers_of s k)) z) (sym typed) (cells_at s rest (numbers_of s k))
 
   pub procedure_first : (k : ℕ) (type : Option TypeName) (h : Heading) (a : Statement) (kind : BlockKind) (result : CodeType) (b : BlockOf) → text s k ≡ Some (ProcedureText type h a) → RecordOf s code k kind result b → HeldAt s (first_cells s k (ProcedureText type h a)) (machine.first_cells b)
@@ -102,17 +94,17 @@ module _ (s : Source) (code : CodeOf) (agrees : Agrees s) where
   procedure_first k type h a kind result b is heads =
       let rest : List CodeType = map type_of_cell (hidden_in s k) ++ heads.temps in
       let hs : List Held = cells_from s (numbers_of s k) in
-      let typed : machine.first_cells b ≡ Typed s rest (with_result type hs) = first_typed s code agrees k kind result b heads ∙ ap (λ z. Typed s rest (cells_in s k z)) is in
+      let typed : machine.first_cells b ≡ Typed s rest (with_result type hs) = first_typed s code agrees k (ap has_levels is) kind result b heads ∙ ap (λ z. Typed s rest (cells_in s k z)) is in
       subst (λ z. HeldAt s (with_result type hs) z) (sym typed) (result_at s rest type hs hs (cells_at s rest (numbers_of s k)))
 
 -- ---- the work of a block that is entered
 
 module _ (s : Source) (code : CodeOf) (compiled : Coding s code) (m : Instances) (fs : Frames) (Below : Bool → Type 0) (j k : ℕ) (b : BlockOf) (stands : Stands s m j k) (own : frame_text s k ≡ k) (lives : Lives m j) where
-  pub block_pends : (ds : Declarations) (ss : Statements) (end : Item) (p y q : ℕ) → ArraysAt s code (site_of s code k b) ds p y → StmsAt s code (site_of s code k b) 0 ss y q → WorkAt s code m fs Below j k (plainly b) (own_end s code k) (end ∷ []) q []
-      → WorkAt s code m fs Below j k (plainly b) (own_end s code k) (block_work s m j ds ss end) p []
+  pub block_pends : (ds : Declarations) (ss : Statements) (end : Item) (p y q : ℕ) → ArraysAt s code (site_of s code k b) ds p y → StmsAt s code (site_of s code k b) 0 ss y q → WorkAt s code m fs Below j k (plainly k b) (own_end s code k) (end ∷ []) q []
+      → WorkAt s code m fs Below j k (plainly k b) (own_end s code k) (block_work s m j ds ss end) p []
   block_pends ds ss end p y q arrays stms ends =
       let low = used_low s code (agreed s code compiled) k own in
-      arrays_at s code (agreed s code compiled) m fs Below j k (plainly b) (own_end s code k) low stands lives (Do (Execs ss) ∷ end ∷ []) ds p y arrays (pends s code m fs Below j k (plainly b) (own_end s code k) low (end ∷ []) (Execs ss) y q [] [] (stms, refl) ends)
+      arrays_at s code (agreed s code compiled) m fs Below j k (plainly k b) (own_end s code k) low stands lives (Do (Execs ss) ∷ end ∷ []) ds p y arrays (pends s code m fs Below j k (plainly k b) (own_end s code k) low (end ∷ []) (Execs ss) y q [] [] (stms, refl) ends)
 
 module _ (s : Source) (code : CodeOf) (compiled : Coding s code) (l : Limits) (o : World) where
   abbrev R : Configuration → Machine → Type 0
@@ -121,15 +113,15 @@ module _ (s : Source) (code : CodeOf) (compiled : Coding s code) (l : Limits) (o
   -- ---- the first step
 
   first_block : (m : Instances) (fs : Frames) → StoreAt s code m fs → StandingsAt s code m fs → (begin : ℕ) (ds : Declarations) (ss : Statements) → text s 0 ≡ Some (BlockText begin ds ss) → (b : BlockOf) → slice_get code.blocks 0 ≡ Some b → ProgramOf s code begin ds ss b
-      → Alike R (program_entered s l o m (Some (BlockText begin ds ss))) (machine.block_at code block_kind.SubBlock (pos 0) o (λ k b x. entering l x.line.0 (words_of_block b) o (λ p. in_frame p fs k b None (machine.first_cells b) [])))
+      → Alike R (program_entered s l o m (Some (BlockText begin ds ss))) (rows.program_block code o (λ b z x. entering l x.line.0 (words_of_block b) o (λ p. machine.in_new p fs 0 b b.entry z (NoObject None) None (machine.first_cells b) [])))
   unfolding block_number frame_text
   first_block m fs a parked begin ds ss is b found h =
       let heads = h.heads in
       let body = h.body in
       let agrees = agreed s code compiled in
       let cells = first_cells s 0 (BlockText begin ds ss) in
-      block_alike s code o block_kind.SubBlock 0 b found (ap (λ z. same_kind z block_kind.SubBlock) heads.is_kind) (slice_get_within code.instrs b.entry _ (h.enter).at) _ _ (λ x ex.
-      alike_entering Configuration Machine R l (line_at s begin) x.line.0 (words_of_cells cells) (words_of_block b) o _ _ (same_line x ex (h.enter).at) (words_same s code agrees 0 (BlockText begin ds ss) b is refl heads.cells) (λ p.
+      program_alike s code o b found (ap rows.first_stage heads.is_kind) (slice_get_within code.instrs b.entry _ (h.enter).at) _ _ (λ x ex.
+      alike_entering Configuration Machine R l (line_at s begin) x.line.0 (words_of_cells cells) (words_of_block b) o _ _ (same_line x ex (h.enter).at) (words_same s code agrees 0 (BlockText begin ds ss) b is refl refl heads.cells) (λ p.
       let new = new_instance s 0 None cells in
       let frame = new_frame s code 0 b None (machine.first_cells b) in
       let m' = later_m s code m fs a new frame (NoObject None) (NoObject None) in
@@ -138,15 +130,17 @@ module _ (s : Source) (code : CodeOf) (compiled : Coding s code) (l : Limits) (o
       let lives : Lives m' (length m.instances) = lives_alone (new_lives m new (NoObject None) refl) refl in
       let Below : Bool → Type 0 = λ v. ChainAt s code m' fs' [] v [] in
       let low = used_low s code agrees 0 refl in
+      let single : has_levels (text s 0) ≡ false = ap has_levels is in
+      let room : b.room ≤ b.room = omega arith in
       let next = (h.enter).on in
       let start = body.there in
       let ahead : b.entry < h.start = omega (arith, next) in
       let work = block_pends s code compiled m' fs' Below (length m.instances) 0 b stands refl lives ds ss EndProgram h.start (body.body).0 body.stop (body.body).1 (body.body).2
-      (ends_at s code m' fs' Below (length m.instances) 0 (plainly b) (own_end s code 0) EndProgram [] body.stop [] (refl, record { last = body.last; at = body.ends; heads = heads; none = refl; below = record { still = refl; is = refl } })) in
-      let pair = instance_at s code agrees 0 block_kind.SubBlock type.Nothing b heads found refl None cells (machine.first_cells b) (block_first s code agrees 0 begin ds ss block_kind.SubBlock type.Nothing b is heads) (ap (λ z. map key_of (cells_in s 0 z)) (sym is)) (first_size s code agrees 0 block_kind.SubBlock type.Nothing b heads) (first_none s code agrees 0 block_kind.SubBlock type.Nothing b heads) in
-      going (enters s code m fs a new frame (NoObject None) (NoObject None) (parked_entered s code m fs a new frame (NoObject None) (NoObject None) tt parked) [] [] 0 (plainly b) pair
-      found stands stands (Do PastOp ∷ block_work s m' (length m.instances) ds ss EndProgram) (own_end s code 0) b.entry
-      (pends s code m' fs' Below (length m.instances) 0 (plainly b) (own_end s code 0) low (block_work s m' (length m.instances) ds ss EndProgram) PastOp b.entry h.start [] []
+      (ends_at s code m' fs' Below (length m.instances) 0 (plainly 0 b) (own_end s code 0) EndProgram [] body.stop [] (refl, record { last = body.last; at = body.ends; heads = heads; none = refl; below = record { still = refl; is = refl } })) in
+      let pair = instance_at s code agrees 0 single block_kind.SubBlock type.Nothing b heads found (ap (λ z. passes z (is_class_free s 0)) is) refl (laid s code compiled 0 (BlockText begin ds ss) is refl) None cells (machine.first_cells b) (block_first s code agrees 0 begin ds ss block_kind.SubBlock type.Nothing b is heads) (ap (λ z. map key_of (cells_in s 0 z)) (sym is)) (first_size s code agrees 0 single block_kind.SubBlock type.Nothing b heads) (first_none s code agrees 0 single block_kind.SubBlock type.Nothing b heads) in
+      going (enters s code m fs a new frame (NoObject None) (NoObject None) (parked_entered s code m fs a new frame (NoObject None) (NoObject None) tt parked) [] [] 0 (plainly 0 b) pair
+      found stands stands refl room (Do PastOp ∷ block_work s m' (length m.instances) ds ss EndProgram) (own_end s code 0) b.entry
+      (pends s code m' fs' Below (length m.instances) 0 (plainly 0 b) (own_end s code 0) low (block_work s m' (length m.instances) ds ss EndProgram) PastOp b.entry h.start [] []
       (h.start, record { line = line_at s begin; is = h.enter }, record { forward = ahead; there = start }, refl) work))))
     where
       same_line : (x : Lined) → slice_get code.instrs b.entry ≡ Some x → slice_get code.instrs b.entry ≡ Some (lined (i.Jump (pos h.start)) (line_at s begin)) → x.line.0 ≡ line_at s begin
@@ -155,7 +149,7 @@ module _ (s : Source) (code : CodeOf) (compiled : Coding s code) (l : Limits) (o
   pub when_equal : (b b' : Bool) (r : Run Configuration) (q : Run Machine) → b' ≡ b → Alike R r q → Alike R (when b o r) (when b' o q)
   when_equal b b' r q e h = subst (λ c. Alike R (when b o r) (when c o q)) (sym e) (alike_when Configuration Machine R b o r q h)
 
-  first_some : (m : Instances) (fs : Frames) → StoreAt s code m fs → StandingsAt s code m fs → (x : Text) → text s 0 ≡ Some x → Alike R (program_entered s l o m (Some x)) (machine.block_at code block_kind.SubBlock (pos 0) o (λ k b x. entering l x.line.0 (words_of_block b) o (λ p. in_frame p fs k b None (machine.first_cells b) [])))
+  first_some : (m : Instances) (fs : Frames) → StoreAt s code m fs → StandingsAt s code m fs → (x : Text) → text s 0 ≡ Some x → Alike R (program_entered s l o m (Some x)) (rows.program_block code o (λ b z x. entering l x.line.0 (words_of_block b) o (λ p. machine.in_new p fs 0 b b.entry z (NoObject None) None (machine.first_cells b) [])))
   unfolding block_number no_rule
   first_some m fs a parked (BlockText begin ds ss) is = let c = code_there s code compiled 0 (BlockText begin ds ss) is refl in first_block m fs a parked begin ds ss is c.block c.found c.has
   first_some m fs a parked (ProcedureText result h body) is = unruled
@@ -170,11 +164,11 @@ module _ (s : Source) (code : CodeOf) (compiled : Coding s code) (l : Limits) (o
   first_alike m fs a parked =
       let x = first_text s.program.prefix s.program.block in
       when_equal (length m.instances == 0) (length fs.instances == 0) (program_entered s l o m (text s 0)) _ (ap (λ n. n == 0) (sym a.as_many))
-      (subst (λ z. Alike R (program_entered s l o m z) (machine.block_at code block_kind.SubBlock (pos 0) o (λ k b x. entering l x.line.0 (words_of_block b) o (λ p. in_frame p fs k b None (machine.first_cells b) [])))) (sym x.1) (first_some m fs a parked x.0 x.1))
+      (subst (λ z. Alike R (program_entered s l o m z) (rows.program_block code o (λ b z x. entering l x.line.0 (words_of_block b) o (λ p. machine.in_new p fs 0 b b.entry z (NoObject None) None (machine.first_cells b) [])))) (sym x.1) (first_some m fs a parked x.0 x.1))
 
 -- ---- entries from an instance
 
-module _ (s : Source) (code : CodeOf) (compiled : Coding s code) (l : Limits) (o : World) (m : Instances) (inst : ℕ) (w : List Item) (vals : List Val) (rest : List Activation) (fs : Frames) (t : ℕ) (b : Runs) (pc : ℕ) (stack : List Value) (below : List machine.Activation) (ks : List Kind) (here : Here s code m fs inst rest t b ks vals stack) (u q : ℕ) (ks' : List Kind) (low : length (own_part s (frame_text s t)) ≤ u) (work : WorkAt s code m fs (λ v. ChainAt s code m fs rest v below) inst t b u w q ks') where
+module _ (s : Source) (code : CodeOf) (compiled : Coding s code) (l : Limits) (o : World) (m : Instances) (inst : ℕ) (w : List Item) (vals : List Val) (rest : List Activation) (fs : Frames) (t : ℕ) (b : Runs) (pc : ℕ) (stack : List Value) (below : List machine.Activation) (ks : List Kind) (here : Here s code m fs inst rest t b ks vals stack) (u q : ℕ) (ks' : List Kind) (low : own_end s code (frame_text s t) ≤ u) (work : WorkAt s code m fs (λ v. ChainAt s code m fs rest v below) inst t b u w q ks') where
   abbrev Related : Configuration → Machine → Type 0
   Related = StateAt s code
 
@@ -186,18 +180,20 @@ module _ (s : Source) (code : CodeOf) (compiled : Coding s code) (l : Limits) (o
 
   -- the instance waits, with what is left in its hand
   pub waits : (v : Bool) (left : List Kind) (vals2 : List Val) (stack2 : List Value) → StackAt (HandAt s code m) left vals2 stack2 → (v ≡ true → length left < b.block.room) → ks' ≡ given v left → q ≡ suc pc → ChainAt s code m fs (record { instance = inst; work = w; values = vals2 } ∷ rest) v (waiting top stack2 ∷ below)
-  waits v left vals2 stack2 h fits e place = record {
+  waits v left vals2 stack2 h fits e place = let roomy = here.roomy in record {
     base = refl;
     home = refl;
     text = t;
     block = b;
     found = here.found;
     stands = here.stands;
+    own = here.own;
+    roomy = here.roomy;
     room = refl;
     stage = refl;
     kinds = left;
     values = h;
-    fits = fits;
+    fits = λ yes. (let less = fits yes in omega (arith, less, roomy));
     used = u;
     goes = subst (λ z. WorkAt s code m fs (λ v. ChainAt s code m fs rest v below) inst t b u w (suc pc) z) e (subst (λ z. WorkAt s code m fs (λ v. ChainAt s code m fs rest v below) inst t b u w z ks') place work);
   }
@@ -213,10 +209,12 @@ module _ (s : Source) (code : CodeOf) (compiled : Coding s code) (l : Limits) (o
       let h = c.has in
       let heads = h.heads in
       let body = h.body in
+      let single : has_levels (text s (suc k)) ≡ false = ap has_levels is in
+      let room : new_block.room ≤ new_block.room = omega arith in
       let cells = first_cells s (suc k) (BlockText begin ds ss) in
       at_row s code l o fs top below _ (i.Enter (pos (block_number s (suc k)))) line q at
       (block_alike s code o block_kind.SubBlock (block_number s (suc k)) new_block c.found (ap (λ z. same_kind z block_kind.SubBlock) heads.is_kind) body.there _ _ (λ x ex.
-      alike_entering Configuration Machine Related l line line (words_of_cells cells) (words_of_block new_block) o _ _ refl (words_same s code agrees (suc k) (BlockText begin ds ss) new_block is refl heads.cells) (λ p.
+      alike_entering Configuration Machine Related l line line (words_of_cells cells) (words_of_block new_block) o _ _ refl (words_same s code agrees (suc k) (BlockText begin ds ss) new_block is refl refl heads.cells) (λ p.
       let new = new_instance s (suc k) (Some inst) cells in
       let frame = new_frame s code (block_number s (suc k)) new_block (Some inst) (machine.first_cells new_block) in
       let m' = later_m s code m fs here.store new frame (NoObject None) (NoObject None) in
@@ -227,12 +225,12 @@ module _ (s : Source) (code : CodeOf) (compiled : Coding s code) (l : Limits) (o
       let stands : Stands s m' (length m.instances) (suc k) = new_inside s m (suc k) inst t new (NoObject None) (sym own) refl refl (ap (encloser s.tables) own ∙ around) here.stands in
       let lives : Lives m' (length m.instances) = new_lives_inside m new (NoObject None) refl inst refl here.lives in
       let waiting_chain = chain_entered s code m fs here.store new frame (NoObject None) (NoObject None) chain false under (waits false ks vals stack here.values (λ no. absurd (cc)) e at.on) in
-      let pair = instance_at s code agrees (suc k) block_kind.SubBlock type.Nothing new_block heads c.found own (Some inst) cells (machine.first_cells new_block) (block_first s code agrees (suc k) begin ds ss block_kind.SubBlock type.Nothing new_block is heads) (ap (λ z. map key_of (cells_in s (suc k) z)) (sym is)) (first_size s code agrees (suc k) block_kind.SubBlock type.Nothing new_block heads) (first_none s code agrees (suc k) block_kind.SubBlock type.Nothing new_block heads) in
-      going (enters s code m fs here.store new frame (NoObject None) (NoObject None) (parked_entered s code m fs here.store new frame (NoObject None) (NoObject None) tt here.parked) chain under (suc k) (plainly new_block) pair
-      (ap (λ z. slice_get code.blocks (block_number s z)) own ∙ c.found) stands stands (block_work s m' (length m.instances) ds ss EndBlock) (own_end s code (suc k)) new_block.entry
+      let pair = instance_at s code agrees (suc k) single block_kind.SubBlock type.Nothing new_block heads c.found (ap (λ z. passes z (is_class_free s (suc k))) is) own (laid s code compiled (suc k) (BlockText begin ds ss) is refl) (Some inst) cells (machine.first_cells new_block) (block_first s code agrees (suc k) begin ds ss block_kind.SubBlock type.Nothing new_block is heads) (ap (λ z. map key_of (cells_in s (suc k) z)) (sym is)) (first_size s code agrees (suc k) single block_kind.SubBlock type.Nothing new_block heads) (first_none s code agrees (suc k) single block_kind.SubBlock type.Nothing new_block heads) in
+      going (enters s code m fs here.store new frame (NoObject None) (NoObject None) (parked_entered s code m fs here.store new frame (NoObject None) (NoObject None) tt here.parked) chain under (suc k) (plainly (suc k) new_block) pair
+      (ap (λ z. slice_get code.blocks (block_number s z)) own ∙ c.found) stands stands refl room (block_work s m' (length m.instances) ds ss EndBlock) (own_end s code (suc k)) new_block.entry
       (block_pends s code compiled m' fs' Below (length m.instances) (suc k) new_block stands own lives ds ss EndBlock new_block.entry (body.body).0 body.stop (body.body).1 (body.body).2
-      (ends_at s code m' fs' Below (length m.instances) (suc k) (plainly new_block) (own_end s code (suc k)) EndBlock [] body.stop []
-      (subst (λ z. EndAt s code Below z (plainly new_block) EndBlock body.stop []) (sym own) (record { begin = begin; declarations = ds; statements = ss; is = is }, record { last = body.last; at = body.ends; heads = heads; none = refl; below = waiting_chain }))))))))
+      (ends_at s code m' fs' Below (length m.instances) (suc k) (plainly (suc k) new_block) (own_end s code (suc k)) EndBlock [] body.stop []
+      (subst (λ z. EndAt s code Below z (plainly (suc k) new_block) EndBlock body.stop []) (sym own) (record { begin = begin; declarations = ds; statements = ss; is = is }, record { last = body.last; at = body.ends; heads = heads; none = refl; below = waiting_chain }))))))))
 
   enter_some : (k line : ℕ) (x : Text) → text s k ≡ Some x → At code (i.Enter (pos (block_number s k))) line pc q → encloser s.tables k ≡ Some t → ks' ≡ ks → Alike Related (sub_block_entered s l o m inst w vals rest k line (Some x)) (on_top code l o fs top below)
   unfolding no_rule
@@ -317,6 +315,8 @@ module _ (s : Source) (code : CodeOf) (compiled : Coding s code) (l : Limits) (o
     state_entered : Related (record { chain = record { instance = length kept_m.instances; work = Do (Exec body) ∷ EndProcedure (has_result result) ∷ []; values = [] } ∷ chain; memory = later_m s code kept_m kept_fs kept.store new frame (NoObject None) (NoObject None) }) (record { chain = record { thunk = false; home = length kept_fs.instances; pc = new_block.entry; stack = []; room = new_block.room; stage = stage.NoStage } ∷ under; memory = later_fs s code kept_m kept_fs kept.store new frame (NoObject None) (NoObject None) })
     state_entered =
         let heads = h.heads in
+        let single : has_levels (text s k) ≡ false = ap has_levels is in
+        let room : new_block.room ≤ new_block.room = omega arith in
         let code_body = h.body in
         let m' = later_m s code kept_m kept_fs kept.store new frame (NoObject None) (NoObject None) in
         let fs' = later_fs s code kept_m kept_fs kept.store new frame (NoObject None) (NoObject None) in
@@ -326,20 +326,20 @@ module _ (s : Source) (code : CodeOf) (compiled : Coding s code) (l : Limits) (o
         let chain_kept = chain_changed s code kept chain (all_every chain) (has_result result) under waiting_here in
         let parked_kept = parked_changed s code kept (kept_every m) here.parked in
         let chain_there = chain_entered s code kept_m kept_fs kept.store new frame (NoObject None) (NoObject None) chain (has_result result) under chain_kept in
-        let size : length cells' ≡ length new_block.types = put_length (results result) values' (machine.first_cells new_block) ∙ first_size s code agrees k block_kind.Procedure (type_of_name result) new_block heads in
+        let size : length cells' ≡ length new_block.types = put_length (results result) values' (machine.first_cells new_block) ∙ first_size s code agrees k single block_kind.Procedure (type_of_name result) new_block heads in
         let n = each_length values values' each in
         let fit = formals_fit s k result heading body in
         let count : length (cells_in s k (text s k)) ≡ length cells = ap (λ z. length (cells_in s k z)) is in
         let none : (c : ℕ) → length (cells_in s k (text s k)) ≤ c → c < length (own_part s k) → joined (slice_get cells' c) ≡ None = λ c le lt.
         (let past : results result + length values' ≤ c = omega (arith, le, n, fit, many, count) in
-        ap joined (put_behind (results result) values' (machine.first_cells new_block) c past) ∙ first_none s code agrees k block_kind.Procedure (type_of_name result) new_block heads c le lt) in
-        let pair = instance_at s code agrees k block_kind.Procedure (type_of_name result) new_block heads found own (Some j) cells_written.now cells' cells_written.at (cells_written.keys ∙ ap (λ z. map key_of (cells_in s k z)) (sym is)) size none in
+        ap joined (put_behind (results result) values' (machine.first_cells new_block) c past) ∙ first_none s code agrees k single block_kind.Procedure (type_of_name result) new_block heads c le lt) in
+        let pair = instance_at s code agrees k single block_kind.Procedure (type_of_name result) new_block heads found (ap (λ z. passes z (is_class_free s k)) is) own (laid s code compiled k (ProcedureText result heading body) is refl) (Some j) cells_written.now cells' cells_written.at (cells_written.keys ∙ ap (λ z. map key_of (cells_in s k z)) (sym is)) size none in
         let low' = used_low s code agrees k own in
         let used = own_end s code k in
-        enters s code kept_m kept_fs kept.store new frame (NoObject None) (NoObject None) (parked_entered s code kept_m kept_fs kept.store new frame (NoObject None) (NoObject None) tt parked_kept) chain under k (plainly new_block) pair (ap (λ z. slice_get code.blocks (block_number s z)) own ∙ found) stands stands (Do (Exec body) ∷ EndProcedure (has_result result) ∷ []) used new_block.entry
-        (pends s code m' fs' Below (length kept_m.instances) k (plainly new_block) used low' (EndProcedure (has_result result) ∷ []) (Exec body) new_block.entry code_body.stop [] [] (straight code_body.body, refl)
-        (ends_at s code m' fs' Below (length kept_m.instances) k (plainly new_block) used (EndProcedure (has_result result)) [] code_body.stop []
-        (subst (λ z. EndAt s code Below z (plainly new_block) (EndProcedure (has_result result)) code_body.stop []) (sym own) (record { result = result; heading = heading; body = body; is = is; same = refl; ends = record { last = code_body.last; at = code_body.ends; heads = heads; none = refl; below = chain_there } }))))
+        enters s code kept_m kept_fs kept.store new frame (NoObject None) (NoObject None) (parked_entered s code kept_m kept_fs kept.store new frame (NoObject None) (NoObject None) tt parked_kept) chain under k (plainly k new_block) pair (ap (λ z. slice_get code.blocks (block_number s z)) own ∙ found) stands stands refl room (Do (Exec body) ∷ EndProcedure (has_result result) ∷ []) used new_block.entry
+        (pends s code m' fs' Below (length kept_m.instances) k (plainly k new_block) used low' (EndProcedure (has_result result) ∷ []) (Exec body) new_block.entry code_body.stop [] [] (straight code_body.body, refl)
+        (ends_at s code m' fs' Below (length kept_m.instances) k (plainly k new_block) used (EndProcedure (has_result result)) [] code_body.stop []
+        (subst (λ z. EndAt s code Below z (plainly k new_block) (EndProcedure (has_result result)) code_body.stop []) (sym own) (record { result = result; heading = heading; body = body; is = is; same = refl; ends = record { last = code_body.last; at = code_body.ends; heads = heads; none = refl; below = chain_there } }))))
 
     worlds_same : (p : World) → handed_over (length fs.instances) (machine.arrays_by_value new_block.formals values') p ≡ handed_over (length m.instances) (arrays_by_value (formals_of s k) values) p
     worlds_same p =
@@ -356,7 +356,7 @@ module _ (s : Source) (code : CodeOf) (compiled : Coding s code) (l : Limits) (o
         block_alike s code o block_kind.Procedure (block_number s k) new_block found (ap (λ z. same_kind z block_kind.Procedure) heads.is_kind) (h.body).there _ _ (λ x ex.
         found_left (List Held) (filled_behind result values cells) cells_written.now _ _ cells_written.is
         (alike_found Configuration Machine Related Cells (machine.filled (if is_nothing new_block.result_type then 0 else 1) values' (machine.first_cells new_block)) cells' o _ _ machine_fills_too
-        (alike_entering Configuration Machine Related l line line (words_of_cells cells) (words_of_block new_block) o _ _ refl (words_same s code agrees k (ProcedureText result heading body) new_block is refl heads.cells) (λ p.
+        (alike_entering Configuration Machine Related l line line (words_of_cells cells) (words_of_block new_block) o _ _ refl (words_same s code agrees k (ProcedureText result heading body) new_block is refl refl heads.cells) (λ p.
         in_same_world _ _ _ _ (worlds_same p) state_entered))))
 
   by_equal : (A : Type 0) (x y : A) (f : A → Run Configuration) (q : Run Machine) → x ≡ y → Alike Related (f y) q → Alike Related (f x) q
@@ -420,12 +420,13 @@ module _ (s : Source) (code : CodeOf) (compiled : Coding s code) (l : Limits) (o
   element_kind_is type_kind.Text = refl
   element_kind_is type_kind.Reference = refl
 
-  array_pushed : (left : List Kind) (vals2 : List Val) (stack2 : List Value) (p : World) (array : ℕ) → StackAt (HandAt s code m) left vals2 stack2 → length left < b.block.room → ks' ≡ anys 1 left → q ≡ suc pc → Alike Related (go p m inst w (ArrayValue array ∷ vals2) rest) (machine.pushing b.block.room stack2 (machine.ArrayValue array) p (λ stack. machine.on p fs top stack below))
+  array_pushed : (left : List Kind) (vals2 : List Val) (stack2 : List Value) (p : World) (array : ℕ) → StackAt (HandAt s code m) left vals2 stack2 → length left < b.block.room → ks' ≡ anys 1 left → q ≡ suc pc → Alike Related (go p m inst w (ArrayValue array ∷ vals2) rest) (machine.pushing b.room stack2 (machine.ArrayValue array) p (λ stack. machine.on p fs top stack below))
   unfolding machine.pushing when
   array_pushed left vals2 stack2 p array h fits e place =
       let n = stack_length left vals2 stack2 h in
-      let less : nat_lt (length stack2) b.block.room ≡ true = grind (arith, n, fits) in
-      chosen (λ z. Alike Related (go p m inst w (ArrayValue array ∷ vals2) rest) z) (nat_lt (length stack2) b.block.room) _ (no_rule p) less
+      let roomy = here.roomy in
+      let less : nat_lt (length stack2) b.room ≡ true = grind (arith, n, fits, roomy) in
+      chosen (λ z. Alike Related (go p m inst w (ArrayValue array ∷ vals2) rest) z) (nat_lt (length stack2) b.room) _ (no_rule p) less
       (goes s code u q (with_values s code here (more_at array_at h)) (subst (λ z. WorkAt s code m fs (λ v. ChainAt s code m fs rest v below) inst t b u w q z) e work) place)
 
   pub array : (kind : TypeKind) (n line : ℕ) → Follows (ArrayOp kind n line)

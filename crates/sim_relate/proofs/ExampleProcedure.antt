@@ -9,7 +9,7 @@ use Rattle.sim_code.specs.declared.instr.Instr.TheVariants as i
 use Rattle.sim_meaning.specs.Examples.{factorial_20}
 use Rattle.sim_meaning.specs.Texts.{Text}
 use Rattle.codegen_expr.specs.Sites.{Site, block_number, further, itself, slot_of}
-use Rattle.codegen.specs.Agrees.{Agrees, ProcedureThere}
+use Rattle.codegen.specs.Agrees.{Agrees, ProcedureThere, last as one_level}
 use Rattle.codegen.specs.Compiled.{CodeHas, Compiled}
 use Rattle.codegen.specs.Examples.{factorial_20_code}
 use Rattle.sim_relate.proofs.Placed.{ahead, ins, push}
@@ -105,11 +105,11 @@ Has k (Some x) = CodeHas factorial_20 factorial_20_code k x (slice_get factorial
 
 program_stands : Has 0 (text factorial_20 0)
 unfolding digits element_place making_array copying_array keeping_array finding_element giving_back handed_over stopping no_rule ticking taking entering having when computing choosing popping pop_many pop_plain pop_truth pop_integers pop_operands pop_text answering applying_one applying_two testing_step performing at_level kept_on pushing index level_of_machine cell_at jumping block_at own_block leaving with_result putting is_text home_of first_cells leaving_of_meaning constants_of text_constants putting_of_steps text is_class_free declared_at constant_of calculate compare compare_as_texts connect same_objects same_texts two_of one_of step_test take_integer take_character take_text take_nothing row_of standard_effect default_mode mode_allowed marked type_named result_named mode_named first_of_procedure first_of_class variable_marks array_marks parameter_marks moded_marks specified_marks headed_marks procedure_marks class_marks virtual_name_marks program_marks inner_marks declaring of_segment of_mode_part of_specification of_specifier of_virtual of_heading declared_by declarations_of run_of_runs lookup shown_of_scopes encloser searched block_at_of_scopes declaration_from binding entry_of formals_of formal_of result_of source_of denoted type_at line_at level_of block_of block_around standard_name text_attribute sysin_attribute sysout_attribute signature is_real_function is_random_drawing is_file_or_layout is_environment_name undeclared program_events of_statement of_branch of_arm of_block of_whole of_class_body of_declaration block_number slot_of accessible protects is_kind some_around_of some_around base brought_by level_shows shown_of is_detach ends_search outward virtual_of represented standard_at qualified_marks qualified_result connection_at levels_of levels is_in is_of has_procedure belongs class_at qualification stream_of is_variable is_attribute own_result result_meant standard_texts text_constant found_at shows_detach if_found found_in is_passed_over class_formals_of class_formals class_formal some_level_of has_level holds_class has_classes has_standard is_simulation_block is_for_prefixing simulation_level_of class_block is_in_chain on_one_chain shared_level_of shared_class names_hidden protector_of protector hides opens is_open fine wrong no_target targets assigned_to call_assigned target sign_agrees with_left lefts compared assigned precedes found is_connected prefix_of frame_text hidden_in block_in_front class_number
-program_stands = record { heads = record { is_kind = refl; level = refl; cells = refl; class_free = refl; gives = refl; formals = refl; temps = []; types = refl; roomy = le_0_6 }; start = 18; enter = record { at = refl; on = refl }; body = record { there = lt_18_27; stop = 26; body = (18, refl, (24, (19, 24, ins factorial_20_code (i.Tick) 0 18 refl, (refl, (23, (22, (refl, record { x = 20; y = 21; link = push factorial_20_code outer 0 (i.Link (pos 1)) 0 19 lt_0_6 refl; inside = itself; actuals = (21, push factorial_20_code outer 1 (i.Int (pos 20)) 0 20 lt_1_6 refl, refl); call = record { at = refl; on = refl } }), (23, push factorial_20_code outer 1 (i.Int (pos 20)) 0 22 lt_1_6 refl, refl)), record { as_many = refl; number = 40; numbered = refl; is = record { at = refl; on = refl }; fits = λ e. absurd (cc) })), refl), (26, (25, 26, ins factorial_20_code (i.Tick) 0 24 refl, (refl, (25, refl, record { as_many = refl; number = 37; numbered = refl; is = record { at = refl; on = refl }; fits = λ e. absurd (cc) })), refl), refl))); last = 27; ends = ins factorial_20_code (i.EndLevel (pos 0)) 0 26 refl } }
+program_stands = record { heads = record { is_kind = refl; level = refl; cells = refl; class_free = refl; gives = refl; formals = refl; temps = []; types = refl; counted = refl; roomy = le_0_6 }; start = 18; enter = record { at = refl; on = refl }; body = record { there = lt_18_27; stop = 26; body = (18, refl, (24, (19, 24, ins factorial_20_code (i.Tick) 0 18 refl, (refl, (23, (22, (refl, record { x = 20; y = 21; link = push factorial_20_code outer 0 (i.Link (pos 1)) 0 19 lt_0_6 refl; inside = itself; actuals = (21, push factorial_20_code outer 1 (i.Int (pos 20)) 0 20 lt_1_6 refl, refl); call = record { at = refl; on = refl } }), (23, push factorial_20_code outer 1 (i.Int (pos 20)) 0 22 lt_1_6 refl, refl)), record { as_many = refl; number = 40; numbered = refl; is = record { at = refl; on = refl }; fits = λ e. absurd (cc) })), refl), (26, (25, 26, ins factorial_20_code (i.Tick) 0 24 refl, (refl, (25, refl, record { as_many = refl; number = 37; numbered = refl; is = record { at = refl; on = refl }; fits = λ e. absurd (cc) })), refl), refl))); last = 27; ends = ins factorial_20_code (i.EndLevel (pos 0)) 0 26 refl } }
 
 procedure_stands : Has 1 (text factorial_20 1)
 unfolding digits element_place making_array copying_array keeping_array finding_element giving_back handed_over stopping no_rule ticking taking entering having when computing choosing popping pop_many pop_plain pop_truth pop_integers pop_operands pop_text answering applying_one applying_two testing_step performing at_level kept_on pushing index level_of_machine cell_at jumping block_at own_block leaving with_result putting is_text home_of first_cells leaving_of_meaning constants_of text_constants putting_of_steps text is_class_free declared_at constant_of calculate compare compare_as_texts connect same_objects same_texts two_of one_of step_test take_integer take_character take_text take_nothing row_of standard_effect default_mode mode_allowed marked type_named result_named mode_named first_of_procedure first_of_class variable_marks array_marks parameter_marks moded_marks specified_marks headed_marks procedure_marks class_marks virtual_name_marks program_marks inner_marks declaring of_segment of_mode_part of_specification of_specifier of_virtual of_heading declared_by declarations_of run_of_runs lookup shown_of_scopes encloser searched block_at_of_scopes declaration_from binding entry_of formals_of formal_of result_of source_of denoted type_at line_at level_of block_of block_around standard_name text_attribute sysin_attribute sysout_attribute signature is_real_function is_random_drawing is_file_or_layout is_environment_name undeclared program_events of_statement of_branch of_arm of_block of_whole of_class_body of_declaration block_number slot_of accessible protects is_kind some_around_of some_around base brought_by level_shows shown_of is_detach ends_search outward virtual_of represented standard_at qualified_marks qualified_result connection_at levels_of levels is_in is_of has_procedure belongs class_at qualification stream_of is_variable is_attribute own_result result_meant standard_texts text_constant found_at shows_detach if_found found_in is_passed_over class_formals_of class_formals class_formal some_level_of has_level holds_class has_classes has_standard is_simulation_block is_for_prefixing simulation_level_of class_block is_in_chain on_one_chain shared_level_of shared_class names_hidden protector_of protector hides opens is_open fine wrong no_target targets assigned_to call_assigned target sign_agrees with_left lefts compared assigned precedes found is_connected prefix_of frame_text hidden_in block_in_front class_number
-procedure_stands = record { heads = record { is_kind = refl; level = refl; cells = refl; class_free = refl; gives = refl; formals = refl; temps = []; types = refl; roomy = le_0_6 }; body = record { there = lt_1_27; stop = 16; body = (2, ins factorial_20_code (i.Tick) 0 1 refl, (itself, lt_0_2, (15, record { y = 5; z = 6; w = 7; x = 8; test = (3, 4, (refl, record { load = push factorial_20_code inner 0 (i.Load (pos 2) (pos 1)) 0 2 lt_0_6 refl; inside = itself; within = lt_1_2 }), push factorial_20_code inner 1 (i.Int (pos 0)) 0 3 lt_1_6 refl, record { at = refl; on = refl }); jump = ins factorial_20_code (i.JumpF (pos 8)) 0 5 refl; leads = ahead factorial_20_code 5 8 lt_5_8 lt_8_27; first = push factorial_20_code inner 0 (i.Int (pos 1)) 0 6 lt_0_6 refl; over = ins factorial_20_code (i.Jump (pos 15)) 0 7 refl; past = ahead factorial_20_code 7 15 lt_7_15 lt_15_27; second = (9, 14, (refl, record { load = push factorial_20_code inner 0 (i.Load (pos 2) (pos 1)) 0 8 lt_0_6 refl; inside = itself; within = lt_1_2 }), (refl, record { x = 10; y = 13; link = push factorial_20_code inner 1 (i.Link (pos 1)) 0 9 lt_1_6 refl; inside = further refl itself; actuals = (13, (11, 12, (refl, record { load = push factorial_20_code inner 2 (i.Load (pos 2) (pos 1)) 0 10 lt_2_6 refl; inside = itself; within = lt_1_2 }), push factorial_20_code inner 3 (i.Int (pos 1)) 0 11 lt_3_6 refl, record { at = refl; on = refl }), refl); call = record { at = refl; on = refl } }), record { at = refl; on = refl }) }, ins factorial_20_code (i.Store (pos 2) (pos 0)) 0 15 refl))); last = 17; ends = ins factorial_20_code (i.Return) 0 16 refl } }
+procedure_stands = record { heads = record { is_kind = refl; level = refl; cells = refl; class_free = refl; gives = refl; formals = refl; temps = []; types = refl; counted = refl; roomy = le_0_6 }; body = record { there = lt_1_27; stop = 16; body = (2, ins factorial_20_code (i.Tick) 0 1 refl, (itself, lt_0_2, (15, record { y = 5; z = 6; w = 7; x = 8; test = (3, 4, (refl, record { load = push factorial_20_code inner 0 (i.Load (pos 2) (pos 1)) 0 2 lt_0_6 refl; inside = itself; within = lt_1_2 }), push factorial_20_code inner 1 (i.Int (pos 0)) 0 3 lt_1_6 refl, record { at = refl; on = refl }); jump = ins factorial_20_code (i.JumpF (pos 8)) 0 5 refl; leads = ahead factorial_20_code 5 8 lt_5_8 lt_8_27; first = push factorial_20_code inner 0 (i.Int (pos 1)) 0 6 lt_0_6 refl; over = ins factorial_20_code (i.Jump (pos 15)) 0 7 refl; past = ahead factorial_20_code 7 15 lt_7_15 lt_15_27; second = (9, 14, (refl, record { load = push factorial_20_code inner 0 (i.Load (pos 2) (pos 1)) 0 8 lt_0_6 refl; inside = itself; within = lt_1_2 }), (refl, record { x = 10; y = 13; link = push factorial_20_code inner 1 (i.Link (pos 1)) 0 9 lt_1_6 refl; inside = further refl itself; actuals = (13, (11, 12, (refl, record { load = push factorial_20_code inner 2 (i.Load (pos 2) (pos 1)) 0 10 lt_2_6 refl; inside = itself; within = lt_1_2 }), push factorial_20_code inner 3 (i.Int (pos 1)) 0 11 lt_3_6 refl, record { at = refl; on = refl }), refl); call = record { at = refl; on = refl } }), record { at = refl; on = refl }) }, ins factorial_20_code (i.Store (pos 2) (pos 0)) 0 15 refl))); last = 17; ends = ins factorial_20_code (i.Return) 0 16 refl } }
 
 no_more : (k : ℕ) → Has (suc (suc k)) (text factorial_20 (suc (suc k)))
 unfolding digits element_place making_array copying_array keeping_array finding_element giving_back handed_over stopping no_rule ticking taking entering having when computing choosing popping pop_many pop_plain pop_truth pop_integers pop_operands pop_text answering applying_one applying_two testing_step performing at_level kept_on pushing index level_of_machine cell_at jumping block_at own_block leaving with_result putting is_text home_of first_cells leaving_of_meaning constants_of text_constants putting_of_steps text is_class_free declared_at constant_of calculate compare compare_as_texts connect same_objects same_texts two_of one_of step_test take_integer take_character take_text take_nothing row_of standard_effect default_mode mode_allowed marked type_named result_named mode_named first_of_procedure first_of_class variable_marks array_marks parameter_marks moded_marks specified_marks headed_marks procedure_marks class_marks virtual_name_marks program_marks inner_marks declaring of_segment of_mode_part of_specification of_specifier of_virtual of_heading declared_by declarations_of run_of_runs lookup shown_of_scopes encloser searched block_at_of_scopes declaration_from binding entry_of formals_of formal_of result_of source_of denoted type_at line_at level_of block_of block_around standard_name text_attribute sysin_attribute sysout_attribute signature is_real_function is_random_drawing is_file_or_layout is_environment_name undeclared program_events of_statement of_branch of_arm of_block of_whole of_class_body of_declaration block_number slot_of accessible protects is_kind some_around_of some_around base brought_by level_shows shown_of is_detach ends_search outward virtual_of represented standard_at qualified_marks qualified_result connection_at levels_of levels is_in is_of has_procedure belongs class_at qualification stream_of is_variable is_attribute own_result result_meant standard_texts text_constant found_at shows_detach if_found found_in is_passed_over class_formals_of class_formals class_formal some_level_of has_level holds_class has_classes has_standard is_simulation_block is_for_prefixing simulation_level_of class_block is_in_chain on_one_chain shared_level_of shared_class names_hidden protector_of protector hides opens is_open fine wrong no_target targets assigned_to call_assigned target sign_agrees with_left lefts compared assigned precedes found is_connected prefix_of frame_text hidden_in block_in_front class_number
@@ -231,6 +231,7 @@ agree = record {
   same_level = λ t u e c. absurd (not_both (is_connected factorial_20.tables t) c (none_connected t));
   begun = λ k c. absurd (not_both (is_connected factorial_20.tables k) c (none_connected k));
   prefixes = λ k front e. absurd (not_some (prefix_of factorial_20.tables k) front (no_prefix k) e);
+  ends = λ k. one_level (no_prefix k);
   owned = λ k n d e. all_at (λ d. block_of factorial_20 d ≡ k) (numbers_of factorial_20 k) (owners k) n d e;
   once = λ k n m d e h. once_at (numbers_of factorial_20 k) (listed_once k) n m d e h;
   formals = λ k n d e. all_at (λ d. (x : Formal) × (entry_of factorial_20.tables d ≡ Some (entry.Formal x))) (formals_in (slice_get factorial_20.tables.blocks k)) (formal_rows k) n d e;

@@ -22,7 +22,7 @@ use Rattle.sim_meaning.specs.Pending.{Activation, Configuration, FitsOp, Instanc
 use Rattle.sim_meaning.specs.Pending as meaning
 use Rattle.sim_meaning.specs.Sane.{IsObject, LastNames, Names}
 use Rattle.sim_meaning.specs.Steps.{go}
-use Rattle.codegen_expr.specs.Sites.{class_number, frame_text, own_part}
+use Rattle.codegen_expr.specs.Sites.{class_number, frame_text, own_end}
 use Rattle.sim_relate.proofs.ClassLevels.{class_levels, counts, levelled, number_is}
 use Rattle.sim_relate.proofs.Hands.{stack_length}
 use Rattle.sim_relate.proofs.Here.{Here, goes, kinds_as}
@@ -68,7 +68,7 @@ module _ (s : Source) (code : CodeOf) (coding : Coding s code) where
   unfolding having choosing
   none_admitted fs o c line h z = admitting_is fs c line h (machine.Of Nothing) o z
 
-module _ (s : Source) (code : CodeOf) (coding : Coding s code) (l : Limits) (o : World) (m : Instances) (inst : ℕ) (w : List Item) (vals : List Val) (rest : List Activation) (fs : Frames) (t : ℕ) (b : Runs) (pc : ℕ) (stack : List Value) (below : List machine.Activation) (ks : List Kind) (here : Here s code m fs inst rest t b ks vals stack) (u q : ℕ) (ks' : List Kind) (low : length (own_part s (frame_text s t)) ≤ u) (k : WorkAt s code m fs (λ v. ChainAt s code m fs rest v below) inst t b u w q ks') where
+module _ (s : Source) (code : CodeOf) (coding : Coding s code) (l : Limits) (o : World) (m : Instances) (inst : ℕ) (w : List Item) (vals : List Val) (rest : List Activation) (fs : Frames) (t : ℕ) (b : Runs) (pc : ℕ) (stack : List Value) (below : List machine.Activation) (ks : List Kind) (here : Here s code m fs inst rest t b ks vals stack) (u q : ℕ) (ks' : List Kind) (low : own_end s code (frame_text s t) ≤ u) (k : WorkAt s code m fs (λ v. ChainAt s code m fs rest v below) inst t b u w q ks') where
   abbrev R : Configuration → Machine → Type 0
   R = StateAt s code
 
@@ -104,7 +104,8 @@ module _ (s : Source) (code : CodeOf) (coding : Coding s code) (l : Limits) (o :
         let is = a.address.is in
         let fits = a.address.fits in
         let e = deep in
-        silent code l inst b below R _ is.is (addr_row code l inst b below is.line fs o pc (x ∷ stack') lev a.temp (class_number s code c) n.0 n.1 (class_named s code coding m fs here.store c a.is_class) (own_frame fs here.store) (omega (arith, e, fits)))
+        let roomy = here.roomy in
+        silent code l inst b below R _ is.is (addr_row code l inst b below is.line fs o pc (x ∷ stack') lev a.temp (class_number s code c) n.0 n.1 (class_named s code coding m fs here.store c a.is_class) (own_frame fs here.store) (omega (arith, e, fits, roomy)))
         (silent code l inst b below R i.Swap a.under.is (swap_row code l inst b below a.under.line fs o a.x address x stack') more)
 
     passes : ((z : Run Machine) → classes.admitting code fs line (class_number s code c) x o z ≡ z) → Meets g (InEach R) onward o (at pc (x ∷ stack') fs)
@@ -113,12 +114,13 @@ module _ (s : Source) (code : CodeOf) (coding : Coding s code) (l : Limits) (o :
         let load = a.again.is in
         let fits = a.again.fits in
         let e = deep in
+        let roomy = here.roomy in
         comes
         (matched code l inst b below R (Going o (at a.z stack' r.frames)) (steps_to code l inst b below (x ∷ address ∷ stack') stack' fs r.frames o o i.Put a.put (put_row code l inst b below line fs r.frames o a.y x stack' inst a.temp (class_number s code c) admitted r.is))
-        (lags (steps_to code l inst b below stack' (x ∷ stack') r.frames r.frames o o (i.Load (pos lev) (pos a.temp)) load.is (load_row code l load.line inst b below r.frames o a.z stack' lev a.temp x (own_frame r.frames r.changed.store) r.reads (omega (arith, e, fits)))) refl
+        (lags (steps_to code l inst b below stack' (x ∷ stack') r.frames r.frames o o (i.Load (pos lev) (pos a.temp)) load.is (load_row code l load.line inst b below r.frames o a.z stack' lev a.temp x (own_frame r.frames r.changed.store) r.reads (omega (arith, e, fits, roomy)))) refl
         (caught (simply (λ p same. absurd (cc (same)))
         (goes s code u q (moved s code r.changed here.kept_alone here (kinds_as s code (sym out) (more_at (plain_at {p = p}) hs)))
-        (work_moved s code r.changed here here.alone below u (λ n le lt. r.others n (λ same. (let no : ⊥ = omega (arith, same, lt, a.unused) in no))) w q ks' k) refl)))))
+        (work_moved s code r.changed here here.alone below u (λ n le within lt. r.others n (λ same. (let no : ⊥ = omega (arith, same, lt, a.unused) in no))) w q ks' k) refl)))))
 
     refused : ((z : Run Machine) → classes.admitting code fs line (class_number s code c) x o z ≡ stopping (RunFault OutsideQualification line) o) → Meets g (InEach R) (stopping (RunFault OutsideQualification line) o) o (at pc (x ∷ stack') fs)
     refused stops =

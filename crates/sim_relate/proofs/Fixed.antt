@@ -20,7 +20,7 @@ use Rattle.sim_meaning.specs.Steps.{go}
 use Rattle.sim_meaning.specs.Steps as steps
 use Rattle.sim_meaning.specs.Texts.{constant_of}
 use Rattle.codegen_expr.specs.CodeExpr.{GivenAt}
-use Rattle.codegen_expr.specs.Sites.{frame_text, own_part}
+use Rattle.codegen_expr.specs.Sites.{frame_text, own_end}
 use Rattle.sim_relate.proofs.Hands.{stack_length}
 use Rattle.sim_relate.proofs.Here.{Here, kinds_as}
 use Rattle.sim_relate.proofs.Known.{Any, FixedIs, FixedOf, HandAt, Kind, Runs, StackAt, more_at, plain_at, site_at}
@@ -32,7 +32,7 @@ use Rattle.sim_relate.proofs.Silent.{dropped_row, matched, place_at, plain_pushe
 use Rattle.sim_relate.proofs.Stores.{constant_read}
 use Rattle.sim_relate.proofs.Trees.{ConstantPushed, FetchesAt}
 
-module _ (s : Source) (code : CodeOf) (coding : Coding s code) (l : Limits) (o : World) (m : Instances) (inst : ℕ) (w : List Item) (vals : List Val) (rest : List Activation) (fs : Frames) (t : ℕ) (b : Runs) (pc : ℕ) (stack : List Value) (below : List machine.Activation) (ks : List Kind) (here : Here s code m fs inst rest t b ks vals stack) (u q : ℕ) (ks' : List Kind) (low : length (own_part s (frame_text s t)) ≤ u) (k : WorkAt s code m fs (λ v. ChainAt s code m fs rest v below) inst t b u w q ks') where
+module _ (s : Source) (code : CodeOf) (coding : Coding s code) (l : Limits) (o : World) (m : Instances) (inst : ℕ) (w : List Item) (vals : List Val) (rest : List Activation) (fs : Frames) (t : ℕ) (b : Runs) (pc : ℕ) (stack : List Value) (below : List machine.Activation) (ks : List Kind) (here : Here s code m fs inst rest t b ks vals stack) (u q : ℕ) (ks' : List Kind) (low : own_end s code (frame_text s t) ≤ u) (k : WorkAt s code m fs (λ v. ChainAt s code m fs rest v below) inst t b u w q ks') where
   abbrev R : Configuration → Machine → Type 0
   R = StateAt s code
 
@@ -59,7 +59,7 @@ module _ (s : Source) (code : CodeOf) (coding : Coding s code) (l : Limits) (o :
         let alike = onward s code l o m inst w vals rest fs t b pc stack below ks here u q ks' low k {p = o} (more_at (plain_at {p = p}) hs) out refl in
         in_steps (subst (λ z. Meets (mstep code l) (InEach R) z o (at pc (x ∷ stack'))) (sym is)
         (silent code l inst b below R i.Pop dropped.is (dropped_row code l inst b below dropped.line fs o pc x stack')
-        (matched code l inst b below R _ (plain_pushed code l inst b below s coding.texts (site_at t b u) (length left) fs o p a.x q stack' (stack_length left vals' stack' hs) refl y) (caught (simply (λ p same. absurd (cc (same))) alike)))))
+        (matched code l inst b below R _ (plain_pushed code l inst b below s coding.texts (site_at t b u) (length left) fs o p a.x q stack' (stack_length left vals' stack' hs) here.roomy y) (caught (simply (λ p same. absurd (cc (same))) alike)))))
 
     nothing_there : value ≡ None → Follows (mstep code l) R (fetching v vals') o (at pc (x ∷ stack'))
     unfolding having

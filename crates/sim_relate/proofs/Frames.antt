@@ -1,15 +1,14 @@
 -- The text in whose frames lies what a text has.
-use Rattle.std.proofs.Common.{◌≡◌, ◌<◌, ◌≤◌, ◌+◌, ℕ, zero, suc, Bool, true, false, List, [], ◌∷◌, ◌++◌, length, Option, Some, None, refl, sym, ap, ◌∙◌, subst, arith}
+use Rattle.std.proofs.Common.{◌≡◌, ◌<◌, ◌≤◌, ℕ, zero, suc, Bool, true, false, List, [], ◌∷◌, ◌++◌, length, Option, Some, None, refl, sym, ap, ◌∙◌, subst, arith}
 use Rattle.std.specs.Prelude.{◌==◌, ◌&&◌, if◌then◌else◌}
 use Rattle.sim_scope.specs.Access.{encloser}
 use Rattle.sim_scope.specs.Source.{Source, level_of}
 use Rattle.sim_scope.specs.Tables.{BlockOf}
-use Rattle.sim_code.specs.Code.{CodeOf}
 use Rattle.sim_meaning.specs.Attributes.{is_connection as is_connection_text}
 use Rattle.sim_meaning.specs.Entries.{first_cells}
 use Rattle.sim_meaning.specs.Pending.{Connection, Declared, Held, Instances, Key, Result}
 use Rattle.sim_meaning.specs.Texts.{BlockText, ClassText, ConnectionText, PrefixedText, ProcedureText, StandardText, Text, text}
-use Rattle.codegen_expr.specs.Sites.{HasCell, block_in_front, block_of_text, cells_in, frame_text, frame_within, hidden_before, hidden_from, hidden_in, is_connected, is_connection, outward_or, own_part, place_of, slot_of, types_in}
+use Rattle.codegen_expr.specs.Sites.{HasCell, LevelOf, cells_in, frame_text, frame_within, hidden_before, hidden_from, hidden_in, is_connected, is_connection, outward_or, own_part, place_of}
 use Rattle.sim_relate.proofs.Known.{SameFrame, Stands, inside, is_declared, outermost}
 use Rattle.sim_relate.proofs.Plainly.{Agrees}
 
@@ -123,19 +122,6 @@ module _ (s : Source) (agrees : Agrees s) where
       absurd (omega (arith, missing, lt)))
       (λ c. frame_self k c)
 
-  -- ---- slots, where nothing stands in front
-
-  no_front : (code : CodeOf) (k : ℕ) → block_in_front s code k ≡ None
-  unfolding block_in_front
-  no_front code k = ap (block_of_text s code) (agrees.flat.classes k)
-
-  pub slot_is : (code : CodeOf) (k : ℕ) (key : Key) → slot_of s code k key ≡ place_of key (own_part s k)
-  unfolding slot_of
-  slot_is code k key = let e : 0 + place_of key (own_part s k) ≡ place_of key (own_part s k) = omega arith in ap (λ z. length (types_in z) + place_of key (own_part s k)) (no_front code k) ∙ e
-
-  pub front_is : (code : CodeOf) (k : ℕ) → block_in_front s code k ≡ None
-  front_is code k = no_front code k
-
 -- ---- texts with the same frames
 
 pub same_frame : (s : Source) (t : ℕ) → SameFrame s t t
@@ -145,5 +131,5 @@ pub frame_trans : (s : Source) (a b c : ℕ) → SameFrame s a b → SameFrame s
 frame_trans s a b c p q = record { frame = p.frame ∙ q.frame; level = p.level ∙ q.level }
 
 pub stands_same : (s : Source) (m : Instances) (j v t : ℕ) → SameFrame s v t → Stands s m j t → Stands s m j v
-stands_same s m j v t f (outermost is text level alone around) = outermost is (text ∙ sym f.frame) (level ∙ sym f.level) alone (ap (encloser s.tables) f.frame ∙ around)
-stands_same s m j v t f (inside is text level alone around before out) = inside is (text ∙ sym f.frame) (level ∙ sym f.level) alone (ap (encloser s.tables) f.frame ∙ around) before out
+stands_same s m j v t f (outermost {x = x} is levels level rooted around) = outermost is (subst (LevelOf s.tables x.text) (sym f.frame) levels) (level ∙ sym f.level) rooted (ap (encloser s.tables) f.frame ∙ around)
+stands_same s m j v t f (inside {x = x} is levels level out around before more) = inside is (subst (LevelOf s.tables x.text) (sym f.frame) levels) (level ∙ sym f.level) out (ap (encloser s.tables) f.frame ∙ around) before more

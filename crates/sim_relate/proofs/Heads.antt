@@ -5,10 +5,12 @@ use Rattle.sim_chains.specs.Components.{Standing}
 use Rattle.sim_scope.specs.Source.{Source}
 use Rattle.sim_code.specs.Instances.{Instance, Memory, entered, found_at, given, given_in, kept_at, kept_further, kept_on, outward, unless_given, with_instance}
 use Rattle.sim_code.proofs.Lifts.{Both}
+use Rattle.sim_meaning.specs.Levels.{text_at, text_in}
 use Rattle.sim_meaning.specs.Pending.{Held, Instances}
 use Rattle.sim_relate.proofs.Lists.{append_before}
-use Rattle.sim_relate.proofs.Reach.{if_false}
-use Rattle.sim_relate.proofs.Known.{Later, Stands, inside, outermost, seen_at, seen_within}
+use Rattle.sim_relate.proofs.Reach.{if_false, stands_rooted}
+use Rattle.codegen_expr.specs.Sites.{LevelOf, frame_text}
+use Rattle.sim_relate.proofs.Known.{Later, Rooted, Stands, enclosed, inside, outermost, seen_at, seen_within, unenclosed}
 
 -- ---- both there
 
@@ -112,40 +114,55 @@ module _ {C : Type 0} where
 -- ---- what later stores keep
 
 module _ (s : Source) (m m' : Instances) (heads : (k : ℕ) (x : Instance (List Held)) → slice_get m.instances k ≡ Some x → Found Heads x (slice_get m'.instances k)) where
+  rooted_later : (o : Option ℕ) → Rooted m o → Rooted m' o
+  rooted_later _ unenclosed = unenclosed
+  rooted_later _ (enclosed {e = e} {x = x} is more) =
+      let y = heads e x is in
+      enclosed y.is (subst (Rooted m') (sym (y.related).encloser) (rooted_later x.encloser more))
+
   stands_later : (j t : ℕ) → Stands s m j t → Stands s m' j t
-  stands_later j t (outermost {x = x} is text level alone around) =
+  stands_later j t (outermost {x = x} is text level rooted around) =
       let y = heads j x is in
       let h = y.related in
-      outermost y.is (h.text ∙ text) (h.level ∙ level) (h.encloser ∙ alone) around
+      outermost y.is (subst (λ z. LevelOf s.tables z (frame_text s t)) (sym h.text) text) (h.level ∙ level) (subst (Rooted m') (sym h.encloser) (rooted_later x.encloser rooted)) around
   stands_later j t (inside {e = e} {u = u} {x = x} is text level alone around before stands) =
       let y = heads j x is in
       let h = y.related in
-      inside y.is (h.text ∙ text) (h.level ∙ level) (h.encloser ∙ alone) around before (stands_later e u stands)
+      inside y.is (subst (λ z. LevelOf s.tables z (frame_text s t)) (sym h.text) text) (h.level ∙ level) (h.encloser ∙ alone) around before (stands_later e u stands)
 
   found_same : (look look' : ℕ → Option ℕ) (level j : ℕ) (x y : Instance (List Held)) → slice_get m.instances j ≡ Some x → slice_get m'.instances j ≡ Some y → Heads x y → outward look' x.encloser ≡ outward look x.encloser → found_at level look' j (slice_get m'.instances j) ≡ found_at level look j (slice_get m.instances j)
   found_same look look' level j x y ex ey h out =
       ap (found_at level look' j) ey ∙ ap (λ l. if l == level then Some j else outward look' y.encloser) h.level ∙ ap (λ e. if x.level == level then Some j else outward look' e) h.encloser ∙ ap (λ z. if x.level == level then Some j else z) out ∙ sym (ap (found_at level look j) ex)
 
+  outward_later : (n level : ℕ) (o : Option ℕ) → Rooted m o → outward (seen_within n m' level) o ≡ outward (seen_within n m level) o
+  outward_later n level _ unenclosed = refl
+  outward_later zero level _ (enclosed {e = e} {x = x} is more) = refl
+  outward_later (suc n) level _ (enclosed {e = e} {x = x} is more) =
+      let y = heads e x is in
+      found_same (seen_within n m level) (seen_within n m' level) level e x y.it is y.is y.related (outward_later n level x.encloser more)
+
   within_later : (n level j t : ℕ) → Stands s m j t → seen_within n m' level j ≡ seen_within n m level j
-  within_later zero level j t st = refl
-  within_later (suc n) level j t (outermost {x = x} is text lev alone around) =
-      let y = heads j x is in
-      found_same (seen_within n m level) (seen_within n m' level) level j x y.it is y.is y.related (ap (outward (seen_within n m' level)) alone ∙ sym (ap (outward (seen_within n m level)) alone))
-  within_later (suc n) level j t (inside {e = e} {u = u} {x = x} is text lev alone around before stands) =
-      let y = heads j x is in
-      found_same (seen_within n m level) (seen_within n m' level) level j x y.it is y.is y.related
-      (ap (outward (seen_within n m' level)) alone ∙ within_later n level e u stands ∙ sym (ap (outward (seen_within n m level)) alone))
+  within_later n level j t st = outward_later n level (Some j) (stands_rooted s m st)
+
+  text_same : (o o' : Option (Instance (List Held))) (own : ℕ) → text_in o ≡ Some own → ((x : Instance (List Held)) → o ≡ Some x → Found Heads x o') → text_in o' ≡ Some own
+  text_same None o' own e f = absurd (cc)
+  text_same (Some x) o' own e f =
+      let y = f x refl in
+      ap text_in y.is ∙ ap Some (y.related).text ∙ e
+
+  texts_later : (j own : ℕ) → text_at m j ≡ Some own → text_at m' j ≡ Some own
+  texts_later j own e = text_same (slice_get m.instances j) (slice_get m'.instances j) own e (heads j)
 
   pub later_heads : Later s m m'
   unfolding seen_at
-  later_heads = record { stands = stands_later; same = λ level j t st. within_later (suc j) level j t st }
+  later_heads = record { texts = texts_later; stands = stands_later; same = λ level j t st. within_later (suc j) level j t st }
 
 pub later_all : (s : Source) (m m' : Instances) → ((k : ℕ) → Both Heads (slice_get m.instances k) (slice_get m'.instances k)) → Later s m m'
 later_all s m m' all = later_heads s m m' (λ k x e. both_found Heads (slice_get m.instances k) (slice_get m'.instances k) x e (all k))
 
 -- nothing is later than the store itself
 pub later_itself : (s : Source) (m : Instances) → Later s m m
-later_itself s m = record { stands = λ j t st. st; same = λ level j t st. refl }
+later_itself s m = record { texts = λ j own e. e; stands = λ j t st. st; same = λ level j t st. refl }
 
 -- ---- entries and ends
 

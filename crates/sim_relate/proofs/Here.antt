@@ -1,5 +1,5 @@
 -- Related states, put together.
-use Rattle.std.proofs.Common.{◌≡◌, ℕ, List, ◌∷◌, false, Some, refl, ap, ◌∙◌, subst}
+use Rattle.std.proofs.Common.{◌≡◌, ◌≤◌, ℕ, List, ◌∷◌, false, Some, refl, ap, ◌∙◌, subst}
 use Rattle.std.specs.Prelude.{slice_get}
 use Rattle.sim_base.specs.declared.limits.Limits.{Limits}
 use Rattle.sim_scope.specs.Source.{Source}
@@ -12,6 +12,7 @@ use Rattle.sim_code.specs.Machine as machine
 use Rattle.sim_code.specs.Rows.{on_top, row}
 use Rattle.sim_code.proofs.Lifts.{alike_found}
 use Rattle.sim_code.proofs.Simulation.{Alike, going}
+use Rattle.sim_meaning.specs.Levels.{text_at}
 use Rattle.sim_meaning.specs.Pending.{Activation, Configuration, Instances, Item, Val}
 use Rattle.sim_meaning.specs.Steps.{go}
 use Rattle.sim_meaning.specs.Sane.{AllKept, AllOf, LastNames, Lives, Other}
@@ -22,13 +23,15 @@ use Rattle.sim_relate.proofs.Relation.{ChainAt, StandingsAt, StateAt, StoreAt, W
 
 -- the activation of an instance
 abbrev pub act : (inst pc : ℕ) → List Value → Runs → machine.Activation
-act inst pc stack b = record { thunk = false; home = inst; pc = pc; stack = stack; room = b.block.room; stage = b.stage }
+act inst pc stack b = record { thunk = false; home = inst; pc = pc; stack = stack; room = b.room; stage = b.stage }
 
 -- where both sides stand, apart from the work
 pub record There (s : Source) (code : CodeOf) (m : Instances) (fs : Frames) (inst t : ℕ) (b : Runs) (ks : List Kind) (vals : List Val) (stack : List Value) : Type 0 where
   pub store : StoreAt s code m fs
   pub parked : StandingsAt s code m fs
   pub stands : Stands s m inst t
+  pub own : text_at m inst ≡ Some b.own
+  pub roomy : b.block.room ≤ b.room
   pub found : slice_get code.blocks (block_number s (frame_text s t)) ≡ Some b.block
   pub values : StackAt (HandAt s code m) ks vals stack
 
@@ -41,6 +44,8 @@ pub record Here (s : Source) (code : CodeOf) (m : Instances) (fs : Frames) (inst
   pub kept_alone : AllKept (Other inst) m
   pub names : LastNames s m vals
   pub stands : Stands s m inst t
+  pub own : text_at m inst ≡ Some b.own
+  pub roomy : b.block.room ≤ b.room
   pub found : slice_get code.blocks (block_number s (frame_text s t)) ≡ Some b.block
   pub values : StackAt (HandAt s code m) ks vals stack
 
@@ -55,6 +60,8 @@ module _ (s : Source) (code : CodeOf) where
       block = b;
       found = here.found;
       stands = here.stands;
+      own = here.own;
+      roomy = here.roomy;
       room = refl;
       stage = refl;
       kinds = ks;
@@ -76,11 +83,11 @@ module _ (s : Source) (code : CodeOf) where
   at_row l o fs a below r x line q is like = alike_found Configuration Machine (StateAt s code) Lined (slice_get code.instrs a.pc) (lined x line) o r (λ y. row code l o fs a below y.line.0 y.instr) is.at like
 
   pub there_of : {m : Instances} {fs : Frames} {inst : ℕ} {rest : List Activation} {t : ℕ} {b : Runs} {ks : List Kind} {vals : List Val} {stack : List Value} → Here s code m fs inst rest t b ks vals stack → There s code m fs inst t b ks vals stack
-  there_of here = record { store = here.store; parked = here.parked; stands = here.stands; found = here.found; values = here.values }
+  there_of here = record { store = here.store; parked = here.parked; stands = here.stands; own = here.own; roomy = here.roomy; found = here.found; values = here.values }
 
   -- the same place with other values
   pub with_values : {m : Instances} {fs : Frames} {inst : ℕ} {rest : List Activation} {t : ℕ} {b : Runs} {ks ks' : List Kind} {vals vals' : List Val} {stack stack' : List Value} → Here s code m fs inst rest t b ks vals stack → StackAt (HandAt s code m) ks' vals' stack' → There s code m fs inst t b ks' vals' stack'
-  with_values here h = record { store = here.store; parked = here.parked; stands = here.stands; found = here.found; values = h }
+  with_values here h = record { store = here.store; parked = here.parked; stands = here.stands; own = here.own; roomy = here.roomy; found = here.found; values = h }
 
   pub kinds_as : {m : Instances} {ks ks' : List Kind} {vals : List Val} {stack : List Value} → ks ≡ ks' → StackAt (HandAt s code m) ks vals stack → StackAt (HandAt s code m) ks' vals stack
   kinds_as {m} {vals = vals} {stack = stack} e h = subst (λ k. StackAt (HandAt s code m) k vals stack) e h
@@ -95,6 +102,8 @@ module _ (s : Source) (code : CodeOf) where
     kept_alone = here.kept_alone;
     names = here.names;
     stands = stands_same s m inst v t f here.stands;
+    own = here.own;
+    roomy = here.roomy;
     found = ap (λ z. slice_get code.blocks (block_number s z)) f.frame ∙ here.found;
     values = here.values;
   }

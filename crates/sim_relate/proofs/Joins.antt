@@ -28,7 +28,7 @@ use Rattle.sim_meaning.specs.Pending as meaning
 use Rattle.sim_meaning.specs.Steps.{go}
 use Rattle.sim_meaning.specs.Sane.{Other}
 use Rattle.codegen_expr.specs.CodeExpr.{Stand, join_instrs}
-use Rattle.codegen_expr.specs.Sites.{own_part, frame_text}
+use Rattle.codegen_expr.specs.Sites.{frame_text, own_end}
 use Rattle.sim_relate.specs.SameRuns.{seen_world}
 use Rattle.sim_relate.proofs.Known.{HandAt, Kind, StackAt, ValAt, anys, array_at, element_at, image_at, link_at, more_at, placed, plain_at, site_at, Runs}
 use Rattle.sim_relate.proofs.Relation.{ChainAt, Changed, OpAt, StateAt, StoreAt, WorkAt}
@@ -110,7 +110,7 @@ module _ {S : Type 0} (o : World) where
 fits_on : (storage used wanted : ℕ) → is_exhausted storage used wanted ≡ false → is_exhausted storage (used + wanted) 0 ≡ false
 fits_on storage used wanted e = let same : used + wanted + 0 ≡ used + wanted = omega arith in ap (nat_lt storage) same ∙ e
 
-module _ (s : Source) (code : CodeOf) (l : Limits) (o : World) (m : Instances) (inst : ℕ) (w : List Item) (vals : List Val) (rest : List Activation) (fs : Frames) (t : ℕ) (b : Runs) (pc : ℕ) (stack : List Value) (below : List machine.Activation) (ks : List Kind) (here : Here s code m fs inst rest t b ks vals stack) (u q : ℕ) (ks' : List Kind) (low : length (own_part s (frame_text s t)) ≤ u) (k : WorkAt s code m fs (λ v. ChainAt s code m fs rest v below) inst t b u w q ks') where
+module _ (s : Source) (code : CodeOf) (l : Limits) (o : World) (m : Instances) (inst : ℕ) (w : List Item) (vals : List Val) (rest : List Activation) (fs : Frames) (t : ℕ) (b : Runs) (pc : ℕ) (stack : List Value) (below : List machine.Activation) (ks : List Kind) (here : Here s code m fs inst rest t b ks vals stack) (u q : ℕ) (ks' : List Kind) (low : own_end s code (frame_text s t) ≤ u) (k : WorkAt s code m fs (λ v. ChainAt s code m fs rest v below) inst t b u w q ks') where
   abbrev R : Configuration → Machine → Type 0
   R = StateAt s code
 
@@ -120,7 +120,7 @@ module _ (s : Source) (code : CodeOf) (l : Limits) (o : World) (m : Instances) (
   -- frames in which some temps have other values
   record Temps (f : Frames) : Type 0 where
     changed : Changed s code (Other inst) m fs m f
-    own : (c : ℕ) → length (own_part s (frame_text s t)) ≤ c → c < u → placed f inst c ≡ placed fs inst c
+    own : (c : ℕ) → own_end s code (frame_text s t) ≤ c → c < u → placed f inst c ≡ placed fs inst c
 
   module _ (line temp : ℕ) (left : List Kind) (unused : u ≤ temp) (within : suc (suc temp) < length b.block.types) (room : suc (suc (length left)) < b.block.room) (joins : Stand code line (join_instrs (level_of s t) temp) pc q) (out : ks' ≡ anys 1 left)
       (vals' : List Val) (stack' : List Value) (hands : StackAt (HandAt s code m) left vals' stack') where
@@ -136,14 +136,17 @@ module _ (s : Source) (code : CodeOf) (l : Limits) (o : World) (m : Instances) (
     deep : length left ≡ length stack'
     deep = stack_length left vals' stack' hands
 
-    fits0 : length stack' < b.block.room
-    fits0 = let e = deep in omega (arith, e, room)
+    fits2 : suc (suc (length stack')) < b.room
+    fits2 =
+        let e = deep in
+        let roomy = here.roomy in
+        omega (arith, e, room, roomy)
 
-    fits1 : suc (length stack') < b.block.room
-    fits1 = let e = deep in omega (arith, e, room)
+    fits1 : suc (length stack') < b.room
+    fits1 = let fits = fits2 in omega (arith, fits)
 
-    fits2 : suc (suc (length stack')) < b.block.room
-    fits2 = let e = deep in omega (arith, e, room)
+    fits0 : length stack' < b.room
+    fits0 = let fits = fits2 in omega (arith, fits)
 
     own_frame : (f : Frames) → StoreAt s code m f → at_level f lev inst ≡ Some inst
     own_frame f store = levels_same s code store lev inst ∙ own_level s m inst t here.stands here.lives
@@ -169,7 +172,7 @@ module _ (s : Source) (code : CodeOf) (l : Limits) (o : World) (m : Instances) (
     ends : (p : World) (f : Frames) → Temps f → (x : TextVal) → Alike R (go p m inst w (meaning.Of (Text x) ∷ vals') rest) (Going p (at 31 (machine.Of (Text x) ∷ stack') f))
     ends p f temps x =
         goes s code u q (moved s code temps.changed here.kept_alone here (kinds_as s code (sym out) (more_at plain_at hands)))
-        (work_moved s code temps.changed here here.alone below u temps.own w q ks' k) (stands_to code line (join_instrs lev temp) pc q joins)
+        (work_moved s code temps.changed here here.alone below u (λ c le within lt. temps.own c le lt) w q ks' k) (stands_to code line (join_instrs lev temp) pc q joins)
 
     -- what `&` does in the program
     abbrev joined_run : Val → Val → Run Configuration

@@ -15,11 +15,12 @@ use Rattle.sim_code.specs.Machine as machine
 use Rattle.sim_code.proofs.Lifts.{Both}
 use Rattle.sim_meaning.specs.Pending.{AttributeOf, CallOf, Connection, Declared, Held, Instances, Key, PlaceOf, QualifiedElementOf, QualifiedPlaceOf, RemoteCallOf, StandardOf, Target, Term, ToCell, ToPlace, ToTextAt, ToTextOf, Unbuilt, Val}
 use Rattle.sim_meaning.specs.Pending as meaning
+use Rattle.sim_meaning.specs.Levels.{text_at}
 use Rattle.sim_meaning.specs.Meaning.{has_result}
 use Rattle.sim_meaning.specs.Objects.{constant_cell}
 use Rattle.sim_meaning.specs.Statements.{has_value}
 use Rattle.sim_meaning.specs.Texts.{ProcedureText, Text, constant_of, text}
-use Rattle.codegen_expr.specs.Sites.{HasCell, Site, class_number, frame_text, own_part, slot_of}
+use Rattle.codegen_expr.specs.Sites.{HasCell, LevelOf, Site, block_number, class_number, frame_text, own_end, slot_of}
 pub use Rattle.codegen_expr.specs.Sites.{is_constant}
 
 -- ---- values
@@ -220,12 +221,17 @@ seen_within (suc n) m level j = found_at level (seen_within n m level) j (slice_
 unfoldable pub seen_at : {C A : Type 0} → Memory C A → (level j : ℕ) → Option ℕ
 seen_at m level j = seen_within (suc j) m level j
 
--- An instance stands for a text: it is of the text in whose frames lies what that text has, and has its level; and its encloser, which was
--- entered before it, stands for the text around its own. Whether it was given back is not asked: so it stands for the text in all later
--- stores.
+-- an encloser is there, and so is its own, and so on
+pub data Rooted (m : Instances) : (encloser : Option ℕ) → Type 0 where
+  unenclosed : Rooted m None
+  enclosed : {e : ℕ} {x : Instance (List Held)} → slice_get m.instances e ≡ Some x → Rooted m x.encloser → Rooted m (Some e)
+
+-- An instance stands for a text: the text in whose frames lies what that text has is one of the levels of its own, and it has its level; and
+-- its encloser, which was entered before it, stands for the text around that. Whether it was given back is not asked: so it stands for the
+-- text in all later stores.
 pub data Stands (s : Source) (m : Instances) : (instance text : ℕ) → Type 0 where
-  outermost : {j t : ℕ} {x : Instance (List Held)} → slice_get m.instances j ≡ Some x → x.text ≡ frame_text s t → x.level ≡ level_of s t → x.encloser ≡ None → encloser s.tables (frame_text s t) ≡ None → Stands s m j t
-  inside : {j t e u : ℕ} {x : Instance (List Held)} → slice_get m.instances j ≡ Some x → x.text ≡ frame_text s t → x.level ≡ level_of s t → x.encloser ≡ Some e → encloser s.tables (frame_text s t) ≡ Some u → e < j → Stands s m e u → Stands s m j t
+  outermost : {j t : ℕ} {x : Instance (List Held)} → slice_get m.instances j ≡ Some x → LevelOf s.tables x.text (frame_text s t) → x.level ≡ level_of s t → Rooted m x.encloser → encloser s.tables (frame_text s t) ≡ None → Stands s m j t
+  inside : {j t e u : ℕ} {x : Instance (List Held)} → slice_get m.instances j ≡ Some x → LevelOf s.tables x.text (frame_text s t) → x.level ≡ level_of s t → x.encloser ≡ Some e → encloser s.tables (frame_text s t) ≡ Some u → e < j → Stands s m e u → Stands s m j t
 
 -- two texts with the same frames
 pub record SameFrame (s : Source) (v t : ℕ) : Type 0 where
@@ -292,8 +298,9 @@ HandAt s code m (OwnerOf text) v x = OwnerIs s m text v x
 HandAt s code m (Refers k) v x = RefersAt s code m k v x
 HandAt s code m (FixedOf d) v x = FixedIs s m d v x
 
--- what the later of two stores keeps of the instances: what they stand for, and what is found from them outward
+-- what the later of two stores keeps of the instances: their texts, what they stand for, and what is found from them outward
 pub record Later (s : Source) (m m' : Instances) : Type 0 where
+  pub texts : (j own : ℕ) → text_at m j ≡ Some own → text_at m' j ≡ Some own
   pub stands : (j t : ℕ) → Stands s m j t → Stands s m' j t
   pub same : (level j t : ℕ) → Stands s m j t → seen_at m' level j ≡ seen_at m level j
 
@@ -304,17 +311,34 @@ placed_in x c = machine.value_in (instances.cells_in x) c
 abbrev pub placed : Frames → (frame cell : ℕ) → Option Value
 placed fs j c = placed_in (slice_get fs.instances j) c
 
--- what it keeps of the frames of some instances: the temps, which stand behind the own part of the text
-pub record Keeps (s : Source) (m : Instances) (fs fs' : Frames) (Of : ℕ → Type 0) : Type 0 where
-  pub temps : (j t c : ℕ) → Of j → Stands s m j t → length (own_part s (frame_text s t)) ≤ c → placed fs' j c ≡ placed fs j c
+-- a temp of the level of a text, of which this is the block: it stands behind the own part of the text
+pub record IsTemp (s : Source) (code : CodeOf) (text temp : ℕ) (b : BlockOf) : Type 0 where
+  pub behind : own_end s code (frame_text s text) ≤ temp
+  pub within : temp < length b.types
 
--- What an activation runs: the code of a block, and the stage at which it is.
+-- what it keeps of the frames of some instances: the temps of all levels
+pub record Keeps (s : Source) (code : CodeOf) (m : Instances) (fs fs' : Frames) (Of : ℕ → Type 0) : Type 0 where
+  pub temps : (j t c : ℕ) (b : BlockOf) → Of j → Stands s m j t → slice_get code.blocks (block_number s (frame_text s t)) ≡ Some b → IsTemp s code t c b → placed fs' j c ≡ placed fs j c
+
+-- What an activation runs: the text of its instance, the room that its operand stack has, the block of the level in which control is, and the
+-- stage at which it is.
 pub record Runs : Type 0 where
+  pub own : ℕ
+  pub room : ℕ
   pub block : BlockOf
   pub stage : Stage
 
-abbrev pub at_stage : BlockOf → Stage → Runs
-at_stage block stage = record { block = block; stage = stage }
+abbrev pub at_stage : Runs → Stage → Runs
+at_stage b stage = record b { stage = stage }
+
+-- where pending work goes on: in the code of a text, with so many cells and temps in use
+pub record Spot : Type 0 where
+  pub text : ℕ
+  pub runs : Runs
+  pub used : ℕ
+
+abbrev pub spot : (text : ℕ) → Runs → (used : ℕ) → Spot
+spot t b u = record { text = t; runs = b; used = u }
 
 -- every instance
 abbrev pub Every : ℕ → Type 0

@@ -26,7 +26,7 @@ use Rattle.sim_meaning.specs.Closing.{Left, LeftAddress, LeftCell, LeftReference
 use Rattle.sim_meaning.specs.Pending.{Cell, Declared, Do, ElementOf, Eval, Instances, Item, Result, ShareOp, StoreOp, Target, Term, ToAddress, ToCell}
 use Rattle.sim_meaning.specs.Pending as meaning
 use Rattle.sim_meaning.specs.Statements.{Lefts, assigning, before, lefts}
-use Rattle.codegen_expr.specs.Sites.{At, HasCell, Inside, Site, Varies, frame_text, is_constant, own_part}
+use Rattle.codegen_expr.specs.Sites.{At, HasCell, Inside, Site, Varies, frame_text, is_constant, own_end}
 use Rattle.codegen_expr.specs.CodeExpr.{ElementAt, ExprAt, ExprsAt, PlaceAt, ReferencePlaceAt}
 use Rattle.codegen.specs.CodeLeft.{AtAddress, AtAttribute, GivesAt, GoesAt, InCell, LeftsAt, NotBuilt, ResultAt, SharesAt, StoreAt, Stored, ToReference, ToResult, ToText, below, each_stored, stored, stored_declared, stored_element, stored_formal, stored_found, stored_left, stored_named, stored_of, stored_result, stored_text, stored_variable}
 use Rattle.sim_relate.proofs.Closing.{close_all_at, close_at, count_close, place_at, reference_at}
@@ -246,7 +246,7 @@ module _ (s : Source) (code : CodeOf) (m : Instances) (inst t : ℕ) (b : Runs) 
       let load = a.2 in
       (a.0, a.1, under kss ks, record { is = load.is; fits = load.fits }, stores a.0 a.1 (under kss ks) f a.3, gives_is used temp xs ys kss a.1 q ks more (subst (λ n. GivesAt s code site temp n xs a.1 q) (below_is (under kss ks) f) a.4))
 
-  module _ (fs : Frames) (Below : Bool → Type 0) (low : length (own_part s (frame_text s t)) ≤ u) where
+  module _ (fs : Frames) (Below : Bool → Type 0) (low : own_end s code (frame_text s t) ≤ u) where
     abbrev pub Works : List Item → ℕ → List Kind → Type 0
     Works w p ks = WorkAt s code m fs Below inst t b u w p ks
 

@@ -38,7 +38,7 @@ use Rattle.sim_meaning.specs.Pending as meaning
 use Rattle.sim_meaning.specs.Statements.{controlled, controlled_left, finding, looping, reading}
 use Rattle.sim_meaning.specs.Steps.{go}
 use Rattle.sim_meaning.specs.Texts.{text}
-use Rattle.codegen_expr.specs.Sites.{Inside, Is, Site, HasCell, Pushes, slot_of, own_part, frame_text}
+use Rattle.codegen_expr.specs.Sites.{Inside, Is, Site, HasCell, Pushes, slot_of, frame_text, own_end}
 use Rattle.codegen_expr.specs.CodeExpr.{ExprAt, PlaceAt}
 use Rattle.sim_relate.proofs.Plainly.{Agrees}
 use Rattle.codegen.specs.CodeFor.{OfCell, OfPlace, OfReference, PutsAt, TakesValues, variable_of, variable_stored, ElementsAt, ForAt, ListAt, LoadsVariable, OneElementAt, SharedAt, StoresVariable, Variable, is_empty, GivesVariable, assigned_by}
@@ -47,7 +47,7 @@ use Rattle.codegen.specs.CodeStm.{StmAt}
 use Rattle.sim_relate.proofs.Closing.{place_at, reference_at}
 use Rattle.sim_relate.proofs.Frames.{same_frame}
 use Rattle.sim_relate.proofs.Trees.{FetchIs, FetchesAt}
-use Rattle.sim_relate.proofs.Known.{Finds, FixedOf, IsRead, LinkTo, Located, OwnerOf, Refers, gives, kind_read, leaves_kind, left_kind, place_kind, place_target, read_kind, reads, reads_kind, Any, HandAt, Kind, StackAt, anys, more_at, plain_at, site_at, variable_target, Runs}
+use Rattle.sim_relate.proofs.Known.{Finds, FixedOf, IsRead, LinkTo, Located, OwnerOf, Refers, gives, kind_read, leaves_kind, left_kind, place_kind, place_target, read_kind, reads, reads_kind, Any, HandAt, Kind, StackAt, anys, more_at, plain_at, site_at, variable_target, Runs, spot}
 use Rattle.sim_relate.proofs.Relation.{BeginsAt, CellVariableIs, ChainAt, ComesTo, OpAt, PlaceVariableIs, StateAt, StoreIs, TurnOf, VariableIs, WorkAt, over, stays, straight, there, turning}
 use Rattle.sim_relate.proofs.Hands.{hand_plain}
 use Rattle.sim_relate.proofs.Here.{Here, act, at_row, goes, kinds_as, there_of}
@@ -123,7 +123,7 @@ module _ (s : Source) (code : CodeOf) (site : Site) (n : ℕ) (v : Variable) whe
   elements_as [] A B f k p q a = a
   elements_as (e ∷ es) A B f k p q a = (a.0, one_as e (A k) (B k) (f k) p a.0 a.1, elements_as es A B f (suc k) a.0 q a.2)
 
-module _ (s : Source) (code : CodeOf) (l : Limits) (agrees : Agrees s) (o : World) (m : Instances) (inst : ℕ) (w : List Item) (vals : List Val) (rest : List Activation) (fs : Frames) (t : ℕ) (b : Runs) (pc : ℕ) (stack : List Value) (below : List machine.Activation) (ks : List Kind) (here : Here s code m fs inst rest t b ks vals stack) (u q : ℕ) (ks' : List Kind) (low : length (own_part s (frame_text s t)) ≤ u) (k : WorkAt s code m fs (λ v. ChainAt s code m fs rest v below) inst t b u w q ks') where
+module _ (s : Source) (code : CodeOf) (l : Limits) (agrees : Agrees s) (o : World) (m : Instances) (inst : ℕ) (w : List Item) (vals : List Val) (rest : List Activation) (fs : Frames) (t : ℕ) (b : Runs) (pc : ℕ) (stack : List Value) (below : List machine.Activation) (ks : List Kind) (here : Here s code m fs inst rest t b ks vals stack) (u q : ℕ) (ks' : List Kind) (low : own_end s code (frame_text s t) ≤ u) (k : WorkAt s code m fs (λ v. ChainAt s code m fs rest v below) inst t b u w q ks') where
   abbrev R : Configuration → Machine → Type 0
   R = StateAt s code
 
@@ -359,7 +359,7 @@ module _ (s : Source) (code : CodeOf) (l : Limits) (agrees : Agrees s) (o : Worl
       let r = list_is v (is_empty a) es a y q list in
       let same : u ≤ u = omega arith in
       moves_on (Do (ElementsOp x es a) ∷ w) y
-      (r.at, u, q, ks', t, b, same_frame s t, r.comes, same, low, stays (record { variable = v; v = h; number = 0; elements = r.elements; out = e }) refl, k) refl
+      (r.at, u, q, ks', t, spot t b u, same_frame s t, r.comes, same, low, stays (record { variable = v; v = h; number = 0; elements = r.elements; out = e }) refl, k) refl
 
   -- the variable that is meant
   pub record MeantIs (v : Variable) (meant : Option Target) : Type 0 where

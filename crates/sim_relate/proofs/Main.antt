@@ -14,13 +14,13 @@ use Rattle.sim_code.specs.Machine as machine
 use Rattle.sim_code.specs.Rows.{mstep, on_top}
 use Rattle.sim_code.proofs.Simulation.{Alike, unruled}
 use Rattle.sim_meaning.specs.Meaning.{do_op, has_result, step}
-use Rattle.sim_meaning.specs.Pending.{Activation, AgainOp, ArrayOp, AttributeOf, AttributeOp, BackOp, BranchOp, CallOf, CallOp, Cell, ChooseOp, Configuration, ConnectOp, CopyOf, CopyOp, DeclareOp, Do, DropOp, Either, ElementOf, ElementOp, ElementsOp, EndBlock, EndObject, EndProcedure, EndProgram, EnterOp, Eval, Exec, Execs, FetchOp, FitsOf, FitsOp, Given, GiveOp, IfOp, ImageOf, Instances, Item, Joined, JoinOp, KeepOp, KeptOf, MemberOf, MemberOp, NewOf, NewOp, ObjectOp, One, OneOp, Op, PastOp, PlaceOf, QualifiedElementOf, QualifiedElementOp, QualifiedPlaceOf, QuaOf, QuaOp, RaiseOp, ReferOp, RemoteCallOf, ShareOp, StandardOf, StandardOp, StepOp, StepTestOp, StoreOp, SwapOp, Target, Term, Terms, TestOp, ToAddress, ToCell, ToPlace, ToReference, ToReferenceAt, ToText, ToTextAt, ToTextOf, Two, TwoOp, Unbuilt, Val, ValueAt, WhenOp, WhileElementOp}
+use Rattle.sim_meaning.specs.Pending.{Activation, AgainOp, ArrayOp, AttributeOf, AttributeOp, BackOp, BranchOp, CallOf, CallOp, Cell, ChooseOp, Configuration, ConnectOp, CopyOf, CopyOp, DeclareOp, Do, DropOp, Either, ElementOf, ElementOp, ElementsOp, EndBlock, EndLevel, EndObject, EndProcedure, EndProgram, EnterOp, Eval, Exec, Execs, FetchOp, FitsOf, FitsOp, Given, GiveOp, IfOp, ImageOf, Instances, Item, Joined, JoinOp, KeepOp, KeptOf, MemberOf, MemberOp, NewOf, NewOp, ObjectOp, One, OneOp, Op, PastOp, PlaceOf, QualifiedElementOf, QualifiedElementOp, QualifiedPlaceOf, QuaOf, QuaOp, RaiseOp, ReferOp, RemoteCallOf, ShareOp, StandardOf, StandardOp, StepOp, StepTestOp, StoreOp, SwapOp, Target, Term, Terms, TestOp, ToAddress, ToCell, ToPlace, ToReference, ToReferenceAt, ToText, ToTextAt, ToTextOf, Two, TwoOp, Unbuilt, Val, ValueAt, WhenOp, WhileElementOp}
 use Rattle.sim_meaning.specs.Entries.{arrays_declared}
 use Rattle.sim_meaning.specs.Statements.{begin_of}
 use Rattle.sim_meaning.specs.Steps.{count}
 use Rattle.sim_meaning.specs.Texts.{text}
 use Rattle.sim_meaning.specs.Sane.{NamesOn, Sane, SaneOn}
-use Rattle.codegen_expr.specs.Sites.{own_part, frame_text}
+use Rattle.codegen_expr.specs.Sites.{frame_text, own_end}
 use Rattle.codegen.specs.Agrees.{is_prefixed}
 use Rattle.codegen.specs.CodeStm.{PrefixedAt}
 use Rattle.sim_relate.proofs.Plainly.{Coding, agreed}
@@ -42,7 +42,7 @@ use Rattle.sim_relate.proofs.Operators as operators
 use Rattle.sim_relate.proofs.Pending.{each_pends, pends}
 use Rattle.sim_relate.proofs.Quiet.{arrays_weight, each_weight, weight}
 use Rattle.sim_relate.proofs.Quiet as quiet_steps
-use Rattle.sim_relate.proofs.Known.{Any, FixedOf, Kind, LinkTo, Located, OwnerOf, Refers, anys, given, more_at, site_at, text_gives, Runs}
+use Rattle.sim_relate.proofs.Known.{Any, FixedOf, Kind, LinkTo, Located, OwnerOf, Refers, anys, given, more_at, site_at, text_gives, Runs, Spot}
 use Rattle.sim_relate.proofs.Relation.{BeginsAt, ChainAt, ChainNow, InStage, NowAt, OpAt, StandingsAt, StateAt, StateNow, StoreAt, WorkAt, WithInnerIs, declares, inner_here, inner_last, stays, with_inner}
 use Rattle.sim_relate.proofs.References as references
 use Rattle.sim_relate.proofs.Settle.{as_act}
@@ -57,7 +57,7 @@ pub data MovesNow (s : Source) (code : CodeOf) (l : Limits) (o : World) (c : Con
   several : Meets (mstep code l) (InEach (StateAt s code)) (step s l o c) o x → MovesNow s code l o c x
   quiet : (c' : Configuration) → step s l o c ≡ Going o c' → StateAt s code c' x → weight s c' < weight s c → MovesNow s code l o c x
 
-module _ (s : Source) (code : CodeOf) (compiled : Coding s code) (l : Limits) (o : World) (m : Instances) (inst : ℕ) (w : List Item) (vals : List Val) (rest : List Activation) (fs : Frames) (t : ℕ) (b : Runs) (pc : ℕ) (stack : List Value) (below : List machine.Activation) (ks : List Kind) (here : Here s code m fs inst rest t b ks vals stack) (u q : ℕ) (ks' : List Kind) (low : length (own_part s (frame_text s t)) ≤ u) (k : WorkAt s code m fs (λ v. ChainAt s code m fs rest v below) inst t b u w q ks') where
+module _ (s : Source) (code : CodeOf) (compiled : Coding s code) (l : Limits) (o : World) (m : Instances) (inst : ℕ) (w : List Item) (vals : List Val) (rest : List Activation) (fs : Frames) (t : ℕ) (b : Runs) (pc : ℕ) (stack : List Value) (below : List machine.Activation) (ks : List Kind) (here : Here s code m fs inst rest t b ks vals stack) (u q : ℕ) (ks' : List Kind) (low : own_end s code (frame_text s t) ≤ u) (k : WorkAt s code m fs (λ v. ChainAt s code m fs rest v below) inst t b u w q ks') where
   abbrev Below : Bool → Type 0
   Below v = ChainAt s code m fs rest v below
 
@@ -237,39 +237,40 @@ module _ (s : Source) (code : CodeOf) (compiled : Coding s code) (l : Limits) (o
   abbrev Moves : Configuration → Machine → Type 0
   Moves c x = MovesNow s code l o c x
 
-  stage_moves : (m : Instances) (inst : ℕ) (w : List Item) (vals : List Val) (rest : List Activation) (fs : Frames) (t : ℕ) (b c : Runs) (pc : ℕ) (stack : List Value) (below : List machine.Activation) (ks : List Kind) (here : Here s code m fs inst rest t b ks vals stack) (u q : ℕ) (ks' : List Kind) (low : length (own_part s (frame_text s t)) ≤ u) (op : Op)
-      → InStage s code (BeginsAt s code m fs inst (site_at t b u)) (site_at t b u) op b c pc q ks ks' → WorkAt s code m fs (λ v. ChainAt s code m fs rest v below) inst t c u w q ks'
+  stage_moves : (m : Instances) (inst : ℕ) (w : List Item) (vals : List Val) (rest : List Activation) (fs : Frames) (t : ℕ) (b : Runs) (c : Spot) (pc : ℕ) (stack : List Value) (below : List machine.Activation) (ks : List Kind) (here : Here s code m fs inst rest t b ks vals stack) (u q : ℕ) (ks' : List Kind) (low : own_end s code (frame_text s t) ≤ u) (op : Op)
+      → InStage s code (BeginsAt s code m fs inst (site_at t b u)) (site_at t b u) op b c pc q ks ks' → WorkAt s code m fs (λ v. ChainAt s code m fs rest v below) inst c.text c.runs c.used w q ks'
       → Moves (record { chain = record { instance = inst; work = Do op ∷ w; values = vals } ∷ rest; memory = m }) (record { chain = act inst pc stack b ∷ below; memory = fs })
-  stage_moves m inst w vals rest fs t b c pc stack below ks here u q ks' low op (stays a same) k = op_moves s code compiled l o m inst w vals rest fs t b pc stack below ks here u q ks' low (subst (λ z. WorkAt s code m fs (λ v. ChainAt s code m fs rest v below) inst t z u w q ks') same k) op a
-  stage_moves m inst w vals rest fs t b c pc stack below ks here u q ks' low op (declares level e g a) k =
+  stage_moves m inst w vals rest fs t b c pc stack below ks here u q ks' low op (stays a same) k = op_moves s code compiled l o m inst w vals rest fs t b pc stack below ks here u q ks' low (subst (λ z. WorkAt s code m fs (λ v. ChainAt s code m fs rest v below) inst z.text z.runs z.used w q ks') same k) op a
+  stage_moves m inst w vals rest fs t b c pc stack below ks here u q ks' low op (declares level e a) k =
       subst (λ z. Moves (record { chain = record { instance = inst; work = Do z ∷ w; values = vals } ∷ rest; memory = m }) (record { chain = act inst pc stack b ∷ below; memory = fs })) (sym e)
-      (both (stages.declared s code l (agreed s code compiled) o m inst w vals rest fs t b pc stack below ks here u q ks' low level c g a k))
-  stage_moves m inst w vals rest fs t b c pc stack below ks here u q ks' low op (inner_last e g a) k =
+      (both (stages.declared s code l compiled o m inst w vals rest fs t b pc stack below ks here u q ks' low level c a k))
+  stage_moves m inst w vals rest fs t b c pc stack below ks here u q ks' low op (inner_last xs e a) k =
       subst (λ z. Moves (record { chain = record { instance = inst; work = Do z ∷ w; values = vals } ∷ rest; memory = m }) (record { chain = act inst pc stack b ∷ below; memory = fs })) (sym e)
-      (both (stages.inner_end s code l (agreed s code compiled) o m inst w vals rest fs t b pc stack below ks here u q ks' low c g a k))
-  stage_moves m inst w vals rest fs t b c pc stack below ks here u q ks' low op (inner_here token e g a) k =
+      (both (stages.inner_done s code l compiled o m inst w vals rest fs t b pc stack below ks here u q ks' low xs c a k))
+  stage_moves m inst w vals rest fs t b c pc stack below ks here u q ks' low op (inner_here token e a) k =
       subst (λ z. Moves (record { chain = record { instance = inst; work = Do z ∷ w; values = vals } ∷ rest; memory = m }) (record { chain = act inst pc stack b ∷ below; memory = fs })) (sym e)
-      (both (stages.inner_statement s code l (agreed s code compiled) o m inst w vals rest fs t b pc stack below ks here u q ks' low token c g a k))
-  stage_moves m inst w vals rest fs t b c pc stack below ks here u q ks' low op (with_inner ss e g a) k =
+      (both (stages.inner_statement s code l compiled o m inst w vals rest fs t b pc stack below ks here u q ks' low token c a k))
+  stage_moves m inst w vals rest fs t b c pc stack below ks here u q ks' low op (with_inner ss e a) k =
       subst (λ z. Moves (record { chain = record { instance = inst; work = Do z ∷ w; values = vals } ∷ rest; memory = m }) (record { chain = act inst pc stack b ∷ below; memory = fs })) (sym e)
       (by ss a)
     where
-      by : (ss : Statements) → WithInnerIs s code (site_at t b u) b.block ss pc q → Moves (record { chain = record { instance = inst; work = Do (Execs ss) ∷ w; values = vals } ∷ rest; memory = m }) (record { chain = act inst pc stack b ∷ below; memory = fs })
+      by : (ss : Statements) → WithInnerIs s code (site_at t b u) b c ss pc q ks ks' → Moves (record { chain = record { instance = inst; work = Do (Execs ss) ∷ w; values = vals } ∷ rest; memory = m }) (record { chain = act inst pc stack b ∷ below; memory = fs })
       by NoStatement a = absurd (a.is)
       by (Also x more) a =
           quiet _ refl (state_at s code u pc (there_of s code here)
-          (stages.with_inner_begun s code l (agreed s code compiled) o m inst w vals rest fs t b pc stack below ks here u q ks' low x more c g a k) refl) (omega arith)
+          (stages.with_inner_begun s code l compiled o m inst w vals rest fs t b pc stack below ks here u q ks' low x more c a k) refl) (omega arith)
 
   work_moves : (m : Instances) (inst : ℕ) (work : List Item) (vals : List Val) (rest : List Activation) (fs : Frames) (t : ℕ) (b : Runs) (pc : ℕ) (stack : List Value) (below : List machine.Activation) (ks : List Kind) (used : ℕ) → Here s code m fs inst rest t b ks vals stack → NowAt s code m fs (λ v. ChainAt s code m fs rest v below) inst t b used work pc ks
       → Moves (record { chain = record { instance = inst; work = work; values = vals } ∷ rest; memory = m }) (record { chain = act inst pc stack b ∷ below; memory = fs })
   work_moves m inst [] vals rest fs t b pc stack below ks used here a = absurd a
   work_moves m inst (Do op ∷ w) vals rest fs t b pc stack below ks used here a =
       let frame = a.5 in
-      stage_moves m inst w vals rest fs a.3 b a.4 pc stack below ks (here_at s code frame here) a.0 a.1 a.2 (subst (λ z. length (own_part s z) ≤ a.0) (sym frame.frame) a.7) op a.8 a.9
-  work_moves m inst (EndBlock ∷ w) vals rest fs t b pc stack below ks used here a = both (ends.end_block s code l o m inst w vals rest fs t b pc stack below ks here used a)
-  work_moves m inst (EndProcedure leaves ∷ w) vals rest fs t b pc stack below ks used here a = both (ends.end_procedure s code l o m inst w vals rest fs t b pc stack below ks here used leaves a)
-  work_moves m inst (EndProgram ∷ w) vals rest fs t b pc stack below ks used here a = both (ends.end_program s code l o m inst w vals rest fs t b pc stack below ks here used a)
-  work_moves m inst (EndObject ∷ w) vals rest fs t b pc stack below ks used here a = both (ends.end_object s code l o m inst w vals rest fs t b pc stack below ks here used a)
+      stage_moves m inst w vals rest fs a.3 b a.4 pc stack below ks (here_at s code frame here) a.0 a.1 a.2 (subst (λ z. own_end s code z ≤ a.0) (sym frame.frame) a.7) op a.8 a.9
+  work_moves m inst (EndBlock ∷ w) vals rest fs t b pc stack below ks used here a = both (ends.end_block s code compiled l o m inst w vals rest fs t b pc stack below ks here used a)
+  work_moves m inst (EndProcedure leaves ∷ w) vals rest fs t b pc stack below ks used here a = both (ends.end_procedure s code compiled l o m inst w vals rest fs t b pc stack below ks here used leaves a)
+  work_moves m inst (EndProgram ∷ w) vals rest fs t b pc stack below ks used here a = both (ends.end_program s code compiled l o m inst w vals rest fs t b pc stack below ks here used a)
+  work_moves m inst (EndObject ∷ w) vals rest fs t b pc stack below ks used here a = both (ends.end_object s code compiled l o m inst w vals rest fs t b pc stack below ks here used a)
+  work_moves m inst (EndLevel level ∷ w) vals rest fs t b pc stack below ks used here a = both (stages.end_level s code l compiled o m inst w vals rest fs t b pc stack below ks here level a.0 a.1 a.2 a.3)
   work_moves m inst (_ ∷ w) vals rest fs t b pc stack below ks used here a = absurd a
 
   chain_moves : (m : Instances) (chain : List Activation) (fs : Frames) (acts : List machine.Activation) → StoreAt s code m fs → StandingsAt s code m fs → SaneOn m chain → NamesOn s m chain → ChainNow s code m fs chain acts → Moves (record { chain = chain; memory = m }) (record { chain = acts; memory = fs })
@@ -277,7 +278,7 @@ module _ (s : Source) (code : CodeOf) (compiled : Coding s code) (l : Limits) (o
   chain_moves m [] fs (y ∷ below) store parked sane names c = absurd (cc (c.is))
   chain_moves m (a ∷ rest) fs [] store parked sane names c = absurd c
   chain_moves m (a ∷ rest) fs (y ∷ below) store parked sane names c =
-      let here : Here s code m fs a.instance rest c.text c.block c.kinds a.values y.stack = record { store = store; parked = parked; lives = sane.0; alone = sane.1; kept_alone = sane.2; names = names; stands = c.stands; found = c.found; values = c.values } in
+      let here : Here s code m fs a.instance rest c.text c.block c.kinds a.values y.stack = record { store = store; parked = parked; lives = sane.0; alone = sane.1; kept_alone = sane.2; names = names; stands = c.stands; own = c.own; roomy = c.roomy; found = c.found; values = c.values } in
       subst (λ z. Moves (record { chain = a ∷ rest; memory = m }) (record { chain = z ∷ below; memory = fs })) (sym (as_act s code l y a.instance c.block c.base c.home c.room c.stage))
       (work_moves m a.instance a.work a.values rest fs c.text c.block y.pc y.stack below c.kinds c.used here c.goes)
 

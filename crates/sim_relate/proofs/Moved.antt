@@ -4,9 +4,9 @@ use Rattle.sim_scope.specs.Source.{Source}
 use Rattle.sim_code.specs.Code.{CodeOf}
 use Rattle.sim_code.specs.Machine.{Frames, Value}
 use Rattle.sim_code.specs.Machine as machine
-use Rattle.sim_meaning.specs.Pending.{Activation, Do, EndBlock, EndObject, EndProcedure, EndProgram, Instances, Item, Val}
+use Rattle.sim_meaning.specs.Pending.{Activation, Do, EndBlock, EndLevel, EndObject, EndProcedure, EndProgram, Instances, Item, Val}
 use Rattle.sim_meaning.specs.Sane.{AllKept, AllOf}
-use Rattle.codegen_expr.specs.Sites.{own_part, frame_text}
+use Rattle.codegen_expr.specs.Sites.{frame_text, own_end}
 use Rattle.sim_relate.proofs.Known.{HandAt, Kind, StackAt, placed, Runs}
 use Rattle.sim_relate.proofs.Relation.{ChainAt, Changed, ComesTo, WorkAt, over, returning, there}
 use Rattle.sim_relate.proofs.Carried.{chain_changed, parked_changed, stack_later, work_later}
@@ -28,21 +28,24 @@ module _ (s : Source) (code : CodeOf) where
   work_more m fs Below inst t b u u' le (EndProcedure v ∷ w) p ks a = (a.0, comes_more fs inst t b u u' (length ks) a.0 p le a.1, a.2)
   work_more m fs Below inst t b u u' le (EndProgram ∷ w) p ks a = (a.0, comes_more fs inst t b u u' (length ks) a.0 p le a.1, a.2)
   work_more m fs Below inst t b u u' le (EndObject ∷ w) p ks a = (a.0, comes_more fs inst t b u u' (length ks) a.0 p le a.1, a.2)
+  work_more m fs Below inst t b u u' le (EndLevel k ∷ w) p ks a = (a.0, a.1, a.2, comes_more fs inst t b u u' (length ks) a.0 p le a.3, a.4, a.5)
   work_more m fs Below inst t b u u' le (_ ∷ w) p ks a = absurd a
 
   module _ {Of : ℕ → Type 0} {m m' : Instances} {fs fs' : Frames} (x : Changed s code Of m fs m' fs') where
     -- where both sides stand then
     pub moved : {inst : ℕ} {rest : List Activation} {t : ℕ} {b : Runs} {ks ks' : List Kind} {vals vals' : List Val} {stack stack' : List Value} → AllKept Of m → Here s code m fs inst rest t b ks vals stack → StackAt (HandAt s code m) ks' vals' stack' → There s code m' fs' inst t b ks' vals' stack'
-    moved {inst} {t = t} {ks' = ks'} {vals' = vals'} {stack' = stack'} all here h = record {
+    moved {inst} {t = t} {b = b} {ks' = ks'} {vals' = vals'} {stack' = stack'} all here h = record {
       store = x.store;
       parked = parked_changed s code x all here.parked;
       stands = (x.later).stands inst t here.stands;
+      own = (x.later).texts inst b.own here.own;
+      roomy = here.roomy;
       found = here.found;
       values = stack_later s code m m' x.later ks' vals' stack' h;
     }
 
     -- the pending work then
-    pub work_moved : {inst : ℕ} {rest : List Activation} {t : ℕ} {b : Runs} {ks : List Kind} {vals : List Val} {stack : List Value} → Here s code m fs inst rest t b ks vals stack → AllOf Of rest → (below : List machine.Activation) (u : ℕ) → ((c : ℕ) → length (own_part s (frame_text s t)) ≤ c → c < u → placed fs' inst c ≡ placed fs inst c)
+    pub work_moved : {inst : ℕ} {rest : List Activation} {t : ℕ} {b : Runs} {ks : List Kind} {vals : List Val} {stack : List Value} → Here s code m fs inst rest t b ks vals stack → AllOf Of rest → (below : List machine.Activation) (u : ℕ) → ((c : ℕ) → own_end s code (frame_text s t) ≤ c → c < length b.block.types → c < u → placed fs' inst c ≡ placed fs inst c)
         → (w : List Item) (p : ℕ) (before : List Kind) → WorkAt s code m fs (λ v. ChainAt s code m fs rest v below) inst t b u w p before → WorkAt s code m' fs' (λ v. ChainAt s code m' fs' rest v below) inst t b u w p before
     work_moved {inst} {rest} {t} {b} here all below u own w p before k =
         work_later s code m m' x.later inst fs fs' (λ v. ChainAt s code m fs rest v below) (λ v. ChainAt s code m' fs' rest v below)

@@ -17,7 +17,7 @@ use Rattle.sim_code.specs.Code.{CodeOf}
 use Rattle.sim_code.specs.Outcome.{Going, Run, World}
 use Rattle.sim_code.specs.Events.{having, no_rule, when}
 use Rattle.sim_code.specs.Instances.{at_level}
-use Rattle.sim_code.specs.Machine.{Frames, Machine, Value, at, index, is_there, is_tick, jumping, level, number, on, pushing}
+use Rattle.sim_code.specs.Machine.{Frames, Machine, Value, index, is_there, is_tick, jumping, level, number, pushing}
 use Rattle.sim_code.specs.Machine as machine
 use Rattle.sim_code.specs.Rows.{code_of, on_top, one_row, row, truth_of, two_row, text_value}
 use Rattle.sim_code.specs.Rows as rows
@@ -27,7 +27,7 @@ use Rattle.sim_meaning.specs.Meaning.{do_op}
 use Rattle.sim_meaning.specs.Pending.{Activation, AgainOp, Cell, Configuration, CopyOp, Do, DropOp, ElementOp, Eval, Given, IfOp, Instances, Item, Key, OneOp, Op, PastOp, Term, TwoOp, Val, array_in, cell, plain, ImageOf, PlaceOf}
 use Rattle.sim_meaning.specs.Pending as meaning
 use Rattle.sim_meaning.specs.Steps.{go}
-use Rattle.codegen_expr.specs.Sites.{Ahead, Is, slot_of, own_part, frame_text}
+use Rattle.codegen_expr.specs.Sites.{Ahead, Is, slot_of, frame_text, own_end}
 use Rattle.codegen_expr.specs.CodeExpr.{one_instr, two_instr}
 use Rattle.sim_relate.proofs.Known.{Any, HandAt, Kind, StackAt, ValAt, anys, array_at, element_at, link_at, more_at, plain_at, site_at, IsImage, image_at, of_input, of_output, Runs}
 use Rattle.sim_relate.proofs.Trees.{OperandAt, TextIs, empty, listed}
@@ -105,12 +105,15 @@ module _ (s : Source) (code : CodeOf) (l : Limits) (o : World) (m : Instances) (
   top = act inst pc stack b
 
   -- a value is pushed where there is room
-  pub room_is : length ks < b.block.room → nat_lt (length stack) b.block.room ≡ true
-  room_is lt = let e = stack_length ks vals stack here.values in grind (arith, lt, e)
+  pub room_is : length ks < b.block.room → nat_lt (length stack) b.room ≡ true
+  room_is lt =
+      let e = stack_length ks vals stack here.values in
+      let roomy = here.roomy in
+      grind (arith, lt, e, roomy)
 
-  pub pushes : (p : World) (x : Value) (r : Run Configuration) (go : List Value → Run Machine) → length ks < b.block.room → Alike R r (go (x ∷ stack)) → Alike R r (pushing b.block.room stack x p go)
+  pub pushes : (p : World) (x : Value) (r : Run Configuration) (go : List Value → Run Machine) → length ks < b.block.room → Alike R r (go (x ∷ stack)) → Alike R r (pushing b.room stack x p go)
   unfolding pushing when
-  pushes p x r go lt h = chosen (λ z. Alike R r z) (nat_lt (length stack) b.block.room) (go (x ∷ stack)) (no_rule p) (room_is lt) h
+  pushes p x r go lt h = chosen (λ z. Alike R r z) (nat_lt (length stack) b.room) (go (x ∷ stack)) (no_rule p) (room_is lt) h
 
   -- jumps
   pub jumps_ahead : (p : World) (q : ℕ) (r : Run Configuration) (go : ℕ → Run Machine) → Ahead code pc q → Alike R r (go q) → Alike R r (jumping code pc (pos q) p go)
@@ -141,7 +144,7 @@ module _ (s : Source) (code : CodeOf) (l : Limits) (o : World) (m : Instances) (
   unfolding index
   alike_indexed n r go h = alike_found Configuration Machine R ℕ (number (pos n)) n o r go refl h
 
-  module _ (u q : ℕ) (ks' : List Kind) (low : length (own_part s (frame_text s t)) ≤ u) (k : WorkAt s code m fs (λ v. ChainAt s code m fs rest v below) inst t b u w q ks') where
+  module _ (u q : ℕ) (ks' : List Kind) (low : own_end s code (frame_text s t) ≤ u) (k : WorkAt s code m fs (λ v. ChainAt s code m fs rest v below) inst t b u w q ks') where
     abbrev pub Follows : Op → Type 0
     Follows op = OpAt s code m fs inst (site_at t b u) op pc q ks ks' → Alike R (do_op s l o m inst w vals rest op) (on_top code l o fs top below)
 

@@ -5,8 +5,8 @@ use Rattle.sim_code.specs.Code.{CodeOf}
 use Rattle.sim_code.specs.Machine.{Frames}
 use Rattle.sim_meaning.specs.Pending.{Do, EndBlock, EndObject, EndProcedure, EndProgram, Eval, Further, Instances, Item, NoTerm, Op, Term, Terms}
 use Rattle.sim_meaning.specs.Steps.{count, each}
-use Rattle.codegen_expr.specs.Sites.{own_part, frame_text}
-use Rattle.sim_relate.proofs.Known.{AllRead, Any, Kind, Runs, SameFrame, anys, leaves_any, leaves_read, site_at}
+use Rattle.codegen_expr.specs.Sites.{frame_text, own_end}
+use Rattle.sim_relate.proofs.Known.{AllRead, Any, Kind, Runs, SameFrame, Spot, anys, leaves_any, leaves_read, site_at, spot}
 use Rattle.sim_relate.proofs.Trees.{OperandAt, ReadsAt, TermsAt}
 use Rattle.sim_relate.proofs.Relation.{EndAt, InStage, OpAt, WorkAt, stays, there}
 use Rattle.sim_relate.proofs.Frames.{same_frame}
@@ -16,13 +16,13 @@ pub anys_more : (n : ℕ) (k : List Kind) → anys n (Any ∷ k) ≡ anys (suc n
 anys_more zero k = refl
 anys_more (suc n) k = ap (λ x. Any ∷ x) (anys_more n k)
 
-module _ (s : Source) (code : CodeOf) (m : Instances) (fs : Frames) (Below : Bool → Type 0) (inst t : ℕ) (b : Runs) (u : ℕ) (low : length (own_part s (frame_text s t)) ≤ u) where
+module _ (s : Source) (code : CodeOf) (m : Instances) (fs : Frames) (Below : Bool → Type 0) (inst t : ℕ) (b : Runs) (u : ℕ) (low : own_end s code (frame_text s t) ≤ u) where
   -- an operator in front of other work
   pub pends : (w : List Item) (op : Op) (p q : ℕ) (ks ks' : List Kind) → OpAt s code m fs inst (site_at t b u) op p q ks ks' → WorkAt s code m fs Below inst t b u w q ks' → WorkAt s code m fs Below inst t b u (Do op ∷ w) p ks
-  pends w op p q ks ks' a k = let same : u ≤ u = omega arith in (p, u, q, ks', t, b, same_frame s t, there refl, same, low, stays a refl, k)
+  pends w op p q ks ks' a k = let same : u ≤ u = omega arith in (p, u, q, ks', t, spot t b u, same_frame s t, there refl, same, low, stays a refl, k)
 
-  -- an operator at its stage, which may stand in another text with the same frames
-  pub pends_in : (w : List Item) (op : Op) (v : ℕ) (c : Runs) (p q : ℕ) (ks ks' : List Kind) → SameFrame s v t → InStage s code (OpAt s code m fs inst (site_at v b u)) (site_at v b u) op b c p q ks ks' → WorkAt s code m fs Below inst v c u w q ks' → WorkAt s code m fs Below inst t b u (Do op ∷ w) p ks
+  -- an operator at its stage, which may stand in another text with the same frames; behind it the work goes on at a spot
+  pub pends_in : (w : List Item) (op : Op) (v : ℕ) (c : Spot) (p q : ℕ) (ks ks' : List Kind) → SameFrame s v t → InStage s code (OpAt s code m fs inst (site_at v b u)) (site_at v b u) op b c p q ks ks' → WorkAt s code m fs Below inst c.text c.runs c.used w q ks' → WorkAt s code m fs Below inst t b u (Do op ∷ w) p ks
   pends_in w op v c p q ks ks' f a k = let same : u ≤ u = omega arith in (p, u, q, ks', v, c, f, there refl, same, low, a, k)
 
   -- an operand in front of other work

@@ -1,4 +1,4 @@
--- What the code of a program says of its tables: they agree with the texts; and no class and no block has a prefix, for which there is no
+-- What the code of a program says of its tables: they agree with the texts; and no block has a prefix, for which there is no
 -- relation yet.
 use Rattle.std.proofs.Common.{◌≡◌, ◌<◌, ℕ, suc, true, false, length, Option, Some, None}
 use Rattle.std.specs.Prelude.{slice_get}
@@ -14,8 +14,8 @@ use Rattle.sim_meaning.specs.Attributes.{first_in, is_connection}
 use Rattle.sim_meaning.specs.Constants.{constants_of}
 use Rattle.sim_meaning.specs.Entries.{numbers_of}
 use Rattle.sim_meaning.specs.Texts.{Text, program_texts, text}
-use Rattle.codegen_expr.specs.Sites.{block_number, is_connected}
-use Rattle.codegen.specs.Agrees.{ProcedureThere, Unprefixed}
+use Rattle.codegen_expr.specs.Sites.{block_number, is_connected, prefix_of}
+use Rattle.codegen.specs.Agrees.{Ends, PrefixThere, ProcedureThere, Unprefixed}
 use Rattle.codegen.specs.Compiled.{CodeHas, Compiled}
 
 pub record Agrees (s : Source) : Type 0 where
@@ -28,6 +28,8 @@ pub record Agrees (s : Source) : Type 0 where
   pub begun : (k : ℕ) → is_connected s.tables k ≡ true → block_around s (first_in (slice_get s.tables.blocks k)) ≡ Some k
   pub owned : (k n : ℕ) (d : DeclNo) → slice_get (numbers_of s k) n ≡ Some d → block_of s d ≡ k
   pub once : (k n m : ℕ) (d : DeclNo) → slice_get (numbers_of s k) n ≡ Some d → slice_get (numbers_of s k) m ≡ Some d → n ≡ m
+  pub prefixes : (k front : ℕ) → prefix_of s.tables k ≡ Some front → PrefixThere s k front
+  pub ends : (k : ℕ) → Ends s.tables (length s.tables.blocks) k
   pub formals : (k n : ℕ) (d : DeclNo) → slice_get (formals_in (slice_get s.tables.blocks k)) n ≡ Some d → (f : Formal) × (entry_of s.tables d ≡ Some (entry.Formal f))
   pub classes : (d : DeclNo) (k : ℕ) → entry_of s.tables d ≡ Some (entry.Class k) → encloser s.tables k ≡ Some (block_of s d)
   pub procedures : (d : DeclNo) (result : Option SimType) (k : ℕ) → entry_of s.tables d ≡ Some (entry.Procedure result k) → ProcedureThere s d result k
@@ -53,6 +55,8 @@ coding s code flat compiled =
         begun = a.begun;
         owned = a.owned;
         once = a.once;
+        prefixes = a.prefixes;
+        ends = a.ends;
         formals = a.formals;
         classes = a.classes;
         procedures = a.procedures;

@@ -16,7 +16,7 @@ use Rattle.sim_meaning.specs.Entries.{arrays_declared, arrays_of, bounds_of, seg
 use Rattle.sim_meaning.specs.Pending.{Activation, DeclareOp, AttributeOf, AttributeOp, CallOp, FitsOf, FitsOp, KeepOp, KeptOf, Key, MemberOf, MemberOp, ObjectOp, QuaOf, QuaOp, QualifiedElementOf, QualifiedElementOp, ReferOp, RemoteCallOf, StoreOp, SwapOp, ToAddress, ToPlace, ToReference, ToReferenceAt, CallOf, Cell, Configuration, CopyOf, CopyOp, Do, Either, ElementOf, ElementOp, ElementsOp, Eval, Exec, Execs, FetchOp, Further, GiveOp, Given, IfOp, ImageOf, Instances, Item, JoinOp, Joined, NoTerm, One, OneOp, Op, PlaceOf, RaiseOp, StandardOf, StandardOp, Target, Term, Terms, Two, TwoOp, Val, ValueAt}
 use Rattle.sim_meaning.specs.Steps.{count, each}
 use Rattle.sim_meaning.specs.Texts.{kind_named, text}
-use Rattle.codegen_expr.specs.Sites.{own_part, frame_text}
+use Rattle.codegen_expr.specs.Sites.{frame_text, own_end}
 use Rattle.sim_relate.proofs.Pending.{anys_more, each_pends, each_reads, evals, pends}
 use Rattle.sim_relate.proofs.Known.{Any, Kind, OwnerOf, Refers, given, leaves_as, text_gives, anys, site_at, AllRead, Runs}
 use Rattle.sim_relate.proofs.Trees.{OperandAt}
@@ -146,7 +146,7 @@ each_weight s m i (Further t ts) w e = refl
 
 -- ---- what is pending then
 
-module _ (s : Source) (code : CodeOf) (m : Instances) (fs : Frames) (Below : Bool → Type 0) (inst t : ℕ) (b : Runs) (u : ℕ) (low : length (own_part s (frame_text s t)) ≤ u) (w : List Item) (p q : ℕ) (ks ks' : List Kind) (k : WorkAt s code m fs Below inst t b u w q ks') where
+module _ (s : Source) (code : CodeOf) (m : Instances) (fs : Frames) (Below : Bool → Type 0) (inst t : ℕ) (b : Runs) (u : ℕ) (low : own_end s code (frame_text s t) ≤ u) (w : List Item) (p q : ℕ) (ks ks' : List Kind) (k : WorkAt s code m fs Below inst t b u w q ks') where
   abbrev Pends : List Item → ℕ → List Kind → Type 0
   Pends x place before = WorkAt s code m fs Below inst t b u x place before
 

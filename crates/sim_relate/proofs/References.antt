@@ -1,6 +1,6 @@
 -- Objects and references: attributes, classes that are tested, and references that are held against their classes.
-use Rattle.std.proofs.Common.{◌≡◌, ◌≤◌, ℕ, suc, Bool, true, false, List, ◌∷◌, length, Option, Some, None, refl, sym, ap, ◌∙◌, subst, arith}
-use Rattle.std.specs.Prelude.{◌==◌, pos, slice_get}
+use Rattle.std.proofs.Common.{◌≡◌, ◌≤◌, ℕ, suc, Bool, true, false, List, ◌∷◌, Option, Some, None, refl, sym, ap, ◌∙◌, subst}
+use Rattle.std.specs.Prelude.{pos, slice_get}
 use Rattle.sim_base.specs.declared.limits.Limits.{Limits}
 use Rattle.sim_scope.specs.Source.{Source, level_of}
 use Rattle.sim_tree.specs.declared.expr.Membership.{Membership}
@@ -27,17 +27,20 @@ use Rattle.sim_meaning.specs.Pending as meaning
 use Rattle.sim_meaning.specs.Sane.{IsObject, LastNames, Names}
 use Rattle.sim_meaning.specs.Steps.{go}
 use Rattle.sim_meaning.specs.Texts.{text}
-use Rattle.codegen_expr.specs.Sites.{block_number, class_number, frame_text, own_part, slot_of}
+use Rattle.codegen_expr.specs.Sites.{block_number, class_number, frame_text, slot_of, own_end}
 use Rattle.sim_relate.proofs.Assigns.{wrote_on}
-use Rattle.sim_relate.proofs.ClassLevels.{class_levels, counts, has_level_flat, in_same, is_same, levelled, number_is}
+use Rattle.sim_relate.proofs.ClassLevels.{class_levels, counts, in_same, is_same, levelled, levels_solid, number_is}
+use Rattle.sim_relate.proofs.Frames.{frame_self}
 use Rattle.sim_relate.proofs.Hands.{hand_finding, hand_popping}
 use Rattle.sim_relate.proofs.Heads.{both_found, is_live_at}
 use Rattle.sim_relate.proofs.Here.{Here, act, at_row, kinds_as}
 use Rattle.sim_relate.proofs.Known.{Any, Every, RefersAt, FixedOf, Located, Refers, is_fixed, kind_unless, HandAt, Kind, Runs, StackAt, Stands, ValAt, anys, array_at, element_at, image_at, link_at, more_at, plain_at, refers_cell, refers_element, site_at}
+use Rattle.sim_relate.proofs.LevelLists.{has_level_is, solid_level}
 use Rattle.sim_relate.proofs.Living.{reached}
 use Rattle.sim_relate.proofs.Operators.{alike_indexed, at_cell, onward, pushes, same_array, same_plain}
 use Rattle.sim_relate.proofs.Pending.{anys_more}
 use Rattle.sim_relate.proofs.Plainly.{Coding}
+use Rattle.sim_relate.proofs.Reach.{stands_as}
 use Rattle.sim_relate.proofs.Relation.{ChainAt, Changed, InstanceAt, OpAt, StateAt, StoreAt, WorkAt}
 use Rattle.sim_relate.proofs.Stores.{cell_write, live_pair}
 use Rattle.sim_relate.proofs.Trees.{AttributeIs, Classed, ConstantIs, FoundIs, ReferenceIs}
@@ -71,15 +74,15 @@ module _ (s : Source) (code : CodeOf) (coding : Coding s code) (m : Instances) (
   is_of_same j k x c =
       is_same s code coding fs j x.instance.text k x.frame x.lives x.number x.levels (class_levels s code coding k c) ∙ ap (λ o. Some (text_is k o)) (sym (text_is_at j x))
 
-  equal_when : (a b : ℕ) → (a == b) ≡ true → a ≡ b
-  equal_when a b e = grind (arith, e)
-
-  -- where no class has a prefix it is of the text itself
-  pub of_text : (j u : ℕ) → ObjectHere j → is_in s m u j ≡ true → Stands s m j u
+  -- it stands for each of its levels
+  of_text : (j u : ℕ) → ObjectHere j → is_in s m u j ≡ true → Stands s m j u
   unfolding is_in
   of_text j u x e =
-      let same : x.instance.text ≡ u = equal_when x.instance.text u (sym (has_level_flat s code coding x.instance.text u x.levels) ∙ sym (ap (text_is_in s u) (text_is_at j x)) ∙ e) in
-      subst (λ z. Stands s m j z) same (store.all j x.instance x.there)
+      let own = x.instance.text in
+      let solid = levels_solid s code coding own x.levels in
+      let level = has_level_is s coding.agrees own u (sym (ap (text_is_in s u) (text_is_at j x)) ∙ e) solid in
+      let is = frame_self s coding.agrees u (solid_level s coding.agrees own u level solid) in
+      stands_as s m coding.agrees j own u (text_is_at j x) (store.all j x.instance x.there) level is (frame_self s coding.agrees own solid)
 
   -- a class has a number, which names it
   pub class_named : (k : ℕ) → Classed s k → classes.class_named code (pos (class_number s code k)) ≡ Some (class_number s code k)
@@ -88,7 +91,7 @@ module _ (s : Source) (code : CodeOf) (coding : Coding s code) (m : Instances) (
       let e = number_is s code coding k x in
       ap (λ n. classes.if_there (class_number s code k) (classes.class_numbered code n)) e ∙ ap (classes.if_there (class_number s code k)) (x.is).numbered
 
-module _ (s : Source) (code : CodeOf) (coding : Coding s code) (l : Limits) (o : World) (m : Instances) (inst : ℕ) (w : List Item) (vals : List Val) (rest : List Activation) (fs : Frames) (t : ℕ) (b : Runs) (pc : ℕ) (stack : List Value) (below : List machine.Activation) (ks : List Kind) (here : Here s code m fs inst rest t b ks vals stack) (u q : ℕ) (ks' : List Kind) (low : length (own_part s (frame_text s t)) ≤ u) (k : WorkAt s code m fs (λ v. ChainAt s code m fs rest v below) inst t b u w q ks') where
+module _ (s : Source) (code : CodeOf) (coding : Coding s code) (l : Limits) (o : World) (m : Instances) (inst : ℕ) (w : List Item) (vals : List Val) (rest : List Activation) (fs : Frames) (t : ℕ) (b : Runs) (pc : ℕ) (stack : List Value) (below : List machine.Activation) (ks : List Kind) (here : Here s code m fs inst rest t b ks vals stack) (u q : ℕ) (ks' : List Kind) (low : own_end s code (frame_text s t) ≤ u) (k : WorkAt s code m fs (λ v. ChainAt s code m fs rest v below) inst t b u w q ks') where
   abbrev R : Configuration → Machine → Type 0
   R = StateAt s code
 
@@ -317,7 +320,7 @@ module _ (s : Source) (code : CodeOf) (coding : Coding s code) (l : Limits) (o :
   meaning_refers line v p vals2 = having (place_in v) o (λ place. putting_reference s line place p o m (λ o m. go o m inst w vals2 rest))
 
   abbrev machine_refers : (line : ℕ) → Value → Plain → List Value → Run Machine
-  machine_refers line x p stack2 = having (machine.place_in x) o (λ place. rows.storing code line place (machine.Of p) o fs (λ o m. machine.on o m top stack2 below))
+  machine_refers line x p stack2 = having (machine.variable_in x) o (λ place. rows.storing code line place (machine.Of p) o fs (λ o m. machine.on o m top stack2 below))
 
   refers_to : (line c : ℕ) → Classed s c → (p : Plain) → Names s m (meaning.Of p) → (v : Val) (x : Value) (vals2 : List Val) (stack2 : List Value) → RefersAt s code m c v x → StackAt (HandAt s code m) ks' vals2 stack2 → q ≡ suc pc → Alike R (meaning_refers line v p vals2) (machine_refers line x p stack2)
   unfolding having putting_reference rows.putting
@@ -329,7 +332,7 @@ module _ (s : Source) (code : CodeOf) (coding : Coding s code) (l : Limits) (o :
       admitting_on c line h p n _ _ (alike_same Configuration Machine R World (element_set o a e p) o _ _ (λ p. on_with hs refl place))
 
   refers_on : (line c : ℕ) → Classed s c → (v : Val) (x : Value) (vals1 : List Val) (stack1 : List Value) → ValAt v x → Names s m v → StackAt (HandAt s code m) (Refers c ∷ ks') vals1 stack1 → q ≡ suc pc
-      → Alike R (having (plain v) o (λ p. popping vals1 o (λ v vals2. meaning_refers line v p vals2))) (popping stack1 o (λ p stack2. having (machine.place_in p) o (λ place. rows.storing code line place x o fs (λ o m. machine.on o m top stack2 below))))
+      → Alike R (having (plain v) o (λ p. popping vals1 o (λ v vals2. meaning_refers line v p vals2))) (popping stack1 o (λ p stack2. having (machine.variable_in p) o (λ place. rows.storing code line place x o fs (λ o m. machine.on o m top stack2 below))))
   unfolding having
   refers_on line c h _ _ vals1 stack1 (plain_at {p}) n h1 place =
       hand_popping Configuration Machine R Val Value (HandAt s code m) plain machine.plain same_plain (Refers c) ks' vals1 stack1 o _ _ h1

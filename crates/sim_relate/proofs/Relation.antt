@@ -1,6 +1,6 @@
 -- Which states of the machine stand for which states of a program.
 use Rattle.std.proofs.Common.{◌≡◌, ◌≢◌, ◌<◌, ◌≤◌, ◌*◌, ℕ, suc, Bool, true, false, List, [], ◌∷◌, length, Option, Some, None}
-use Rattle.std.specs.Prelude.{⊤, pos, slice_get}
+use Rattle.std.specs.Prelude.{⊤, drop, pos, slice_get}
 use Rattle.sim_chains.specs.Components.{AttachedObject, DetachedObject, NoObject, ResumedObject, Standing, TerminatedObject}
 use Rattle.sim_scope.specs.Access.{encloser}
 use Rattle.sim_scope.specs.Source.{Source, block_around, level_of}
@@ -25,20 +25,20 @@ use Rattle.sim_code.specs.Instances.{Instance}
 use Rattle.sim_code.specs.Machine.{Frames, Machine, Value, Cells, joined}
 use Rattle.sim_code.specs.Machine as machine
 use Rattle.sim_code.proofs.Lifts.{Both}
-use Rattle.sim_meaning.specs.Levels.{is_class}
-use Rattle.sim_meaning.specs.Pending.{Activation, AgainOp, ArrayOp, AttributeOp, BackOp, BranchOp, CallOp, ChooseOp, Configuration, ConnectOp, CopyOp, DeclareOp, Do, DropOp, ElementOp, ElementsOp, EndBlock, EndObject, EndProcedure, EndProgram, EnterOp, Eval, Exec, Execs, FetchOp, FitsOp, GiveOp, Held, IfOp, InnerOp, Instances, Item, JoinOp, KeepOp, Key, LevelOp, MemberOp, NewOp, ObjectOp, OneOp, Op, PastOp, PrefixedOp, QuaOp, QualifiedElementOp, RaiseOp, ReferOp, ShareOp, StandardOp, StepOp, StepTestOp, StoreOp, SwapOp, Target, Term, TestOp, ToAddress, ToCell, ToPlace, ToReference, ToReferenceAt, ToText, ToTextAt, ToTextOf, TwoOp, Val, WhenOp, WhileElementOp, held}
+use Rattle.sim_meaning.specs.Levels.{is_class, levels_made, levels_of, text_at}
+use Rattle.sim_meaning.specs.Pending.{Activation, AgainOp, ArrayOp, AttributeOp, BackOp, BranchOp, CallOp, ChooseOp, Configuration, ConnectOp, CopyOp, DeclareOp, Do, DropOp, ElementOp, ElementsOp, EndBlock, EndLevel, EndObject, EndProcedure, EndProgram, EnterOp, Eval, Exec, Execs, FetchOp, FitsOp, GiveOp, Held, IfOp, InnerOp, Instances, Item, JoinOp, KeepOp, Key, Level, LevelOp, MemberOp, NewOp, ObjectOp, OneOp, Op, PastOp, PrefixedOp, QuaOp, QualifiedElementOp, RaiseOp, ReferOp, ShareOp, StandardOp, StepOp, StepTestOp, StoreOp, SwapOp, Target, Term, TestOp, ToAddress, ToCell, ToPlace, ToReference, ToReferenceAt, ToText, ToTextAt, ToTextOf, TwoOp, Val, WhenOp, WhileElementOp, held}
 use Rattle.sim_meaning.specs.Entries.{formals_of}
 use Rattle.sim_meaning.specs.Meaning.{has_result}
 use Rattle.sim_meaning.specs.Statements.{has_value}
 use Rattle.sim_meaning.specs.Texts.{BlockText, ProcedureText, text}
 use Rattle.sim_meaning.specs.Texts as Texts
-use Rattle.codegen_expr.specs.Sites.{Ahead, At, HasCell, Is, LoopAt, Pushes, Site, block_in_front, block_number, class_number, frame_text, is_connected, own_part, place_of, slot_of, start_of}
+use Rattle.codegen_expr.specs.Sites.{Ahead, At, HasCell, Is, LevelOf, LoopAt, Pushes, Site, block_number, class_number, frame_text, own_end, place_of, slot_of}
 use Rattle.codegen_expr.specs.CodeExpr.{ExprAt, PlaceAt, ReferencePlaceAt, StandardIs, member_instr, one_instr, two_instr}
 use Rattle.codegen.specs.CodeArrays.{ArraysAt, element_number}
 use Rattle.codegen.specs.CodeFor.{ElementsAt, OfCell, OfPlace, OfReference, ReturnsAt, StepAt, TurnAt, Variable, WhileElementAt}
 use Rattle.codegen.specs.CodeStm.{ArmsAt, ConnectsAt, StmAt, StmsAt, WithInnerAt}
 use Rattle.codegen.specs.Compiled.{RecordOf, type_of_name}
-use Rattle.sim_relate.proofs.Known.{AllRead, Any, HandAt, IsLink, IsRead, Keeps, Kind, Later, LinkTo, OwnerOf, Reaches, Refers, Runs, SameFrame, SlotAt, StackAt, Stands, ValAt, anys, at_stage, attribute_kind, given, is_declared, is_fixed, place_target, placed, reads, site_at, variable_target, LeavesIs}
+use Rattle.sim_relate.proofs.Known.{AllRead, Any, HandAt, IsLink, IsRead, IsTemp, Keeps, Kind, Later, LinkTo, OwnerOf, Reaches, Refers, Runs, SameFrame, SlotAt, Spot, StackAt, Stands, ValAt, anys, at_stage, attribute_kind, given, is_declared, is_fixed, place_target, placed, reads, site_at, spot, variable_target, LeavesIs}
 use Rattle.sim_relate.proofs.Trees.{Classed, JoinsIs, ProcedureIs, FoundIs, FetchesAt, FitsIs, TermAt, OperandAt}
 
 module _ (s : Source) (code : CodeOf) where
@@ -214,7 +214,7 @@ module _ (s : Source) (code : CodeOf) where
 
   -- a temp of the frame: it stands behind the own part of the text
   pub record TempIs (site : Site) (temp : ℕ) : Type 0 where
-    pub behind : length (own_part s (frame_text s site.text)) ≤ temp
+    pub behind : own_end s code (frame_text s site.text) ≤ temp
     pub within : temp < site.size
 
   -- what is in a temp goes to one left side after another
@@ -451,57 +451,96 @@ module _ (s : Source) (code : CodeOf) where
 
   -- ---- stages
 
-  -- the class of a block without a prefix
-  pub record ClassHere (b : BlockOf) (class : ClassOf) : Type 0 where
-    pub of_objects : b.kind ≡ block_kind.Object
-    pub numbered : class_numbered code b.class ≡ Some class
-    pub first : class.prefix ≡ 0
+  -- A level of an instance, counted from the outermost one: its text, the record of its block, and that of its class.
+  pub record LevelIs (b : Runs) (text place : ℕ) (block : BlockOf) (class : ClassOf) : Type 0 where
+    pub level : LevelOf s.tables b.own text
+    pub has_class : is_class (Texts.text s text) ≡ true
+    pub place_is : slice_get (levels_of s b.own) place ≡ Some text
+    pub frame : frame_text s text ≡ text
+    pub found : slice_get code.blocks (block_number s text) ≡ Some block
+    pub numbered : class_numbered code (class_number s code text) ≡ Some class
+    pub roomy : block.room ≤ b.room
+    -- all levels have room
+    pub own_roomy : (x : BlockOf) → slice_get code.blocks (block_number s b.own) ≡ Some x → x.room ≤ b.room
 
-  -- all declarations are made, and the statements begin
-  pub record DeclaredIs (b : BlockOf) (p q : ℕ) : Type 0 where
-    pub behind : ℕ
-    pub is : Is code (i.NextDecl (pos 0)) p behind
+  -- at a level and a stage, with no temp in use
+  abbrev pub at_level : Runs → (text : ℕ) → BlockOf → Stage → Spot
+  at_level b k block stage = spot k (record b { block = block; stage = stage }) (own_end s code k)
+
+  -- The declarations of a level are made: those of the next one follow, or behind the last one the statements of the first one.
+  pub record NextIs (b : Runs) (place : ℕ) (c : Spot) (q : ℕ) : Type 0 where
+    pub text : ℕ
+    pub block : BlockOf
     pub class : ClassOf
-    pub has : ClassHere b class
+    pub level : LevelIs b text (suc place) block class
+    pub leads : class.declarations ≡ q
+    pub goes_on : c ≡ at_level b text block (stage.Declaring (suc place))
+
+  pub record FirstIs (b : Runs) (place : ℕ) (c : Spot) (q : ℕ) : Type 0 where
+    pub last : slice_get (levels_of s b.own) (suc place) ≡ None
+    pub text : ℕ
+    pub block : BlockOf
+    pub class : ClassOf
+    pub level : LevelIs b text 0 block class
     pub leads : class.statements ≡ q
+    pub goes_on : c ≡ at_level b text block (stage.Stating 0)
+
+  pub data DeclaredTo (b : Runs) (place : ℕ) (c : Spot) (q : ℕ) : Type 0 where
+    to_next : NextIs b place c q → DeclaredTo b place c q
+    to_first : FirstIs b place c q → DeclaredTo b place c q
+
+  pub record DeclaredIs (b : Runs) (c : Spot) (p q : ℕ) (before behind : List Kind) : Type 0 where
+    pub place : ℕ
+    pub was : b.stage ≡ stage.Declaring place
+    pub on : ℕ
+    pub is : Is code (i.NextDecl (pos place)) p on
     pub there : q < length code.instrs
-
-  -- there is no level inside
-  pub record InnerIs (b : BlockOf) (p q : ℕ) : Type 0 where
-    pub is : Is code (i.Inner (pos 0)) p q
-    pub class : ClassOf
-    pub has : ClassHere b class
-
-  -- `inner` itself, in the level of a text
-  pub record InnerHere (site : Site) (b : BlockOf) (token p q : ℕ) : Type 0 where
-    pub x : ℕ
-    pub tick : Is code i.Tick p x
-    pub inner : InnerIs b x q
-    pub its_own : block_around s token ≡ Some site.text
-    pub level : is_connected s.tables site.text ≡ false
-
-  -- statements one of which is `inner`
-  pub record WithInnerIs (site : Site) (b : BlockOf) (ss : Statements) (p q : ℕ) : Type 0 where
-    pub after : ℕ
-    pub is : WithInnerAt s code site 0 after ss p q
-    pub class : ClassOf
-    pub has : ClassHere b class
-    pub level : is_connected s.tables site.text ≡ false
-
-  -- from one stage to the next, with nothing in hand
-  pub record NextStage (b c : Runs) (old new : Stage) (before behind : List Kind) : Type 0 where
-    pub was : b.stage ≡ old
-    pub is : c ≡ at_stage b.block new
+    pub to : DeclaredTo b place c q
     pub none : before ≡ []
     pub none_behind : behind ≡ []
 
-  -- An operator leaves the stage as it is, or it is one of those that go to the next one.
-  pub data InStage (Stays : Op → (p q : ℕ) → (before behind : List Kind) → Type 0) (site : Site) (op : Op) (b c : Runs) (p q : ℕ) (before behind : List Kind) : Type 0 where
-    stays : Stays op p q before behind → c ≡ b → InStage Stays site op b c p q before behind
-    declares : (k : ℕ) → op ≡ LevelOp k → NextStage b c (stage.Declaring 0) (stage.Stating 0) before behind → DeclaredIs b.block p q → InStage Stays site op b c p q before behind
-    inner_last : op ≡ InnerOp [] → NextStage b c (stage.Stating 0) (stage.Behind 0) before behind → InnerIs b.block p q → InStage Stays site op b c p q before behind
-    inner_here : (token : ℕ) → op ≡ Exec (syntax.Inner token) → NextStage b c (stage.Stating 0) (stage.Behind 0) before behind → InnerHere site b.block token p q → InStage Stays site op b c p q before behind
-    with_inner : (ss : Statements) → op ≡ Execs ss → NextStage b c (stage.Stating 0) (stage.Behind 0) before behind → WithInnerIs site b.block ss p q → InStage Stays site op b c p q before behind
+  -- The level of a text in which `inner` is reached: control goes on behind it at another stage, with nothing in hand.
+  pub record AtLevel (site : Site) (b : Runs) (c : Spot) (place after : ℕ) (before behind : List Kind) : Type 0 where
+    pub was : b.stage ≡ stage.Stating place
+    pub class : ClassOf
+    pub level : LevelIs b site.text place b.block class
+    pub leads : class.after_inner ≡ after
+    pub there : after < length code.instrs
+    pub low : site.used ≡ own_end s code site.text
+    pub goes_on : c ≡ spot site.text (at_stage b (stage.Behind place)) site.used
+    pub none : before ≡ []
+    pub none_behind : behind ≡ []
+
+  -- the statements of these levels are those inside
+  pub record InnerIs (site : Site) (b : Runs) (c : Spot) (xs : List Level) (p q : ℕ) (before behind : List Kind) : Type 0 where
+    pub place : ℕ
+    pub at : AtLevel site b c place q before behind
+    pub is : Is code (i.Inner (pos place)) p q
+    pub inside : levels_made s (drop (suc place) (levels_of s b.own)) ≡ Some xs
+
+  -- `inner` itself, in the level of a text
+  pub record InnerHere (site : Site) (b : Runs) (c : Spot) (token p q : ℕ) (before behind : List Kind) : Type 0 where
+    pub place : ℕ
+    pub at : AtLevel site b c place q before behind
+    pub x : ℕ
+    pub tick : Is code i.Tick p x
+    pub is : Is code (i.Inner (pos place)) x q
+    pub its_own : block_around s token ≡ Some site.text
+
+  -- statements one of which is `inner`
+  pub record WithInnerIs (site : Site) (b : Runs) (c : Spot) (ss : Statements) (p q : ℕ) (before behind : List Kind) : Type 0 where
+    pub place : ℕ
+    pub after : ℕ
+    pub at : AtLevel site b c place after before behind
+    pub is : WithInnerAt s code site place after ss p q
+
+  -- An operator leaves level and stage as they are, or it is one of those that go to the next one.
+  pub data InStage (Stays : Op → (p q : ℕ) → (before behind : List Kind) → Type 0) (site : Site) (op : Op) (b : Runs) (c : Spot) (p q : ℕ) (before behind : List Kind) : Type 0 where
+    stays : Stays op p q before behind → c ≡ spot site.text b site.used → InStage Stays site op b c p q before behind
+    declares : (k : ℕ) → op ≡ LevelOp k → DeclaredIs b c p q before behind → InStage Stays site op b c p q before behind
+    inner_last : (xs : List Level) → op ≡ InnerOp xs → InnerIs site b c xs p q before behind → InStage Stays site op b c p q before behind
+    inner_here : (token : ℕ) → op ≡ Exec (syntax.Inner token) → InnerHere site b c token p q before behind → InStage Stays site op b c p q before behind
+    with_inner : (ss : Statements) → op ≡ Execs ss → WithInnerIs site b c ss p q before behind → InStage Stays site op b c p q before behind
 
   -- ---- pending work
 
@@ -527,13 +566,36 @@ module _ (s : Source) (code : CodeOf) where
     pub same : has_result result ≡ leaves
     pub ends : Ends result
 
+  -- the end of an object
+  pub record ObjectEnds (b : Runs) (p : ℕ) (before : List Kind) (Below : Type 0) : Type 0 where
+    pub not_first : block_number s b.own ≢ 0
+    pub was : b.stage ≡ stage.Behind 0
+    pub block : BlockOf
+    pub found : slice_get code.blocks (block_number s b.own) ≡ Some block
+    pub ends : EndIs (i.EndLevel (pos 0)) block_kind.Object type.Nothing b.own block p before Below
+
+  -- The end of a level inside another one: control goes on behind `inner` of that.
+  pub record LevelEnds (b : Runs) (c : Spot) (p q : ℕ) (before : List Kind) : Type 0 where
+    pub place : ℕ
+    pub was : b.stage ≡ stage.Behind (suc place)
+    pub is_at : ℕ
+    pub is : Is code (i.EndLevel (pos (suc place))) p is_at
+    pub block : BlockOf
+    pub class : ClassOf
+    pub text : ℕ
+    pub level : LevelIs b text place block class
+    pub leads : class.after_inner ≡ q
+    pub there : q < length code.instrs
+    pub goes_on : c ≡ at_level b text block (stage.Behind place)
+    pub none : before ≡ []
+
   -- the end of a text
   abbrev pub EndAt : (Below : Bool → Type 0) → (t : ℕ) → Runs → Item → (p : ℕ) → (before : List Kind) → Type 0
   EndAt Below t b (Do op) p before = ⊥
   EndAt Below t b EndBlock p before = BlockEnds t × EndIs i.Leave block_kind.SubBlock type.Nothing t b.block p before (Below false)
   EndAt Below t b (EndProcedure leaves) p before = ProcedureEnds t leaves (λ result. EndIs i.Return block_kind.Procedure (type_of_name result) t b.block p before (Below leaves))
   EndAt Below t b EndProgram p before = (t ≡ 0) × EndIs (i.EndLevel (pos 0)) block_kind.SubBlock type.Nothing t b.block p before (Below false)
-  EndAt Below t b EndObject p before = (block_number s t ≢ 0) × (b.stage ≡ stage.Behind 0) × EndIs (i.EndLevel (pos 0)) block_kind.Object type.Nothing t b.block p before (Below false)
+  EndAt Below t b EndObject p before = ObjectEnds b p before (Below false)
   EndAt Below t b _ p before = ⊥
 
   -- an operator in its own place
@@ -543,27 +605,30 @@ module _ (s : Source) (code : CodeOf) where
 
   -- The pending work of an instance at the text t, whose block is b, from the place p on, where cells and temps up to `used` are in use. An
   -- operator may use more of them than those behind it, and no fewer than the text has cells; it may stand in another text whose frames are
-  -- these, as in a connection. `Below` tells of what is below on the chain, and whether that waits for a value.
+  -- these, as in a connection. Behind it the work may go on at another level or stage. `Below` tells of what is below on the chain, and whether that waits for a value.
   abbrev pub WorkAt : Instances → Frames → (Below : Bool → Type 0) → (inst t : ℕ) → Runs → (used : ℕ) → List Item → (p : ℕ) → (before : List Kind) → Type 0
   WorkAt m fs Below inst t b used [] p before = ⊥
   WorkAt m fs Below inst t b used (Do op ∷ w) p before =
-      (at : ℕ) × (u : ℕ) × (q : ℕ) × (behind : List Kind) × (v : ℕ) × (c : Runs) × SameFrame s v t × ComesTo fs inst t b used (length before) at p × (u ≤ used) × (length (own_part s (frame_text s t)) ≤ u)
-      × InStage (OpAt m fs inst (site_at v b u)) (site_at v b u) op b c at q before behind × WorkAt m fs Below inst v c u w q behind
+      (at : ℕ) × (u : ℕ) × (q : ℕ) × (behind : List Kind) × (v : ℕ) × (c : Spot) × SameFrame s v t × ComesTo fs inst t b used (length before) at p × (u ≤ used) × (own_end s code (frame_text s t) ≤ u)
+      × InStage (OpAt m fs inst (site_at v b u)) (site_at v b u) op b c at q before behind × WorkAt m fs Below inst c.text c.runs c.used w q behind
   WorkAt m fs Below inst t b used (EndBlock ∷ w) p before = (at : ℕ) × ComesTo fs inst t b used (length before) at p × EndAt Below (frame_text s t) b EndBlock at before
   WorkAt m fs Below inst t b used (EndProcedure leaves ∷ w) p before = (at : ℕ) × ComesTo fs inst t b used (length before) at p × EndAt Below (frame_text s t) b (EndProcedure leaves) at before
   WorkAt m fs Below inst t b used (EndProgram ∷ w) p before = (at : ℕ) × ComesTo fs inst t b used (length before) at p × EndAt Below (frame_text s t) b EndProgram at before
   WorkAt m fs Below inst t b used (EndObject ∷ w) p before = (at : ℕ) × ComesTo fs inst t b used (length before) at p × EndAt Below (frame_text s t) b EndObject at before
+  WorkAt m fs Below inst t b used (EndLevel k ∷ w) p before =
+      (at : ℕ) × (q : ℕ) × (c : Spot) × ComesTo fs inst t b used (length before) at p × LevelEnds b c at q before × WorkAt m fs Below inst c.text c.runs c.used w q []
   WorkAt m fs Below inst t b used (_ ∷ w) p before = ⊥
 
   -- The same where control has come to the first part, which a statement begins in its own place.
   abbrev pub NowAt : Instances → Frames → (Below : Bool → Type 0) → (inst t : ℕ) → Runs → (used : ℕ) → List Item → (p : ℕ) → (before : List Kind) → Type 0
   NowAt m fs Below inst t b used [] p before = ⊥
   NowAt m fs Below inst t b used (Do op ∷ w) p before =
-      (u : ℕ) × (q : ℕ) × (behind : List Kind) × (v : ℕ) × (c : Runs) × SameFrame s v t × (u ≤ used) × (length (own_part s (frame_text s t)) ≤ u) × InStage (BeginsAt m fs inst (site_at v b u)) (site_at v b u) op b c p q before behind × WorkAt m fs Below inst v c u w q behind
+      (u : ℕ) × (q : ℕ) × (behind : List Kind) × (v : ℕ) × (c : Spot) × SameFrame s v t × (u ≤ used) × (own_end s code (frame_text s t) ≤ u) × InStage (BeginsAt m fs inst (site_at v b u)) (site_at v b u) op b c p q before behind × WorkAt m fs Below inst c.text c.runs c.used w q behind
   NowAt m fs Below inst t b used (EndBlock ∷ w) p before = EndAt Below (frame_text s t) b EndBlock p before
   NowAt m fs Below inst t b used (EndProcedure leaves ∷ w) p before = EndAt Below (frame_text s t) b (EndProcedure leaves) p before
   NowAt m fs Below inst t b used (EndProgram ∷ w) p before = EndAt Below (frame_text s t) b EndProgram p before
   NowAt m fs Below inst t b used (EndObject ∷ w) p before = EndAt Below (frame_text s t) b EndObject p before
+  NowAt m fs Below inst t b used (EndLevel k ∷ w) p before = (q : ℕ) × (c : Spot) × LevelEnds b c p q before × WorkAt m fs Below inst c.text c.runs c.used w q []
   NowAt m fs Below inst t b used (_ ∷ w) p before = ⊥
 
   -- ---- chains
@@ -576,11 +641,13 @@ module _ (s : Source) (code : CodeOf) where
     pub block : Runs
     pub found : slice_get code.blocks (block_number s (frame_text s text)) ≡ Some block.block
     pub stands : Stands s m a.instance text
-    pub room : x.room ≡ block.block.room
+    pub own : text_at m a.instance ≡ Some block.own
+    pub roomy : block.block.room ≤ block.room
+    pub room : x.room ≡ block.room
     pub stage : x.stage ≡ block.stage
     pub kinds : List Kind
     pub values : StackAt (HandAt s code m) kinds a.values x.stack
-    pub fits : waits ≡ true → length kinds < block.block.room
+    pub fits : waits ≡ true → length kinds < block.room
     pub used : ℕ
     pub goes : Work text block used x.pc (given waits kinds)
 
@@ -601,6 +668,16 @@ module _ (s : Source) (code : CodeOf) where
 
   -- ---- stores
 
+  -- How the frames of a text are laid out: the cells of its levels have slots of their own, apart from the temps of all levels, and each frame
+  -- has room for those of all levels.
+  pub record Laid (own : ℕ) : Type 0 where
+    pub one_level : (t u : ℕ) (key : Key) → LevelOf s.tables own t → LevelOf s.tables own u → HasCell s t key → HasCell s u key → t ≡ u
+    pub one_key : (t u : ℕ) (k l : Key) → LevelOf s.tables own t → LevelOf s.tables own u → HasCell s t k → HasCell s u l → slot_of s code t k ≡ slot_of s code u l → k ≡ l
+    pub apart : (t u temp : ℕ) (k : Key) (b : BlockOf) → LevelOf s.tables own t → LevelOf s.tables own (frame_text s u) → HasCell s t k → slice_get code.blocks (block_number s (frame_text s u)) ≡ Some b → IsTemp s code u temp b → slot_of s code t k ≢ temp
+    pub fits : (t : ℕ) (k : Key) (b : BlockOf) → LevelOf s.tables own t → HasCell s t k → slice_get code.blocks (block_number s own) ≡ Some b → slot_of s code t k < length b.types
+    pub longer : (t : ℕ) (x b : BlockOf) → LevelOf s.tables own t → slice_get code.blocks (block_number s t) ≡ Some x → slice_get code.blocks (block_number s own) ≡ Some b → length x.types ≤ length b.types
+    pub block : (b : BlockOf) × (slice_get code.blocks (block_number s own) ≡ Some b)
+
   -- an instance and its frame
   pub record InstanceAt (x : Instance (List Held)) (y : Instance Cells) : Type 0 where
     pub number : y.text ≡ block_number s x.text
@@ -610,12 +687,10 @@ module _ (s : Source) (code : CodeOf) where
     pub kept : y.kept ≡ x.kept
     pub given_back : y.given_back ≡ x.given_back
     pub own : frame_text s x.text ≡ x.text
-    pub start : start_of s code x.text ≡ 0
-    pub alone : block_in_front s code x.text ≡ None
-    -- each cell, by its key; those that are declared are there
-    pub cells : (key : Key) → HasCell s x.text key → SlotAt s (is_fixed s key) key (held key x.cells) (joined (slice_get y.cells (slot_of s code x.text key)))
-    pub there : (key : Key) → HasCell s x.text key → is_declared key ≡ true → place_of key x.cells < length x.cells
-    pub fits : length (own_part s x.text) ≤ length y.cells
+    pub laid : Laid x.text
+    -- each cell of each level, by its key; those that are declared are there
+    pub cells : (t : ℕ) (key : Key) → LevelOf s.tables x.text t → HasCell s t key → SlotAt s (is_fixed s key) key (held key x.cells) (joined (slice_get y.cells (slot_of s code t key)))
+    pub there : (t : ℕ) (key : Key) → LevelOf s.tables x.text t → HasCell s t key → is_declared key ≡ true → place_of key x.cells < length x.cells
     pub size : (b : BlockOf) → slice_get code.blocks (block_number s x.text) ≡ Some b → length y.cells ≡ length b.types
 
   pub record StoreAt (m : Instances) (fs : Frames) : Type 0 where
@@ -641,7 +716,7 @@ module _ (s : Source) (code : CodeOf) where
   pub record Changed (Of : ℕ → Type 0) (m : Instances) (fs : Frames) (m' : Instances) (fs' : Frames) : Type 0 where
     pub store : StoreAt m' fs'
     pub later : Later s m m'
-    pub keeps : Keeps s m fs fs' Of
+    pub keeps : Keeps s code m fs fs' Of
     pub standings : m'.standings ≡ m.standings
     pub frame_standings : fs'.standings ≡ fs.standings
 

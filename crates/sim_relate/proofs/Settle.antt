@@ -18,12 +18,12 @@ use Rattle.sim_code.specs.Instances.{at_level}
 use Rattle.sim_code.specs.Machine.{Frames, Machine, Value, at, index, is_there, is_tick, jumping, level, on, pushing}
 use Rattle.sim_code.specs.Machine as machine
 use Rattle.sim_code.specs.Rows.{mstep, pushed, row}
-use Rattle.sim_meaning.specs.Pending.{Activation, Configuration, Do, EndBlock, EndObject, EndProcedure, EndProgram, Exec, Instances, Item, Op}
+use Rattle.sim_meaning.specs.Pending.{Activation, Configuration, Do, EndBlock, EndLevel, EndObject, EndProcedure, EndProgram, Exec, Instances, Item, Op}
 use Rattle.sim_meaning.specs.Pending as meaning
 use Rattle.sim_meaning.specs.Sane.{NamesOn, Sane, SaneOn}
-use Rattle.codegen_expr.specs.Sites.{Ahead, At, Is, own_part, frame_text}
+use Rattle.codegen_expr.specs.Sites.{Ahead, At, Is, frame_text, own_end}
 use Rattle.codegen.specs.CodeFor.{ReturnsAt}
-use Rattle.sim_relate.proofs.Known.{Kind, placed, site_at, Runs}
+use Rattle.sim_relate.proofs.Known.{Kind, Runs, Spot, placed, site_at, spot}
 use Rattle.sim_relate.proofs.Relation.{ChainAt, ComesTo, NowAt, OpAt, ReturningIs, StandingsAt, StateAt, StateNow, StoreAt, TurningIs, WorkAt, over, returning, straight, there, turning, BeginsAt, InStage, declares, inner_here, inner_last, stays, with_inner}
 use Rattle.sim_relate.proofs.Hands.{stack_length}
 use Rattle.sim_relate.proofs.Here.{Here, There, act, there_of, here_at}
@@ -86,22 +86,22 @@ module _ (code : CodeOf) (l : Limits) where
     pub back_step : (t x u : ℕ) → Is code (i.Jump (pos t)) p x → t ≤ p → Is code i.Tick t u → mstep code l o (machine_at fs inst p stack run below) ≡ Going o (machine_at fs inst t stack run below)
     back_step t x u a le tick = by_row (i.Jump (pos t)) a.line x a.is ∙ jumping_back t u (λ q. at o fs a_top q stack below) le tick
 
-    pushing_is : (v : Value) (go : List Value → Run Machine) → length stack < run.block.room → pushing run.block.room stack v o go ≡ go (v ∷ stack)
+    pushing_is : (v : Value) (go : List Value → Run Machine) → length stack < run.room → pushing run.room stack v o go ≡ go (v ∷ stack)
     unfolding pushing when
-    pushing_is v go lt = let e : nat_lt (length stack) run.block.room ≡ true = grind (arith, lt) in chosen (λ z. z ≡ go (v ∷ stack)) (nat_lt (length stack) run.block.room) (go (v ∷ stack)) (no_rule o) e refl
+    pushing_is v go lt = let e : nat_lt (length stack) run.room ≡ true = grind (arith, lt) in chosen (λ z. z ≡ go (v ∷ stack)) (nat_lt (length stack) run.room) (go (v ∷ stack)) (no_rule o) e refl
 
     -- behind the instruction
     behind : (q : ℕ) (fs' : Frames) (stack' : List Value) → q ≡ suc p → Going o (machine_at fs' inst (suc p) stack' run below) ≡ Going o (machine_at fs' inst q stack' run below)
     behind q fs' stack' e = ap (λ z. Going o (machine_at fs' inst z stack' run below)) (sym e)
 
-    pub int_step : (z q : ℕ) → Is code (i.Int (pos z)) p q → length stack < run.block.room → mstep code l o (machine_at fs inst p stack run below) ≡ Going o (machine_at fs inst q (machine.Of (Integer (pos z)) ∷ stack) run below)
+    pub int_step : (z q : ℕ) → Is code (i.Int (pos z)) p q → length stack < run.room → mstep code l o (machine_at fs inst p stack run below) ≡ Going o (machine_at fs inst q (machine.Of (Integer (pos z)) ∷ stack) run below)
     int_step z q a lt = by_row (i.Int (pos z)) a.line q a.is ∙ pushing_is (machine.Of (Integer (pos z))) (λ stack. on o fs a_top stack below) lt ∙ behind q fs (machine.Of (Integer (pos z)) ∷ stack) a.is.on
 
     cell_is : (z j c : ℕ) (go : ℕ → ℕ → Run Machine) → at_level fs z inst ≡ Some j → machine.cell_at fs a_top (pos z) (pos c) o go ≡ go j c
     unfolding machine.cell_at level index having
     cell_is z j c go e = ap (λ y. having y o (λ j. go j c)) e
 
-    pub load_step : (z j c q : ℕ) (v : Value) → Is code (i.Load (pos z) (pos c)) p q → at_level fs z inst ≡ Some j → machine.cell fs j c ≡ Some v → length stack < run.block.room → mstep code l o (machine_at fs inst p stack run below) ≡ Going o (machine_at fs inst q (v ∷ stack) run below)
+    pub load_step : (z j c q : ℕ) (v : Value) → Is code (i.Load (pos z) (pos c)) p q → at_level fs z inst ≡ Some j → machine.cell fs j c ≡ Some v → length stack < run.room → mstep code l o (machine_at fs inst p stack run below) ≡ Going o (machine_at fs inst q (v ∷ stack) run below)
     unfolding having
     load_step z j c q v a e h lt =
         by_row (i.Load (pos z) (pos c)) a.line q a.is ∙ cell_is z j c (λ j c. having (machine.cell fs j c) o (λ v. pushed o fs a_top below v)) e ∙ ap (λ y. having y o (λ v. pushed o fs a_top below v)) h
@@ -152,7 +152,7 @@ numbers_differ a b lt =
     let greater : int_lt (pos a) (pos b) ≡ true = grind (arith, lt) in
     ap (λ z. holds comparison.Equal (cond z order.Less (cond (int_lt (pos a) (pos b)) order.Greater order.Equal))) less ∙ ap (λ z. holds comparison.Equal (cond z order.Greater order.Equal)) greater
 
-module _ (s : Source) (code : CodeOf) (l : Limits) (fs : Frames) (inst t : ℕ) (b : Runs) (stack : List Value) (below : List machine.Activation) (n : ℕ) (deep : length stack ≡ n) (own : at_level fs (level_of s t) inst ≡ Some inst) (reads : (c : ℕ) → machine.cell fs inst c ≡ placed fs inst c) where
+module _ (s : Source) (code : CodeOf) (l : Limits) (fs : Frames) (inst t : ℕ) (b : Runs) (stack : List Value) (below : List machine.Activation) (n : ℕ) (deep : length stack ≡ n) (roomy : b.block.room ≤ b.room) (own : at_level fs (level_of s t) inst ≡ Some inst) (reads : (c : ℕ) → machine.cell fs inst c ≡ placed fs inst c) where
   abbrev In : ℕ → Machine
   In p = machine_at fs inst p stack b below
 
@@ -168,8 +168,8 @@ module _ (s : Source) (code : CodeOf) (l : Limits) (fs : Frames) (inst t : ℕ) 
         let x = a.1 in
         let same : r ≡ q = cc (is) in
         let eq : number ≡ k = omega (arith, e) in
-        let one : length stack < b.block.room = omega (arith, deep, x.kept.fits) in
-        let two : suc (length stack) < b.block.room = omega (arith, deep, x.number_pushed.fits) in
+        let one : length stack < b.room = omega (arith, deep, roomy, x.kept.fits) in
+        let two : suc (length stack) < b.room = omega (arith, deep, roomy, x.number_pushed.fits) in
         subst (λ z. SlowTo code l (In p) (In z)) same
         (slow_more code l (λ o. load_step code l o fs inst p stack b below (level_of s t) inst temp x.a (machine.Of (Integer (pos number))) x.kept.is own held one)
         (slow_more code l (λ o. int_step code l o fs inst x.a (machine.Of (Integer (pos number)) ∷ stack) b below k x.b x.number_pushed.is two)
@@ -180,8 +180,8 @@ module _ (s : Source) (code : CodeOf) (l : Limits) (fs : Frames) (inst t : ℕ) 
         let x = a.1 in
         let more : k < number = omega (arith, e) in
         let next : number ≡ suc k + d = omega (arith, e) in
-        let one : length stack < b.block.room = omega (arith, deep, x.kept.fits) in
-        let two : suc (length stack) < b.block.room = omega (arith, deep, x.number_pushed.fits) in
+        let one : length stack < b.room = omega (arith, deep, roomy, x.kept.fits) in
+        let two : suc (length stack) < b.room = omega (arith, deep, roomy, x.number_pushed.fits) in
         slow_more code l (λ o. load_step code l o fs inst p stack b below (level_of s t) inst temp x.a (machine.Of (Integer (pos number))) x.kept.is own held one)
         (slow_more code l (λ o. int_step code l o fs inst x.a (machine.Of (Integer (pos number)) ∷ stack) b below k x.b x.number_pushed.is two)
         (slow_more code l (λ o. equal_step code l o fs inst x.b stack b below number k x.c x.equal)
@@ -203,6 +203,7 @@ comes_back s code m fs Below inst t b used (EndBlock ∷ w) p p' ks r a = (a.0, 
 comes_back s code m fs Below inst t b used (EndProcedure v ∷ w) p p' ks r a = (a.0, returning r a.1, a.2)
 comes_back s code m fs Below inst t b used (EndProgram ∷ w) p p' ks r a = (a.0, returning r a.1, a.2)
 comes_back s code m fs Below inst t b used (EndObject ∷ w) p p' ks r a = (a.0, returning r a.1, a.2)
+comes_back s code m fs Below inst t b used (EndLevel k ∷ w) p p' ks r a = (a.0, a.1, a.2, returning r a.3, a.4, a.5)
 comes_back s code m fs Below inst t b used (_ ∷ w) p p' ks r a = absurd a
 
 module _ (s : Source) (code : CodeOf) (l : Limits) where
@@ -233,6 +234,8 @@ module _ (s : Source) (code : CodeOf) (l : Limits) where
         block = b;
         found = there'.found;
         stands = there'.stands;
+        own = there'.own;
+        roomy = there'.roomy;
         room = refl;
         stage = refl;
         kinds = ks;
@@ -246,18 +249,19 @@ module _ (s : Source) (code : CodeOf) (l : Limits) where
     }
 
     -- a turn goes to the statement
-    turns : (used u : ℕ) (w : List Item) (x : Statement) (p q : ℕ) (behind : List Kind) → u ≤ used → length (own_part s (frame_text s t)) ≤ u → TurningIs s code (site_at t b u) (length ks) x p q → behind ≡ ks → WorkAt s code m fs Below inst t b u w q behind → Settles (Stood (Do (Exec x) ∷ w)) (machine_at fs inst p stack b below)
+    turns : (used u : ℕ) (w : List Item) (x : Statement) (p q : ℕ) (behind : List Kind) → u ≤ used → own_end s code (frame_text s t) ≤ u → TurningIs s code (site_at t b u) (length ks) x p q → behind ≡ ks → WorkAt s code m fs Below inst t b u w q behind → Settles (Stood (Do (Exec x) ∷ w)) (machine_at fs inst p stack b below)
     turns used u w x p q behind le low a e k =
         let number = machine.Of (Integer (pos a.number)) in
         let r = temp_written s code m fs inst t b a.temp number here.store here.stands here.lives here.found a.is_temp.behind a.is_temp.within in
-        let one : length stack < b.block.room = omega (arith, deep, a.turn.pushed.fits) in
+        let roomy = here.roomy in
+        let one : length stack < b.room = omega (arith, deep, roomy, a.turn.pushed.fits) in
         let more : u ≤ suc a.temp = omega (arith, a.unused) in
         let again : suc a.temp ≤ suc a.temp = omega arith in
         let in_use : a.temp < suc a.temp = omega arith in
-        let low' : length (own_part s (frame_text s t)) ≤ suc a.temp = omega (arith, a.is_temp.behind) in
+        let low' : own_end s code (frame_text s t) ≤ suc a.temp = omega (arith, a.is_temp.behind) in
         let there' = moved s code r.changed here.kept_alone here here.values in
         let k1 = subst (λ z. WorkAt s code m fs Below inst t b u w q z) e k in
-        let k2 = work_moved s code r.changed here here.alone below u (λ n le lt. r.others n (λ same. let no : ⊥ = omega (arith, same, lt, a.unused) in no)) w q ks k1 in
+        let k2 = work_moved s code r.changed here here.alone below u (λ n le within lt. r.others n (λ same. let no : ⊥ = omega (arith, same, lt, a.unused) in no)) w q ks k1 in
         let k3 = work_more s code m r.frames (λ v. ChainAt s code m r.frames rest v below) inst t b u (suc a.temp) more w q ks k2 in
         let k4 = comes_back s code m r.frames (λ v. ChainAt s code m r.frames rest v below) inst t b (suc a.temp) w a.done q ks (record {
           temp = a.temp;
@@ -275,27 +279,27 @@ module _ (s : Source) (code : CodeOf) (l : Limits) where
           slow_more code l (λ o. int_step code l o fs inst p stack b below a.number a.turn.x a.turn.pushed.is one)
               (slow_more code l (λ o. store_step code l o fs inst a.turn.x stack b below (level_of s t) inst a.temp a.turn.y number r.frames a.turn.kept own r.is)
               (slow_more code l (λ o. back_step code l o r.frames inst a.turn.y stack b below a.start q a.ticked a.turn.jump a.turn.behind a.tick) (0, no_step))),
-          now_at r.frames there' (suc a.temp) (Do (Exec x) ∷ w) a.start (suc a.temp, a.done, ks, t, b, same_frame s t, again, low', stays (a.body, refl) refl, k4),
+          now_at r.frames there' (suc a.temp) (Do (Exec x) ∷ w) a.start (suc a.temp, a.done, ks, t, spot t b (suc a.temp), same_frame s t, again, low', stays (a.body, refl) refl, k4),
         )
 
-    stands_now : (used : ℕ) (w : List Item) (op : Op) (p u q : ℕ) (behind : List Kind) (c : Runs) → u ≤ used → length (own_part s (frame_text s t)) ≤ u → InStage s code (BeginsAt s code m fs inst (site_at t b u)) (site_at t b u) op b c p q ks behind → WorkAt s code m fs Below inst t c u w q behind → Settles (Stood (Do op ∷ w)) (machine_at fs inst p stack b below)
+    stands_now : (used : ℕ) (w : List Item) (op : Op) (p u q : ℕ) (behind : List Kind) (c : Spot) → u ≤ used → own_end s code (frame_text s t) ≤ u → InStage s code (BeginsAt s code m fs inst (site_at t b u)) (site_at t b u) op b c p q ks behind → WorkAt s code m fs Below inst c.text c.runs c.used w q behind → Settles (Stood (Do op ∷ w)) (machine_at fs inst p stack b below)
     stands_now used w op p u q behind c le low a k = (_, (0, no_step), now_at fs (there_of s code here) used (Do op ∷ w) p (u, q, behind, t, c, same_frame s t, le, low, a, k))
 
     -- an operator in its own place, or a turn
-    begins : (used : ℕ) (w : List Item) (op : Op) (p u q : ℕ) (behind : List Kind) → u ≤ used → length (own_part s (frame_text s t)) ≤ u → OpAt s code m fs inst (site_at t b u) op p q ks behind → WorkAt s code m fs Below inst t b u w q behind → Settles (Stood (Do op ∷ w)) (machine_at fs inst p stack b below)
-    begins used w (Exec x) p u q behind le low (straight a, e) k = stands_now used w (Exec x) p u q behind b le low (stays (a, e) refl) k
+    begins : (used : ℕ) (w : List Item) (op : Op) (p u q : ℕ) (behind : List Kind) → u ≤ used → own_end s code (frame_text s t) ≤ u → OpAt s code m fs inst (site_at t b u) op p q ks behind → WorkAt s code m fs Below inst t b u w q behind → Settles (Stood (Do op ∷ w)) (machine_at fs inst p stack b below)
+    begins used w (Exec x) p u q behind le low (straight a, e) k = stands_now used w (Exec x) p u q behind (spot t b u) le low (stays (a, e) refl) k
     begins used w (Exec x) p u q behind le low (turning a, e) k = turns used u w x p q behind le low a e k
-    begins used w op p u q behind le low a k = stands_now used w op p u q behind b le low (stays a refl) k
+    begins used w op p u q behind le low a k = stands_now used w op p u q behind (spot t b u) le low (stays a refl) k
 
-    pub begins_in : (used : ℕ) (w : List Item) (op : Op) (p u q : ℕ) (behind : List Kind) (c : Runs) → u ≤ used → length (own_part s (frame_text s t)) ≤ u → InStage s code (OpAt s code m fs inst (site_at t b u)) (site_at t b u) op b c p q ks behind → WorkAt s code m fs Below inst t c u w q behind → Settles (Stood (Do op ∷ w)) (machine_at fs inst p stack b below)
-    begins_in used w op p u q behind c le low (stays a g) k = begins used w op p u q behind le low a (subst (λ z. WorkAt s code m fs Below inst t z u w q behind) g k)
-    begins_in used w op p u q behind c le low (declares x e g a) k = stands_now used w op p u q behind c le low (declares x e g a) k
-    begins_in used w op p u q behind c le low (inner_last e g a) k = stands_now used w op p u q behind c le low (inner_last e g a) k
-    begins_in used w op p u q behind c le low (inner_here x e g a) k = stands_now used w op p u q behind c le low (inner_here x e g a) k
-    begins_in used w op p u q behind c le low (with_inner x e g a) k = stands_now used w op p u q behind c le low (with_inner x e g a) k
+    pub begins_in : (used : ℕ) (w : List Item) (op : Op) (p u q : ℕ) (behind : List Kind) (c : Spot) → u ≤ used → own_end s code (frame_text s t) ≤ u → InStage s code (OpAt s code m fs inst (site_at t b u)) (site_at t b u) op b c p q ks behind → WorkAt s code m fs Below inst c.text c.runs c.used w q behind → Settles (Stood (Do op ∷ w)) (machine_at fs inst p stack b below)
+    begins_in used w op p u q behind c le low (stays a g) k = begins used w op p u q behind le low a (subst (λ z. WorkAt s code m fs Below inst z.text z.runs z.used w q behind) g k)
+    begins_in used w op p u q behind c le low (declares x e a) k = stands_now used w op p u q behind c le low (declares x e a) k
+    begins_in used w op p u q behind c le low (inner_last x e a) k = stands_now used w op p u q behind c le low (inner_last x e a) k
+    begins_in used w op p u q behind c le low (inner_here x e a) k = stands_now used w op p u q behind c le low (inner_here x e a) k
+    begins_in used w op p u q behind c le low (with_inner x e a) k = stands_now used w op p u q behind c le low (with_inner x e a) k
 
     pub come : (used : ℕ) (q p : ℕ) → ComesTo s code fs inst t b used (length ks) q p → SlowTo code l (machine_at fs inst p stack b below) (machine_at fs inst q stack b below)
-    come used q p a = come_path s code l fs inst t b stack below (length ks) deep own (λ c. placed_here s code m fs here.store inst c here.lives) used q p a
+    come used q p a = come_path s code l fs inst t b stack below (length ks) deep here.roomy own (λ c. placed_here s code m fs here.store inst c here.lives) used q p a
 
     pub first_come : (c : Configuration) (x y : Machine) → SlowTo code l x y → Settles c y → Settles c x
     first_come c x y a r = (r.0, slow_then code l a r.1, r.2)
@@ -307,29 +311,30 @@ module _ (s : Source) (code : CodeOf) (l : Limits) where
       → Settles (record { chain = record { instance = inst; work = w; values = vals } ∷ rest; memory = m }) (machine_at fs inst p stack b below)
   top_settles m inst vals rest fs t b stack below ks here used [] p a = absurd a
   top_settles m inst vals rest fs t b stack below ks here used (Do op ∷ w) p a =
-      let less = subst (λ z. length (own_part s z) ≤ a.1) (sym (a.6).frame) a.9 in
+      let less = subst (λ z. own_end s code z ≤ a.1) (sym (a.6).frame) a.9 in
       first_come m inst vals rest fs t b stack below ks here _ _ _ (come m inst vals rest fs t b stack below ks here used a.0 p a.7)
       (begins_in m inst vals rest fs a.4 b stack below ks (here_at s code a.6 here) used w op a.0 a.1 a.2 a.3 a.5 a.8 less a.10 a.11)
   top_settles m inst vals rest fs t b stack below ks here used (EndBlock ∷ w) p a = end_settles m inst vals rest fs t b stack below ks here used w EndBlock a.0 p a.1 a.2
   top_settles m inst vals rest fs t b stack below ks here used (EndProcedure v ∷ w) p a = end_settles m inst vals rest fs t b stack below ks here used w (EndProcedure v) a.0 p a.1 a.2
   top_settles m inst vals rest fs t b stack below ks here used (EndProgram ∷ w) p a = end_settles m inst vals rest fs t b stack below ks here used w EndProgram a.0 p a.1 a.2
   top_settles m inst vals rest fs t b stack below ks here used (EndObject ∷ w) p a = end_settles m inst vals rest fs t b stack below ks here used w EndObject a.0 p a.1 a.2
+  top_settles m inst vals rest fs t b stack below ks here used (EndLevel k ∷ w) p a = end_settles m inst vals rest fs t b stack below ks here used w (EndLevel k) a.0 p a.3 (a.1, a.2, a.4, a.5)
   top_settles m inst vals rest fs t b stack below ks here used (_ ∷ w) p a = absurd a
 
   -- an activation that is as the relation says
-  pub as_act : (y : machine.Activation) (inst : ℕ) (run : Runs) → y.thunk ≡ false → y.home ≡ inst → y.room ≡ run.block.room → y.stage ≡ run.stage → y ≡ act inst y.pc y.stack run
+  pub as_act : (y : machine.Activation) (inst : ℕ) (run : Runs) → y.thunk ≡ false → y.home ≡ inst → y.room ≡ run.room → y.stage ≡ run.stage → y ≡ act inst y.pc y.stack run
   as_act y inst run a h r g =
       ap (λ z. let v : machine.Activation = record { thunk = z; home = y.home; pc = y.pc; stack = y.stack; room = y.room; stage = y.stage } in v) a
       ∙ ap (λ z. let v : machine.Activation = record { thunk = false; home = z; pc = y.pc; stack = y.stack; room = y.room; stage = y.stage } in v) h
       ∙ ap (λ z. let v : machine.Activation = record { thunk = false; home = inst; pc = y.pc; stack = y.stack; room = z; stage = y.stage } in v) r
-      ∙ ap (λ z. let v : machine.Activation = record { thunk = false; home = inst; pc = y.pc; stack = y.stack; room = run.block.room; stage = z } in v) g
+      ∙ ap (λ z. let v : machine.Activation = record { thunk = false; home = inst; pc = y.pc; stack = y.stack; room = run.room; stage = z } in v) g
 
   settles : (m : Instances) (chain : List Activation) (fs : Frames) (below : List machine.Activation) → StoreAt s code m fs → StandingsAt s code m fs → SaneOn m chain → NamesOn s m chain → ChainAt s code m fs chain false below → Settles (record { chain = chain; memory = m }) (record { chain = below; memory = fs })
   settles m [] fs below a parked sane names c = (_, (0, no_step), record { chain = c; store = a; parked = parked })
   settles m (x ∷ rest) fs [] a parked sane names c = absurd c
   settles m (x ∷ rest) fs (y ∷ below) a parked sane names c =
       subst (λ z. Settles (record { chain = x ∷ rest; memory = m }) (record { chain = z ∷ below; memory = fs })) (sym (as_act y x.instance c.block c.base c.home c.room c.stage))
-      (top_settles m x.instance x.values rest fs c.text c.block y.stack below c.kinds (record { store = a; parked = parked; lives = sane.0; alone = sane.1; kept_alone = sane.2; names = names; stands = c.stands; found = c.found; values = c.values }) c.used x.work y.pc c.goes)
+      (top_settles m x.instance x.values rest fs c.text c.block y.stack below c.kinds (record { store = a; parked = parked; lives = sane.0; alone = sane.1; kept_alone = sane.2; names = names; stands = c.stands; own = c.own; roomy = c.roomy; found = c.found; values = c.values }) c.used x.work y.pc c.goes)
 
   -- where the machine has steps of its own, it makes them
   pub settle : (c : Configuration) (x : Machine) → Sane c → NamesOn s c.memory c.chain → StateAt s code c x → Settles c x

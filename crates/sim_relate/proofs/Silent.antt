@@ -1,5 +1,5 @@
 -- Steps of the machine of which all but one show nothing, where the program makes one.
-use Rattle.std.proofs.Common.{◌≡◌, ◌<◌, ℕ, suc, Bool, true, false, List, ◌∷◌, length, Some, None, refl, sym, ap, ◌∙◌, subst, arith}
+use Rattle.std.proofs.Common.{◌≡◌, ◌<◌, ◌≤◌, ℕ, suc, Bool, true, false, List, ◌∷◌, length, Some, None, refl, sym, ap, ◌∙◌, subst, arith}
 use Rattle.std.specs.Prelude.{nat_lt, not, pos, slice_get, if◌then◌else◌}
 use Rattle.sim_base.specs.declared.limits.Limits.{Limits}
 use Rattle.sim_scope.specs.Source.{Source}
@@ -48,7 +48,7 @@ module _ (code : CodeOf) (l : Limits) (inst : ℕ) (runs : Runs) (below : List m
     abbrev pub Row : Instr → (pc : ℕ) → World → List Value → Frames → Run Machine → Type 0
     Row x pc o stack fs z = RowIs code l line inst runs below x pc o stack fs z
 
-    pub addr_row : (fs : Frames) (o : World) (pc : ℕ) (stack : List Value) (z c class n : ℕ) → class ≡ suc n → classes.class_named code (pos class) ≡ Some class → at_level fs z inst ≡ Some inst → length stack < runs.block.room → Row (i.Addr (pos z) (pos c) (pos class)) pc o stack fs (Going o (place_at (suc pc) (Address (CellPlace inst c class) ∷ stack) fs))
+    pub addr_row : (fs : Frames) (o : World) (pc : ℕ) (stack : List Value) (z c class n : ℕ) → class ≡ suc n → classes.class_named code (pos class) ≡ Some class → at_level fs z inst ≡ Some inst → length stack < runs.room → Row (i.Addr (pos z) (pos c) (pos class)) pc o stack fs (Going o (place_at (suc pc) (Address (CellPlace inst c class) ∷ stack) fs))
     addr_row fs o pc stack z c class n e named at lt =
         qualified_is code class n e named o _ ∙ cell_on code l line inst runs below fs o pc stack z c _ _ at (pushes_on code l line inst runs below o stack (Address (CellPlace inst c class)) _ _ lt refl)
 
@@ -65,7 +65,7 @@ module _ (code : CodeOf) (l : Limits) (inst : ℕ) (runs : Runs) (below : List m
     unfolding popping having
     put_stops fs o pc v stack j c class e stops = stops _
 
-    pub none_row : (fs : Frames) (o : World) (pc : ℕ) (stack : List Value) → length stack < runs.block.room → Row i.None pc o stack fs (Going o (place_at (suc pc) (Of Nothing ∷ stack) fs))
+    pub none_row : (fs : Frames) (o : World) (pc : ℕ) (stack : List Value) → length stack < runs.room → Row i.None pc o stack fs (Going o (place_at (suc pc) (Of Nothing ∷ stack) fs))
     none_row fs o pc stack lt = pushes_on code l line inst runs below o stack (Of Nothing) _ _ lt refl
 
     -- `==` against none
@@ -102,7 +102,7 @@ module _ (code : CodeOf) (l : Limits) (inst : ℕ) (runs : Runs) (below : List m
   steps_to {line} {p} {q} stack stack' fs fs' o o' x a e = step_at code l line inst runs below x p q o stack fs (Going o' (place_at (suc p) stack' fs')) a e ∙ ap (λ z. Going o' (place_at z stack' fs')) (sym a.on)
 
   -- constants
-  pub plain_pushed : (s : Source) → code.texts ≡ constants_of s → (site : Site) (n : ℕ) (fs : Frames) (o : World) (v : Plain) (p q : ℕ) (stack : List Value) → n ≡ length stack → site.room ≡ runs.block.room → PlainAt s code site n v p q → mstep code l o (place_at p stack fs) ≡ Going o (place_at q (Of v ∷ stack) fs)
+  pub plain_pushed : (s : Source) → code.texts ≡ constants_of s → (site : Site) (n : ℕ) (fs : Frames) (o : World) (v : Plain) (p q : ℕ) (stack : List Value) → n ≡ length stack → site.room ≤ runs.room → PlainAt s code site n v p q → mstep code l o (place_at p stack fs) ≡ Going o (place_at q (Of v ∷ stack) fs)
   unfolding index
   plain_pushed s texts site n fs o (Integer z) p q stack e room a =
       let fits = a.fits in

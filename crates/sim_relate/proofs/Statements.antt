@@ -19,7 +19,7 @@ use Rattle.sim_meaning.specs.Meaning.{do_op}
 use Rattle.sim_meaning.specs.Pending.{Activation, BackOp, BranchOp, ChooseOp, Configuration, ConnectOp, Do, DropOp, EnterOp, Eval, Exec, Execs, Instances, Item, Op, PastOp, TestOp, Val, WhenOp, plain}
 use Rattle.sim_meaning.specs.Statements.{assigned, assigning, compound, dropping, entered_at, leaves, lefts}
 use Rattle.sim_meaning.specs.Steps.{go}
-use Rattle.codegen_expr.specs.Sites.{Ahead, Inside, Is, own_part, frame_text}
+use Rattle.codegen_expr.specs.Sites.{Ahead, Inside, Is, frame_text, own_end}
 use Rattle.codegen_expr.specs.CodeExpr.{ExprAt}
 use Rattle.sim_relate.proofs.Plainly.{Agrees}
 use Rattle.codegen.specs.CodeLeft.{AssignAt, GoesAt, each_stored}
@@ -37,7 +37,7 @@ use Rattle.sim_relate.proofs.Pending.{evals, pends}
 use Rattle.sim_scope.specs.Assignments.{last_value, left_sides}
 use Rattle.sim_relate.proofs.Shapes.{Leaves, dot_call_leaves, named_call_leaves, new_leaves}
 
-module _ (s : Source) (code : CodeOf) (l : Limits) (agrees : Agrees s) (o : World) (m : Instances) (inst : ℕ) (w : List Item) (vals : List Val) (rest : List Activation) (fs : Frames) (t : ℕ) (b : Runs) (pc : ℕ) (stack : List Value) (below : List machine.Activation) (ks : List Kind) (here : Here s code m fs inst rest t b ks vals stack) (u q : ℕ) (ks' : List Kind) (low : length (own_part s (frame_text s t)) ≤ u) (k : WorkAt s code m fs (λ v. ChainAt s code m fs rest v below) inst t b u w q ks') where
+module _ (s : Source) (code : CodeOf) (l : Limits) (agrees : Agrees s) (o : World) (m : Instances) (inst : ℕ) (w : List Item) (vals : List Val) (rest : List Activation) (fs : Frames) (t : ℕ) (b : Runs) (pc : ℕ) (stack : List Value) (below : List machine.Activation) (ks : List Kind) (here : Here s code m fs inst rest t b ks vals stack) (u q : ℕ) (ks' : List Kind) (low : own_end s code (frame_text s t) ≤ u) (k : WorkAt s code m fs (λ v. ChainAt s code m fs rest v below) inst t b u w q ks') where
   abbrev pub R : Configuration → Machine → Type 0
   R = StateAt s code
 

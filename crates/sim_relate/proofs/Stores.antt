@@ -7,25 +7,25 @@ use Rattle.std.specs.Prelude.{◌==◌, ◌&&◌, not, if◌then◌else◌, nat_
 use Rattle.sim_chains.specs.Components.{Standing}
 use Rattle.sim_scope.specs.Access.{encloser}
 use Rattle.sim_scope.specs.Source.{Source, level_of}
-use Rattle.sim_code.specs.Code.{CodeOf}
+use Rattle.sim_code.specs.Code.{BlockOf, CodeOf}
 use Rattle.sim_code.specs.Instances.{Instance, at_level, cells_in as cells_of_live, cells_put, ends_in, entered, found_at, given, given_in, is_given_at_end, is_live, is_live_in, kept_at, kept_further, kept_on, level_within, live, outward, with_instance}
 use Rattle.sim_code.specs.Machine.{Cells, Frames, Value, joined}
 use Rattle.sim_code.specs.Machine as machine
 use Rattle.sim_code.proofs.Lifts.{Both}
+use Rattle.sim_meaning.specs.Levels.{text_at, text_in}
 use Rattle.sim_meaning.specs.Pending.{Activation, Held, Instances, Key, Val, held, same_key}
 use Rattle.sim_meaning.specs.Pending as meaning
-use Rattle.sim_meaning.specs.Texts.{text}
 use Rattle.sim_meaning.specs.Sane.{Lives, Other}
-use Rattle.codegen_expr.specs.Sites.{HasCell, block_number, frame_text, own_part, place_of, slot_of, start_of}
+use Rattle.codegen_expr.specs.Sites.{HasCell, LevelOf, block_number, frame_text, innermost, own_end, place_of, slot_of}
 use Rattle.sim_relate.proofs.Frames.{bool_cases}
 use Rattle.sim_relate.proofs.Heads.{Heads, Same, both_found, both_heads, entered_same, given_both, given_same, heads_refl, is_live_at, kept_same, later_all, later_heads, later_itself, set_self}
 use Rattle.sim_relate.proofs.Layouts.{less_or}
 use Rattle.sim_relate.proofs.Lists.{append_at, append_before, append_both, both_as, set_both, set_other, set_same, there_get}
 use Rattle.sim_relate.proofs.Living.{lives_now}
 use Rattle.sim_relate.proofs.Reach.{if_true, is_there, same_some}
-use Rattle.sim_relate.proofs.Known.{Every, Keeps, Later, Runs, SlotAt, Stands, ValAt, fixed_value, inside, is_declared, is_fixed, outermost, placed, placed_in}
+use Rattle.sim_relate.proofs.Known.{Every, IsTemp, Keeps, Later, Rooted, Runs, SlotAt, Stands, ValAt, fixed_value, inside, is_declared, is_fixed, outermost, placed, placed_in, unenclosed}
 use Rattle.sim_relate.proofs.Relation.{Changed, InstanceAt, StoreAt}
-use Rattle.sim_relate.proofs.Slots.{less_true, place_injective, put_in, same_is, same_self, set_in}
+use Rattle.sim_relate.proofs.Slots.{less_true, put_in, same_is, same_self, set_in}
 
 -- ---- frames after a value is put into a cell of one of them
 
@@ -62,10 +62,10 @@ module _ (fs : Frames) (j : ℕ) (y : Instance Cells) (lives : live fs j ≡ Som
 
 module _ (s : Source) (code : CodeOf) where
   pub instance_kept : {x : Instance (List Held)} {y : Instance Cells} → InstanceAt s code x y → InstanceAt s code (record x { kept = true }) (record y { kept = true })
-  instance_kept a = record { number = a.number; level = a.level; encloser = a.encloser; passing = a.passing; kept = refl; given_back = a.given_back; own = a.own; start = a.start; alone = a.alone; cells = a.cells; there = a.there; fits = a.fits; size = a.size }
+  instance_kept a = record { number = a.number; level = a.level; encloser = a.encloser; passing = a.passing; kept = refl; given_back = a.given_back; own = a.own; laid = a.laid; cells = a.cells; there = a.there; size = a.size }
 
   pub instance_given : {x : Instance (List Held)} {y : Instance Cells} → InstanceAt s code x y → InstanceAt s code (record x { given_back = true }) (record y { given_back = true })
-  instance_given a = record { number = a.number; level = a.level; encloser = a.encloser; passing = a.passing; kept = a.kept; given_back = refl; own = a.own; start = a.start; alone = a.alone; cells = a.cells; there = a.there; fits = a.fits; size = a.size }
+  instance_given a = record { number = a.number; level = a.level; encloser = a.encloser; passing = a.passing; kept = a.kept; given_back = refl; own = a.own; laid = a.laid; cells = a.cells; there = a.there; size = a.size }
 
   -- each instance still stands for its own text
   all_heads : (m m' : Instances) → ((k : ℕ) → Both Heads (slice_get m.instances k) (slice_get m'.instances k)) → ((j : ℕ) (x : Instance (List Held)) → slice_get m.instances j ≡ Some x → Stands s m j x.text) → (j : ℕ) (x : Instance (List Held)) → slice_get m'.instances j ≡ Some x → Stands s m' j x.text
@@ -88,10 +88,6 @@ module _ (s : Source) (code : CodeOf) where
   slot_both true key v c e a = absurd (cc)
   slot_both false key v c e a = a
 
-  slot_apart : (t : ℕ) (k l : Key) → HasCell s t k → slot_of s code t l ≡ slot_of s code t k → k ≡ l
-  unfolding slot_of
-  slot_apart t k l has e = place_injective (own_part s t) k l (omega (arith, e)) has
-
   module _ (m : Instances) (fs : Frames) (a : StoreAt s code m fs) where
     pub live_pair : (j : ℕ) → Both (InstanceAt s code) (live m j) (live fs j)
     live_pair j = given_both (InstanceAt s code) (λ x y i. i.given_back) (slice_get m.instances j) (slice_get fs.instances j) (a.at j)
@@ -103,34 +99,35 @@ module _ (s : Source) (code : CodeOf) where
       pub frame : Instance Cells
       pub frame_lives : live fs j ≡ Some frame
       pub pair : InstanceAt s code now frame
-      pub of_text : now.text ≡ frame_text s t
+      pub of_levels : LevelOf s.tables now.text (frame_text s t)
 
     pub framed : {j t : ℕ} → Stands s m j t → (now : Instance (List Held)) → live m j ≡ Some now → Framed j t
     framed {j} {t} st now lives =
         let x = is_there s m st in
         let same : x.now ≡ now = same_some (slice_get m.instances j) x.now now x.is (is_live_at (slice_get m.instances j) now lives).there in
         let y = both_found (InstanceAt s code) (live m j) (live fs j) now lives (live_pair j) in
-        record { now = now; lives = lives; frame = y.it; frame_lives = y.is; pair = y.related; of_text = sym (ap (λ z. z.text) same) ∙ x.text }
+        record { now = now; lives = lives; frame = y.it; frame_lives = y.is; pair = y.related; of_levels = subst (λ z. LevelOf s.tables z.text (frame_text s t)) same x.levels }
+
+    -- its level
+    level_is : (j t : ℕ) (f : Framed j t) → frame_text s t ≡ t → LevelOf s.tables f.now.text t
+    level_is j t f own = subst (LevelOf s.tables f.now.text) own f.of_levels
 
     -- the slot of a cell is one of the frame
-    slot_fits : (j t : ℕ) (key : Key) (f : Framed j t) → f.now.text ≡ t → HasCell s t key → slot_of s code t key < length f.frame.cells
-    unfolding slot_of
-    slot_fits j t key f is has =
-        let fits : length (own_part s t) ≤ length f.frame.cells = subst (λ z. length (own_part s z) ≤ length f.frame.cells) is (f.pair).fits in
-        let start : start_of s code t ≡ 0 = ap (start_of s code) (sym is) ∙ (f.pair).start in
-        omega (arith, has, fits, start)
+    slot_fits : (j t : ℕ) (key : Key) (f : Framed j t) → LevelOf s.tables f.now.text t → HasCell s t key → slot_of s code t key < length f.frame.cells
+    slot_fits j t key f level has =
+        let p = f.pair in
+        let b = (p.laid).block in
+        let fits = (p.laid).fits t key b.0 level has b.1 in
+        let size = p.size b.0 b.1 in
+        omega (arith, fits, size)
 
     -- reading a cell
     cell_live_read : (j t : ℕ) (key : Key) → Framed j t → frame_text s t ≡ t → HasCell s t key → is_fixed s key ≡ false → Both ValAt (meaning.cell m j key) (machine.cell fs j (slot_of s code t key))
     cell_live_read j t key f own has varies =
-        let is : f.now.text ≡ t = f.of_text ∙ own in
-        let has' : HasCell s f.now.text key = subst (λ z. HasCell s z key) (sym is) has in
-        let read = (f.pair).cells key has' in
-        let read' = subst (λ z. SlotAt s (is_fixed s key) key (held key f.now.cells) (joined (slice_get f.frame.cells (slot_of s code z key)))) is read in
         both_as ValAt (held key f.now.cells) (meaning.cell m j key) (joined (slice_get f.frame.cells (slot_of s code t key))) (machine.cell fs j (slot_of s code t key))
         (ap (λ z. meaning.value_in (cells_of_live z) key) f.lives)
         (ap (λ z. machine.value_in (cells_of_live z) (slot_of s code t key)) f.frame_lives)
-        (slot_both (is_fixed s key) key _ _ varies read')
+        (slot_both (is_fixed s key) key _ _ varies ((f.pair).cells t key (level_is j t f own) has))
 
     -- of an instance that was given back neither side has cells
     pub cell_here_read : (j t : ℕ) (key : Key) → Stands s m j t → frame_text s t ≡ t → HasCell s t key → is_fixed s key ≡ false → Both ValAt (meaning.cell m j key) (machine.cell fs j (slot_of s code t key))
@@ -155,9 +152,8 @@ module _ (s : Source) (code : CodeOf) where
         read_one None ex = inl (ap (λ z. meaning.value_in (cells_of_live z) key) ex)
         read_one (Some x) ex =
             let f = framed st x ex in
-            let is : x.text ≡ t = f.of_text ∙ own in
             let there : meaning.cell m j key ≡ held key x.cells = ap (λ z. meaning.value_in (cells_of_live z) key) ex in
-            ⊎_elim (λ e. inl (there ∙ e)) (λ e. inr (there ∙ e)) (fixed_slot (is_fixed s key) (held key x.cells) _ fixed ((f.pair).cells key (subst (λ z. HasCell s z key) (sym is) has)))
+            ⊎_elim (λ e. inl (there ∙ e)) (λ e. inr (there ∙ e)) (fixed_slot (is_fixed s key) (held key x.cells) _ fixed ((f.pair).cells t key (subst (LevelOf s.tables x.text) own f.of_levels) has))
 
     -- writing a cell
     record Wrote (o : Option Instances) (j t : ℕ) (key : Key) (y : Value) : Type 0 where
@@ -166,13 +162,6 @@ module _ (s : Source) (code : CodeOf) where
       is : o ≡ Some now
       is_frames : machine.cell_set fs j (slot_of s code t key) y ≡ Some frames
       changed : Changed s code Every m fs now frames
-
-    one_text : {j t u : ℕ} → Stands s m j t → Stands s m j u → frame_text s u ≡ frame_text s t
-    one_text {j} p q =
-        let x = is_there s m p in
-        let y = is_there s m q in
-        let same : x.now ≡ y.now = same_some (slice_get m.instances j) x.now y.now x.is y.is in
-        sym y.text ∙ sym (ap (λ z. z.text) same) ∙ x.text
 
     -- other cells of an instance: one has another value, and all others are as they were
     module _ (j t : ℕ) (key : Key) (v : Val) (y : Value) (st : Stands s m j t) (f : Framed j t) (own : frame_text s t ≡ t) (has : HasCell s t key) (varies : is_fixed s key ≡ false) (w : ValAt v y) (cells : List Held) (here : held key cells ≡ Some v) (others : (k : Key) → same_key key k ≡ false → held k cells ≡ held k f.now.cells) (stay : (k : Key) → place_of k f.now.cells < length f.now.cells → place_of k cells < length cells) where
@@ -185,33 +174,32 @@ module _ (s : Source) (code : CodeOf) where
       abbrev new_frame : Instance Cells
       new_frame = frame_put fs j f.frame f.frame_lives slot y
 
-      text_is : f.now.text ≡ t
-      text_is = f.of_text ∙ own
+      levelled : LevelOf s.tables f.now.text t
+      levelled = level_is j t f own
 
       fits : slot < length f.frame.cells
-      fits = slot_fits j t key f text_is has
+      fits = slot_fits j t key f levelled has
 
       slot_written : (f2 : Bool) (k : Key) → f2 ≡ false → (a : Option Val) (c : Option Value) → a ≡ Some v → c ≡ Some y → SlotAt s f2 k a c
       slot_written true k e a c ea ec = absurd (cc)
       slot_written false k e a c ea ec = subst (λ z. Both ValAt z c) (sym ea) (subst (λ z. Both ValAt (Some v) z) (sym ec) w)
 
-      cells_then : (k : Key) → HasCell s f.now.text k → SlotAt s (is_fixed s k) k (held k cells) (joined (slice_get (slice_set f.frame.cells slot (Some y)) (slot_of s code f.now.text k)))
-      cells_then k hask =
-          let slots : slot_of s code f.now.text k ≡ slot_of s code t k = ap (λ z. slot_of s code z k) text_is in
+      cells_then : (u : ℕ) (k : Key) → LevelOf s.tables f.now.text u → HasCell s u k → SlotAt s (is_fixed s k) k (held k cells) (joined (slice_get (slice_set f.frame.cells slot (Some y)) (slot_of s code u k)))
+      cells_then u k levels hask =
           bool_cases (same_key key k)
           (λ e. let same : key ≡ k = same_is key k e in
-          let place : slot_of s code f.now.text k ≡ slot = slots ∙ sym (ap (slot_of s code t) same) in
+          let texts : t ≡ u = ((f.pair).laid).one_level t u k levelled levels (subst (HasCell s t) same has) hask in
+          let place : slot_of s code u k ≡ slot = sym (ap (λ z. slot_of s code z k) texts) ∙ sym (ap (slot_of s code t) same) in
           let x = there_get f.frame.cells slot fits in
           slot_written (is_fixed s k) k (ap (is_fixed s) (sym same) ∙ varies) _ _ (ap (λ z. held z cells) (sym same) ∙ here) (ap (λ c. joined (slice_get (slice_set f.frame.cells slot (Some y)) c)) place ∙ ap joined (set_same f.frame.cells slot x.0 (Some y) x.1)))
-          (λ e. let apart : slot_of s code f.now.text k ≢ slot = λ at. (let same : key ≡ k = slot_apart t key k has (sym slots ∙ at) in let yes : same_key key k ≡ true = ap (same_key key) (sym same) ∙ same_self key in let no : ⊥ = absurd (cc (e, yes)) in no) in
-          subst (λ z. SlotAt s (is_fixed s k) k z (joined (slice_get (slice_set f.frame.cells slot (Some y)) (slot_of s code f.now.text k)))) (sym (others k e))
-          (subst (λ z. SlotAt s (is_fixed s k) k (held k f.now.cells) (joined z)) (sym (set_other f.frame.cells slot (slot_of s code f.now.text k) (Some y) apart)) ((f.pair).cells k hask)))
+          (λ e. let apart : slot_of s code u k ≢ slot = λ at. (let same : key ≡ k = ((f.pair).laid).one_key t u key k levelled levels has hask (sym at) in let yes : same_key key k ≡ true = ap (same_key key) (sym same) ∙ same_self key in let no : ⊥ = absurd (cc (e, yes)) in no) in
+          subst (λ z. SlotAt s (is_fixed s k) k z (joined (slice_get (slice_set f.frame.cells slot (Some y)) (slot_of s code u k)))) (sym (others k e))
+          (subst (λ z. SlotAt s (is_fixed s k) k (held k f.now.cells) (joined z)) (sym (set_other f.frame.cells slot (slot_of s code u k) (Some y) apart)) ((f.pair).cells u k levels hask)))
 
       pair_then : InstanceAt s code new new_frame
       pair_then =
           let p = f.pair in
           let long = length-set f.frame.cells slot (Some y) in
-          let room = p.fits in
           record {
             number = p.number;
             level = p.level;
@@ -220,17 +208,19 @@ module _ (s : Source) (code : CodeOf) where
             kept = p.kept;
             given_back = p.given_back;
             own = p.own;
-            start = p.start;
-            alone = p.alone;
+            laid = p.laid;
             cells = cells_then;
-            there = λ k hask d. stay k (p.there k hask d);
-            fits = omega (arith, long, room);
+            there = λ u k levels hask d. stay k (p.there u k levels hask d);
             size = λ b e. long ∙ p.size b e;
           }
 
-      past : (c : ℕ) → length (own_part s t) ≤ c → c ≡ slot → ⊥
-      unfolding slot_of
-      past c behind e = let start : start_of s code t ≡ 0 = ap (start_of s code) (sym text_is) ∙ (f.pair).start in omega (arith, has, behind, e, start)
+      -- no temp of the instance is the cell's slot
+      past : (u c : ℕ) (b : BlockOf) → Stands s m j u → slice_get code.blocks (block_number s (frame_text s u)) ≡ Some b → IsTemp s code u c b → c ≢ slot
+      past u c b stands found temp e =
+          let x = is_there s m stands in
+          let same : x.now ≡ f.now = same_some (slice_get m.instances j) x.now f.now x.is (is_live_at (slice_get m.instances j) f.now f.lives).there in
+          let levels : LevelOf s.tables f.now.text (frame_text s u) = subst (λ z. LevelOf s.tables z.text (frame_text s u)) same x.levels in
+          ((f.pair).laid).apart t u c key b levelled levels has found temp (sym e)
 
       changed_then : Changed s code Every m fs (with_instance m j new) (frames_put fs j f.frame f.frame_lives slot y)
       changed_then =
@@ -242,20 +232,16 @@ module _ (s : Source) (code : CodeOf) where
             frame_standings = refl;
             later = later_all s m (with_instance m j new) (λ k. set_self Heads heads_refl m.instances j f.now new there.there heads k);
             keeps = record {
-              temps = λ k u c _ stands le.
+              temps = λ k u c b _ stands found temp.
                   placed_other fs j f.frame f.frame_lives slot y k c
-                  (λ same.
-                  let here2 : Stands s m j u = subst (λ z. Stands s m z u) same stands in
-                  let texts : frame_text s u ≡ t = one_text st here2 ∙ own in
-                  let behind : length (own_part s t) ≤ c = subst (λ z. length (own_part s z) ≤ c) texts le in
-                  λ e. past c behind e);
+                  (λ same. past u c b (subst (λ z. Stands s m z u) same stands) found temp);
             };
           }
 
     store_write : (j t : ℕ) (key : Key) (v : Val) (y : Value) → Stands s m j t → Framed j t → frame_text s t ≡ t → HasCell s t key → is_fixed s key ≡ false → is_declared key ≡ true → ValAt v y → Wrote (meaning.cell_set m j key v) j t key y
     store_write j t key v y st f own has varies declared w =
-        let is = f.of_text ∙ own in
-        let there = (f.pair).there key (subst (λ z. HasCell s z key) (sym is) has) declared in
+        let is = level_is j t f own in
+        let there = (f.pair).there t key is has declared in
         let x = set_in key v f.now.cells there in
         record {
           now = with_instance m j (record f.now { cells = x.now });
@@ -268,7 +254,7 @@ module _ (s : Source) (code : CodeOf) where
     -- a cell that need not have been there
     store_made : (j t : ℕ) (key : Key) (v : Val) (y : Value) → Stands s m j t → Framed j t → frame_text s t ≡ t → HasCell s t key → is_fixed s key ≡ false → ValAt v y → Wrote (meaning.cell_made m j key v) j t key y
     store_made j t key v y st f own has varies w =
-        let is = f.of_text ∙ own in
+        let is = level_is j t f own in
         let x = put_in key v f.now.cells in
         record {
           now = with_instance m j (record f.now { cells = meaning.held_put key v f.now.cells });
@@ -303,19 +289,17 @@ module _ (s : Source) (code : CodeOf) where
       holds : placed frames j temp ≡ Some y
       others : (c : ℕ) → c ≢ temp → placed frames j c ≡ placed fs j c
 
-    before_temp : (x t temp : ℕ) (k : Key) → start_of s code x ≡ 0 → x ≡ frame_text s t → HasCell s x k → length (own_part s (frame_text s t)) ≤ temp → slot_of s code x k ≡ temp → ⊥
-    unfolding slot_of
-    before_temp x t temp k start is has behind e = let long : length (own_part s x) ≤ temp = subst (λ z. length (own_part s z) ≤ temp) (sym is) behind in omega (arith, start, has, long, e)
-
-    store_temp : (j t temp : ℕ) (y : Value) (b : Runs) → Framed j t → slice_get code.blocks (block_number s (frame_text s t)) ≡ Some b.block → length (own_part s (frame_text s t)) ≤ temp → temp < length b.block.types → WroteTemp j temp y
-    store_temp j t temp y b f found behind within =
+    store_temp : (j t temp : ℕ) (y : Value) (b : BlockOf) → Framed j t → slice_get code.blocks (block_number s (frame_text s t)) ≡ Some b → IsTemp s code t temp b → WroteTemp j temp y
+    store_temp j t temp y b f found is_temp =
         let p = f.pair in
         let cs = f.frame.cells in
-        let size : length cs ≡ length b.block.types = p.size b.block (ap (λ k. slice_get code.blocks (block_number s k)) f.of_text ∙ found) in
-        let lt : temp < length cs = omega (arith, within, size) in
+        let whole = (p.laid).block in
+        let size = p.size whole.0 whole.1 in
+        let longer = (p.laid).longer (frame_text s t) b whole.0 f.of_levels found whole.1 in
+        let within = is_temp.within in
+        let lt : temp < length cs = omega (arith, within, size, longer) in
         let new : Instance Cells = frame_put fs j f.frame f.frame_lives temp y in
         let long = length-set cs temp (Some y) in
-        let room = p.fits in
         let pair : InstanceAt s code f.now new = record {
           number = p.number;
           level = p.level;
@@ -324,11 +308,9 @@ module _ (s : Source) (code : CodeOf) where
           kept = p.kept;
           given_back = p.given_back;
           own = p.own;
-          start = p.start;
-          alone = p.alone;
-          cells = λ k hask. subst (λ z. SlotAt s (is_fixed s k) k (held k f.now.cells) (joined z)) (sym (set_other cs temp (slot_of s code f.now.text k) (Some y) (λ e. before_temp f.now.text t temp k p.start f.of_text hask behind e))) (p.cells k hask);
+          laid = p.laid;
+          cells = λ u k levels hask. subst (λ z. SlotAt s (is_fixed s k) k (held k f.now.cells) (joined z)) (sym (set_other cs temp (slot_of s code u k) (Some y) ((p.laid).apart u t temp k b levels f.of_levels hask found is_temp))) (p.cells u k levels hask);
           there = p.there;
-          fits = omega (arith, long, room);
           size = λ b e. long ∙ p.size b e;
         } in
         let there = is_live_at (slice_get m.instances j) f.now f.lives in
@@ -339,13 +321,50 @@ module _ (s : Source) (code : CodeOf) where
           changed = record {
             store = record { as_many = a.as_many ∙ sym (length-set fs.instances j new); at = set_right (InstanceAt s code) m.instances fs.instances j f.now new a.at there.there pair; all = a.all };
             later = later_itself s m;
-            keeps = record { temps = λ k u c other st le. others k c (λ same. absurd (other same)) };
+            keeps = record { temps = λ k u c b other st found temp. others k c (λ same. absurd (other same)) };
             standings = refl;
             frame_standings = refl;
           };
           holds = placed_holds fs j f.frame f.frame_lives temp y lt;
           others = λ c apart. others j c (λ _. apart);
         }
+
+    -- ---- texts
+
+    -- an instance stands for its own text
+    pub own_stands : (j own : ℕ) → text_at m j ≡ Some own → Stands s m j own
+    own_stands j own e = by_text (slice_get m.instances j) refl e
+      where
+        by_text : (o : Option (Instance (List Held))) → slice_get m.instances j ≡ o → text_in o ≡ Some own → Stands s m j own
+        by_text None eo e = absurd (cc)
+        by_text (Some x) eo e = let same : x.text ≡ own = cc in subst (Stands s m j) same (a.all j x eo)
+
+    own_numbers : (own : ℕ) (x : Option (Instance (List Held))) (y : Option (Instance Cells)) → Both (InstanceAt s code) x y → text_in x ≡ Some own → machine.text_in y ≡ Some (block_number s own)
+    own_numbers own None None b e = absurd (cc)
+    own_numbers own None (Some y) b e = absurd b
+    own_numbers own (Some x) None b e = absurd b
+    own_numbers own (Some x) (Some y) b e = let same : x.text ≡ own = cc in ap Some b.number ∙ ap (λ z. Some (block_number s z)) same
+
+    -- and its frame has the number of that
+    pub frame_number : (j own : ℕ) → text_at m j ≡ Some own → machine.text_in (slice_get fs.instances j) ≡ Some (block_number s own)
+    frame_number j own e = own_numbers own (slice_get m.instances j) (slice_get fs.instances j) (a.at j) e
+
+    -- its text has frames of its own
+    own_frame_in : (own : ℕ) (x : Option (Instance (List Held))) (y : Option (Instance Cells)) → Both (InstanceAt s code) x y → text_in x ≡ Some own → frame_text s own ≡ own
+    own_frame_in own None None b e = absurd (cc)
+    own_frame_in own None (Some y) b e = absurd b
+    own_frame_in own (Some x) None b e = absurd b
+    own_frame_in own (Some x) (Some y) b e = let same : x.text ≡ own = cc in subst (λ z. frame_text s z ≡ z) same b.own
+
+    pub own_frame_at : (j own : ℕ) → text_at m j ≡ Some own → frame_text s own ≡ own
+    own_frame_at j own e = own_frame_in own (slice_get m.instances j) (slice_get fs.instances j) (a.at j) e
+
+    -- what an instance stands for is one of its levels
+    pub own_levels : (j own t : ℕ) → text_at m j ≡ Some own → Stands s m j t → LevelOf s.tables own (frame_text s t)
+    own_levels j own t e st =
+        let x = is_there s m st in
+        let same : x.now.text ≡ own = (let is : Some x.now.text ≡ Some own = sym (ap text_in x.is) ∙ e in cc (is)) in
+        subst (λ z. LevelOf s.tables z (frame_text s t)) same x.levels
 
     -- ---- flags
 
@@ -442,6 +461,20 @@ module _ (s : Source) (m : Instances) where
   pub later_kept : (chain : List Activation) → Later s m (kept_on meaning.owner chain m)
   later_kept chain = later_all s m (kept_on meaning.owner chain m) (λ k. both_heads (slice_get m.instances k) (slice_get (kept_on meaning.owner chain m).instances k) (kept_same meaning.owner k chain m))
 
+  -- ---- a new instance
+
+  new_levels : (t : ℕ) (x : Instance (List Held)) → x.text ≡ frame_text s t → LevelOf s.tables x.text (frame_text s t)
+  new_levels t x text = subst (LevelOf s.tables x.text) text innermost
+
+  pub new_outermost : (t : ℕ) (x : Instance (List Held)) (p : Standing Activation) → x.text ≡ frame_text s t → x.level ≡ level_of s t → x.encloser ≡ None → encloser s.tables (frame_text s t) ≡ None → Stands s (entered m x p) (length m.instances) t
+  new_outermost t x p text level alone around = outermost (append_at m.instances x) (new_levels t x text) level (subst (Rooted (entered m x p)) (sym alone) unenclosed) around
+
+  pub new_inside : (t e u : ℕ) (x : Instance (List Held)) (p : Standing Activation) → x.text ≡ frame_text s t → x.level ≡ level_of s t → x.encloser ≡ Some e → encloser s.tables (frame_text s t) ≡ Some u → Stands s m e u → Stands s (entered m x p) (length m.instances) t
+  new_inside t e u x p text level out around st =
+      let y = is_there s m st in
+      inside (append_at m.instances x) (new_levels t x text) level out around (slice_get_within m.instances e y.now y.is) ((later_entered x p).stands e u st)
+
+module _ (s : Source) (code : CodeOf) (m : Instances) where
   -- frames with the same cells
   same_cell : (x y : Option (Instance Cells)) (c : ℕ) → Both Same x y → placed_in y c ≡ placed_in x c
   same_cell None None c b = refl
@@ -449,34 +482,24 @@ module _ (s : Source) (m : Instances) where
   same_cell (Some x) None c b = absurd b
   same_cell (Some x) (Some y) c b = ap (λ z. joined (slice_get z c)) b.cells
 
-  keeps_same : (fs fs' : Frames) → ((k : ℕ) → Both Same (slice_get fs.instances k) (slice_get fs'.instances k)) → Keeps s m fs fs' Every
-  keeps_same fs fs' all = record { temps = λ j t c of st le. same_cell (slice_get fs.instances j) (slice_get fs'.instances j) c (all j) }
+  keeps_same : (fs fs' : Frames) → ((k : ℕ) → Both Same (slice_get fs.instances k) (slice_get fs'.instances k)) → Keeps s code m fs fs' Every
+  keeps_same fs fs' all = record { temps = λ j t c b of st found temp. same_cell (slice_get fs.instances j) (slice_get fs'.instances j) c (all j) }
 
   -- an instance of the meaning has its number within the list
-  pub keeps_entered : (fs : Frames) → length m.instances ≡ length fs.instances → (y : Instance Cells) (q : Standing machine.Activation) → Keeps s m fs (entered fs y q) Every
-  keeps_entered fs n y q = record { temps = λ j t c of st le. let x = is_there s m st in let lt = slice_get_within m.instances j x.now x.is in same_cell (slice_get fs.instances j) (slice_get (entered fs y q).instances j) c (entered_same fs y q j (omega (arith, lt, n))) }
+  pub keeps_entered : (fs : Frames) → length m.instances ≡ length fs.instances → (y : Instance Cells) (q : Standing machine.Activation) → Keeps s code m fs (entered fs y q) Every
+  keeps_entered fs n y q = record { temps = λ j t c b of st found temp. let x = is_there s m st in let lt = slice_get_within m.instances j x.now x.is in same_cell (slice_get fs.instances j) (slice_get (entered fs y q).instances j) c (entered_same fs y q j (omega (arith, lt, n))) }
 
-  pub keeps_given : (fs : Frames) (i : ℕ) → Keeps s m fs (given fs i) Every
+  pub keeps_given : (fs : Frames) (i : ℕ) → Keeps s code m fs (given fs i) Every
   keeps_given fs i = keeps_same fs (given fs i) (λ k. given_same fs i k)
 
-  pub keeps_kept : (fs : Frames) (below : List machine.Activation) → Keeps s m fs (kept_on machine.owner below fs) Every
+  pub keeps_kept : (fs : Frames) (below : List machine.Activation) → Keeps s code m fs (kept_on machine.owner below fs) Every
   keeps_kept fs below = keeps_same fs (kept_on machine.owner below fs) (λ k. kept_same machine.owner k below fs)
-
-  -- ---- a new instance
-
-  pub new_outermost : (t : ℕ) (x : Instance (List Held)) (p : Standing Activation) → x.text ≡ frame_text s t → x.level ≡ level_of s t → x.encloser ≡ None → encloser s.tables (frame_text s t) ≡ None → Stands s (entered m x p) (length m.instances) t
-  new_outermost t x p text level alone around = outermost (append_at m.instances x) text level alone around
-
-  pub new_inside : (t e u : ℕ) (x : Instance (List Held)) (p : Standing Activation) → x.text ≡ frame_text s t → x.level ≡ level_of s t → x.encloser ≡ Some e → encloser s.tables (frame_text s t) ≡ Some u → Stands s m e u → Stands s (entered m x p) (length m.instances) t
-  new_inside t e u x p text level out around st =
-      let y = is_there s m st in
-      inside (append_at m.instances x) text level out around (slice_get_within m.instances e y.now y.is) ((later_entered x p).stands e u st)
 
 -- ---- both stores read and written
 
 module _ (s : Source) (code : CodeOf) where
   pub unchanged : (m : Instances) (fs : Frames) → StoreAt s code m fs → Changed s code Every m fs m fs
-  unchanged m fs a = record { store = a; later = later_itself s m; keeps = record { temps = λ j t c of st le. refl }; standings = refl; frame_standings = refl }
+  unchanged m fs a = record { store = a; later = later_itself s m; keeps = record { temps = λ j t c b of st found temp. refl }; standings = refl; frame_standings = refl }
 
   found_alike : (level j : ℕ) (look look' : ℕ → Option ℕ) → ((k : ℕ) → look' k ≡ look k) → (x : Option (Instance (List Held))) (y : Option (Instance Cells)) → Both (InstanceAt s code) x y → found_at level look' j y ≡ found_at level look j x
   found_alike level j look look' e None None b = refl
@@ -540,10 +563,10 @@ module _ (s : Source) (code : CodeOf) where
     pub reads : machine.cell frames inst temp ≡ Some x
     pub reads_others : (c : ℕ) → c ≢ temp → machine.cell frames inst c ≡ machine.cell fs inst c
 
-  pub temp_written : (m : Instances) (fs : Frames) (inst t : ℕ) (b : Runs) (temp : ℕ) (x : Value) → StoreAt s code m fs → Stands s m inst t → Lives m inst → slice_get code.blocks (block_number s (frame_text s t)) ≡ Some b.block → length (own_part s (frame_text s t)) ≤ temp → temp < length b.block.types → TempWritten m fs inst temp x
+  pub temp_written : (m : Instances) (fs : Frames) (inst t : ℕ) (b : Runs) (temp : ℕ) (x : Value) → StoreAt s code m fs → Stands s m inst t → Lives m inst → slice_get code.blocks (block_number s (frame_text s t)) ≡ Some b.block → own_end s code (frame_text s t) ≤ temp → temp < length b.block.types → TempWritten m fs inst temp x
   temp_written m fs inst t b temp x a st lives found behind within =
       let now = lives_now m inst lives in
-      let r = store_temp s code m fs a inst t temp x b (framed s code m fs a st now.0 now.1) found behind within in
+      let r = store_temp s code m fs a inst t temp x b.block (framed s code m fs a st now.0 now.1) found (record { behind = behind; within = within }) in
       let reads = placed_here s code m r.frames (r.changed).store inst in
       record {
         frames = r.frames;

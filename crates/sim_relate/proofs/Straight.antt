@@ -91,25 +91,25 @@ module _ (code : CodeOf) (l : Limits) (line inst : ℕ) (runs : Runs) (below : L
   unfolding having
   step_at x pc q o stack fs z is e = ap (λ y. having y o (λ y. row code l o fs (act inst pc stack runs) below y.line.0 y.instr)) is.at ∙ e
 
-  pub pushes_on : (o : World) (stack : List Value) (v : Value) (go : List Value → Run Machine) (z : Run Machine) → length stack < runs.block.room → go (v ∷ stack) ≡ z → pushing runs.block.room stack v o go ≡ z
+  pub pushes_on : (o : World) (stack : List Value) (v : Value) (go : List Value → Run Machine) (z : Run Machine) → length stack < runs.room → go (v ∷ stack) ≡ z → pushing runs.room stack v o go ≡ z
   unfolding pushing
-  pushes_on o stack v go z lt h = let e : nat_lt (length stack) runs.block.room ≡ true = grind (arith, lt) in tested (nat_lt (length stack) runs.block.room) o (go (v ∷ stack)) z e h
+  pushes_on o stack v go z lt h = let e : nat_lt (length stack) runs.room ≡ true = grind (arith, lt) in tested (nat_lt (length stack) runs.room) o (go (v ∷ stack)) z e h
 
   pub cell_on : (fs : Frames) (o : World) (pc : ℕ) (stack : List Value) (z c : ℕ) (go : ℕ → ℕ → Run Machine) (x : Run Machine) → at_level fs z inst ≡ Some inst → go inst c ≡ x → cell_at fs (act inst pc stack runs) (pos z) (pos c) o go ≡ x
   unfolding cell_at level index having
   cell_on fs o pc stack z c go x e h = found ℕ (at_level fs z inst) inst o (λ j. go j c) x e h
 
-  pub load_row : (fs : Frames) (o : World) (pc : ℕ) (stack : List Value) (z c : ℕ) (v : Value) → at_level fs z inst ≡ Some inst → cell fs inst c ≡ Some v → length stack < runs.block.room → RowIs (i.Load (pos z) (pos c)) pc o stack fs (Going o (st (suc pc) (v ∷ stack) fs))
+  pub load_row : (fs : Frames) (o : World) (pc : ℕ) (stack : List Value) (z c : ℕ) (v : Value) → at_level fs z inst ≡ Some inst → cell fs inst c ≡ Some v → length stack < runs.room → RowIs (i.Load (pos z) (pos c)) pc o stack fs (Going o (st (suc pc) (v ∷ stack) fs))
   load_row fs o pc stack z c v e h lt = cell_on fs o pc stack z c _ _ e (found Value (cell fs inst c) v o _ _ h (pushes_on o stack v _ _ lt refl))
 
   pub store_row : (fs fs' : Frames) (o : World) (pc : ℕ) (v : Value) (stack : List Value) (z c : ℕ) → at_level fs z inst ≡ Some inst → cell_set fs inst c v ≡ Some fs' → RowIs (i.Store (pos z) (pos c)) pc o (v ∷ stack) fs (Going o (st (suc pc) stack fs'))
   unfolding popping
   store_row fs fs' o pc v stack z c e h = cell_on fs o pc (v ∷ stack) z c _ _ e (found Frames (cell_set fs inst c v) fs' o _ _ h refl)
 
-  pub int_row : (fs : Frames) (o : World) (pc : ℕ) (stack : List Value) (z : ℤ) → length stack < runs.block.room → RowIs (i.Int z) pc o stack fs (Going o (st (suc pc) (Of (Integer z) ∷ stack) fs))
+  pub int_row : (fs : Frames) (o : World) (pc : ℕ) (stack : List Value) (z : ℤ) → length stack < runs.room → RowIs (i.Int z) pc o stack fs (Going o (st (suc pc) (Of (Integer z) ∷ stack) fs))
   int_row fs o pc stack z lt = pushes_on o stack _ _ _ lt refl
 
-  pub dup_row : (fs : Frames) (o : World) (pc : ℕ) (v : Value) (stack : List Value) → suc (length stack) < runs.block.room → RowIs i.Dup pc o (v ∷ stack) fs (Going o (st (suc pc) (v ∷ v ∷ stack) fs))
+  pub dup_row : (fs : Frames) (o : World) (pc : ℕ) (v : Value) (stack : List Value) → suc (length stack) < runs.room → RowIs i.Dup pc o (v ∷ stack) fs (Going o (st (suc pc) (v ∷ v ∷ stack) fs))
   unfolding popping
   dup_row fs o pc v stack lt = pushes_on o (v ∷ stack) v _ _ lt refl
 
@@ -138,15 +138,15 @@ module _ (code : CodeOf) (l : Limits) (line inst : ℕ) (runs : Runs) (below : L
   unfolding performing pop_operands popping having standard_effect row_of take_text take_nothing computing putting_back
   length_stops t stack o fs go full = takes_too_many l line o (λ p. go (record p { store = o.store }) fs (Some (Integer (pos t.length))) stack) 0 full
 
-  length_room : (pc : ℕ) (v : Value) (stack : List Value) → length stack < runs.block.room → room_for name.TextLength (act inst pc (v ∷ stack) runs) ≡ true
+  length_room : (pc : ℕ) (v : Value) (stack : List Value) → length stack < runs.room → room_for name.TextLength (act inst pc (v ∷ stack) runs) ≡ true
   unfolding row_of
   length_room pc v stack lt = grind (arith, lt)
 
-  pub length_row : (fs : Frames) (o : World) (pc : ℕ) (t : TextVal) (stack : List Value) → is_exhausted l.storage o.words 0 ≡ false → length stack < runs.block.room → RowIs (i.Std (pos 20)) pc o (Of (Text t) ∷ stack) fs (Going o (st (suc pc) (Of (Integer (pos t.length)) ∷ stack) fs))
+  pub length_row : (fs : Frames) (o : World) (pc : ℕ) (t : TextVal) (stack : List Value) → is_exhausted l.storage o.words 0 ≡ false → length stack < runs.room → RowIs (i.Std (pos 20)) pc o (Of (Text t) ∷ stack) fs (Going o (st (suc pc) (Of (Integer (pos t.length)) ∷ stack) fs))
   length_row fs o pc t stack fits lt =
       found Standard (standard_of (pos 20)) name.TextLength o _ _ refl (tested (room_for name.TextLength (act inst pc (Of (Text t) ∷ stack) runs)) o _ _ (length_room pc (Of (Text t)) stack lt) (performs_length t stack o fs _ fits))
 
-  pub length_full : (fs : Frames) (o : World) (pc : ℕ) (t : TextVal) (stack : List Value) → is_exhausted l.storage o.words 0 ≡ true → length stack < runs.block.room → RowIs (i.Std (pos 20)) pc o (Of (Text t) ∷ stack) fs (stopping (StorageExhausted line o.words 0) o)
+  pub length_full : (fs : Frames) (o : World) (pc : ℕ) (t : TextVal) (stack : List Value) → is_exhausted l.storage o.words 0 ≡ true → length stack < runs.room → RowIs (i.Std (pos 20)) pc o (Of (Text t) ∷ stack) fs (stopping (StorageExhausted line o.words 0) o)
   length_full fs o pc t stack full lt =
       found Standard (standard_of (pos 20)) name.TextLength o _ _ refl (tested (room_for name.TextLength (act inst pc (Of (Text t) ∷ stack) runs)) o _ _ (length_room pc (Of (Text t)) stack lt) (length_stops t stack o fs _ full))
 
@@ -162,15 +162,15 @@ module _ (code : CodeOf) (l : Limits) (line inst : ℕ) (runs : Runs) (below : L
   unfolding performing pop_operands popping having standard_effect row_of take_integer take_nothing computing putting_back
   blanks_stop n stack o fs go full = takes_too_many l line o (λ p. go (with_texts (record p { store = o.store }) (blanks o.store.frames (pos n)).frames) fs (Some (Text (new_text o.store.frames (length (spaces n))))) stack) (blanks o.store.frames (pos n)).wanted full
 
-  blanks_room : (pc : ℕ) (v : Value) (stack : List Value) → length stack < runs.block.room → room_for name.Blanks (act inst pc (v ∷ stack) runs) ≡ true
+  blanks_room : (pc : ℕ) (v : Value) (stack : List Value) → length stack < runs.room → room_for name.Blanks (act inst pc (v ∷ stack) runs) ≡ true
   unfolding row_of
   blanks_room pc v stack lt = grind (arith, lt)
 
-  pub blanks_row : (fs : Frames) (o : World) (pc n : ℕ) (stack : List Value) → is_exhausted l.storage o.words (blanks o.store.frames (pos n)).wanted ≡ false → length stack < runs.block.room → RowIs (i.Std (pos 14)) pc o (Of (Integer (pos n)) ∷ stack) fs (Going (made o n) (st (suc pc) (Of (Text (new_text o.store.frames (length (spaces n)))) ∷ stack) fs))
+  pub blanks_row : (fs : Frames) (o : World) (pc n : ℕ) (stack : List Value) → is_exhausted l.storage o.words (blanks o.store.frames (pos n)).wanted ≡ false → length stack < runs.room → RowIs (i.Std (pos 14)) pc o (Of (Integer (pos n)) ∷ stack) fs (Going (made o n) (st (suc pc) (Of (Text (new_text o.store.frames (length (spaces n)))) ∷ stack) fs))
   blanks_row fs o pc n stack fits lt =
       found Standard (standard_of (pos 14)) name.Blanks o _ _ refl (tested (room_for name.Blanks (act inst pc (Of (Integer (pos n)) ∷ stack) runs)) o _ _ (blanks_room pc (Of (Integer (pos n))) stack lt) (performs_blanks n stack o fs _ fits))
 
-  pub blanks_full : (fs : Frames) (o : World) (pc n : ℕ) (stack : List Value) → is_exhausted l.storage o.words (blanks o.store.frames (pos n)).wanted ≡ true → length stack < runs.block.room → RowIs (i.Std (pos 14)) pc o (Of (Integer (pos n)) ∷ stack) fs (stopping (StorageExhausted line o.words (blanks o.store.frames (pos n)).wanted) o)
+  pub blanks_full : (fs : Frames) (o : World) (pc n : ℕ) (stack : List Value) → is_exhausted l.storage o.words (blanks o.store.frames (pos n)).wanted ≡ true → length stack < runs.room → RowIs (i.Std (pos 14)) pc o (Of (Integer (pos n)) ∷ stack) fs (stopping (StorageExhausted line o.words (blanks o.store.frames (pos n)).wanted) o)
   blanks_full fs o pc n stack full lt =
       found Standard (standard_of (pos 14)) name.Blanks o _ _ refl (tested (room_for name.Blanks (act inst pc (Of (Integer (pos n)) ∷ stack) runs)) o _ _ (blanks_room pc (Of (Integer (pos n))) stack lt) (blanks_stop n stack o fs _ full))
 
@@ -187,11 +187,11 @@ module _ (code : CodeOf) (l : Limits) (line inst : ℕ) (runs : Runs) (below : L
   performs_sub t part k n stack o fs go e fits =
       ap (λ r. taking l line 0 o (λ p. computing line (valued Text r) (record p { store = o.store }) (λ value. go (record p { store = o.store }) fs value stack))) e ∙ takes_none l line o (λ p. go (record p { store = o.store }) fs (Some (Text part)) stack) fits
 
-  sub_room : (pc : ℕ) (v x y : Value) (stack : List Value) → length stack < runs.block.room → room_for name.TextSub (act inst pc (v ∷ x ∷ y ∷ stack) runs) ≡ true
+  sub_room : (pc : ℕ) (v x y : Value) (stack : List Value) → length stack < runs.room → room_for name.TextSub (act inst pc (v ∷ x ∷ y ∷ stack) runs) ≡ true
   unfolding row_of
   sub_room pc v x y stack lt = grind (arith, lt)
 
-  pub sub_row : (fs : Frames) (o : World) (pc k n : ℕ) (t part : TextVal) (stack : List Value) → sub t (pos k) (pos n) ≡ Ok part → is_exhausted l.storage o.words 0 ≡ false → length stack < runs.block.room → RowIs (i.Std (pos 27)) pc o (Of (Integer (pos n)) ∷ Of (Integer (pos k)) ∷ Of (Text t) ∷ stack) fs (Going o (st (suc pc) (Of (Text part) ∷ stack) fs))
+  pub sub_row : (fs : Frames) (o : World) (pc k n : ℕ) (t part : TextVal) (stack : List Value) → sub t (pos k) (pos n) ≡ Ok part → is_exhausted l.storage o.words 0 ≡ false → length stack < runs.room → RowIs (i.Std (pos 27)) pc o (Of (Integer (pos n)) ∷ Of (Integer (pos k)) ∷ Of (Text t) ∷ stack) fs (Going o (st (suc pc) (Of (Text part) ∷ stack) fs))
   sub_row fs o pc k n t part stack e fits lt =
       found Standard (standard_of (pos 27)) name.TextSub o _ _ refl
       (tested (room_for name.TextSub (act inst pc (Of (Integer (pos n)) ∷ Of (Integer (pos k)) ∷ Of (Text t) ∷ stack) runs)) o _ _ (sub_room pc (Of (Integer (pos n))) (Of (Integer (pos k))) (Of (Text t)) stack lt) (performs_sub t part k n stack o fs _ e fits))

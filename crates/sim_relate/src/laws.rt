@@ -15,7 +15,7 @@ ghost use Rattle.sim_relate.specs.Examples.{WorkedCodes};
 /// instruction for anything else. At each moment the instance that operates lives with its enclosers and stands at no other place of the
 /// chains: code needs it where an instruction finds an instance by its level, outward from the one that operates, and where a temp is
 /// written that no other work may count on. Each program that breaks no rule is so, as soundness shows. The fourth speaks of its tables:
-/// no class and no block has a prefix, since levels inside others are not yet related.
+/// no block has a prefix, since prefixed blocks are not built yet.
 #[tactic(auto, using(crate::proofs::Whole::same_runs))]
 pub fn compiled_code_runs_as_meant()
     ensures { (s : Source) (code : CodeOf) → HasRules s → NamesObjects s → StaysSane s → Unprefixed s → Compiled s code → SameRuns s code }

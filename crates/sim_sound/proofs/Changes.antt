@@ -92,7 +92,7 @@ sights_differ : (g : List Sight) (a b j d : ℕ) (h k : Holds) → a ≡ b → s
 sights_differ g a b j d h k same e f = let x : Hidden h j d ≡ Open k = same_some (slice_get g b) (Hidden h j d) (Open k) (subst (λ z. slice_get g z ≡ Some (Hidden h j d)) same e) f in cc
 
 -- an array with something else about it
-module _ (o : AllArrays) (a0 : ℕ) (old new : OneArray) (is : unless_given (slice_get o.real a0) ≡ Some old) (back : new.given_back ≡ old.given_back) (owner : new.owner ≡ old.owner) (kept : old.kept ≡ true → new.kept ≡ true) (bounds : new.bounds ≡ old.bounds) (len : length new.elements ≡ length old.elements) where
+module _ (o : AllArrays) (a0 : ℕ) (old new : OneArray) (is : unless_given (slice_get o.real a0) ≡ Some old) (back : new.given_back ≡ old.given_back) (owner : (old.kept ≡ true) ⊎ (new.owner ≡ old.owner)) (kept : old.kept ≡ true → new.kept ≡ true) (bounds : new.bounds ≡ old.bounds) (len : length new.elements ≡ length old.elements) where
   abbrev pub replaced : AllArrays
   replaced = record o { real = slice_set o.real a0 new }
 
@@ -120,7 +120,7 @@ module _ (o : AllArrays) (a0 : ℕ) (old new : OneArray) (is : unless_given (sli
               it = new;
               lives = new_lives a same;
               known = f.known;
-              owned = ⊎_elim (λ k. inl (kept (subst (λ x. x.kept ≡ true) e k))) (λ k. inr (subst (λ x. Knows m j x) (ap (λ x. x.owner) e ∙ sym owner) k)) f.owned;
+              owned = ⊎_elim (λ k. inl (kept (subst (λ x. x.kept ≡ true) e k))) (λ k. ⊎_elim (λ was. inl (kept was)) (λ same. inr (subst (λ x. Knows m j x) (ap (λ x. x.owner) e ∙ sym same) k)) owner) f.owned;
               count = count_new f.it e f.count;
             },
             λ lt. subst (λ x. n < x) (ap (λ x. length x.elements) e ∙ sym len) lt,
@@ -175,13 +175,13 @@ module _ (o : AllArrays) (m : Instances) (j0 : ℕ) (h0 : Holds) (a0 i : ℕ) (v
   old_value = Rattle.sim_sound.proofs.Lists.there_get old.elements i at.there
 
   pub later_element : (s : Source) → Later s o m changed m All
-  later_element s = later_replaced o a0 old new (at.array).lives refl refl (λ e. e) refl (set_len old.elements i v) s m
+  later_element s = later_replaced o a0 old new (at.array).lives refl (inr refl) (λ e. e) refl (set_len old.elements i v) s m
 
   pub copies_element : (j d : ℕ) → Copies o changed j d
-  copies_element j d = copies_replaced o a0 old new (at.array).lives refl refl (λ e. e) refl (set_len old.elements i v) h0 (at.array).known j d
+  copies_element j d = copies_replaced o a0 old new (at.array).lives refl (inr refl) (λ e. e) refl (set_len old.elements i v) h0 (at.array).known j d
 
   pub elements_changed : (s : Source) → PlainFine s m h0 v → ElementsFine s o m → ElementsFine s changed m
-  elements_changed s fine all = elements_replaced o a0 old new (at.array).lives refl refl (λ e. e) refl (set_len old.elements i v) s m (Open h0) (at.array).known by_place all
+  elements_changed s fine all = elements_replaced o a0 old new (at.array).lives refl (inr refl) (λ e. e) refl (set_len old.elements i v) s m (Open h0) (at.array).known by_place all
     where
       by_place : (n : ℕ) (p : Plain) → slice_get new.elements n ≡ Some p → PlainFine s m h0 p
       by_place n p e =
@@ -252,6 +252,33 @@ module _ (o : World) (g : List Sight) (m : Instances) (i d : ℕ) (h0 : Holds) (
 
       other : a ≢ a0 → PlainFine s m (elements_of y) p
       other differ = all a k it y p (sym (ap unless_given (set_other o.arrays a0 a moved differ)) ∙ lives) (sym (set_other g a0 a (Open h0) differ) ∙ is) at
+
+-- ---- an array that is kept goes over to an instance
+
+module _ (o : World) (g : List Sight) (m : Instances) (h0 : Holds) (a0 : ℕ) (kept : KeptFine (see g o) h0 a0) (n : ℕ) where
+  abbrev given : OneArray
+  given = record kept.it { owner = n }
+
+  abbrev pub given_world : World
+  given_world = with_array o a0 given
+
+  abbrev Then : AllArrays
+  Then = see g given_world
+
+  pub given_is : owned_by n (slice_get o.arrays a0) o a0 ≡ given_world
+  given_is = ap (λ x. owned_by n x o a0) (array_there (slice_get o.arrays a0) kept.it kept.lives).0
+
+  pub given_long : length g ≡ length o.arrays → length g ≡ length given_world.arrays
+  given_long e = e ∙ sym (set_len o.arrays a0 given)
+
+  pub given_later : (s : Source) → Later s (see g o) m Then m All
+  given_later s = later_replaced (see g o) a0 kept.it given kept.lives refl (inl kept.keeps) (λ e. e) refl refl s m
+
+  pub given_copy : (j e : ℕ) (k : Holds) (a : ℕ) → CopyFine (see g o) j e k a → CopyFine Then j e k a
+  given_copy j e k a f = copies_replaced (see g o) a0 kept.it given kept.lives refl (inl kept.keeps) (λ e. e) refl refl h0 kept.known j (suc e) e k a (omega arith) f
+
+  pub given_elements : (s : Source) → ElementsFine s (see g o) m → ElementsFine s Then m
+  given_elements s all = elements_replaced (see g o) a0 kept.it given kept.lives refl (inl kept.keeps) (λ e. e) refl refl s m (Open h0) kept.known (λ q p at. all a0 q kept.it (Open h0) p kept.lives kept.known at) all
 
 -- ---- cells
 

@@ -16,13 +16,13 @@ use Rattle.sim_code.specs.Instances.{Instance, ends_in, entered, is_live, kept_o
 use Rattle.sim_code.specs.Instances as instances
 use Rattle.sim_code.specs.Outcome.{Run, World}
 use Rattle.sim_meaning.specs.Attributes.{is_connection}
-use Rattle.sim_meaning.specs.Entries.{arrays_by_value, filled_behind, first_cells, formals_of, in_instance, instances_kept, is_held, new_instance, numbers_of, words_of_cells}
+use Rattle.sim_meaning.specs.Entries.{arrays_by_value, filled_behind, first_cells, formals_of, in_instance, instances_kept, is_held, new_instance, numbers_of, passes, words_of_cells}
 use Rattle.sim_meaning.specs.Levels.{is_class}
 use Rattle.sim_meaning.specs.Meaning.{block_work, called, first_step, has_result, procedure_entered, program_entered, sub_block_entered}
 use Rattle.sim_meaning.specs.Pending.{Activation, Address, ArrayValue, Configuration, Declared, Do, EndBlock, EndProcedure, EndProgram, Exec, Execs, Held, Instances, Item, Key, Link, Of, PastOp, ProcedureValue, Tree, Val, instance_in, owner}
-use Rattle.sim_meaning.specs.Texts.{BlockText, ProcedureText, Text, is_class_free, text}
+use Rattle.sim_meaning.specs.Texts.{BlockText, ClassText, ConnectionText, ProcedureText, Text, is_class_free, text}
 use Rattle.sim_sound.specs.Held.{ArrayOf, Holds, InBound}
-use Rattle.sim_sound.specs.Typed.{BlockTyped, ProcedureTyped, Typed, arrays_of_block}
+use Rattle.sim_sound.specs.Typed.{BlockTyped, ProcedureTyped, Typed, TextTyped, arrays_of_block}
 use Rattle.sim_sound.proofs.ArrayWork.{arrays_are, block_arrays}
 use Rattle.sim_sound.proofs.Attributes.{class_words}
 use Rattle.sim_sound.proofs.Cells.{key_level, keys_alone, made_alone, own_site}
@@ -48,6 +48,16 @@ module _ (s : Source) (ok : Typed s) (v : AllArrays) (m : Instances) (k : ℕ) (
   abbrev pub now : Instances
   now = entered m made_new z
 
+  passing_is : passes (text s k) (is_class_free s k) ≡ is_class_free s k
+  passing_is = ap (λ z. passes z (is_class_free s k)) is ∙ by_text x is (ok.texts k x is)
+    where
+      by_text : (y : Text) → text s k ≡ Some y → TextTyped s k y → passes (Some y) (is_class_free s k) ≡ is_class_free s k
+      by_text (BlockText begin ds ss) e a = refl
+      by_text (ProcedureText result h b) e a = refl
+      by_text (ClassText prefix h ds ss) e a = sym a.stays
+      by_text ConnectionText e a = absurd (let z : ◌≡◌ {A = Bool} true false = sym (ap is_connection e) ∙ solid in cc)
+      by_text _ e a = absurd a
+
   pub later_new : Later s v m v now All
   later_new = later_entered s v m made_new z
 
@@ -61,7 +71,7 @@ module _ (s : Source) (ok : Typed s) (v : AllArrays) (m : Instances) (k : ℕ) (
   present_new todo made = record { now = made_new; lives = new_lives; stands = own_text same_level; words = x; has_text = is; made = made }
 
   instance_new : ((u : ℕ) → LevelOf s k u → (key : Key) → KeyAmong key (keys_in s u (text s u)) → KeyAmong key (map key_of cells)) → CellsFine s v now (length m.instances) k cells → Enclosed s now (length m.instances) k e → InstanceFine s v now (length m.instances) made_new
-  instance_new keys fine out = record { level = refl; solid = solid; keys = keys; holds = λ u at key a. key_level s ok solid at key a; cells = fine; ends = refl; not_kept = refl; out = out }
+  instance_new keys fine out = record { level = refl; solid = solid; keys = keys; holds = λ u at key a. key_level s ok solid at key a; cells = fine; ends = passing_is; not_kept = refl; out = out }
 
   pub begun_new : StoreFine s v m → ((u : ℕ) → LevelOf s k u → (key : Key) → KeyAmong key (keys_in s u (text s u)) → KeyAmong key (map key_of cells)) → CellsFine s v now (length m.instances) k cells → Enclosed s now (length m.instances) k e → (todo : List DeclNo) → Made s k todo cells → Begun s v now (length m.instances) k todo
   unfolding present_new
@@ -72,7 +82,7 @@ module _ (s : Source) (ok : Typed s) (v : AllArrays) (m : Instances) (k : ℕ) (
   knows_below j stays lt = by_flag (is_class_free s k) refl
     where
       by_flag : (b : Bool) → is_class_free s k ≡ b → Knows now (length m.instances) j
-      by_flag true free = earlier (ap ends_in new_lives ∙ ap (λ q. q && true) free) (omega (arith, lt))
+      by_flag true free = earlier (ap ends_in new_lives ∙ ap (λ q. q && true) (passing_is ∙ free)) (omega (arith, lt))
       by_flag false free = staying (stays_there (stays free))
         where
           stays_there : Stays m j → Stays now j

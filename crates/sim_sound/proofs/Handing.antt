@@ -1,4 +1,4 @@
--- The copies that are actuals of a procedure or a class go over to its instance.
+-- The arrays that go over to the instance of a procedure or a class: of a procedure those that are copies, of a class all.
 use Rattle.std.proofs.Common.{◌≡◌, ℕ, suc, ◌<◌, Bool, true, false, List, [], ◌∷◌, length, Option, Some, None, inl, refl, sym, ap, ◌∙◌, subst, arith}
 use Rattle.std.specs.Prelude.{◌||◌, if◌then◌else◌, slice_get, slice_set}
 use Rattle.std.specs.List.{list_any}
@@ -13,16 +13,16 @@ use Rattle.sim_scope.specs.declared.types.SimType.TheVariants as t
 use Rattle.sim_scope.specs.Source.{Source}
 use Rattle.sim_code.specs.Arrays.{handed_over, owned_by}
 use Rattle.sim_code.specs.Outcome.{ArrayOf as OneArray, World}
-use Rattle.sim_meaning.specs.Entries.{arrays_by_value, is_array_by_value, is_held, with_array_of}
+use Rattle.sim_meaning.specs.Entries.{arrays_among, arrays_by_value, is_array_by_value, is_held, with_array_of}
 use Rattle.sim_meaning.specs.Levels.{qualification}
 use Rattle.sim_meaning.specs.Pending.{Address, ArrayValue, Instances, Link, Of, ProcedureValue, Tree, Val}
-use Rattle.sim_sound.specs.Held.{ArrayOf, Holds, formal_holds, held_by, reference_to}
+use Rattle.sim_sound.specs.Held.{ArrayOf, Holds, Refers, Simply, formal_holds, held_by, reference_to}
 use Rattle.sim_sound.specs.Typed.{FormalsAre}
 use Rattle.sim_sound.proofs.Cells.{plain_anywhere, val_up}
-use Rattle.sim_sound.proofs.Changes.{ElementsFine, handed_copy, handed_elements, handed_is, handed_later, handed_long, handed_over_array, handed_sights, handed_world}
+use Rattle.sim_sound.proofs.Changes.{ElementsFine, given_copy, given_elements, given_is, given_later, given_long, given_world, handed_copy, handed_elements, handed_is, handed_later, handed_long, handed_over_array, handed_sights, handed_world}
 use Rattle.sim_sound.proofs.FirstCells.{ActualsAre, SomeDeep, SomeFine, ValsFine}
 use Rattle.sim_sound.proofs.Later.{All, Later, hand_later, later_none, later_then, val_later}
-use Rattle.sim_sound.proofs.Sound.{AddressOf, AllArrays, Copied, CopyFine, DeepFine, ImageAddress, IsPlain, Kinds, Knows, Lasting, LinkTo, ReferenceAddress, Sight, ValFine, Value, class_kinds, formal_kinds, holds_of, in_hand, kept_kinds, see}
+use Rattle.sim_sound.proofs.Sound.{AddressOf, AllArrays, Copied, CopyFine, DeepFine, ImageAddress, IsPlain, KeptFine, Kinds, Knows, Lasting, LinkTo, ReferenceAddress, Sight, ValFine, Value, class_kinds, formal_kinds, holds_of, in_hand, kept_kinds, see}
 
 -- what is handed over is arrays alone
 owned_same : (n a : ℕ) (x : Option OneArray) (o p : World) → o.arrays ≡ p.arrays → (owned_by n x o a).arrays ≡ (owned_by n x p a).arrays
@@ -125,16 +125,10 @@ module _ (s : Source) (m m' : Instances) (i n : ℕ) (lt : i < n) (enter : (o : 
     pub elements : ElementsFine s (see g o) m → ElementsFine s (see sights o') m
     pub values : Values (see sights o')
 
-  -- one copy is handed over, and the actuals above it stay
-  module _ (o : World) (g : List Sight) (d : ℕ) (h0 : Holds) (a0 : ℕ) (copy : CopyFine (see g o) i d h0 a0) where
-    abbrev Now : AllArrays
-    Now = see (handed_sights o g m i d h0 a0 copy n) (handed_world o g m i d h0 a0 copy n)
-
-    e0 : Later s (see g o) m Now m All
-    e0 = handed_later o g m i d h0 a0 copy n s
-
+  -- one array is handed over, and the actuals above it stay
+  module _ (o : World) (g : List Sight) (d : ℕ) (Now : AllArrays) (e0 : Later s (see g o) m Now m All) (copies : (e : ℕ) (k : Holds) (a : ℕ) → d < e → CopyFine (see g o) i e k a → CopyFine Now i e k a) where
     deep_moved : (e : ℕ) → d < e → (x : Kinds) (v : Val) → DeepFine s (see g o) m i e x v → DeepFine s Now m i e x v
-    deep_moved e less (Copied k) (ArrayValue a) f = handed_copy o g m i d h0 a0 copy n i e k a (λ q same. omega (arith, same, less)) f
+    deep_moved e less (Copied k) (ArrayValue a) f = copies e k a less f
     deep_moved e less (Copied k) (Of p) f = absurd f
     deep_moved e less (Copied k) (Link z) f = absurd f
     deep_moved e less (Copied k) (Address z) f = absurd f
@@ -157,31 +151,32 @@ module _ (s : Source) (m m' : Instances) (i n : ℕ) (lt : i < n) (enter : (o : 
     actuals_moved e less (x ∷ xs) [] a = absurd a
     actuals_moved e less (x ∷ xs) (v ∷ vs) a = (some_moved e less x v a.0, actuals_moved (suc e) (omega (arith, less)) xs vs a.1)
 
-  module _ (fs : List Formal) (vs : List Val) (o : World) (g : List Sight) (d : ℕ) where
+  -- and then the arrays of these numbers, which are among the other actuals
+  module _ (fs : List Formal) (vs : List Val) (ns : List ℕ) (o : World) (g : List Sight) (d : ℕ) where
     abbrev Rest : World → List Sight → Type 0
-    Rest p z = Handed p z (suc d) (handed_over n (arrays_by_value fs vs) p) (λ y. (kk : ℕ) → ValsFine s y m' n kk (holds_of s fs) vs)
+    Rest p z = Handed p z (suc d) (handed_over n ns p) (λ y. (kk : ℕ) → ValsFine s y m' n kk (holds_of s fs) vs)
 
     abbrev Whole : Option Holds → Val → List ℕ → Type 0
     Whole h v ns = Handed o g d (handed_over n ns o) (λ z. (kk : ℕ) → SomeFine s z m' n kk h v × ValsFine s z m' n kk (holds_of s fs) vs)
 
     -- a value that is no copy
-    other_value : (h : Holds) (v : Val) → ((z : AllArrays) → Later s (see g o) m z m All → ValFine s z m' n h v) → Rest o g → Whole (Some h) v (arrays_by_value fs vs)
+    other_value : (h : Holds) (v : Val) → ((z : AllArrays) → Later s (see g o) m z m All → ValFine s z m' n h v) → Rest o g → Whole (Some h) v ns
     other_value h v up r = record {
       sights = r.sights;
       long = r.long;
       later = r.later;
       copies = λ j e k a less c. r.copies j e k a (λ q. let x = less q in omega (arith, x)) c;
       elements = r.elements;
-      values = λ kk. (up (see r.sights (handed_over n (arrays_by_value fs vs) o)) (r.later m), r.values kk);
+      values = λ kk. (up (see r.sights (handed_over n ns o)) (r.later m), r.values kk);
     }
 
-    copy_handed : (h : Holds) (a0 : ℕ) (copy : CopyFine (see g o) i d h a0) → Rest (handed_world o g m i d h a0 copy n) (handed_sights o g m i d h a0 copy n) → Whole (Some (ArrayOf h)) (ArrayValue a0) (a0 ∷ arrays_by_value fs vs)
+    copy_handed : (h : Holds) (a0 : ℕ) (copy : CopyFine (see g o) i d h a0) → Rest (handed_world o g m i d h a0 copy n) (handed_sights o g m i d h a0 copy n) → Whole (Some (ArrayOf h)) (ArrayValue a0) (a0 ∷ ns)
     unfolding handed_over
     copy_handed h a0 copy r =
         let now = handed_world o g m i d h a0 copy n in
         let seen = handed_sights o g m i d h a0 copy n in
-        let end = handed_over n (arrays_by_value fs vs) now in
-        subst (λ w. Handed o g d (handed_over n (arrays_by_value fs vs) w) (λ z. (kk : ℕ) → SomeFine s z m' n kk (Some (ArrayOf h)) (ArrayValue a0) × ValsFine s z m' n kk (holds_of s fs) vs)) (sym (handed_is o g m i d h a0 copy n)) (record {
+        let end = handed_over n ns now in
+        subst (λ w. Handed o g d (handed_over n ns w) (λ z. (kk : ℕ) → SomeFine s z m' n kk (Some (ArrayOf h)) (ArrayValue a0) × ValsFine s z m' n kk (holds_of s fs) vs)) (sym (handed_is o g m i d h a0 copy n)) (record {
           sights = r.sights;
           long = r.long;
           later = λ mm. later_then s (see g o) mm (see seen now) mm (see r.sights end) mm (handed_later o g mm i d h a0 copy n s) (r.later mm);
@@ -192,7 +187,7 @@ module _ (s : Source) (m m' : Instances) (i n : ℕ) (lt : i < n) (enter : (o : 
 
     by_kind : Rest o g → ((h : Holds) (a0 : ℕ) (copy : CopyFine (see g o) i d h a0) → Rest (handed_world o g m i d h a0 copy n) (handed_sights o g m i d h a0 copy n))
         → (b : Bool) (x : Option Kinds) (h : Option Holds) (v : Val) → HandsTo (Knows m' n i) b x h → SomeDeep s (see g o) m i d x v
-        → Whole h v (if b then with_array_of v (arrays_by_value fs vs) else arrays_by_value fs vs)
+        → Whole h v (if b then with_array_of v ns else ns)
     by_kind r copied false _ _ v (as_value {h = h} plain) f =
         other_value h v (λ z e. plain_anywhere s z m' i n h v plain (val_later s z m z m' All (enter z) i tt h v (val_later s (see g o) m z m All e i tt h v f))) r
     by_kind r copied false _ _ v (as_array {h = h} knows) f =
@@ -211,6 +206,53 @@ module _ (s : Source) (m m' : Instances) (i n : ℕ) (lt : i < n) (enter : (o : 
     by_kind r copied false _ _ (ProcedureValue z y) as_kept f = absurd f
     by_kind r copied false _ _ (Tree z) as_kept f = absurd f
 
+    kept_handed : (h : Holds) (a0 : ℕ) (kept : KeptFine (see g o) h a0) → Rest (given_world o g m h a0 kept n) g → Whole (Some (ArrayOf h)) (ArrayValue a0) (a0 ∷ ns)
+    unfolding handed_over
+    kept_handed h a0 kept r =
+        let now = given_world o g m h a0 kept n in
+        let end = handed_over n ns now in
+        subst (λ w. Handed o g d (handed_over n ns w) (λ z. (kk : ℕ) → SomeFine s z m' n kk (Some (ArrayOf h)) (ArrayValue a0) × ValsFine s z m' n kk (holds_of s fs) vs)) (sym (given_is o g m h a0 kept n)) (record {
+          sights = r.sights;
+          long = r.long;
+          later = λ mm. later_then s (see g o) mm (see g now) mm (see r.sights end) mm (given_later o g mm h a0 kept n s) (r.later mm);
+          copies = λ j e kd a less c. r.copies j e kd a (λ q. let x = less q in omega (arith, x)) (given_copy o g m h a0 kept n j e kd a c);
+          elements = λ all. r.elements (given_elements o g m h a0 kept n s all);
+          values = λ kk. (let k = (r.later m).kept h a0 ((given_later o g m h a0 kept n s).kept h a0 kept) in record { it = k.it; lives = k.lives; known = k.known; owned = inl k.keeps; count = k.count }, r.values kk);
+        })
+
+    no_array : (h : Holds) (v : Val) → IsPlain h → ValFine s (see g o) m i h v → with_array_of v ns ≡ ns
+    no_array (Simply k) (Of p) is f = refl
+    no_array (Refers c) (Of p) is f = refl
+    no_array (Simply k) _ is f = absurd f
+    no_array (Refers c) _ is f = absurd f
+    no_array (ArrayOf k) v is f = absurd is
+
+    -- all arrays among the actuals of a class go over
+    by_class : Rest o g → ((h : Holds) (a0 : ℕ) (copy : CopyFine (see g o) i d h a0) → Rest (handed_world o g m i d h a0 copy n) (handed_sights o g m i d h a0 copy n))
+        → ((h : Holds) (a0 : ℕ) (kept : KeptFine (see g o) h a0) → Rest (given_world o g m h a0 kept n) g) → (b : Bool) (x : Option Kinds) (h : Option Holds) (v : Val) → HandsTo ⊥ b x h → SomeDeep s (see g o) m i d x v
+        → Whole h v (with_array_of v ns)
+    by_class r copied kept false _ _ v (as_value {h = h} plain) f =
+        subst (λ z. Whole (Some h) v z) (sym (no_array h v plain f)) (other_value h v (λ z e. plain_anywhere s z m' i n h v plain (val_later s z m z m' All (enter z) i tt h v (val_later s (see g o) m z m All e i tt h v f))) r)
+    by_class r copied kept false _ _ v (as_array knows) f = absurd knows
+    by_class r copied kept true _ _ (ArrayValue a0) (as_copy {h = h}) f = copy_handed h a0 f (copied h a0 f)
+    by_class r copied kept true _ _ (Of p) as_copy f = absurd f
+    by_class r copied kept true _ _ (Link z) as_copy f = absurd f
+    by_class r copied kept true _ _ (Address z) as_copy f = absurd f
+    by_class r copied kept true _ _ (ProcedureValue z y) as_copy f = absurd f
+    by_class r copied kept true _ _ (Tree z) as_copy f = absurd f
+    by_class r copied kept false _ _ (ArrayValue a0) (as_kept {h = h}) f = kept_handed h a0 f (kept h a0 f)
+    by_class r copied kept false _ _ (Of p) as_kept f = absurd f
+    by_class r copied kept false _ _ (Link z) as_kept f = absurd f
+    by_class r copied kept false _ _ (Address z) as_kept f = absurd f
+    by_class r copied kept false _ _ (ProcedureValue z y) as_kept f = absurd f
+    by_class r copied kept false _ _ (Tree z) as_kept f = absurd f
+
+  -- of the actuals above a copy that is handed over
+  past_copy : (o : World) (g : List Sight) (d : ℕ) (h : Holds) (a0 : ℕ) (copy : CopyFine (see g o) i d h a0) (xs : List (Option Kinds)) (vs : List Val) → ActualsAre s (see g o) m i (suc d) xs vs
+      → ActualsAre s (see (handed_sights o g m i d h a0 copy n) (handed_world o g m i d h a0 copy n)) m i (suc d) xs vs
+  past_copy o g d h a0 copy xs vs a =
+      actuals_moved o g d (see (handed_sights o g m i d h a0 copy n) (handed_world o g m i d h a0 copy n)) (handed_later o g m i d h a0 copy n s) (λ e k b less f. handed_copy o g m i d h a0 copy n i e k b (λ q same. omega (arith, same, less)) f) (suc d) (omega arith) xs vs a
+
   pub hand_all : (fs : List Formal) (xs : List (Option Kinds)) → AllHandTo s (Knows m' n i) fs xs → (vs : List Val) (o : World) (g : List Sight) → length g ≡ length o.arrays → (d : ℕ) → ActualsAre s (see g o) m i d xs vs → Handed o g d (handed_over n (arrays_by_value fs vs) o) (λ z. (kk : ℕ) → ValsFine s z m' n kk (holds_of s fs) vs)
   unfolding handed_over
   hand_all [] [] b [] o g long d a = record { sights = g; long = long; later = λ mm. later_none s (see g o) mm; copies = λ j e k a less c. c; elements = λ all. all; values = λ kk. tt }
@@ -219,6 +261,19 @@ module _ (s : Source) (m m' : Instances) (i n : ℕ) (lt : i < n) (enter : (o : 
   hand_all (f ∷ fs) [] b vs o g long d a = absurd b
   hand_all (f ∷ fs) (x ∷ xs) b [] o g long d a = absurd a
   hand_all (f ∷ fs) (x ∷ xs) b (v ∷ vs) o g long d a =
-      by_kind fs vs o g d (hand_all fs xs b.1 vs o g long (suc d) a.1)
-      (λ h a0 copy. hand_all fs xs b.1 vs (handed_world o g m i d h a0 copy n) (handed_sights o g m i d h a0 copy n) (handed_long o g m i d h a0 copy n long) (suc d) (actuals_moved o g d h a0 copy (suc d) (omega arith) xs vs a.1))
+      by_kind fs vs (arrays_by_value fs vs) o g d (hand_all fs xs b.1 vs o g long (suc d) a.1)
+      (λ h a0 copy. hand_all fs xs b.1 vs (handed_world o g m i d h a0 copy n) (handed_sights o g m i d h a0 copy n) (handed_long o g m i d h a0 copy n long) (suc d) (past_copy o g d h a0 copy xs vs a.1))
+      (is_array_by_value f.mode f.kind) x (formal_holds s f.mode f.kind f.ty) v b.0 a.0
+
+  pub hand_every : (fs : List Formal) (xs : List (Option Kinds)) → AllHandTo s ⊥ fs xs → (vs : List Val) (o : World) (g : List Sight) → length g ≡ length o.arrays → (d : ℕ) → ActualsAre s (see g o) m i d xs vs → Handed o g d (handed_over n (arrays_among vs) o) (λ z. (kk : ℕ) → ValsFine s z m' n kk (holds_of s fs) vs)
+  unfolding handed_over
+  hand_every [] [] b [] o g long d a = record { sights = g; long = long; later = λ mm. later_none s (see g o) mm; copies = λ j e k a less c. c; elements = λ all. all; values = λ kk. tt }
+  hand_every [] [] b (v ∷ vs) o g long d a = absurd a
+  hand_every [] (x ∷ xs) b vs o g long d a = absurd b
+  hand_every (f ∷ fs) [] b vs o g long d a = absurd b
+  hand_every (f ∷ fs) (x ∷ xs) b [] o g long d a = absurd a
+  hand_every (f ∷ fs) (x ∷ xs) b (v ∷ vs) o g long d a =
+      by_class fs vs (arrays_among vs) o g d (hand_every fs xs b.1 vs o g long (suc d) a.1)
+      (λ h a0 copy. hand_every fs xs b.1 vs (handed_world o g m i d h a0 copy n) (handed_sights o g m i d h a0 copy n) (handed_long o g m i d h a0 copy n long) (suc d) (past_copy o g d h a0 copy xs vs a.1))
+      (λ h a0 kept. hand_every fs xs b.1 vs (given_world o g m h a0 kept n) g (given_long o g m h a0 kept n long) (suc d) (actuals_moved o g d (see g (given_world o g m h a0 kept n)) (given_later o g m h a0 kept n s) (λ e k y less f. given_copy o g m h a0 kept n i e k y f) (suc d) (omega arith) xs vs a.1))
       (is_array_by_value f.mode f.kind) x (formal_holds s f.mode f.kind f.ty) v b.0 a.0

@@ -23,7 +23,7 @@ use Rattle.sim_code.specs.Instances.{entered, is_live}
 use Rattle.sim_code.specs.Outcome.{Run, World}
 use Rattle.sim_meaning.specs.Attributes.{is_connection}
 use Rattle.sim_meaning.specs.Closing.{class_parameters}
-use Rattle.sim_meaning.specs.Entries.{arrays_by_value, is_array_by_value, new_instance, numbers_of, words_of_cells}
+use Rattle.sim_meaning.specs.Entries.{arrays_among, is_array_by_value, new_instance, numbers_of, words_of_cells}
 use Rattle.sim_meaning.specs.Levels.{is_class, levels}
 use Rattle.sim_meaning.specs.Meaning.{do_op}
 use Rattle.sim_meaning.specs.Objects.{arrays_given, attributes_from, cells_of_levels, declared, filled_in, generated, in_object, inner_done, levels_work, object_entered}
@@ -38,14 +38,14 @@ use Rattle.sim_sound.proofs.ClassLevels.{AllLevels, LevelIn, LevelIs, LevelsAre,
 use Rattle.sim_sound.proofs.Entering.{begun_new, below_new, chain_lives, enters_fine, inside_new, later_new, link_is, lives_is, new_knows, same_arrays, store_handed}
 use Rattle.sim_sound.proofs.Evals.{IsFine, Work, goes_on}
 use Rattle.sim_sound.proofs.FirstCells.{ActualsAre, AllSome, ValsFine, all_taken, taken}
-use Rattle.sim_sound.proofs.Handing.{Handed, classes_hand, hand_all, handed_same}
+use Rattle.sim_sound.proofs.Handing.{Handed, classes_hand, hand_every, handed_same}
 use Rattle.sim_sound.proofs.Later.{All, Copies, Later, all_apart, chain_later, hands_later, live_less, work_later}
 use Rattle.sim_sound.proofs.Lifts.{Goes, any_popped, enters, had, ran, whens}
 use Rattle.sim_sound.proofs.Lists.{same_some}
 use Rattle.sim_sound.proofs.Moves.{new_standing}
 use Rattle.sim_sound.proofs.Prefixes.{LevelOf, level_words}
 use Rattle.sim_sound.proofs.Reach.{attribute_key}
-use Rattle.sim_sound.proofs.Sound.{AllArrays, Begun, CellsFine, ChainFine, DeclareFine, Generated, HandsFine, KeyAmong, Kinds, Knows, LevelsFine, LinkTo, Made, NewOpFine, Operates, Sight, StoreFine, Value, Whole, WorkFine, class_kinds, holds_of, in_hand, kept_kinds, key_of, keys_in, see}
+use Rattle.sim_sound.proofs.Sound.{AllArrays, Begun, CellsFine, ChainFine, DeclareFine, Generated, HandsFine, KeyAmong, Kinds, LevelsFine, LinkTo, Made, NewOpFine, Operates, Sight, StoreFine, Value, Whole, WorkFine, class_kinds, holds_of, in_hand, kept_kinds, key_of, keys_in, see}
 
 -- ---- actual parameters of a class
 
@@ -123,7 +123,7 @@ module _ (s : Source) (ok : Typed s) (l : Limits) (o : World) (sights : List Sig
     fs = class_parameters s (Some k)
 
     abbrev P : World
-    P = handed_over N (arrays_by_value fs vs) o
+    P = handed_over N (arrays_among vs) o
 
     typed : ClassTyped s k ds ss
     typed = ok.texts k X is
@@ -137,8 +137,8 @@ module _ (s : Source) (ok : Typed s) (l : Limits) (o : World) (sights : List Sig
 
     handed : (c : List Held) → Handed s m (After c) i N top.before (λ q. later_new s ok q m k (Some j) c AttachedObject X is solid) (new_knows s ok (see sights o) m k (Some j) c AttachedObject X is solid) o sights d P (λ z. (kk : ℕ) → ValsFine s z (After c) N kk (holds_of s fs) vs)
     handed c =
-        hand_all s m (After c) i N top.before (λ q. later_new s ok q m k (Some j) c AttachedObject X is solid) (new_knows s ok (see sights o) m k (Some j) c AttachedObject X is solid) fs (class_kinds s fs)
-        (classes_hand s (Knows (After c) N i) formals fs typed.formals) vs o sights long d acts
+        hand_every s m (After c) i N top.before (λ q. later_new s ok q m k (Some j) c AttachedObject X is solid) (new_knows s ok (see sights o) m k (Some j) c AttachedObject X is solid) fs (class_kinds s fs)
+        (classes_hand s ⊥ formals fs typed.formals) vs o sights long d acts
 
     -- the formal parameters and constants of all levels
     parameters : (e : DeclNo) → Among e numbers → IsFormal (entry_of s.tables e) → Among e formals
@@ -281,9 +281,9 @@ module _ (s : Source) (ok : Typed s) (l : Limits) (o : World) (sights : List Sig
 
     pub object_goes : Goes (IsFine s) (object_entered s l o m i w vs' rest k line vs j xs)
     object_goes =
-        had (IsFine s) (filled_in vs (Some (cells_of_levels s xs)) formals) Cells o (λ c. entering l line (words_of_cells (cells_of_levels s xs)) o (λ p. in_object s (arrays_given s k N vs p) m k j c xs Below)) filled_same
-        (enters (IsFine s) l line (words_of_cells (cells_of_levels s xs)) o (λ p. in_object s (arrays_given s k N vs p) m k j Cells xs Below) (λ t' w'.
-        same_arrays P (arrays_given s k N vs (ran o t' w')) _ (handed_same N (arrays_by_value fs vs) o (ran o t' w') refl)
+        had (IsFine s) (filled_in vs (Some (cells_of_levels s xs)) formals) Cells o (λ c. entering l line (words_of_cells (cells_of_levels s xs)) o (λ p. in_object s (arrays_given N vs p) m k j c xs Below)) filled_same
+        (enters (IsFine s) l line (words_of_cells (cells_of_levels s xs)) o (λ p. in_object s (arrays_given N vs p) m k j Cells xs Below) (λ t' w'.
+        same_arrays P (arrays_given N vs (ran o t' w')) _ (handed_same N (arrays_among vs) o (ran o t' w') refl)
         (enters_fine s ok P G (handed Cells).long m k (Some j) Cells AttachedObject (arrays_of_levels s xs) tt (attached_goes_on AttachedObject refl) begun (levels_work xs EndObject) Below top.all top.parked (chain_lives s ok l o sights long m i t rest top w (Of (Object N) ∷ vs') (Of (Object N) ∷ vs') todo (Value holds ∷ left) work) works)))
 
   module _ (vals : List Val) where

@@ -1,5 +1,5 @@
 -- Each operator of expressions and assignments goes on.
-use Rattle.std.proofs.Common.{◌≡◌, ℕ, suc, ◌<◌, Bool, true, false, List, [], ◌∷◌, ◌++◌, length, Option, Some, None, refl, sym, ap, ◌∙◌, subst}
+use Rattle.std.proofs.Common.{◌≡◌, ℕ, suc, ◌<◌, Bool, true, false, List, [], ◌∷◌, ◌++◌, length, Option, Some, None, inr, refl, sym, ap, ◌∙◌, subst}
 use Rattle.std.specs.Prelude.{◌*◌}
 use Rattle.sim_base.specs.declared.limits.Limits.{Limits}
 use Rattle.sim_base.specs.declared.numbering.DeclNo.{DeclNo}
@@ -22,7 +22,7 @@ use Rattle.sim_code.specs.Events.{choosing, having, popping, qualifying, when}
 use Rattle.sim_code.specs.Instances.{CellPlace, ElementPlace}
 use Rattle.sim_meaning.specs.Levels.{belongs, has_procedure, is_class, is_in, is_in_any}
 use Rattle.sim_meaning.specs.Objects.{is_member, putting_reference}
-use Rattle.sim_meaning.specs.Pending.{Activation, Address, AgainOp, ArrayOp, ArrayValue, AttributeOp, Configuration, CopyOp, Declared, Do, DropOp, ElementOp, Eval, FetchOp, FitsOp, GiveOp, IfOp, Instances, Item, JoinOp, KeepOp, Key, Link, MemberOp, ObjectOp, Of, OneOp, Op, PastOp, QuaOp, QualifiedElementOp, ReferOp, ShareOp, StandardOp, StepOp, StoreOp, SwapOp, Target, Term, ToAddress, ToCell, ToPlace, ToReference, ToReferenceAt, ToText, ToTextAt, ToTextOf, TwoOp, Val, array_in, cell_set, place_in}
+use Rattle.sim_meaning.specs.Pending.{Activation, Address, AgainOp, ArrayOp, ArrayValue, AttributeOp, Configuration, CopyOp, Declared, Do, DropOp, ElementOp, Eval, FetchOp, FitsOp, GiveOp, IfOp, Instances, Item, JoinOp, KeepOp, Key, Link, MemberOp, ObjectOp, Of, OneOp, Op, PastOp, QuaOp, QualifiedElementOp, ReferOp, ShareOp, StandardOp, StepOp, StoreOp, SwapOp, Target, Term, ToAddress, ToCell, ToPlace, ToReference, ToReferenceAt, ToText, ToTextAt, ToTextOf, TwoOp, Val, array_in, cell_set, place_in, variable_in}
 use Rattle.sim_meaning.specs.Texts.{text}
 use Rattle.sim_sound.specs.Held.{ArrayOf, Holds, Refers, Simply}
 use Rattle.sim_sound.specs.Expressions.{TwoKinds, some_holds, standard_kind}
@@ -190,8 +190,8 @@ module _ (s : Source) (ok : Typed s) (l : Limits) (o : World) (g : List Sight) (
       any_popped P s (see g o) m i (Value (Simply k)) next vals o (λ v vs. having (cell_set m j key v) o (λ m. go o m i w vs rest)) (hand _ is) (λ v vs e here more.
       set_goes s ok l o g long m i t rest top j key (Simply k) v w vs todo next a.0 tt here b more (works next (sym a.1) same))
   store_op ToAddress (value_stored k next is a none same) =
-      any_popped P s (see g o) m i (Value (Simply k)) next vals o (λ v vs. popping vs o (λ p vs. having (place_in p) o (λ p. putting p v o m (λ o m. go o m i w vs rest)))) (hand _ is) (λ v vs e here more.
-      any_popped P s (see g o) m i (AddressOf (Simply k)) behind vs o (λ p vs. having (place_in p) o (λ p. putting p v o m (λ o m. go o m i w vs rest))) (subst (λ z. HandsFine s (see g o) m i z vs) a more) (λ p vs f there most.
+      any_popped P s (see g o) m i (Value (Simply k)) next vals o (λ v vs. popping vs o (λ p vs. having (variable_in p) o (λ p. putting p v o m (λ o m. go o m i w vs rest)))) (hand _ is) (λ v vs e here more.
+      any_popped P s (see g o) m i (AddressOf (Simply k)) behind vs o (λ p vs. having (variable_in p) o (λ p. putting p v o m (λ o m. go o m i w vs rest))) (subst (λ z. HandsFine s (see g o) m i z vs) a more) (λ p vs f there most.
       putting_goes s ok l o g long m i t rest top (Simply k) p v w vs todo behind tt there here b most (works behind refl same)))
   store_op (ToText line) (value_stored k next is a none same) = text_stored line k next is a same
   store_op (ToTextOf j key line) (value_stored k next is a none same) = text_stored line k next is a same
@@ -328,12 +328,12 @@ module _ (s : Source) (ok : Typed s) (l : Limits) (o : World) (g : List Sight) (
       array_is P s (see g o) m i a.0 v o (λ array. keeping_array array o (λ p. go p m i w (ArrayValue array ∷ vs) rest)) e (λ n f same.
       had P (live_array o n) f.it o (λ x. go (with_array o n (record x { kept = true })) m i w (ArrayValue n ∷ vs) rest) f.lives (
       let now : OneArray = record f.it { kept = true } in
-      let next = replaced (see g o) n f.it now f.lives refl refl (λ k. refl) refl refl in
-      let e = later_replaced (see g o) n f.it now f.lives refl refl (λ k. refl) refl refl s m in
-      let copies : (j d : ℕ) → j < length m.instances → Copies (see g o) next j d = λ j d less. copies_replaced (see g o) n f.it now f.lives refl refl (λ k. refl) refl refl a.0 f.known j d in
-      let store = store_with s (see g o) next m e (elements_replaced (see g o) n f.it now f.lives refl refl (λ k. refl) refl refl s m (Open a.0) f.known (λ q p at. b.store.elements n q f.it (Open a.0) p f.lives f.known at) b.store.elements) b.store in
+      let next = replaced (see g o) n f.it now f.lives refl (inr refl) (λ k. refl) refl refl in
+      let e = later_replaced (see g o) n f.it now f.lives refl (inr refl) (λ k. refl) refl refl s m in
+      let copies : (j d : ℕ) → j < length m.instances → Copies (see g o) next j d = λ j d less. copies_replaced (see g o) n f.it now f.lives refl (inr refl) (λ k. refl) refl refl a.0 f.known j d in
+      let store = store_with s (see g o) next m e (elements_replaced (see g o) n f.it now f.lives refl (inr refl) (λ k. refl) refl refl s m (Open a.0) f.known (λ q p at. b.store.elements n q f.it (Open a.0) p f.lives f.known at) b.store.elements) b.store in
       later_with s ok l o g long m i t rest top g (with_array o n now) (long ∙ sym (set_len o.arrays n now)) m e copies (same_ones m) store w (ArrayValue n ∷ vs) todo (Lasting a.0 ∷ a.1) (present_later s (see g o) m next m All e i t todo tt b.here) (own_later s (see g o) m next m All e i t todo tt b.here ∙ b.own)
-      (record { it = now; lives = new_lives (see g o) n f.it now f.lives refl refl (λ k. refl) refl refl n refl; known = f.known; keeps = refl; count = f.count }, later_hands s ok l o g long m i t rest top g (with_array o n now) (long ∙ sym (set_len o.arrays n now)) m e copies (same_ones m) store a.1 vs hands) (works _ a.3 a.4))))
+      (record { it = now; lives = new_lives (see g o) n f.it now f.lives refl (inr refl) (λ k. refl) refl refl n refl; known = f.known; keeps = refl; count = f.count }, later_hands s ok l o g long m i t rest top g (with_array o n now) (long ∙ sym (set_len o.arrays n now)) m e copies (same_ones m) store a.1 vs hands) (works _ a.3 a.4))))
 
   pub refer_op : (line : ℕ) → OpFine s (see g o) m i t (ReferOp line) todo todo' before behind → Stepped (ReferOp line)
   refer_op line a =

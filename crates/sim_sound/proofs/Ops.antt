@@ -12,7 +12,7 @@ use Rattle.sim_code.specs.Arrays.{element, element_set, element_set_in}
 use Rattle.sim_code.specs.Events.{having, image_moved, image_set, image_value, putting_back, text_of}
 use Rattle.sim_code.specs.Instances.{CellPlace, ElementPlace, ImagePlace, with_instance}
 use Rattle.sim_code.specs.Outcome.{ArrayOf as OneArray, Run, World}
-use Rattle.sim_meaning.specs.Pending.{Activation, Address, ArrayValue, cell, cell_set, Configuration, Declared, Held, held, held_set, Instances, Item, Key, Link, Of, place_in, plain, ProcedureValue, Tree, Val}
+use Rattle.sim_meaning.specs.Pending.{Activation, Address, ArrayValue, cell, cell_set, Configuration, Declared, Held, held, held_set, Instances, Item, Key, Link, Of, place_in, plain, ProcedureValue, Tree, Val, variable_in}
 use Rattle.sim_meaning.specs.Steps.{go, of_plain, put_back, putting, value_at}
 use Rattle.sim_meaning.specs.Objects.{putting_reference}
 use Rattle.sim_meaning.specs.Texts.{text}
@@ -132,7 +132,7 @@ module _ (s : Source) (ok : Typed s) (l : Limits) (o : World) (g : List Sight) (
       (later_goes g (with_arrays o now.real) (long ∙ sym (set_len o.arrays a (new (see g o) m i h0 a n p f))) m e (λ j d less. copies_element (see g o) m i h0 a n p f j d) (same_ones m)
       (store_with s (see g o) now m e (elements_changed (see g o) m i h0 a n p f s is b.store.elements) b.store) w vals todo ks b h work)
 
-  pub putting_goes : (q : Holds) (p v : Val) (w : List Item) (vals : List Val) (todo : List DeclNo) (ks : List Kinds) → IsPlain q → HandFine s (see g o) m i (AddressOf q) p → ValFine s (see g o) m i q v → Bg todo → Hd ks vals → Wk w todo ks → Go (having (place_in p) o (λ p. putting p v o m (λ o m. go o m i w vals rest)))
+  pub putting_goes : (q : Holds) (p v : Val) (w : List Item) (vals : List Val) (todo : List DeclNo) (ks : List Kinds) → IsPlain q → HandFine s (see g o) m i (AddressOf q) p → ValFine s (see g o) m i q v → Bg todo → Hd ks vals → Wk w todo ks → Go (having (variable_in p) o (λ p. putting p v o m (λ o m. go o m i w vals rest)))
   unfolding putting
   putting_goes q (Address (ElementPlace a n None)) v w vals todo ks flat f is b h work =
       had (IsFine s) (Some (ElementPlace a n None)) (ElementPlace a n None) o (λ z. putting z v o m (λ o m. go o m i w vals rest)) refl (by_value q v flat f is)

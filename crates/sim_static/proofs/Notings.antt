@@ -30,7 +30,7 @@ use Rattle.sim_tree.specs.declared.stmt.Timing.{Timing}
 use Rattle.sim_tree.specs.declared.stmt.TypeName.{TypeName}
 use Rattle.sim_tree.specs.declared.stmt.Variable.{Variable}
 use Rattle.sim_tree.specs.declared.stmt.When.{When}
-use Rattle.sim_tree.specs.SyntaxOfProgram.{heading_syntax, interface_syntax, mode_syntax, prefix_syntax, program_syntax, protection_syntax, specification_syntax, specifier_syntax, virtual_syntax}
+use Rattle.sim_tree.specs.SyntaxOfProgram.{heading_syntax, interface_syntax, mode_syntax, prefix_syntax, program_syntax, specification_syntax, specifier_syntax, virtual_syntax}
 use Rattle.sim_scope.specs.declared.types.Position.{Position}
 use Rattle.sim_scope.specs.declared.types.Position.TheVariants.{ClassBody, Inside}
 use Rattle.sim_scope.specs.Runs.{Runs, each, run}
@@ -72,19 +72,18 @@ same_some : {A B : Type 0} (f : A → B) (xs : List A) → has_some (map f xs) �
 same_some f [] = refl
 same_some f (x ∷ xs) = ap not (sym (no_zero (length xs)))
 
-same_class : (prefix : Option Identifier) (q : Class)
-    → is_unbuilt_class prefix (heading_syntax q.name q.parameters.items q.modes.items q.specifications.items) (interface_syntax q.protections.items q.virtuals.items)
-    ≡ names_unbuilt prefix q.modes.items q.specifications.items q.protections.items q.virtuals.items
+same_class : (q : Class)
+    → is_unbuilt_class (heading_syntax q.name q.parameters.items q.modes.items q.specifications.items) (interface_syntax q.protections.items q.virtuals.items)
+    ≡ names_unbuilt q.modes.items q.specifications.items q.virtuals.items
 unfolding names_unbuilt
-same_class prefix q =
-    ap (λ z. ((is_some prefix || z) || has_some (map protection_syntax q.protections.items)) || has_some (map virtual_syntax q.virtuals.items)) (same_heading q.name q.parameters.items q.modes.items q.specifications.items)
-    ∙ ap (λ z. ((is_some prefix || names_code q.modes.items q.specifications.items) || z) || has_some (map virtual_syntax q.virtuals.items)) (same_some protection_syntax q.protections.items)
-    ∙ ap (λ z. ((is_some prefix || names_code q.modes.items q.specifications.items) || not (length q.protections.items == 0)) || z) (same_some virtual_syntax q.virtuals.items)
+same_class q =
+    ap (λ z. z || has_some (map virtual_syntax q.virtuals.items)) (same_heading q.name q.parameters.items q.modes.items q.specifications.items)
+    ∙ ap (λ z. names_code q.modes.items q.specifications.items || z) (same_some virtual_syntax q.virtuals.items)
 
 -- one class more
-classed : (b m : Bool) (prefix : Option Identifier) (q : Class) → m ≡ (b || names_unbuilt prefix q.modes.items q.specifications.items q.protections.items q.virtuals.items)
-    → Runs note b m (is_unbuilt_class prefix (heading_syntax q.name q.parameters.items q.modes.items q.specifications.items) (interface_syntax q.protections.items q.virtuals.items) ∷ [])
-classed b m prefix q now = runs_one note b m _ (now ∙ ap (λ z. b || z) (sym (same_class prefix q)))
+classed : (b m : Bool) (q : Class) → m ≡ (b || names_unbuilt q.modes.items q.specifications.items q.virtuals.items)
+    → Runs note b m (is_unbuilt_class (heading_syntax q.name q.parameters.items q.modes.items q.specifications.items) (interface_syntax q.protections.items q.virtuals.items) ∷ [])
+classed b m q now = runs_one note b m _ (now ∙ ap (λ z. b || z) (sym (same_class q)))
 
 -- ---- statements
 
@@ -158,8 +157,8 @@ note_procedure b m c x r i q ms xs y is modes specifications same now h =
     run_procedure note forms b m c c x r i q y is (heading b m q.name q.parameters.items q.modes.items ms q.specifications.items xs modes specifications now) same h (runs_none note c)
 
 pub note_class : (b m c : Bool) (x : Decl) (r : Option Identifier) (i : TokenNo) (q : Class) (y : Stmt) → x ≡ d.Class r i q → y ≡ q.body.value
-    → m ≡ (b || names_unbuilt r q.modes.items q.specifications.items q.protections.items q.virtuals.items) → Runs note m c (of_statement forms ClassBody y) → Runs note b c (of_declaration forms x)
-note_class b m c x r i q y is same now h = run_class note forms b m c c x r i q y is (classed b m r q now) same h (runs_none note c)
+    → m ≡ (b || names_unbuilt q.modes.items q.specifications.items q.virtuals.items) → Runs note m c (of_statement forms ClassBody y) → Runs note b c (of_declaration forms x)
+note_class b m c x r i q y is same now h = run_class note forms b m c c x r i q y is (classed b m q now) same h (runs_none note c)
 
 pub ruleset notings = (run_empty, run_block, run_block_of_class, run_body_of_class, run_some, run_no_branch, run_compound, run_class_body, leads_all, leads_next, leads_end, note_prefixed, note_inner, note_called, note_assigned, note_activation, note_if, note_while, note_for, note_for_reference, note_inspect, note_inspect_when, note_arm, note_block, note_whole, note_variables, note_arrays, note_procedure, note_class)
 

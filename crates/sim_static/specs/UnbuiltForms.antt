@@ -1,14 +1,11 @@
--- Which programs have a form that is not built: a class or a block with a prefix, virtual procedures, attributes that are hidden or protected, a
--- parameter by name, a procedure as a parameter, and an activation. As long as these are not built, `run` refuses such a program before any
--- rule on names and types.
-use Rattle.std.specs.Prelude.{◌≡◌, ◌==◌, Bool, true, false, ◌||◌, not, List, [], ◌∷◌, length, Option, is_some}
+-- Which programs have a form that is not built: a block with a prefix, virtual procedures, a parameter by name, a procedure as a parameter,
+-- and an activation. As long as these are not built, `run` refuses such a program before any rule on names and types.
+use Rattle.std.specs.Prelude.{◌≡◌, ◌==◌, Bool, true, false, ◌||◌, not, List, [], ◌∷◌, length, is_some}
 use Rattle.std.specs.List.{list_any}
-use Rattle.sim_tree.specs.declared.expr.Identifier.{Identifier}
 use Rattle.sim_tree.specs.declared.program.Program.{Program as Tree}
 use Rattle.sim_tree.specs.declared.stmt.Mode.{Mode}
 use Rattle.sim_tree.specs.declared.stmt.Mode.TheVariants as mode
 use Rattle.sim_tree.specs.declared.stmt.ModePart.{ModePart}
-use Rattle.sim_tree.specs.declared.stmt.Protection.{Protection}
 use Rattle.sim_tree.specs.declared.stmt.Specification.{Specification as SpecificationTree}
 use Rattle.sim_tree.specs.declared.stmt.Specifier.{Specifier}
 use Rattle.sim_tree.specs.declared.stmt.Specifier.TheVariants as specifier
@@ -42,9 +39,9 @@ abbrev pub has_some : {A : Type 0} → List A → Bool
 has_some [] = false
 has_some (x ∷ xs) = true
 
--- a class has a prefix, such a parameter, virtual procedures, or attributes that are hidden or protected
-abbrev pub is_unbuilt_class : Option Identifier → Heading → Interface → Bool
-is_unbuilt_class prefix heading x = ((is_some prefix || has_code heading) || has_some x.protections) || has_some x.virtuals
+-- a class has such a parameter, or virtual procedures
+abbrev pub is_unbuilt_class : Heading → Interface → Bool
+is_unbuilt_class heading x = has_code heading || has_some x.virtuals
 
 -- in the order of the text: of each block whether it has a prefix, of each procedure whether it has such a parameter, of each class whether it
 -- is of these, and of each activation that it is one
@@ -54,7 +51,7 @@ forms = record {
   block = λ begin. [];
   prefixed = λ class arguments begin. true ∷ [];
   procedure = λ result token heading. has_code heading ∷ [];
-  class = λ prefix token heading interface. is_unbuilt_class prefix heading interface ∷ [];
+  class = λ prefix token heading interface. is_unbuilt_class heading interface ∷ [];
   connected = λ opening. [];
   leave = λ end. [];
   variables = λ type names. [];
@@ -104,6 +101,5 @@ is_of_procedure_part x = is_of_procedure x.specifier
 unfoldable pub names_code : List ModePart → List SpecificationTree → Bool
 names_code modes specifications = list_any is_name_part modes || list_any is_of_procedure_part specifications
 
-unfoldable pub names_unbuilt : Option Identifier → List ModePart → List SpecificationTree → List Protection → List VirtualSpecification → Bool
-names_unbuilt prefix modes specifications protections virtuals =
-    ((is_some prefix || names_code modes specifications) || not (length protections == 0)) || not (length virtuals == 0)
+unfoldable pub names_unbuilt : List ModePart → List SpecificationTree → List VirtualSpecification → Bool
+names_unbuilt modes specifications virtuals = names_code modes specifications || not (length virtuals == 0)

@@ -1,4 +1,4 @@
-//! Programs with a form that is not built: prefixes, virtual procedures, protection, parameters by name and of procedures, activations.
+//! Programs with a form that is not built: prefixes of blocks, virtual procedures, parameters by name and of procedures, activations.
 ghost use Rattle.std.specs.Prelude.{◌≡◌, ◌||◌, false};
 ghost use Rattle.std.specs.List.{list_any};
 ghost use Rattle.sim_scope.specs.Runs.{each};
@@ -6,9 +6,7 @@ ghost use Rattle.sim_scope.specs.Walk.{of_arm, of_block, of_branch, of_class_bod
 ghost use Rattle.sim_static.specs.UnbuiltForms.{HasUnbuiltForm, Notes, forms, is_name, is_name_part, is_of_procedure, is_of_procedure_part, names_code, names_unbuilt};
 
 use sim_scope::Position;
-use sim_tree::{
-    Block, Class, Decl, Identifier, Mode, ModePart, Program, Specification, Specifier, Stmt, When,
-};
+use sim_tree::{Block, Class, Decl, Mode, ModePart, Program, Specification, Specifier, Stmt, When};
 
 fn is_name(mode: Mode) -> bool
     ensures { result ≡ is_name mode }
@@ -51,15 +49,12 @@ fn names_code(modes: &[ModePart], specifications: &[Specification]) -> bool
     has_names(modes) || has_procedures(specifications)
 }
 
-/// Whether a class has a prefix, such a parameter, virtual procedures, or attributes that are hidden or protected.
+/// Whether a class has such a parameter, or virtual procedures.
 #[tactic(auto, unfolding(crate::specs::UnbuiltForms::names_unbuilt))]
-fn is_unbuilt_class(prefix: &Option<Identifier>, class: &Class) -> bool
-    ensures { result ≡ names_unbuilt prefix.now class.now.modes.items class.now.specifications.items class.now.protections.items class.now.virtuals.items }
+fn is_unbuilt_class(class: &Class) -> bool
+    ensures { result ≡ names_unbuilt class.now.modes.items class.now.specifications.items class.now.virtuals.items }
 {
-    prefix.is_some()
-        || names_code(&class.modes, &class.specifications)
-        || !class.protections.is_empty()
-        || !class.virtuals.is_empty()
+    names_code(&class.modes, &class.specifications) || !class.virtuals.is_empty()
 }
 
 /// Whether one was met, behind one place more.
@@ -209,15 +204,15 @@ fn declaration(met: bool, decl: &Decl) -> bool
             let met = noted(met, names_code(&procedure.modes, &procedure.specifications));
             statement(met, Position::Inside, &procedure.body)
         }
-        Decl::Class { prefix, class, .. } => {
-            let met = noted(met, is_unbuilt_class(prefix, class));
+        Decl::Class { class, .. } => {
+            let met = noted(met, is_unbuilt_class(class));
             statement(met, Position::ClassBody, &class.body)
         }
     }
 }
 
-/// Whether a program has a class or block with a prefix, virtual procedures, attributes that are hidden or protected, a parameter by name, a
-/// procedure as a parameter, or an activation, wherever it stands.
+/// Whether a program has a block with a prefix, virtual procedures, a parameter by name, a procedure as a parameter, or an activation,
+/// wherever it stands.
 #[tactic(auto, using(crate::proofs::Notings::unbuilt))]
 pub fn has_unbuilt_form(program: &Program) -> bool
     ensures { HasUnbuiltForm program.now result }

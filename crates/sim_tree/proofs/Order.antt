@@ -53,15 +53,20 @@ use Rattle.sim_tree.proofs.Spots.{Lays, ahead, both, expression_lays, keep, kept
 abbrev Says : Forest → Statement → Type 0
 Says f e = has_token g.Statement f ≡ true → Full f → Lays (in_statement e) (spots f)
 
+-- in front of a class: its prefix, and behind that the word that declares it
+abbrev behind_prefix : Option Identifier → ℕ → List Spot → List Spot
+behind_prefix None i q = q
+behind_prefix (Some x) i q = Mark x.token.0 ∷ (Mark i ∷ q)
+
 abbrev Declares : Declared → Declaration → Type 0
 Declares (Plain f) e = Full f → Lays (in_declaration e) (spots f)
-Declares (Prefixed x i f) e = Full f → Lays (in_declaration e) (spots f)
+Declares (Prefixed x i f) e = Full f → Lays (in_declaration e) (λ q. behind_prefix (Some x) i (spots f q))
 
 abbrev Blocks : Forest → BlockSyntax → Type 0
 Blocks f e = Full f → Lays (in_block e) (spots f)
 
 abbrev Classes : Forest → Classed → Type 0
-Classes f e = Full f → (prefix : Option Identifier) (i : ℕ) → Lays (in_declaration (e prefix i)) (spots f)
+Classes f e = Full f → (prefix : Option Identifier) (i : ℕ) → Lays (in_declaration (e prefix i)) (λ q. behind_prefix prefix i (spots f q))
 
 -- in front of a procedure: the type of its result, and the word that declares it
 abbrev behind_result : Option TypeName → ℕ → List Spot → List Spot
@@ -227,7 +232,7 @@ contents_named [] [] fs es end all each full = statements_named fs es end each f
 contents_named [] (x ∷ xs) fs es end all each full = absurd all
 contents_named (y ∷ ds) [] fs es end all each full = absurd all
 contents_named (Plain f ∷ ds) (x ∷ xs) fs es end all each full = both (all.0 full.1) (contents_named ds xs fs es end all.1 each full.2.2.1)
-contents_named (Prefixed name i f ∷ ds) (x ∷ xs) fs es end all each full = skip (skip (both (all.0 full.1.1) (contents_named ds xs fs es end all.1 each full.1.2.2.1)))
+contents_named (Prefixed name i f ∷ ds) (x ∷ xs) fs es end all each full = both (all.0 full.1.1) (contents_named ds xs fs es end all.1 each full.1.2.2.1)
 
 -- Each node.
 
@@ -305,12 +310,18 @@ block_step b full =
     (map statement_syntax (map first_stmt b.statements.items)) b.end.0 (induction.each_declaration Says Declares Blocks Classes Procedures Arms b.declarations.items) (induction.each_statement Says Declares Blocks Classes Procedures Arms b.statements.items) full.1)
 
 class_step : induction.ClassStep Says Declares Blocks Classes Procedures Arms
-class_step c full prefix i =
+class_step c full None i =
     let last = node g.Statement (statement_derivation c.body.value.0) (place c.end.0 done) in
     let middle = d.virtuals_derivation c.virtuals.items last in
     keep
     (both (heading_named c.parameters.items c.modes.items c.specifications.items)
     (row_none g.Protection (map d.protection_derivation c.protections.items) middle full.2 (λ full. virtuals_none c.virtuals.items last full (λ full. both (c.body.value.1 full.0 full.1) (keep none)))))
+class_step c full (Some x) i =
+    let last = node g.Statement (statement_derivation c.body.value.0) (place c.end.0 done) in
+    let middle = d.virtuals_derivation c.virtuals.items last in
+    keep (skip (keep
+    (both (heading_named c.parameters.items c.modes.items c.specifications.items)
+    (row_none g.Protection (map d.protection_derivation c.protections.items) middle full.2 (λ full. virtuals_none c.virtuals.items last full (λ full. both (c.body.value.1 full.0 full.1) (keep none)))))))
 
 procedure_step : induction.ProcedureStep Says Declares Blocks Classes Procedures Arms
 procedure_step p full None i = keep (both (heading_named p.parameters.items p.modes.items p.specifications.items) (both (p.body.value.1 full.2.0 full.2.1) (keep none)))

@@ -68,6 +68,11 @@ abbrev pub in_result : Option TypeName → List Spot → List Spot
 in_result None l = l
 in_result (Some type) l = in_type type l
 
+-- the prefix of a class
+abbrev pub in_prefix : Option Identifier → List Spot → List Spot
+in_prefix None l = l
+in_prefix (Some class) l = in_name class l
+
 abbrev mutual
   pub in_statement : Statement → List Spot → List Spot
   in_statement (s.Compound b) l = in_block b l
@@ -103,7 +108,8 @@ abbrev mutual
   in_declaration (s.Arrays t i segments) l = in_type t (in_each in_segment segments l)
   in_declaration (s.DeclareProcedure result i heading x end) l =
       in_result result (in_name heading.name (in_each in_name heading.formals (in_statement x (Behind end ∷ l))))
-  in_declaration (s.DeclareClass prefix i heading interface x end) l = in_name heading.name (in_each in_name heading.formals (in_statement x (Behind end ∷ l)))
+  in_declaration (s.DeclareClass prefix i heading interface x end) l =
+      in_prefix prefix (in_name heading.name (in_each in_name heading.formals (in_statement x (Behind end ∷ l))))
 
 -- the tokens of a program ascend
 abbrev pub InOrder : Program → Type 0

@@ -1,5 +1,5 @@
 -- Tables that are being made.
-use Rattle.std.specs.Prelude.{◌≡◌, ◌≢◌, ◌<◌, ◌≤◌, ◌+◌, ℕ, suc, Bool, true, false, List, [], ◌∷◌, ◌++◌, length, map, drop, replicate, slice_get, Option, Some, None}
+use Rattle.std.specs.Prelude.{◌≡◌, ◌≢◌, ◌<◌, ◌≤◌, ◌+◌, ℕ, Bool, true, false, List, [], ◌∷◌, ◌++◌, length, map, drop, replicate, slice_get, Option, Some, None}
 use Rattle.std.specs.Option.{option_or}
 use Rattle.std.specs.declared.alloc.Global.{Global}
 use Rattle.std.specs.declared.vec.Vec.{Vec}
@@ -16,13 +16,13 @@ use Rattle.sim_tree.specs.declared.stmt.TypeName.{TypeName}
 use Rattle.sim_meaning.specs.Closing.{formals_from}
 use Rattle.sim_meaning.specs.Entries.{cells_from, with_cell}
 use Rattle.sim_meaning.specs.Pending.{Declared, Held}
-use Rattle.sim_meaning.specs.Texts.{BlockText, ClassText, ConnectionText, PrefixedText, ProcedureText, StandardText, Text, program_texts, text}
+use Rattle.sim_meaning.specs.Texts.{text}
 use Rattle.codegen_expr.specs.Built.{place_from}
 use Rattle.codegen_expr.specs.Known.{place_in}
 use Rattle.codegen_expr.specs.Sites.{cells_in, counted_unless, is_connection}
 use Rattle.program_texts.specs.declared.tree.TextTree.{TextTree}
 use Rattle.program_texts.specs.declared.tree.TextTree.TheVariants as tree
-use Rattle.program_texts.specs.TextTrees.{AreTexts, text_in}
+use Rattle.program_texts.specs.TextTrees.{AreTexts}
 
 -- ---- one row for each of a list
 
@@ -51,29 +51,6 @@ pub record Numbers (blocks : List BlockOf) (numbers : List ℕ) (count : ℕ) : 
 pub record OwesNumbers (blocks : List BlockOf) (numbers : List ℕ) (number done : ℕ) : Type 0 where
   pub all : numbers ++ numbers_from number (drop done blocks) ≡ numbers_from 0 blocks
   pub behind : number_behind number (drop done blocks) ≡ number_behind 0 blocks
-
--- ---- numbers of classes
-
--- For each block of the code, which are those of the texts without connections, the number of its class, from one on; 0 where it has none.
-abbrev pub classes_from : ℕ → List Text → List ℕ
-classes_from n [] = []
-classes_from n (BlockText begin ds ss ∷ xs) = 0 ∷ classes_from n xs
-classes_from n (ProcedureText result h a ∷ xs) = 0 ∷ classes_from n xs
-classes_from n (ClassText prefix h ds ss ∷ xs) = suc n ∷ classes_from (suc n) xs
-classes_from n (PrefixedText class arguments ds ss ∷ xs) = suc n ∷ classes_from (suc n) xs
-classes_from n (ConnectionText ∷ xs) = classes_from n xs
-classes_from n (StandardText which ∷ xs) = 0 ∷ classes_from n xs
-
--- what is written with what is still to be written
-unfoldable pub OwesClasses : List TextTree → List ℕ → (last done : ℕ) → Type 0
-OwesClasses ts numbers n i = numbers ++ classes_from n (map text_in (drop i ts)) ≡ classes_from 0 (map text_in ts)
-
-unfoldable pub ClassNumbers : Bound → List ℕ → Type 0
-ClassNumbers b numbers = numbers ≡ classes_from 0 (program_texts (source_of b).program.prefix (source_of b).program.block)
-
--- one text more, behind so many classes
-unfoldable pub AddsClass : TextTree → (old new : List ℕ) → (before after : ℕ) → Type 0
-AddsClass x old new n m = (xs : List Text) → old ++ classes_from n (text_in x ∷ xs) ≡ new ++ classes_from m xs
 
 -- ---- formal parameters
 

@@ -10,6 +10,5 @@ mod tables;
 mod texts;
 
 pub use by_token::{declarations_by_token, declared_at};
-pub use numbers::class_numbers;
 pub use tables::cells_of;
 pub use texts::constant_texts;

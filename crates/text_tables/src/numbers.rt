@@ -1,12 +1,10 @@
 //! The numbers that blocks have in code.
-ghost use Rattle.std.specs.Prelude.{◌≡◌, IfOk, [], map};
-ghost use Rattle.program_texts.specs.TextTrees.{text_in};
-ghost use Rattle.text_tables.specs.Making.{AddsClass, ClassNumbers, Numbers, classes_from, next_number};
+ghost use Rattle.std.specs.Prelude.{◌≡◌, IfOk, []};
+ghost use Rattle.text_tables.specs.Making.{Numbers, next_number};
 
 use codegen_expr::deeper;
-use program_texts::{TextTree, texts_of};
-use sim_scope::{Block, BlockKind, Bound};
-use std::alloc::{AllocError, Global};
+use sim_scope::{Block, BlockKind};
+use std::alloc::AllocError;
 
 /// The number behind that of a block: connections have none.
 fn next(block: &Block, number: u32) -> Result<u32, AllocError>
@@ -35,63 +33,4 @@ pub(crate) fn numbers_of(blocks: &[Block], numbers: &mut Vec<u32>) -> Result<u32
         number = next(block, number)?;
     }
     Ok(number)
-}
-
-/// Writes the class of a text, if it has a block of the code, behind so many classes; answers how many there are then.
-#[tactic(auto, using(crate::proofs::Numbering::classes))]
-fn add_class(text: TextTree, numbers: &mut Vec<u32>, last: u32) -> Result<u32, AllocError>
-    ensures { IfOk result (λ n. AddsClass text.entry numbers.old.items numbers.new.items last n) }
-{
-    match text {
-        TextTree::Block(_) => {
-            numbers.push(0)?;
-            Ok(last)
-        }
-        TextTree::Procedure { .. } => {
-            numbers.push(0)?;
-            Ok(last)
-        }
-        TextTree::Class { .. } => {
-            let number = deeper(last)?;
-            numbers.push(number)?;
-            Ok(number)
-        }
-        TextTree::ClassOfStatement { .. } => {
-            let number = deeper(last)?;
-            numbers.push(number)?;
-            Ok(number)
-        }
-        TextTree::Prefixed { .. } => {
-            let number = deeper(last)?;
-            numbers.push(number)?;
-            Ok(number)
-        }
-        TextTree::Connection => Ok(last),
-        TextTree::Standard(_) => {
-            numbers.push(0)?;
-            Ok(last)
-        }
-    }
-}
-
-/// The classes of texts.
-#[tactic(auto, using(crate::proofs::Numbering::classes))]
-fn classes_among(alloc: Global, texts: &[TextTree]) -> Result<Vec<u32>, AllocError>
-    ensures { IfOk result (λ v. v.items ≡ classes_from 0 (map text_in texts.now)) }
-{
-    let mut numbers = Vec::new(alloc);
-    let mut last = 0;
-    for text in texts {
-        last = add_class(*text, &mut numbers, last)?;
-    }
-    Ok(numbers)
-}
-
-/// For each block of the code the number of its class, in their order from 1 on, or 0. Time and memory are linear in the program.
-#[tactic(auto, using(crate::proofs::Numbering::classes))]
-pub fn class_numbers(alloc: Global, bound: &Bound) -> Result<Vec<u32>, AllocError>
-    ensures { IfOk result (λ v. ClassNumbers bound.now v.items) }
-{
-    let texts = texts_of(alloc, &bound.program)?;
-    classes_among(alloc, &texts)
 }

@@ -8,23 +8,23 @@ loop-step-init c =
     let n = length c.args.scopes.now.blocks in
     let e : n ≡ n - 0 = omega arith in ap (λ m. is_around c.args.scopes.now m c.args.inner c.args.outer) e
 
-pub returns-then-text-outer : goal.returns-then-text-outer
-returns-then-text-outer c =
+pub returns-then-is_level : goal.returns-then-is_level
+returns-then-is_level c =
     let s = c.args.scopes.now in
     let n = length s.blocks in
-    sym (c.loop-step.invariant ∙ one_less s c.args.outer n c.loop-step.step c.loop-step.text (omega arith) ∙ found_here s c.args.outer (n - (c.loop-step.step + 1)) c.loop-step.text c.if-text-outer.true)
+    sym (c.loop-step.invariant ∙ one_less s c.args.outer n c.loop-step.step c.loop-step.text (omega arith) ∙ found_here s c.args.outer (n - (c.loop-step.step + 1)) c.loop-step.text (sym c.is_level.ensures ∙ c.if-is_level.true))
 
 pub returns-in-None : goal.returns-in-None
 returns-in-None c =
     let s = c.args.scopes.now in
     let n = length s.blocks in
-    sym (c.loop-step.invariant ∙ one_less s c.args.outer n c.loop-step.step c.loop-step.text (omega arith) ∙ found_nowhere s c.args.outer (n - (c.loop-step.step + 1)) c.loop-step.text c.if-text-outer.false (sym c.encloser.ensures ∙ c.in-None.is))
+    sym (c.loop-step.invariant ∙ one_less s c.args.outer n c.loop-step.step c.loop-step.text (omega arith) ∙ found_nowhere s c.args.outer (n - (c.loop-step.step + 1)) c.loop-step.text (sym c.is_level.ensures ∙ c.if-is_level.false) (sym c.encloser.ensures ∙ c.in-None.is))
 
 pub loop-step-preserved : goal.loop-step-preserved
 loop-step-preserved c =
     let s = c.args.scopes.now in
     let n = length s.blocks in
-    c.loop-step.invariant ∙ one_less s c.args.outer n c.loop-step.step c.loop-step.text (omega arith) ∙ found_outside s c.args.outer (n - (c.loop-step.step + 1)) c.loop-step.text c.in-Some.around c.if-text-outer.false (sym c.encloser.ensures ∙ c.in-Some.is)
+    c.loop-step.invariant ∙ one_less s c.args.outer n c.loop-step.step c.loop-step.text (omega arith) ∙ found_outside s c.args.outer (n - (c.loop-step.step + 1)) c.loop-step.text c.in-Some.around (sym c.is_level.ensures ∙ c.if-is_level.false) (sym c.encloser.ensures ∙ c.in-Some.is)
 
 pub returns : goal.returns
 returns c =

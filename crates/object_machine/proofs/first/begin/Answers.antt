@@ -1,14 +1,16 @@
-use Rattle.std.proofs.Common.{rules, ◌≡◌, [], refl, sym, subst, ap, ◌∙◌}
-use Rattle.std.specs.Prelude.{Some, None, false, pos, slice_get}
+use Rattle.std.proofs.Common.{◌≡◌, [], refl, sym, subst, ap, ◌∙◌}
+use Rattle.std.specs.Prelude.{Some, None, false, slice_get}
 use Rattle.sim_values.specs.Words.{instance_words}
-use Rattle.sim_code.specs.Machine.{in_frame, first_cells, words_of_block}
+use Rattle.sim_code.specs.Machine.{words_of_block}
+use Rattle.sim_code.specs.Rows.{first_stage}
 use Rattle.frame_arena.specs.Frames.{empty_memory}
+use Rattle.frame_arena.specs.declared.frames.Component.TheVariants as component
 use Rattle.object_machine.specs.declared.machine.Flow.TheVariants as flow
 use Rattle.object_machine.specs.Entering.{Opens, Pays, paid}
 use Rattle.object_machine.specs.Running.{Begins, IsFit, IsUnread}
 use Rattle.object_machine.specs.Standing.{Leaves}
-use Rattle.object_machine.proofs.Firsts.{enters_alone, first_entry, first_is, none_some, none_stores, pays_off}
-use Rattle.object_machine.proofs.Jumps.{found_at}
+use Rattle.object_machine.proofs.Firsts.{block_first, enters_alone, entry_first, no_block_first, no_entry_first, no_stage_first, none_some, none_stores, pays_off, stage_first}
+use Rattle.object_machine.proofs.Jumps.{found_at, none_at}
 use Rattle.object_machine.proofs.first.begin.Goals as goal
 
 pub returns-in_default-clause-row : goal.returns-in_default-clause-row
@@ -16,21 +18,36 @@ returns-in_default-clause-row c code before now o e e2 s =
     let l = c.args.limits.now in
     subst (λ b. Begins b code l c.args.storage.now before now o) (sym c.stopped.ensures) (
       refl,
-      λ r stack. subst (λ q. Leaves flow.NoRule l 0 c.args.storage.now r stack [] before now q) (sym (first_is code l o _ (c.in_default.ensures.row code (pos 0) e e2 refl o (first_entry l o))))
+      λ r stack. subst (λ q. Leaves flow.NoRule l 0 c.args.storage.now r stack [] before now q) (sym (no_block_first code l o (ap (λ v. slice_get v 0) e ∙ none_at c.args.blocks.now 0 c.in_default.ensures.lookup.3)))
+          (none_stores l 0 c.args.storage.now r stack [] before now o empty_memory s),
+    )
+
+pub returns-in_default-first_stage-clause-row : goal.returns-in_default-first_stage-clause-row
+returns-in_default-first_stage-clause-row c code before now o e e2 s =
+    let l = c.args.limits.now in
+    let b = c.in-Some.block.now in
+    let there : slice_get code.blocks 0 ≡ Some b = ap (λ v. slice_get v 0) e ∙ found_at c.args.blocks.now 0 b c.in-Some.ensures.lookup.3.0 c.in-Some.ensures.lookup.1 in
+    let none : first_stage b.kind ≡ None = ap (λ b. first_stage b.kind) (sym c.block.view_is) ∙ sym c.in_default-first_stage.ensures in
+    subst (λ b. Begins b code l c.args.storage.now before now o) (sym c.stopped-in_default-first_stage.ensures) (
+      refl,
+      λ r stack. subst (λ q. Leaves flow.NoRule l 0 c.args.storage.now r stack [] before now q) (sym (block_first code l o b there ∙ no_stage_first code l o b none))
           (none_stores l 0 c.args.storage.now r stack [] before now o empty_memory s),
     )
 
 pub returns-in_default-get-clause-row : goal.returns-in_default-get-clause-row
-unfolding Leaves
-returns-in_default-get-clause-row c code before now o e e2 s = subst (λ b. Begins b code c.args.limits.now c.args.storage.now before now o) (sym c.stopped-in_default-get.ensures) (refl, λ r stack. tt)
-
-pub returns-in_default-get-2-clause-row : goal.returns-in_default-get-2-clause-row
-unfolding Leaves
-returns-in_default-get-2-clause-row c code before now o e e2 s = subst (λ b. Begins b code c.args.limits.now c.args.storage.now before now o) (sym c.stopped-in_default-get-2.ensures) (refl, λ r stack. tt)
-
-pub returns-in_default-try_from-clause-row : goal.returns-in_default-try_from-clause-row
-unfolding Leaves
-returns-in_default-try_from-clause-row c code before now o e e2 s = subst (λ b. Begins b code c.args.limits.now c.pay-flow.new.storage before now o) (sym c.stopped-in_default-try_from.ensures) (refl, λ r stack. tt)
+returns-in_default-get-clause-row c code before now o e e2 s =
+    let l = c.args.limits.now in
+    let b = c.in-Some.block.now in
+    let t = c.in-Some-first_stage.stage in
+    let there : slice_get code.blocks 0 ≡ Some b = ap (λ v. slice_get v 0) e ∙ found_at c.args.blocks.now 0 b c.in-Some.ensures.lookup.3.0 c.in-Some.ensures.lookup.1 in
+    let stage : first_stage b.kind ≡ Some t = ap (λ b. first_stage b.kind) (sym c.block.view_is) ∙ sym c.in-Some-first_stage.ensures in
+    let at : b.entry ≡ c.block.inside.entry = ap (λ b. b.entry) (sym c.block.view_is) in
+    let none : slice_get code.instrs b.entry ≡ None = ap (λ v. slice_get v b.entry) e2 ∙ ap (λ k. slice_get c.args.instrs.now k) at ∙ none_at c.args.instrs.now c.block.inside.entry c.in_default-get.ensures.lookup.3 in
+    subst (λ b. Begins b code l c.args.storage.now before now o) (sym c.stopped-in_default-get.ensures) (
+      refl,
+      λ r stack. subst (λ q. Leaves flow.NoRule l 0 c.args.storage.now r stack [] before now q) (sym (block_first code l o b there ∙ stage_first code l o b t stage ∙ no_entry_first code l o b t none))
+          (none_stores l 0 c.args.storage.now r stack [] before now o empty_memory s),
+    )
 
 pub returns-in-Err-clause-row : goal.returns-in-Err-clause-row
 unfolding Leaves
@@ -44,13 +61,15 @@ returns-in_default-flow c = record {
   image = c.pay-flow.ensures.image;
   row = λ code before now o e e2 s.
       let l = c.args.limits.now in
-      let b = c.in-Some-get.block.now in
-      let x = c.in-Some-get-2.entry.now in
+      let b = c.in-Some.block.now in
+      let t = c.in-Some-first_stage.stage in
+      let x = c.in-Some-get.entry.now in
       let at : b.entry ≡ c.block.inside.entry = ap (λ b. b.entry) (sym c.block.view_is) in
       let cells : b.cells ≡ c.block.inside.cells = ap (λ b. b.cells) (sym c.block.view_is) in
-      let there : slice_get code.blocks c.in-Some.number ≡ Some b = ap (λ v. slice_get v c.in-Some.number) e ∙ found_at c.args.blocks.now c.in-Some.number b c.in-Some-get.ensures.lookup.3.0 c.in-Some-get.ensures.lookup.1 in
-      let entry : slice_get code.instrs b.entry ≡ Some x = ap (λ v. slice_get v b.entry) e2 ∙ ap (λ k. slice_get c.args.instrs.now k) at ∙ found_at c.args.instrs.now c.block.inside.entry x c.in-Some-get-2.ensures.lookup.3.0 c.in-Some-get-2.ensures.lookup.1 in
-      let eq = first_is code l o _ (c.in-Some.ensures.row code (pos 0) e e2 refl b x there entry o (first_entry l o)) in
+      let there : slice_get code.blocks 0 ≡ Some b = ap (λ v. slice_get v 0) e ∙ found_at c.args.blocks.now 0 b c.in-Some.ensures.lookup.3.0 c.in-Some.ensures.lookup.1 in
+      let stage : first_stage b.kind ≡ Some t = ap (λ b. first_stage b.kind) (sym c.block.view_is) ∙ sym c.in-Some-first_stage.ensures in
+      let entry : slice_get code.instrs b.entry ≡ Some x = ap (λ v. slice_get v b.entry) e2 ∙ ap (λ k. slice_get c.args.instrs.now k) at ∙ found_at c.args.instrs.now c.block.inside.entry x c.in-Some-get.ensures.lookup.3.0 c.in-Some-get.ensures.lookup.1 in
+      let eq = block_first code l o b there ∙ stage_first code l o b t stage ∙ entry_first code l o b t x entry in
       let w : c.words_instance.result ≡ words_of_block b = c.words_instance.ensures.words ∙ ap (λ n. instance_words n false) (sym cells) in
       let pays : Pays c.pay-flow.result l x.line.0 (words_of_block b) c.pay-flow.new.storage before now o empty_memory = subst (λ n. Pays c.pay-flow.result l x.line.0 n c.pay-flow.new.storage before now o empty_memory) w (c.pay-flow.ensures.row x.line.0 before now o empty_memory s) in
       subst (λ q. Begins q code l c.pay-flow.new.storage before now o) (sym c.stopped-in_default-flow.ensures) (
@@ -60,23 +79,24 @@ returns-in_default-flow c = record {
       );
 }
 
-pub returns-in-Ok-open-clause-row : goal.returns-in-Ok-open-clause-row
+pub returns-in-Ok-clause-row : goal.returns-in-Ok-clause-row
 unfolding Pays
-returns-in-Ok-open-clause-row c code before now o e e2 s =
+returns-in-Ok-clause-row c code before now o e e2 s =
     let l = c.args.limits.now in
-    let b = c.in-Some-get.block.now in
-    let x = c.in-Some-get-2.entry.now in
+    let b = c.in-Some.block.now in
+    let t = c.in-Some-first_stage.stage in
+    let x = c.in-Some-get.entry.now in
     let at : b.entry ≡ c.block.inside.entry = ap (λ b. b.entry) (sym c.block.view_is) in
     let cells : b.cells ≡ c.block.inside.cells = ap (λ b. b.cells) (sym c.block.view_is) in
-    let there : slice_get code.blocks c.in-Some.number ≡ Some b = ap (λ v. slice_get v c.in-Some.number) e ∙ found_at c.args.blocks.now c.in-Some.number b c.in-Some-get.ensures.lookup.3.0 c.in-Some-get.ensures.lookup.1 in
-    let entry : slice_get code.instrs b.entry ≡ Some x = ap (λ v. slice_get v b.entry) e2 ∙ ap (λ k. slice_get c.args.instrs.now k) at ∙ found_at c.args.instrs.now c.block.inside.entry x c.in-Some-get-2.ensures.lookup.3.0 c.in-Some-get-2.ensures.lookup.1 in
-    let eq = first_is code l o _ (c.in-Some.ensures.row code (pos 0) e e2 refl b x there entry o (first_entry l o)) in
+    let there : slice_get code.blocks 0 ≡ Some b = ap (λ v. slice_get v 0) e ∙ found_at c.args.blocks.now 0 b c.in-Some.ensures.lookup.3.0 c.in-Some.ensures.lookup.1 in
+    let stage : first_stage b.kind ≡ Some t = ap (λ b. first_stage b.kind) (sym c.block.view_is) ∙ sym c.in-Some-first_stage.ensures in
+    let entry : slice_get code.instrs b.entry ≡ Some x = ap (λ v. slice_get v b.entry) e2 ∙ ap (λ k. slice_get c.args.instrs.now k) at ∙ found_at c.args.instrs.now c.block.inside.entry x c.in-Some-get.ensures.lookup.3.0 c.in-Some-get.ensures.lookup.1 in
+    let eq = block_first code l o b there ∙ stage_first code l o b t stage ∙ entry_first code l o b t x entry in
     let w : c.words_instance.result ≡ words_of_block b = c.words_instance.ensures.words ∙ ap (λ n. instance_words n false) (sym cells) in
     let pays : Pays flow.On l x.line.0 (words_of_block b) c.pay-flow.new.storage before now o empty_memory = subst (λ n. Pays flow.On l x.line.0 n c.pay-flow.new.storage before now o empty_memory) w (c.in-On.ensures.row x.line.0 before now o empty_memory s) in
-    let number : c.in-Ok.short ≡ c.in-Some.number = search rules in
     let p = paid o (words_of_block b) in
-    let opens = subst (λ g. Opens l c.pay-flow.new.storage c.open.new.storage c.in-Ok.short b g None c.in-Ok-open.activation before now p empty_memory) c.as_frame.ensures
-    (c.in-Ok-open.ensures.row l before now p empty_memory pays.1 (λ r is. absurd (none_some r is))) in
-    subst (λ q. Leaves flow.On l 0 c.open.new.storage c.in-Ok-open.activation.registers c.in-Ok-open.activation.stack.items [] before now q) (sym (eq ∙ pays.0 _))
-    (subst (λ k. Leaves flow.On l 0 c.open.new.storage c.in-Ok-open.activation.registers c.in-Ok-open.activation.stack.items [] before now (in_frame p empty_memory k b None (first_cells b) [])) number
-    (enters_alone l 0 c.pay-flow.new.storage c.open.new.storage c.in-Ok.short b c.in-Ok-open.activation before now p opens))
+    let opens0 = c.in-Ok.ensures.row l before now p empty_memory pays.1 (λ r is. absurd (none_some r is)) in
+    let opens : Opens l c.pay-flow.new.storage c.open.new.storage 0 b (record { start = b.entry; stage = t; component = component.NoObject }) None c.in-Ok.activation before now p empty_memory =
+    subst (λ n. Opens l c.pay-flow.new.storage c.open.new.storage 0 b (record { start = n; stage = t; component = component.NoObject }) None c.in-Ok.activation before now p empty_memory) (sym at) opens0 in
+    subst (λ q. Leaves flow.On l 0 c.open.new.storage c.in-Ok.activation.registers c.in-Ok.activation.stack.items [] before now q) (sym (eq ∙ pays.0 _))
+    (enters_alone l 0 c.pay-flow.new.storage c.open.new.storage b t c.in-Ok.activation before now p opens)

@@ -9,7 +9,7 @@ use Rattle.frame_arena.specs.declared.frames.Component.TheVariants as component
 use Rattle.sim_code.specs.Arrays.{handed_over}
 use Rattle.sim_code.specs.Events.{entering}
 use Rattle.sim_code.specs.Levels.{filled_by, generating, parameter_cell}
-use Rattle.sim_code.specs.Machine.{Machine, Of, Value, arrays_by_value, first_cells, in_object, pushing, waiting, words_of_block}
+use Rattle.sim_code.specs.Machine.{Machine, Of, Value, arrays_among, first_cells, in_object, pushing, waiting, words_of_block}
 use Rattle.sim_code.specs.Outcome.{Run}
 use Rattle.frame_arena.specs.Arrays.{AllLeadArrays}
 use Rattle.frame_arena.specs.Frames.{AllLead, Holds, Leads}
@@ -142,16 +142,15 @@ returns-clause-row c code line now eb ei ec before o m s =
     let next = c.in-Ok.next in
     let opens : Opens l p1 c.open.new.storage x.block b g (Some x.actuals.parent) next before now world m = c.in-Ok.ensures.row l before now world m pays.1 (λ r is. subst (λ f. Leads p1.frames.items m f) (same_found (Some x.actuals.parent) x.actuals.parent r refl is) leads) in
     let works2 : AtWork p1 world m t.registers c.deref-3.result.now = subst (λ z. AtWork p1 world m t.registers z) (sym c.deref-3.ensures.value) works in
-    let formals : b.formals ≡ c.deref-4.result.now = ap (λ b. b.formals) (sym c.block.view_is) ∙ sym c.deref-4.ensures.value in
     let vs2 = values_from c.deref-3.result.now x.actuals.at x.actuals.count in
     let vs = values_from stack x.actuals.at x.actuals.count in
     let es : vs2 ≡ vs = ap (λ z. values_from z x.actuals.at x.actuals.count) c.deref-3.ensures.value in
     let filled : filled_by (parameter_cell code c.block.inside.class) 0 vs2 (Some (first_cells b)) ≡ Some ready.cells =
     ap (λ z. filled_by (parameter_cell code c.block.inside.class) 0 z (Some (first_cells b))) es ∙ ap (λ k. filled_by (parameter_cell code k) 0 vs (Some (first_cells b))) (ap (λ b. b.class) c.block.view_is) ∙ filled_b in
-    let furnished0 = c.furnish.ensures.row c.if-not-furnish.false code l before now p1 world m x.block b g (Some x.actuals.parent) ready.cells next t.registers eb ec formals refl opens works2 filled in
-    let o2 = handed_over (length m.instances) (arrays_by_value b.formals vs) world in
+    let furnished0 = c.furnish.ensures.row c.if-not-furnish.false code l before now p1 world m x.block b g (Some x.actuals.parent) ready.cells next t.registers eb ec refl opens works2 filled in
+    let o2 = handed_over (length m.instances) (arrays_among vs) world in
     let furnished : OpensWith l p1 p3 x.block b g (Some x.actuals.parent) ready.cells next before now world o2 m =
-    subst (λ z. OpensWith l p1 p3 x.block b g (Some x.actuals.parent) ready.cells next before now world (handed_over (length m.instances) (arrays_by_value b.formals z) world) m) es furnished0 in
+    subst (λ z. OpensWith l p1 p3 x.block b g (Some x.actuals.parent) ready.cells next before now world (handed_over (length m.instances) (arrays_among z) world) m) es furnished0 in
     let m2 = opened_with m x.block b g (Some x.actuals.parent) ready.cells in
     let w1 = furnished.others t.registers stack works in
     let pushed = c.push.new.stack in
@@ -165,7 +164,7 @@ returns-clause-row c code line now eb ei ec before o m s =
       arrays_lead = c.push.ensures.leads_arrays p3.arrays.regions o2.arrays (subst (λ z. AllLeadArrays p3.arrays.regions o2.arrays z) (sym deref) w1.arrays_lead) (λ names. absurd (off (sym c.object.ensures.no_array ∙ names)));
     } in
     let long : length pushed ≡ length stack = c.push.ensures.long ∙ ap length deref in
-    let go : List Value → Run Machine = λ rest. entering l line (words_of_block b) o (λ p. in_object (handed_over (length m.instances) (arrays_by_value b.formals vs) p) m x.block b x.start x.actuals.parent.stamp ready.cells (waiting (activation_at t.registers stack) rest ∷ under)) in
+    let go : List Value → Run Machine = λ rest. entering l line (words_of_block b) o (λ p. in_object (handed_over (length m.instances) (arrays_among vs) p) m x.block b x.start x.actuals.parent.stamp ready.cells (waiting (activation_at t.registers stack) rest ∷ under)) in
     let row : pushing (length stack) (values_of x.actuals.under stack) (Of (Object (length m.instances))) o go ≡ go (values_of c.in-Some-push.depth pushed) =
     ap (λ v. pushing (length stack) (values_of x.actuals.under stack) v o go) (sym object) ∙ ap (λ z. pushing (length z) (values_of x.actuals.under z) (value_of c.object.result) o go) (sym deref) ∙ c.in-Some-push.ensures.row o go in
     let top = c.cover.new.top in

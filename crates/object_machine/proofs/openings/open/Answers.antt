@@ -31,9 +31,10 @@ returns-clause-row c l before now o m s up =
     ap (λ k. cells_at c.fill_first.new.cells (frame_at c.reserve.new.frames.items c.in_ok-place.place).base k) (c.in_ok-place.ensures.cells ∙ n) ∙ e2 in
     let up1 : (r : FrameRef) → c.args.parent ≡ Some r → Leads c.deref_mut-4.result.now m r = λ r is. subst (λ f. Leads f m r) (sym c.deref_mut-4.ensures.value) (c.in_ok-place.ensures.leads m r (up r is)) in
     let h3 : Holds c.enter.new.frames c.fill_first.new.cells (opened m c.args.number b c.args.beginning c.args.parent) =
-    subst (λ cs. Holds c.enter.new.frames c.fill_first.new.cells (entered m (record { text = c.args.number; level = b.level; encloser = number_in c.args.parent; cells = cs; passing = b.class_free; kept = false; given_back = false }) (stands_as c.args.beginning.component))) e
-    (subst (λ f. Holds c.enter.new.frames c.fill_first.new.cells (entered m (record { text = c.args.number; level = b.level; encloser = number_in c.args.parent; cells = cells_at c.fill_first.new.cells (frame_at f c.in_ok-place.place).base (frame_at f c.in_ok-place.place).cells; passing = b.class_free; kept = false; given_back = false }) (stands_as c.args.beginning.component))) c.deref_mut-4.ensures.value
-    (c.enter.ensures.holds c.fill_first.new.cells m (subst (λ f. Holds f c.fill_first.new.cells m) (sym c.deref_mut-4.ensures.value) h2) s.entered up1)) in
+    subst (λ f. Holds c.enter.new.frames c.fill_first.new.cells (entered m (record { text = c.args.number; level = b.level; encloser = number_in c.args.parent; cells = first_cells b; passing = f; kept = false; given_back = false }) (stands_as c.args.beginning.component))) c.passes.ensures
+    (subst (λ cs. Holds c.enter.new.frames c.fill_first.new.cells (entered m (record { text = c.args.number; level = b.level; encloser = number_in c.args.parent; cells = cs; passing = c.passes.result; kept = false; given_back = false }) (stands_as c.args.beginning.component))) e
+    (subst (λ f. Holds c.enter.new.frames c.fill_first.new.cells (entered m (record { text = c.args.number; level = b.level; encloser = number_in c.args.parent; cells = cells_at c.fill_first.new.cells (frame_at f c.in_ok-place.place).base (frame_at f c.in_ok-place.place).cells; passing = c.passes.result; kept = false; given_back = false }) (stands_as c.args.beginning.component))) c.deref_mut-4.ensures.value
+    (c.enter.ensures.holds c.fill_first.new.cells m (subst (λ f. Holds f c.fill_first.new.cells m) (sym c.deref_mut-4.ensures.value) h2) s.entered up1))) in
     let later : (r : FrameRef) → Leads p.frames.items m r → Leads c.enter.new.frames (opened m c.args.number b c.args.beginning c.args.parent) r =
     λ r leads. c.enter.ensures.leads m _ (stands_as c.args.beginning.component) r (subst (λ f. Leads f m r) (sym c.deref_mut-4.ensures.value) (c.in_ok-place.ensures.leads m r leads)) in
     let here : Has c.enter.new.frames c.in-Ok-try_from.region p.entered = subst (λ k. Has c.enter.new.frames k p.entered) (let q : c.in_ok-place.place ≡ c.in-Ok-try_from.region = search rules in q) c.enter.ensures.here in

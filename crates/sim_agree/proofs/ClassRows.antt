@@ -1,0 +1,99 @@
+-- The text of a class, its block and its declaration.
+use Rattle.std.proofs.Common.{◌≡◌, ℕ, false, List, Option, Some, None, refl, sym, ap, ◌∙◌, subst}
+use Rattle.std.specs.Prelude.{slice_get}
+use Rattle.sim_tree.specs.declared.expr.Identifier.{Identifier}
+use Rattle.sim_tree.specs.Syntax.{Declarations, Heading, Statements}
+use Rattle.sim_scope.specs.declared.scopes.Declaration.{Declaration}
+use Rattle.sim_scope.specs.declared.types.BlockKind.{BlockKind}
+use Rattle.sim_scope.specs.declared.types.BlockKind.TheVariants as kind
+use Rattle.sim_scope.specs.declared.types.Entry.{Entry}
+use Rattle.sim_scope.specs.declared.types.Entry.TheVariants as entry
+use Rattle.sim_scope.specs.Access.{around, is_connection as is_connection_kind, is_so}
+use Rattle.sim_scope.specs.Declare.{result_named}
+use Rattle.sim_scope.specs.Tables.{BlockOf}
+use Rattle.sim_meaning.specs.Texts.{BlockText, ClassText, ConnectionText, PrefixedText, ProcedureText, StandardText, Text}
+use Rattle.sim_agree.proofs.Completing.{kind_in}
+use Rattle.sim_agree.proofs.Fine.{Alike, KindIs, RowIn, class_row, formal_row, own_row, procedure_row}
+use Rattle.sim_agree.proofs.Groups.{OwnEntry, PlainKind, Declaring}
+use Rattle.sim_agree.proofs.Steps.{Parametric}
+
+pub class_entry : (x : Text) (bs : List BlockOf) (ts : List Text) (d : ℕ) (row : Declaration) (n : ℕ) → row.entry ≡ entry.Class n → RowIn bs ts x d row → (prefix : Option Identifier) × (h : Heading) × (ds : Declarations) × (ss : Statements) × (slice_get ts n ≡ Some (ClassText prefix h ds ss))
+class_entry x bs ts d row n e (own_row y p) = absurd (go p.entry p.fits (subst (Alike p.entry) e p.alike))
+  where
+    go : (e : Entry) → OwnEntry e → Alike e (entry.Class n) → ⊥
+    go (entry.Variable ty) own a = a
+    go (entry.Constant ty) own a = a
+    go (entry.Array ty m) own a = a
+    go (entry.Procedure result m) own a = own
+    go (entry.Class m) own a = own
+    go (entry.Virtual result m) own a = own
+    go (entry.Formal f) own a = own
+    go (entry.Unspecified w) own a = own
+    go (entry.Attribute name given result) own a = own
+class_entry x bs ts d row n e (procedure_row y p) = absurd (subst (Alike (entry.Procedure (result_named p.result) p.number)) e p.entry)
+class_entry x bs ts d row n e (class_row y p) = (p.prefix, p.heading, p.declarations, p.statements, subst (λ z. slice_get ts z ≡ Some (ClassText p.prefix p.heading p.declarations p.statements)) (number p.number (sym p.entry ∙ e)) p.text)
+  where
+    number : (m : ℕ) → entry.Class m ≡ entry.Class n → m ≡ n
+    number m q = cc
+class_entry x bs ts d row n e (formal_row y p) = absurd (subst Parametric e p)
+
+-- the text of a class stands in a block or in a class
+pub class_stands : (x : Text) (bs : List BlockOf) (ts : List Text) (d : ℕ) (row : Declaration) (n : ℕ) → row.entry ≡ entry.Class n → RowIn bs ts x d row → Declaring x × (around (slice_get bs n) ≡ Some row.block)
+class_stands x bs ts d row n e (own_row y p) = absurd (go p.entry p.fits (subst (Alike p.entry) e p.alike))
+  where
+    go : (e : Entry) → OwnEntry e → Alike e (entry.Class n) → ⊥
+    go (entry.Variable ty) own a = a
+    go (entry.Constant ty) own a = a
+    go (entry.Array ty m) own a = a
+    go (entry.Procedure result m) own a = own
+    go (entry.Class m) own a = own
+    go (entry.Virtual result m) own a = own
+    go (entry.Formal f) own a = own
+    go (entry.Unspecified w) own a = own
+    go (entry.Attribute name parameter result) own a = own
+class_stands x bs ts d row n e (procedure_row y p) = absurd (subst (Alike (entry.Procedure (result_named p.result) p.number)) e p.entry)
+class_stands x bs ts d row n e (class_row y p) = (y, subst (λ z. around (slice_get bs z) ≡ Some row.block) (number p.number (sym p.entry ∙ e)) p.around)
+  where
+    number : (m : ℕ) → entry.Class m ≡ entry.Class n → m ≡ n
+    number m q = cc
+class_stands x bs ts d row n e (formal_row y p) = absurd (subst Parametric e p)
+
+plain_no_class : (k : BlockKind) → PlainKind k → k ≡ kind.Class → ⊥
+plain_no_class kind.Program p e = cc
+plain_no_class kind.SubBlock p e = cc
+plain_no_class kind.Procedure p e = p
+plain_no_class kind.Class p e = p
+plain_no_class kind.Prefixed p e = p
+plain_no_class kind.Connection p e = p
+plain_no_class (kind.StandardClass which) p e = p
+
+plain_no_connection : (k : BlockKind) → PlainKind k → is_connection_kind k ≡ false
+plain_no_connection kind.Program p = refl
+plain_no_connection kind.SubBlock p = refl
+plain_no_connection kind.Procedure p = absurd p
+plain_no_connection kind.Class p = absurd p
+plain_no_connection kind.Prefixed p = absurd p
+plain_no_connection kind.Connection p = absurd p
+plain_no_connection (kind.StandardClass which) p = absurd p
+
+-- a block of the kind of a class is that of the text of one
+pub class_of_kind : (row : BlockOf) (o : Option Text) → KindIs (Some row) o → row.kind ≡ kind.Class → (prefix : Option Identifier) × (h : Heading) × (ds : Declarations) × (ss : Statements) × (o ≡ Some (ClassText prefix h ds ss))
+class_of_kind row None k e = absurd k
+class_of_kind row (Some (BlockText i ds ss)) k e = absurd (plain_no_class row.kind k e)
+class_of_kind row (Some (ProcedureText result h a)) k e = absurd (let f : kind.Procedure ≡ kind.Class = sym k ∙ e in cc)
+class_of_kind row (Some (ClassText prefix h ds ss)) k e = (prefix, h, ds, ss, refl)
+class_of_kind row (Some ConnectionText) k e = absurd (let f : kind.Connection ≡ kind.Class = sym k ∙ e in cc)
+class_of_kind row (Some (PrefixedText class es ds ss)) k e = absurd k
+class_of_kind row (Some (StandardText which)) k e = absurd k
+
+pub declaring_solid : (o : Option BlockOf) (x : Text) → KindIs o (Some x) → Declaring x → is_so is_connection_kind (kind_in o) ≡ false
+declaring_solid None x k d = absurd (none x k)
+  where
+    none : (x : Text) → KindIs None (Some x) → ⊥
+    none x k = k
+declaring_solid (Some row) (BlockText i ds ss) k d = plain_no_connection row.kind k
+declaring_solid (Some row) (ClassText prefix h ds ss) k d = ap is_connection_kind k
+declaring_solid (Some row) (ProcedureText result h a) k d = absurd d
+declaring_solid (Some row) ConnectionText k d = absurd d
+declaring_solid (Some row) (PrefixedText class es ds ss) k d = absurd d
+declaring_solid (Some row) (StandardText which) k d = absurd d

@@ -1,0 +1,303 @@
+-- The code of the levels of an instance, as the code of its program has it, and the work of a level.
+use Rattle.std.proofs.Common.{◌≡◌, ◌≢◌, ◌<◌, ◌≤◌, ℕ, zero, suc, Bool, true, false, List, [], ◌∷◌, length, Option, Some, None, refl, sym, ap, ◌∙◌, subst, arith}
+use Rattle.std.specs.Prelude.{drop, not, pos, slice_get}
+use Rattle.sim_scope.specs.Levels.{has_standard}
+use Rattle.sim_scope.specs.Source.{Source}
+use Rattle.sim_tree.specs.Syntax.{Declarations, Statements}
+use Rattle.sim_code.specs.declared.code.BlockKind.TheVariants as kind
+use Rattle.sim_code.specs.declared.instr.Instr.TheVariants as i
+use Rattle.sim_code.specs.declared.stage.Stage.TheVariants as stage
+use Rattle.sim_code.specs.Classes.{class_numbered}
+use Rattle.sim_code.specs.Code.{BlockOf, ClassOf, CodeOf}
+use Rattle.sim_code.specs.Machine.{Frames}
+use Rattle.sim_meaning.specs.Attributes.{is_connection}
+use Rattle.sim_meaning.specs.Levels.{both, has_levels, is_class, level_made, levels_made, levels_of, unless_standard, writes_inner}
+use Rattle.sim_meaning.specs.Objects.{level_work, with_inner}
+use Rattle.sim_meaning.specs.Pending.{Do, Execs, InnerOp, Instances, Item, Level}
+use Rattle.sim_meaning.specs.Texts.{BlockText, ClassText, ConnectionText, PrefixedText, ProcedureText, StandardText, Text, text}
+use Rattle.codegen_expr.specs.Sites.{Is, LevelOf, block_in_front, block_number, block_of_text, class_in, class_number, frame_text, innermost, is_connected, outer, own_end, room_of_block}
+use Rattle.codegen.specs.Agrees.{is_prefixed}
+use Rattle.codegen.specs.CodeArrays.{ArraysAt}
+use Rattle.codegen.specs.CodeStm.{LevelAt}
+use Rattle.codegen.specs.Compiled.{ClassTextOf, CodeHas, site_of}
+use Rattle.sim_relate.proofs.Frames.{frame_self, same_frame}
+use Rattle.sim_relate.proofs.Known.{Runs, site_at, spot}
+use Rattle.sim_relate.proofs.LevelLists.{place_level}
+use Rattle.sim_relate.proofs.Pending.{pends, pends_in}
+use Rattle.sim_relate.proofs.Plainly.{Coding, agreed}
+use Rattle.sim_relate.proofs.Relation.{AtLevel, LevelIs, WorkAt, inner_last, with_inner as among_them}
+
+some_is : {A : Type 0} {x y : A} → Some x ≡ Some y → x ≡ y
+some_is e = cc (e)
+
+-- ---- levels that are made
+
+-- the first of them, and those behind it
+pub record MadeOf (s : Source) (ks : List ℕ) (x : Level) (xs : List Level) : Type 0 where
+  pub number : ℕ
+  pub more : List ℕ
+  pub is : ks ≡ number ∷ more
+  pub first : level_made s number (text s number) ≡ Some x
+  pub rest : levels_made s more ≡ Some xs
+
+module _ (s : Source) where
+  both_parts : (y : Option Level) (ys : Option (List Level)) (x : Level) (xs : List Level) → both y ys ≡ Some (x ∷ xs) → (y ≡ Some x) × (ys ≡ Some xs)
+  both_parts None ys x xs e = absurd (cc)
+  both_parts (Some y) None x xs e = absurd (cc)
+  both_parts (Some y) (Some ys) x xs e = (cc (e), cc (e))
+
+  both_none : (y : Option Level) (ys : Option (List Level)) → both y ys ≡ Some [] → ⊥
+  both_none None ys e = absurd (cc)
+  both_none (Some y) None e = absurd (cc)
+  both_none (Some y) (Some ys) e = absurd (cc)
+
+  pub made_of : (ks : List ℕ) (x : Level) (xs : List Level) → levels_made s ks ≡ Some (x ∷ xs) → MadeOf s ks x xs
+  made_of [] x xs e = absurd (cc)
+  made_of (k ∷ ks) x xs e = let p = both_parts (level_made s k (text s k)) (levels_made s ks) x xs e in record { number = k; more = ks; is = refl; first = p.0; rest = p.1 }
+
+  pub none_made : (ks : List ℕ) → levels_made s ks ≡ Some [] → ks ≡ []
+  none_made [] e = refl
+  none_made (k ∷ ks) e = absurd (both_none (level_made s k (text s k)) (levels_made s ks) e)
+
+  made_text : (c : Bool) (y x : Level) → unless_standard c y ≡ Some x → y ≡ x
+  made_text true y x e = absurd (cc)
+  made_text false y x e = cc (e)
+
+-- what stands in a list behind so many
+pub dropped_at : {A : Type 0} (n : ℕ) (xs : List A) (k : A) (rest : List A) → drop n xs ≡ k ∷ rest → (slice_get xs n ≡ Some k) × (drop (suc n) xs ≡ rest)
+dropped_at zero [] k rest e = absurd (cc)
+dropped_at zero (x ∷ xs) k rest e = (cc (e), cc (e))
+dropped_at (suc n) [] k rest e = absurd (cc)
+dropped_at (suc n) (x ∷ xs) k rest e = dropped_at n xs k rest e
+
+pub dropped_none : {A : Type 0} (n : ℕ) (xs : List A) → drop n xs ≡ [] → slice_get xs n ≡ None
+dropped_none zero [] e = refl
+dropped_none zero (x ∷ xs) e = absurd (cc)
+dropped_none (suc n) [] e = refl
+dropped_none (suc n) (x ∷ xs) e = dropped_none n xs e
+
+-- ---- classes
+
+module _ (s : Source) (code : CodeOf) (compiled : Coding s code) where
+  -- the text of a class, and its code
+  pub record ClassCode (k : ℕ) : Type 0 where
+    pub declarations : Declarations
+    pub statements : Statements
+    pub made : level_made s k (text s k) ≡ unless_standard (has_standard s.tables k) (record { text = k; declarations = declarations; statements = statements; inner_last = not (writes_inner s k) })
+    pub not_first : k ≢ 0
+    pub block : BlockOf
+    pub found : slice_get code.blocks (block_number s k) ≡ Some block
+    pub code_is : ClassTextOf s code k kind.Object (writes_inner s k) declarations statements block
+
+  by_code : (k : ℕ) (x : Text) (o : Option BlockOf) → text s k ≡ Some x → slice_get code.blocks (block_number s k) ≡ o → is_class (Some x) ≡ true → CodeHas s code k x o → ClassCode k
+  by_code k (BlockText begin ds ss) o e f c a = absurd (cc)
+  by_code k (ProcedureText result h' a') o e f c a = absurd (cc)
+  by_code k (PrefixedText class arguments ds ss) o e f c a = absurd (cc)
+  by_code k ConnectionText o e f c a = absurd (cc)
+  by_code k (StandardText which) None e f c a = absurd a
+  by_code zero (StandardText which) (Some b) e f c a = absurd a
+  by_code (suc k) (StandardText which) (Some b) e f c a = absurd a
+  by_code k (ClassText prefix h' ds ss) None e f c a = absurd a
+  by_code zero (ClassText prefix h' ds ss) (Some b) e f c a = absurd a
+  by_code (suc k) (ClassText prefix h' ds ss) (Some b) e f c a = record {
+    declarations = ds;
+    statements = ss;
+    made = ap (level_made s (suc k)) e;
+    not_first = λ zero_is. absurd (cc (zero_is));
+    block = b;
+    found = f;
+    code_is = a;
+  }
+
+  by_text : (k : ℕ) (o : Option Text) → text s k ≡ o → is_class o ≡ true → ClassCode k
+  by_text k None e c = absurd (cc)
+  by_text k (Some x) e c = by_code k x (slice_get code.blocks (block_number s k)) e refl c (compiled.each k x e)
+
+  pub class_code : (k : ℕ) → is_class (text s k) ≡ true → ClassCode k
+  class_code k c = by_text k (text s k) refl c
+
+  -- no block has a prefix
+  class_or : (o : Option Text) → has_levels o ≡ true → is_prefixed o ≡ false → is_class o ≡ true
+  class_or None h p = absurd (cc)
+  class_or (Some (ClassText prefix h' ds ss)) h p = refl
+  class_or (Some (PrefixedText class arguments ds ss)) h p = absurd (cc)
+  class_or (Some (BlockText begin ds ss)) h p = absurd (cc)
+  class_or (Some (ProcedureText result h' a)) h p = absurd (cc)
+  class_or (Some ConnectionText) h p = absurd (cc)
+  class_or (Some (StandardText which)) h p = absurd (cc)
+
+  pub levelled_class : (k : ℕ) → has_levels (text s k) ≡ true → is_class (text s k) ≡ true
+  levelled_class k h = class_or (text s k) h ((agreed s code compiled).flat.blocks k)
+
+  unconnected : (o : Option Text) → is_class o ≡ true → is_connection o ≡ false
+  unconnected None c = refl
+  unconnected (Some (ClassText prefix h' ds ss)) c = refl
+  unconnected (Some (StandardText which)) c = refl
+  unconnected (Some (BlockText begin ds ss)) c = refl
+  unconnected (Some (ProcedureText result h' a)) c = refl
+  unconnected (Some (PrefixedText class arguments ds ss)) c = refl
+  unconnected (Some ConnectionText) c = absurd (cc)
+
+  pub class_connected : (k : ℕ) → is_class (text s k) ≡ true → is_connected s.tables k ≡ false
+  class_connected k c = (agreed s code compiled).connected k ∙ unconnected (text s k) c
+
+  pub class_frame : (k : ℕ) → is_class (text s k) ≡ true → frame_text s k ≡ k
+  class_frame k c = frame_self s (agreed s code compiled) k (class_connected k c)
+
+  -- the levels of a class are classes
+  pub level_class : (own k : ℕ) → LevelOf s.tables own k → is_class (text s own) ≡ true → is_class (text s k) ≡ true
+  level_class own _ innermost c = c
+  level_class own k (outer {u = u} e more) c = level_class u k more ((agreed s code compiled).prefixes own u e).class
+
+  -- what has levels has them for its own
+  pub levels_class : (own k : ℕ) → LevelOf s.tables own k → is_class (text s k) ≡ true → is_class (text s own) ≡ true
+  levels_class own _ innermost c = c
+  levels_class own k (outer {u = u} e more) c = levelled_class own ((agreed s code compiled).prefixes own u e).has
+
+  pub number_of : (k : ℕ) (x : ClassCode k) → class_number s code k ≡ x.block.class
+  unfolding class_number
+  number_of k x = ap class_in x.found
+
+  pub numbered : (k : ℕ) (x : ClassCode k) → class_numbered code (class_number s code k) ≡ Some x.code_is.class
+  numbered k x = ap (class_numbered code) (number_of k x) ∙ x.code_is.is.numbered
+
+  one_block : (n : ℕ) (x y : BlockOf) → slice_get code.blocks n ≡ Some x → slice_get code.blocks n ≡ Some y → x ≡ y
+  one_block n x y e f = some_is (sym e ∙ f)
+
+  -- a level needs no more room
+  pub room_within : (own k : ℕ) (x y : BlockOf) → LevelOf s.tables own k → is_class (text s own) ≡ true → slice_get code.blocks (block_number s own) ≡ Some x → slice_get code.blocks (block_number s k) ≡ Some y → y.room ≤ x.room
+  unfolding block_in_front
+  room_within own _ x y innermost c e f = let same = ap (λ z. z.room) (one_block (block_number s own) x y e f) in omega (arith, same)
+  room_within own k x y (outer {u = u} front more) c e f =
+      let a = class_code own c in
+      let next = class_code u ((agreed s code compiled).prefixes own u front).class in
+      let same = ap (λ z. z.room) (one_block (block_number s own) x a.block e a.found) in
+      let in_front : block_in_front s code own ≡ Some next.block = ap (block_of_text s code) front ∙ next.found in
+      let less = subst (λ z. room_of_block z ≤ a.block.room) in_front a.code_is.heads.roomy in
+      let inside = room_within u k next.block y more ((agreed s code compiled).prefixes own u front).class next.found f in
+      omega (arith, same, less, inside)
+
+  -- ---- levels
+
+  -- A level of an instance, the code of it, and what it is made of: where its declarations and its statements begin and end, and where control
+  -- goes on behind `inner`.
+  pub record LevelCode (b : Runs) (k n : ℕ) (x : Level) : Type 0 where
+    pub block : BlockOf
+    pub class : ClassOf
+    pub level : LevelIs s code b k n block class
+    pub text_is : x.text ≡ k
+    pub declared_there : class.declarations < length code.instrs
+    pub last_declared : ℕ
+    pub on : ℕ
+    pub declared : ArraysAt s code (site_of s code k block) x.declarations class.declarations last_declared
+    pub next : Is code (i.NextDecl (pos n)) last_declared on
+    pub stated_there : class.statements < length code.instrs
+    pub stop : ℕ
+    pub written : Bool
+    pub last : x.inner_last ≡ not written
+    pub stated : LevelAt s code (site_of s code k block) n class.after_inner written x.statements class.statements stop
+    pub behind_there : class.after_inner < length code.instrs
+    pub behind : ℕ
+    pub ends : Is code (i.EndLevel (pos n)) stop behind
+
+  module _ (b : Runs) (own_block : BlockOf) (found : slice_get code.blocks (block_number s b.own) ≡ Some own_block) (roomy : own_block.room ≤ b.room) (own_class : is_class (text s b.own) ≡ true) where
+    pub level_is : (k n : ℕ) → slice_get (levels_of s b.own) n ≡ Some k → (x : ClassCode k) × LevelIs s code b k n x.block x.code_is.class
+    level_is k n e =
+        let at = place_level s (agreed s code compiled) b.own k n (class_connected b.own own_class) e in
+        let c = level_class b.own k at.0 own_class in
+        let x = class_code k c in (
+          x,
+          record {
+            level = at.0;
+            has_class = c;
+            place_is = e;
+            frame = class_frame k c;
+            found = x.found;
+            numbered = numbered k x;
+            roomy = let less = room_within b.own k own_block x.block at.0 own_class found x.found in omega (arith, less, roomy);
+            own_roomy = λ y f. let same = ap (λ z. z.room) (one_block (block_number s b.own) y own_block f found) in omega (arith, same, roomy);
+          },
+        )
+
+    -- its code, for the level that is made of it
+    pub level_code : (k n : ℕ) (x : Level) → slice_get (levels_of s b.own) n ≡ Some k → level_made s k (text s k) ≡ Some x → LevelCode b k n x
+    level_code k n x e made =
+        let at = place_level s (agreed s code compiled) b.own k n (class_connected b.own own_class) e in
+        let r = level_is k n e in
+        let a = r.0 in
+        let here = a.code_is.level in
+        let same = made_text s (has_standard s.tables k) (record { text = k; declarations = a.declarations; statements = a.statements; inner_last = not (writes_inner s k) }) x (sym a.made ∙ made) in
+        let placed : here.place ≡ n = let p = here.placed in let q = at.1 in omega (arith, p, q) in
+        subst (λ z. LevelCode b k n z) same (record {
+          block = a.block;
+          class = a.code_is.class;
+          level = r.1;
+          text_is = refl;
+          declared_there = here.declared_there;
+          last_declared = here.x;
+          on = here.y;
+          declared = here.declared;
+          next = subst (λ z. Is code (i.NextDecl (pos z)) here.x here.y) placed here.next;
+          stated_there = here.stated_there;
+          stop = here.stop;
+          written = writes_inner s k;
+          last = refl;
+          stated = subst (λ z. LevelAt s code (site_of s code k a.block) z a.code_is.class.after_inner (writes_inner s k) a.statements a.code_is.class.statements here.stop) placed here.stated;
+          behind_there = here.behind_there;
+          behind = here.last;
+          ends = subst (λ z. Is code (i.EndLevel (pos z)) here.stop here.last) placed here.ends;
+        })
+
+  -- ---- the work of a level
+
+  -- a level does not depend on where control is
+  pub moved_level : (b c : Runs) (k n : ℕ) (block : BlockOf) (class : ClassOf) → c.own ≡ b.own → c.room ≡ b.room → LevelIs s code b k n block class → LevelIs s code c k n block class
+  moved_level b c k n block class own room a = record {
+    level = subst (λ z. LevelOf s.tables z k) (sym own) a.level;
+    has_class = a.has_class;
+    place_is = subst (λ z. slice_get (levels_of s z) n ≡ Some k) (sym own) a.place_is;
+    frame = a.frame;
+    found = a.found;
+    numbered = a.numbered;
+    roomy = subst (λ z. block.room ≤ z) (sym room) a.roomy;
+    own_roomy = λ x f. subst (λ z. x.room ≤ z) (sym room) (a.own_roomy x (subst (λ z. slice_get code.blocks (block_number s z) ≡ Some x) own f));
+  }
+
+  module _ (m : Instances) (fs : Frames) (Below : Bool → Type 0) (inst : ℕ) (b : Runs) (k n : ℕ) (x : Level) (a : LevelCode b k n x) where
+    abbrev at_runs : Runs
+    at_runs = record b { block = a.block; stage = stage.Stating n }
+
+    abbrev behind_runs : Runs
+    behind_runs = record b { block = a.block; stage = stage.Behind n }
+
+    at_inner : AtLevel s code (site_at k at_runs (own_end s code k)) at_runs (spot k behind_runs (own_end s code k)) n a.class.after_inner [] []
+    at_inner = record {
+      was = refl;
+      class = a.class;
+      level = moved_level b at_runs k n a.block a.class refl refl a.level;
+      leads = refl;
+      there = a.behind_there;
+      low = refl;
+      goes_on = refl;
+      none = refl;
+      none_behind = refl;
+    }
+
+    low_here : own_end s code (frame_text s k) ≤ own_end s code k
+    low_here = let same = ap (own_end s code) a.level.frame in omega (arith, same)
+
+    -- The statements of a level, with those of the levels inside; then what is behind it, which stands at its end.
+    pub level_begins : (xs : List Level) (w : List Item) → levels_made s (drop (suc n) (levels_of s b.own)) ≡ Some xs → WorkAt s code m fs Below inst k behind_runs (own_end s code k) w a.stop [] → WorkAt s code m fs Below inst k at_runs (own_end s code k) (level_work x xs w) a.class.statements []
+    level_begins xs w inside work = by a.written x.inner_last a.last a.stated
+      where
+        by : (written last : Bool) → last ≡ not written → LevelAt s code (site_of s code k a.block) n a.class.after_inner written x.statements a.class.statements a.stop → WorkAt s code m fs Below inst k at_runs (own_end s code k) (Do (Execs x.statements) ∷ with_inner last xs w) a.class.statements []
+        by true true e h = absurd (cc)
+        by true false e h =
+            pends_in s code m fs Below inst k at_runs (own_end s code k) low_here w (Execs x.statements) k (spot k behind_runs (own_end s code k)) a.class.statements a.stop [] [] (same_frame s k)
+            (among_them x.statements refl (record { place = n; after = a.class.after_inner; at = at_inner; is = h })) work
+        by false false e h = absurd (cc)
+        by false true e h =
+            pends s code m fs Below inst k at_runs (own_end s code k) low_here (Do (InnerOp xs) ∷ w) (Execs x.statements) a.class.statements h.x [] [] (h.statements, refl)
+            (pends_in s code m fs Below inst k at_runs (own_end s code k) low_here w (InnerOp xs) k (spot k behind_runs (own_end s code k)) h.x a.class.after_inner [] [] (same_frame s k)
+            (inner_last xs refl (record { place = n; at = at_inner; is = h.inner; inside = inside }))
+            (subst (λ z. WorkAt s code m fs Below inst k behind_runs (own_end s code k) w z []) h.on work))
