@@ -23,6 +23,8 @@ use Rattle.sim_tree.specs.declared.stmt.When.{When}
 use Rattle.sim_tree.specs.Syntax.{Statement, Statements, statements}
 use Rattle.sim_tree.specs.SyntaxOfProgram.{statement_syntax}
 use Rattle.sim_tree.proofs.ProgramSyntaxLemmas as v
+use Rattle.sim_code.specs.declared.code.BlockKind.{BlockKind}
+use Rattle.sim_code.specs.declared.code.BlockKind.TheVariants as kind
 use Rattle.sim_code.specs.declared.instr.Instr.TheVariants as i
 use Rattle.sim_code.specs.Code.{CodeOf}
 use Rattle.sim_scope.specs.Levels.{base}
@@ -35,7 +37,7 @@ use Rattle.codegen.specs.declared.levels.InnerPlace.{InnerPlace}
 use Rattle.codegen.specs.BuiltProgram.{InnerOrBuilt, LevelBuilt, StatementsBuilt, WithInnerBuilt}
 use Rattle.codegen.specs.CodeStm.{InnerAt, InnerOrAt, LevelAt, StmsAt, WithInnerAt, inner_of}
 use Rattle.codegen.specs.Emit.{WritesStatements}
-use Rattle.codegen.specs.EmitProgram.{FirstInner, InnerThere, IsOwn, NoInnerTo, WritesAround, WritesLevel, token_number}
+use Rattle.codegen.specs.EmitProgram.{FirstInner, InnerThere, IsOwn, NoInnerTo, WritesAround, WritesLevel, inner_by_kind, token_number}
 
 -- ---- which statements are `inner`
 
@@ -144,6 +146,22 @@ own_nowhere b k token o eo is = λ h. clash (sym is ∙ eo ∙ h)
 
 pub ruleset owns = (own_found, own_nowhere)
 
+-- ---- by the kind of the block
+
+pub inner_of_class : (s : Source) (a : BlockKind) (k : ℕ) (r : Bool) → a ≡ kind.Object → r ≡ writes_inner s k → r ≡ inner_by_kind s a k
+inner_of_class s a k r is e = e ∙ ap (λ z. inner_by_kind s z k) (sym is)
+
+pub inner_of_prefixed : (s : Source) (a : BlockKind) (k : ℕ) → a ≡ kind.Prefixed → false ≡ inner_by_kind s a k
+inner_of_prefixed s a k is = ap (λ z. inner_by_kind s z k) (sym is)
+
+pub inner_of_sub_block : (s : Source) (a : BlockKind) (k : ℕ) → a ≡ kind.SubBlock → false ≡ inner_by_kind s a k
+inner_of_sub_block s a k is = ap (λ z. inner_by_kind s z k) (sym is)
+
+pub inner_of_procedure : (s : Source) (a : BlockKind) (k : ℕ) → a ≡ kind.Procedure → false ≡ inner_by_kind s a k
+inner_of_procedure s a k is = ap (λ z. inner_by_kind s z k) (sym is)
+
+pub ruleset kinds = (inner_of_class, inner_of_prefixed, inner_of_sub_block, inner_of_procedure)
+
 -- ---- parts of the statements
 
 abbrev stms : List Stmt → Statements
@@ -231,11 +249,11 @@ module _ (b : Bound) (w : Spot) where
   longer : (a c : DraftOf) (P : Type 0) (A : CodeOf → Site → ℕ → ℕ → Type 0) → Emits w a c P A → length a.instrs ≤ length c.instrs
   longer a c P A f = Rattle.codegen_expr.proofs.Pieces.fronts_le a.instrs c.instrs (f.rest, f.front)
 
-  pub level_last : (level : ℕ) (old c2 c3 : DraftOf) (xs : List Stmt) (after : ℕ) (o : Bool) → o ≡ writes_inner (source_of b) w.text → o ≡ false → WritesStatements b w old c2 xs → c3 ≡ with_instr c2 (i.Inner (pos level)) 0 → after ≡ length c3.instrs → WritesLevel b w level old c3 xs after
+  pub level_last : (level : ℕ) (old c2 c3 : DraftOf) (xs : List Stmt) (after : ℕ) (o : Bool) → o ≡ false → WritesStatements b w old c2 xs → c3 ≡ with_instr c2 (i.Inner (pos level)) 0 → after ≡ length c3.instrs → WritesLevel b w level o old c3 xs after
   unfolding WritesLevel WritesStatements
-  level_last level old c2 c3 xs after o eo none f e en =
+  level_last level old c2 c3 xs after o none f e en =
       let s = source_of b in
-      let last : false ≡ writes_inner s w.text = sym none ∙ eo in (
+      let last : false ≡ o = sym none in (
         omega (arith, en),
         subst (λ z. Emits w old c3 (LevelBuilt s w.text z (stms xs)) (λ final site p q. LevelAt s final site level after z (stms xs) p q)) last
             (emits_as w (StatementsBuilt s w.text (stms xs) × ⊤) (StatementsBuilt s w.text (stms xs)) _ _ old c3 (λ h. (h, tt)) (λ h. h.0)
@@ -243,11 +261,11 @@ module _ (b : Bound) (w : Spot) where
             (emits_then w _ _ _ _ old c2 c3 f (emits_to c2 c3 ⊤ _ after en (emits_at w c2 c3 (i.Inner (pos level)) 0 e (λ z. cc) refl)))),
       )
 
-  pub level_written : (level : ℕ) (old new : DraftOf) (xs : List Stmt) (after : ℕ) (o : Bool) → o ≡ writes_inner (source_of b) w.text → o ≡ true → WritesAround b w level old new xs after → WritesLevel b w level old new xs after
+  pub level_written : (level : ℕ) (old new : DraftOf) (xs : List Stmt) (after : ℕ) (o : Bool) → o ≡ true → WritesAround b w level old new xs after → WritesLevel b w level o old new xs after
   unfolding WritesLevel WritesAround
-  level_written level old new xs after o eo one f =
+  level_written level old new xs after o one f =
       let s = source_of b in
-      let written : true ≡ writes_inner s w.text = sym one ∙ eo in
+      let written : true ≡ o = sym one in
       (f.0, subst (λ z. Emits w old new (LevelBuilt s w.text z (stms xs)) (λ final site p q. LevelAt s final site level after z (stms xs) p q)) written f.1)
 
   pub around_inner : (level : ℕ) (old c1 c2 c3 c4 : DraftOf) (xs front behind : List Stmt) (o : Option InnerPlace) (r : InnerPlace) (own : Bool) (after : ℕ) → FirstInner xs o → o ≡ Some r → IsOwn b w.text r.token own → own ≡ true

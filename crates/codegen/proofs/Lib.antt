@@ -11,6 +11,7 @@ pub mod ClassLevels
 pub mod Sides
 pub mod Ones
 pub mod TakenCalls
+pub mod BlockPrefixes
 pub mod Statements
 pub mod ForLists
 pub mod Shares

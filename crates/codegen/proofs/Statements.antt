@@ -50,13 +50,13 @@ use Rattle.codegen_expr.specs.Sites.{At, Is, Pushes, Site, block_number}
 use Rattle.codegen_expr.proofs.Pieces.{emits_as, emits_at, emits_if, emits_loop, emits_none, emits_nothing, emits_push, emits_then, emits_when}
 use Rattle.codegen.specs.declared.left.Left.{Left}
 use Rattle.codegen.specs.declared.left.Left.TheVariants as left
-use Rattle.codegen.specs.BuiltProgram.{AssignBuilt, BlockBuilt, CalledBuilt, ElementsBuilt, EnterBuilt, ForBuilt, LeftBuilt, ListBuilt, StatementBuilt, StatementsBuilt, StepsBuilt, VariableBuilt}
+use Rattle.codegen.specs.BuiltProgram.{AssignBuilt, BlockBuilt, CalledBuilt, ElementsBuilt, EnterBuilt, ForBuilt, LeftBuilt, ListBuilt, PrefixBuilt, StatementBuilt, StatementsBuilt, StepsBuilt, VariableBuilt}
 use Rattle.codegen.specs.CodeFor.{ForAt, GivesVariable, ListAt, LoadsVariable, OfCell, OfPlace, OfReference, StoresVariable, TakesValues, Variable, VariableThere, assigned_by, is_empty, variable_of, variable_stored}
 use Rattle.codegen.specs.CodeLeft.{AssignAt, AtAddress, AtAttribute, InCell, NotBuilt, Stored, ToReference, ToResult, ToText, each_stored, stored_left}
 use Rattle.sim_meaning.specs.Closing.{is_text, is_text_type}
-use Rattle.codegen.specs.CodeStm.{ArmsAt, BlockAt, CalledAt, ConnectsAt, DropsAt, EnterAt, InspectAt, StmAt, StmsAt}
+use Rattle.codegen.specs.CodeStm.{ArmsAt, BlockAt, CalledAt, ConnectsAt, DropsAt, EnterAt, InspectAt, PrefixedAt, StmAt, StmsAt}
 use Rattle.codegen.specs.EmitTargets.{Controls, ElementsOver, ListOver, WritesLoaded, WritesStored, line_in, takes_values}
-use Rattle.codegen.specs.Emit.{OwesStatements, WritesAssignment, WritesBlock, WritesCall, WritesCalled, WritesElementOf, WritesFor, WritesGiven, WritesList, WritesOne, WritesStatement, WritesStatements, WritesTakenCall}
+use Rattle.codegen.specs.Emit.{OwesStatements, WritesAssignment, WritesBlock, WritesCall, WritesCalled, WritesElementOf, WritesFor, WritesGiven, WritesList, WritesOne, WritesPrefixed, WritesStatement, WritesStatements, WritesTakenCall}
 use Rattle.codegen.specs.declared.elements.Element.{Element}
 use Rattle.codegen.specs.declared.elements.Element.TheVariants as view
 use Rattle.codegen.specs.declared.targets.Target.{Target}
@@ -153,8 +153,13 @@ module _ (b : Bound) (w : Spot) where
   unbuilt : (a c : DraftOf) (x : Stmt) (y : Statement) → statement_syntax x ≡ y → (StatementBuilt (source_of b) w.text y → ⊥) → c ≡ given_up a → WritesStatement b w a c x
   unbuilt a c x y is never ec = stm_as a c x y is (emits_nothing w a c _ _ never ec)
 
-  pub write_prefixed : (a c : DraftOf) (x : Stmt) (p : BlockPrefix) (k : Block) → x ≡ t.PrefixedBlock p k → c ≡ given_up a → WritesStatement b w a c x
-  write_prefixed a c x p k is ec = unbuilt a c x _ (ap statement_syntax is ∙ v.syntax-PrefixedBlock p k) (λ z. z) ec
+  pub write_prefixed : (a c d : DraftOf) (x : Stmt) (p : BlockPrefix) (k : Block) (ys : List Expr) → x ≡ t.PrefixedBlock p k → ys ≡ p.arguments.items → c ≡ with_instr a i.Tick 0 → WritesPrefixed b w c d p.class ys k.token → WritesStatement b w a d x
+  unfolding WritesPrefixed
+  write_prefixed a c d x p k ys is ey ec f =
+      let s = source_of b in
+      let es = expressions (map syntax_of ys) in
+      stm_as a d x _ (ap statement_syntax is ∙ v.syntax-PrefixedBlock p k ∙ ap (λ z. syntax.Prefixed p.class (expressions (map syntax_of z)) (block_syntax k)) (sym ey) ∙ ap (syntax.Prefixed p.class es) (v.syntax-block k.token k.declarations k.statements k.end))
+      (tick_then (PrefixBuilt s w.text es (block_around s k.token.0)) (λ final site. PrefixedAt s final site 0 (line_at s p.class.token.0) es (block_around s k.token.0)) a c d ec f)
 
   pub write_inner : (a c : DraftOf) (x : Stmt) (k : TokenNo) → x ≡ t.Inner k → c ≡ given_up a → WritesStatement b w a c x
   write_inner a c x k is ec = unbuilt a c x _ (ap statement_syntax is ∙ v.syntax-Inner k) (λ z. z) ec

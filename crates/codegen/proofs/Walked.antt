@@ -1,5 +1,5 @@
 -- Texts, one behind another.
-use Rattle.std.proofs.Common.{◌≡◌, ◌≢◌, ◌<◌, ◌≤◌, ◌+◌, ℕ, zero, suc, pos, true, false, List, [], ◌∷◌, ◌++◌, length, map, Bor, Option, Some, None, refl, sym, ap, ◌∙◌, subst, arith, append-nil, length-append}
+use Rattle.std.proofs.Common.{◌≡◌, ◌≢◌, ◌<◌, ◌≤◌, ◌+◌, ℕ, zero, suc, pos, true, false, List, [], ◌∷◌, ◌++◌, length, map, Bool, Bor, Option, Some, None, refl, sym, ap, ◌∙◌, subst, arith, append-nil, length-append}
 use Rattle.std.specs.Prelude.{⊤, slice_get, slice_set}
 use Rattle.sim_scope.specs.declared.bound.Bound.{Bound}
 use Rattle.sim_scope.specs.declared.types.StandardClass.{StandardClass}
@@ -26,7 +26,6 @@ use Rattle.sim_code.specs.Classes.{class_numbered}
 use Rattle.sim_code.specs.Code.{BlockOf, CodeOf}
 use Rattle.sim_code.specs.Running.{AllRun, runs}
 use Rattle.sim_meaning.specs.Attributes as Attributes
-use Rattle.sim_meaning.specs.Levels.{writes_inner}
 use Rattle.sim_meaning.specs.Texts.{BlockText, ClassText, ProcedureText, Text, text}
 use Rattle.program_texts.specs.declared.tree.TextTree.{TextTree}
 use Rattle.program_texts.specs.declared.tree.TextTree.TheVariants as tree
@@ -40,13 +39,13 @@ use Rattle.codegen_expr.proofs.Pieces.{Fronts, append_at, emits_at, emits_then, 
 use Rattle.codegen.specs.declared.texts.ClassAt.{ClassAt}
 use Rattle.codegen.specs.declared.texts.Head.{Head}
 use Rattle.codegen.specs.declared.texts.Written.{Written}
-use Rattle.codegen.specs.BuiltProgram.{ArraysBuilt, StatementBuilt, StatementsBuilt, TextBuilt}
+use Rattle.codegen.specs.BuiltProgram.{ArraysBuilt, LevelBuilt, StatementBuilt, StatementsBuilt, TextBuilt}
 use Rattle.codegen.specs.CodeArrays.{ArraysAt}
 use Rattle.codegen.specs.CodeStm.{LevelAt, StmAt, StmsAt}
-use Rattle.codegen.specs.Compiled.{BlockBody, BodyOf, CodeHas, RecordOf, code_formal, parameters_of, site_of, type_of_cell, type_of_name}
+use Rattle.codegen.specs.Compiled.{BlockBody, BodyOf, ClassTextOf, CodeHas, RecordOf, code_formal, parameters_of, site_of, type_of_cell, type_of_name}
 use Rattle.codegen.specs.Emit.{WritesStatement, WritesStatements}
 use Rattle.codegen.specs.EmitArrays.{WritesArrays}
-use Rattle.codegen.specs.EmitProgram.{AddsBlock, BlockAdded, ClassPut, Ends, FrontClass, LevelPlace, Next, OwnEnd, PutsClass, TextEmitted, WritesBlockText, WritesClassText, WritesLevel, WritesProcedureText, WritesText, blocks_in, class_record, formals_by_kind, is_planned}
+use Rattle.codegen.specs.EmitProgram.{AddsBlock, BlockAdded, ClassPut, Ends, FrontClass, LevelPlace, LevelText, Next, OwnEnd, PutsClass, TextEmitted, WritesBlockText, WritesClassText, WritesLevel, WritesProcedureText, WritesText, a_block, a_class, blocks_in, class_record, classes_in, formals_by_kind, inner_by_kind, is_planned}
 
 -- ---- lists
 
@@ -314,20 +313,51 @@ fewer new newer number at final f g = record {
 abbrev class_at_of : (prefix block declarations statements after : ℕ) → ClassAt
 class_at_of prefix block declared stated after = record { prefix = prefix; block = block; declarations = declared; statements = stated; after_inner = after }
 
+-- ---- texts with levels, of either kind
+
+level_kinds : (s : Source) (k : ℕ) {ds : Declarations} {ss : Statements} {a : BlockKind} {x : Text} → LevelText ds ss a x → kinds_agree s k x a
+unfolding kinds_agree
+level_kinds s k a_class = refl
+level_kinds s k a_block = refl
+
+level_planned : {ds : Declarations} {ss : Statements} {a : BlockKind} {x : Text} → LevelText ds ss a x → is_planned x ≡ true
+level_planned a_class = refl
+level_planned a_block = refl
+
+level_counted : {ds : Declarations} {ss : Statements} {a : BlockKind} {x : Text} → LevelText ds ss a x → 1 ≡ blocks_in x
+level_counted a_class = refl
+level_counted a_block = refl
+
+level_numbered : {ds : Declarations} {ss : Statements} {a : BlockKind} {x : Text} → LevelText ds ss a x → 0 < classes_in x
+level_numbered a_class = omega arith
+level_numbered a_block = omega arith
+
+level_parts : (s : Source) (k : ℕ) {ds : Declarations} {ss : Statements} {a : BlockKind} {x : Text} → LevelText ds ss a x → TextBuilt s (suc k) x → ArraysBuilt s (suc k) ds × LevelBuilt s (suc k) (inner_by_kind s a (suc k)) ss
+level_parts s k a_class h = h
+level_parts s k a_block h = h
+
+level_code : (s : Source) (final : CodeOf) (k : ℕ) (blk : BlockOf) {ds : Declarations} {ss : Statements} {a : BlockKind} {x : Text} → LevelText ds ss a x → ClassTextOf s final (suc k) a (inner_by_kind s a (suc k)) ds ss blk → CodeHas s final (suc k) x (Some blk)
+level_code s final k blk a_class h = h
+level_code s final k blk a_block h = h
+
+level_first : (s : Source) {ds : Declarations} {ss : Statements} {a : BlockKind} {x : Text} → LevelText ds ss a x → TextBuilt s 0 x → ⊥
+level_first s a_class h = h
+level_first s a_block h = h
+
 module _ (b : Bound) where
-  pub class_text_written : (old mid new newer : Written) (c1 c2 c3 c4 : DraftOf) (ds : List Decl) (ss : List Stmt) (n start m stated after behind block level front number j : ℕ) (x3 x5 : Instr) → n ≢ 0 → block ≡ length old.blocks.items → start ≡ length old.draft.instrs
+  pub class_text_written : (old mid new newer : Written) (c1 c2 c3 c4 : DraftOf) (ds : List Decl) (ss : List Stmt) (a : BlockKind) (among : Bool) (n start m stated after behind block level front number j : ℕ) (x3 x5 : Instr) → n ≢ 0 → block ≡ length old.blocks.items → start ≡ length old.draft.instrs
       → LevelPlace b n level → FrontClass b old.draft.classes n front → j ≡ block_number (source_of b) n → number ≡ class_of old.draft.classes j
-      → OwnEnd b old.draft.classes n m → c1 ≡ restarted old.draft m → WritesArrays b (spot n m) c1 c2 ds → x3 ≡ i.NextDecl (pos level) → c3 ≡ with_instr c2 x3 0 → stated ≡ length c3.instrs → WritesLevel b (spot n m) level c3 c4 ss after
-      → x5 ≡ i.EndLevel (pos level) → mid.draft ≡ with_instr c4 x5 0 → mid.blocks ≡ old.blocks → mid.classes ≡ old.classes → behind ≡ after → AddsBlock b mid new (head_of kind.Object n start type.Nothing)
-      → PutsClass new newer number (class_at_of front block start stated behind) → WritesClassText b old newer n ds ss
+      → OwnEnd b old.draft.classes n m → c1 ≡ restarted old.draft m → WritesArrays b (spot n m) c1 c2 ds → x3 ≡ i.NextDecl (pos level) → c3 ≡ with_instr c2 x3 0 → stated ≡ length c3.instrs → among ≡ inner_by_kind (source_of b) a n → WritesLevel b (spot n m) level among c3 c4 ss after
+      → x5 ≡ i.EndLevel (pos level) → mid.draft ≡ with_instr c4 x5 0 → mid.blocks ≡ old.blocks → mid.classes ≡ old.classes → behind ≡ after → AddsBlock b mid new (head_of a n start type.Nothing)
+      → PutsClass new newer number (class_at_of front block start stated behind) → WritesClassText b old newer n a ds ss
   unfolding WritesClassText WritesArrays WritesLevel AddsBlock PutsClass LevelPlace FrontClass kinds_agree
-  class_text_written old mid new newer c1 c2 c3 c4 ds ss zero start m stated after behind block level front number j x3 x5 ne ek ee ep ef ej enum eo e1 fa e3' e3 est fl e5' e5 ebl ecs ea fb fc prefix h next = absurd (ne refl)
-  class_text_written old mid new newer c1 c2 c3 c4 ds ss (suc n) start m stated after behind block level front number j x3 x5 ne ek ee ep ef ej enum eo e1 fa e3' e3 est fl e5' e5 ebl ecs ea fb fc prefix h next =
+  class_text_written old mid new newer c1 c2 c3 c4 ds ss a among zero start m stated after behind block level front number j x3 x5 ne ek ee ep ef ej enum eo e1 fa e3' e3 est eam fw e5' e5 ebl ecs ea fb fc x kinded next = absurd (ne refl)
+  class_text_written old mid new newer c1 c2 c3 c4 ds ss a among (suc n) start m stated after behind block level front number j x3 x5 ne ek ee ep ef ej enum eo e1 fa e3' e3 est eam fw e5' e5 ebl ecs ea fb fc x kinded next =
       let s = source_of b in
       let k = suc n in
       let xs = declarations (map declaration_syntax ds) in
       let ys = statements (map statement_syntax ss) in
-      let x = ClassText prefix h xs ys in
+      let fl = subst (λ z. WritesLevel b (spot k m) level z c3 c4 ss after) eam fw in
       let stop = i.EndLevel (pos level) in
       let at = class_at_of front block start stated behind in
       let plan = old.draft.classes in
@@ -358,8 +388,8 @@ module _ (b : Bound) where
         blocks = ap (λ z. z.items) fc.blocks ∙ fb.is ∙ ap (λ z. z.items ++ (fb.block ∷ [])) ebl;
         kept = λ j y is. kept_by new newer number at fc j y (ap (λ z. slice_get z j) classes ∙ is);
         earlier = λ q. sym (ap (λ z. z.whole) e1) ∙ body.before (sym w5 ∙ q);
-        built = λ q o. w5 ∙ body.built (q.0, (tt, q.1)) (ap (λ z. z.whole) e1 ∙ o);
-        counted = λ q. refl;
+        built = λ q o. (let parts = level_parts s n kinded q in w5 ∙ body.built (parts.0, (tt, parts.1)) (ap (λ z. z.whole) e1 ∙ o));
+        counted = λ q. level_counted kinded;
         numbered = λ q j blk is.
             let one = one_only fb.block j blk is in
             let first = one.1 in
@@ -367,7 +397,7 @@ module _ (b : Bound) where
             ap (λ z. planned_in (Some z)) (sym one.0) ∙ own ∙ ap (planned_at plan) next.block ∙ ap (planned_at plan) same;
         at = λ q final g.
             let less = fewer new newer number at final fc g in
-            let r = recorded b k x c4 stop old mid new (head_of kind.Object k start type.Nothing) final m fb next refl eo ended (λ z. cc) (ap (λ z. z.items) ebl) classed refl refl less in
+            let r = recorded b k x c4 stop old mid new (head_of a k start type.Nothing) final m fb next (level_planned kinded) eo ended (λ z. cc) (ap (λ z. z.items) ebl) classed refl (level_kinds s k kinded) less in
             let there : slice_get final.instrs (length c4.instrs) ≡ Some (lined stop 0) = g.grows.keeps (length c4.instrs) (lined stop 0) (ap (λ z. slice_get z (length c4.instrs)) i5 ∙ append_at c4.instrs (lined stop 0)) (λ z. cc) in
             let inside : length c4.instrs < length final.instrs = within final.instrs (length c4.instrs) (lined stop 0) there in
             let site = site_of s final k fb.block in
@@ -375,11 +405,11 @@ module _ (b : Bound) where
             let put : slice_get newer.classes.items fc.place ≡ Some (Some at) = ap (λ z. slice_get z fc.place) fc.put ∙ set_there new.classes.items fc.place None (Some at) fc.none in
             let known : (j : ℕ) → planned_in (slice_get final.blocks j) ≡ planned_at plan j = λ j. g.classed j ∙ ap (λ z. planned_at z j) (classes_with c4 stop newer.draft draft ∙ classed) in
             let in_front : class_in (block_in_front s final k) ≡ (planned_front s plan k).class = ap (λ z. z.class) (front_planned s final plan k known) in
-            let lower = (next.plan.each k x next.is refl).class (omega arith) in
+            let lower = (next.plan.each k x next.is (level_planned kinded)).class (level_numbered kinded) in
             let its_own : fb.block.class ≡ (planned_at plan (block_number s k)).class = ap (λ z. z.class) own in
             let le_after = fl.0 in
             subst (λ z. CodeHas s final k x z) (sym r.found)
-            (record {
+            (level_code s final n fb.block kinded (record {
               heads = r.heads;
               class = class_record at;
               is = record {
@@ -400,12 +430,12 @@ module _ (b : Bound) where
                 next = record { line = 0; is = stands.2.1.0 };
                 stated_there = omega (arith, est, le3, inside);
                 stop = length c4.instrs;
-                stated = subst (λ z. LevelAt s final site level z (writes_inner s k) ys stated (length c4.instrs)) (sym ea) (subst (λ z. LevelAt s final site level after (writes_inner s k) ys z (length c4.instrs)) stands.2.1.1 stands.2.2);
+                stated = subst (λ z. LevelAt s final site level z (inner_by_kind s a k) ys stated (length c4.instrs)) (sym ea) (subst (λ z. LevelAt s final site level after (inner_by_kind s a k) ys z (length c4.instrs)) stands.2.1.1 stands.2.2);
                 behind_there = omega (arith, ea, le_after, inside);
                 last = suc (length c4.instrs);
                 ends = record { line = 0; is = record { at = there; on = refl } };
               };
-            });
+            }));
       }
 
 -- ---- texts that are not built
@@ -434,10 +464,10 @@ text_given_up s old new k x never e eb ec =
     clash h = cc
 
 module _ (b : Bound) where
-  pub class_first : (old new : Written) (ds : List Decl) (ss : List Stmt) (k : ℕ) → k ≡ 0 → new.draft ≡ given_up old.draft → new.blocks ≡ old.blocks → new.classes ≡ old.classes → WritesClassText b old new k ds ss
+  pub class_first : (old new : Written) (ds : List Decl) (ss : List Stmt) (a : BlockKind) (k : ℕ) → k ≡ 0 → new.draft ≡ given_up old.draft → new.blocks ≡ old.blocks → new.classes ≡ old.classes → WritesClassText b old new k a ds ss
   unfolding WritesClassText
-  class_first old new ds ss zero e ed eb ec prefix h next = text_given_up (source_of b) old new 0 _ (λ q. q) ed eb ec
-  class_first old new ds ss (suc k) e ed eb ec prefix h next = absurd (omega (arith, e))
+  class_first old new ds ss a zero e ed eb ec x kinded next = text_given_up (source_of b) old new 0 x (level_first (source_of b) kinded) ed eb ec
+  class_first old new ds ss a (suc k) e ed eb ec x kinded next = absurd (omega (arith, e))
 
   -- ---- by the part of the tree
 
@@ -457,18 +487,18 @@ module _ (b : Bound) where
   text_of_procedure old new k x r p y is ey f =
       text_as old new k x _ (ap text_in is) (subst (λ z. (h : Heading) → Next (source_of b) old k (ProcedureText r.now h (statement_syntax z)) → TextEmitted (source_of b) old new k (ProcedureText r.now h (statement_syntax z))) ey f (heading_syntax p.now.name p.now.parameters.items p.now.modes.items p.now.specifications.items))
 
-  pub text_of_class : (old new : Written) (k : ℕ) (x : TextTree) (r : Bor (Option Identifier)) (c : Bor Class) (p : Bor Block) (ds : List Decl) (ss : List Stmt) → x ≡ tree.Class r c p → ds ≡ p.now.declarations.items → ss ≡ p.now.statements.items → WritesClassText b old new k ds ss → WritesText b old new k x
+  pub text_of_class : (old new : Written) (k : ℕ) (x : TextTree) (r : Bor (Option Identifier)) (c : Bor Class) (p : Bor Block) (ds : List Decl) (ss : List Stmt) → x ≡ tree.Class r c p → ds ≡ p.now.declarations.items → ss ≡ p.now.statements.items → WritesClassText b old new k kind.Object ds ss → WritesText b old new k x
   unfolding WritesClassText
   text_of_class old new k x r c p ds ss is ed es f =
-      text_as old new k x _ (ap text_in is ∙ ap (λ z. class_text r.now (heading_of c.now) z) (syntax_of_block p.now ds ss ed es)) (f r.now (heading_of c.now))
+      text_as old new k x _ (ap text_in is ∙ ap (λ z. class_text r.now (heading_of c.now) z) (syntax_of_block p.now ds ss ed es)) (f _ a_class)
 
-  pub text_of_statement : (old new : Written) (k : ℕ) (x : TextTree) (r : Bor (Option Identifier)) (c : Bor Class) (y : Stmt) → x ≡ tree.ClassOfStatement r c → y ≡ c.now.body.value → WritesClassText b old new k [] (y ∷ []) → WritesText b old new k x
+  pub text_of_statement : (old new : Written) (k : ℕ) (x : TextTree) (r : Bor (Option Identifier)) (c : Bor Class) (y : Stmt) → x ≡ tree.ClassOfStatement r c → y ≡ c.now.body.value → WritesClassText b old new k kind.Object [] (y ∷ []) → WritesText b old new k x
   unfolding WritesClassText
-  text_of_statement old new k x r c y is ey f = text_as old new k x _ (ap text_in is ∙ ap (λ z. ClassText r.now (heading_of c.now) NoDeclaration (Also (statement_syntax z) NoStatement)) (sym ey)) (f r.now (heading_of c.now))
+  text_of_statement old new k x r c y is ey f = text_as old new k x _ (ap text_in is ∙ ap (λ z. ClassText r.now (heading_of c.now) NoDeclaration (Also (statement_syntax z) NoStatement)) (sym ey)) (f _ a_class)
 
-  pub text_of_prefixed : (old new : Written) (k : ℕ) (x : TextTree) (p : Bor BlockPrefix) (q : Bor Block) → x ≡ tree.Prefixed p q → new.draft ≡ given_up old.draft → new.blocks ≡ old.blocks → new.classes ≡ old.classes → WritesText b old new k x
-  text_of_prefixed old new k x p q is ed eb ec =
-      text_as old new k x _ (ap text_in is ∙ ap (prefixed_text (prefix_syntax p.now)) (syntax_of_block q.now q.now.declarations.items q.now.statements.items refl refl)) (λ next. text_given_up (source_of b) old new k _ (λ h. h) ed eb ec)
+  pub text_of_prefixed : (old new : Written) (k : ℕ) (x : TextTree) (p : Bor BlockPrefix) (q : Bor Block) (ds : List Decl) (ss : List Stmt) → x ≡ tree.Prefixed p q → ds ≡ q.now.declarations.items → ss ≡ q.now.statements.items → WritesClassText b old new k kind.Prefixed ds ss → WritesText b old new k x
+  unfolding WritesClassText
+  text_of_prefixed old new k x p q ds ss is ed es f = text_as old new k x _ (ap text_in is ∙ ap (prefixed_text (prefix_syntax p.now)) (syntax_of_block q.now ds ss ed es)) (f _ a_block)
 
   pub text_of_standard : (old new : Written) (k : ℕ) (x : TextTree) (which : StandardClass) → x ≡ tree.Standard which → new.draft ≡ given_up old.draft → new.blocks ≡ old.blocks → new.classes ≡ old.classes → WritesText b old new k x
   text_of_standard old new k x which is ed eb ec = text_as old new k x _ (ap text_in is) (λ next. text_given_up (source_of b) old new k _ (λ h. h) ed eb ec)

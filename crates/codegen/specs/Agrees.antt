@@ -1,5 +1,5 @@
 -- That the tables of scopes agree with each other and with the texts, as far as code rests on it: the tables of each program do.
-use Rattle.std.specs.Prelude.{◌≡◌, ◌<◌, ℕ, suc, Bool, true, false, length, slice_get, Option, Some, None}
+use Rattle.std.specs.Prelude.{◌≡◌, ◌<◌, ◌&&◌, not, ℕ, suc, Bool, true, false, length, slice_get, Option, Some, None}
 use Rattle.sim_base.specs.declared.numbering.DeclNo.{DeclNo}
 use Rattle.sim_scope.specs.declared.types.Entry.TheVariants as entry
 use Rattle.sim_scope.specs.declared.types.Formal.{Formal}
@@ -15,7 +15,8 @@ use Rattle.sim_meaning.specs.Closing.{has_type}
 use Rattle.sim_meaning.specs.Entries.{numbers_of}
 use Rattle.sim_meaning.specs.Levels.{has_levels, is_class}
 use Rattle.sim_meaning.specs.Meaning.{has_result}
-use Rattle.sim_meaning.specs.Texts.{PrefixedText, ProcedureText, Text, program_texts, text}
+use Rattle.sim_meaning.specs.Texts.{ProcedureText, program_texts, text}
+use Rattle.codegen_expr.specs.Built.{is_there}
 use Rattle.codegen_expr.specs.Sites.{LevelOf, frame_text, is_connected, prefix_of}
 
 -- the text of a declared procedure stands in the text of its declaration, and has a result where the declaration has one
@@ -27,13 +28,9 @@ pub record ProcedureThere (s : Source) (d : DeclNo) (result : Option SimType) (k
   pub around : encloser s.tables k ≡ Some (block_of s d)
   pub same : has_result given ≡ has_type result
 
-abbrev pub is_prefixed : Option Text → Bool
-is_prefixed (Some (PrefixedText class arguments ds ss)) = true
-is_prefixed _ = false
-
--- no block has a prefix
-pub record Unprefixed (s : Source) : Type 0 where
-  pub blocks : (k : ℕ) → is_prefixed (text s k) ≡ false
+-- a text with a class in front of it that is no class itself
+abbrev pub stands_behind : Source → (text : ℕ) → Bool
+stands_behind s k = is_there (prefix_of s.tables k) && not (is_class (text s k))
 
 -- A class or a prefixed block has a class in front of it, of the same level. What is around that class is one of the levels of what is around
 -- the text.

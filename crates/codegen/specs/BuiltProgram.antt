@@ -1,22 +1,22 @@
--- Which programs are built: all in which no block has a prefix, whose expressions are built, and whose left sides are no parameters by name.
+-- Which programs are built: all whose expressions are built, and whose left sides are no parameters by name.
 use Rattle.std.specs.Prelude.{◌≡◌, ⊤, ℕ, zero, suc, Bool, true, false, ◌||◌, List, [], ◌∷◌, Option, Some, None}
 use Rattle.sim_base.specs.declared.numbering.DeclNo.{DeclNo}
 use Rattle.sim_scope.specs.Assignments.{last_value, left_sides}
 use Rattle.sim_scope.specs.Access.{encloser}
 use Rattle.sim_scope.specs.Source.{Source, block_around, block_of, denoted, line_at}
 use Rattle.sim_tree.specs.declared.expr.Identifier.{Identifier}
-use Rattle.sim_tree.specs.Syntax.{Also, Arms, Arrayed, Arrays, Begin, Block, BoundPair, Declarations, DeclareClass, DeclareProcedure, Element, Expression, NoArm, NoDeclaration, NoMore, NoStatement, Statement, Statements, Variables, When, With}
+use Rattle.sim_tree.specs.Syntax.{Also, Arms, Arrayed, Arrays, Begin, Block, BoundPair, Declarations, DeclareClass, DeclareProcedure, Element, Expression, Expressions, NoArm, NoDeclaration, NoMore, NoStatement, Statement, Statements, Variables, When, With}
 use Rattle.sim_tree.specs.Syntax as syntax
 use Rattle.sim_meaning.specs.Attributes.{cell_of_connection, connection_at}
-use Rattle.sim_meaning.specs.Closing.{is_attribute, is_text, is_variable, stream_of}
+use Rattle.sim_meaning.specs.Closing.{class_parameters, is_attribute, is_text, is_variable, stream_of}
 use Rattle.sim_meaning.specs.Levels.{class_at, writes_inner}
-use Rattle.sim_meaning.specs.Statements.{leaves}
+use Rattle.sim_meaning.specs.Statements.{begin_of, leaves}
 use Rattle.sim_meaning.specs.Pending.{Connection, Declared, Result}
 use Rattle.sim_meaning.specs.Texts.{BlockText, ClassText, ConnectionText, PrefixedText, ProcedureText, StandardText, Text, declared_at, program_texts, text}
 use Rattle.codegen_expr.specs.Built.{ActualsBuilt, AreBuilt, CellBuilt, ClassBuilt, ConnectedNameBuilt, DotBuilt, IsBuilt, KeyBuilt, NamedBuilt, PlaceBuilt, ReferenceBuilt, ThroughBuilt, is_there, slot_in}
 use Rattle.codegen_expr.specs.CodeExpr.{gives}
 use Rattle.codegen_expr.specs.Sites.{Varies, frame_text}
-use Rattle.codegen.specs.Agrees.{Agrees, Unprefixed}
+use Rattle.codegen.specs.Agrees.{Agrees, stands_behind}
 use Rattle.codegen.specs.CodeFor.{OfCell, OfPlace, OfReference, Variable, assigned_by, variable_of}
 use Rattle.codegen.specs.CodeLeft.{AtAddress, AtAttribute, InCell, NotBuilt, Stored, ToReference, ToResult, ToText, each_stored}
 use Rattle.codegen.specs.CodeStm.{inner_of}
@@ -84,6 +84,12 @@ EnterBuilt s text None = ⊥
 EnterBuilt s text (Some zero) = ⊥
 EnterBuilt s text (Some (suc k)) = encloser s.tables (suc k) ≡ Some text
 
+-- a prefixed block is entered from the text in which the tables have it, with the actuals of all its levels
+abbrev pub PrefixBuilt : Source → (text : ℕ) → Expressions → Option ℕ → Type 0
+PrefixBuilt s text es None = ⊥
+PrefixBuilt s text es (Some zero) = ⊥
+PrefixBuilt s text es (Some (suc k)) = (stands_behind s (suc k) ≡ true) × (encloser s.tables (suc k) ≡ Some text) × ActualsBuilt s text es (class_parameters s (Some (suc k)))
+
 -- a call: an identifier or an attribute, which leaves a value just where its entry or row says so, or `new`
 abbrev pub CalledBuilt : Source → (text : ℕ) → Expression → Type 0
 CalledBuilt s text (syntax.Named name es) =
@@ -116,6 +122,7 @@ abbrev mutual
   StatementBuilt s text (syntax.Choose token c a b) = IsBuilt s text c × StatementBuilt s text a × StatementsBuilt s text b
   StatementBuilt s text (syntax.Repeat token c a) = IsBuilt s text c × StatementBuilt s text a
   StatementBuilt s text (syntax.For token x sign assign es a) = ForBuilt s text (variable_of s (line_at s assign) (syntax.Named x NoMore) (assigned_by (is_text s (syntax.Named x NoMore)) sign (line_at s assign))) es (StatementBuilt s text a)
+  StatementBuilt s text (syntax.Prefixed class es b) = PrefixBuilt s text es (block_around s (begin_of b))
   StatementBuilt s text (syntax.Inspect token e opening a end other) = IsBuilt s text e × ConnectsBuilt s text opening (block_around s opening) (λ k. StatementBuilt s k a) × StatementsBuilt s text other
   StatementBuilt s text (syntax.InspectWhen token e arms other) = IsBuilt s text e × ArmsBuilt s text arms × StatementsBuilt s text other
   StatementBuilt s text _ = ⊥
@@ -184,7 +191,8 @@ TextBuilt s k (BlockText begin ds ss) = ArraysBuilt s k ds × StatementsBuilt s 
 TextBuilt s k (ProcedureText result h a) = StatementBuilt s k a
 TextBuilt s zero (ClassText prefix h ds ss) = ⊥
 TextBuilt s (suc k) (ClassText prefix h ds ss) = ArraysBuilt s (suc k) ds × LevelBuilt s (suc k) (writes_inner s (suc k)) ss
-TextBuilt s k (PrefixedText class arguments ds ss) = ⊥
+TextBuilt s zero (PrefixedText class arguments ds ss) = ⊥
+TextBuilt s (suc k) (PrefixedText class arguments ds ss) = ArraysBuilt s (suc k) ds × StatementsBuilt s (suc k) ss
 TextBuilt s k ConnectionText = ⊤
 TextBuilt s k (StandardText which) = ⊥
 
@@ -197,8 +205,7 @@ abbrev pub TextsBuilt : Source → (number : ℕ) → List Text → Type 0
 TextsBuilt s k [] = ⊤
 TextsBuilt s k (x ∷ xs) = TextBuilt s k x × TextsBuilt s (suc k) xs
 
--- Each text is built, no block has a prefix, and the tables agree.
+-- Each text is built, and the tables agree.
 pub record ProgramBuilt (s : Source) : Type 0 where
   pub texts : TextsBuilt s 0 (texts_of s)
-  pub unprefixed : Unprefixed s
   pub agrees : Agrees s

@@ -16,7 +16,7 @@ use Rattle.sim_meaning.specs.Texts.{ConnectionText, text}
 use Rattle.sim_meaning.specs.Texts as Texts
 use Rattle.codegen_expr.specs.Sites.{Ahead, At, HasCell, IfAt, Is, LoopAt, Pushes, Site, WhenAt, block_number, class_number, frame_text, slot_of}
 use Rattle.codegen_expr.specs.CodeExpr.{ActualsAt, ConnectedNameAt, DotAt, ExprAt, ExprsAt, NamedAt, PlaceAt, ThroughAt, gives, operands}
-use Rattle.codegen.specs.Agrees.{is_prefixed}
+use Rattle.codegen.specs.Agrees.{stands_behind}
 use Rattle.codegen.specs.CodeFor.{ForAt, assigned_by, is_empty, variable_of}
 use Rattle.codegen.specs.CodeLeft.{AssignAt, each_stored}
 
@@ -36,7 +36,7 @@ EnterAt s code site line (Some (suc k)) p q = (encloser s.tables (suc k) ≡ Som
 -- A block prefix: its actuals, and the entry of the prefixed block, which stands in the text from which it is entered.
 pub record PrefixAt (s : Source) (code : CodeOf) (site : Site) (n line text : ℕ) (es : Expressions) (p q : ℕ) : Type 0 where
   pub x : ℕ
-  pub is : is_prefixed (Texts.text s text) ≡ true
+  pub is : stands_behind s text ≡ true
   pub around : encloser s.tables text ≡ Some site.text
   pub actuals : ActualsAt s code site n line true es (class_parameters s (Some text)) p x
   pub enter : At code (i.Pref (pos (block_number s text)) (pos (operands es))) line x q

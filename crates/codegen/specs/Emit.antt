@@ -1,8 +1,9 @@
 -- What is written of a statement.
-use Rattle.std.specs.Prelude.{◌≤◌, ℕ, List, [], ◌∷◌, length, map, Option}
+use Rattle.std.specs.Prelude.{◌≤◌, ℕ, pos, true, List, [], ◌∷◌, length, map, Option, Some}
+use Rattle.sim_base.specs.declared.numbering.TokenNo.{TokenNo}
 use Rattle.sim_scope.specs.declared.bound.Bound.{Bound}
 use Rattle.sim_scope.specs.Assignments.{last_value, left_sides}
-use Rattle.sim_scope.specs.Source.{Source, denoted, source_of}
+use Rattle.sim_scope.specs.Source.{Source, block_around, denoted, line_at, source_of}
 use Rattle.sim_tree.specs.declared.expr.Expr.{Expr}
 use Rattle.sim_tree.specs.declared.expr.Identifier.{Identifier}
 use Rattle.sim_tree.specs.declared.expr.Selector.{Selector}
@@ -12,15 +13,18 @@ use Rattle.sim_tree.specs.declared.stmt.Stmt.{Stmt}
 use Rattle.sim_tree.specs.Syntax.{Dot, Element, Expression, Named, NoMore, expressions, statements}
 use Rattle.sim_tree.specs.SyntaxOf.{selected, selector_syntax, syntax_of}
 use Rattle.sim_tree.specs.SyntaxOfProgram.{block_syntax, right_side_syntax, statement_syntax}
+use Rattle.sim_code.specs.declared.instr.Instr.TheVariants as i
 use Rattle.sim_code.specs.Code.{CodeOf}
+use Rattle.sim_meaning.specs.Closing.{class_parameters}
 use Rattle.sim_meaning.specs.Statements.{leaves}
 use Rattle.codegen_expr.specs.declared.spot.Spot.{Spot}
-use Rattle.codegen_expr.specs.Built.{IsBuilt}
+use Rattle.codegen_expr.specs.Built.{ActualsBuilt, IsBuilt}
+use Rattle.codegen_expr.specs.CodeExpr.{ActualsAt, operands}
 use Rattle.codegen_expr.specs.Drafts.{DraftOf, Emits}
 use Rattle.codegen_expr.specs.declared.operators.Object.{Object}
 use Rattle.codegen_expr.specs.Emit.{PutsBefore, moves_denoted}
-use Rattle.codegen_expr.specs.Sites.{Site}
-use Rattle.codegen.specs.BuiltProgram.{AssignBuilt, BlockBuilt, CalledBuilt, ForBuilt, LeftBuilt, StatementBuilt, StatementsBuilt, VariableBuilt}
+use Rattle.codegen_expr.specs.Sites.{At, Site, block_number}
+use Rattle.codegen.specs.BuiltProgram.{AssignBuilt, BlockBuilt, CalledBuilt, ForBuilt, LeftBuilt, PrefixBuilt, StatementBuilt, StatementsBuilt, VariableBuilt}
 use Rattle.codegen.specs.CodeFor.{ForAt, GivesVariable, ListAt, OneElementAt, Variable, is_empty, variable_stored}
 use Rattle.codegen.specs.CodeLeft.{AssignAt, GoesAt, LeftsAt, Stored, each_stored, stored_left}
 use Rattle.codegen.specs.declared.lists.Shared.{Shared}
@@ -28,7 +32,7 @@ use Rattle.codegen.specs.EmitShared.{TurnBuilt, TurnOf, begins}
 use Rattle.codegen.specs.EmitTargets.{Controls, ElementOver, ListOver}
 use Rattle.codegen.specs.EmitSeveral.{SideOf, stored_side}
 use Rattle.codegen.specs.declared.targets.Target.{Target}
-use Rattle.codegen.specs.CodeStm.{BlockAt, CalledAt, DropsAt, StmAt, StmsAt}
+use Rattle.codegen.specs.CodeStm.{BlockAt, CalledAt, DropsAt, PrefixedAt, StmAt, StmsAt}
 
 -- ---- statements
 
@@ -46,6 +50,21 @@ OwesStatements b w old xs now rest = (end : DraftOf) → WritesStatements b w no
 -- a compound statement behind its tick, or the entry of a sub-block
 unfoldable pub WritesBlock : Bound → Spot → (old new : DraftOf) → Block → Type 0
 WritesBlock b w old new k = Emits w old new (BlockBuilt (source_of b) w.text (block_syntax k)) (λ final site p q. BlockAt (source_of b) final site 0 (block_syntax k) p q)
+
+-- a prefixed block behind its tick; the token is the one with which it begins
+unfoldable pub WritesPrefixed : Bound → Spot → (old new : DraftOf) → Identifier → List Expr → TokenNo → Type 0
+WritesPrefixed b w old new x ys token =
+    let s = source_of b in
+    let es = expressions (map syntax_of ys) in
+    Emits w old new (PrefixBuilt s w.text es (block_around s token.0)) (λ final site p q. PrefixedAt s final site 0 (line_at s x.token.0) es (block_around s token.0) p q)
+
+-- the actuals of a prefixed block, and its entry
+unfoldable pub WritesPrefix : Bound → Spot → (old new : DraftOf) → Identifier → List Expr → (text : ℕ) → Type 0
+WritesPrefix b w old new x ys k =
+    let s = source_of b in
+    let es = expressions (map syntax_of ys) in
+    Emits w old new (ActualsBuilt s w.text es (class_parameters s (Some k)))
+    (λ final site p q. (y : ℕ) × ActualsAt s final site 0 (line_at s x.token.0) true es (class_parameters s (Some k)) p y × At final (i.Pref (pos (block_number s k)) (pos (operands es))) (line_at s x.token.0) y q)
 
 -- a call behind its tick
 unfoldable pub WritesCall : Bound → Spot → (old new : DraftOf) → Expr → Type 0

@@ -12,7 +12,7 @@ use Rattle.sim_tree.specs.declared.stmt.Block.{Block as BlockTree}
 use Rattle.sim_tree.specs.declared.stmt.Decl.{Decl}
 use Rattle.sim_tree.specs.declared.stmt.Stmt.{Stmt}
 use Rattle.sim_tree.specs.declared.stmt.TypeName.{TypeName}
-use Rattle.sim_tree.specs.Syntax.{Heading, declarations, statements}
+use Rattle.sim_tree.specs.Syntax.{Declarations, Expressions, Heading, Statements, declarations, statements}
 use Rattle.sim_tree.specs.SyntaxOfProgram.{block_syntax, declaration_syntax, statement_syntax}
 use Rattle.sim_code.specs.declared.code.BlockKind.{BlockKind}
 use Rattle.sim_code.specs.declared.code.BlockKind.TheVariants as kind
@@ -119,10 +119,14 @@ WritesBlockText b old new k x = Next (source_of b) old k (block_text (block_synt
 unfoldable pub WritesProcedureText : Bound → (old new : Written) → (number : ℕ) → Option TypeName → Stmt → Type 0
 WritesProcedureText b old new k result a = (h : Heading) → Next (source_of b) old k (ProcedureText result h (statement_syntax a)) → TextEmitted (source_of b) old new k (ProcedureText result h (statement_syntax a))
 
-unfoldable pub WritesClassText : Bound → (old new : Written) → (number : ℕ) → List Decl → List Stmt → Type 0
-WritesClassText b old new k ds ss =
-    (prefix : Option Identifier) (h : Heading) → Next (source_of b) old k (ClassText prefix h (declarations (map declaration_syntax ds)) (statements (map statement_syntax ss)))
-    → TextEmitted (source_of b) old new k (ClassText prefix h (declarations (map declaration_syntax ds)) (statements (map statement_syntax ss)))
+-- a text with levels, by the kind of its block
+pub data LevelText (ds : Declarations) (ss : Statements) : BlockKind → Text → Type 0 where
+  a_class : {prefix : Option Identifier} → {h : Heading} → LevelText ds ss kind.Object (ClassText prefix h ds ss)
+  a_block : {class : Identifier} → {es : Expressions} → LevelText ds ss kind.Prefixed (PrefixedText class es ds ss)
+
+unfoldable pub WritesClassText : Bound → (old new : Written) → (number : ℕ) → (of : BlockKind) → List Decl → List Stmt → Type 0
+WritesClassText b old new k of ds ss =
+    (x : Text) → LevelText (declarations (map declaration_syntax ds)) (statements (map statement_syntax ss)) of x → Next (source_of b) old k x → TextEmitted (source_of b) old new k x
 
 -- ---- the statements of a class
 
@@ -154,11 +158,16 @@ IsOwn b k token false = block_around (source_of b) token.0 ≡ Some k → ⊥
 unfoldable pub LevelPlace : Bound → (text place : ℕ) → Type 0
 LevelPlace b k place = suc place ≡ length (levels_of (source_of b) k)
 
+-- whether `inner` is among the statements of a text with levels; it is not in a prefixed block
+abbrev pub inner_by_kind : Source → BlockKind → (text : ℕ) → Bool
+inner_by_kind s kind.Object k = writes_inner s k
+inner_by_kind s _ k = false
+
 -- the statements of a level, which has so many in front, with what stands for `inner`, behind which is this place
-unfoldable pub WritesLevel : Bound → Spot → (level : ℕ) → (old new : DraftOf) → List Stmt → (after : ℕ) → Type 0
-WritesLevel b w level old new xs after =
-    (after ≤ length new.instrs) × Emits w old new (LevelBuilt (source_of b) w.text (writes_inner (source_of b) w.text) (statements (map statement_syntax xs)))
-    (λ final site p q. LevelAt (source_of b) final site level after (writes_inner (source_of b) w.text) (statements (map statement_syntax xs)) p q)
+unfoldable pub WritesLevel : Bound → Spot → (level : ℕ) → (written : Bool) → (old new : DraftOf) → List Stmt → (after : ℕ) → Type 0
+WritesLevel b w level written old new xs after =
+    (after ≤ length new.instrs) × Emits w old new (LevelBuilt (source_of b) w.text written (statements (map statement_syntax xs)))
+    (λ final site p q. LevelAt (source_of b) final site level after written (statements (map statement_syntax xs)) p q)
 
 -- the same where one of the statements is `inner`
 unfoldable pub WritesAround : Bound → Spot → (level : ℕ) → (old new : DraftOf) → List Stmt → (after : ℕ) → Type 0

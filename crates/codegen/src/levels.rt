@@ -1,4 +1,4 @@
-//! The statements of a class, with what stands for `inner`.
+//! The statements of a class or a prefixed block, with what stands for `inner`.
 ghost use Rattle.std.specs.Prelude.{◌≡◌, ◌<◌, ⊤, IfOk, MatchOption, OnOk, length, pos};
 ghost use Rattle.sim_code.specs.declared.instr.Instr.TheVariants as i;
 ghost use Rattle.sim_meaning.specs.Levels.{writes_inner as writes_inner_of};
@@ -7,12 +7,12 @@ ghost use Rattle.sim_tree.specs.SyntaxOfProgram.{statement_syntax};
 ghost use Rattle.codegen_expr.specs.Drafts.{with_instr};
 ghost use Rattle.codegen_expr.specs.Known.{Known};
 ghost use Rattle.codegen.specs.CodeStm.{inner_of};
-ghost use Rattle.codegen.specs.EmitProgram.{FirstInner, IsOwn, LevelPlace, WritesAround, WritesLevel, token_number};
+ghost use Rattle.codegen.specs.EmitProgram.{FirstInner, IsOwn, LevelPlace, WritesAround, WritesLevel, inner_by_kind, token_number};
 
 use crate::statement::emit_statements;
 use codegen_expr::{Cells, Draft, Spot, deeper};
 use sim_base::{Line, TokenNo};
-use sim_code::Instr;
+use sim_code::{BlockKind, Instr};
 use sim_scope::{Bound, base, block_at};
 use sim_tree::Stmt;
 use std::alloc::AllocError;
@@ -72,6 +72,19 @@ fn writes_inner(bound: &Bound, text: u32) -> bool
     match bound.scopes.blocks().get(text as usize) {
         Some(row) => row.inner().is_some(),
         None => false,
+    }
+}
+
+/// Whether an `inner` is written in a text whose block is of a kind; none is written in a prefixed block.
+#[tactic(auto, using(crate::proofs::ClassLevels::kinds))]
+pub(crate) fn has_inner(bound: &Bound, text: u32, kind: BlockKind) -> bool
+    ensures { result ≡ inner_by_kind (source_of bound.now) kind text }
+{
+    match kind {
+        BlockKind::Object => writes_inner(bound, text),
+        BlockKind::Prefixed => false,
+        BlockKind::SubBlock => false,
+        BlockKind::Procedure => false,
     }
 }
 
@@ -155,20 +168,21 @@ fn emit_around_inner(
     Ok(draft.here())
 }
 
-/// The statements of a class, with what stands for `inner`. The answer is the place behind that.
+/// The statements of a level, with what stands for `inner`, which is written among them or not. The answer is the place behind that.
 #[tactic(auto, using(crate::proofs::ClassLevels::levels))]
 pub(crate) fn emit_level(
     bound: &Bound,
     cells: &Cells,
     spot: Spot,
     level: u32,
+    written: bool,
     draft: &mut Draft,
     list: &[Stmt],
 ) -> Result<usize, AllocError>
     requires cells { Known bound.now cells.now }
-    ensures { IfOk result (λ after. WritesLevel bound.now spot level draft.old draft.new list.now after) }
+    ensures { IfOk result (λ after. WritesLevel bound.now spot level written draft.old draft.new list.now after) }
 {
-    if writes_inner(bound, spot.text) {
+    if written {
         let after = emit_around_inner(bound, cells, spot, level, draft, list)?;
         return Ok(after);
     }

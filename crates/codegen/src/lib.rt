@@ -13,6 +13,7 @@ mod lists;
 mod measure;
 mod places;
 mod plan;
+mod prefixed;
 mod program;
 mod records;
 mod references;

@@ -3,11 +3,12 @@ ghost use Rattle.codegen_expr.specs.Known.{Known};
 ghost use Rattle.text_tables.specs.TokenTable.{AreDeclared};
 
 use crate::arrays::emit_arrays;
-use crate::levels::emit_level;
+use crate::levels::{emit_level, has_inner};
 use crate::statement::{emit_statement, emit_statements};
 use codegen_expr::{Cells, Draft, Spot};
 use program_texts::TextTree;
 use sim_base::DeclNo;
+use sim_code::BlockKind;
 use sim_scope::Bound;
 use sim_tree::{Decl, Stmt};
 use std::alloc::{AllocError, Global};
@@ -38,13 +39,14 @@ fn measure_block(
     emit_statements(bound, cells, spot, draft, statements)
 }
 
-/// Declarations and statements of a class.
+/// Declarations and statements of a class or a prefixed block.
 fn measure_class(
     bound: &Bound,
     cells: &Cells,
     declared: &[Option<DeclNo>],
     spot: Spot,
     draft: &mut Draft,
+    kind: BlockKind,
     declarations: &[Decl],
     statements: &[Stmt],
 ) -> Result<(), AllocError>
@@ -52,7 +54,8 @@ fn measure_class(
     requires declared { AreDeclared bound.now declared.now }
 {
     emit_arrays(bound, cells, declared, spot, draft, declarations)?;
-    emit_level(bound, cells, spot, 0, draft, statements)?;
+    let among = has_inner(bound, spot.text, kind);
+    emit_level(bound, cells, spot, 0, among, draft, statements)?;
     Ok(())
 }
 
@@ -90,6 +93,7 @@ fn measure_tree(
                 declared,
                 spot,
                 draft,
+                BlockKind::Object,
                 &block.declarations,
                 &block.statements,
             )
@@ -101,11 +105,23 @@ fn measure_tree(
                 declared,
                 spot,
                 draft,
+                BlockKind::Object,
                 &[],
                 std::slice::from_ref(&*class.body),
             )
         }
-        TextTree::Prefixed { .. } => Ok(()),
+        TextTree::Prefixed { block, .. } => {
+            measure_class(
+                bound,
+                cells,
+                declared,
+                spot,
+                draft,
+                BlockKind::Prefixed,
+                &block.declarations,
+                &block.statements,
+            )
+        }
         TextTree::Connection => Ok(()),
         TextTree::Standard(_) => Ok(()),
     }

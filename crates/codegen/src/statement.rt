@@ -16,6 +16,7 @@ use crate::elements::{Element, Elements, count, element_at};
 use crate::leaves::leaves;
 use crate::left::{Left, find_named};
 use crate::lists::{Shared, emit_returns, emit_sent, hole_at, is_empty, jump_to};
+use crate::prefixed::emit_prefixed;
 use crate::several::{Side, emit_one, emit_several};
 use crate::targets::{Target, emit_given, emit_loaded, emit_stored, takes_values};
 use codegen_expr::{
@@ -125,8 +126,17 @@ pub(crate) fn emit_statement(
             emit_for(bound, cells, spot, draft, variable, None, list, body)?;
             Ok(())
         }
-        Stmt::PrefixedBlock { .. } => {
-            draft.give_up();
+        Stmt::PrefixedBlock { prefix, block } => {
+            draft.put(Instr::Tick, Line(0))?;
+            emit_prefixed(
+                bound,
+                cells,
+                spot,
+                draft,
+                &prefix.class,
+                &prefix.arguments,
+                block.token,
+            )?;
             Ok(())
         }
         Stmt::Inner { .. } => {

@@ -6,7 +6,7 @@ ghost use Rattle.codegen.specs.EmitProgram.{AddsBlock, PutsClass, WritesBlockTex
 
 use crate::arrays::emit_arrays;
 use crate::frames::{front_class, own_end, rest_of};
-use crate::levels::{emit_level, end_instr, level_place, next_instr};
+use crate::levels::{emit_level, end_instr, has_inner, level_place, next_instr};
 use crate::plan::copy_types;
 use crate::records::{code_formals, is_class_free, number, type_of_name};
 use crate::statement::{emit_statement, emit_statements};
@@ -212,7 +212,7 @@ fn emit_procedure_text(
     Ok(())
 }
 
-/// The code of a class with these declarations and statements.
+/// The code of a class or a prefixed block with these declarations and statements.
 #[tactic(auto, using(crate::proofs::Walked::texts))]
 fn emit_class_text(
     alloc: Global,
@@ -221,12 +221,13 @@ fn emit_class_text(
     declared: &[Option<DeclNo>],
     written: &mut Written,
     text: u32,
+    kind: BlockKind,
     declarations: &[Decl],
     statements: &[Stmt],
 ) -> Result<(), AllocError>
     requires cells { Known bound.now cells.now }
     requires declared { AreDeclared bound.now declared.now }
-    ensures { OnOk result (WritesClassText bound.now written.old written.new text declarations.now statements.now) }
+    ensures { OnOk result (WritesClassText bound.now written.old written.new text kind declarations.now statements.now) }
 {
     if text == 0 {
         written.draft.give_up();
@@ -244,11 +245,12 @@ fn emit_class_text(
     emit_arrays(bound, cells, declared, spot, draft, declarations)?;
     draft.put(next_instr(level), Line(0))?;
     let stated = number(draft.here())?;
-    let after = emit_level(bound, cells, spot, level, draft, statements)?;
+    let among = has_inner(bound, text, kind);
+    let after = emit_level(bound, cells, spot, level, among, draft, statements)?;
     draft.put(end_instr(level), Line(0))?;
     let after_inner = number(after)?;
     let head = Head {
-        kind: BlockKind::Object,
+        kind,
         text,
         entry: start,
         result_type: CodeType::Nothing,
@@ -295,6 +297,7 @@ fn emit_text(
                 declared,
                 written,
                 text,
+                BlockKind::Object,
                 &block.declarations,
                 &block.statements,
             )
@@ -307,13 +310,23 @@ fn emit_text(
                 declared,
                 written,
                 text,
+                BlockKind::Object,
                 &[],
                 std::slice::from_ref(&*class.body),
             )
         }
-        TextTree::Prefixed { .. } => {
-            written.draft.give_up();
-            Ok(())
+        TextTree::Prefixed { block, .. } => {
+            emit_class_text(
+                alloc,
+                bound,
+                cells,
+                declared,
+                written,
+                text,
+                BlockKind::Prefixed,
+                &block.declarations,
+                &block.statements,
+            )
         }
         TextTree::Connection => Ok(()),
         TextTree::Standard(_) => {

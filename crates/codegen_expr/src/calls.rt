@@ -105,7 +105,7 @@ fn emit_actual(
 /// reference.
 #[cycle(emit)]
 #[tactic(auto, using(crate::proofs::Seen::sees))]
-pub(crate) fn emit_actuals(
+pub fn emit_actuals(
     bound: &Bound,
     cells: &Cells,
     spot: Spot,

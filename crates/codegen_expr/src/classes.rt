@@ -32,7 +32,7 @@ pub fn found_at(bound: &Bound, token: TokenNo) -> Option<u32>
 
 /// Whether a text is a class.
 #[tactic(auto, unfolding(crate::specs::Known::Known))]
-fn is_class(bound: &Bound, cells: &Cells, text: u32) -> bool
+pub fn is_class(bound: &Bound, cells: &Cells, text: u32) -> bool
     requires cells { Known bound.now cells.now }
     ensures { result ≡ is_class_of (text_of (source_of bound.now) text) }
 {

@@ -21,11 +21,11 @@ mod spot;
 mod standard;
 mod variables;
 
-pub use calls::{emit_element, emit_named};
+pub use calls::{emit_actuals, emit_element, emit_named};
 pub use cells::{Cells, ConstantValue};
 pub use classes::{
     class_at, class_parameters, connection_at, connection_slot, first_of, found_at, frame_text,
-    is_connected, is_connection, is_kept_in, qualification,
+    is_class, is_connected, is_connection, is_kept_in, qualification,
 };
 pub use draft::{Draft, Planned, deeper};
 pub use emit::emit_expr;

@@ -36,5 +36,6 @@ pub mod ObjectEnds
 pub mod ParameterCells
 pub mod Generated
 pub mod Prepared
+pub mod PrefixRows
 pub mod Pushed
 pub mod Held

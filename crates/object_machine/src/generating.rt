@@ -1,10 +1,10 @@
-//! Rows that enter objects and prefixed blocks.
-ghost use Rattle.std.specs.Prelude.{◌≡◌, ℕ, ◌+◌, ◌<◌, ◌≤◌, ◌∷◌, ◌^◌, List, Option, IfSome, Some, length, true};
+//! The row that generates objects, and what prefixed blocks have in common with them.
+ghost use Rattle.std.specs.Prelude.{◌≡◌, ℕ, ◌+◌, ◌<◌, ◌≤◌, ◌∷◌, ◌^◌, List, Option, IfSome, None, Some, length, true, false};
 ghost use Rattle.sim_base.specs.declared.limits.Limits.{Limits as LimitsOf};
 ghost use Rattle.sim_code.specs.Arrays.{handed_over};
 ghost use Rattle.sim_code.specs.Code.{BlockOf, CodeOf};
-ghost use Rattle.sim_code.specs.Levels.{filled_by, generating, parameter_cell};
-ghost use Rattle.sim_code.specs.Machine.{Activation as ActivationOf, Cells, Frames, arrays_among, first_cells};
+ghost use Rattle.sim_code.specs.Levels.{filled_by, generating, parameter_cell, supplied};
+ghost use Rattle.sim_code.specs.Machine.{Activation as ActivationOf, Cells, Frames, Value, arrays_among, first_cells};
 ghost use Rattle.sim_code.specs.Outcome.{World};
 ghost use Rattle.sim_values.specs.declared.value.FrameRef.{FrameRef as Reference};
 ghost use Rattle.frame_arena.specs.declared.slot.Slot.{Slot as SlotOf};
@@ -12,9 +12,9 @@ ghost use Rattle.frame_arena.specs.Frames.{AllLead, Holds, Leads};
 ghost use Rattle.frame_arena.specs.Stacks.{values_from};
 ghost use Rattle.object_machine.specs.Calling.{OpensWith, Supplied};
 ghost use Rattle.object_machine.specs.Entering.{Opens};
-ghost use Rattle.object_machine.specs.Preparing.{IsReady};
+ghost use Rattle.object_machine.specs.Preparing.{IsReady, Supplies, with_levels};
 ghost use Rattle.object_machine.specs.declared.openings.Beginning.{Beginning as BeginningOf};
-ghost use Rattle.object_machine.specs.Standing.{AllFit, AtWork, Obeys, Outside};
+ghost use Rattle.object_machine.specs.Standing.{AllFit, AtWork, Obeys, Outside, Stores};
 
 use crate::calling::Actuals;
 use crate::entering::cover;
@@ -37,9 +37,27 @@ pub struct Ready {
     /// The values of its parameters.
     pub actuals: Actuals,
     /// Its block.
-    pub block: u32,
+    pub block: usize,
     /// The index of its first instruction.
     pub start: u32,
+}
+
+/// Whether so many values are the actual parameters of what has the levels of a block's class.
+pub fn supplies(
+    blocks: &[BlockRecord],
+    classes: &[ClassRecord],
+    block: &BlockRecord,
+    count: usize,
+) -> bool
+    ensures yes { result ≡ true → (code : CodeOf) (vs : List Value) → code.blocks ≡ blocks.now → code.classes ≡ classes.now → length vs ≡ count → Supplies code block.now vs }
+    ensures no { result ≡ false → (code : CodeOf) (vs : List Value) → code.blocks ≡ blocks.now → code.classes ≡ classes.now → length vs ≡ count → supplied code block.now.class block.now vs ≡ None }
+    ensures short { result ≡ true → count < 2 ^ 63 }
+{
+    let formals = block.formals.len();
+    if count != formals {
+        return false;
+    }
+    are_supplied(blocks, classes, block.class, count, block.types.len())
 }
 
 // An object that is to be generated, if there is a rule for it.
@@ -70,22 +88,12 @@ fn prepare(
     let Some(block) = blocks.get(entered.block as usize) else {
         return None;
     };
-    let formals = block.formals.len();
-    if actuals.count != formals {
-        return None;
-    }
-    if !are_supplied(
-        blocks,
-        classes,
-        block.class,
-        actuals.count,
-        block.types.len(),
-    ) {
+    if !supplies(blocks, classes, block, actuals.count) {
         return None;
     }
     Some(Ready {
         actuals,
-        block: entered.block,
+        block: entered.block as usize,
         start: entered.start,
     })
 }
@@ -155,6 +163,55 @@ fn furnish(
     true
 }
 
+/// A new frame with levels, which has its actual parameters and its arrays. `None` where memory is wanting.
+#[inline(always)]
+pub fn set_up(
+    alloc: Global,
+    blocks: &[BlockRecord],
+    classes: &[ClassRecord],
+    storage: &mut Storage,
+    stack: &[Slot],
+    block: &BlockRecord,
+    ready: Ready,
+    component: Component,
+) -> Option<Activation>
+    requires within { ready.actuals.at + ready.actuals.count ≤ length stack.now }
+    requires short { ready.actuals.count < 2 ^ 63 }
+    ensures texts { storage.new.texts ≡ storage.old.texts }
+    ensures image { storage.new.image ≡ storage.old.image }
+    ensures fits { IfSome result (λ t. t.registers.depth ≤ length t.stack.items) }
+    ensures row { IfSome result (λ t. (code : CodeOf) (l : LimitsOf) (before : Option (List ℕ)) (now : Outside) (o : World) (m : Frames) (cells : Cells) (r : Registers) → code.blocks ≡ blocks.now → code.classes ≡ classes.now →
+        Stores l storage.old before now o m → AtWork storage.old o m r stack.now → Leads storage.old.frames.items m ready.actuals.parent →
+        filled_by (parameter_cell code block.now.class) 0 (values_from stack.now ready.actuals.at ready.actuals.count) (Some (first_cells block.now)) ≡ Some cells →
+        OpensWith l storage.old storage.new ready.block block.now (with_levels ready component) (Some ready.actuals.parent) cells t before now o (handed_over (length m.instances) (arrays_among (values_from stack.now ready.actuals.at ready.actuals.count)) o) m) }
+{
+    let Ok(number) = u32::try_from(ready.block) else {
+        return None;
+    };
+    let beginning = Beginning {
+        start: ready.start as usize,
+        stage: Stage::Declaring(0),
+        component,
+    };
+    let parent = ready.actuals.parent;
+    let Ok(next) = open(alloc, storage, number, block, beginning, Some(parent)) else {
+        return None;
+    };
+    let home = next.registers.home;
+    if !furnish(
+        storage,
+        blocks,
+        classes,
+        block.class,
+        home,
+        stack,
+        ready.actuals,
+    ) {
+        return None;
+    }
+    Some(next)
+}
+
 /// Generates an object. The frame at work has the reference in hand, and waits.
 pub fn generate(
     alloc: Global,
@@ -190,7 +247,7 @@ pub fn generate(
     ) else {
         return Flow::NoRule;
     };
-    let Some(block) = blocks.get(ready.block as usize) else {
+    let Some(block) = blocks.get(ready.block) else {
         return Flow::Memory;
     };
     let flow = pay(limits, storage, words_instance(block.cells, false));
@@ -198,28 +255,20 @@ pub fn generate(
         Flow::On => {}
         _ => return flow,
     }
-    let beginning = Beginning {
-        start: ready.start as usize,
-        stage: Stage::Declaring(0),
-        component: Component::Attached,
-    };
-    let parent = ready.actuals.parent;
-    let Ok(next) = open(alloc, storage, ready.block, block, beginning, Some(parent)) else {
+    let Some(next) = set_up(
+        alloc,
+        blocks,
+        classes,
+        storage,
+        &top.stack,
+        block,
+        ready,
+        Component::Attached,
+    ) else {
         return Flow::Memory;
     };
     let home = next.registers.home;
     if home.stamp >= 1 << 63 {
-        return Flow::Memory;
-    }
-    if !furnish(
-        storage,
-        blocks,
-        classes,
-        block.class,
-        home,
-        &top.stack,
-        ready.actuals,
-    ) {
         return Flow::Memory;
     }
     let Some(depth) = stack::push(&mut top.stack, ready.actuals.under, Slot::object(home)) else {

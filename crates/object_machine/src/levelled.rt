@@ -1,7 +1,8 @@
 //! Blocks with levels that are entered, and what stands on the operand stack for them.
-ghost use Rattle.std.specs.Prelude.{◌≡◌, ℕ, ℤ, ◌+◌, ◌<◌, ◌≤◌, List, IfSome, Some, length, true};
+ghost use Rattle.std.specs.Prelude.{◌≡◌, ℕ, ℤ, ◌+◌, ◌<◌, ◌≤◌, List, [], IfSome, Some, length, true};
 ghost use Rattle.sim_code.specs.Code.{CodeOf};
-ghost use Rattle.sim_code.specs.Machine.{Frames, Machine, Value};
+ghost use Rattle.sim_code.specs.Events.{pop_many};
+ghost use Rattle.sim_code.specs.Machine.{Frames, Machine, Value, index as index_of};
 ghost use Rattle.sim_code.specs.Outcome.{Run, World};
 ghost use Rattle.frame_arena.specs.declared.slot.Slot.{Slot as SlotOf};
 ghost use Rattle.frame_arena.specs.Frames.{AllLead, Holds, Leads, SlotLeads};
@@ -76,6 +77,33 @@ pub fn take_linked(frames: &[Frame], stack: &[Slot], depth: usize, operand: i64)
         count,
         under,
         parent,
+    })
+}
+
+/// What the entry of a prefixed block finds on the operand stack: as many values. Its encloser is the frame at work.
+pub fn take_values(
+    stack: &[Slot],
+    depth: usize,
+    operand: i64,
+    encloser: FrameRef,
+) -> Option<Actuals>
+    requires fits { depth ≤ length stack.now }
+    ensures within { IfSome result (λ a. a.at + a.count ≤ length stack.now) }
+    ensures under { IfSome result (λ a. a.under ≤ length stack.now) }
+    ensures encloser { IfSome result (λ a. a.parent ≡ encloser) }
+    ensures row { (o : World) (go : List Value → List Value → Run Machine) → index_of operand o (λ n. pop_many n [] (values_of depth stack.now) o go) ≡ with_actuals result stack.now o (λ values rest parent. go values rest) }
+{
+    let Some(count) = index(operand) else {
+        return None;
+    };
+    let Some(at) = stack::pop_values(stack, depth, count) else {
+        return None;
+    };
+    Some(Actuals {
+        at,
+        count,
+        under: at,
+        parent: encloser,
     })
 }
 

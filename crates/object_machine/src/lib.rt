@@ -27,6 +27,7 @@ mod pairs;
 mod parameters;
 mod paying;
 mod placing;
+mod prefixing;
 mod reading;
 mod rows;
 mod running;

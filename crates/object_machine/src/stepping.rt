@@ -17,6 +17,7 @@ use crate::leaving::{end_level, give_result, leave};
 use crate::machine::{Activation, Flow, Registers, Storage};
 use crate::names::standard;
 use crate::pairs::assign;
+use crate::prefixing::enter_prefixed;
 use crate::rows::obey_other;
 use crate::stages::{inner, next_declarations};
 use crate::texts::constant;
@@ -110,6 +111,12 @@ pub fn step<I: Source, O: Sink>(
         Instr::New { class, values } => {
             let flow = generate(
                 alloc, blocks, instrs, classes, limits, storage, top, below, class, values,
+            );
+            without_ports(flow)
+        }
+        Instr::Pref { block, values } => {
+            let flow = enter_prefixed(
+                alloc, blocks, instrs, classes, limits, storage, top, below, block, values,
             );
             without_ports(flow)
         }

@@ -28,7 +28,7 @@ use Rattle.sim_values.specs.declared.kind.Kind.{Kind}
 use Rattle.sim_values.specs.declared.kind.Kind.TheVariants as kind
 use Rattle.sim_meaning.specs.Attributes.{is_connection}
 use Rattle.sim_meaning.specs.Levels.{qualification}
-use Rattle.sim_meaning.specs.Texts.{BlockText, ClassText, Text, declared_at, kind_named, kind_of_type, program_texts, text}
+use Rattle.sim_meaning.specs.Texts.{BlockText, ClassText, Text, declared_at, kind_named, kind_of_type, program_texts, text, PrefixedText}
 use Rattle.sim_sound.specs.Held.{Among, Holds, IsOfKind, Simply, first, held_by, reference_to}
 use Rattle.sim_sound.specs.Typed.{ArrayIs, ArraysAre, Distinct, arrays_in_segments, arrays_named, arrays_of_block, of_option}
 use Rattle.sim_agree.specs.Plain.{Plain}
@@ -40,7 +40,7 @@ use Rattle.sim_agree.proofs.Fine.{Alike}
 use Rattle.sim_agree.proofs.Groups.{ArrayWritten, Has, NamedAmong, NamedIn, OfReferences, declared_in_text, here, own_array, own_marks, own_segment, own_variable, there}
 use Rattle.sim_agree.proofs.Qualified as q
 use Rattle.sim_agree.proofs.Tables as tables
-use Rattle.sim_agree.proofs.TextOrder.{distinct, distinct_class}
+use Rattle.sim_agree.proofs.TextOrder.{distinct, distinct_class, distinct_prefixed}
 use Rattle.sim_agree.proofs.Tokens.{token_declared}
 
 -- ---- what arrays hold by the type that is written
@@ -286,6 +286,7 @@ module _ (s : Source) (of : TablesOf s) (plain : Plain s.program) (order : InOrd
   distinct_in : (z : Text) → text s k ≡ Some z → Distinct (arrays_of_block s (declared_in_text z))
   distinct_in (BlockText i ds ss) e = distinct s plain order k i ds ss e
   distinct_in (ClassText prefix h ds ss) e = distinct_class s plain order k prefix h ds ss e
+  distinct_in (PrefixedText class es ds ss) e = distinct_prefixed s plain order k class es ds ss e
   distinct_in _ e = tt
 
   -- each array that a text declares is one of what its declaration says

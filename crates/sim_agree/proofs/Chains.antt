@@ -15,7 +15,7 @@ use Rattle.sim_tree.specs.Syntax.{Declarations, Heading, Statements}
 use Rattle.sim_scope.specs.declared.found.Fault.{Fault}
 use Rattle.sim_scope.specs.declared.scopes.Declaration.{Declaration}
 use Rattle.sim_scope.specs.declared.types.Entry.TheVariants as entry
-use Rattle.sim_scope.specs.Access.{around, encloser}
+use Rattle.sim_scope.specs.Access.{around, encloser, is_connection as is_connection_kind, is_kind, is_so}
 use Rattle.sim_scope.specs.Declare.{declared_by}
 use Rattle.sim_scope.specs.Levels.{base, base_in, has_level, holds, some_level_of, owner_of_level}
 use Rattle.sim_scope.specs.Runs.{each}
@@ -29,13 +29,15 @@ use Rattle.sim_meaning.specs.Entries.{numbers_in, numbers_of}
 use Rattle.sim_meaning.specs.Levels.{is_class}
 use Rattle.sim_meaning.specs.Texts.{BlockText, ClassText, ConnectionText, PrefixedText, ProcedureText, StandardText, Text, text, program_texts}
 use Rattle.sim_sound.specs.Held.{Among, first, later}
-use Rattle.sim_sound.specs.Typed.{Ends, PrefixTyped, Prefixes, outermost, prefixed as prefixed_by}
+use Rattle.sim_sound.specs.Typed as typed
+use Rattle.sim_sound.specs.Typed.{Ends, PrefixTyped, Prefixes, outermost, prefixed as prefixed_by, Home}
 use Rattle.sim_agree.specs.Plain.{Plain}
 use Rattle.sim_agree.specs.TablesOf.{TablesOf}
 use Rattle.sim_agree.proofs.Fine.{KindIs}
-use Rattle.sim_agree.proofs.Groups.{Declaring}
+use Rattle.sim_agree.proofs.Completing.{bare_row, kind_in}
 use Rattle.sim_agree.proofs.Headings as headings
-use Rattle.sim_agree.proofs.Prefixing.{PrefixOf, Reaches, itself, through}
+use Rattle.sim_agree.proofs.Insides as i
+use Rattle.sim_agree.proofs.Prefixing.{PrefixOf, Reaches, itself, through, HomeFrom, connected, stands}
 use Rattle.sim_agree.proofs.Qualified.{no_least}
 use Rattle.sim_agree.proofs.Tables as t
 use Rattle.sim_agree.proofs.Tables.{class_new}
@@ -178,6 +180,17 @@ all_none f (suc n) e k lt = go (nat_eq k n) refl (λ l. all_none f n (both_none 
     go true is rest = let same : k ≡ n = grind (arith, nat_tests) in subst (λ m. f m ≡ []) (sym same) (both_none (f n) [] parts.1).0
     go false is rest = rest (let P : k < n = grind (arith, nat_tests) in P)
 
+-- a prefix that is written is known
+pub prefix_known : (T : Tables) → prefix_faults T ≡ [] → (k : ℕ) (row : BlockOf) → slice_get T.blocks k ≡ Some row → breaks_prefix T row row.prefix ≡ false
+unfolding prefix_faults faults_of row_faults
+prefix_known T e k row at =
+    let h : row_faults T k row ≡ [] = subst (λ o. block_faults T k o ≡ []) at (all_none (faults_of T) (length T.blocks) e k (slice_get_within T.blocks k row at)) in
+    none_written (breaks_prefix T row row.prefix) (prefix_token row.prefix) r.PrefixIsNoClass (both_none (where_true (breaks_prefix T row row.prefix) (prefix_token row.prefix) r.PrefixIsNoClass) _ h).0
+  where
+    none_written : (c : Bool) (token : ℕ) (rule : Rule) → where_true c token rule ≡ [] → c ≡ false
+    none_written true token rule f = absurd (cc)
+    none_written false token rule f = refl
+
 own_free : (T : Tables) → prefix_faults T ≡ [] → (k : ℕ) → is_in_own_chain T k ≡ false
 unfolding prefix_faults faults_of row_faults is_in_own_chain base
 own_free T e k = go (slice_get T.blocks k) refl
@@ -272,13 +285,25 @@ module _ (s : Source) (of : TablesOf s) (plain : Plain s.program) (order : InOrd
       go None f = absurd (cc)
       go (Some row) f = placed row.numbers _ f
 
-  declaring_other : (x : Text) → Declaring x → is_connection (Some x) ≡ false
-  declaring_other (BlockText i ds ss) d = refl
-  declaring_other (ClassText prefix h ds ss) d = refl
-  declaring_other (ProcedureText result h a) d = refl
-  declaring_other ConnectionText d = absurd d
-  declaring_other (PrefixedText class es ds ss) d = refl
-  declaring_other (StandardText which) d = refl
+  -- the declared tables have a connection where the text is one
+  connection_is : (k : ℕ) → is_kind is_connection_kind (declared_by s.program).tables k ≡ is_connection (text s k)
+  unfolding is_kind
+  connection_is k = ap (is_so is_connection_kind) (sym (kind_bare (slice_get (declared_by s.program).tables.blocks k)) ∙ ap kind_in (sym ((t.completed_tables s of plain order).blocks k)) ∙ kind_bare (slice_get s.tables.blocks k)) ∙ i.connections s of plain order k
+    where
+      kind_bare : (o : Option BlockOf) → kind_in (bare_row o) ≡ kind_in o
+      kind_bare None = refl
+      kind_bare (Some row) = refl
+
+  home_solid : (o : Option ℕ) (h : ℕ) → HomeFrom (declared_by s.program).tables o h → is_connection (text s h) ≡ false
+  home_solid (Some u) h (stands other) = sym (connection_is h) ∙ other
+  home_solid (Some u) h (connected is q) = home_solid (encloser (declared_by s.program).tables u) h q
+  home_solid None h q = elim q [ ]
+
+  home_typed : (k : ℕ) (o : Option ℕ) (h : ℕ) → encloser s.tables k ≡ o → HomeFrom (declared_by s.program).tables o h → Home s k h
+  unfolding encloser
+  home_typed k (Some u) h e (stands other) = typed.stands e (sym (connection_is h) ∙ other)
+  home_typed k (Some u) h e (connected is q) = typed.connected e (sym (connection_is u) ∙ is) (home_typed u (encloser (declared_by s.program).tables u) h (t.same_around s of plain order u) q)
+  home_typed k None h e q = elim q [ ]
 
   some_same : {A : Type 0} (a b : A) → Some a ≡ Some b → a ≡ b
   some_same a b e = cc
@@ -286,11 +311,11 @@ module _ (s : Source) (of : TablesOf s) (plain : Plain s.program) (order : InOrd
   prefix_typed : (k b : ℕ) → is_connection (text s k) ≡ false → base s.tables k ≡ Some b → PrefixTyped s k b
   unfolding encloser has_level text
   prefix_typed k b other e = record {
-    class = ap is_class (t.class_text s of plain order k p.row p.at p.kind).4;
+    has = t.levels_there s of plain order k p.row p.at p.kind;
     prefix = ap is_class (t.connects s of plain order k b e).4;
     outer = p.outer;
     outer_prefix = p.level;
-    around = t.same_around s of plain order k ∙ ap around p.at ∙ p.around;
+    around = home_typed k p.row.encloser p.outer (t.same_around s of plain order k ∙ ap around p.at) p.around;
     around_prefix = t.same_around s of plain order b ∙ c.2 ∙ ap Some block;
     solid = solid_outer;
     declared = reaches_level s.tables (length s.tables.blocks) p.outer p.level (ends p.outer solid_outer) p.reaches;
@@ -307,13 +332,8 @@ module _ (s : Source) (of : TablesOf s) (plain : Plain s.program) (order : InOrd
           let o = (t.program_agrees s.program plain).fine.own p.level p.class (listed p.name p.level p.class p.listed) in
           ap (λ (z : Declaration). z.block) (some_same c.0 o.0 (sym c.1 ∙ o.1)) ∙ o.2
 
-      stands : t.ClassStands s.program k
-      stands = t.class_block_at s.program plain of.unbroken k p.row p.at p.kind
-
       solid_outer : is_connection (text s p.outer) ≡ false
-      solid_outer =
-          let same : stands.row.block ≡ p.outer = some_same stands.row.block p.outer (sym stands.around ∙ ap around p.at ∙ p.around) in
-          subst (λ z. is_connection (text s z) ≡ false) same (ap is_connection stands.is ∙ declaring_other stands.text stands.declaring)
+      solid_outer = home_solid p.row.encloser p.outer p.around
 
   -- what a class declares is declared by no level of its prefix
   declares_apart : (k b u : ℕ) (d : DeclNo) → is_connection (text s k) ≡ false → base s.tables k ≡ Some b → has_level s.tables b u ≡ true → Among d (numbers_of s u) → Among d (numbers_of s k) → ⊥

@@ -1,5 +1,5 @@
 -- The text of a class, its block and its declaration.
-use Rattle.std.proofs.Common.{◌≡◌, ℕ, false, List, Option, Some, None, refl, sym, ap, ◌∙◌, subst}
+use Rattle.std.proofs.Common.{◌≡◌, ℕ, false, List, Option, Some, None, refl, sym, ap, ◌∙◌, subst, true}
 use Rattle.std.specs.Prelude.{slice_get}
 use Rattle.sim_tree.specs.declared.expr.Identifier.{Identifier}
 use Rattle.sim_tree.specs.Syntax.{Declarations, Heading, Statements}
@@ -8,14 +8,16 @@ use Rattle.sim_scope.specs.declared.types.BlockKind.{BlockKind}
 use Rattle.sim_scope.specs.declared.types.BlockKind.TheVariants as kind
 use Rattle.sim_scope.specs.declared.types.Entry.{Entry}
 use Rattle.sim_scope.specs.declared.types.Entry.TheVariants as entry
-use Rattle.sim_scope.specs.Access.{around, is_connection as is_connection_kind, is_so}
+use Rattle.sim_scope.specs.Access.{around}
 use Rattle.sim_scope.specs.Declare.{result_named}
 use Rattle.sim_scope.specs.Tables.{BlockOf}
 use Rattle.sim_meaning.specs.Texts.{BlockText, ClassText, ConnectionText, PrefixedText, ProcedureText, StandardText, Text}
-use Rattle.sim_agree.proofs.Completing.{kind_in}
 use Rattle.sim_agree.proofs.Fine.{Alike, KindIs, RowIn, class_row, formal_row, own_row, procedure_row}
 use Rattle.sim_agree.proofs.Groups.{OwnEntry, PlainKind, Declaring}
 use Rattle.sim_agree.proofs.Steps.{Parametric}
+use Rattle.sim_meaning.specs.Levels.{has_levels}
+use Rattle.sim_meaning.specs.Attributes.{is_connection}
+use Rattle.sim_agree.proofs.Unprefixed.{is_prefixable}
 
 pub class_entry : (x : Text) (bs : List BlockOf) (ts : List Text) (d : ℕ) (row : Declaration) (n : ℕ) → row.entry ≡ entry.Class n → RowIn bs ts x d row → (prefix : Option Identifier) × (h : Heading) × (ds : Declarations) × (ss : Statements) × (slice_get ts n ≡ Some (ClassText prefix h ds ss))
 class_entry x bs ts d row n e (own_row y p) = absurd (go p.entry p.fits (subst (Alike p.entry) e p.alike))
@@ -67,15 +69,6 @@ plain_no_class kind.Prefixed p e = p
 plain_no_class kind.Connection p e = p
 plain_no_class (kind.StandardClass which) p e = p
 
-plain_no_connection : (k : BlockKind) → PlainKind k → is_connection_kind k ≡ false
-plain_no_connection kind.Program p = refl
-plain_no_connection kind.SubBlock p = refl
-plain_no_connection kind.Procedure p = absurd p
-plain_no_connection kind.Class p = absurd p
-plain_no_connection kind.Prefixed p = absurd p
-plain_no_connection kind.Connection p = absurd p
-plain_no_connection (kind.StandardClass which) p = absurd p
-
 -- a block of the kind of a class is that of the text of one
 pub class_of_kind : (row : BlockOf) (o : Option Text) → KindIs (Some row) o → row.kind ≡ kind.Class → (prefix : Option Identifier) × (h : Heading) × (ds : Declarations) × (ss : Statements) × (o ≡ Some (ClassText prefix h ds ss))
 class_of_kind row None k e = absurd k
@@ -83,17 +76,33 @@ class_of_kind row (Some (BlockText i ds ss)) k e = absurd (plain_no_class row.ki
 class_of_kind row (Some (ProcedureText result h a)) k e = absurd (let f : kind.Procedure ≡ kind.Class = sym k ∙ e in cc)
 class_of_kind row (Some (ClassText prefix h ds ss)) k e = (prefix, h, ds, ss, refl)
 class_of_kind row (Some ConnectionText) k e = absurd (let f : kind.Connection ≡ kind.Class = sym k ∙ e in cc)
-class_of_kind row (Some (PrefixedText class es ds ss)) k e = absurd k
+class_of_kind row (Some (PrefixedText class es ds ss)) k e = absurd (let f : kind.Prefixed ≡ kind.Class = sym k ∙ e in cc)
 class_of_kind row (Some (StandardText which)) k e = absurd k
 
-pub declaring_solid : (o : Option BlockOf) (x : Text) → KindIs o (Some x) → Declaring x → is_so is_connection_kind (kind_in o) ≡ false
-declaring_solid None x k d = absurd (none x k)
+-- a block of a kind that may have a prefix is that of a text with levels
+pub levels_of_kind : (row : BlockOf) (o : Option Text) → KindIs (Some row) o → is_prefixable row.kind ≡ true → has_levels o ≡ true
+levels_of_kind row None k e = absurd k
+levels_of_kind row (Some (BlockText i ds ss)) k e = absurd (go row.kind k e)
   where
-    none : (x : Text) → KindIs None (Some x) → ⊥
-    none x k = k
-declaring_solid (Some row) (BlockText i ds ss) k d = plain_no_connection row.kind k
-declaring_solid (Some row) (ClassText prefix h ds ss) k d = ap is_connection_kind k
-declaring_solid (Some row) (ProcedureText result h a) k d = absurd d
-declaring_solid (Some row) ConnectionText k d = absurd d
-declaring_solid (Some row) (PrefixedText class es ds ss) k d = absurd d
-declaring_solid (Some row) (StandardText which) k d = absurd d
+    go : (k : BlockKind) → PlainKind k → is_prefixable k ≡ true → ⊥
+    go kind.Program p e = cc
+    go kind.SubBlock p e = cc
+    go kind.Procedure p e = p
+    go kind.Class p e = p
+    go kind.Prefixed p e = p
+    go kind.Connection p e = p
+    go (kind.StandardClass which) p e = p
+levels_of_kind row (Some (ProcedureText result h a)) k e = absurd (let f : false ≡ true = sym (ap is_prefixable k) ∙ e in cc)
+levels_of_kind row (Some (ClassText prefix h ds ss)) k e = refl
+levels_of_kind row (Some ConnectionText) k e = absurd (let f : false ≡ true = sym (ap is_prefixable k) ∙ e in cc)
+levels_of_kind row (Some (PrefixedText class es ds ss)) k e = refl
+levels_of_kind row (Some (StandardText which)) k e = absurd k
+
+pub no_connection : (o : Option Text) → has_levels o ≡ true → is_connection o ≡ false
+no_connection None e = absurd (cc)
+no_connection (Some (BlockText i ds ss)) e = refl
+no_connection (Some (ProcedureText result h a)) e = refl
+no_connection (Some (ClassText prefix h ds ss)) e = refl
+no_connection (Some ConnectionText) e = absurd (cc)
+no_connection (Some (PrefixedText class es ds ss)) e = refl
+no_connection (Some (StandardText which)) e = refl

@@ -27,12 +27,12 @@ use Rattle.sim_scope.specs.Tables.{BlockOf, Tables}
 use Rattle.sim_scope.proofs.Kept.{kept_set, more_here, set_here}
 use Rattle.sim_meaning.specs.Entries.{numbers_in}
 use Rattle.sim_sound.specs.Held.{Among}
-use Rattle.sim_meaning.specs.Texts.{BlockText, ClassText, ConnectionText, ProcedureText, Text}
+use Rattle.sim_meaning.specs.Texts.{BlockText, ClassText, ConnectionText, ProcedureText, Text, PrefixedText}
 use Rattle.sim_agree.proofs.Calm.{class_calm, declared_calm, headed_calm, inner_calm, moded_calm, span, specified_calm, prefix_calm, guards_calm}
-use Rattle.sim_agree.proofs.Groups.{AreReferences, ArrayWritten, Grouped, Has, NoBreaks, NoHeaded, OfReferences, Open, OwnEntry, Quals, block, breaks_rule, closes, connects, declared_in_text, declares, declares_class, has_cases, headed, here, inner_mark, item, moded, nothing, own_marks, parameter, procedure, qualifies, specified, there, unqualified, Written, prefixes, guarded}
+use Rattle.sim_agree.proofs.Groups.{AreReferences, ArrayWritten, Grouped, Has, NoBreaks, NoHeaded, OfReferences, Open, OwnEntry, Quals, block, breaks_rule, closes, connects, declared_in_text, declares, declares_class, has_cases, headed, here, inner_mark, item, moded, nothing, own_marks, parameter, procedure, qualifies, specified, there, unqualified, Written, prefixes, guarded, prefixed_block}
 use Rattle.sim_agree.proofs.Steps.{AllEven, Becomes, Changed, Declared, IsParameter, Nothing, Step, Unmatched, class_step, class_unmatched, declared_latest, declared_step, headed_step, inner_step, last_cases, met, moded_step, own_unmatched, parameter_step, procedure_unmatched, quals_step, rule_step, specified_met, unspecified_unmatched, among_at, prefix_step, guards_step}
 use Rattle.sim_agree.proofs.Fine.{Agree, Fine, KindIs, Stack, With, begun_keeps, closed_agrees, fresh, same_around, step_fine}
-use Rattle.sim_agree.proofs.FineRuns.{Owes, block_agrees, class_agrees, declares_agrees, owes_heading, owes_none, parameter_agrees, procedure_agrees, quiet_agrees, run_both, step_agrees, class_kind}
+use Rattle.sim_agree.proofs.FineRuns.{Owes, block_agrees, class_agrees, declares_agrees, owes_heading, owes_none, parameter_agrees, procedure_agrees, quiet_agrees, run_both, step_agrees, prefix_kind}
 use Rattle.sim_agree.proofs.Owned.{Owned, closed_owned, opened_owned, owned_step}
 use Rattle.sim_agree.proofs.Covered.{Covered, closed_covers, covered_stays, declared_alone, declared_covered, holding_refs, inner_covers, moded_covers, opened_least, opened_same, specified_covered, prefix_covers, guards_covers}
 use Rattle.sim_agree.proofs.Clean.{Clean, Counts, Made, Origin, OwedAt, RowFor, SpecifiedRow, WrittenFor, complete_stays, declared_clean, declared_refs, early_stays, headed_clean, heading_past, heads_stay, holding_same, if_clean, inner_quiet, moded_quiet, never_none, old_row, origins_stay, out, owed_kept, param_stays, param_was, quals_clean, quals_least, quiet_clean, references_stay, some_same, specified_at, specified_latest, specified_quiet, step_clean, prefix_quiet, guards_quiet}
@@ -622,6 +622,17 @@ run_clean {os = os} b ts (block {ms = ms} {xs = xs} k text first i ds ss p g) w 
       (λ v. later.3 (covered_stays b c (opened_same b k text first) v)),
       λ v. subst (Owned (run marked c ms)) (append_assoc ts (x ∷ []) xs) (later.4 (opened_owned b k text first ts x a.fine.size tt v)),
     )
+run_clean {os = os} b ts (prefixed_block {ms = ms} {xs = xs} text first class es ds ss g) w a clean =
+    let x : Text = PrefixedText class es ds ss in
+    let c : BuildingOf = opened b kind.Prefixed text first in
+    let later = run_clean c (ts ++ x ∷ []) g ((λ y e q. q), w) (block_agrees b kind.Prefixed text first x (own_marks ds) ts os refl a) clean in
+    let q = opened_clean b kind.Prefixed text first ts x (own_marks ds) os (λ y e h. h) a.fine later.0 in (
+      q.0,
+      (λ f. subst (λ z. Clean (run marked c ms) z []) (append_assoc ts (x ∷ []) xs) (later.1 (q.1 f))),
+      later.2,
+      (λ v. later.3 (covered_stays b c (opened_same b kind.Prefixed text first) v)),
+      λ v. subst (Owned (run marked c ms)) (append_assoc ts (x ∷ []) xs) (later.4 (opened_owned b kind.Prefixed text first ts x a.fine.size tt v)),
+    )
 run_clean {os = os} b ts (connects {ms = ms} {xs = xs} text first g) w a clean =
     let x : Text = ConnectionText in
     let c : BuildingOf = opened b kind.Connection text first in
@@ -725,10 +736,10 @@ run_clean b ts (headed {os = os} x owed y g) w a clean =
     let later = run_clean _ ts g ((λ z f p. w.0 z f (there p)), w.1) (step_agrees b _ Nothing x (Headed y ∷ owed) owed ts os s (λ d row q. absurd q) a) clean in
     let o = unspecified_at b.tables (found_in b.tables b.current y.name) in
     let q = headed_step_clean b x owed y ts os a.fine later.0 in (q.0, (λ f. later.1 (q.1 f)), later.2, (λ v. later.3 (subst (λ z. Covered (headed_of b y.token z)) (sym (headed_clean b y.token o later.0).0) v)), λ v. later.4 (owned_step b _ Nothing ts s v))
-run_clean b ts (prefixes {os = os} prefix h ds ss owed y p g) w a clean =
-    let s = prefix_step b y a.fine.stack.0 a.fine.stack.1 p (class_kind b prefix h ds ss owed ts os a.fine) in
-    let later = run_clean _ ts g w (quiet_agrees b _ ts (item (ClassText prefix h ds ss) owed ∷ os) s a) clean in
-    let q = prefix_quiet b y b.current in (q.1 later.0, (λ f. later.1 (quiet_clean b _ ts (item (ClassText prefix h ds ss) owed ∷ os) s (prefix_calm b y b.current) q.0 a.fine f)), later.2, (λ v. later.3 (prefix_covers b y b.current v)), λ v. later.4 (owned_step b _ Nothing ts s v))
+run_clean b ts (prefixes {os = os} x owed y t p g) w a clean =
+    let s = prefix_step b y a.fine.stack.0 a.fine.stack.1 p (prefix_kind b x owed ts os t a.fine) in
+    let later = run_clean _ ts g w (quiet_agrees b _ ts (item x owed ∷ os) s a) clean in
+    let q = prefix_quiet b y b.current in (q.1 later.0, (λ f. later.1 (quiet_clean b _ ts (item x owed ∷ os) s (prefix_calm b y b.current) q.0 a.fine f)), later.2, (λ v. later.3 (prefix_covers b y b.current v)), λ v. later.4 (owned_step b _ Nothing ts s v))
 run_clean {os = os} b ts (inner_mark token g) w a clean =
     let s = inner_step b token b.current refl in
     let later = run_clean _ ts g w (quiet_agrees b _ ts os s a) clean in

@@ -29,6 +29,7 @@ use Rattle.virtual_match.specs.Qualifying.{class_written, declaration_to, entry_
 use Rattle.inspect_types.specs.Connecting.{Connecting, ConnectingOf, Connects, Looks, Names, class_of_name, class_of_type, connected, connected_at, connecting, connections}
 use Rattle.sim_agree.proofs.Groups.{OfReferences}
 use Rattle.sim_agree.proofs.Openings.{AllOpened, Opened}
+use Rattle.sim_agree.proofs.Unprefixed.{is_prefixable}
 
 -- ---- the classes of references
 
@@ -154,9 +155,9 @@ abbrev pub kind_in : Option BlockOf → Option BlockKind
 kind_in None = None
 kind_in (Some row) = Some row.kind
 
--- what may have a next level: a connection or a class
+-- what may have a next level: a connection, a class or a block with a prefix
 abbrev pub HasNext : Tables → (block : ℕ) → Type 0
-HasNext D k = (row : BlockOf) × (slice_get D.blocks k ≡ Some row) × ((row.kind ≡ kind.Connection) ⊎ (row.kind ≡ kind.Class))
+HasNext D k = (row : BlockOf) × (slice_get D.blocks k ≡ Some row) × ((row.kind ≡ kind.Connection) ⊎ (is_prefixable row.kind ≡ true))
 
 -- What is complete of tables: of blocks but what connections connect, the classes of references, and these are classes.
 pub record Completes (D T : Tables) (IsClass : ℕ → Type 0) : Type 0 where

@@ -348,7 +348,7 @@ none_first s of plain order k is =
   where
     go : (o : Option ℕ) → base (prefixed (declared_by s.program).tables) k ≡ o → o ≡ None
     go None e = refl
-    go (Some b) e = absurd (let p = (t.P s of plain order).bases k b e in let q : true ≡ false = sym is ∙ t.class_other s of plain order k p.row p.at p.kind in cc)
+    go (Some b) e = absurd (let p = (t.P s of plain order).bases k b e in let q : true ≡ false = sym is ∙ t.prefixed_other s of plain order k p.row p.at p.kind in cc)
 
 pub connects_met : (s : Source) (of : TablesOf s) (plain : Plain s.program) (order : InOrder s.program) (P : Option ℕ → Type 0) → P None → AllMet s P (program_events connections s.program) → (k c : ℕ) → is_connection (text s k) ≡ true → base s.tables k ≡ Some c → P (Some c)
 unfolding completed connected base

@@ -21,7 +21,7 @@ use Rattle.sim_scope.specs.Scopes.{entry_of}
 use Rattle.sim_scope.specs.Source.{Source}
 use Rattle.sim_values.specs.Plain.{Plain as Value}
 use Rattle.sim_meaning.specs.Texts.{BlockText, ClassText, ConnectionText, PrefixedText, ProcedureText, StandardText, Text, among_declarations, among_variables, constant_in, constant_of, constant_value, kind_of_type, row_constant, text, value_in}
-use Rattle.sim_agree.specs.ConstantAt.{ConstantAt, InBlock, InClass, Lists, OneOf, at_first, further, head, tail}
+use Rattle.sim_agree.specs.ConstantAt.{ConstantAt, InBlock, InClass, Lists, OneOf, at_first, further, head, tail, InPrefixed}
 use Rattle.sim_agree.specs.Plain.{Plain}
 use Rattle.sim_agree.specs.TablesOf.{TablesOf}
 use Rattle.sim_agree.proofs.Groups.{Has, OwnEntry, here, own_array, own_marks, own_segment, own_variable, there}
@@ -200,7 +200,7 @@ constant_at s of plain order d ty e =
   where
     -- among the declarations of a block or a class
     found : (row : Declaration) → slice_get s.tables.declarations d.0 ≡ Some row → row.entry ≡ entry.Constant ty → (ds : Declarations) (i j : ℕ) → Between i (own_tokens ds) j → Own ds row
-        → InBlock s row.block ds ⊎ InClass s row.block ds → ((token : ℕ) → constant_in s (text s row.block) token ≡ among_declarations s token ds) → ConstantAt s d ty
+        → InBlock s row.block ds ⊎ (InClass s row.block ds ⊎ InPrefixed s row.block ds) → ((token : ℕ) → constant_in s (text s row.block) token ≡ among_declarations s token ds) → ConstantAt s d ty
     found row at same ds i j b p place value =
         let c = constant_like p.entry ty p.fits (subst (Alike p.entry) same p.alike) in
         let q = in_declarations s p.name c.0 ds i j b (subst (λ z. Has (Declares p.name z) (own_marks ds)) c.1 p.mark) in record {
@@ -224,10 +224,12 @@ constant_at s of plain order d ty e =
         found row at same ds o.0 o.1 o.2 p (inl (record { begin = i; statements = ss; is = there_ })) (λ token. ap (λ z. constant_in s z token) there_)
     go row at same (ClassText prefix h ds ss) there_ (own_row y p) =
         let o = text_in_order s plain order row.block (ClassText prefix h ds ss) there_ in
-        found row at same ds o.0 o.1 o.2 p (inr (record { prefix = prefix; heading = h; statements = ss; is = there_ })) (λ token. ap (λ z. constant_in s z token) there_)
+        found row at same ds o.0 o.1 o.2 p (inr (inl (record { prefix = prefix; heading = h; statements = ss; is = there_ }))) (λ token. ap (λ z. constant_in s z token) there_)
     go row at same (ProcedureText result h a) there_ (own_row y p) = absurd y
     go row at same ConnectionText there_ (own_row y p) = absurd y
-    go row at same (PrefixedText class es ds ss) there_ (own_row y p) = absurd y
+    go row at same (PrefixedText class es ds ss) there_ (own_row y p) =
+        let o = text_in_order s plain order row.block (PrefixedText class es ds ss) there_ in
+        found row at same ds o.0 o.1 o.2 p (inr (inr (record { class = class; arguments = es; statements = ss; is = there_ }))) (λ token. ap (λ z. constant_in s z token) there_)
     go row at same (StandardText which) there_ (own_row y p) = absurd y
     go row at same x there_ (procedure_row y p) = absurd (subst (Alike (entry.Procedure (result_named p.result) p.number)) same p.entry)
     go row at same x there_ (class_row y p) = absurd (let z : entry.Class p.number ≡ entry.Constant ty = sym p.entry ∙ same in cc)

@@ -12,7 +12,7 @@ use Rattle.sim_tree.specs.Syntax.{Program}
 use Rattle.sim_scope.specs.declared.types.BlockKind.{BlockKind}
 use Rattle.sim_scope.specs.declared.types.BlockKind.TheVariants as kind
 use Rattle.sim_scope.specs.declared.types.Entry.TheVariants as entry
-use Rattle.sim_scope.specs.Building.{BuildingOf, Mark, Opens, block_around, broken_if, changed, closed, closed_at, counted, counted_in, declared, found_in, holding_class, level_in, marked, most_levels, opened, owner_of, parameter as parameter_of, placed, specified as specified_of, unspecified_at}
+use Rattle.sim_scope.specs.Building.{BuildingOf, Mark, Opens, block_around, broken_if, changed, closed, closed_at, counted, counted_in, declared, found_in, holding_class, level_in, marked, most_levels, opened, owner_of, parameter as parameter_of, placed, specified as specified_of, unspecified_at, prefixed_by}
 use Rattle.sim_scope.specs.Declare.{declared_by, empty, result_named}
 use Rattle.sim_scope.specs.Runs.{run}
 use Rattle.sim_scope.specs.Access.{around}
@@ -22,7 +22,7 @@ use Rattle.sim_agree.specs.Plain.{Plain}
 use Rattle.sim_agree.proofs.Calm.{Calm, Span, class_calm, declared_calm, headed_calm, inner_calm, moded_calm, quals_calm, rule_calm, span, specified_calm, nothing_calm, prefix_calm, guards_calm}
 use Rattle.sim_agree.proofs.FineRuns.{run_both}
 use Rattle.sim_agree.proofs.Groups.{AreReferences, OfReferences}
-use Rattle.sim_agree.proofs.Laid.{Frame, Held, Laid, block, breaks_rule, closes, connects, declares, declares_class, headed, inner_mark, leaves, moded, nothing, parameter, passes, procedure, program, program_laid, specified, uses, Prefs, prefixed, unprefixed, guarded}
+use Rattle.sim_agree.proofs.Laid.{Frame, Held, Laid, block, breaks_rule, closes, connects, declares, declares_class, headed, inner_mark, leaves, moded, nothing, parameter, passes, procedure, program, program_laid, specified, uses, Prefs, prefixed, unprefixed, guarded, prefixed_block}
 use Rattle.sim_agree.proofs.Spots.{reached}
 use Rattle.sim_agree.proofs.Steps.{met}
 
@@ -465,6 +465,10 @@ run_deep b from (guarded hides keeps y g) a d = run_deep _ from g a (calm_deep b
 run_deep b from (breaks_rule token rule g) a d = run_deep _ from g a (calm_deep b _ from (rule_calm b token rule) d)
 run_deep b from (program text i ds ss g) a d = run_deep (opened b kind.Program text i) (i + 1) g a.1 (opened_deep b kind.Program text i from a.0 d)
 run_deep b from (block text i ds ss y u g) a d = run_deep (opened b kind.SubBlock text i) (i + 1) g a.1 (opened_deep b kind.SubBlock text i from a.0 d)
+run_deep b from (prefixed_block text i class es ds ss y u w g) a d =
+    let o : BuildingOf = opened b kind.Prefixed text i in
+    let c : BuildingOf = changed o (prefixed_by class) o.current in
+    run_deep c (i + 1) g a.1 (calm_deep o c (i + 1) (prefix_calm o class o.current) (opened_deep b kind.Prefixed text i from a.0 d))
 run_deep b from (connects text i v y u g) a d = run_deep (opened b kind.Connection text i) (i + 1) g a.1 (opened_deep b kind.Connection text i from a.0 d)
 run_deep b from (procedure {ms = ms} text quals result h body q g) a d =
     let c0 : BuildingOf = declared b h.name (entry.Procedure (result_named result) (length b.tables.blocks)) in

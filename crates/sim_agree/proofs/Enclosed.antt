@@ -2,7 +2,7 @@
 use Rattle.std.proofs.Common.{◌≡◌, ℕ, zero, suc, true, false, List, [], ◌∷◌, ◌++◌, Some, refl, sym, ap, ◌∙◌}
 use Rattle.std.specs.Prelude.{slice_get}
 use Rattle.sim_tree.specs.Order.{InOrder}
-use Rattle.sim_tree.specs.Syntax.{Also, Arms, Arrays, Begin, Block, Declaration, Declarations, DeclareClass, DeclareProcedure, NoArm, NoDeclaration, NoStatement, Statement, Statements, Variables, When, With}
+use Rattle.sim_tree.specs.Syntax.{Also, Arms, Arrays, Begin, Block, Declaration, Declarations, DeclareClass, DeclareProcedure, NoArm, NoDeclaration, NoStatement, Statement, Statements, Variables, When, With, Expressions}
 use Rattle.sim_tree.specs.Syntax as syntax
 use Rattle.sim_scope.specs.Access.{encloser}
 use Rattle.sim_scope.specs.Source.{Source}
@@ -10,10 +10,11 @@ use Rattle.sim_meaning.specs.Texts.{ConnectionText, text}
 use Rattle.sim_meaning.specs.Attributes.{is_connection}
 use Rattle.sim_agree.specs.Plain.{Plain}
 use Rattle.sim_agree.specs.TablesOf.{TablesOf}
-use Rattle.sim_agree.proofs.Laid.{Held, Joined, Whole, arms_held, block_held, declaration_held, declarations_held, held_program, program_held, statement_held, statements_held, text_held}
+use Rattle.sim_agree.proofs.Laid.{Held, Joined, Whole, arms_held, block_held, declaration_held, declarations_held, held_program, program_held, statement_held, statements_held, text_held, prefixed_held}
 use Rattle.sim_agree.proofs.Placing as p
 use Rattle.sim_agree.proofs.Tables as t
 use Rattle.sim_agree.proofs.Tables.{program_final}
+use Rattle.sim_tree.specs.declared.expr.Identifier.{Identifier}
 
 -- whole texts are no connections
 abbrev AllWhole : List Held → Type 0
@@ -30,7 +31,7 @@ mutual
   statement_whole : (a : Statement) → AllWhole (statement_held a)
   statement_whole (syntax.Empty i) = tt
   statement_whole (syntax.Compound b) = block_whole b
-  statement_whole (syntax.Prefixed class es b) = tt
+  statement_whole (syntax.Prefixed class es b) = prefixed_whole class es b
   statement_whole (syntax.Inner i) = tt
   statement_whole (syntax.Call e) = tt
   statement_whole (syntax.Assign e sides) = tt
@@ -48,6 +49,9 @@ mutual
   arms_whole : (arms : Arms) → AllWhole (arms_held arms)
   arms_whole NoArm = tt
   arms_whole (When i class opening a end more) = both_whole (statement_held a) (arms_held more) (statement_whole a) (arms_whole more)
+
+  prefixed_whole : (class : Identifier) (es : Expressions) (b : Block) → AllWhole (prefixed_held class es b)
+  prefixed_whole class es (Begin i ds ss e) = (refl, both_whole (declarations_held ds) (statements_held ss) (declarations_whole ds) (statements_whole ss))
 
   block_whole : (b : Block) → AllWhole (block_held b)
   block_whole (Begin i NoDeclaration ss e) = statements_whole ss

@@ -26,7 +26,7 @@ use Rattle.sim_scope.specs.Source.{level_in as level_of_row}
 use Rattle.sim_scope.specs.Tables.{BlockOf, deeper}
 use Rattle.sim_scope.proofs.Kept.{kept_more, more_here, more_other}
 use Rattle.sim_meaning.specs.Entries.{numbers_in}
-use Rattle.sim_meaning.specs.Texts.{BlockText, ClassText, ConnectionText, ProcedureText, Text, kind_of_type}
+use Rattle.sim_meaning.specs.Texts.{BlockText, ClassText, ConnectionText, ProcedureText, Text, kind_of_type, PrefixedText}
 use Rattle.sim_sound.specs.Held.{Among}
 use Rattle.sim_agree.proofs.Groups.{Declaring, Has, Open, OwnEntry, PlainKind, Taking, declared_in_text, item, own_marks}
 use Rattle.sim_agree.proofs.Steps.{AllEven, Becomes, Changed, Even, Fixed, Listed, Nothing, Parametric, Step, among_at, fixed, last_cases, row_step, same_step}
@@ -114,6 +114,7 @@ abbrev pub KindOf : BlockKind → Text → Type 0
 KindOf k (BlockText i ds ss) = PlainKind k
 KindOf k (ProcedureText result h a) = k ≡ kind.Procedure
 KindOf k (ClassText prefix h ds ss) = k ≡ kind.Class
+KindOf k (PrefixedText class es ds ss) = k ≡ kind.Prefixed
 KindOf k ConnectionText = k ≡ kind.Connection
 KindOf k _ = ⊥
 

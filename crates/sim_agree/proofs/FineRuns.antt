@@ -1,5 +1,5 @@
 -- The marks of a plain program, one after the other: behind each of them the tables agree with the texts.
-use Rattle.std.proofs.Common.{◌≡◌, ◌⊎◌, inl, inr, ℕ, List, [], ◌∷◌, ◌++◌, length, Option, Some, None, refl, sym, ap, ◌∙◌, subst, append-nil, append_assoc}
+use Rattle.std.proofs.Common.{◌≡◌, ◌⊎◌, inl, inr, ℕ, List, [], ◌∷◌, ◌++◌, length, Option, Some, None, refl, sym, ap, ◌∙◌, subst, append-nil, append_assoc, true}
 use Rattle.std.specs.Prelude.{slice_get}
 use Rattle.sim_base.specs.declared.numbering.DeclNo.{DeclNo}
 use Rattle.sim_tree.specs.declared.expr.Identifier.{Identifier}
@@ -18,11 +18,12 @@ use Rattle.sim_scope.specs.Scopes.{declared_in}
 use Rattle.sim_scope.specs.Tables.{BlockOf}
 use Rattle.sim_scope.proofs.Kept.{more_here}
 use Rattle.sim_meaning.specs.Entries.{numbers_in}
-use Rattle.sim_meaning.specs.Texts.{BlockText, ClassText, ConnectionText, ProcedureText, Text}
+use Rattle.sim_meaning.specs.Texts.{BlockText, ClassText, ConnectionText, ProcedureText, Text, PrefixedText, StandardText}
 use Rattle.sim_sound.specs.Held.{Among}
-use Rattle.sim_agree.proofs.Groups.{AreReferences, Declaring, Grouped, Has, OfReferences, Open, OwnEntry, Quals, Taking, block, breaks_rule, closes, connects, declared_in_text, declares, declares_class, has_cases, headed, here, inner_mark, item, moded, nothing, own_marks, parameter as parameter_mark, procedure, qualifies, specified, there, unqualified, prefixes, guarded}
+use Rattle.sim_agree.proofs.Groups.{AreReferences, Declaring, Grouped, Has, OfReferences, Open, OwnEntry, Quals, Taking, block, breaks_rule, closes, connects, declared_in_text, declares, declares_class, has_cases, headed, here, inner_mark, item, moded, nothing, own_marks, parameter as parameter_mark, procedure, qualifies, specified, there, unqualified, prefixes, guarded, Prefixing, prefixed_block}
 use Rattle.sim_agree.proofs.Steps.{AllEven, Changed, Declared, IsRow, Nothing, Parametric, Step, Unmatched, class_step, class_unmatched, declared_latest, declared_step, headed_step, inner_step, met, moded_step, own_unmatched, parameter_step, procedure_unmatched, quals_latest, quals_step, rule_step, specified_met, prefix_step, guards_step}
 use Rattle.sim_agree.proofs.Fine.{Agree, Alike, Fine, Keeps, KindOf, OfClass, OfProcedure, Own, RowOf, alike_results, begun_keeps, begun_rows, changed_row, class_row, closed_agrees, formal_row, fresh, more_text, opened_agrees, own_row, owner_in, procedure_row, row_kept, row_text, step_fine, step_rows, KindIs}
+use Rattle.sim_agree.proofs.Unprefixed.{is_prefixable}
 
 -- ---- a procedure or a class is declared, and its block begins
 
@@ -234,10 +235,17 @@ parameter_agrees b x owed y ts os d a =
 pub block_agrees : (b : BuildingOf) (k : BlockKind) (text first : ℕ) (x : Text) (owed : List Mark) (ts : List Text) (os : List Open) → KindOf k x → Agree b ts os → Agree (opened b k text first) (ts ++ x ∷ []) (item x owed ∷ os)
 block_agrees b k text first x owed ts os p a = opened_agrees b k text first ts x owed os p a.fine (begun_rows b (fresh b k first) (placed b.tables b.current first).places ts x os a.fine a.rows)
 
--- the innermost block is a class
-pub class_kind : (b : BuildingOf) (prefix : Option Identifier) (h : Heading) (ds : Declarations) (ss : Statements) (owed : List Mark) (ts : List Text) (os : List Open) → (f : Fine b ts (item (ClassText prefix h ds ss) owed ∷ os))
-    → (row : BlockOf) → slice_get b.tables.blocks f.stack.0 ≡ Some row → row.kind ≡ kind.Class
-class_kind b prefix h ds ss owed ts os f row at = subst (λ z. KindIs (Some row) z) f.stack.2 (subst (λ z. KindIs z (slice_get ts f.stack.0)) at (f.kinds f.stack.0))
+-- the innermost block may have a prefix
+pub prefix_kind : (b : BuildingOf) (x : Text) (owed : List Mark) (ts : List Text) (os : List Open) → Prefixing x → (f : Fine b ts (item x owed ∷ os)) → (row : BlockOf) → slice_get b.tables.blocks f.stack.0 ≡ Some row → is_prefixable row.kind ≡ true
+prefix_kind b x owed ts os p f row at = go x p (subst (λ z. KindIs (Some row) z) f.stack.2 (subst (λ z. KindIs z (slice_get ts f.stack.0)) at (f.kinds f.stack.0)))
+  where
+    go : (x : Text) → Prefixing x → KindOf row.kind x → is_prefixable row.kind ≡ true
+    go (ClassText prefix h ds ss) q k = ap is_prefixable k
+    go (PrefixedText class es ds ss) q k = ap is_prefixable k
+    go (BlockText i ds ss) q k = absurd q
+    go (ProcedureText result h a) q k = absurd q
+    go ConnectionText q k = absurd q
+    go (StandardText which) q k = absurd q
 
 -- ---- the whole
 
@@ -273,6 +281,9 @@ unfolding run marked
 run_agrees {os = os} b ts (nothing e) w a = subst (λ z. Agree b z []) (sym (append-nil ts)) (subst (Agree b ts) e a)
 run_agrees {os = os} b ts (block {ms = ms} {xs = xs} k text first i ds ss p g) w a =
     subst (λ z. Agree (run marked (opened b k text first) ms) z []) (append_assoc ts (BlockText i ds ss ∷ []) xs) (run_agrees (opened b k text first) (ts ++ BlockText i ds ss ∷ []) g ((λ y e q. q), w) (block_agrees b k text first (BlockText i ds ss) (own_marks ds) ts os p a))
+run_agrees {os = os} b ts (prefixed_block {ms = ms} {xs = xs} text first class es ds ss g) w a =
+    let x : Text = PrefixedText class es ds ss in
+    subst (λ z. Agree (run marked (opened b kind.Prefixed text first) ms) z []) (append_assoc ts (x ∷ []) xs) (run_agrees (opened b kind.Prefixed text first) (ts ++ x ∷ []) g ((λ y e q. q), w) (block_agrees b kind.Prefixed text first x (own_marks ds) ts os refl a))
 run_agrees {os = os} b ts (connects {ms = ms} {xs = xs} text first g) w a =
     subst (λ z. Agree (run marked (opened b kind.Connection text first) ms) z []) (append_assoc ts (ConnectionText ∷ []) xs) (run_agrees (opened b kind.Connection text first) (ts ++ ConnectionText ∷ []) g (owes_none ConnectionText, w) (block_agrees b kind.Connection text first ConnectionText [] ts os refl a))
 run_agrees b ts (procedure {os = os} {ms = ms} {xs = xs} text first x owed quals result h body d n q g) w a =
@@ -298,8 +309,8 @@ run_agrees {os = os} b ts (specified {ms = ms} {xs = xs} quals y k ty p q g) w a
     (run_agrees (run marked c quals) ts g w (quiet_agrees b (run marked c quals) ts os (quals_step b c Nothing (AreReferences ty) quals q (specified_met b y.token k ty (found_in b.tables b.current y.name) p)) a))
 run_agrees b ts (headed {os = os} x owed y g) w a =
     run_agrees _ ts g ((λ z f p. w.0 z f (there p)), w.1) (step_agrees b _ Nothing x (Headed y ∷ owed) owed ts os (headed_step b y.token (unspecified_at b.tables (found_in b.tables b.current y.name))) (λ d row q. absurd q) a)
-run_agrees b ts (prefixes {os = os} prefix h ds ss owed y p g) w a =
-    run_agrees _ ts g w (quiet_agrees b _ ts (item (ClassText prefix h ds ss) owed ∷ os) (prefix_step b y a.fine.stack.0 a.fine.stack.1 p (class_kind b prefix h ds ss owed ts os a.fine)) a)
+run_agrees b ts (prefixes {os = os} x owed y q p g) w a =
+    run_agrees _ ts g w (quiet_agrees b _ ts (item x owed ∷ os) (prefix_step b y a.fine.stack.0 a.fine.stack.1 p (prefix_kind b x owed ts os q a.fine)) a)
 run_agrees {os = os} b ts (inner_mark token g) w a = run_agrees _ ts g w (quiet_agrees b _ ts os (inner_step b token b.current refl) a)
 run_agrees {os = os} b ts (guarded hides keeps y g) w a = run_agrees _ ts g w (quiet_agrees b _ ts os (guards_step b hides keeps y b.current refl) a)
 run_agrees {os = os} b ts (breaks_rule token rule g) w a = run_agrees _ ts g w (quiet_agrees b _ ts os (rule_step b token rule) a)

@@ -20,17 +20,17 @@ use Rattle.sim_scope.specs.declared.types.SimType.{SimType}
 use Rattle.sim_scope.specs.declared.types.SimType.TheVariants as t
 use Rattle.sim_scope.specs.Access.{block_at}
 use Rattle.sim_scope.specs.Building.{Breaks, Brings, Closes, Declares, DeclaresClass, DeclaresProcedure, Headed, Inner, Mark, Moded, Opens, Parameter, Prefixes, Protects, Provides, Qualifies, Specified}
-use Rattle.sim_scope.specs.Declare.{declaring, inner_marks}
+use Rattle.sim_scope.specs.Declare.{declaring, inner_marks, prefixed_marks}
 use Rattle.sim_scope.specs.Expressions.{judge_side}
 use Rattle.sim_scope.specs.Levels.{base}
 use Rattle.sim_scope.specs.Scopes.{binding}
 use Rattle.sim_scope.specs.Source.{Source}
 use Rattle.sim_scope.specs.Walk.{arms_events, begin_of, block_events, class_events, declaration_events, declarations_events, program_events, statement_events, statements_events, whole_events}
 use Rattle.inspect_types.specs.Connecting.{Connecting, Connects, Looks, Names, class_of_name as connected_name, class_of_type as connected_type, connections}
-use Rattle.sim_meaning.specs.Texts.{BlockText, ClassText, ProcedureText, Text, arms_texts, block_texts, declaration_texts, declarations_texts, program_texts, statement_texts, statements_texts, text, prefix_texts}
+use Rattle.sim_meaning.specs.Texts.{BlockText, ClassText, ProcedureText, Text, arms_texts, block_texts, declaration_texts, declarations_texts, program_texts, statement_texts, statements_texts, text, prefix_texts, PrefixedText, prefixed_texts}
 use Rattle.sim_agree.specs.Places.{class_of_name, class_of_type}
 use Rattle.sim_agree.proofs.Groups.{NoBreaks}
-use Rattle.sim_agree.specs.Plain.{Each, Plain, PlainArms, PlainBlock, PlainDeclaration, PlainDeclarations, PlainStatement, PlainStatements, PlainPrefix}
+use Rattle.sim_agree.specs.Plain.{Each, Plain, PlainArms, PlainBlock, PlainDeclaration, PlainDeclarations, PlainStatement, PlainStatements, PlainPrefix, PlainName}
 use Rattle.sim_agree.proofs.PlainNames.{no_prefix_texts}
 
 -- ---- what is known
@@ -120,6 +120,7 @@ abbrev mutual
   FittedStatement s C w (syntax.Choose i e a b) = DotsExpression e × FittedStatement s C w a × FittedStatements s C w b
   FittedStatement s C w (syntax.Repeat i e a) = DotsExpression e × FittedStatement s C w a
   FittedStatement s C w (syntax.For i name sign j elements a) = Each DotsElement elements × FittedStatement s C w a
+  FittedStatement s C w (syntax.Prefixed class es b) = DotsExpressions es
   FittedStatement s C w (syntax.Inner i) = Given w
   FittedStatement s C w (syntax.Inspect i e opening a end b) =
       DotsExpression e × C opening (class_of_type s.tables (judge_side s.tables extent.Statement e).value.ty) × FittedStatement s C false a × FittedStatements s C w b
@@ -143,6 +144,7 @@ abbrev pub TextFitted : Source → Meets → Text → Type 0
 TextFitted s C (BlockText i ds ss) = DotsDeclarations ds × FittedStatements s C false ss
 TextFitted s C (ProcedureText result h a) = FittedStatement s C false a
 TextFitted s C (ClassText prefix h ds ss) = DotsDeclarations ds × FittedStatements s C true ss
+TextFitted s C (PrefixedText class es ds ss) = DotsDeclarations ds × FittedStatements s C false ss
 TextFitted s C _ = Unit {0}
 
 abbrev AllFitted : Source → Meets → List Text → Type 0
@@ -349,7 +351,7 @@ module _ (s : Source) (C : Meets) where
         let x = arms_fitted arms p.1 n.0 j.0 (in_statements other l) d.1.0 d.1.1 in
         let y = statements_fitted Inside w (λ z. absurd z) other tt p.2 n.1 j.1 l x.2.0 x.2.1 in
         ((d.0, x.0, y.0), both_fitted s C (arms_texts arms) (statements_texts other) x.1 y.1, y.2)
-    statement_fitted q w f (syntax.Prefixed class es x) c p b k l from h = absurd p
+    statement_fitted q w f (syntax.Prefixed class es x) c p b k l from h = prefixed_fitted class es x p.0 p.2 b k l from h
     statement_fitted q w f (syntax.Activate i word e schedule) c p b k l from h = absurd p
 
     arms_fitted : (arms : Arms) → PlainArms arms → NoBreaks (arms_events declaring arms) → Connected s C (arms_events connections arms) → (l : List Spot) (from : ℕ) → Ascends from (in_arms arms l) → FittedArms s C arms × AllFitted s C (arms_texts arms) × Rest l
@@ -373,6 +375,19 @@ module _ (s : Source) (C : Meets) where
         let x = statement_fitted q w f a (in_class q a c) p.0 n.0 j.0 (in_statements more l) from h in
         let y = statements_fitted q w f more c p.1 n.1 j.1 l x.2.0 x.2.1 in
         ((x.0, y.0), both_fitted s C (statement_texts a) (statements_texts more) x.1 y.1, y.2)
+
+    prefixed_fitted : (class : Identifier) (es : Expressions) (x : Block) → PlainName class → PlainBlock x → NoBreaks (prefixed_marks class (begin_of x) ++ whole_events declaring x) → Connected s C (whole_events connections x) → (l : List Spot) (from : ℕ)
+        → Ascends from (in_expression (syntax.Named class es) (in_block x l)) → DotsExpressions es × AllFitted s C (prefixed_texts class es x) × Rest l
+    prefixed_fitted class es (Begin i ds ss end) w p b k l from h =
+        let d = one_dots (syntax.Named class es) (in_block (Begin i ds ss end) l) from h in
+        let o = both_unbroken (prefixed_marks class i) (declarations_events declaring ds ++ (statements_events declaring Inside ss ++ Closes end ∷ [])) b in
+        let n = both_unbroken (declarations_events declaring ds) (statements_events declaring Inside ss ++ Closes end ∷ []) o.1 in
+        let m = both_unbroken (statements_events declaring Inside ss) (Closes end ∷ []) n.1 in
+        let j = parts_connect s C (declarations_events connections ds) (statements_events connections Inside ss ++ []) k in
+        let g = parts_connect s C (statements_events connections Inside ss) [] j.1 in
+        let x = declarations_fitted ds p.0 n.0 j.0 (in_statements ss (Behind end ∷ l)) (i + 1) d.1.1.1 in
+        let y = statements_fitted Inside false (λ z. z) ss tt p.1 m.0 g.0 (Behind end ∷ l) x.2.0 x.2.1 in
+        (d.0, ((x.0, y.0), fitted_prefix s C (Some class) w (declarations_texts ds ++ statements_texts ss) (both_fitted s C (declarations_texts ds) (statements_texts ss) x.1 y.1)), (end, y.2.1.1))
 
     block_fitted : (w : Bool) (x : Block) → PlainBlock x → NoBreaks (block_events declaring x) → Connected s C (block_events connections x) → (l : List Spot) (from : ℕ) → Ascends from (in_block x l) → FittedBlock s C w x × AllFitted s C (block_texts x) × Rest l
     block_fitted w (Begin i NoDeclaration ss end) p b k l from h =

@@ -6,7 +6,7 @@ use Rattle.sim_tree.specs.declared.stmt.Mode.TheVariants as word
 use Rattle.sim_tree.specs.declared.stmt.TypeName.{TypeName}
 use Rattle.sim_tree.specs.declared.stmt.TypeName.TheVariants as type_name
 use Rattle.sim_tree.specs.declared.stmt.Variable.{Variable}
-use Rattle.sim_tree.specs.Syntax.{Also, Arms, Arrayed, Arrays, Begin, Block, Compound, Declarations, DeclareClass, DeclareProcedure, Heading, Interface, Moded as ModePart, NoArm, NoDeclaration, NoStatement, Prefix, Program, Specification, Specified as Specifier, Statement, Statements, Variables, When, With, Protected}
+use Rattle.sim_tree.specs.Syntax.{Also, Arms, Arrayed, Arrays, Begin, Block, Compound, Declarations, DeclareClass, DeclareProcedure, Heading, Interface, Moded as ModePart, NoArm, NoDeclaration, NoStatement, Prefix, Program, Specification, Specified as Specifier, Statement, Statements, Variables, When, With, Protected, Expressions}
 use Rattle.sim_tree.specs.Syntax as syntax
 use Rattle.sim_base.specs.declared.rule.Rule.{Rule}
 use Rattle.sim_base.specs.declared.rule.Rule.TheVariants as r
@@ -23,10 +23,10 @@ use Rattle.sim_scope.specs.declared.types.SimType.{SimType}
 use Rattle.sim_scope.specs.declared.types.SimType.TheVariants as t
 use Rattle.sim_scope.specs.Bodies.{body_declarations, body_statements}
 use Rattle.sim_scope.specs.Building.{Breaks, Closes, Declares, DeclaresClass, DeclaresProcedure, Headed, Inner, Mark, Moded, Opens, Parameter, Qualifies, Specified, Prefixes, Protects}
-use Rattle.sim_scope.specs.Declare.{array_marks, class_marks, class_prefix_marks, declaring, first_of_class, first_of_procedure, headed_marks, heading_marks, inner_marks, interface_marks, mode_named, mode_part_marks, moded_marks, parameter_marks, procedure_marks, program_marks, protection_marks, qualified_marks, qualified_result, result_named, segment_marks, specification_marks, specified_marks, type_named, variable_marks, virtual_marks, marks_of_standard, prefix_marks, standard_marks, is_written, protected_marks}
+use Rattle.sim_scope.specs.Declare.{array_marks, class_marks, class_prefix_marks, declaring, first_of_class, first_of_procedure, headed_marks, heading_marks, inner_marks, interface_marks, mode_named, mode_part_marks, moded_marks, parameter_marks, procedure_marks, program_marks, protection_marks, qualified_marks, qualified_result, result_named, segment_marks, specification_marks, specified_marks, type_named, variable_marks, virtual_marks, marks_of_standard, prefix_marks, standard_marks, is_written, protected_marks, prefixed_marks}
 use Rattle.sim_scope.specs.Runs.{each}
 use Rattle.sim_scope.specs.Walk.{arms_events, begin_of, block_events, declaration_events, declarations_events, program_events, statement_events, statements_events, whole_events}
-use Rattle.sim_meaning.specs.Texts.{BlockText, ClassText, ConnectionText, ProcedureText, Text, arms_texts, block_texts, declaration_texts, declarations_texts, prefix_texts, program_texts, statement_texts, statements_texts}
+use Rattle.sim_meaning.specs.Texts.{BlockText, ClassText, ConnectionText, ProcedureText, Text, arms_texts, block_texts, declaration_texts, declarations_texts, prefix_texts, program_texts, statement_texts, statements_texts, PrefixedText, prefixed_texts}
 use Rattle.sim_agree.specs.Plain.{Each, Plain, PlainArms, PlainBlock, PlainDeclarations, PlainHeading, PlainInterface, PlainMode, PlainSpecification, PlainStatement, PlainStatements, PlainWord, PlainName, PlainPrefix}
 use Rattle.sim_agree.proofs.PlainNames.{no_prefix_texts, no_standard_prefix}
 
@@ -59,12 +59,14 @@ item x owed = record { text = x; owed = owed }
 abbrev pub declared_in_text : Text → Declarations
 declared_in_text (BlockText i ds ss) = ds
 declared_in_text (ClassText prefix h ds ss) = ds
+declared_in_text (PrefixedText class es ds ss) = ds
 declared_in_text _ = NoDeclaration
 
--- a block or a class
+-- a block, with a prefix or not, or a class
 abbrev pub Declaring : Text → Type 0
 Declaring (BlockText i ds ss) = Unit {0}
 Declaring (ClassText prefix h ds ss) = Unit {0}
+Declaring (PrefixedText class es ds ss) = Unit {0}
 Declaring _ = ⊥
 
 -- a procedure or a class
@@ -72,6 +74,12 @@ abbrev pub Taking : Text → Type 0
 Taking (ProcedureText result h a) = Unit {0}
 Taking (ClassText prefix h ds ss) = Unit {0}
 Taking _ = ⊥
+
+-- a class or a block with a prefix
+abbrev pub Prefixing : Text → Type 0
+Prefixing (ClassText prefix h ds ss) = Unit {0}
+Prefixing (PrefixedText class es ds ss) = Unit {0}
+Prefixing _ = ⊥
 
 -- a variable, a constant or an array
 abbrev pub OwnEntry : Entry → Type 0
@@ -154,6 +162,8 @@ pub data Grouped : List Open → List Mark → List Text → Type 0 where
   nothing : {os : List Open} → os ≡ [] → Grouped os [] []
   block : {os : List Open} {ms : List Mark} {xs : List Text} (k : BlockKind) (text first i : ℕ) (ds : Declarations) (ss : Statements) → PlainKind k
       → Grouped (item (BlockText i ds ss) (own_marks ds) ∷ os) ms xs → Grouped os (Opens k text first ∷ ms) (BlockText i ds ss ∷ xs)
+  prefixed_block : {os : List Open} {ms : List Mark} {xs : List Text} (text first : ℕ) (class : Identifier) (es : Expressions) (ds : Declarations) (ss : Statements)
+      → Grouped (item (PrefixedText class es ds ss) (own_marks ds) ∷ os) ms xs → Grouped os (Opens kind.Prefixed text first ∷ ms) (PrefixedText class es ds ss ∷ xs)
   connects : {os : List Open} {ms : List Mark} {xs : List Text} (text first : ℕ)
       → Grouped (item ConnectionText [] ∷ os) ms xs → Grouped os (Opens kind.Connection text first ∷ ms) (ConnectionText ∷ xs)
   procedure : {os : List Open} {ms : List Mark} {xs : List Text} (text first : ℕ) (x : Text) (owed quals : List Mark) (result : Option TypeName) (h : Heading) (a : Statement) → Declaring x → NoHeaded owed → Quals (AreReferences (result_named result)) quals
@@ -171,8 +181,8 @@ pub data Grouped : List Open → List Mark → List Text → Type 0 where
       → Grouped os ms xs → Grouped os (Specified y k ty ∷ (quals ++ ms)) xs
   headed : {os : List Open} {ms : List Mark} {xs : List Text} (x : Text) (owed : List Mark) (y : Identifier)
       → Grouped (item x owed ∷ os) ms xs → Grouped (item x (Headed y ∷ owed) ∷ os) (Headed y ∷ ms) xs
-  prefixes : {os : List Open} {ms : List Mark} {xs : List Text} (prefix : Option Identifier) (h : Heading) (ds : Declarations) (ss : Statements) (owed : List Mark) (y : Identifier) → PlainName y
-      → Grouped (item (ClassText prefix h ds ss) owed ∷ os) ms xs → Grouped (item (ClassText prefix h ds ss) owed ∷ os) (Prefixes y ∷ ms) xs
+  prefixes : {os : List Open} {ms : List Mark} {xs : List Text} (x : Text) (owed : List Mark) (y : Identifier) → Prefixing x → PlainName y
+      → Grouped (item x owed ∷ os) ms xs → Grouped (item x owed ∷ os) (Prefixes y ∷ ms) xs
   inner_mark : {os : List Open} {ms : List Mark} {xs : List Text} (token : ℕ) → Grouped os ms xs → Grouped os (Inner token ∷ ms) xs
   guarded : {os : List Open} {ms : List Mark} {xs : List Text} (hides keeps : Bool) (y : Identifier) → Grouped os ms xs → Grouped os (Protects hides keeps y ∷ ms) xs
   breaks_rule : {os : List Open} {ms : List Mark} {xs : List Text} (token : ℕ) (rule : Rule) → Grouped os ms xs → Grouped os (Breaks token rule ∷ ms) xs
@@ -407,7 +417,7 @@ prefix_adds : (prefix other : Option Identifier) → PlainPrefix prefix → (fir
 unfolding class_prefix_marks
 prefix_adds None other p first h ds ss owed os = none
 prefix_adds (Some y) other p first h ds ss owed os =
-    as_marks (Prefixes y ∷ []) (prefix_marks first y) (sym (plain_prefix first y p)) (record { before = λ ms xs g. prefixes other h ds ss owed y p g })
+    as_marks (Prefixes y ∷ []) (prefix_marks first y) (sym (plain_prefix first y p)) (record { before = λ ms xs g. prefixes (ClassText other h ds ss) owed y tt p g })
 
 begins_class : (x : Text) → Declaring x → (owed : List Mark) → NoHeaded owed → (os : List Open) (prefix : Option Identifier) → PlainPrefix prefix → (token : ℕ) (h : Heading) (ds : Declarations) (ss : Statements)
     → Adds (item x owed ∷ os) (class_marks prefix token h.name) (ClassText prefix h ds ss ∷ []) (item (ClassText prefix h ds ss) (each headed_marks h.formals ++ own_marks ds) ∷ item x owed ∷ os)
@@ -416,6 +426,13 @@ begins_class x d owed n os prefix p token h ds ss = record {
   before = λ ms xs g.
       declares_class (first_of_class prefix token) h.name.token.0 x owed prefix h ds ss d n ((prefix_adds prefix prefix p h.name.token.0 h ds ss (each headed_marks h.formals ++ own_marks ds) (item x owed ∷ os)).before ms xs g);
 }
+
+begins_prefixed : (class : Identifier) → PlainName class → (i : ℕ) (es : Expressions) (ds : Declarations) (ss : Statements) (os : List Open)
+    → Adds os (prefixed_marks class i) (PrefixedText class es ds ss ∷ []) (item (PrefixedText class es ds ss) (own_marks ds) ∷ os)
+unfolding prefixed_marks
+begins_prefixed class p i es ds ss os =
+    as_marks (Opens kind.Prefixed class.token.0 i ∷ Prefixes class ∷ []) (Opens kind.Prefixed class.token.0 i ∷ prefix_marks i class) (ap (λ z. Opens kind.Prefixed class.token.0 i ∷ z) (sym (plain_prefix i class p)))
+    (record { before = λ ms xs g. prefixed_block class.token.0 i class es ds ss (prefixes (PrefixedText class es ds ss) (own_marks ds) class tt p g) })
 
 ends : (x : Text) (end : ℕ) (os : List Open) → Adds (item x [] ∷ os) (Closes end ∷ []) [] os
 ends x end os = record { before = λ ms xs g. closes x end g }
@@ -500,7 +517,7 @@ mutual
   statement_adds c (syntax.Empty i) os p = none
   statement_adds true (syntax.Compound b) os p = block_adds b os p
   statement_adds false (syntax.Compound b) os p = block_adds b os p
-  statement_adds c (syntax.Prefixed x args b) os p = absurd p
+  statement_adds c (syntax.Prefixed x args b) os p = prefixed_adds x args b os p.0 p.2
   statement_adds true (syntax.Inner i) os p = record { before = λ ms xs g. inner_mark i g }
   statement_adds false (syntax.Inner i) os p = record { before = λ ms xs g. breaks_rule i r.InnerOutOfPlace g }
   statement_adds c (syntax.Call e) os p = none
@@ -531,7 +548,7 @@ mutual
   class_body_adds prefix (syntax.Compound (Begin i ds ss e)) h os p one =
       both (declarations_add (ClassText prefix h ds ss) tt os ds (λ y quals w. w) p.0) (statements_add true ss (item (ClassText prefix h ds ss) [] ∷ os) p.1)
   class_body_adds prefix (syntax.Empty i) h os p one = none
-  class_body_adds prefix (syntax.Prefixed x args b) h os p one = absurd p
+  class_body_adds prefix (syntax.Prefixed x args b) h os p one = as_texts (statement_texts (syntax.Prefixed x args b)) (statement_texts (syntax.Prefixed x args b) ++ []) (sym (append-nil (statement_texts (syntax.Prefixed x args b)))) (one (item (ClassText prefix h NoDeclaration (Also (syntax.Prefixed x args b) NoStatement)) [] ∷ os))
   class_body_adds prefix (syntax.Inner i) h os p one = as_texts (statement_texts (syntax.Inner i)) (statement_texts (syntax.Inner i) ++ []) (sym (append-nil (statement_texts (syntax.Inner i)))) (one (item (ClassText prefix h NoDeclaration (Also (syntax.Inner i) NoStatement)) [] ∷ os))
   class_body_adds prefix (syntax.Call e) h os p one = as_texts (statement_texts (syntax.Call e)) (statement_texts (syntax.Call e) ++ []) (sym (append-nil (statement_texts (syntax.Call e)))) (one (item (ClassText prefix h NoDeclaration (Also (syntax.Call e) NoStatement)) [] ∷ os))
   class_body_adds prefix (syntax.Assign left rest) h os p one = as_texts (statement_texts (syntax.Assign left rest)) (statement_texts (syntax.Assign left rest) ++ []) (sym (append-nil (statement_texts (syntax.Assign left rest)))) (one (item (ClassText prefix h NoDeclaration (Also (syntax.Assign left rest) NoStatement)) [] ∷ os))
@@ -541,6 +558,16 @@ mutual
   class_body_adds prefix (syntax.Inspect i object d a e rest) h os p one = as_texts (statement_texts (syntax.Inspect i object d a e rest)) (statement_texts (syntax.Inspect i object d a e rest) ++ []) (sym (append-nil (statement_texts (syntax.Inspect i object d a e rest)))) (one (item (ClassText prefix h NoDeclaration (Also (syntax.Inspect i object d a e rest) NoStatement)) [] ∷ os))
   class_body_adds prefix (syntax.InspectWhen i object whens rest) h os p one = as_texts (statement_texts (syntax.InspectWhen i object whens rest)) (statement_texts (syntax.InspectWhen i object whens rest) ++ []) (sym (append-nil (statement_texts (syntax.InspectWhen i object whens rest)))) (one (item (ClassText prefix h NoDeclaration (Also (syntax.InspectWhen i object whens rest) NoStatement)) [] ∷ os))
   class_body_adds prefix (syntax.Activate i word process schedule) h os p one = absurd p
+
+  prefixed_adds : (x : Identifier) (args : Expressions) (b : Block) (os : List Open) → PlainName x → PlainBlock b → Adds os (prefixed_marks x (begin_of b) ++ whole_events declaring b) (prefixed_texts x args b) os
+  prefixed_adds x args (Begin i ds ss e) os w p =
+      let y : Text = PrefixedText x args ds ss in
+      as_texts (y ∷ (declarations_texts ds ++ statements_texts ss)) (prefixed_texts x args (Begin i ds ss e)) (ap (λ z. y ∷ (z ++ (declarations_texts ds ++ statements_texts ss))) (sym (no_prefix_texts (Some x) w)))
+      (as_marks (prefixed_marks x i ++ ((declarations_events declaring ds ++ statements_events declaring Inside ss) ++ Closes e ∷ [])) (prefixed_marks x i ++ (declarations_events declaring ds ++ (statements_events declaring Inside ss ++ Closes e ∷ [])))
+      (ap (λ z. prefixed_marks x i ++ z) (append_assoc (declarations_events declaring ds) (statements_events declaring Inside ss) (Closes e ∷ [])))
+      (both (begins_prefixed x w i args ds ss os)
+      (inside_block os y (own_marks ds) (declarations_events declaring ds) (statements_events declaring Inside ss) (declarations_texts ds) (statements_texts ss) e
+      (declarations_add y tt os ds (λ z quals w. w) p.0) (statements_add false ss (item y [] ∷ os) p.1))))
 
   block_adds : (b : Block) (os : List Open) → PlainBlock b → Adds os (block_events declaring b) (block_texts b) os
   block_adds (Begin i NoDeclaration ss e) os p = statements_add false ss os p.1

@@ -5,7 +5,7 @@ use Rattle.std.proofs.lemmas.Option.{slice_get_within}
 use Rattle.sim_base.specs.declared.numbering.DeclNo.{DeclNo}
 use Rattle.sim_tree.specs.declared.stmt.TypeName.{TypeName}
 use Rattle.sim_tree.specs.Order.{InOrder}
-use Rattle.sim_tree.specs.Syntax.{Declarations, Heading, Statement, Statements}
+use Rattle.sim_tree.specs.Syntax.{Heading, Statement}
 use Rattle.sim_scope.specs.declared.scopes.Declaration.{Declaration}
 use Rattle.sim_scope.specs.declared.types.Entry.{Entry}
 use Rattle.sim_scope.specs.declared.types.Entry.TheVariants as entry
@@ -25,7 +25,7 @@ use Rattle.sim_scope.specs.Tables.{BlockOf}
 use Rattle.sim_meaning.specs.Closing as closing
 use Rattle.sim_meaning.specs.Closing.{class_parameters}
 use Rattle.sim_meaning.specs.Entries.{formals_from, formals_of, numbers_in, numbers_of}
-use Rattle.sim_meaning.specs.Texts.{BlockText, ClassText, ProcedureText, Text, text}
+use Rattle.sim_meaning.specs.Texts.{ClassText, ProcedureText, Text, text}
 use Rattle.sim_sound.specs.Held.{Among, ArrayOf, Holds, IsFormal, first, formal_holds, held_by, later}
 use Rattle.sim_sound.specs.Typed.{ClassThere, Distinct, FormalsAre, NoFormal, NoFormals, ProcedureThere}
 use Rattle.sim_agree.specs.Plain.{Plain}
@@ -164,6 +164,14 @@ module _ (s : Source) (of : TablesOf s) (plain : Plain s.program) (order : InOrd
       go : (o : Option BlockOf) → slice_get s.tables.blocks k ≡ o → slice_get (formals_in o) n ≡ Some d → (f : Formal) × (entry_of s.tables d ≡ Some (entry.Formal f))
       go None at f = absurd (cc)
       go (Some row) at f = let i = in_front_specified k row at n d f in (i.formal, i.entry)
+
+  -- and listed
+  pub formal_listed : (k n : ℕ) (d : DeclNo) → slice_get (formals_in (slice_get s.tables.blocks k)) n ≡ Some d → Among d (numbers_of s k)
+  formal_listed k n d e = go (slice_get s.tables.blocks k) e
+    where
+      go : (o : Option BlockOf) → slice_get (formals_in o) n ≡ Some d → Among d (numbers_in o)
+      go None f = absurd (cc)
+      go (Some row) f = at_among row.numbers n d (taken_at row.formals row.numbers n d f).0
 
   block_formals : (k : ℕ) (row : BlockOf) → slice_get s.tables.blocks k ≡ Some row → FormalsAre s (take row.formals row.numbers) (formals_from s (take row.formals row.numbers))
   block_formals k row at = formals_are (take row.formals row.numbers) (in_front_specified k row at)
@@ -318,10 +326,10 @@ module _ (s : Source) (of : TablesOf s) (plain : Plain s.program) (order : InOrd
       go [] h = tt
       go (d ∷ ns) h = (λ a. (let q = place d ns a in let lt : d.0 < d.0 = h 0 (suc q.0) d d refl q.1 (omega arith) in omega (arith, lt)), go ns (λ n m e f at to lt. h (suc n) (suc m) e f at to (omega (arith, lt))))
 
-  -- a block has no parameters
-  pub no_formals : (k i : ℕ) (ds : Declarations) (ss : Statements) → text s k ≡ Some (BlockText i ds ss) → NoFormals s (numbers_of s k)
+  -- what takes none has no parameters
+  pub no_formals : (k : ℕ) (z : Text) → (Taking z → ⊥) → text s k ≡ Some z → NoFormals s (numbers_of s k)
   unfolding text
-  no_formals k i ds ss is = each (numbers_of s k) (λ d a. a)
+  no_formals k z free is = each (numbers_of s k) (λ d a. a)
     where
       of_own : (o e : Entry) → OwnEntry o → Alike o e → NoFormal (Some e)
       of_own o (entry.Variable ty) q a = tt
@@ -345,11 +353,11 @@ module _ (s : Source) (of : TablesOf s) (plain : Plain s.program) (order : InOrd
       of_procedures x n (entry.Attribute name given y) a = tt
       of_procedures x n (entry.Formal f) a = absurd a
 
-      in_row : (x : Text) → Some x ≡ Some (BlockText i ds ss) → (d : ℕ) (row : Declaration) → RowIn (Bs s of plain order) (Ts s of plain order) x d row → NoFormal (Some row.entry)
+      in_row : (x : Text) → Some x ≡ Some z → (d : ℕ) (row : Declaration) → RowIn (Bs s of plain order) (Ts s of plain order) x d row → NoFormal (Some row.entry)
       in_row x f d row (own_row y p) = of_own p.entry row.entry p.fits p.alike
       in_row x f d row (procedure_row y p) = of_procedures (result_named p.result) p.number row.entry p.entry
       in_row x f d row (class_row y p) = subst (λ z. NoFormal (Some z)) (sym p.entry) tt
-      in_row x f d row (formal_row y p) = absurd (subst Taking (some_same x (BlockText i ds ss) f) y)
+      in_row x f d row (formal_row y p) = absurd (free (subst Taking (some_same x z f) y))
 
       one : (d : DeclNo) → Among d (numbers_of s k) → NoFormal (entry_of s.tables d)
       one d a =

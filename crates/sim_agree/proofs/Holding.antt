@@ -37,7 +37,7 @@ use Rattle.sim_agree.specs.TablesOf.{TablesOf}
 use Rattle.sim_agree.proofs.Calm.{declared_calm}
 use Rattle.sim_agree.proofs.Completing.{bare_row}
 use Rattle.sim_agree.proofs.Tables as tables
-use Rattle.sim_agree.proofs.Groups.{Grouped, OfReferences, Open, OwnEntry, Quals, block, breaks_rule, closes, connects, declares, declares_class, headed as headed_mark, inner_mark, moded as moded_mark, nothing, parameter as parameter_mark, procedure, program_grouped, qualifies, specified as specified_mark, unqualified, prefixes, guarded}
+use Rattle.sim_agree.proofs.Groups.{Grouped, OfReferences, Open, OwnEntry, Quals, block, breaks_rule, closes, connects, declares, declares_class, headed as headed_mark, inner_mark, moded as moded_mark, nothing, parameter as parameter_mark, procedure, program_grouped, qualifies, specified as specified_mark, unqualified, prefixes, guarded, prefixed_block}
 
 -- a block is said to have a class
 abbrev pub flag : Option BlockOf â†’ Bool
@@ -342,6 +342,7 @@ run_held : {os : List Open} {ms : List Mark} {xs : List Text} (b : BuildingOf) â
 unfolding run marked
 run_held b (nothing e) h = h
 run_held b (block k text first i ds ss p g) h = run_held (opened b k text first) g (opened_held b k text first h)
+run_held b (prefixed_block text first class es ds ss g) h = run_held (opened b kind.Prefixed text first) g (opened_held b kind.Prefixed text first h)
 run_held b (connects text first g) h = run_held (opened b kind.Connection text first) g (opened_held b kind.Connection text first h)
 run_held b (procedure text first x owed quals result hd a dx nh q g) h =
     let c : BuildingOf = declared b hd.name (entry.Procedure (result_named result) (length b.tables.blocks)) in
@@ -365,7 +366,7 @@ run_held b (specified_mark quals y k ty pf q g) h =
     (quals_held (specified (record b { latest = found_in b.tables b.current y.name }) y.token k ty (found_in b.tables b.current y.name)) _ quals q
     (held_same (record b { latest = found_in b.tables b.current y.name }) _ (specified_grows (record b { latest = found_in b.tables b.current y.name }) y.token k ty (found_in b.tables b.current y.name)) h)))
 run_held b (headed_mark x owed y g) h = run_held (headed b y.token (unspecified_at b.tables (found_in b.tables b.current y.name))) g (headed_held b y.token (unspecified_at b.tables (found_in b.tables b.current y.name)) h)
-run_held b (prefixes prefix hd ds ss owed y p g) h = run_held (changed b (prefixed_by y) b.current) g (prefix_held b y b.current h)
+run_held b (prefixes x owed y q p g) h = run_held (changed b (prefixed_by y) b.current) g (prefix_held b y b.current h)
 run_held b (inner_mark token g) h = run_held (inner b token b.current) g (inner_held b token b.current h)
 run_held b (guarded hides keeps y g) h = run_held (guards b hides keeps y b.current) g (guards_held b hides keeps y b.current h)
 run_held b (breaks_rule token rule g) h = run_held (broken b token rule) g h

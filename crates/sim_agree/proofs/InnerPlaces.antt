@@ -6,16 +6,16 @@ use Rattle.sim_scope.specs.declared.types.Position.TheVariants.{ClassBody, Class
 use Rattle.sim_scope.specs.Breaks.{all_breaks, breaks, broken_by}
 use Rattle.sim_scope.specs.Building.{Breaks, Brings, BuildingOf, Closes, Declares, DeclaresClass, DeclaresProcedure, Headed, Inner, Mark, Moded, Opens, Parameter, Prefixes, Protects, Provides, Qualifies, Specified, marked}
 use Rattle.sim_tree.specs.declared.expr.Identifier.{Identifier}
-use Rattle.sim_scope.specs.Declare.{class_marks, declared_by, declaring, empty, heading_marks, inner_marks, interface_marks, procedure_marks, program_marks}
+use Rattle.sim_scope.specs.Declare.{class_marks, declared_by, declaring, empty, heading_marks, inner_marks, interface_marks, procedure_marks, program_marks, prefixed_marks}
 use Rattle.sim_scope.specs.Least.{IsLeast, least, nothing}
 use Rattle.sim_scope.specs.Source.{Source}
-use Rattle.sim_scope.specs.Walk.{arms_events, declaration_events, declarations_events, program_events, statement_events, statements_events}
+use Rattle.sim_scope.specs.Walk.{arms_events, declaration_events, declarations_events, program_events, statement_events, statements_events, begin_of, whole_events}
 use Rattle.sim_scope.proofs.Breaking.{least_declared}
-use Rattle.sim_tree.specs.Syntax.{Also, Arms, Arrays, Begin, Block, Declaration, Declarations, DeclareClass, DeclareProcedure, NoArm, NoDeclaration, NoStatement, Prefix, Program, Statement, Statements, Variables, When, With}
+use Rattle.sim_tree.specs.Syntax.{Also, Arms, Arrays, Begin, Block, Declaration, Declarations, DeclareClass, DeclareProcedure, NoArm, NoDeclaration, NoStatement, Prefix, Program, Statement, Statements, Variables, When, With, Expressions}
 use Rattle.sim_tree.specs.Syntax as syntax
-use Rattle.sim_meaning.specs.Texts.{BlockText, ClassText, ProcedureText, Text, arms_texts, block_texts, declaration_texts, declarations_texts, program_texts, statement_texts, statements_texts, text, prefix_texts}
+use Rattle.sim_meaning.specs.Texts.{BlockText, ClassText, ProcedureText, Text, arms_texts, block_texts, declaration_texts, declarations_texts, program_texts, statement_texts, statements_texts, text, prefix_texts, PrefixedText, prefixed_texts}
 use Rattle.sim_agree.specs.Inners.{NoInner, NoInnerArms, NoInnerWithin, NoInners}
-use Rattle.sim_agree.specs.Plain.{Each, Plain, PlainArms, PlainBlock, PlainDeclaration, PlainDeclarations, PlainStatement, PlainStatements, PlainPrefix}
+use Rattle.sim_agree.specs.Plain.{Each, Plain, PlainArms, PlainBlock, PlainDeclaration, PlainDeclarations, PlainStatement, PlainStatements, PlainPrefix, PlainName}
 use Rattle.sim_agree.proofs.PlainNames.{no_prefix_texts}
 use Rattle.sim_agree.specs.TablesOf.{TablesOf}
 
@@ -129,6 +129,7 @@ abbrev pub InPlace : Text → Type 0
 InPlace (BlockText begin ds ss) = NoInners ss
 InPlace (ProcedureText result h a) = NoInner a
 InPlace (ClassText prefix h ds ss) = OrInners ss
+InPlace (PrefixedText class es ds ss) = NoInners ss
 InPlace _ = Unit {0}
 
 both_each : (xs ys : List Text) → Each InPlace xs → Each InPlace ys → Each InPlace (xs ++ ys)
@@ -173,7 +174,7 @@ placed_behind : (prefix : Option Identifier) → PlainPrefix prefix → (xs : Li
 placed_behind prefix w xs a = subst (λ z. Each InPlace (z ++ xs)) (sym (no_prefix_texts prefix w)) a
 
 mutual
-  unfolding declaring inner_marks
+  unfolding declaring inner_marks prefixed_marks
 
   statement_placed : (a : Statement) → PlainStatement a → Free (statement_events declaring Inside a) → Each InPlace (statement_texts a)
   statement_placed (syntax.Empty i) p f = tt
@@ -190,7 +191,7 @@ mutual
       let behind = Closes end ∷ statements_events declaring Inside other in (tt, both_each (statement_texts x) (statements_texts other) (statement_placed x p.1 (front events behind f.1)) (statements_placed other p.2 (back events behind f.1).1))
   statement_placed (syntax.InspectWhen i e arms other) p f =
       both_each (arms_texts arms) (statements_texts other) (arms_placed arms p.1 (front (arms_events declaring arms) (statements_events declaring Inside other) f)) (statements_placed other p.2 (back (arms_events declaring arms) (statements_events declaring Inside other) f))
-  statement_placed (syntax.Prefixed class arguments b) p f = absurd p
+  statement_placed (syntax.Prefixed class arguments b) p f = prefixed_placed class arguments b p.0 p.2 (back (prefixed_marks class (begin_of b)) (whole_events declaring b) f)
   statement_placed (syntax.Activate i word e schedule) p f = absurd p
 
   arms_placed : (arms : Arms) → PlainArms arms → Free (arms_events declaring arms) → Each InPlace (arms_texts arms)
@@ -203,6 +204,13 @@ mutual
   statements_placed NoStatement p f = tt
   statements_placed (Also x more) p f =
       both_each (statement_texts x) (statements_texts more) (statement_placed x p.0 (front (statement_events declaring Inside x) (statements_events declaring Inside more) f)) (statements_placed more p.1 (back (statement_events declaring Inside x) (statements_events declaring Inside more) f))
+
+  prefixed_placed : (class : Identifier) (arguments : Expressions) (b : Block) → PlainName class → PlainBlock b → Free (whole_events declaring b) → Each InPlace (prefixed_texts class arguments b)
+  prefixed_placed class arguments (Begin i ds ss end) w p f =
+      let first = declarations_events declaring ds in
+      let events = statements_events declaring Inside ss in
+      let body = front events (Closes end ∷ []) (back first (events ++ Closes end ∷ []) f) in
+      (no_inners ss body, placed_behind (Some class) w (declarations_texts ds ++ statements_texts ss) (both_each (declarations_texts ds) (statements_texts ss) (declarations_placed ds p.0 (front first (events ++ Closes end ∷ []) f)) (statements_placed ss p.1 body)))
 
   block_placed : (b : Block) → PlainBlock b → Free (statement_events declaring Inside (syntax.Compound b)) → Each InPlace (block_texts b)
   block_placed (Begin i NoDeclaration ss end) p f = statements_placed ss p.1 f
@@ -244,7 +252,11 @@ mutual
       let events = statement_events declaring ClassBody (syntax.Inner j) in
       let body = front events (Closes end ∷ []) (back heading (events ++ Closes end ∷ []) f) in
       absurd (body.0)
-  declaration_placed (DeclareClass prefix i h interface (syntax.Prefixed class arguments b) end) p f = absurd p.3
+  declaration_placed (DeclareClass prefix i h interface (syntax.Prefixed class arguments b) end) p f =
+      let heading = class_marks prefix i h.name ++ (heading_marks h ++ interface_marks interface) in
+      let events = statement_events declaring ClassBody (syntax.Prefixed class arguments b) in
+      let body = front events (Closes end ∷ []) (back heading (events ++ Closes end ∷ []) f) in
+      ((tt, tt), placed_behind prefix p.0 (statement_texts (syntax.Prefixed class arguments b)) (statement_placed (syntax.Prefixed class arguments b) p.3 body))
   declaration_placed (DeclareClass prefix i h interface (syntax.Activate j word e schedule) end) p f = absurd p.3
   declaration_placed (DeclareClass prefix i h interface (syntax.Empty j) end) p f =
       let heading = class_marks prefix i h.name ++ (heading_marks h ++ interface_marks interface) in

@@ -7,7 +7,7 @@ use Rattle.sim_base.specs.declared.rule.Rule.TheVariants as r
 use Rattle.sim_tree.specs.declared.expr.Identifier.{Identifier}
 use Rattle.sim_tree.specs.declared.stmt.TypeName.{TypeName}
 use Rattle.sim_tree.specs.Order.{InOrder}
-use Rattle.sim_tree.specs.Syntax.{Also, Arms, Arrays, Begin, Block, Declaration, Declarations, DeclareClass, DeclareProcedure, Heading, Interface, NoArm, NoDeclaration, NoStatement, Prefix, Program, Statement, Statements, Variables, When, With}
+use Rattle.sim_tree.specs.Syntax.{Also, Arms, Arrays, Begin, Block, Declaration, Declarations, DeclareClass, DeclareProcedure, Heading, Interface, NoArm, NoDeclaration, NoStatement, Prefix, Program, Statement, Statements, Variables, When, With, Expressions}
 use Rattle.sim_tree.specs.Syntax as syntax
 use Rattle.sim_scope.specs.declared.found.Fault.{Fault}
 use Rattle.sim_scope.specs.declared.types.BlockKind.{BlockKind}
@@ -16,7 +16,7 @@ use Rattle.sim_scope.specs.declared.types.Position.TheVariants.{ClassBody, Class
 use Rattle.sim_scope.specs.Bodies.{body_declarations, body_statements}
 use Rattle.sim_scope.specs.Breaks.{all_breaks, at, breaks, broken_by, inner_breaks, inner_breaks_in, inner_breaks_of}
 use Rattle.sim_scope.specs.Building.{BuildingOf, Closes, DeclaresClass, DeclaresProcedure, Inner, Mark, Opens, broken_if, block_around, closed, closed_at, inner, inner_at, inner_in, level_in, marked, owner_of}
-use Rattle.sim_scope.specs.Declare.{class_marks, class_prefix_marks, declared_by, declaring, empty, first_of_class, first_of_procedure, heading_marks, inner_marks, interface_marks, procedure_marks, program_marks, qualified_result, result_named, segment_marks, variable_marks}
+use Rattle.sim_scope.specs.Declare.{class_marks, class_prefix_marks, declared_by, declaring, empty, first_of_class, first_of_procedure, heading_marks, inner_marks, interface_marks, procedure_marks, program_marks, qualified_result, result_named, segment_marks, variable_marks, prefix_marks, prefixed_marks}
 use Rattle.sim_scope.specs.Runs.{each, run}
 use Rattle.sim_scope.specs.Source.{Source}
 use Rattle.sim_scope.specs.Tables.{BlockOf}
@@ -24,15 +24,16 @@ use Rattle.sim_scope.specs.Walk.{arms_events, begin_of, block_events, declaratio
 use Rattle.sim_scope.proofs.Breaking.{least_declared}
 use Rattle.sim_scope.proofs.Walks.{run-append}
 use Rattle.sim_meaning.specs.Levels.{is_written, written_in}
-use Rattle.sim_meaning.specs.Texts.{BlockText, ClassText, ConnectionText, ProcedureText, Text, arms_texts, block_texts, declaration_texts, declarations_texts, program_texts, statement_texts, statements_texts, text}
+use Rattle.sim_meaning.specs.Texts.{BlockText, ClassText, ConnectionText, ProcedureText, Text, arms_texts, block_texts, declaration_texts, declarations_texts, program_texts, statement_texts, statements_texts, text, PrefixedText, prefixed_texts}
 use Rattle.sim_agree.specs.Inners.{Inners, InnersIn, NoInner, NoInners, OneInner, here, behind}
-use Rattle.sim_agree.specs.Plain.{Plain, PlainArms, PlainBlock, PlainDeclaration, PlainDeclarations, PlainInterface, PlainStatement, PlainStatements, PlainPrefix}
+use Rattle.sim_agree.specs.Plain.{Plain, PlainArms, PlainBlock, PlainDeclaration, PlainDeclarations, PlainInterface, PlainStatement, PlainStatements, PlainPrefix, PlainName}
 use Rattle.sim_agree.specs.TablesOf.{TablesOf}
 use Rattle.sim_agree.proofs.Completing.{bare_row}
 use Rattle.sim_agree.proofs.Groups.{class_texts, plain_prefix}
 use Rattle.sim_agree.proofs.InnerMarks.{AllKeep, InnerRow, Stays, all_stay, inner_row, keep_heading, keep_result, keep_segments, keep_variables, keep_both, keep_interface}
 use Rattle.sim_agree.proofs.InnerPlaces.{Free, all_free, back, no_fault, no_inner, no_inners, none_first, none_second}
 use Rattle.sim_agree.proofs.Tables as t
+use Rattle.sim_agree.proofs.PlainNames.{no_prefix_texts}
 
 -- ---- lists
 
@@ -390,10 +391,13 @@ procedure_adds result i h a e p =
     (adds_one kind.Procedure (first_of_procedure result i) h.name.token.0 e x (H ++ B) (statement_texts a)
     (fills_plain x (H ++ B) (statement_texts a) (λ f. no_inner a (back H B f)) (adds_both H B [] (statement_texts a) (adds_kept H (keep_heading h)) p))))
 
+keep_prefix_marks : (first : ℕ) (y : Identifier) → PlainName y → AllKeep (prefix_marks first y)
+keep_prefix_marks first y w = subst AllKeep (sym (plain_prefix first y w)) (tt, tt)
+
 keep_prefix : (first : ℕ) (prefix : Option Identifier) → PlainPrefix prefix → AllKeep (class_prefix_marks first prefix)
 unfolding class_prefix_marks
 keep_prefix first None w = tt
-keep_prefix first (Some y) w = subst AllKeep (sym (plain_prefix first y w)) (tt, tt)
+keep_prefix first (Some y) w = keep_prefix_marks first y w
 
 class_adds : (prefix : Option Identifier) → PlainPrefix prefix → (i : ℕ) (h : Heading) (interface : Interface) (a : Statement) (e : ℕ) → PlainInterface interface
     → Fills (ClassText prefix h (body_declarations a) (body_statements a)) (statement_events declaring ClassBody a) (declarations_texts (body_declarations a) ++ statements_texts (body_statements a))
@@ -415,12 +419,12 @@ class_adds prefix w i h interface a e q p =
 -- ---- the whole program
 
 mutual
-  unfolding declaring inner_marks
+  unfolding declaring inner_marks prefixed_marks
 
   statement_adds : (a : Statement) → PlainStatement a → Adds (statement_events declaring Inside a) (statement_texts a)
   statement_adds (syntax.Empty i) p = adds_kept [] tt
   statement_adds (syntax.Compound b) p = block_adds b p
-  statement_adds (syntax.Prefixed class arguments b) p = absurd p
+  statement_adds (syntax.Prefixed class arguments b) p = prefixed_adds class arguments b p.0 p.2
   statement_adds (syntax.Inner i) p = adds_kept (inner_marks Inside i) (tt, tt)
   statement_adds (syntax.Call e) p = adds_kept [] tt
   statement_adds (syntax.Assign left rest) p = adds_kept [] tt
@@ -449,6 +453,21 @@ mutual
       adds_both (Opens kind.Connection d d ∷ (statement_events declaring Inside a ++ Closes e ∷ [])) (arms_events declaring more) (ConnectionText ∷ statement_texts a) (arms_texts more)
       (adds_connection d e (statement_events declaring Inside a) (statement_texts a) (statement_adds a p.1)) (arms_add more p.2)
 
+  prefixed_adds : (class : Identifier) (arguments : Expressions) (b : Block) → PlainName class → PlainBlock b → Adds (prefixed_marks class (begin_of b) ++ whole_events declaring b) (prefixed_texts class arguments b)
+  prefixed_adds class arguments (Begin i ds ss e) w p =
+      let P : List Mark = prefix_marks i class in
+      let es = declarations_events declaring ds in
+      let fs = statements_events declaring Inside ss in
+      let x : Text = PrefixedText class arguments ds ss in
+      let ns : List Text = declarations_texts ds ++ statements_texts ss in
+      let O = Opens kind.Prefixed class.token.0 i in
+      adds_texts _ (x ∷ ns) _ (ap (λ z. x ∷ (z ++ ns)) (sym (no_prefix_texts (Some class) w)))
+      (adds_as (O ∷ ((P ++ (es ++ fs)) ++ Closes e ∷ [])) (prefixed_marks class i ++ (es ++ (fs ++ Closes e ∷ []))) (x ∷ ns)
+      (ap (λ z. O ∷ z) (append_assoc P (es ++ fs) (Closes e ∷ []) ∙ ap (λ z. P ++ z) (append_assoc es fs (Closes e ∷ []))))
+      (adds_one kind.Prefixed class.token.0 i e x (P ++ (es ++ fs)) ns
+      (fills_after x P (es ++ fs) ns (keep_prefix_marks i class w)
+      (fills_plain x (es ++ fs) ns (λ f. no_inners ss (back es fs f)) (adds_both es fs (declarations_texts ds) (statements_texts ss) (declarations_add ds p.0) (statements_add ss p.1))))))
+
   block_adds : (b : Block) → PlainBlock b → Adds (block_events declaring b) (block_texts b)
   block_adds (Begin i NoDeclaration ss e) p = statements_add ss p.1
   block_adds (Begin i (With d ds) ss e) p =
@@ -473,7 +492,7 @@ mutual
       → Fills (ClassText prefix h (body_declarations a) (body_statements a)) (statement_events declaring ClassBody a) (declarations_texts (body_declarations a) ++ statements_texts (body_statements a))
   class_body prefix (syntax.Compound (Begin i ds ss e)) h p one = class_fills prefix h ds ss (declarations_add ds p.0) (class_statements_add ss p.1)
   class_body prefix (syntax.Empty i) h p one = one_fills prefix h (syntax.Empty i) one
-  class_body prefix (syntax.Prefixed class arguments b) h p one = absurd p
+  class_body prefix (syntax.Prefixed class arguments b) h p one = one_fills prefix h (syntax.Prefixed class arguments b) one
   class_body prefix (syntax.Inner i) h p one = one_fills prefix h (syntax.Inner i) one
   class_body prefix (syntax.Call e) h p one = one_fills prefix h (syntax.Call e) one
   class_body prefix (syntax.Assign left rest) h p one = one_fills prefix h (syntax.Assign left rest) one

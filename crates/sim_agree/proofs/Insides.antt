@@ -1,12 +1,10 @@
 -- Which tokens stand in which blocks of an allowed plain program, and which texts last.
-use Rattle.std.proofs.Common.{◌≡◌, ◌<◌, ◌≤◌, ◌⊎◌, inl, inr, ℕ, zero, suc, Bool, true, false, List, [], ◌∷◌, length, Option, Some, None, refl, sym, ap, ◌∙◌, subst, arith}
+use Rattle.std.proofs.Common.{◌≡◌, ◌<◌, ◌≤◌, ◌⊎◌, inl, inr, ℕ, zero, suc, Bool, true, false, List, [], ◌∷◌, length, Option, Some, None, refl, sym, ap, ◌∙◌, arith}
 use Rattle.std.specs.Prelude.{◌&&◌, ◌||◌, nat_le, nat_lt, not, slice_get}
 use Rattle.std.specs.List.{list_any}
 use Rattle.std.proofs.lemmas.Bool.Decides.{nat_tests}
 use Rattle.std.proofs.lemmas.Option.{slice_get_within}
 use Rattle.sim_tree.specs.Order.{InOrder}
-use Rattle.sim_tree.specs.Syntax.{Declarations, Heading, Statements}
-use Rattle.sim_tree.specs.declared.expr.Identifier.{Identifier}
 use Rattle.sim_scope.specs.declared.types.BlockKind.{BlockKind}
 use Rattle.sim_scope.specs.declared.types.BlockKind.TheVariants as kind
 use Rattle.sim_scope.specs.Access.{block_at, encloser, is_connection as is_connection_kind, is_kind, is_so, joined, kind_in}
@@ -28,6 +26,7 @@ use Rattle.sim_agree.proofs.Spots.{Final}
 use Rattle.sim_agree.proofs.Tables as t
 use Rattle.sim_agree.proofs.Tables.{program_final}
 use Rattle.sim_agree.proofs.Unprefixed.{Extras, extras_in, no_extras}
+use Rattle.sim_meaning.specs.Levels.{has_levels}
 
 -- ---- tests
 
@@ -170,20 +169,33 @@ module _ (s : Source) (of : TablesOf s) (plain : Plain s.program) (order : InOrd
           parts true false e = absurd (cc)
           parts false b e = absurd (cc)
 
-  -- a class lasts
-  pub stays : (k : ℕ) (prefix : Option Identifier) (h : Heading) (ds : Declarations) (ss : Statements) → text s k ≡ Some (ClassText prefix h ds ss) → is_class_free s k ≡ false
+  -- a class and a block with a prefix last
+  of_class_kind : (k : ℕ) (row : BlockOf) (o : Option Text) → KindIs (Some row) o → has_levels o ≡ true → is_class_kind row.kind ≡ true
+  of_class_kind k row None q e = absurd q
+  of_class_kind k row (Some (BlockText i ds ss)) q e = absurd (cc)
+  of_class_kind k row (Some (ProcedureText result h a)) q e = absurd (cc)
+  of_class_kind k row (Some (ClassText prefix h ds ss)) q e = ap is_class_kind q
+  of_class_kind k row (Some ConnectionText) q e = absurd (cc)
+  of_class_kind k row (Some (PrefixedText class es ds ss)) q e = ap is_class_kind q
+  of_class_kind k row (Some (StandardText which)) q e = absurd (cc)
+
+  pub stays : (k : ℕ) → has_levels (text s k) ≡ true → is_class_free s k ≡ false
   unfolding text
-  stays k prefix h ds ss is = go (slice_get s.tables.blocks k) refl (subst (λ o. KindIs (slice_get s.tables.blocks k) o) is (t.kind_at s of plain order k))
+  stays k levels = go (slice_get s.tables.blocks k) refl (t.kind_at s of plain order k)
     where
-      go : (o : Option BlockOf) → slice_get s.tables.blocks k ≡ o → KindIs o (Some (ClassText prefix h ds ss)) → is_class_free s k ≡ false
-      go None at q = absurd q
+      nothing : (o : Option Text) → KindIs None o → has_levels o ≡ true → ⊥
+      nothing None q e = cc
+      nothing (Some x) q e = q
+
+      go : (o : Option BlockOf) → slice_get s.tables.blocks k ≡ o → KindIs o (slice_get (t.Ts s of plain order) k) → is_class_free s k ≡ false
+      go None at q = absurd (nothing (slice_get (t.Ts s of plain order) k) q levels)
       go (Some row) at q =
           let w = t.row_was s of plain order k row at in
           let x : row.first ≡ w.0.first = ap (λ (z : BlockOf). z.first) w.2 in
           let y : row.end ≡ w.0.end = ap (λ (z : BlockOf). z.end) w.2 in
           let r = within w.0.first k k w.0 (first_of k w.0 w.1) w.1 same in
           let hi : w.0.first < w.0.end = r.1 in
-          lasts k (record { row = row; at = at; class = k; inner = row; there = at; is = ap is_class_kind q; low = omega arith; high = omega (arith, hi, x, y) })
+          lasts k (record { row = row; at = at; class = k; inner = row; there = at; is = of_class_kind k row (slice_get (t.Ts s of plain order) k) q levels; low = omega arith; high = omega (arith, hi, x, y) })
 
   -- and so does what is around a text that lasts
   pub outward : (k u : ℕ) → encloser s.tables k ≡ Some u → is_class_free s k ≡ false → is_class_free s u ≡ false
@@ -246,7 +258,7 @@ module _ (s : Source) (of : TablesOf s) (plain : Plain s.program) (order : InOrd
       go (Some row) (Some (ProcedureText result h a)) q = ap is_connection_kind q
       go (Some row) (Some (ClassText prefix h ds ss)) q = ap is_connection_kind q
       go (Some row) (Some ConnectionText) q = ap is_connection_kind q
-      go (Some row) (Some (PrefixedText class es ds ss)) q = absurd q
+      go (Some row) (Some (PrefixedText class es ds ss)) q = ap is_connection_kind q
       go (Some row) (Some (StandardText which)) q = absurd q
 
   -- no block has a standard prefix

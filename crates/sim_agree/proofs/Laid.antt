@@ -7,7 +7,7 @@ use Rattle.sim_tree.specs.declared.stmt.TypeName.{TypeName}
 use Rattle.sim_tree.specs.declared.stmt.TypeName.TheVariants as type_name
 use Rattle.sim_tree.specs.declared.stmt.Variable.{Variable}
 use Rattle.sim_tree.specs.Named.{named}
-use Rattle.sim_tree.specs.Syntax.{Also, Arms, Arrayed, Arrays, Begin, Block, BoundPair, Compound, Declaration, Declarations, DeclareClass, DeclareProcedure, Element, Expression, Heading, Interface, Moded as ModePart, NoArm, NoDeclaration, NoStatement, Prefix, Program, RightSide, Specification, Specified as Specifier, Statement, Statements, Variables, When, With, Protected}
+use Rattle.sim_tree.specs.Syntax.{Also, Arms, Arrayed, Arrays, Begin, Block, BoundPair, Compound, Declaration, Declarations, DeclareClass, DeclareProcedure, Element, Expression, Heading, Interface, Moded as ModePart, NoArm, NoDeclaration, NoStatement, Prefix, Program, RightSide, Specification, Specified as Specifier, Statement, Statements, Variables, When, With, Protected, Expressions}
 use Rattle.sim_tree.specs.Syntax as syntax
 use Rattle.sim_base.specs.declared.rule.Rule.{Rule}
 use Rattle.sim_base.specs.declared.rule.Rule.TheVariants as r
@@ -22,20 +22,21 @@ use Rattle.sim_scope.specs.declared.types.Position.TheVariants.{ClassBody, Class
 use Rattle.sim_scope.specs.declared.types.SimType.{SimType}
 use Rattle.sim_scope.specs.Bodies.{body_declarations, body_statements}
 use Rattle.sim_scope.specs.Building.{Breaks, Closes, Declares, DeclaresClass, DeclaresProcedure, Headed, Inner, Mark, Moded, Opens, Parameter, Specified, Prefixes, Protects}
-use Rattle.sim_scope.specs.Declare.{array_marks, class_marks, class_prefix_marks, declaring, first_of_class, first_of_procedure, headed_marks, heading_marks, inner_marks, interface_marks, mode_named, mode_part_marks, moded_marks, parameter_marks, procedure_marks, program_marks, qualified_marks, qualified_result, result_named, segment_marks, specification_marks, specified_marks, type_named, variable_marks, is_written, protected_marks, protection_marks}
+use Rattle.sim_scope.specs.Declare.{array_marks, class_marks, class_prefix_marks, declaring, first_of_class, first_of_procedure, headed_marks, heading_marks, inner_marks, interface_marks, mode_named, mode_part_marks, moded_marks, parameter_marks, procedure_marks, program_marks, qualified_marks, qualified_result, result_named, segment_marks, specification_marks, specified_marks, type_named, variable_marks, is_written, protected_marks, protection_marks, prefix_marks, prefixed_marks}
 use Rattle.sim_scope.specs.Runs.{each}
 use Rattle.sim_scope.specs.Walk.{arms_events, begin_of, block_events, declaration_events, declarations_events, program_events, statement_events, statements_events, whole_events}
-use Rattle.sim_meaning.specs.Texts.{BlockText, ClassText, ConnectionText, ProcedureText, Text, arms_texts, block_texts, declaration_texts, declarations_texts, program_texts, statement_texts, statements_texts, prefix_texts}
+use Rattle.sim_meaning.specs.Texts.{BlockText, ClassText, ConnectionText, ProcedureText, Text, arms_texts, block_texts, declaration_texts, declarations_texts, program_texts, statement_texts, statements_texts, prefix_texts, PrefixedText, prefixed_texts}
 use Rattle.sim_tree.specs.Order.{Behind, Spot, Token, in_arms, in_block, in_bounds, in_declaration, in_declarations, in_each, in_element, in_expression, in_name, in_result, in_segment, in_side, in_statement, in_statements, in_type, in_variable, tokens, in_prefix}
 use Rattle.sim_agree.specs.Plain.{Each, Plain, PlainArms, PlainBlock, PlainDeclarations, PlainHeading, PlainInterface, PlainMode, PlainSpecification, PlainStatement, PlainStatements, PlainWord, PlainName, PlainPrefix}
 use Rattle.sim_agree.proofs.Groups.{AreReferences, OfReferences, OwnEntry, PlainFormal, Quals, quals_of_result, quals_of_type, plain_prefix, only_protections}
 use Rattle.sim_agree.proofs.PlainNames.{no_prefix_texts}
 
--- ---- what a text uses itself: tokens, sub-blocks by their first token, and connections by theirs, with what stands in them
+-- ---- what a text uses itself: tokens, sub-blocks and prefixed blocks by their first token, and connections by theirs, with what stands in them
 
 pub data Part : Type 0 where
   Use : ℕ → Part
   Sub : ℕ → Part
+  Pre : ℕ → Part
   Con : ℕ → Statement → Part
 
 abbrev pub used : List ℕ → List Part → List Part
@@ -67,7 +68,7 @@ abbrev mutual
   pub statement_used : Statement → List Part → List Part
   statement_used (syntax.Empty i) u = u
   statement_used (syntax.Compound b) u = block_used b u
-  statement_used (syntax.Prefixed class es b) u = u
+  statement_used (syntax.Prefixed class es b) u = expression_used (syntax.Named class es) (Pre (begin_of b) ∷ u)
   statement_used (syntax.Inner i) u = Use i ∷ u
   statement_used (syntax.Call e) u = expression_used e u
   statement_used (syntax.Assign e sides) u = expression_used e (each_used side_used sides u)
@@ -101,6 +102,7 @@ abbrev pub text_used : Text → List Part
 text_used (BlockText i ds ss) = declarations_used ds (statements_used ss [])
 text_used (ProcedureText result h a) = statement_used a []
 text_used (ClassText prefix h ds ss) = declarations_used ds (statements_used ss [])
+text_used (PrefixedText class es ds ss) = declarations_used ds (statements_used ss [])
 text_used _ = []
 
 -- ---- the texts of a program, each with what it uses
@@ -121,7 +123,7 @@ abbrev mutual
   pub statement_held : Statement → List Held
   statement_held (syntax.Empty i) = []
   statement_held (syntax.Compound b) = block_held b
-  statement_held (syntax.Prefixed class es b) = []
+  statement_held (syntax.Prefixed class es b) = prefixed_held class es b
   statement_held (syntax.Inner i) = []
   statement_held (syntax.Call e) = []
   statement_held (syntax.Assign e sides) = []
@@ -139,6 +141,9 @@ abbrev mutual
   pub arms_held : Arms → List Held
   arms_held NoArm = []
   arms_held (When i class opening x end more) = Joined opening x ∷ (statement_held x ++ arms_held more)
+
+  pub prefixed_held : Identifier → Expressions → Block → List Held
+  prefixed_held class es (Begin i ds ss e) = Whole (PrefixedText class es ds ss) ∷ (declarations_held ds ++ statements_held ss)
 
   pub block_held : Block → List Held
   block_held (Begin i NoDeclaration ss e) = statements_held ss
@@ -174,7 +179,7 @@ mutual
   held_statement : (a : Statement) → PlainStatement a → map text_held (statement_held a) ≡ statement_texts a
   held_statement (syntax.Empty i) p = refl
   held_statement (syntax.Compound b) p = held_block b p
-  held_statement (syntax.Prefixed class es b) p = absurd p
+  held_statement (syntax.Prefixed class es b) p = held_prefixed class es b p.0 p.2
   held_statement (syntax.Inner i) p = refl
   held_statement (syntax.Call e) p = refl
   held_statement (syntax.Assign e sides) p = refl
@@ -192,6 +197,11 @@ mutual
   held_arms : (arms : Arms) → PlainArms arms → map text_held (arms_held arms) ≡ arms_texts arms
   held_arms NoArm p = refl
   held_arms (When i class opening x end more) p = ap (λ z. ConnectionText ∷ z) (map_both (statement_held x) (arms_held more) (statement_texts x) (arms_texts more) (held_statement x p.1) (held_arms more p.2))
+
+  held_prefixed : (class : Identifier) (es : Expressions) (b : Block) → PlainName class → PlainBlock b → map text_held (prefixed_held class es b) ≡ prefixed_texts class es b
+  held_prefixed class es (Begin i ds ss e) w p =
+      ap (λ z. PrefixedText class es ds ss ∷ z) (map_both (declarations_held ds) (statements_held ss) (declarations_texts ds) (statements_texts ss) (held_declarations ds p.0) (held_statements ss p.1))
+      ∙ ap (λ z. PrefixedText class es ds ss ∷ (z ++ (declarations_texts ds ++ statements_texts ss))) (sym (no_prefix_texts (Some class) w))
 
   held_block : (b : Block) → PlainBlock b → map text_held (block_held b) ≡ block_texts b
   held_block (Begin i NoDeclaration ss e) p = held_statements ss p.1
@@ -215,7 +225,7 @@ mutual
       ap (λ z. ClassText prefix h ds ss ∷ z) (map_both (declarations_held ds) (statements_held ss) (declarations_texts ds) (statements_texts ss) (held_declarations ds p.0) (held_statements ss p.1))
       ∙ ap (λ z. ClassText prefix h ds ss ∷ (z ++ (declarations_texts ds ++ statements_texts ss))) (sym (no_prefix_texts prefix w))
   held_class prefix w i h interface (syntax.Empty n) end p one = held_alone prefix w h (syntax.Empty n) one
-  held_class prefix w i h interface (syntax.Prefixed x args b) end p one = absurd p
+  held_class prefix w i h interface (syntax.Prefixed x args b) end p one = held_alone prefix w h (syntax.Prefixed x args b) one
   held_class prefix w i h interface (syntax.Inner n) end p one = held_alone prefix w h (syntax.Inner n) one
   held_class prefix w i h interface (syntax.Call x) end p one = held_alone prefix w h (syntax.Call x) one
   held_class prefix w i h interface (syntax.Assign x sides) end p one = held_alone prefix w h (syntax.Assign x sides) one
@@ -267,6 +277,9 @@ pub data Laid : List Frame → List Mark → List Spot → List Held → Type 0 
       → Laid [] (Opens kind.Program text i ∷ ms) (Token i ∷ l) (Whole (BlockText i ds ss) ∷ hs)
   block : {os : List Frame} {ms : List Mark} {l : List Spot} {hs : List Held} (text i : ℕ) (ds : Declarations) (ss : Statements) (x : Text) (u : List Part)
       → Laid (frame (BlockText i ds ss) (text_used (BlockText i ds ss)) ∷ frame x u ∷ os) ms l hs → Laid (frame x (Sub i ∷ u) ∷ os) (Opens kind.SubBlock text i ∷ ms) (Token i ∷ l) (Whole (BlockText i ds ss) ∷ hs)
+  prefixed_block : {os : List Frame} {ms : List Mark} {l : List Spot} {hs : List Held} (text i : ℕ) (class : Identifier) (es : Expressions) (ds : Declarations) (ss : Statements) (x : Text) (u : List Part) → PlainName class
+      → Laid (frame (PrefixedText class es ds ss) (text_used (PrefixedText class es ds ss)) ∷ frame x u ∷ os) ms l hs
+      → Laid (frame x (Pre i ∷ u) ∷ os) (Opens kind.Prefixed text i ∷ Prefixes class ∷ ms) (Token i ∷ l) (Whole (PrefixedText class es ds ss) ∷ hs)
   connects : {os : List Frame} {ms : List Mark} {l : List Spot} {hs : List Held} (text i : ℕ) (a : Statement) (x : Text) (u : List Part)
       → Laid (frame ConnectionText (statement_used a []) ∷ frame x u ∷ os) ms l hs → Laid (frame x (Con i a ∷ u) ∷ os) (Opens kind.Connection text i ∷ ms) (Token i ∷ l) (Joined i a ∷ hs)
   procedure : {o : Frame} {os : List Frame} {ms : List Mark} {l : List Spot} {hs : List Held} (text : ℕ) (quals : List Mark) (result : Option TypeName) (h : Heading) (a : Statement) → Quals (AreReferences (result_named result)) quals
@@ -450,6 +463,13 @@ begins_block : (i : ℕ) (ds : Declarations) (ss : Statements) (x : Text) (u : L
     → Lays (frame x (Sub i ∷ u) ∷ os) (Opens kind.SubBlock i i ∷ []) (λ l. Token i ∷ l) (Whole (BlockText i ds ss) ∷ []) (frame (BlockText i ds ss) (text_used (BlockText i ds ss)) ∷ frame x u ∷ os)
 begins_block i ds ss x u os = record { before = λ ms l hs h. block i i ds ss x u h }
 
+begins_prefixed : (class : Identifier) → PlainName class → (i : ℕ) (es : Expressions) (ds : Declarations) (ss : Statements) (x : Text) (u : List Part) (os : List Frame)
+    → Lays (frame x (Pre i ∷ u) ∷ os) (prefixed_marks class i) (λ l. Token i ∷ l) (Whole (PrefixedText class es ds ss) ∷ []) (frame (PrefixedText class es ds ss) (text_used (PrefixedText class es ds ss)) ∷ frame x u ∷ os)
+unfolding prefixed_marks
+begins_prefixed class w i es ds ss x u os =
+    as_marks (λ l. Token i ∷ l) (Opens kind.Prefixed class.token.0 i ∷ Prefixes class ∷ []) (Opens kind.Prefixed class.token.0 i ∷ prefix_marks i class) (ap (λ z. Opens kind.Prefixed class.token.0 i ∷ z) (sym (plain_prefix i class w)))
+    (record { before = λ ms l hs h. prefixed_block class.token.0 i class es ds ss x u w h })
+
 begins_connection : (i : ℕ) (a : Statement) (x : Text) (u : List Part) (os : List Frame) → Lays (frame x (Con i a ∷ u) ∷ os) (Opens kind.Connection i i ∷ []) (λ l. Token i ∷ l) (Joined i a ∷ []) (frame ConnectionText (statement_used a []) ∷ frame x u ∷ os)
 begins_connection i a x u os = record { before = λ ms l hs h. connects i i a x u h }
 
@@ -502,7 +522,7 @@ class_held : (prefix : Option Identifier) (j : ℕ) (h : Heading) (i : Interface
     → declaration_held (DeclareClass prefix j h i a e) ≡ Whole (ClassText prefix h (body_declarations a) (body_statements a)) ∷ (declarations_held (body_declarations a) ++ statements_held (body_statements a))
 class_held prefix j h i (syntax.Compound (Begin n ds ss m)) e = refl
 class_held prefix j h i (syntax.Empty n) e = refl
-class_held prefix j h i (syntax.Prefixed x args b) e = refl
+class_held prefix j h i (syntax.Prefixed x args b) e = ap (λ z. Whole (ClassText prefix h NoDeclaration (Also (syntax.Prefixed x args b) NoStatement)) ∷ z) (sym (append-nil (statement_held (syntax.Prefixed x args b))))
 class_held prefix j h i (syntax.Inner n) e = refl
 class_held prefix j h i (syntax.Call x) e = refl
 class_held prefix j h i (syntax.Assign x sides) e = refl
@@ -555,7 +575,7 @@ mutual
   statement_lays b (syntax.Empty i) x u os p = none
   statement_lays true (syntax.Compound k) x u os p = block_lays k x u os p
   statement_lays false (syntax.Compound k) x u os p = block_lays k x u os p
-  statement_lays b (syntax.Prefixed y args k) x u os p = absurd p
+  statement_lays b (syntax.Prefixed y args k) x u os p = lead (in_expression (syntax.Named y args)) (in_block k) (expression_lays x os (syntax.Named y args) (Pre (begin_of k) ∷ u)) (prefixed_lays y args k x u os p.0 p.2)
   statement_lays true (syntax.Inner i) x u os p = record { before = λ ms l hs h. uses x u i (inner_mark i h) }
   statement_lays false (syntax.Inner i) x u os p = record { before = λ ms l hs h. uses x u i (breaks_rule i r.InnerOutOfPlace h) }
   statement_lays b (syntax.Call e) x u os p = expression_lays x os e u
@@ -600,7 +620,7 @@ mutual
       (follow (λ l. in_declarations ds (in_statements ss l)) (λ l. Behind e ∷ l)
       (both (in_declarations ds) (in_statements ss) (declarations_lay ds x (statements_used ss []) os p.0) (statements_lay true ss x [] os p.1)) (leaves_one e (frame x [] ∷ os)))
   class_body_lays prefix (syntax.Empty i) h os p one = none
-  class_body_lays prefix (syntax.Prefixed y args b) h os p one = absurd p
+  class_body_lays prefix (syntax.Prefixed y args b) h os p one = as_held (in_statement (syntax.Prefixed y args b)) (statement_held (syntax.Prefixed y args b)) (statement_held (syntax.Prefixed y args b) ++ []) (sym (append-nil (statement_held (syntax.Prefixed y args b)))) (one (ClassText prefix h NoDeclaration (Also (syntax.Prefixed y args b) NoStatement)))
   class_body_lays prefix (syntax.Inner i) h os p one = as_held (in_statement (syntax.Inner i)) (statement_held (syntax.Inner i)) (statement_held (syntax.Inner i) ++ []) (sym (append-nil (statement_held (syntax.Inner i)))) (one (ClassText prefix h NoDeclaration (Also (syntax.Inner i) NoStatement)))
   class_body_lays prefix (syntax.Call e) h os p one = as_held (in_statement (syntax.Call e)) (statement_held (syntax.Call e)) (statement_held (syntax.Call e) ++ []) (sym (append-nil (statement_held (syntax.Call e)))) (one (ClassText prefix h NoDeclaration (Also (syntax.Call e) NoStatement)))
   class_body_lays prefix (syntax.Assign e sides) h os p one = as_held (in_statement (syntax.Assign e sides)) (statement_held (syntax.Assign e sides)) (statement_held (syntax.Assign e sides) ++ []) (sym (append-nil (statement_held (syntax.Assign e sides)))) (one (ClassText prefix h NoDeclaration (Also (syntax.Assign e sides) NoStatement)))
@@ -610,6 +630,18 @@ mutual
   class_body_lays prefix (syntax.Inspect i object d a e rest) h os p one = as_held (in_statement (syntax.Inspect i object d a e rest)) (statement_held (syntax.Inspect i object d a e rest)) (statement_held (syntax.Inspect i object d a e rest) ++ []) (sym (append-nil (statement_held (syntax.Inspect i object d a e rest)))) (one (ClassText prefix h NoDeclaration (Also (syntax.Inspect i object d a e rest) NoStatement)))
   class_body_lays prefix (syntax.InspectWhen i object whens rest) h os p one = as_held (in_statement (syntax.InspectWhen i object whens rest)) (statement_held (syntax.InspectWhen i object whens rest)) (statement_held (syntax.InspectWhen i object whens rest) ++ []) (sym (append-nil (statement_held (syntax.InspectWhen i object whens rest)))) (one (ClassText prefix h NoDeclaration (Also (syntax.InspectWhen i object whens rest) NoStatement)))
   class_body_lays prefix (syntax.Activate i word process schedule) h os p one = absurd p
+
+  prefixed_lays : (class : Identifier) (es : Expressions) (b : Block) (x : Text) (u : List Part) (os : List Frame) → PlainName class → PlainBlock b
+      → Lays (frame x (Pre (begin_of b) ∷ u) ∷ os) (prefixed_marks class (begin_of b) ++ whole_events declaring b) (in_block b) (prefixed_held class es b) (frame x u ∷ os)
+  prefixed_lays class es (Begin i ds ss e) x u os w p =
+      let y : Text = PrefixedText class es ds ss in
+      let ps : List Frame = frame x u ∷ os in
+      let D : List Mark = declarations_events declaring ds in
+      let S : List Mark = statements_events declaring Inside ss in
+      as_marks (in_block (Begin i ds ss e)) (prefixed_marks class i ++ ((D ++ S) ++ Closes e ∷ [])) (prefixed_marks class i ++ (D ++ (S ++ Closes e ∷ []))) (ap (λ z. prefixed_marks class i ++ z) (append_assoc D S (Closes e ∷ [])))
+      (both (λ l. Token i ∷ l) (λ l. in_declarations ds (in_statements ss (Behind e ∷ l))) (begins_prefixed class w i es ds ss x u os)
+      (inside_block ps y (text_used y) (statements_used ss []) D S (in_declarations ds) (in_statements ss) (declarations_held ds) (statements_held ss) e
+      (declarations_lay ds y (statements_used ss []) ps p.0) (statements_lay false ss y [] ps p.1)))
 
   block_lays : (b : Block) (x : Text) (u : List Part) (os : List Frame) → PlainBlock b → Lays (frame x (block_used b u) ∷ os) (block_events declaring b) (in_block b) (block_held b) (frame x u ∷ os)
   block_lays (Begin i NoDeclaration ss e) x u os p =

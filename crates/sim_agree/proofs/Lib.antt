@@ -36,6 +36,7 @@ pub mod TextOrder
 pub mod Constants
 pub mod ArrayNames
 pub mod ArrayTypes
+pub mod BlockPrefixes
 pub mod Whole
 pub mod Settled
 pub mod SettledJudged

@@ -4,7 +4,7 @@ use Rattle.std.specs.Prelude.{slice_get}
 use Rattle.std.proofs.lemmas.List.{length-append}
 use Rattle.std.proofs.lemmas.Option.{slice_get_within}
 use Rattle.sim_tree.specs.Order.{InOrder}
-use Rattle.sim_tree.specs.Syntax.{Also, Arms, Arrays, Begin, Block, Declaration, Declarations, DeclareClass, DeclareProcedure, NoArm, NoDeclaration, NoStatement, Statement, Statements, Variables, When, With}
+use Rattle.sim_tree.specs.Syntax.{Also, Arms, Arrays, Begin, Block, Declaration, Declarations, DeclareClass, DeclareProcedure, NoArm, NoDeclaration, NoStatement, Statement, Statements, Variables, When, With, Expressions}
 use Rattle.sim_tree.specs.Syntax as syntax
 use Rattle.sim_scope.specs.declared.types.Position.{Position}
 use Rattle.sim_scope.specs.declared.types.Position.TheVariants.{ClassBody, ClassStatement, Inside}
@@ -12,18 +12,19 @@ use Rattle.sim_scope.specs.Access.{block_at}
 use Rattle.sim_scope.specs.Declare.{declared_by}
 use Rattle.sim_scope.specs.Source.{Source}
 use Rattle.sim_scope.specs.Tables.{BlockOf}
-use Rattle.sim_scope.specs.Walk.{arms_events, block_events, declaration_events, declarations_events, program_events, statement_events, statements_events, whole_events}
+use Rattle.sim_scope.specs.Walk.{arms_events, block_events, declaration_events, declarations_events, program_events, statement_events, statements_events, whole_events, begin_of}
 use Rattle.inspect_types.specs.Connecting.{Connecting, Connects, Looks, Names, connections}
 use Rattle.sim_meaning.specs.Attributes.{first_in}
-use Rattle.sim_meaning.specs.Texts.{BlockText, ClassText, ProcedureText, Text}
+use Rattle.sim_meaning.specs.Texts.{BlockText, ClassText, ProcedureText, Text, PrefixedText}
 use Rattle.sim_agree.specs.Places.{PlacedElement, PlacedExpression, PlacedName, PlacedSegment, PlacedSide}
 use Rattle.sim_agree.specs.Plain.{Plain, PlainArms, PlainBlock, PlainDeclaration, PlainDeclarations, PlainStatement, PlainStatements}
 use Rattle.sim_agree.specs.TablesOf.{TablesOf}
-use Rattle.sim_agree.proofs.Fitted.{DotsDeclaration, DotsDeclarations, DotsElement, DotsSegment, DotsSide, FittedArms, FittedBlock, FittedStatement, FittedStatements, TextFitted, Whatever, all_whatever, text_fitted}
-use Rattle.sim_agree.proofs.Laid.{Con, Held, Joined, Part, Whole, arms_held, arms_used, block_held, block_used, declaration_held, declarations_held, declarations_used, each_used, element_used, program_held, segment_used, side_used, statement_held, statement_used, statements_held, statements_used, text_used}
+use Rattle.sim_agree.proofs.Fitted.{DotsDeclaration, DotsDeclarations, DotsElement, DotsSegment, DotsSide, FittedArms, FittedBlock, FittedStatement, FittedStatements, TextFitted, Whatever, all_whatever, text_fitted, DotsExpressions}
+use Rattle.sim_agree.proofs.Laid.{Con, Held, Joined, Part, Whole, arms_held, arms_used, block_held, block_used, declaration_held, declarations_held, declarations_used, each_used, element_used, program_held, segment_used, side_used, statement_held, statement_used, statements_held, statements_used, text_used, Pre, expression_used, prefixed_held}
 use Rattle.sim_agree.proofs.Placing as p
 use Rattle.sim_agree.proofs.Spots.{Final}
 use Rattle.sim_agree.proofs.Tables.{program_unbroken}
+use Rattle.sim_tree.specs.declared.expr.Identifier.{Identifier}
 
 -- What is met, where connections get numbers from one on, and the next one after it the other or a greater one.
 abbrev pub LooksTo : Source → (from : ℕ) → List Connecting → (to : ℕ) → Type 0
@@ -186,7 +187,7 @@ module _ (s : Source) (of : TablesOf s) (plain : Plain s.program) (order : InOrd
         let all = both_walk s (arms_held arms) (statements_held rest) (arms_events connections arms) (statements_events connections Inside rest) n y.0 z.0 in
         let le : n ≤ n = omega arith in
         (all, z.1)
-    statement_looks k n lt q w (syntax.Prefixed class es b) c plainly u h f st = absurd plainly
+    statement_looks k n lt q w (syntax.Prefixed class es b) c plainly u h f st = prefixed_looks k n lt class es b plainly.2 u h f st
     statement_looks k n lt q w (syntax.Activate i word e schedule) c plainly u h f st = absurd plainly
 
     arms_look : (k n : ℕ) → k < n → (arms : Arms) → PlainArms arms → (u : List Part) → Are k (arms_used arms u) → FittedArms s Whatever arms → StandFrom n (arms_held arms) → LooksTo s n (arms_events connections arms) (n + length (arms_held arms)) × Are k u
@@ -210,6 +211,23 @@ module _ (s : Source) (of : TablesOf s) (plain : Plain s.program) (order : InOrd
         let y = statement_looks k n lt q w a (in_class q a c) plainly.0 (statements_used more u) h f.0 t.0 in
         let z = statements_look k (n + length (statement_held a)) (further k n (length (statement_held a)) lt) q w more c plainly.1 u y.1 f.1 t.1 in
         (both_walk s (statement_held a) (statements_held more) (statement_events connections q a) (statements_events connections q more) n y.0 z.0, z.1)
+
+    prefixed_looks : (k n : ℕ) → k < n → (class : Identifier) (es : Expressions) (b : Block) → PlainBlock b → (u : List Part) → Are k (expression_used (syntax.Named class es) (Pre (begin_of b) ∷ u)) → DotsExpressions es → StandFrom n (prefixed_held class es b)
+        → LooksTo s n (whole_events connections b) (n + length (prefixed_held class es b)) × Are k u
+    prefixed_looks k n lt class es (Begin i ds ss e) plainly u h f st =
+        let v = p.expression_splits s of plain order k (syntax.Named class es) (Pre i ∷ u) h f in
+        let x : Text = PrefixedText class es ds ss in
+        let g = fitted n x st.0 in
+        let own : n < suc n = omega arith in
+        let D : List Held = declarations_held ds in
+        let H : List Held = statements_held ss in
+        let E : List Connecting = declarations_events connections ds in
+        let S : List Connecting = statements_events connections Inside ss in
+        let t = both_stand (suc n) D H st.1 in
+        let one = declarations_look n (suc n) own ds plainly.0 (statements_used ss []) (parts n x st.0) g.0 t.0 in
+        let two = statements_look n (suc n + length D) (further n (suc n) (length D) own) Inside false ss tt plainly.1 [] one.1 g.1 t.1 in
+        let all = both_walk s D H E (S ++ []) (suc n) one.0 (to_none s S (suc n + length D) (suc n + length D + length H) two.0) in
+        (inside_walk s (Whole x) (D ++ H) (E ++ (S ++ [])) n all, v.1.1)
 
     block_looks : (k n : ℕ) → k < n → (w : Bool) (b : Block) → PlainBlock b → (u : List Part) → Are k (block_used b u) → FittedBlock s Whatever w b → StandFrom n (block_held b) → LooksTo s n (block_events connections b) (n + length (block_held b)) × Are k u
     block_looks k n lt w (Begin i NoDeclaration ss e) plainly u h f st = statements_look k n lt Inside w ss tt plainly.1 u h f st

@@ -1,14 +1,14 @@
 -- Each connection that a plain program makes begins one of its bodies.
 use Rattle.std.proofs.Common.{◌≡◌, ◌+◌, ◌⊎◌, inl, inr, ℕ, suc, arith, Bool, true, false, List, [], ◌∷◌, ◌++◌, length, map, Option, Some, None, refl, ap, ◌∙◌}
 use Rattle.std.specs.Prelude.{slice_get}
-use Rattle.sim_tree.specs.Syntax.{Also, Arms, Arrays, Begin, Block, Declaration, Declarations, DeclareClass, DeclareProcedure, Heading, Interface, NoArm, NoDeclaration, NoStatement, Prefix, Program, Statement, Statements, Variables, When, With}
+use Rattle.sim_tree.specs.Syntax.{Also, Arms, Arrays, Begin, Block, Declaration, Declarations, DeclareClass, DeclareProcedure, Heading, Interface, NoArm, NoDeclaration, NoStatement, Prefix, Program, Statement, Statements, Variables, When, With, Expressions}
 use Rattle.sim_tree.specs.declared.expr.Identifier.{Identifier}
 use Rattle.sim_tree.specs.Syntax as syntax
 use Rattle.sim_scope.specs.declared.types.BlockKind.{BlockKind}
 use Rattle.sim_scope.specs.declared.types.BlockKind.TheVariants as kind
 use Rattle.sim_scope.specs.declared.types.Position.{Position}
 use Rattle.sim_scope.specs.declared.types.Position.TheVariants.{ClassBody, ClassStatement, Inside}
-use Rattle.sim_scope.specs.Bodies.{Around, Body, OfConnection, arms_bodies, block_bodies, bodies_of, declaration_bodies, declarations_bodies, program_around, program_bodies, statement_bodies, statements_bodies, prefix_bodies}
+use Rattle.sim_scope.specs.Bodies.{Around, Body, OfConnection, arms_bodies, block_bodies, bodies_of, declaration_bodies, declarations_bodies, program_around, program_bodies, statement_bodies, statements_bodies, prefix_bodies, prefixed_bodies, standard_bodies}
 use Rattle.sim_scope.specs.Declare.{declared_by}
 use Rattle.sim_scope.specs.Laws.{Shape, outline, shape_of}
 use Rattle.sim_scope.specs.Tables.{BlockOf, deeper}
@@ -79,7 +79,7 @@ mutual
   statement_begins c (syntax.Empty i) p o next = tt
   statement_begins true (syntax.Compound b) p o next = block_begins b p o next
   statement_begins false (syntax.Compound b) p o next = block_begins b p o next
-  statement_begins c (syntax.Prefixed x args b) p o next = absurd p
+  statement_begins c (syntax.Prefixed x args b) p o next = prefixed_begins x args b p.2 o next
   statement_begins c (syntax.Inner i) p o next = tt
   statement_begins c (syntax.Call e) p o next = tt
   statement_begins c (syntax.Assign e sides) p o next = tt
@@ -117,6 +117,18 @@ mutual
             (nothing_behind (statement_events connections Inside a) inside (behind (statement_events connections Inside a) (connection_body o d e) (statement_bodies inner a (next + 1)) (statement_begins false a p.1 inner (next + 1))))
             (arms_begin more p.2 o (next + length inside)),
       )
+
+  prefixed_begins : (x : Identifier) (args : Expressions) (b : Block) → PlainBlock b → (o : Around) (next : ℕ) → AllBegin (whole_events connections b) (prefixed_bodies o x args b next)
+  prefixed_begins x args (Begin i ds ss e) p o next =
+      let inner : Around = record { number = next; level = deeper kind.Prefixed o.level } in
+      let standard : List Body = standard_bodies inner x.name (next + 1) in
+      let first : List Body = declarations_bodies inner ds (next + 1 + length standard) in
+      let second : List Body = statements_bodies inner ss (next + 1 + length standard + length first) in
+      let E = declarations_events connections ds in
+      let S = statements_events connections Inside ss in
+      behind (E ++ (S ++ [])) _ (standard ++ (first ++ second))
+      (ahead (E ++ (S ++ [])) standard (first ++ second)
+      (joined E (S ++ []) first second (declarations_begin ds p.0 inner (next + 1 + length standard)) (nothing_behind S second (statements_begin false ss p.1 inner (next + 1 + length standard + length first)))))
 
   block_begins : (b : Block) → PlainBlock b → (o : Around) (next : ℕ) → AllBegin (block_events connections b) (block_bodies o b next)
   block_begins (Begin i NoDeclaration ss e) p o next = statements_begin false ss p.1 o next
@@ -169,7 +181,9 @@ mutual
   class_begins prefix i h interface (syntax.InspectWhen n object arms rest) e p o next one =
       let inner : Around = record { number = next; level = deeper kind.Class o.level } in
       behind (statement_events connections Inside (syntax.InspectWhen n object arms rest)) _ (prefix_bodies inner prefix (next + 1) ++ statement_bodies inner (syntax.InspectWhen n object arms rest) (next + 1 + length (prefix_bodies inner prefix (next + 1)))) (ahead (statement_events connections Inside (syntax.InspectWhen n object arms rest)) (prefix_bodies inner prefix (next + 1)) (statement_bodies inner (syntax.InspectWhen n object arms rest) (next + 1 + length (prefix_bodies inner prefix (next + 1)))) (one inner (next + 1 + length (prefix_bodies inner prefix (next + 1)))))
-  class_begins prefix i h interface (syntax.Prefixed x args b) e p o next one = absurd p
+  class_begins prefix i h interface (syntax.Prefixed x args b) e p o next one =
+      let inner : Around = record { number = next; level = deeper kind.Class o.level } in
+      behind (statement_events connections Inside (syntax.Prefixed x args b)) _ (prefix_bodies inner prefix (next + 1) ++ statement_bodies inner (syntax.Prefixed x args b) (next + 1 + length (prefix_bodies inner prefix (next + 1)))) (ahead (statement_events connections Inside (syntax.Prefixed x args b)) (prefix_bodies inner prefix (next + 1)) (statement_bodies inner (syntax.Prefixed x args b) (next + 1 + length (prefix_bodies inner prefix (next + 1)))) (one inner (next + 1 + length (prefix_bodies inner prefix (next + 1)))))
   class_begins prefix i h interface (syntax.Activate n w process schedule) e p o next one = absurd p
 
 whole_begins : (b : Block) → PlainBlock b → AllBegin (whole_events connections b) (bodies_of None b)

@@ -11,16 +11,16 @@ use Rattle.sim_scope.specs.Access.{block_at, encloser, joined}
 use Rattle.sim_scope.specs.Declare.{declared_by}
 use Rattle.sim_scope.specs.Levels.{base}
 use Rattle.sim_scope.specs.Source.{Source, block_around}
-use Rattle.sim_scope.specs.Walk.{program_events}
+use Rattle.sim_scope.specs.Walk.{program_events, begin_of}
 use Rattle.inspect_types.specs.Connecting.{connections}
 use Rattle.sim_meaning.specs.Levels.{is_class}
-use Rattle.sim_meaning.specs.Texts.{BlockText, ClassText, ConnectionText, ProcedureText, Text, program_texts, text}
+use Rattle.sim_meaning.specs.Texts.{BlockText, ClassText, ConnectionText, ProcedureText, Text, program_texts, text, PrefixedText}
 use Rattle.sim_sound.specs.Statements.{BlockIs, ConnectionIs}
-use Rattle.sim_agree.specs.Places.{PlacedArms, PlacedArrays, PlacedBlock, PlacedBounds, PlacedElement, PlacedExpression, PlacedExpressions, PlacedSegment, PlacedSide, PlacedStatement, PlacedStatements}
+use Rattle.sim_agree.specs.Places.{PlacedArms, PlacedArrays, PlacedBlock, PlacedBounds, PlacedElement, PlacedExpression, PlacedExpressions, PlacedSegment, PlacedSide, PlacedStatement, PlacedStatements, PlacedPrefixed}
 use Rattle.sim_agree.specs.Plain.{Each, Plain}
 use Rattle.sim_agree.specs.TablesOf.{TablesOf}
 use Rattle.sim_agree.proofs.Fitted.{AllConnect, ConnectsAt, DotsBounds, DotsDeclarations, DotsElement, DotsExpression, DotsExpressions, DotsSegment, DotsSide, FittedArms, FittedBlock, FittedStatement, FittedStatements, Given, TextFitted, text_fitted}
-use Rattle.sim_agree.proofs.Laid.{Con, Held, Joined, Part, Sub, Use, Whole, arms_used, block_used, bounds_used, declarations_used, each_used, element_used, expression_used, held_program, program_held, segment_used, side_used, statement_used, statements_used, text_held, text_used, used, used_held}
+use Rattle.sim_agree.proofs.Laid.{Con, Held, Joined, Part, Sub, Use, Whole, arms_used, block_used, bounds_used, declarations_used, each_used, element_used, expression_used, held_program, program_held, segment_used, side_used, statement_used, statements_used, text_held, text_used, used, used_held, Pre}
 use Rattle.sim_agree.proofs.Spots.{Fact, Final, Has, Here, LeftAt, here, there}
 use Rattle.sim_agree.proofs.Tables as tables
 use Rattle.sim_agree.proofs.Tables.{program_final, program_unbroken}
@@ -55,6 +55,7 @@ module _ (s : Source) (of : TablesOf s) (plain : Plain s.program) (order : InOrd
   abbrev pub PartIs : (block : ℕ) → Part → Type 0
   PartIs k (Use i) = block_at s.tables i ≡ Some k
   PartIs k (Sub i) = BlockIs s k i
+  PartIs k (Pre i) = PlacedPrefixed s k i
   PartIs k (Con i a) = Joins k i a
 
   pub at_place : (n i : ℕ) → Here (declared_by s.program) final.to n i → block_at s.tables i ≡ Some n
@@ -77,6 +78,16 @@ module _ (s : Source) (of : TablesOf s) (plain : Plain s.program) (order : InOrd
     declarations = f.0;
     statements = f.1;
     is = text_at f.2.number (Whole (BlockText i f.0 f.1)) f.2.text;
+  }
+  part_is n (Pre i) f = record {
+    number = f.4.number;
+    around = at_place f.4.number i f.4.there;
+    stands_in = tables.same_around s of plain order f.4.number ∙ f.4.around;
+    class = f.0;
+    arguments = f.1;
+    declarations = f.2;
+    statements = f.3;
+    is = text_at f.4.number (Whole (PrefixedText f.0 f.1 f.2 f.3)) f.4.text;
   }
   part_is n (Con i a) f = record {
     connection = record {
@@ -194,7 +205,7 @@ module _ (s : Source) (of : TablesOf s) (plain : Plain s.program) (order : InOrd
     statement_splits k w c (syntax.For i name sign j es a) u h d =
         let p = each_splits k element_used DotsElement (PlacedElement s.tables k) (element_splits k) es (statement_used a u) h.1 d.0 in
         let q = statement_splits k w c a u p.1 d.1 in ((h.0, p.0, q.0), q.1)
-    statement_splits k w c (syntax.Prefixed y args b) u h d = (tt, h)
+    statement_splits k w c (syntax.Prefixed y args b) u h d = let p = expression_splits k (syntax.Named y args) (Pre (begin_of b) ∷ u) h d in ((p.0.1, p.1.0), p.1.1)
     statement_splits k w c (syntax.Inner i) u h d = ((stands_around k i h.0, c d), h.1)
     statement_splits k w c (syntax.Inspect i e opening a end rest) u h d =
         let p = expression_splits k e (Con opening a ∷ statements_used rest u) h d.0 in
@@ -254,6 +265,12 @@ module _ (s : Source) (of : TablesOf s) (plain : Plain s.program) (order : InOrd
         let f = fitted k (ClassText prefix h ds ss) at in
         let p = declarations_split k ds (statements_used ss []) (parts_of_text k (ClassText prefix h ds ss) at (λ e. cc)) f.0 in
         let q = statements_split k true (λ z. ap is_class at) ss [] p.1 f.1 in (p.0, q.0)
+
+    pub prefixed_placed : (k : ℕ) (class : Identifier) (es : Expressions) (ds : Declarations) (ss : Statements) → text s k ≡ Some (PrefixedText class es ds ss) → PlacedArrays s.tables k ds × PlacedStatements s k ss
+    prefixed_placed k class es ds ss at =
+        let f = fitted k (PrefixedText class es ds ss) at in
+        let p = declarations_split k ds (statements_used ss []) (parts_of_text k (PrefixedText class es ds ss) at (λ e. cc)) f.0 in
+        let q = statements_split k false (nowhere k) ss [] p.1 f.1 in (p.0, q.0)
 
     pub body_placed : (k : ℕ) (result : Option TypeName) (h : Heading) (a : Statement) → text s k ≡ Some (ProcedureText result h a) → PlacedStatement s k a
     body_placed k result h a at = (statement_splits k false (nowhere k) a [] (parts_of_text k (ProcedureText result h a) at (λ e. cc)) (fitted k (ProcedureText result h a) at)).0

@@ -1,5 +1,5 @@
--- What the second round makes known of prefixes: the prefix of a class is a class that is declared in the block around or in a prefix of that. All
--- else stays.
+-- What the second round makes known of prefixes: the prefix of a class or a block is a class that is declared in the nearest block around that is no
+-- connection, or in a prefix of that. All else stays.
 use Rattle.std.proofs.Common.{◌≡◌, ◌<◌, ◌≤◌, ◌+◌, ◌⊎◌, inl, inr, ℕ, zero, suc, Bool, true, false, List, [], ◌∷◌, length, Option, Some, None, refl, sym, ap, ◌∙◌, subst, arith, if◌then◌else◌}
 use Rattle.std.specs.Prelude.{◌||◌, nat_eq, not, slice_get, slice_set}
 use Rattle.std.specs.Option.{option_or}
@@ -11,13 +11,11 @@ use Rattle.sim_tree.specs.Syntax.{Program}
 use Rattle.sim_scope.specs.declared.scopes.Declaration.{Declaration}
 use Rattle.sim_scope.specs.declared.scopes.Protection.{Protection}
 use Rattle.sim_scope.specs.declared.scopes.Qualification.{Qualification}
-use Rattle.sim_scope.specs.declared.types.BlockKind.{BlockKind}
 use Rattle.sim_scope.specs.declared.types.BlockKind.TheVariants as kind
 use Rattle.sim_scope.specs.declared.types.Entry.TheVariants as entry
 use Rattle.sim_scope.specs.declared.types.StandardPrefix.{StandardPrefix}
-use Rattle.sim_scope.specs.Access.{encloser, is_connection, is_kind, is_so, joined}
+use Rattle.sim_scope.specs.Access.{encloser, is_connection, is_kind, is_so, joined, around}
 use Rattle.sim_scope.specs.Along.{first_along, from_next}
-use Rattle.sim_scope.specs.Building.{is_class}
 use Rattle.sim_scope.specs.ClassNames.{is_name_of_classes}
 use Rattle.sim_scope.specs.Levels.{base, base_in, class_block, class_block_in, holds}
 use Rattle.sim_scope.specs.Runs.{run}
@@ -37,22 +35,27 @@ use Rattle.sim_static.specs.Check.{completed}
 use Rattle.sim_agree.proofs.Completing.{AllReferences, Completes, HasNext, Requalified, Rows, bare_row, class_was, connections_complete, entry_is_class, kind_in, references_qualified, same_rows}
 use Rattle.sim_agree.proofs.Openings.{AllOpened, Opened}
 use Rattle.sim_agree.proofs.PlainNames.{no_standard_prefix}
-use Rattle.sim_agree.proofs.Unprefixed.{Extras, Unprefixed, extras_in, is_wrong, shown_next}
+use Rattle.sim_agree.proofs.Unprefixed.{Extras, Unprefixed, extras_in, is_wrong, shown_next, is_prefixable}
 
 -- a block and the levels of its prefixes
 pub data Reaches (T : Tables) : (outer level : ℕ) → Type 0 where
   itself : {k : ℕ} → Reaches T k k
   through : {k b l : ℕ} → base T k ≡ Some b → Reaches T b l → Reaches T k l
 
--- a class has this prefix
+-- the nearest block from one outward that is no connection
+pub data HomeFrom (D : Tables) : Option ℕ → (home : ℕ) → Type 0 where
+  stands : {u : ℕ} → is_kind is_connection D u ≡ false → HomeFrom D (Some u) u
+  connected : {u h : ℕ} → is_kind is_connection D u ≡ true → HomeFrom D (encloser D u) h → HomeFrom D (Some u) h
+
+-- a class or a block has this prefix
 pub record PrefixOf (D T : Tables) (k c : ℕ) : Type 0 where
   pub row : BlockOf
   pub at : slice_get D.blocks k ≡ Some row
-  pub kind : row.kind ≡ kind.Class
+  pub kind : is_prefixable row.kind ≡ true
   pub class : DeclNo
   pub declares : class_block D class ≡ Some c
   pub outer : ℕ
-  pub around : row.encloser ≡ Some outer
+  pub around : HomeFrom D row.encloser outer
   pub level : ℕ
   pub reaches : Reaches T outer level
   pub name : List ℕ
@@ -85,6 +88,10 @@ level_bare : (o : Option BlockOf) → level_in (bare_row o) ≡ level_in o
 level_bare None = refl
 level_bare (Some row) = refl
 
+around_bare : (o : Option BlockOf) → around (bare_row o) ≡ around o
+around_bare None = refl
+around_bare (Some row) = refl
+
 kind_bare : (o : Option BlockOf) → kind_in (bare_row o) ≡ kind_in o
 kind_bare None = refl
 kind_bare (Some row) = refl
@@ -101,15 +108,6 @@ found_bare name (Some row) = refl
 row_was : (o : Option BlockOf) (row : BlockOf) → bare_row (Some row) ≡ bare_row o → (old : BlockOf) × (o ≡ Some old) × (record row { base = None } ≡ record old { base = None })
 row_was None row e = absurd (cc)
 row_was (Some old) row e = (old, refl, some_same (record row { base = None }) (record old { base = None }) e)
-
-class_kind : (k : BlockKind) → is_class k ≡ true → k ≡ kind.Class
-class_kind kind.Class e = refl
-class_kind kind.Program e = absurd (cc)
-class_kind kind.SubBlock e = absurd (cc)
-class_kind kind.Procedure e = absurd (cc)
-class_kind kind.Prefixed e = absurd (cc)
-class_kind kind.Connection e = absurd (cc)
-class_kind (kind.StandardClass which) e = absurd (cc)
 
 reaches_more : (T U : Tables) → ((j b : ℕ) → base T j ≡ Some b → base U j ≡ Some b) → (k l : ℕ) → Reaches T k l → Reaches U k l
 reaches_more T U more k l itself = itself
@@ -140,7 +138,7 @@ shown_reaches T w (suc n) from k name d e = go (shown_next T w n from k name d e
     go (inl h) rest = (k, itself, h)
     go (inr h) rest = let q = rest h.0 h.2 in (q.0, through h.1 q.1, q.2)
 
-module _ (D : Tables) (bare : Unprefixed D) (solid : (k : ℕ) (row : BlockOf) → slice_get D.blocks k ≡ Some row → row.kind ≡ kind.Class → (u : ℕ) × (row.encloser ≡ Some u) × (is_kind is_connection D u ≡ false)) where
+module _ (D : Tables) (bare : Unprefixed D) where
   -- ---- one block
 
   module _ (T : Tables) (s : Based D T) where
@@ -165,16 +163,28 @@ module _ (D : Tables) (bare : Unprefixed D) (solid : (k : ℕ) (row : BlockOf) �
     same_level : (k : ℕ) → level_in (slice_get T.blocks k) ≡ level_in (slice_get D.blocks k)
     same_level k = sym (level_bare (slice_get T.blocks k)) ∙ ap level_in (s.blocks k) ∙ level_bare (slice_get D.blocks k)
 
-    -- the prefix of a class is looked for in the block around
-    home_is : (u n : ℕ) → length T.blocks ≡ suc n → is_kind is_connection D u ≡ false → home_from T (Some u) ≡ Some u
-    unfolding first_along
-    home_is u n some other =
-        ap (λ m. first_along (encloser T) m (unless_connection T) u) some
-        ∙ ap (λ z. option_or (if z then None else Some u) (from_next (λ b. first_along (encloser T) n (unless_connection T) b) (encloser T u))) (same_kind u ∙ other)
+    same_encloser : (u : ℕ) → encloser T u ≡ encloser D u
+    unfolding encloser
+    same_encloser u = sym (around_bare (slice_get T.blocks u)) ∙ ap around (s.blocks u) ∙ around_bare (slice_get D.blocks u)
 
-    some_length : (xs : List BlockOf) (k : ℕ) (row : BlockOf) → slice_get xs k ≡ Some row → (n : ℕ) × (length xs ≡ suc n)
-    some_length [] k row e = absurd (cc)
-    some_length (x ∷ xs) k row e = (length xs, (let n : length (x ∷ xs) ≡ suc (length xs) = omega arith in n))
+    -- a prefix is looked for in the nearest block around that is no connection
+    home_along : (n u h : ℕ) → first_along (encloser T) n (unless_connection T) u ≡ Some h → HomeFrom D (Some u) h
+    unfolding first_along
+    home_along zero u h e = absurd (cc)
+    home_along (suc n) u h e = go (is_kind is_connection T u) refl e (λ b f. home_along n b h f)
+      where
+        next : (o : Option ℕ) → encloser T u ≡ o → from_next (λ b. first_along (encloser T) n (unless_connection T) b) o ≡ Some h → ((b : ℕ) → first_along (encloser T) n (unless_connection T) b ≡ Some h → HomeFrom D (Some b) h) → HomeFrom D (encloser D u) h
+        next None is f rest = absurd (cc)
+        next (Some b) is f rest = subst (λ o. HomeFrom D o h) (sym is ∙ same_encloser u) (rest b f)
+
+        go : (c : Bool) → is_kind is_connection T u ≡ c → option_or (if c then None else Some u) (from_next (λ b. first_along (encloser T) n (unless_connection T) b) (encloser T u)) ≡ Some h
+            → ((b : ℕ) → first_along (encloser T) n (unless_connection T) b ≡ Some h → HomeFrom D (Some b) h) → HomeFrom D (Some u) h
+        go false is f rest = subst (λ z. HomeFrom D (Some u) z) (some_same u h f) (stands (sym (same_kind u) ∙ is))
+        go true is f rest = connected (sym (same_kind u) ∙ is) (next (encloser T u) refl f rest)
+
+    home_is : (o : Option ℕ) (h : ℕ) → home_from T o ≡ Some h → HomeFrom D o h
+    home_is None h e = absurd (cc)
+    home_is (Some u) h e = home_along (length T.blocks) u h e
 
     -- what is found
     Says : ℕ → PrefixFound → Type 0
@@ -211,36 +221,36 @@ module _ (D : Tables) (bare : Unprefixed D) (solid : (k : ℕ) (row : BlockOf) �
             pick true = tt
             pick false = says_nothing k (standard_prefix x.name) (no_standard_prefix x.name plain)
 
-        of_class : (u : ℕ) → row.encloser ≡ Some u → (x : Identifier) (d : DeclNo) → shown_of T (length T.blocks) (Some x.token.0) u x.name ≡ Some d → (o : Option ℕ) → class_block T d ≡ o → row.kind ≡ kind.Class → Says k (class_or_nothing o)
+        of_class : (u : ℕ) → HomeFrom D row.encloser u → (x : Identifier) (d : DeclNo) → shown_of T (length T.blocks) (Some x.token.0) u x.name ≡ Some d → (o : Option ℕ) → class_block T d ≡ o → is_prefixable row.kind ≡ true → Says k (class_or_nothing o)
         of_class u around x d e None is class = tt
         of_class u around x d e (Some c) is class =
             let q = shown_reaches T plainly (length T.blocks) (Some x.token.0) u x.name d e in record {
               row = was.0;
               at = was.1;
-              kind = sym same_kinds ∙ class;
+              kind = ap is_prefixable (sym same_kinds) ∙ class;
               class = d;
               declares = sym (same_class d) ∙ is;
               outer = u;
-              around = ap (λ (z : BlockOf). z.encloser) (sym was.2) ∙ around;
+              around = subst (λ o. HomeFrom D o u) (ap (λ (z : BlockOf). z.encloser) was.2) around;
               level = q.0;
               reaches = q.1;
               name = x.name;
               listed = sym (same_lookup q.0 x.name) ∙ q.2;
             }
 
-        of_shown : (u : ℕ) → row.encloser ≡ Some u → (x : Identifier) → is_name_of_classes x.name ≡ false → row.kind ≡ kind.Class → (o : Option DeclNo) → shown_of T (length T.blocks) (Some x.token.0) u x.name ≡ o → Says k (shown_prefix T x u o)
+        of_shown : (u : ℕ) → HomeFrom D row.encloser u → (x : Identifier) → is_name_of_classes x.name ≡ false → is_prefixable row.kind ≡ true → (o : Option DeclNo) → shown_of T (length T.blocks) (Some x.token.0) u x.name ≡ o → Says k (shown_prefix T x u o)
         of_shown u around x plain class None e = outside x plain (encloser T u)
         of_shown u around x plain class (Some d) e = of_class u around x d e (class_block T d) refl class
 
         go : (p : Option Identifier) → row.prefix ≡ p → Says k (prefix_found T row p)
         go None e = tt
         go (Some x) e =
-            let b = both (is_class row.kind) (is_name_of_classes x.name) (sym (ap (is_wrong row.kind) e) ∙ right) in
-            let class : row.kind ≡ kind.Class = class_kind row.kind b.0 in
-            let q = solid k was.0 was.1 (sym same_kinds ∙ class) in
-            let around : row.encloser ≡ Some q.0 = ap (λ (z : BlockOf). z.encloser) was.2 ∙ q.1 in
-            let n = some_length T.blocks k row at in
-            subst (λ z. Says k (prefix_from T x z)) (sym (ap (home_from T) around ∙ home_is q.0 n.0 n.1 q.2)) (of_shown q.0 around x b.1 class (shown_of T (length T.blocks) (Some x.token.0) q.0 x.name) refl)
+            let b = both (is_prefixable row.kind) (is_name_of_classes x.name) (sym (ap (is_wrong row.kind) e) ∙ right) in
+            at_home x b.0 b.1 (home_from T row.encloser) refl
+          where
+            at_home : (x : Identifier) → is_prefixable row.kind ≡ true → is_name_of_classes x.name ≡ false → (o : Option ℕ) → home_from T row.encloser ≡ o → Says k (prefix_from T x o)
+            at_home x class plain None e = says_nothing k (standard_prefix x.name) (no_standard_prefix x.name plain)
+            at_home x class plain (Some u) e = of_shown u (home_is row.encloser u e) x plain class (shown_of T (length T.blocks) (Some x.token.0) u x.name) refl
 
   -- one block gets its prefix
   module _ (l i : ℕ) (T : Tables) (s : So D T l i) where
@@ -353,9 +363,9 @@ refs_same : (D P : Tables) → P.declarations ≡ D.declarations → (qs : List 
 refs_same D P same [] a = tt
 refs_same D P same (q ∷ qs) a = ((a.0.0, ap (λ z. slice_get z q.declaration.0) same ∙ a.0.1, a.0.2), refs_same D P same qs a.1)
 
--- the tables with the prefixes of classes
-pub prefixed_tables : (D : Tables) → Unprefixed D → ((k : ℕ) → base_in (slice_get D.blocks k) ≡ None) → ((k : ℕ) (row : BlockOf) → slice_get D.blocks k ≡ Some row → row.kind ≡ kind.Class → (u : ℕ) × (row.encloser ≡ Some u) × (is_kind is_connection D u ≡ false)) → Based D (prefixed D)
-prefixed_tables D bare bottom solid = prefixes_based D bare solid bottom
+-- the tables with the prefixes of classes and blocks
+pub prefixed_tables : (D : Tables) → Unprefixed D → ((k : ℕ) → base_in (slice_get D.blocks k) ≡ None) → Based D (prefixed D)
+prefixed_tables D bare bottom = prefixes_based D bare bottom
 
 -- they are the tables before with other blocks
 abbrev pub with_blocks : Tables → List BlockOf → Tables

@@ -194,7 +194,7 @@ module _ (s : Source) (of : TablesOf s) (plain : Plain s.program) (order : InOrd
         go None is = refl
         go (Some b) is =
             absurd (let p = (t.P s of plain order).bases k b is in
-            let q : true ≡ false = sym e ∙ ic.connections s of plain order k ∙ t.class_other s of plain order k p.row p.at p.kind in cc)
+            let q : true ≡ false = sym e ∙ ic.connections s of plain order k ∙ t.prefixed_other s of plain order k p.row p.at p.kind in cc)
 
     next_early : (k c : ℕ) → base s.tables k ≡ Some c → is_kind is_connection_kind s.tables c ≡ false
     next_early k c e = ic.connections s of plain order c ∙ ap is_connection (t.connects s of plain order k c e).4

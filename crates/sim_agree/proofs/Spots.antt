@@ -9,13 +9,13 @@ use Rattle.sim_base.specs.declared.numbering.TokenNo.{TokenNo}
 use Rattle.sim_base.specs.declared.rule.Rule.{Rule}
 use Rattle.sim_base.specs.declared.rule.Rule.TheVariants as r
 use Rattle.sim_tree.specs.declared.expr.Identifier.{Identifier}
-use Rattle.sim_tree.specs.Syntax.{Declarations, Statement, Statements}
+use Rattle.sim_tree.specs.Syntax.{Declarations, Statement, Statements, Expressions}
 use Rattle.sim_scope.specs.declared.scopes.Declaration.{Declaration}
 use Rattle.sim_scope.specs.declared.types.BlockKind.{BlockKind}
 use Rattle.sim_scope.specs.declared.types.BlockKind.TheVariants as kind
 use Rattle.sim_scope.specs.declared.types.Entry.{Entry}
 use Rattle.sim_scope.specs.declared.types.Entry.TheVariants as entry
-use Rattle.sim_scope.specs.Building.{BuildingOf, Mark, Opens, block_around, broken_if, changed, closed, closed_at, declared, found_in, holding_class, level_in, marked, most_levels, opened, owner_of, parameter as parameter_of, placed, specified as specified_of, unspecified_at}
+use Rattle.sim_scope.specs.Building.{BuildingOf, Mark, Opens, block_around, broken_if, changed, closed, closed_at, declared, found_in, holding_class, level_in, marked, most_levels, opened, owner_of, parameter as parameter_of, placed, specified as specified_of, unspecified_at, prefixed_by}
 use Rattle.sim_scope.specs.Declare.{result_named}
 use Rattle.sim_scope.specs.Runs.{run}
 use Rattle.sim_scope.specs.Access.{around}
@@ -25,11 +25,11 @@ use Rattle.sim_meaning.specs.Entries.{numbers_in}
 use Rattle.sim_sound.specs.Held.{Among}
 use Rattle.sim_scope.specs.Tables.{BlockOf}
 use Rattle.sim_scope.proofs.Kept.{kept_more, kept_set, more_here, more_other, set_here, set_other}
-use Rattle.sim_meaning.specs.Texts.{BlockText, ClassText, ProcedureText, Text}
+use Rattle.sim_meaning.specs.Texts.{BlockText, ClassText, ProcedureText, Text, PrefixedText}
 use Rattle.sim_tree.specs.Order.{Ascends, Spot}
-use Rattle.sim_agree.proofs.Laid.{Con, Frame, Held, Joined, Laid, Part, Sub, Use, Whole, block, breaks_rule, closes, connects, declares, declares_class, frame, headed, inner_mark, leaves, moded, nothing, parameter, passes, procedure, program, specified, text_held, used_held, uses, Prefs, prefixed, unprefixed, text_used, guarded}
+use Rattle.sim_agree.proofs.Laid.{Con, Frame, Held, Joined, Laid, Part, Sub, Use, Whole, block, breaks_rule, closes, connects, declares, declares_class, frame, headed, inner_mark, leaves, moded, nothing, parameter, passes, procedure, program, specified, text_held, used_held, uses, Prefs, prefixed, unprefixed, text_used, guarded, Pre, prefixed_block}
 use Rattle.sim_agree.proofs.Steps.{AllEven, Changed, Declared, Fixed, Nothing, Step, class_step, declared_step, fixed, headed_step, inner_step, last_cases, met, moded_step, own_unmatched, parameter_step, procedure_unmatched, quals_step, rule_step, specified_met, prefix_step, guards_step}
-use Rattle.sim_agree.proofs.Unprefixed.{Unprefixed, extras_in, no_extras}
+use Rattle.sim_agree.proofs.Unprefixed.{Unprefixed, extras_in, no_extras, is_prefixable}
 use Rattle.sim_agree.proofs.Fine.{same_around, fresh}
 use Rattle.sim_agree.proofs.FineRuns.{run_both}
 use Rattle.sim_agree.proofs.Groups.{AreReferences, OfReferences}
@@ -101,6 +101,7 @@ pub record Inner (b : BuildingOf) (hs : List Held) (from n i : ℕ) (x : Held) :
 abbrev pub Fact : BuildingOf → List Held → (from block : ℕ) → Part → Type 0
 Fact b hs from n (Use i) = Here b from n i
 Fact b hs from n (Sub i) = (ds : Declarations) × (ss : Statements) × Inner b hs from n i (Whole (BlockText i ds ss))
+Fact b hs from n (Pre i) = (class : Identifier) × (es : Expressions) × (ds : Declarations) × (ss : Statements) × Inner b hs from n i (Whole (PrefixedText class es ds ss))
 Fact b hs from n (Con i a) = Inner b hs from n i (Joined i a)
 
 -- a block begins at its first token
@@ -139,6 +140,7 @@ inner_moves b c ts us from to keep m n i x f = let k = keep f.number x f.text in
 fact_moves : (b c : BuildingOf) (ts us : List Held) (from to : ℕ) → Keeps b.tables.blocks c.tables.blocks ts us → Moves b c from to → (n : ℕ) (p : Part) → Fact b ts from n p → Fact c us to n p
 fact_moves b c ts us from to keep m n (Use i) f = m n i f
 fact_moves b c ts us from to keep m n (Sub i) f = (f.0, f.1, inner_moves b c ts us from to keep m n i (Whole (BlockText i f.0 f.1)) f.2)
+fact_moves b c ts us from to keep m n (Pre i) f = (f.0, f.1, f.2, f.3, inner_moves b c ts us from to keep m n i (Whole (PrefixedText f.0 f.1 f.2 f.3)) f.4)
 fact_moves b c ts us from to keep m n (Con i v) f = inner_moves b c ts us from to keep m n i (Joined i v) f
 
 -- ---- a use
@@ -301,6 +303,7 @@ filled_here b from to n i le reach (inr q) =
 abbrev Begun : (first : ℕ) → Held → Part → Type 0
 Begun first x (Use i) = ⊥
 Begun first x (Sub i) = (i ≡ first) × ((ds : Declarations) × (ss : Statements) × (x ≡ Whole (BlockText i ds ss)))
+Begun first x (Pre i) = (i ≡ first) × ((class : Identifier) × (es : Expressions) × (ds : Declarations) × (ss : Statements) × (x ≡ Whole (PrefixedText class es ds ss)))
 Begun first x (Con i v) = (i ≡ first) × (x ≡ Joined i v)
 
 abbrev Pops : BuildingOf → Held → (first : ℕ) → (os ps : List Frame) → Type 0
@@ -383,6 +386,8 @@ begun_laid b new first ts x os ps from high own le up around_is first_is without
     starts n (Use i) cur q = absurd q
     starts n (Sub i) cur q =
         (q.1.0, q.1.1, record { number = length bs; text = at ∙ ap Some q.1.2; around = under ∙ cur; there = subst (λ z. Here c (first + 1) (length bs) z) (sym q.0) new_here; begins = begins_there ∙ sym q.0 })
+    starts n (Pre i) cur q =
+        (q.1.0, q.1.1, q.1.2, q.1.3, record { number = length bs; text = at ∙ ap Some q.1.4; around = under ∙ cur; there = subst (λ z. Here c (first + 1) (length bs) z) (sym q.0) new_here; begins = begins_there ∙ sym q.0 })
     starts n (Con i v) cur q = record { number = length bs; text = at ∙ ap Some q.1; around = under ∙ cur; there = subst (λ z. Here c (first + 1) (length bs) z) (sym q.0) new_here; begins = begins_there ∙ sym q.0 }
 
     done : (n : ℕ) (y : Held) (p : Part) → Has p (used_held y) → (slice_get ts n ≡ Some y) ⊎ ((n ≡ length ts) × (x ≡ y)) → Fact c us (first + 1) n p ⊎ LeftAt cs (Some (length bs)) (frame (text_held x) (used_held x) ∷ ps) n p
@@ -519,23 +524,23 @@ quiet_laid : (b c : BuildingOf) (ts : List Held) (os : List Frame) (from : ℕ) 
 quiet_laid b c ts os from s f = step_laid b c Nothing s ts os from from (let z : from ≤ from = omega arith in z) (λ d row q. absurd q) f
 
 -- the block that begins
-opened_class : (b : BuildingOf) (text first n : ℕ) (row : BlockOf) → (opened b kind.Class text first).current ≡ Some n → slice_get (opened b kind.Class text first).tables.blocks n ≡ Some row → row.kind ≡ kind.Class
-opened_class b text first n row = go (nat_lt most_levels (level_in kind.Class (block_around b.tables b.current)))
+opened_kind : (b : BuildingOf) (k : BlockKind) (text first n : ℕ) (row : BlockOf) → (opened b k text first).current ≡ Some n → slice_get (opened b k text first).tables.blocks n ≡ Some row → row.kind ≡ k
+opened_kind b k text first n row = go (nat_lt most_levels (level_in k (block_around b.tables b.current)))
   where
-    at_end : Some (length b.tables.blocks) ≡ Some n → slice_get (b.tables.blocks ++ fresh b kind.Class first ∷ []) n ≡ Some row → row.kind ≡ kind.Class
+    at_end : Some (length b.tables.blocks) ≡ Some n → slice_get (b.tables.blocks ++ fresh b k first ∷ []) n ≡ Some row → row.kind ≡ k
     at_end cur at =
         let same : length b.tables.blocks ≡ n = some_same (length b.tables.blocks) n cur in
-        let one : fresh b kind.Class first ≡ row = some_same (fresh b kind.Class first) row (sym (more_here b.tables.blocks (fresh b kind.Class first)) ∙ subst (λ z. slice_get (b.tables.blocks ++ fresh b kind.Class first ∷ []) z ≡ Some row) (sym same) at) in
+        let one : fresh b k first ≡ row = some_same (fresh b k first) row (sym (more_here b.tables.blocks (fresh b k first)) ∙ subst (λ z. slice_get (b.tables.blocks ++ fresh b k first ∷ []) z ≡ Some row) (sym same) at) in
         sym (ap (λ (z : BlockOf). z.kind) one)
 
     made : BuildingOf
-    made = record b { tables = record b.tables { blocks = b.tables.blocks ++ fresh b kind.Class first ∷ []; places = (placed b.tables b.current first).places }; current = Some (length b.tables.blocks) }
+    made = record b { tables = record b.tables { blocks = b.tables.blocks ++ fresh b k first ∷ []; places = (placed b.tables b.current first).places }; current = Some (length b.tables.blocks) }
 
-    go : (c : Bool) → (broken_if c made text r.TooManyLevels).current ≡ Some n → slice_get (broken_if c made text r.TooManyLevels).tables.blocks n ≡ Some row → row.kind ≡ kind.Class
+    go : (c : Bool) → (broken_if c made text r.TooManyLevels).current ≡ Some n → slice_get (broken_if c made text r.TooManyLevels).tables.blocks n ≡ Some row → row.kind ≡ k
     go true cur at = at_end cur at
     go false cur at = at_end cur at
 
-prefs_laid : (b : BuildingOf) (prefs : List Mark) (ts : List Held) (os : List Frame) (from : ℕ) → Prefs prefs → (n : ℕ) → b.current ≡ Some n → ((row : BlockOf) → slice_get b.tables.blocks n ≡ Some row → row.kind ≡ kind.Class) → Lay b ts os from → Lay (run marked b prefs) ts os from
+prefs_laid : (b : BuildingOf) (prefs : List Mark) (ts : List Held) (os : List Frame) (from : ℕ) → Prefs prefs → (n : ℕ) → b.current ≡ Some n → ((row : BlockOf) → slice_get b.tables.blocks n ≡ Some row → is_prefixable row.kind ≡ true) → Lay b ts os from → Lay (run marked b prefs) ts os from
 unfolding run marked
 prefs_laid b [] ts os from unprefixed n cur class l = l
 prefs_laid b ms ts os from (prefixed y p) n cur class l = quiet_laid b _ ts os from (prefix_step b y n cur p class) l
@@ -576,6 +581,14 @@ run_laid b ts from (block {os = os} {ms = ms} {hs = xs} text i ds ss y u g) a f 
     let x : Held = Whole (BlockText i ds ss) in
     let q = run_laid (opened b kind.SubBlock text i) (ts ++ x ∷ []) (i + 1) g a.1 (opened_laid b kind.SubBlock text i ts x (frame y (Sub i ∷ u) ∷ os) (frame y u ∷ os) from from tt a.0 (let le : from ≤ i = a.0 in omega arith) f f.stack (pop_part b x i (Sub i) (refl, (ds, ss, refl)) y u os)) in
     record { to = q.to; laid = subst (λ z. Lay (run marked (opened b kind.SubBlock text i) ms) z [] q.to) (append_assoc ts (x ∷ []) xs) q.laid }
+run_laid b ts from (prefixed_block {os = os} {ms = ms} {hs = xs} text i class es ds ss y u w g) a f =
+    let x : Held = Whole (PrefixedText class es ds ss) in
+    let o : BuildingOf = opened b kind.Prefixed text i in
+    let c : BuildingOf = changed o (prefixed_by class) o.current in
+    let l = opened_laid b kind.Prefixed text i ts x (frame y (Pre i ∷ u) ∷ os) (frame y u ∷ os) from from tt a.0 (let le : from ≤ i = a.0 in omega arith) f f.stack (pop_part b x i (Pre i) (refl, (class, es, ds, ss, refl)) y u os) in
+    let q = run_laid c (ts ++ x ∷ []) (i + 1) g a.1
+    (quiet_laid o c (ts ++ x ∷ []) (frame (PrefixedText class es ds ss) (text_used (PrefixedText class es ds ss)) ∷ frame y u ∷ os) (i + 1) (prefix_step o class l.stack.0 l.stack.1 w (λ row at. ap is_prefixable (opened_kind b kind.Prefixed text i l.stack.0 row l.stack.1 at))) l) in
+    record { to = q.to; laid = subst (λ z. Lay (run marked c ms) z [] q.to) (append_assoc ts (x ∷ []) xs) q.laid }
 run_laid b ts from (connects {os = os} {ms = ms} {hs = xs} text i v y u g) a f =
     let x : Held = Joined i v in
     let q = run_laid (opened b kind.Connection text i) (ts ++ x ∷ []) (i + 1) g a.1 (opened_laid b kind.Connection text i ts x (frame y (Con i v ∷ u) ∷ os) (frame y u ∷ os) from from (refl, (f.stack.0, f.stack.1)) a.0 (let le : from ≤ i = a.0 in omega arith) f f.stack (pop_part b x i (Con i v) (refl, refl) y u os)) in
@@ -603,7 +616,7 @@ run_laid b ts from (declares_class {o = o} {os = os} {ms = ms} {hs = xs} text pr
     let k = named_laid b c0 h.name e n ts o os from (class_step b h.name (length b.tables.blocks) n f.stack.1) a.0 f in
     let l = opened_laid c0 kind.Class text i ts x (o ∷ os) (o ∷ os) from (i + 1) tt a.0 (let z : i + 1 ≤ i + 1 = omega arith in z) k k.stack (pop_none c0 x i (o ∷ os)) in
     let p = run_laid (run marked c prefs) (ts ++ x ∷ []) (i + 1) g a.1
-    (prefs_laid c prefs (ts ++ x ∷ []) (frame (ClassText prefix h ds ss) (text_used (ClassText prefix h ds ss)) ∷ o ∷ os) (i + 1) w l.stack.0 l.stack.1 (λ row at. opened_class c0 text i l.stack.0 row l.stack.1 at) l) in
+    (prefs_laid c prefs (ts ++ x ∷ []) (frame (ClassText prefix h ds ss) (text_used (ClassText prefix h ds ss)) ∷ o ∷ os) (i + 1) w l.stack.0 l.stack.1 (λ row at. ap is_prefixable (opened_kind c0 kind.Class text i l.stack.0 row l.stack.1 at)) l) in
     subst (λ z. Final z (ts ++ (x ∷ xs))) (sym (run_both c prefs ms))
     (record { to = p.to; laid = subst (λ z. Lay (run marked (run marked c prefs) ms) z [] p.to) (append_assoc ts (x ∷ []) xs) p.laid })
 run_laid b ts from (closes {os = os} x end g) a f =

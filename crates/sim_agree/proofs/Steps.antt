@@ -14,7 +14,6 @@ use Rattle.sim_base.specs.declared.rule.Rule.TheVariants as r
 use Rattle.sim_tree.specs.declared.expr.Identifier.{Identifier}
 use Rattle.sim_scope.specs.declared.scopes.Declaration.{Declaration}
 use Rattle.sim_scope.specs.declared.types.BlockKind.{BlockKind}
-use Rattle.sim_scope.specs.declared.types.BlockKind.TheVariants as kind
 use Rattle.sim_scope.specs.declared.types.Entry.{Entry}
 use Rattle.sim_scope.specs.declared.types.Entry.TheVariants as entry
 use Rattle.sim_scope.specs.declared.types.FormalKind.{FormalKind}
@@ -23,7 +22,7 @@ use Rattle.sim_scope.specs.declared.types.Mode.{Mode}
 use Rattle.sim_scope.specs.declared.types.Mode.TheVariants as mode
 use Rattle.sim_scope.specs.declared.types.SimType.{SimType}
 use Rattle.sim_scope.specs.declared.types.WrittenMode.{WrittenMode}
-use Rattle.sim_scope.specs.Building.{BuildingOf, Mark, broken, broken_if, changed, changed_row, counted, counted_in, declared, declared_again, declared_at, declared_inside, declared_new, declared_twice, default_mode, entered, formal, headed, holding_class, in_class, inner, inner_at, inner_in, is_class, is_match, is_procedure, is_simple, marked, matched, mode_allowed, moded, moded_as, parameter, prefixed_by, qualified, row_of, specified, specified_as, token_in, unspecified_in, with_entry, with_mode, with_name, guards, guards_at, protecting}
+use Rattle.sim_scope.specs.Building.{BuildingOf, Mark, broken, broken_if, changed, changed_row, counted, counted_in, declared, declared_again, declared_at, declared_inside, declared_new, declared_twice, default_mode, entered, formal, headed, holding_class, in_class, inner, inner_at, inner_in, is_match, is_procedure, is_simple, marked, matched, mode_allowed, moded, moded_as, parameter, prefixed_by, qualified, row_of, specified, specified_as, token_in, unspecified_in, with_entry, with_mode, with_name, guards, guards_at, protecting}
 use Rattle.sim_scope.specs.ClassNames.{is_name_of_classes}
 use Rattle.sim_scope.specs.Runs.{run}
 use Rattle.sim_scope.specs.Scopes.{declared_in, entry_in, entry_of, is_virtual, numbered}
@@ -32,7 +31,7 @@ use Rattle.sim_scope.proofs.Kept.{kept_set, more_here, more_other, set_here, set
 use Rattle.sim_meaning.specs.Entries.{numbers_in}
 use Rattle.sim_sound.specs.Held.{Among, first, later}
 use Rattle.sim_agree.proofs.Groups.{OwnEntry, PlainFormal, Quals, qualifies, unqualified}
-use Rattle.sim_agree.proofs.Unprefixed.{Extras, NoExtras, NoVirtuals, Unprefixed, extras_in, is_wrong, no_extras}
+use Rattle.sim_agree.proofs.Unprefixed.{Extras, NoExtras, NoVirtuals, Unprefixed, extras_in, is_wrong, no_extras, is_prefixable}
 
 -- ---- lists of numbers
 
@@ -700,8 +699,8 @@ pub inner_step : (b : BuildingOf) (token : ℕ) (o : Option ℕ) → b.current �
 inner_step b token None cur = same_step b b Nothing refl refl
 inner_step b token (Some n) cur = inner_found b token n (slice_get b.tables.blocks n) cur refl
 
--- a prefix in front of the innermost block, which is a class
-prefix_found : (b : BuildingOf) (x : Identifier) (n : ℕ) (o : Option BlockOf) → b.current ≡ Some n → slice_get b.tables.blocks n ≡ o → is_name_of_classes x.name ≡ false → ((row : BlockOf) → o ≡ Some row → row.kind ≡ kind.Class) → Step b (changed_row b (prefixed_by x) n o) Nothing
+-- a prefix in front of the innermost block, which is a class or a block that may have one
+prefix_found : (b : BuildingOf) (x : Identifier) (n : ℕ) (o : Option BlockOf) → b.current ≡ Some n → slice_get b.tables.blocks n ≡ o → is_name_of_classes x.name ≡ false → ((row : BlockOf) → o ≡ Some row → is_prefixable row.kind ≡ true) → Step b (changed_row b (prefixed_by x) n o) Nothing
 prefix_found b x n None cur at plain class = same_step b b Nothing refl refl
 prefix_found b x n (Some row) cur at plain class =
     bare_row_step b b Nothing n row (prefixed_by x row) cur at refl refl refl (λ e. ap (λ z. of_row z row) right ∙ ap without e) (same_step b b Nothing refl refl)
@@ -713,9 +712,9 @@ prefix_found b x n (Some row) cur at plain class =
     without z = record { wrong = false; standard = z.standard }
 
     right : is_wrong row.kind (Some x) ≡ false
-    right = ap (λ k. not (is_class k) || is_name_of_classes x.name) (class row refl) ∙ plain
+    right = ap (λ k. not k || is_name_of_classes x.name) (class row refl) ∙ plain
 
-pub prefix_step : (b : BuildingOf) (x : Identifier) (n : ℕ) → b.current ≡ Some n → is_name_of_classes x.name ≡ false → ((row : BlockOf) → slice_get b.tables.blocks n ≡ Some row → row.kind ≡ kind.Class) → Step b (changed b (prefixed_by x) b.current) Nothing
+pub prefix_step : (b : BuildingOf) (x : Identifier) (n : ℕ) → b.current ≡ Some n → is_name_of_classes x.name ≡ false → ((row : BlockOf) → slice_get b.tables.blocks n ≡ Some row → is_prefixable row.kind ≡ true) → Step b (changed b (prefixed_by x) b.current) Nothing
 prefix_step b x n cur plain class = subst (λ o. Step b (changed b (prefixed_by x) o) Nothing) (sym cur) (prefix_found b x n (slice_get b.tables.blocks n) cur refl plain class)
 
 -- an attribute that the innermost block hides or protects

@@ -17,7 +17,7 @@ use Rattle.sim_scope.specs.declared.types.FormalKind.TheVariants as shape
 use Rattle.sim_scope.specs.declared.types.SimType.{SimType}
 use Rattle.sim_scope.specs.declared.types.SimType.TheVariants as t
 use Rattle.sim_scope.specs.declared.types.WrittenMode.{WrittenMode}
-use Rattle.sim_scope.specs.Access.{around, encloser, joined, is_connection as is_connection_kind, is_kind}
+use Rattle.sim_scope.specs.Access.{around, encloser, joined}
 use Rattle.sim_scope.specs.Declare.{declared_by, declaring, empty, result_named}
 use Rattle.sim_scope.specs.Levels.{base, base_in, class_block, class_block_in}
 use Rattle.sim_scope.specs.Scopes.{declared_in, entry_in, entry_of, is_virtual}
@@ -45,8 +45,9 @@ use Rattle.sim_agree.proofs.Laid.{program_held, program_laid}
 use Rattle.sim_agree.proofs.Openings.{Opened, program_opened}
 use Rattle.sim_agree.proofs.Spots.{Final, Here, Lay, run_laid}
 use Rattle.sim_agree.proofs.Steps.{IsParameter, Parametric}
-use Rattle.sim_agree.proofs.Unprefixed.{Unprefixed, extras_in, nothing_bare, nothing_baseless}
-use Rattle.sim_agree.proofs.ClassRows.{class_entry, class_of_kind, class_stands, declaring_solid}
+use Rattle.sim_agree.proofs.Unprefixed.{Unprefixed, extras_in, nothing_bare, nothing_baseless, is_prefixable}
+use Rattle.sim_agree.proofs.ClassRows.{class_entry, class_of_kind, class_stands, levels_of_kind, no_connection}
+use Rattle.sim_meaning.specs.Levels.{has_levels, is_class}
 
 -- ---- the whole program, as it is declared
 
@@ -186,20 +187,14 @@ class_block_at p plain clean k row at e =
     let q = program_owned p plain clean k (ClassText x.0 x.1 x.2 x.3) x.4 in
     stands_by p plain q.0 q.1 k q.3 q.4
 
-pub solid : (p : Program) → Plain p → (declared_by p).least ≡ None → (k : ℕ) (row : BlockOf) → slice_get (declared_by p).tables.blocks k ≡ Some row → row.kind ≡ kind.Class → (u : ℕ) × (row.encloser ≡ Some u) × (is_kind is_connection_kind (declared_by p).tables u ≡ false)
-unfolding is_kind
-solid p plain clean k row at e =
-    let s = class_block_at p plain clean k row at e in
-    (s.row.block, sym (ap around at) ∙ s.around, declaring_solid (slice_get (declared_by p).tables.blocks s.row.block) s.text (subst (KindIs (slice_get (declared_by p).tables.blocks s.row.block)) s.is ((program_agrees p plain).fine.kinds s.row.block)) s.declaring)
-
--- the tables with the prefixes of classes
-pub program_prefixed : (p : Program) → Plain p → (declared_by p).least ≡ None → Based (declared_by p).tables (prefixed (declared_by p).tables)
-program_prefixed p plain clean = prefixed_tables (declared_by p).tables (program_agrees p plain).fine.bare (program_agrees p plain).fine.baseless (solid p plain clean)
+-- the tables with the prefixes of classes and blocks
+pub program_prefixed : (p : Program) → Plain p → Based (declared_by p).tables (prefixed (declared_by p).tables)
+program_prefixed p plain = prefixed_tables (declared_by p).tables (program_agrees p plain).fine.bare (program_agrees p plain).fine.baseless
 
 pub completes : (s : Source) → TablesOf s → Plain s.program → InOrder s.program → Completes (declared_by s.program).tables s.tables (IsClassText s.program)
 completes s of plain order =
     subst (λ z. Completes D z (IsClassText s.program)) (sym of.tables)
-    (complete D s.program (IsClassText s.program) (program_prefixed s.program plain of.unbroken) (all_references D D.qualifications (program_clean s.program plain of.unbroken).refs) classes conn (program_opened s.program plain))
+    (complete D s.program (IsClassText s.program) (program_prefixed s.program plain) (all_references D D.qualifications (program_clean s.program plain of.unbroken).refs) classes conn (program_opened s.program plain))
   where
     D : Tables
     D = (declared_by s.program).tables
@@ -523,7 +518,10 @@ module _ (s : Source) (of : TablesOf s) (plain : Plain s.program) (order : InOrd
       some_row : {a b : BlockOf} → Some a ≡ Some b → a ≡ b
       some_row q = cc
   connection_of (Some row) (Some ConnectionText) k n = (λ e found is. absurd (cc), λ e. ap (λ z. deeper z n) k)
-  connection_of (Some row) (Some (PrefixedText class es ds ss)) k n = absurd k
+  connection_of (Some row) (Some (PrefixedText class es ds ss)) k n = (λ e found is. ap (λ (z : BlockOf). deeper z.kind n) (sym (some_row is)) ∙ ap (λ z. deeper z n) k ∙ (let q : n + 1 ≡ suc n = omega arith in q), λ e. absurd (cc))
+    where
+      some_row : {a b : BlockOf} → Some a ≡ Some b → a ≡ b
+      some_row q = cc
   connection_of (Some row) (Some (StandardText which)) k n = absurd k
 
   pub levels : (t u : ℕ) → is_connection (text s t) ≡ false → encloser s.tables t ≡ Some u → level_of s t ≡ suc (level_of s u)
@@ -652,7 +650,7 @@ module _ (s : Source) (of : TablesOf s) (plain : Plain s.program) (order : InOrd
           by_text (Some (ProcedureText result h a)) q = absurd (let f : kind.Procedure ≡ kind.Connection = sym q ∙ is in cc)
           by_text (Some (ClassText prefix h ds ss)) q = absurd (let f : kind.Class ≡ kind.Connection = sym q ∙ is in cc)
           by_text (Some ConnectionText) q = refl
-          by_text (Some (PrefixedText class es ds ss)) q = absurd q
+          by_text (Some (PrefixedText class es ds ss)) q = absurd (let f : kind.Prefixed ≡ kind.Connection = sym q ∙ is in cc)
           by_text (Some (StandardText which)) q = absurd q
 
       go : (o : Option BlockOf) → slice_get (declared_by s.program).tables.blocks k ≡ o → kind_in o ≡ Some kind.Connection → ⊥
@@ -672,20 +670,36 @@ module _ (s : Source) (of : TablesOf s) (plain : Plain s.program) (order : InOrd
   unfolding base
   own_base k other = C.steady k (other_kind k other)
 
-  pub class_text : (k : ℕ) (row : BlockOf) → slice_get (declared_by s.program).tables.blocks k ≡ Some row → row.kind ≡ kind.Class → (prefix : Option Identifier) × (h : Heading) × (ds : Declarations) × (ss : Statements) × (text s k ≡ Some (ClassText prefix h ds ss))
+  -- a class has levels
+  pub class_levels : (k : ℕ) → is_class (text s k) ≡ true → has_levels (text s k) ≡ true
   unfolding text
-  class_text k row at e = class_of_kind row (slice_get Ts k) (subst (λ o. KindIs o (slice_get Ts k)) at (agree.fine.kinds k)) e
+  class_levels k e = go (slice_get Bs k) (slice_get Ts k) (kind_at k) e
+    where
+      go : (o : Option BlockOf) (x : Option Text) → KindIs o x → is_class x ≡ true → has_levels x ≡ true
+      go o None q f = absurd (cc)
+      go o (Some (BlockText i ds ss)) q f = absurd (cc)
+      go o (Some (ProcedureText result h a)) q f = absurd (cc)
+      go o (Some (ClassText prefix h ds ss)) q f = refl
+      go o (Some ConnectionText) q f = absurd (cc)
+      go o (Some (PrefixedText class es ds ss)) q f = refl
+      go None (Some (StandardText which)) q f = absurd q
+      go (Some row) (Some (StandardText which)) q f = absurd q
 
-  -- a class is no connection
-  pub class_other : (k : ℕ) (row : BlockOf) → slice_get (declared_by s.program).tables.blocks k ≡ Some row → row.kind ≡ kind.Class → is_connection (text s k) ≡ false
-  class_other k row at e = ap is_connection (class_text k row at e).4
+  -- what may have a prefix has levels
+  pub levels_there : (k : ℕ) (row : BlockOf) → slice_get (declared_by s.program).tables.blocks k ≡ Some row → is_prefixable row.kind ≡ true → has_levels (text s k) ≡ true
+  unfolding text
+  levels_there k row at e = levels_of_kind row (slice_get Ts k) (subst (λ o. KindIs o (slice_get Ts k)) at (agree.fine.kinds k)) e
+
+  -- and is no connection
+  pub prefixed_other : (k : ℕ) (row : BlockOf) → slice_get (declared_by s.program).tables.blocks k ≡ Some row → is_prefixable row.kind ≡ true → is_connection (text s k) ≡ false
+  prefixed_other k row at e = no_connection (text s k) (levels_there k row at e)
 
   pub P : Based (declared_by s.program).tables (prefixed (declared_by s.program).tables)
-  P = program_prefixed s.program plain of.unbroken
+  P = program_prefixed s.program plain
 
   -- what a prefix gives stays
   pub base_stays : (k b : ℕ) → base (prefixed (declared_by s.program).tables) k ≡ Some b → base s.tables k ≡ Some b
-  base_stays k b e = let p = P.bases k b e in own_base k (class_other k p.row p.at p.kind) ∙ e
+  base_stays k b e = let p = P.bases k b e in own_base k (prefixed_other k p.row p.at p.kind) ∙ e
 
   pub prefix_is : (k b : ℕ) → is_connection (text s k) ≡ false → base s.tables k ≡ Some b → PrefixOf (declared_by s.program).tables s.tables k b
   prefix_is k b other e = prefix_more (declared_by s.program).tables (prefixed (declared_by s.program).tables) s.tables base_stays k b (P.bases k b (sym (own_base k other) ∙ e))

@@ -8,15 +8,15 @@ use Rattle.sim_tree.specs.declared.stmt.TypeName.{TypeName}
 use Rattle.sim_tree.specs.declared.stmt.TypeName.TheVariants as type_name
 use Rattle.sim_tree.specs.declared.stmt.Variable.{Variable}
 use Rattle.sim_tree.specs.Named.{named}
-use Rattle.sim_tree.specs.Syntax.{Also, Arms, Arrayed, Arrays, Begin, Block, BoundPair, Declarations, DeclareClass, DeclareProcedure, Element, Expression, Heading, Interface, NoArm, NoDeclaration, NoStatement, Prefix, Statement, Statements, Variables, When, With}
+use Rattle.sim_tree.specs.Syntax.{Also, Arms, Arrayed, Arrays, Begin, Block, BoundPair, Declarations, DeclareClass, DeclareProcedure, Element, Expression, Heading, Interface, NoArm, NoDeclaration, NoStatement, Prefix, Statement, Statements, Variables, When, With, Expressions}
 use Rattle.sim_tree.specs.Syntax as syntax
 use Rattle.sim_scope.specs.declared.scopes.Declaration.{Declaration}
 use Rattle.sim_scope.specs.Source.{Source}
-use Rattle.sim_meaning.specs.Texts.{BlockText, ClassText, Text, arms_texts, block_texts, declaration_texts, declarations_texts, declared_at, number_from, program_texts, statement_texts, statements_texts, text, prefix_texts}
+use Rattle.sim_meaning.specs.Texts.{BlockText, ClassText, Text, arms_texts, block_texts, declaration_texts, declarations_texts, declared_at, number_from, program_texts, statement_texts, statements_texts, text, prefix_texts, PrefixedText, prefixed_texts}
 use Rattle.sim_sound.specs.Held.{Among, first, later}
 use Rattle.sim_sound.specs.Typed.{Distinct, arrays_in_segments, arrays_named, arrays_of_block, of_option}
 use Rattle.sim_tree.specs.Order.{Ascends, Behind, InOrder, Spot, Token, in_arms, in_block, in_bounds, in_declarations, in_each, in_element, in_expression, in_name, in_result, in_segment, in_side, in_statement, in_statements, in_type, in_variable, tokens, in_prefix}
-use Rattle.sim_agree.specs.Plain.{Plain, PlainArms, PlainBlock, PlainDeclarations, PlainStatement, PlainStatements, PlainPrefix}
+use Rattle.sim_agree.specs.Plain.{Plain, PlainArms, PlainBlock, PlainDeclarations, PlainStatement, PlainStatements, PlainPrefix, PlainName}
 use Rattle.sim_agree.proofs.PlainNames.{no_prefix_texts}
 
 -- ---- tokens between two
@@ -65,6 +65,7 @@ own_tokens (With (DeclareClass prefix i h interface a e) ds) = own_tokens ds
 abbrev pub TextInOrder : Text → Type 0
 TextInOrder (BlockText i ds ss) = (a : ℕ) × (b : ℕ) × Between a (own_tokens ds) b
 TextInOrder (ClassText prefix h ds ss) = (a : ℕ) × (b : ℕ) × Between a (own_tokens ds) b
+TextInOrder (PrefixedText class es ds ss) = (a : ℕ) × (b : ℕ) × Between a (own_tokens ds) b
 TextInOrder _ = Unit {0}
 
 abbrev AllInOrder : List Text → Type 0
@@ -169,7 +170,7 @@ mutual
       let q = each_past in_element element_past es (y.token.0 + 1) (in_statement x l) a.1 in
       let r = statement_past x p.1 q.0 l q.2 in
       let zero_ : i ≤ y.token.0 = a.0 in let one : y.token.0 + 1 ≤ q.0 = q.1 in let two : q.0 ≤ r.0 = r.1 in (r.0, omega arith, r.2, r.3)
-  statement_past (syntax.Prefixed y args b) p i l a = absurd p
+  statement_past (syntax.Prefixed y args b) p i l a = prefixed_past y args b p.0 p.2 i l a
   statement_past (syntax.Inner n) p i l a = (n + 1, (let le : i ≤ n = a.0 in omega arith), a.1, tt)
   statement_past (syntax.Inspect n object d x e rest) p i l a =
       let q = expression_past object i (Token d ∷ in_statement x (Behind e ∷ in_statements rest l)) a in
@@ -198,6 +199,18 @@ mutual
   statements_past (Also x more) p i l a =
       let q = statement_past x p.0 i (in_statements more l) a in
       let r = statements_past more p.1 q.0 l q.2 in let one : i ≤ q.0 = q.1 in let two : q.0 ≤ r.0 = r.1 in (r.0, omega arith, r.2, all_both (statement_texts x) (statements_texts more) q.3 r.3)
+
+  prefixed_past : (class : Identifier) (args : Expressions) (b : Block) → PlainName class → PlainBlock b → (i : ℕ) (l : List Spot) → Ascends i (in_expression (syntax.Named class args) (in_block b l)) → (j : ℕ) × (i ≤ j) × Ascends j l × AllInOrder (prefixed_texts class args b)
+  prefixed_past class args (Begin m ds ss e) w p i l a =
+      let u = expression_past (syntax.Named class args) i (in_block (Begin m ds ss e) l) a in
+      let q = declarations_past ds p.0 (m + 1) (in_statements ss (Behind e ∷ l)) u.2.1 in
+      let r = statements_past ss p.1 q.0 (Behind e ∷ l) q.2 in
+      let zero_ : i ≤ u.0 = u.1 in
+      let first_ : u.0 ≤ m = u.2.0 in
+      let one : m + 1 ≤ q.0 = between_le (own_tokens ds) (m + 1) q.0 q.1 in
+      let two : q.0 ≤ r.0 = r.1 in
+      let three : r.0 ≤ e = r.2.0 in
+      (e, omega arith, r.2.1, ((m + 1, q.0, q.1), past_prefix (Some class) w (declarations_texts ds ++ statements_texts ss) (all_both (declarations_texts ds) (statements_texts ss) q.3 r.3)))
 
   block_past : (b : Block) → PlainBlock b → (i : ℕ) (l : List Spot) → Ascends i (in_block b l) → (j : ℕ) × (i ≤ j) × Ascends j l × AllInOrder (block_texts b)
   block_past (Begin n NoDeclaration ss e) p i l a =
@@ -267,7 +280,7 @@ mutual
   class_past prefix w n h interface (syntax.For m y sign o es z) e p i l a one = let q = one i l a in (q.0, q.1, q.2, ((0, 0, (let z : 0 ≤ 0 = omega arith in z)), past_prefix prefix w (statement_texts (syntax.For m y sign o es z)) q.3))
   class_past prefix w n h interface (syntax.Inspect m object d y k rest) e p i l a one = let q = one i l a in (q.0, q.1, q.2, ((0, 0, (let z : 0 ≤ 0 = omega arith in z)), past_prefix prefix w (statement_texts (syntax.Inspect m object d y k rest)) q.3))
   class_past prefix w n h interface (syntax.InspectWhen m object arms rest) e p i l a one = let q = one i l a in (q.0, q.1, q.2, ((0, 0, (let z : 0 ≤ 0 = omega arith in z)), past_prefix prefix w (statement_texts (syntax.InspectWhen m object arms rest)) q.3))
-  class_past prefix w n h interface (syntax.Prefixed y args b) e p i l a one = absurd p
+  class_past prefix w n h interface (syntax.Prefixed y args b) e p i l a one = let q = one i l a in (q.0, q.1, q.2, ((0, 0, (let z : 0 ≤ 0 = omega arith in z)), past_prefix prefix w (statement_texts (syntax.Prefixed y args b)) q.3))
   class_past prefix w n h interface (syntax.Activate m word process schedule) e p i l a one = absurd p
 
 -- each text of a program
@@ -367,3 +380,6 @@ module _ (s : Source) where
 
   pub distinct_class : Plain s.program → InOrder s.program → (k : ℕ) (prefix : Option Identifier) (h : Heading) (ds : Declarations) (ss : Statements) → text s k ≡ Some (ClassText prefix h ds ss) → Distinct (arrays_of_block s ds)
   distinct_class plain order k prefix h ds ss at = let q = text_in_order s plain order k (ClassText prefix h ds ss) at in (block_apart ds q.0 q.1 q.2).0
+
+  pub distinct_prefixed : Plain s.program → InOrder s.program → (k : ℕ) (class : Identifier) (es : Expressions) (ds : Declarations) (ss : Statements) → text s k ≡ Some (PrefixedText class es ds ss) → Distinct (arrays_of_block s ds)
+  distinct_prefixed plain order k class es ds ss at = let q = text_in_order s plain order k (PrefixedText class es ds ss) at in (block_apart ds q.0 q.1 q.2).0

@@ -10,9 +10,9 @@ use Rattle.sim_scope.specs.declared.scopes.Declaration.{Declaration}
 use Rattle.sim_scope.specs.declared.scopes.Denotation.TheVariants as denotation
 use Rattle.sim_scope.specs.declared.standard.StandardName.{StandardName}
 use Rattle.sim_scope.specs.declared.types.BlockKind.{BlockKind}
+use Rattle.sim_scope.specs.declared.types.BlockKind.TheVariants as kind
 use Rattle.sim_scope.specs.declared.types.StandardPrefix.{StandardPrefix}
 use Rattle.sim_scope.specs.Access.{block_at, encloser, some_around}
-use Rattle.sim_scope.specs.Building.{is_class}
 use Rattle.sim_scope.specs.ClassNames.{is_name_of_classes}
 use Rattle.sim_scope.specs.Declare.{empty}
 use Rattle.sim_scope.specs.Levels.{base, base_in}
@@ -20,10 +20,16 @@ use Rattle.sim_scope.specs.Scopes.{beyond, binding, brought_by, brought_in, decl
 use Rattle.sim_scope.specs.Standard.{standard_name}
 use Rattle.sim_scope.specs.Tables.{BlockOf, Tables}
 
--- a prefix where none may be: in front of what is no class, or one that is spelt as a standard name
+-- what may have a prefix: a class or a block
+abbrev pub is_prefixable : BlockKind → Bool
+is_prefixable kind.Class = true
+is_prefixable kind.Prefixed = true
+is_prefixable _ = false
+
+-- a prefix where none may be: in front of what is neither, or one that is spelt as a standard name
 abbrev pub is_wrong : BlockKind → Option Identifier → Bool
 is_wrong k None = false
-is_wrong k (Some x) = not (is_class k) || is_name_of_classes x.name
+is_wrong k (Some x) = not (is_prefixable k) || is_name_of_classes x.name
 
 -- what a block has of prefixes
 pub record Extras : Type 0 where

@@ -1,11 +1,14 @@
 -- The tables of an allowed plain program agree with its texts.
+use Rattle.std.proofs.Common.{ap}
 use Rattle.sim_tree.specs.Order.{InOrder}
 use Rattle.sim_scope.specs.Source.{Source}
-use Rattle.sim_meaning.specs.Texts.{BlockText, ClassText}
+use Rattle.sim_meaning.specs.Levels.{has_levels}
+use Rattle.sim_meaning.specs.Texts.{BlockText, ClassText, PrefixedText}
 use Rattle.sim_agree.specs.Plain.{Plain}
 use Rattle.sim_agree.specs.TablesAgree.{TablesAgree}
 use Rattle.sim_agree.specs.TablesOf.{TablesOf}
 use Rattle.sim_agree.proofs.ArrayNames as a
+use Rattle.sim_agree.proofs.BlockPrefixes as b
 use Rattle.sim_agree.proofs.Chains as c
 use Rattle.sim_agree.proofs.Findings as f
 use Rattle.sim_agree.proofs.Headings as h
@@ -42,9 +45,10 @@ tables_agree s of plain order =
       parameters = h.parameters_formal s of plain order;
       procedures = h.procedures s of plain order;
       classes = h.classes s of plain order;
+      class_levels = t.class_levels s of plain order;
       owners = c.owners s of plain order;
       blocks = λ k begin ds ss is. record {
-        no_formals = h.no_formals s of plain order k begin ds ss is;
+        no_formals = h.no_formals s of plain order k (BlockText begin ds ss) (λ z. z) is;
         arrays = record { distinct = o.distinct s plain order k begin ds ss is; made = a.made s of plain order k (BlockText begin ds ss) is; own = a.own s of plain order k (BlockText begin ds ss) is };
       };
       bodies = h.headings s of plain order;
@@ -52,8 +56,15 @@ tables_agree s of plain order =
         formals = h.class_headings s of plain order k;
         parameters = h.parameters s of plain order k;
         arrays = record { distinct = o.distinct_class s plain order k prefix head ds ss is; made = a.made s of plain order k (ClassText prefix head ds ss) is; own = a.own s of plain order k (ClassText prefix head ds ss) is };
-        stays = i.stays s of plain order k prefix head ds ss is;
+        stays = i.stays s of plain order k (ap has_levels is);
       };
+      prefixed_texts = λ k class es ds ss is. record {
+        formals = h.class_headings s of plain order k;
+        parameters = h.parameters s of plain order k;
+        arrays = record { distinct = o.distinct_prefixed s plain order k class es ds ss is; made = a.made s of plain order k (PrefixedText class es ds ss) is; own = a.own s of plain order k (PrefixedText class es ds ss) is };
+        stays = i.stays s of plain order k (ap has_levels is);
+      };
+      block_prefixes = b.block_prefix s of plain order;
       there = f.there s of plain order;
       around = f.around s of plain order;
       attributes = f.attributes s of plain order;

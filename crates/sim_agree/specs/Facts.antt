@@ -1,5 +1,5 @@
--- What is known of the tables of an allowed program without block prefixes, parameters by name and formal procedures.
-use Rattle.std.specs.Prelude.{◌≡◌, ◌<◌, ℕ, Bool, true, false, List, length, Option, Some, None}
+-- What is known of the tables of an allowed program without parameters by name and formal procedures.
+use Rattle.std.specs.Prelude.{◌≡◌, ◌<◌, ℕ, Bool, true, false, List, length, Option, Some, None, slice_get}
 use Rattle.sim_base.specs.declared.numbering.DeclNo.{DeclNo}
 use Rattle.sim_scope.specs.declared.scopes.Denotation.TheVariants as denotation
 use Rattle.sim_scope.specs.declared.types.Entry.{Entry}
@@ -19,10 +19,13 @@ use Rattle.sim_values.specs.Plain.{Plain, kind_of}
 use Rattle.sim_meaning.specs.Attributes.{is_connection}
 use Rattle.sim_meaning.specs.Closing.{class_parameters}
 use Rattle.sim_meaning.specs.Entries.{formals_of, numbers_of}
-use Rattle.sim_meaning.specs.Levels.{is_class}
-use Rattle.sim_meaning.specs.Texts.{constant_of, kind_of_type, text}
+use Rattle.sim_meaning.specs.Levels.{is_class, has_levels}
+use Rattle.sim_meaning.specs.Texts.{constant_of, kind_of_type, text, PrefixedText}
 use Rattle.sim_sound.specs.Held.{Around}
 use Rattle.sim_sound.specs.Typed.{FormalsAre, Prefixes}
+use Rattle.sim_scope.specs.Statements.{prefix_in}
+use Rattle.sim_tree.specs.declared.expr.Identifier.{Identifier}
+use Rattle.sim_tree.specs.Syntax.{Declarations, Expressions, Statements}
 
 -- a declared class: its block is the text of a class, and belongs to it
 pub record IsClass (s : Source) (d : DeclNo) : Type 0 where
@@ -30,6 +33,14 @@ pub record IsClass (s : Source) (d : DeclNo) : Type 0 where
   pub declares : entry_of s.tables d ≡ Some (entry.Class block)
   pub is : is_class (text s block) ≡ true
   pub owned : owner_of_level s.tables (Some block) ≡ Some d
+
+-- The prefix of a block: a declared class, which the first round found, and whose parameters are those of the block.
+pub record BlockPrefix (s : Source) (k : ℕ) : Type 0 where
+  pub declaration : DeclNo
+  pub class : IsClass s declaration
+  pub based : base s.tables k ≡ Some class.block
+  pub denoted : prefix_in s.tables (slice_get s.tables.blocks k) ≡ Some (denotation.Declared declaration)
+  pub parameters : class_parameters s (Some k) ≡ class_parameters s (Some class.block)
 
 -- the types of values that are no references
 abbrev pub PlainType : SimType → Type 0
@@ -105,8 +116,12 @@ pub record Tabled (s : Source) : Type 0 where
   pub inside : (token k j : ℕ) → block_at s.tables token ≡ Some k → is_inside s.tables token j ≡ true → Around s.tables k j
   -- no class is found through a connection
   pub outside : (token found : ℕ) (name : List ℕ) (d : DeclNo) (k : ℕ) → binding s.tables token name ≡ Some (denotation.Declared d) → entry_of s.tables d ≡ Some (entry.Class k) → found_in s.tables token name ≡ Some found → is_connection (text s found) ≡ false
+  -- the prefix of a block is a declared class
+  pub block_prefixes : (k : ℕ) (class : Identifier) (es : Expressions) (ds : Declarations) (ss : Statements) → text s k ≡ Some (PrefixedText class es ds ss) → BlockPrefix s k
+  -- a class has levels
+  pub class_levels : (k : ℕ) → is_class (text s k) ≡ true → has_levels (text s k) ≡ true
   -- a next level is a class
   pub connects : (k c : ℕ) → base s.tables k ≡ Some c → is_class (text s c) ≡ true
-  -- the blocks that are connections; what else has a next level is a class with a prefix
+  -- the blocks that are connections; what else has a next level is a class or a block with a prefix
   pub connections : (k : ℕ) → is_kind is_connection_kind s.tables k ≡ is_connection (text s k)
   pub prefixes : Prefixes s

@@ -2,7 +2,7 @@
 use Rattle.std.specs.Prelude.{◌≡◌, ℕ, Bool, true, false, Some}
 use Rattle.sim_scope.specs.Source.{Source}
 use Rattle.sim_meaning.specs.Levels.{writes_inner}
-use Rattle.sim_meaning.specs.Texts.{BlockText, ClassText, ProcedureText, Text, text}
+use Rattle.sim_meaning.specs.Texts.{BlockText, ClassText, ProcedureText, Text, text, PrefixedText}
 use Rattle.sim_tree.specs.Syntax as s
 use Rattle.sim_tree.specs.Syntax.{Arms, Block, Statement, Statements}
 
@@ -40,6 +40,7 @@ InnersIn written (BlockText begin ds ss) = NoInners ss
 InnersIn written (ProcedureText result h a) = NoInner a
 InnersIn true (ClassText prefix h ds ss) = OneInner ss
 InnersIn false (ClassText prefix h ds ss) = NoInners ss
+InnersIn written (PrefixedText class es ds ss) = NoInners ss
 InnersIn written _ = Unit {0}
 
 abbrev pub Inners : Source → Type 0

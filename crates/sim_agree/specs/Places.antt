@@ -1,7 +1,7 @@
 -- Where the parts of a text stand: the innermost block around each identifier that is used in it is the block of the text, a dot is another token
--- than the attribute behind it, and each of the text's sub-blocks stands in it.
+-- than the attribute behind it, and each of the text's sub-blocks and prefixed blocks stands in it.
 use Rattle.std.specs.Prelude.{◌≡◌, ℕ, Option, Some, None, false, nat_eq}
-use Rattle.sim_scope.specs.Access.{block_at}
+use Rattle.sim_scope.specs.Access.{block_at, encloser}
 use Rattle.sim_scope.specs.declared.outcome.Extent.TheVariants as extent
 use Rattle.sim_scope.specs.declared.scopes.Denotation.{Denotation}
 use Rattle.sim_scope.specs.declared.scopes.Denotation.TheVariants as denotation
@@ -10,13 +10,15 @@ use Rattle.sim_scope.specs.declared.types.SimType.TheVariants as type
 use Rattle.sim_scope.specs.Expressions.{judge_side}
 use Rattle.sim_scope.specs.Levels.{base, class_block}
 use Rattle.sim_scope.specs.Scopes.{binding}
-use Rattle.sim_scope.specs.Source.{Source}
+use Rattle.sim_scope.specs.Source.{Source, block_around}
 use Rattle.sim_scope.specs.Tables.{Tables}
 use Rattle.sim_sound.specs.Statements.{BlockIs, ConnectionIs, InnerIs}
 use Rattle.sim_tree.specs.declared.expr.Identifier.{Identifier}
 use Rattle.sim_tree.specs.Syntax as s
 use Rattle.sim_tree.specs.Syntax.{Expression, Expressions, Statement, Statements, Arms, Block, Declarations, RightSide, Element, BoundPair, Arrayed}
 use Rattle.sim_agree.specs.Plain.{Each}
+use Rattle.sim_meaning.specs.Texts.{PrefixedText, text}
+use Rattle.sim_scope.specs.Walk.{begin_of}
 
 -- the innermost block around the token of an identifier
 abbrev pub PlacedName : Tables → (block : ℕ) → Identifier → Type 0
@@ -74,10 +76,23 @@ pub record PlacedConnection (x : Source) (k opening : ℕ) (class : Option ℕ) 
   pub connection : ConnectionIs x k opening
   pub connects : base x.tables connection.number ≡ class
 
+-- a prefixed block is the text around its first token, and stands in this block
+pub record PlacedPrefixed (x : Source) (k token : ℕ) : Type 0 where
+  pub number : ℕ
+  pub around : block_around x token ≡ Some number
+  pub stands_in : encloser x.tables number ≡ Some k
+  pub class : Identifier
+  pub arguments : Expressions
+  pub declarations : Declarations
+  pub statements : Statements
+  pub is : text x number ≡ Some (PrefixedText class arguments declarations statements)
+
 abbrev mutual
   pub PlacedStatement : Source → (block : ℕ) → Statement → Type 0
   PlacedStatement x k (s.Empty i) = Unit {0}
   PlacedStatement x k (s.Compound b) = PlacedBlock x k b
+  -- the actual parameters of its prefix stand in the block around
+  PlacedStatement x k (s.Prefixed class es b) = PlacedExpressions x.tables k es × PlacedPrefixed x k (begin_of b)
   PlacedStatement x k (s.Call e) = PlacedExpression x.tables k e
   PlacedStatement x k (s.Assign e sides) = PlacedExpression x.tables k e × Each (PlacedSide x.tables k) sides
   PlacedStatement x k (s.Choose i e a b) = PlacedExpression x.tables k e × PlacedStatement x k a × PlacedStatements x k b

@@ -1,5 +1,5 @@
--- Programs that have no form that is not built: no block has a prefix, no class has virtual procedures, no parameter is called by name or is a
--- procedure, there are no activations, and what is used is not spelt as a standard name of coroutines, of sets or of simulation.
+-- Programs that have no form that is not built: the program has no prefix itself, no class has virtual procedures, no parameter is called by name or
+-- is a procedure, there are no activations, and what is used is not spelt as a standard name of coroutines, of sets or of simulation.
 use Rattle.std.specs.Prelude.{◌≡◌, false, List, [], ◌∷◌, Option, Some, None}
 use Rattle.sim_tree.specs.declared.expr.Identifier.{Identifier}
 use Rattle.sim_tree.specs.declared.stmt.Mode.{Mode as Word}
@@ -98,7 +98,7 @@ abbrev mutual
   pub PlainStatement : Statement → Type 0
   PlainStatement (s.Empty i) = Unit {0}
   PlainStatement (s.Compound b) = PlainBlock b
-  PlainStatement (s.Prefixed class es b) = ⊥
+  PlainStatement (s.Prefixed class es b) = PlainName class × PlainExpressions es × PlainBlock b
   PlainStatement (s.Inner i) = Unit {0}
   PlainStatement (s.Call e) = PlainExpression e
   PlainStatement (s.Assign e sides) = PlainExpression e × Each PlainSide sides

@@ -15,15 +15,15 @@ use Rattle.sim_scope.specs.Source.{Source, block_of, level_of}
 use Rattle.sim_scope.specs.Tables.{BlockOf}
 use Rattle.sim_tree.specs.declared.expr.Identifier.{Identifier}
 use Rattle.sim_tree.specs.declared.stmt.TypeName.{TypeName}
-use Rattle.sim_tree.specs.Syntax.{Declarations, Heading, Statement, Statements}
+use Rattle.sim_tree.specs.Syntax.{Declarations, Heading, Statement, Statements, Expressions}
 use Rattle.sim_meaning.specs.Attributes.{is_connection}
 use Rattle.sim_meaning.specs.Closing.{class_parameters}
 use Rattle.sim_meaning.specs.Entries.{formals_of, numbers_of}
-use Rattle.sim_meaning.specs.Levels.{is_class}
-use Rattle.sim_meaning.specs.Texts.{BlockText, ClassText, ProcedureText, declared_at, is_class_free, program_texts, text}
+use Rattle.sim_meaning.specs.Levels.{is_class, has_levels}
+use Rattle.sim_meaning.specs.Texts.{BlockText, ClassText, ProcedureText, declared_at, is_class_free, program_texts, text, PrefixedText}
 use Rattle.sim_sound.specs.Held.{Among, Around, IsFormal}
 use Rattle.sim_sound.specs.Typed.{ClassThere, Distinct, FormalsAre, NoFormals, Prefixes, ProcedureThere, arrays_of_block}
-use Rattle.sim_agree.specs.Facts.{Found}
+use Rattle.sim_agree.specs.Facts.{Found, BlockPrefix}
 
 -- A next level is a class.
 pub record IsLevel (s : Source) (c : ℕ) : Type 0 where
@@ -44,7 +44,7 @@ pub record BlockAgrees (s : Source) (k : ℕ) (ds : Declarations) : Type 0 where
   pub no_formals : NoFormals s (numbers_of s k)
   pub arrays : ArraysAgree s k ds
 
--- The parameters of a class, of all its levels; its own come first among its declarations; it lasts.
+-- The parameters of a class or a block with a prefix, of all its levels; its own come first among its declarations; it lasts.
 pub record ClassAgrees (s : Source) (k : ℕ) (ds : Declarations) : Type 0 where
   pub formals : FormalsAre s (class_formals s.tables k) (class_parameters s (Some k))
   pub parameters : (d : DeclNo) → Among d (numbers_of s k) → IsFormal (entry_of s.tables d) → Among d (class_formals s.tables k)
@@ -85,11 +85,15 @@ pub record TablesAgree (s : Source) : Type 0 where
   -- the text of a procedure and of a class stands in that of its declaration, and belongs to it
   pub procedures : (d : DeclNo) (result : Option SimType) (k : ℕ) → entry_of s.tables d ≡ Some (entry.Procedure result k) → ProcedureThere s d k
   pub classes : (d : DeclNo) (k : ℕ) → entry_of s.tables d ≡ Some (entry.Class k) → ClassThere s d k × (owner_of_level s.tables (Some k) ≡ Some d)
+  pub class_levels : (k : ℕ) → is_class (text s k) ≡ true → has_levels (text s k) ≡ true
   pub owners : (k : ℕ) (d : DeclNo) → is_class (text s k) ≡ true → owner_of_level s.tables (Some k) ≡ Some d → entry_of s.tables d ≡ Some (entry.Class k)
   -- texts
   pub blocks : (k i : ℕ) (ds : Declarations) (ss : Statements) → text s k ≡ Some (BlockText i ds ss) → BlockAgrees s k ds
   pub bodies : (k : ℕ) (result : Option TypeName) (h : Heading) (a : Statement) → text s k ≡ Some (ProcedureText result h a) → FormalsAre s (numbers_of s k) (formals_of s k)
   pub class_texts : (k : ℕ) (prefix : Option Identifier) (h : Heading) (ds : Declarations) (ss : Statements) → text s k ≡ Some (ClassText prefix h ds ss) → ClassAgrees s k ds
+  pub prefixed_texts : (k : ℕ) (class : Identifier) (es : Expressions) (ds : Declarations) (ss : Statements) → text s k ≡ Some (PrefixedText class es ds ss) → ClassAgrees s k ds
+  -- the prefix of a block is a declared class
+  pub block_prefixes : (k : ℕ) (class : Identifier) (es : Expressions) (ds : Declarations) (ss : Statements) → text s k ≡ Some (PrefixedText class es ds ss) → BlockPrefix s k
   -- What an identifier denotes is declared in a block around it, or in a class that is connected there; what it denotes behind a dot, in the class.
   pub there : (token : ℕ) (name : List ℕ) (d : DeclNo) → binding s.tables token name ≡ Some (denotation.Declared d) → (e : Entry) × (entry_of s.tables d ≡ Some e)
   pub around : (token k : ℕ) (name : List ℕ) (d : DeclNo) → block_at s.tables token ≡ Some k → binding s.tables token name ≡ Some (denotation.Declared d) → Found s token k name d

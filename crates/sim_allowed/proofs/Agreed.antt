@@ -21,11 +21,11 @@ use Rattle.sim_scope.specs.Tables.{BlockOf}
 use Rattle.sim_scope.specs.Walk.{program_events}
 use Rattle.sim_tree.specs.declared.expr.Identifier.{Identifier}
 use Rattle.sim_tree.specs.declared.stmt.TypeName.{TypeName}
-use Rattle.sim_tree.specs.Syntax.{Declarations, Heading, Statement, Statements}
+use Rattle.sim_tree.specs.Syntax.{Declarations, Heading, Statement, Statements, Expressions}
 use Rattle.sim_meaning.specs.Attributes.{first_in, is_connection}
 use Rattle.sim_meaning.specs.Entries.{formals_of, is_held, numbers_of}
 use Rattle.sim_meaning.specs.Levels.{is_class, qualification}
-use Rattle.sim_meaning.specs.Texts.{BlockText, ClassText, ConnectionText, ProcedureText, is_class_free, text}
+use Rattle.sim_meaning.specs.Texts.{BlockText, ClassText, ConnectionText, ProcedureText, is_class_free, text, PrefixedText}
 use Rattle.sim_sound.specs.Held.{Among, ArrayOf, Holds, entry_holds, first, held_by, later, reference_to}
 use Rattle.sim_sound.specs.Typed.{ConnectionTyped, NoFormal, NoFormals}
 use Rattle.sim_agree.specs.Facts.{Tabled}
@@ -35,7 +35,7 @@ use Rattle.sim_agree.specs.TablesOf.{TablesOf}
 use Rattle.sim_agree.proofs.Connected.{connections_connect}
 use Rattle.sim_agree.proofs.Enclosed.{connection_enclosed}
 use Rattle.sim_agree.proofs.Fitted.{AllConnect}
-use Rattle.sim_agree.proofs.Placing.{block_placed, body_placed, class_placed}
+use Rattle.sim_agree.proofs.Placing.{block_placed, body_placed, class_placed, prefixed_placed}
 use Rattle.sim_agree.proofs.Proper.{proper}
 use Rattle.sim_agree.proofs.Results.{result_written}
 use Rattle.sim_agree.proofs.Whole.{tables_agree}
@@ -49,6 +49,7 @@ use Rattle.sim_allowed.proofs.Whole.{Agreed}
 pub record Written (s : Source) : Type 0 where
   pub arrays : (k i : ℕ) (ds : Declarations) (ss : Statements) → text s k ≡ Some (BlockText i ds ss) → ArraysNamed s ds
   pub class_arrays : (k : ℕ) (prefix : Option Identifier) (h : Heading) (ds : Declarations) (ss : Statements) → text s k ≡ Some (ClassText prefix h ds ss) → ArraysNamed s ds
+  pub prefixed_arrays : (k : ℕ) (class : Identifier) (es : Expressions) (ds : Declarations) (ss : Statements) → text s k ≡ Some (PrefixedText class es ds ss) → ArraysNamed s ds
   pub keeps_none : (k : ℕ) (result : Option TypeName) (h : Heading) (a : Statement) → text s k ≡ Some (ProcedureText result h a) → is_class_free s k ≡ false → list_any is_held (formals_of s k) ≡ false
 
 -- nothing in a list without formal parameters is one
@@ -138,6 +139,8 @@ module _ (s : Source) (a : AllowedIs s) (plain : Plain s.program) where
     around = g.around;
     inside = g.inside;
     outside = not_found_outside;
+    block_prefixes = g.block_prefixes;
+    class_levels = g.class_levels;
     connects = λ k c e. ap is_class (g.connects k c e).class;
     connections = g.connections;
     prefixes = g.prefixes;
@@ -194,6 +197,19 @@ module _ (s : Source) (a : AllowedIs s) (plain : Plain s.program) where
         made = b.arrays.made;
         own = b.arrays.own;
         named = written.class_arrays k prefix h ds ss is;
+        arrays = p.0;
+        statements = p.1;
+        stays = b.stays;
+        not_standard = g.not_standard k;
+      });
+      prefixed_bodies = λ k class es ds ss is. (let b = g.prefixed_texts k class es ds ss is in let p = prefixed_placed s tables_of plain a.order connects k class es ds ss is in record {
+        formals = b.formals;
+        parameters = b.parameters;
+        different = g.different k;
+        distinct = b.arrays.distinct;
+        made = b.arrays.made;
+        own = b.arrays.own;
+        named = written.prefixed_arrays k class es ds ss is;
         arrays = p.0;
         statements = p.1;
         stays = b.stays;

@@ -2,9 +2,9 @@
 use Rattle.std.proofs.Common.{◌≡◌, ℕ, List, [], ◌∷◌, Option, Some}
 use Rattle.sim_tree.specs.declared.expr.Identifier.{Identifier}
 use Rattle.sim_tree.specs.Filled.{FilledDeclarations, FilledSegments, SomeIdentifier}
-use Rattle.sim_tree.specs.Syntax.{Arrayed, Arrays, Declarations, DeclareClass, DeclareProcedure, Heading, NoDeclaration, Statements, Variables, With}
+use Rattle.sim_tree.specs.Syntax.{Arrayed, Arrays, Declarations, DeclareClass, DeclareProcedure, Heading, NoDeclaration, Statements, Variables, With, Expressions}
 use Rattle.sim_scope.specs.Source.{Source}
-use Rattle.sim_meaning.specs.Texts.{BlockText, ClassText, Text, text}
+use Rattle.sim_meaning.specs.Texts.{BlockText, ClassText, Text, text, PrefixedText}
 use Rattle.sim_sound.specs.Held.{Holds}
 use Rattle.sim_sound.specs.Typed.{SomeName}
 use Rattle.sim_agree.specs.Plain.{Plain}
@@ -42,3 +42,6 @@ module _ (s : Source) (a : AllowedIs s) (plain : Plain s.program) where
 
   pub class_arrays : (k : ℕ) (prefix : Option Identifier) (h : Heading) (ds : Declarations) (ss : Statements) → text s k ≡ Some (ClassText prefix h ds ss) → ArraysNamed s ds
   class_arrays k prefix h ds ss at = named s ds (fine_text k (ClassText prefix h ds ss) at).2 (hold k (ClassText prefix h ds ss) at)
+
+  pub prefixed_arrays : (k : ℕ) (class : Identifier) (es : Expressions) (ds : Declarations) (ss : Statements) → text s k ≡ Some (PrefixedText class es ds ss) → ArraysNamed s ds
+  prefixed_arrays k class es ds ss at = named s ds (fine_text k (PrefixedText class es ds ss) at).2 (hold k (PrefixedText class es ds ss) at)

@@ -190,10 +190,10 @@ reached_both tables a b c itself y = y
 reached_both tables a b c (through {b = d} e x) y = through e (reached_both tables d b c x y)
 
 -- a level of a level is a level
-pub level_both : (s : Source) → Tabled s → (a b c : ℕ) → is_class (text s a) ≡ true → has_level s.tables a b ≡ true → has_level s.tables b c ≡ true → has_level s.tables a c ≡ true
+pub level_both : (s : Source) → Tabled s → (a b c : ℕ) → is_connection (text s a) ≡ false → has_level s.tables a b ≡ true → has_level s.tables b c ≡ true → has_level s.tables a c ≡ true
 unfolding has_level
-level_both s known a b c class x y =
-    reaches_level s.tables (length s.tables.blocks) a c (known.prefixes.ends a (no_connection (text s a) class))
+level_both s known a b c solid x y =
+    reaches_level s.tables (length s.tables.blocks) a c (known.prefixes.ends a solid)
     (reached_both s.tables a b c (level_reached s.tables (length s.tables.blocks) a b x) (level_reached s.tables (length s.tables.blocks) b c y))
 
 -- the levels of a class are classes
@@ -201,11 +201,11 @@ level_class : (s : Source) → Tabled s → (k l : ℕ) → is_class (text s k) 
 level_class s known k l class itself = class
 level_class s known k l class (through {b = b} e x) = level_class s known b l (known.connects k b e) x
 
--- where an object of a class may stand an object of a class inside may stand
-pub fits_inside : (s : Source) → Tabled s → (a q : ℕ) → is_class (text s a) ≡ true → has_level s.tables a q ≡ true → (h : Holds) → Fits s (Refers q) h → Fits s (Refers a) h
-fits_inside s known a q class level (Simply k) f = f
-fits_inside s known a q class level (Refers w) f = level_both s known a q w class level f
-fits_inside s known a q class level (ArrayOf h) f = absurd f
+-- where an object of a class may stand what has the class among its levels may stand
+pub fits_inside : (s : Source) → Tabled s → (a q : ℕ) → is_connection (text s a) ≡ false → has_level s.tables a q ≡ true → (h : Holds) → Fits s (Refers q) h → Fits s (Refers a) h
+fits_inside s known a q solid level (Simply k) f = f
+fits_inside s known a q solid level (Refers w) f = level_both s known a q w solid level f
+fits_inside s known a q solid level (ArrayOf h) f = absurd f
 
 -- the class that two have in common is a level of both
 pub record InBoth (s : Source) (a b : ℕ) (class : DeclNo) : Type 0 where

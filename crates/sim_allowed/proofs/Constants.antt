@@ -25,8 +25,8 @@ use Rattle.sim_values.specs.declared.kind.Kind.{Kind}
 use Rattle.sim_values.specs.declared.kind.Kind.TheVariants as kind
 use Rattle.sim_values.specs.Plain.{Plain as Value, kind_of}
 use Rattle.sim_meaning.specs.Constants.{declaration_constants, declarations_constants, value_constants, variables_constants}
-use Rattle.sim_meaning.specs.Texts.{BlockText, ClassText, Text, constant_value, kind_of_type, text}
-use Rattle.sim_agree.specs.ConstantAt.{InBlock, InClass, Lists, OneOf, at_first, further, head, tail}
+use Rattle.sim_meaning.specs.Texts.{BlockText, ClassText, Text, constant_value, kind_of_type, text, PrefixedText}
+use Rattle.sim_agree.specs.ConstantAt.{InBlock, InClass, Lists, OneOf, at_first, further, head, tail, InPrefixed}
 use Rattle.sim_agree.specs.Facts.{ConstantIs, PlainType}
 use Rattle.sim_agree.specs.Plain.{Plain}
 use Rattle.sim_agree.specs.TablesOf.{TablesOf}
@@ -79,10 +79,11 @@ value_of_type s (type_name.Boolean i) (constant.False j) e there = (_, refl, ref
 value_of_type s (type_name.Text i) (constant.Text j bytes) e there = there.0
 value_of_type s _ _ e there = absurd (false≢true e)
 
--- what the last round says of the declarations of a block, and of those of a class
-declarations_say : (s : Source) (k : ℕ) (ds : Declarations) → ((x : Text) → text s k ≡ Some x → TextFine s x) → InBlock s k ds ⊎ InClass s k ds → AllThere s (declarations_constants ds) × AllSay s (declarations_events (judging s.tables) ds)
+-- what the last round says of the declarations of a block, with a prefix or not, and of those of a class
+declarations_say : (s : Source) (k : ℕ) (ds : Declarations) → ((x : Text) → text s k ≡ Some x → TextFine s x) → InBlock s k ds ⊎ (InClass s k ds ⊎ InPrefixed s k ds) → AllThere s (declarations_constants ds) × AllSay s (declarations_events (judging s.tables) ds)
 declarations_say s k ds fine (inl b) = let f = fine (BlockText b.begin ds b.statements) b.is in (f.0.1, f.0.2)
-declarations_say s k ds fine (inr c) = let f = fine (ClassText c.prefix c.heading ds c.statements) c.is in (f.0.1, f.0.2)
+declarations_say s k ds fine (inr (inl c)) = let f = fine (ClassText c.prefix c.heading ds c.statements) c.is in (f.0.1, f.0.2)
+declarations_say s k ds fine (inr (inr c)) = let f = fine (PrefixedText c.class c.arguments ds c.statements) c.is in (f.0.1, f.0.2)
 
 pub constant_is : (s : Source) → TablesOf s → Plain s.program → Filled s.program → InOrder s.program → AllSay s (program_events (judging s.tables) s.program) → (d : DeclNo) (ty : SimType) → entry_of s.tables d ≡ Some (entry.Constant ty) → ConstantIs s d ty
 unfolding variable_events

@@ -15,6 +15,7 @@ pub mod This
 pub mod Named
 pub mod Expressions
 pub mod Assigned
+pub mod BlockPrefixes
 pub mod Statements
 pub mod Bounds
 pub mod TextsOf

@@ -15,13 +15,14 @@ use Rattle.sim_agree.specs.Plain.{Plain}
 use Rattle.sim_allowed.specs.KeptInstances.{keeps_instances}
 use Rattle.sim_allowed.proofs.Agreed.{Written, agreed_where, tables_of}
 use Rattle.sim_allowed.proofs.Allowed.{AllowedIs, allowed_says, allowed_typed_where}
-use Rattle.sim_allowed.proofs.ArrayKinds.{arrays, class_arrays}
+use Rattle.sim_allowed.proofs.ArrayKinds.{arrays, class_arrays, prefixed_arrays}
 use Rattle.sim_allowed.proofs.KeepsNone.{keeps_none}
 
 written : (s : Source) → AllowedIs s → Plain s.program → keeps_instances s ≡ false → Written s
 written s a plain keeps = record {
   arrays = arrays s a plain;
   class_arrays = class_arrays s a plain;
+  prefixed_arrays = prefixed_arrays s a plain;
   keeps_none = keeps_none s (tables_of s a plain) plain a.order keeps;
 }
 

@@ -27,12 +27,12 @@ use Rattle.sim_tree.specs.Syntax.{Expression}
 use Rattle.sim_tree.specs.Syntax as syntax
 use Rattle.sim_values.specs.declared.kind.Kind.TheVariants as kind
 use Rattle.sim_meaning.specs.Closing.{is_text, is_text_type, result_meant, sort_of, stream_of, typed_token}
-use Rattle.sim_meaning.specs.Texts.{kind_of_type}
+use Rattle.sim_meaning.specs.Texts.{kind_of_type, text}
 use Rattle.sim_sound.specs.Held.{Fits, Holds, Place, Simply}
 use Rattle.sim_sound.specs.Expressions.{ExprIs, SortKinds}
 use Rattle.sim_agree.specs.Facts.{IsClass, PlainType, Tabled}
 use Rattle.sim_allowed.proofs.Calls.{OperandIs}
-use Rattle.sim_allowed.proofs.Classes.{class_held, fits_inside, none_takes, plain_proper, plain_value, proper_value, shared_both, simply}
+use Rattle.sim_allowed.proofs.Classes.{class_held, fits_inside, none_takes, plain_proper, plain_value, proper_value, shared_both, simply, no_connection}
 use Rattle.sim_allowed.proofs.Meant.{Means, Takes, ValueType}
 use Rattle.sim_allowed.proofs.Said.{AllSay}
 
@@ -270,8 +270,8 @@ module _ (s : Source) (known : Tabled s) where
       let both = shared_both s known c d class a b is in
       let same : t.Ref class ≡ type = cc in
       with_none class (t.Ref c) (t.Ref d) type both.is
-      (λ h f. subst (λ z. Fits s z h) (sym (class_held s c a)) (fits_inside s known a.block both.is.block a.is both.first h (subst (λ z. Fits s z h) (class_held s class both.is) f)))
-      (λ h f. subst (λ z. Fits s z h) (sym (class_held s d b)) (fits_inside s known b.block both.is.block b.is both.second h (subst (λ z. Fits s z h) (class_held s class both.is) f))) (ap Some same)
+      (λ h f. subst (λ z. Fits s z h) (sym (class_held s c a)) (fits_inside s known a.block both.is.block (no_connection (text s a.block) a.is) both.first h (subst (λ z. Fits s z h) (class_held s class both.is) f)))
+      (λ h f. subst (λ z. Fits s z h) (sym (class_held s d b)) (fits_inside s known b.block both.is.block (no_connection (text s b.block) b.is) both.second h (subst (λ z. Fits s z h) (class_held s class both.is) f))) (ap Some same)
 
   in_common_is : (a b type : SimType) → ValueType s a → ValueType s b → common_type s.tables a b ≡ Some type → InCommon s a b type
   unfolding common_type

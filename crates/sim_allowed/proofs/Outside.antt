@@ -29,7 +29,7 @@ use Rattle.sim_scope.specs.References.{as_class, class_fits, class_named, declar
 use Rattle.sim_scope.specs.Runs.{each}
 use Rattle.sim_scope.specs.Scopes.{binding, entry_of, found_in, if_found}
 use Rattle.sim_scope.specs.Source.{Source, block_of}
-use Rattle.sim_scope.specs.Statements.{arm_connected, arm_events, arm_fits, class_connected, connected_by, inspect_events, inspect_when_events, judging, needs_reference, type_connected}
+use Rattle.sim_scope.specs.Statements.{arm_connected, arm_events, arm_fits, class_connected, connected_by, inspect_events, inspect_when_events, judging, needs_reference, type_connected, prefixed_events}
 use Rattle.sim_scope.specs.Tables.{Tables}
 use Rattle.sim_scope.specs.Walk.{arm_classes, arms_events, begin_of, block_events, class_events, declaration_events, declarations_events, program_events, statement_events, statements_events, whole_events}
 use Rattle.inspect_types.specs.Connecting.{Connecting, Connects, Looks, Names, class_of_name, class_of_type, connections}
@@ -115,7 +115,7 @@ mutual
   statement_checked s ClassBody (syntax.Compound b) p said = class_checked s b p said
   statement_checked s ClassStatement (syntax.Compound b) p said = block_checked s b p said
   statement_checked s Inside (syntax.Compound b) p said = block_checked s b p said
-  statement_checked s q (syntax.Prefixed x args b) p said = absurd p
+  statement_checked s q (syntax.Prefixed x args b) p said = whole_checked s b p.2 (both_say s (prefixed_events s.tables x args (begin_of b)) (whole_events (judging s.tables) b) said).1
   statement_checked s q (syntax.Inner i) p said = tt
   statement_checked s q (syntax.Call e) p said = tt
   statement_checked s q (syntax.Assign e sides) p said = tt
@@ -158,6 +158,14 @@ mutual
         both_checked s (statement_events connections Inside a ++ []) (arms_events connections more) (both_checked s (statement_events connections Inside a) [] (statement_checked s Inside a p.1 z.0) tt) (arms_checked s i object more p.2 w.1 y.1),
       )
 
+  whole_checked : (s : Source) (b : Block) → PlainBlock b → AllSay s (whole_events (judging s.tables) b) → Checked s (whole_events connections b)
+  whole_checked s (Begin i ds ss end) p said =
+      let v = judging s.tables in
+      let x = both_say s (declarations_events v ds) (statements_events v Inside ss ++ []) said in
+      let y = both_say s (statements_events v Inside ss) [] x.1 in
+      both_checked s (declarations_events connections ds) (statements_events connections Inside ss ++ []) (declarations_checked s ds p.0 x.0)
+      (both_checked s (statements_events connections Inside ss) [] (statements_checked s Inside ss p.1 y.0) tt)
+
   block_checked : (s : Source) (b : Block) → PlainBlock b → AllSay s (block_events (judging s.tables) b) → Checked s (block_events connections b)
   block_checked s (Begin i NoDeclaration ss end) p said = statements_checked s Inside ss p.1 said
   block_checked s (Begin i (With d ds) ss end) p said =
@@ -198,15 +206,7 @@ mutual
 
 program_checked : (s : Source) → Plain s.program → AllSay s (program_events (judging s.tables) s.program) → Checked s (program_events connections s.program)
 unfolding program_events judging connections
-program_checked s plain said = whole s.program.block plain.block (both_say s ((judging s.tables).program s.program.prefix (begin_of s.program.block)) (whole_events (judging s.tables) s.program.block) said).1
-  where
-    whole : (b : Block) → PlainBlock b → AllSay s (whole_events (judging s.tables) b) → Checked s (whole_events connections b)
-    whole (Begin i ds ss end) p said =
-        let v = judging s.tables in
-        let x = both_say s (declarations_events v ds) (statements_events v Inside ss ++ []) said in
-        let y = both_say s (statements_events v Inside ss) [] x.1 in
-        both_checked s (declarations_events connections ds) (statements_events connections Inside ss ++ []) (declarations_checked s ds p.0 x.0)
-        (both_checked s (statements_events connections Inside ss) [] (statements_checked s Inside ss p.1 y.0) tt)
+program_checked s plain said = whole_checked s s.program.block plain.block (both_say s ((judging s.tables).program s.program.prefix (begin_of s.program.block)) (whole_events (judging s.tables) s.program.block) said).1
 
 -- ---- so a class that is connected has none
 

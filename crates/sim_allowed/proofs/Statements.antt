@@ -33,8 +33,8 @@ use Rattle.sim_scope.specs.Runs.{each}
 use Rattle.sim_scope.specs.References.{class_named}
 use Rattle.sim_scope.specs.Scopes.{binding, entry_of, found_in}
 use Rattle.sim_scope.specs.Source.{Source, denoted, found_at, type_at}
-use Rattle.sim_scope.specs.Statements.{arm_events, arm_fits, assignment_events, call_alone, call_events, connected_by, control_events, controlled, element_events, entry_controlled, first_step, first_value, formal_controlled, inspect_events, inspect_when_events, integer_from, judging, moded_controlled, needs, needs_reference, reference_needed, required, simple, stands, starts, taken_by, told_unless, type_connected, type_needed, type_taken, variable_controlled}
-use Rattle.sim_scope.specs.Walk.{arm_classes, arms_events, block_events, statement_events, statements_events}
+use Rattle.sim_scope.specs.Statements.{arm_events, arm_fits, assignment_events, call_alone, call_events, connected_by, control_events, controlled, element_events, entry_controlled, first_step, first_value, formal_controlled, inspect_events, inspect_when_events, integer_from, judging, moded_controlled, needs, needs_reference, reference_needed, required, simple, stands, starts, taken_by, told_unless, type_connected, type_needed, type_taken, variable_controlled, prefixed_events}
+use Rattle.sim_scope.specs.Walk.{arm_classes, arms_events, block_events, statement_events, statements_events, begin_of as first_token, whole_events}
 use Rattle.sim_tree.specs.declared.expr.Identifier.{Identifier}
 use Rattle.sim_tree.specs.declared.stmt.Assignment.{Assignment}
 use Rattle.sim_tree.specs.declared.stmt.Assignment.TheVariants as assignment
@@ -43,22 +43,22 @@ use Rattle.sim_tree.specs.Syntax as syntax
 use Rattle.sim_values.specs.declared.kind.Kind.{Kind}
 use Rattle.sim_values.specs.declared.kind.Kind.TheVariants as kind
 use Rattle.sim_meaning.specs.Attributes.{connection_at}
-use Rattle.sim_meaning.specs.Closing.{is_text, is_text_type}
-use Rattle.sim_meaning.specs.Constants.{arms_constants, block_constants, element_constants, elements_constants, expression_constants, right_constants, statement_constants, statements_constants}
+use Rattle.sim_meaning.specs.Closing.{is_text, is_text_type, class_parameters}
+use Rattle.sim_meaning.specs.Constants.{arms_constants, block_constants, element_constants, elements_constants, expression_constants, right_constants, statement_constants, statements_constants, expressions_constants}
 use Rattle.sim_meaning.specs.Levels.{class_at, qualification}
 use Rattle.sim_meaning.specs.Texts.{kind_of_type}
 use Rattle.sim_sound.specs.Held.{Fits, Holds, In, Place, Refers, Simply, formal_holds, held_by, reference_to as holds_reference}
 use Rattle.sim_sound.specs.Expressions.{ActualsFit, AreIntegers, DeclaredGives, ExprIs, HeldNames, KnownAt}
-use Rattle.sim_sound.specs.Statements.{ArmsAre, CallIs, CompoundIs, ControlIs, ElementIs, ElementsAre, LeftHeld, PlaceDeclared, PlaceIs, ReferenceAt, StatementIs, StatementsAre, TextLeft}
+use Rattle.sim_sound.specs.Statements.{ArmsAre, CallIs, CompoundIs, ControlIs, ElementIs, ElementsAre, LeftHeld, PlaceDeclared, PlaceIs, ReferenceAt, StatementIs, StatementsAre, TextLeft, PrefixedIs}
 use Rattle.sim_agree.specs.Facts.{PlainType, ProperEntry, ProperFormal, ProperType, Tabled}
-use Rattle.sim_agree.specs.Places.{PlacedArms, PlacedBlock, PlacedElement, PlacedExpression, PlacedName, PlacedSide, PlacedStatement, PlacedStatements, class_of_name, class_of_type}
+use Rattle.sim_agree.specs.Places.{PlacedArms, PlacedBlock, PlacedElement, PlacedExpression, PlacedName, PlacedSide, PlacedStatement, PlacedStatements, class_of_name, class_of_type, PlacedPrefixed}
 use Rattle.sim_agree.specs.Plain.{Each, PlainArms, PlainBlock, PlainElement, PlainExpression, PlainName, PlainSide, PlainStatement, PlainStatements}
 use Rattle.sim_allowed.proofs.Actuals.{Known}
 use Rattle.sim_allowed.proofs.Assigned.{Assignable, TargetsKnown, lefts_are, place_is_left}
 use Rattle.sim_allowed.proofs.Calls.{called_means}
 use Rattle.sim_allowed.proofs.Classes.{class_held, class_qualifies, class_row, own_level, simply, simply_takes}
 use Rattle.sim_allowed.proofs.Declared.{NoResult, UseIs, formal_type, never_procedure, never_untyped, simple_held, variable_left, variable_names}
-use Rattle.sim_allowed.proofs.Expressions.{AllThere, both_there, expression_known, operand}
+use Rattle.sim_allowed.proofs.Expressions.{AllThere, both_there, expression_known, operand, expressions_known}
 use Rattle.sim_allowed.proofs.Meant.{CallsFor, Means, ValueIs}
 use Rattle.sim_allowed.proofs.Operators.{no_misfit, same_type}
 use Rattle.sim_allowed.proofs.References.{class_means, class_meets}
@@ -66,6 +66,8 @@ use Rattle.sim_allowed.proofs.Said.{AllSay, both_say, next_says}
 use Rattle.sim_allowed.proofs.Sights.{Sight, statement_sight}
 use Rattle.sim_allowed.proofs.This.{extent_of}
 use Rattle.sim_allowed.proofs.Uses.{BoundIs, bound_is, named_use}
+use Rattle.sim_meaning.specs.Statements.{begin_of}
+use Rattle.sim_allowed.proofs.BlockPrefixes.{prefix_fits}
 
 -- ---- operands of a type
 
@@ -502,8 +504,16 @@ module _ (s : Source) (known : Tabled s) where
         let own = inspect_when_parts s known k (statement_sight s known k) i e (arm_classes arms) parts.0 in
         let object = inspected s known k (statement_sight s known k) e (in_statement s known k (statement_sight s known k) e p.0 l.0 b.0) own.0 in
         (object, arms_typed k i (judge_side s.tables extent.Statement e).value arms p.1 l.1 d.0 own.1 more.0, statements_typed k Inside other tt p.2 l.2 d.1 more.1)
-    statement_typed k q (syntax.Prefixed class es b) c p l there said = absurd p
+    statement_typed k q (syntax.Prefixed class es b) c p l there said =
+        let t = both_there s (expressions_constants es) (block_constants b) there in
+        let placed = l.1 in
+        let actuals = prefix_fits s known k class es (first_token b) placed.number placed.around (known.block_prefixes placed.number placed.class placed.arguments placed.declarations placed.statements placed.is) (expressions_known s known (In k) (statement_sight s known k) es p.1 l.0 t.0)
+        (both_say s (prefixed_events s.tables class es (first_token b)) (whole_events (judging s.tables) b) said).0 in
+        block_there k es b placed actuals
     statement_typed k q (syntax.Activate i word e schedule) c p l there said = absurd p
+
+    block_there : (k : ℕ) (es : Expressions) (b : Block) → (l : PlacedPrefixed s k (first_token b)) → ActualsFit s (In k) es (class_parameters s (Some l.number)) → PrefixedIs s k (begin_of b) (λ fs. ActualsFit s (In k) es fs)
+    block_there k es (Begin i ds ss end) l fit = record { number = l.number; around = l.around; stands_in = l.stands_in; class = l.class; arguments = l.arguments; declarations = l.declarations; statements = l.statements; is = l.is; actuals = fit }
 
     arms_typed : (k token : ℕ) (x : Side) (arms : Arms) → PlainArms arms → PlacedArms s k arms → AllThere s (arms_constants arms) → AllSay s (each (arm_events s.tables token x) (arm_classes arms)) → AllSay s (arms_events (judging s.tables) arms) → ArmsAre s k arms
     arms_typed k token x NoArm p l there own said = tt

@@ -6,18 +6,18 @@ use Rattle.sim_scope.specs.declared.types.Position.{Position}
 use Rattle.sim_scope.specs.declared.types.Position.TheVariants.{ClassBody, ClassStatement, Inside}
 use Rattle.sim_scope.specs.Found.{Event}
 use Rattle.sim_scope.specs.Source.{Source}
-use Rattle.sim_scope.specs.Statements.{judging}
+use Rattle.sim_scope.specs.Statements.{judging, prefixed_events}
 use Rattle.sim_scope.specs.Walk.{arm_classes, arms_events, begin_of, block_events, class_events, declaration_events, declarations_events, program_events, statement_events, statements_events, whole_events}
 use Rattle.sim_tree.specs.declared.expr.Identifier.{Identifier}
 use Rattle.sim_tree.specs.Filled.{Filled, FilledArms, FilledBlock, FilledDeclaration, FilledDeclarations, FilledStatement, FilledStatements}
-use Rattle.sim_tree.specs.Syntax.{Also, Arms, Arrays, Begin, Block, Declaration, Declarations, DeclareClass, DeclareProcedure, Heading, Interface, NoArm, NoDeclaration, NoStatement, Statement, Statements, Variables, When, With}
+use Rattle.sim_tree.specs.Syntax.{Also, Arms, Arrays, Begin, Block, Declaration, Declarations, DeclareClass, DeclareProcedure, Heading, Interface, NoArm, NoDeclaration, NoStatement, Statement, Statements, Variables, When, With, Expressions}
 use Rattle.sim_tree.specs.Syntax as syntax
 use Rattle.sim_values.specs.declared.kind.Kind.TheVariants as kind
 use Rattle.sim_values.specs.Plain.{Plain as Value, kind_of}
 use Rattle.sim_code.specs.Rows.{text_value}
-use Rattle.sim_meaning.specs.Constants.{TextConstant, arms_constants, block_constants, constant_from, declaration_constants, declarations_constants, elements_constants, expression_constants, prefix_constants, statement_constants, statements_constants, text_constant, text_constants}
-use Rattle.sim_meaning.specs.Texts.{BlockText, ClassText, ConnectionText, ProcedureText, Text, arms_texts, block_texts, declaration_texts, declarations_texts, program_texts, statement_texts, statements_texts, text}
-use Rattle.sim_agree.specs.Plain.{Plain, PlainArms, PlainBlock, PlainDeclaration, PlainDeclarations, PlainStatement, PlainStatements, PlainPrefix}
+use Rattle.sim_meaning.specs.Constants.{TextConstant, arms_constants, block_constants, constant_from, declaration_constants, declarations_constants, elements_constants, expression_constants, prefix_constants, statement_constants, statements_constants, text_constant, text_constants, expressions_constants}
+use Rattle.sim_meaning.specs.Texts.{BlockText, ClassText, ConnectionText, ProcedureText, Text, arms_texts, block_texts, declaration_texts, declarations_texts, program_texts, statement_texts, statements_texts, text, PrefixedText, prefixed_texts}
+use Rattle.sim_agree.specs.Plain.{Plain, PlainArms, PlainBlock, PlainDeclaration, PlainDeclarations, PlainStatement, PlainStatements, PlainPrefix, PlainName}
 use Rattle.sim_allowed.proofs.Expressions.{AllThere, IsThere, both_there}
 use Rattle.sim_allowed.proofs.Said.{AllSay, both_say}
 use Rattle.sim_allowed.proofs.Statements.{InClass, NoBody, in_class}
@@ -35,6 +35,7 @@ abbrev pub TextFine : Source → Text → Type 0
 TextFine s (BlockText i ds ss) = BlockFine s Inside ds ss
 TextFine s (ProcedureText result h a) = StatementFine s a
 TextFine s (ClassText prefix h ds ss) = BlockFine s ClassStatement ds ss
+TextFine s (PrefixedText class es ds ss) = BlockFine s Inside ds ss
 TextFine s ConnectionText = Unit {0}
 TextFine s _ = ⊥
 
@@ -142,7 +143,9 @@ mutual
       let x = both_say s (v.inspect_when i e (arm_classes arms)) (arms_events v arms ++ statements_events v Inside other) said in
       let y = both_say s (arms_events v arms) (statements_events v Inside other) x.1 in
       both_fine s (arms_texts arms) (statements_texts other) (arms_fine s arms p.1 f.0 j.0 y.0) (statements_fine s Inside other tt p.2 f.1 j.1 y.1)
-  statement_fine s q (syntax.Prefixed class es b) c p f there said = absurd p
+  statement_fine s q (syntax.Prefixed class es b) c p f there said =
+      let h = both_there s (expressions_constants es) (block_constants b) there in
+      prefixed_fine s class es b p.0 p.2 f h.1 (both_say s (prefixed_events s.tables class es (begin_of b)) (whole_events (judging s.tables) b) said).1
   statement_fine s q (syntax.Activate i word e schedule) c p f there said = absurd p
 
   arms_fine : (s : Source) (arms : Arms) → PlainArms arms → FilledArms arms → AllThere s (arms_constants arms) → AllSay s (arms_events (judging s.tables) arms) → AllFine s (arms_texts arms)
@@ -161,6 +164,16 @@ mutual
       let h = both_there s (statement_constants a) (statements_constants more) there in
       let x = both_say s (statement_events v q a) (statements_events v q more) said in
       both_fine s (statement_texts a) (statements_texts more) (statement_fine s q a (in_class q a c) p.0 f.0 h.0 x.0) (statements_fine s q more c p.1 f.1 h.1 x.1)
+
+  prefixed_fine : (s : Source) (class : Identifier) (es : Expressions) (b : Block) → PlainName class → PlainBlock b → FilledBlock b → AllThere s (block_constants b) → AllSay s (whole_events (judging s.tables) b) → AllFine s (prefixed_texts class es b)
+  prefixed_fine s class es (Begin i ds ss end) w p q there said =
+      let v = judging s.tables in
+      let c = both_there s (declarations_constants ds) (statements_constants ss) there in
+      let x = both_say s (declarations_events v ds) (statements_events v Inside ss ++ v.leave end) said in
+      let y = both_say s (statements_events v Inside ss) (v.leave end) x.1 in (
+        ((p.0, c.0, x.0), (p.1, c.1, y.0), q.0),
+        subst (λ z. AllFine s (z ++ (declarations_texts ds ++ statements_texts ss))) (sym (no_prefix_texts (Some class) w)) (both_fine s (declarations_texts ds) (statements_texts ss) (declarations_fine s ds p.0 q.0 c.0 x.0) (statements_fine s Inside ss tt p.1 q.1 c.1 y.0)),
+      )
 
   block_fine : (s : Source) (b : Block) → PlainBlock b → FilledBlock b → AllThere s (block_constants b) → AllSay s (block_events (judging s.tables) b) → AllFine s (block_texts b)
   block_fine s (Begin i NoDeclaration ss end) p q there said = statements_fine s Inside ss tt p.1 q.1 there said

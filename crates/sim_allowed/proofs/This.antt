@@ -23,7 +23,7 @@ use Rattle.sim_tree.specs.declared.expr.Identifier.{Identifier}
 use Rattle.sim_tree.specs.Syntax as syntax
 use Rattle.sim_meaning.specs.Attributes.{is_connection}
 use Rattle.sim_meaning.specs.Closing.{is_text, is_text_type, result_meant, stream_of}
-use Rattle.sim_meaning.specs.Levels.{is_class}
+use Rattle.sim_meaning.specs.Levels.{is_class, has_levels}
 use Rattle.sim_meaning.specs.Texts.{text}
 use Rattle.sim_sound.specs.Held.{Around, Fits, Holds, In, InBound, Place, Refers, StandsAround, further, itself, reference_to}
 use Rattle.sim_sound.specs.Expressions.{ThisFound, ThisIs}
@@ -88,10 +88,10 @@ connects_it s known b block connection class e = go (length s.tables.blocks) e
     go zero e = absurd (false≢true e)
     go (suc n) e = tested n (nat_eq b block) refl e
 
--- what is no connection and has a class among its levels is a class
-class_here : (s : Source) → Tabled s → (b block : ℕ) → is_connection (text s b) ≡ false → is_class (text s block) ≡ true → Reaches s.tables b block → is_class (text s b) ≡ true
-class_here s known b block other class at_once = class
-class_here s known b block other class (through {b = c} e x) = (known.prefixes.prefixed_by b c other e).class
+-- what is no connection and has a class among its levels has levels
+levels_here : (s : Source) → Tabled s → (b block : ℕ) → is_connection (text s b) ≡ false → is_class (text s block) ≡ true → Reaches s.tables b block → has_levels (text s b) ≡ true
+levels_here s known b block other class at_once = known.class_levels b class
+levels_here s known b block other class (through {b = c} e x) = (known.prefixes.prefixed_by b c other e).has
 
 -- ---- where it stands
 
@@ -107,17 +107,17 @@ stands s (InBound t) token b placed around open_to = beyond b around (sym (ap (�
     beyond b itself other = absurd (false≢true (sym other ∙ same b))
     beyond b (further {u = u} out a) other = record { next = u; stands_in = out; around = a }
 
-this_is : (s : Source) → Tabled s → (from : Place) (d : DeclNo) (c : IsClass s d) (b : ℕ) → has_level s.tables b c.block ≡ true → StandsAround s from b → (h : Holds) → Fits s (Refers c.block) h → ThisIs s from (is_connection (text s b)) (is_class (text s b)) b h
+this_is : (s : Source) → Tabled s → (from : Place) (d : DeclNo) (c : IsClass s d) (b : ℕ) → has_level s.tables b c.block ≡ true → StandsAround s from b → (h : Holds) → Fits s (Refers c.block) h → ThisIs s from (is_connection (text s b)) (has_levels (text s b)) b h
 unfolding has_level
 this_is s known from d c b level stands h f = go (is_connection (text s b)) refl
   where
-    go : (g : Bool) → is_connection (text s b) ≡ g → ThisIs s from g (is_class (text s b)) b h
+    go : (g : Bool) → is_connection (text s b) ≡ g → ThisIs s from g (has_levels (text s b)) b h
     go true is =
         let q = connects_it s known b c.block is c.is level in
-        (stands, subst (λ z. Fits s (reference_to z) h) (sym q.1) (fits_inside s known q.0 c.block (known.connects b q.0 q.1) q.2 h f))
+        (stands, subst (λ z. Fits s (reference_to z) h) (sym q.1) (fits_inside s known q.0 c.block (no_connection (text s q.0) (known.connects b q.0 q.1)) q.2 h f))
     go false is =
-        let class = class_here s known b c.block is c.is (level_reached s.tables (length s.tables.blocks) b c.block level) in
-        subst (λ z. ThisIs s from false z b h) (sym class) (stands, fits_inside s known b c.block class level h f)
+        let levels = levels_here s known b c.block is c.is (level_reached s.tables (length s.tables.blocks) b c.block level) in
+        subst (λ z. ThisIs s from false z b h) (sym levels) (stands, fits_inside s known b c.block is level h f)
 
 pub this_means : (s : Source) → Tabled s → (from : Place) (i : ℕ) (class : Identifier) (o : Occurrence) → ClassIs s (extent_of from) class o → block_at s.tables class.token.0 ≡ Some (text_of from)
     → AllSay s (this_object s.tables (extent_of from) i class o).events → Means true s from (syntax.This i class) (this_object s.tables (extent_of from) i class o).value

@@ -215,6 +215,6 @@ module _ (s : Tables) (x : Extent) where
     expression_tells (syntax.This i class) = this_tells i class
     expression_tells (syntax.New i class es) = new_tells i class es (expressions_tell es)
 
-    expressions_tell : (es : Expressions) → TellsAll es
+    pub expressions_tell : (es : Expressions) → TellsAll es
     expressions_tell NoMore = λ d a l. covers_silent [] l silent_none
     expressions_tell (Then e es) = all_tell e es (expression_tells e) (expressions_tell es)

@@ -2,6 +2,7 @@
 use Rattle.std.proofs.Common.{◌≡◌, ◌≤◌, ◌+◌, ◌||◌, not, ℕ, Bool, true, false, List, [], ◌∷◌, ◌++◌, Option, Some, None, arith, if◌then◌else◌}
 use Rattle.sim_base.specs.declared.numbering.DeclNo.{DeclNo}
 use Rattle.sim_base.specs.declared.rule.Rule.TheVariants as r
+use Rattle.sim_scope.specs.declared.outcome.Actuals.{Actuals}
 use Rattle.sim_scope.specs.declared.outcome.Barred.TheVariants as bar
 use Rattle.sim_scope.specs.declared.outcome.Extent.{Extent}
 use Rattle.sim_scope.specs.declared.outcome.Extent.TheVariants as extent
@@ -9,10 +10,11 @@ use Rattle.sim_scope.specs.declared.outcome.LeftSides.{LeftSides}
 use Rattle.sim_scope.specs.declared.outcome.Outcome.{Outcome}
 use Rattle.sim_scope.specs.declared.outcome.Outcome.TheVariants as is
 use Rattle.sim_scope.specs.declared.outcome.Side.{Side}
+use Rattle.sim_scope.specs.declared.scopes.Denotation.{Denotation}
 use Rattle.sim_scope.specs.declared.types.SimType.{SimType}
 use Rattle.sim_scope.specs.Actuals.{result_in}
 use Rattle.sim_scope.specs.Assignments.{LeftSide, assigned, assigned_to, call_assigned, compared, fine, first_sign, is_text_copied, last_value, left_side, left_sides, lefts, no_lefts, no_target, own_result, procedure_assigned, result_assigned, same_sign, side_unless, sign_agrees, standard_assigned, takes, target, targets, told as misfit_told, with_left, wrong}
-use Rattle.sim_scope.specs.Expressions.{judge, judge_side}
+use Rattle.sim_scope.specs.Expressions.{actuals, judge, judge_side}
 use Rattle.sim_scope.specs.Found.{Event}
 use Rattle.sim_scope.specs.Judged.{bars, gives, next, telling}
 use Rattle.sim_scope.specs.Operators.{is_same}
@@ -23,11 +25,11 @@ use Rattle.sim_scope.specs.Statements.{assignment_events, call_alone, call_event
 use Rattle.sim_scope.specs.Tables.{Tables}
 use Rattle.sim_tree.specs.declared.expr.Identifier.{Identifier}
 use Rattle.sim_tree.specs.declared.stmt.Assignment.{Assignment}
-use Rattle.sim_tree.specs.Named.{named}
+use Rattle.sim_tree.specs.Named.{all_named, named}
 use Rattle.sim_tree.specs.Order.{Behind, Spot, Token, in_each, in_expression, in_name, in_side, tokens}
-use Rattle.sim_tree.specs.Syntax.{Expression, RightSide, first_of}
+use Rattle.sim_tree.specs.Syntax.{Expression, Expressions, RightSide, first_of}
 use Rattle.sim_allowed.proofs.Counts.{About, Silent, bars_silent, called_silent, here, silent_both, silent_break, silent_next, silent_none, told, told_both}
-use Rattle.sim_allowed.proofs.Told.{Covers, expression_tells, occurs, side_tells}
+use Rattle.sim_allowed.proofs.Told.{Covers, expression_tells, expressions_tell, occurs, side_tells}
 
 -- how often a token is among spots
 abbrev pub among : ℕ → List Spot → ℕ
@@ -74,6 +76,10 @@ side_fills s x e l = in_list (judge_side s x e).events (named e []) l (side_tell
 
 judged_fills : (s : Tables) (x : Extent) (e : Expression) → (l : List Spot) → Fills (judge s x e).events l (in_expression e l)
 judged_fills s x e l = in_list (judge s x e).events (named e []) l (expression_tells s x e [])
+
+-- actual parameters
+pub actuals_fill : (s : Tables) (x : Extent) (d : Option Denotation) (a : Actuals) (es : Expressions) → (l : List Spot) → Fills (actuals s x d a es).events l (tokens (all_named es []) l)
+actuals_fill s x d a es l = in_list (actuals s x d a es).events (all_named es []) l (expressions_tell s x es d a [])
 
 -- an expression, and what tells nothing
 pub fills_then : (xs ys : List Event) (l m : List Spot) → Fills xs l m → Silent ys → Fills (xs ++ ys) l m

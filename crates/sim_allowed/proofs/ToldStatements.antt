@@ -18,17 +18,17 @@ use Rattle.sim_scope.specs.declared.types.Position.{Position}
 use Rattle.sim_scope.specs.declared.types.Position.TheVariants.{ClassBody, ClassStatement, Inside}
 use Rattle.sim_scope.specs.declared.types.SimType.{SimType}
 use Rattle.sim_scope.specs.declared.types.SimType.TheVariants as t
-use Rattle.sim_scope.specs.Assignments.{fine, takes, wrong}
+use Rattle.sim_scope.specs.Assignments.{fine, takes, wrong, told as misfit_told}
 use Rattle.sim_scope.specs.Calls.{bound, used_in}
-use Rattle.sim_scope.specs.Expressions.{judge_side}
+use Rattle.sim_scope.specs.Expressions.{judge_side, actuals}
 use Rattle.sim_scope.specs.Found.{Broken, Event, Typed, Uses}
 use Rattle.sim_scope.specs.Judged.{gives, next, telling}
 use Rattle.sim_scope.specs.Operators.{is_reference, is_same, misfit_of}
 use Rattle.sim_scope.specs.Runs.{each}
 use Rattle.sim_scope.specs.Levels.{class_block, has_classes}
-use Rattle.sim_scope.specs.References.{block_of_class, class_fits, class_named}
+use Rattle.sim_scope.specs.References.{block_of_class, class_fits, class_named, formal_count}
 use Rattle.sim_scope.specs.Scopes.{binding, entry_of, found_in}
-use Rattle.sim_scope.specs.Statements.{arm_connected, arm_events, arm_fits, array_events, class_connected, class_events, class_prefix_events, class_used, connected_by, constant_token, constant_type, control_events, controlled, element_events, entry_controlled, first_step, first_value, formal_controlled, has_type, inspect_events, inspect_when_events, integer_from, judging, moded_controlled, needs_reference, not_simple, pair_events, program_prefix_events, reference_needed, required, result_events, simple, starts, taken_by, told_unless, type_connected, type_events, type_taken, value_fits, value_type, variable_controlled, variable_events, prefix_at, prefix_used}
+use Rattle.sim_scope.specs.Statements.{arm_connected, arm_events, arm_fits, array_events, class_connected, class_events, class_prefix_events, class_used, connected_by, constant_token, constant_type, control_events, controlled, element_events, entry_controlled, first_step, first_value, formal_controlled, has_type, inspect_events, inspect_when_events, integer_from, judging, moded_controlled, needs_reference, not_simple, pair_events, program_prefix_events, reference_needed, required, result_events, simple, starts, taken_by, told_unless, type_connected, type_events, type_taken, value_fits, value_type, variable_controlled, variable_events, prefix_at, prefix_used, prefix_applied, prefixed_events, prefixed_with}
 use Rattle.sim_scope.specs.Tables.{Tables}
 use Rattle.sim_scope.specs.Walk.{begin_of, arm_classes, arms_events, block_events, class_events as class_body_events, declaration_events, declarations_events, program_events, statement_events, statements_events, whole_events}
 use Rattle.sim_tree.specs.declared.expr.Identifier.{Identifier}
@@ -37,14 +37,18 @@ use Rattle.sim_tree.specs.declared.stmt.Constant.{Constant}
 use Rattle.sim_tree.specs.declared.stmt.TypeName.{TypeName}
 use Rattle.sim_tree.specs.declared.stmt.TypeName.TheVariants as type_name
 use Rattle.sim_tree.specs.declared.stmt.Variable.{Variable}
-use Rattle.sim_tree.specs.Order.{Ascends, Behind, InOrder, Spot, Token, in_block, in_arms, in_bounds, in_declaration, in_declarations, in_each, in_element, in_expression, in_name, in_result, in_segment, in_statement, in_statements, in_type, in_variable, in_prefix}
-use Rattle.sim_tree.specs.Syntax.{Also, Arms, Arrayed, Arrays, Begin, Block, BoundPair, Declaration, Declarations, DeclareClass, DeclareProcedure, Element, Expression, Heading, NoArm, NoDeclaration, NoStatement, Program, Statement, Statements, Variables, When, With}
+use Rattle.sim_tree.specs.Order.{Ascends, Behind, InOrder, Spot, Token, in_block, in_arms, in_bounds, in_declaration, in_declarations, in_each, in_element, in_expression, in_name, in_result, in_segment, in_statement, in_statements, in_type, in_variable, in_prefix, tokens}
+use Rattle.sim_tree.specs.Syntax.{Also, Arms, Arrayed, Arrays, Begin, Block, BoundPair, Declaration, Declarations, DeclareClass, DeclareProcedure, Element, Expression, Heading, NoArm, NoDeclaration, NoStatement, Program, Statement, Statements, Variables, When, With, Expressions}
 use Rattle.sim_tree.specs.Syntax as syntax
 use Rattle.sim_agree.specs.Plain.{Plain, PlainArms, PlainBlock, PlainDeclaration, PlainDeclarations, PlainStatement, PlainStatements}
 use Rattle.sim_allowed.proofs.Counts.{About, Binding, Silent, Typing, binding_then_silent, bound_binds, class_binds, class_fits_silent, here, silent_break, silent_next, silent_none, told, told_both, typing_one, typing_silent, used_in_binds, binding_one}
 use Rattle.sim_allowed.proofs.Nowhere.{nowhere}
 use Rattle.sim_allowed.proofs.Told.{any_of}
-use Rattle.sim_allowed.proofs.ToldProgram.{Fills, among, assign_fills, call_fills, fills_both, fills_end, fills_more, fills_names, fills_silent, fills_then, required_fills, side_fills}
+use Rattle.sim_allowed.proofs.ToldProgram.{Fills, among, assign_fills, call_fills, fills_both, fills_end, fills_more, fills_names, fills_silent, fills_then, required_fills, side_fills, actuals_fill}
+use Rattle.sim_tree.specs.Named.{all_named}
+use Rattle.sim_scope.specs.Actuals.{no_actuals}
+use Rattle.sim_scope.specs.declared.outcome.Actuals.{Actuals}
+use Rattle.sim_scope.specs.declared.found.Fault.{Fault}
 
 -- ---- for statements
 
@@ -209,6 +213,38 @@ prefix_fills s (Some class) token l = go (prefix_at s token)
     go None = fills_more [] class.token.0 l l (fills_silent [] l silent_none)
     go (Some d) = binding_fills class.token.0 (Uses class.token.0 d ∷ []) l (binding_one class.token.0 d)
 
+-- and that of a block, with its actual parameters
+with_silent : (s : Tables) (token : ℕ) (d : Option Denotation) (a : Actuals) → Silent (prefixed_with s token d a).events
+unfolding prefixed_with fine wrong telling gives
+with_silent s token None a = silent_none
+with_silent s token (Some class) a = typed a.typed
+  where
+    misfit : (m : Option Fault) → Silent (misfit_told m).events
+    misfit None = silent_none
+    misfit (Some f) = silent_break f.token.0 f.rule
+
+    counted : (b : Bool) → Silent (if b then misfit_told a.misfit else wrong token r.WrongNumber).events
+    counted true = misfit a.misfit
+    counted false = silent_break token r.WrongNumber
+
+    typed : (b : Bool) → Silent (if b then prefix_applied s token class a else fine).events
+    typed true = counted (nat_eq (formal_count s class) a.count)
+    typed false = silent_none
+
+block_prefix_fills : (s : Tables) (class : Identifier) (es : Expressions) (begin : ℕ) (l : List Spot) → Fills (prefixed_events s class es begin) l (in_expression (syntax.Named class es) l)
+unfolding prefixed_events next gives telling
+block_prefix_fills s class es begin l = go (prefix_at s begin)
+  where
+    given : (d : Option Denotation) → Fills ((actuals s extent.Statement d no_actuals es).events ++ (prefixed_with s class.token.0 d (actuals s extent.Statement d no_actuals es).value).events) l (tokens (all_named es []) l)
+    given d =
+        fills_then (actuals s extent.Statement d no_actuals es).events (prefixed_with s class.token.0 d (actuals s extent.Statement d no_actuals es).value).events l (tokens (all_named es []) l) (actuals_fill s extent.Statement d no_actuals es l)
+        (with_silent s class.token.0 d (actuals s extent.Statement d no_actuals es).value)
+
+    go : (o : Option Denotation) → Fills (next (prefix_used class.token.0 o) (λ d. next (actuals s extent.Statement d no_actuals es) (prefixed_with s class.token.0 d))).events l (in_expression (syntax.Named class es) l)
+    go None = fills_more _ class.token.0 l (tokens (all_named es []) l) (given None)
+    go (Some d) =
+        fills_both (Uses class.token.0 d ∷ []) _ l (tokens (all_named es []) l) (Token class.token.0 ∷ tokens (all_named es []) l) (binding_fills class.token.0 (Uses class.token.0 d ∷ []) (tokens (all_named es []) l) (binding_one class.token.0 d)) (given (Some d))
+
 result_fills : (s : Tables) (result : Option TypeName) (l : List Spot) → Fills (result_events s result) l (in_result result l)
 result_fills s None l = fills_silent [] l silent_none
 result_fills s (Some type) l = type_fills s type l
@@ -337,7 +373,8 @@ module _ (s : Tables) where
         let v = judging s in
         let m = in_statements b l in
         object_fills s i e (arm_classes whens) (arms_events v whens) (statements_events v Inside b) l m (in_arms whens m) (arms_fill i (judge_side s extent.Statement e).value whens p.1 m) (statements_fill Inside b p.2 l)
-    statement_fills q (syntax.Prefixed class es b) p l = absurd p
+    statement_fills q (syntax.Prefixed class es b) p l =
+        fills_both (prefixed_events s class es (begin_of b)) (whole_events (judging s) b) l (in_block b l) (in_expression (syntax.Named class es) (in_block b l)) (block_prefix_fills s class es (begin_of b) (in_block b l)) (whole_fills b p.2 l)
     statement_fills q (syntax.Activate i word e schedule) p l = absurd p
 
     arms_fill : (i : ℕ) (x : Side) (whens : Arms) → PlainArms whens → (l : List Spot) (k : About) (t : ℕ) → (told k t (each (arm_events s i x) (arm_classes whens)) + told k t (arms_events (judging s) whens)) + among t l ≤ among t (in_arms whens l)
@@ -352,6 +389,16 @@ module _ (s : Tables) where
     statements_fill q (Also a more) p l =
         let v = judging s in
         fills_both (statement_events v q a) (statements_events v q more) l (in_statements more l) (in_statement a (in_statements more l)) (statement_fills q a p.0 (in_statements more l)) (statements_fill q more p.1 l)
+
+    whole_fills : (b : Block) → PlainBlock b → (l : List Spot) → Fills (whole_events (judging s) b) l (in_block b l)
+    whole_fills (Begin i ds ss end) p l =
+        let v = judging s in
+        let u = Behind end ∷ l in
+        let events = declarations_events v ds ++ (statements_events v Inside ss ++ []) in
+        fills_more events i l (in_declarations ds (in_statements ss u))
+        (fills_end events end l (in_declarations ds (in_statements ss u))
+        (fills_both (declarations_events v ds) (statements_events v Inside ss ++ []) u (in_statements ss u) (in_declarations ds (in_statements ss u)) (declarations_fill ds p.0 (in_statements ss u))
+        (fills_then (statements_events v Inside ss) [] u (in_statements ss u) (statements_fill Inside ss p.1 u) silent_none)))
 
     block_fills : (b : Block) → PlainBlock b → (l : List Spot) → Fills (block_events (judging s) b) l (in_block b l)
     block_fills (Begin i NoDeclaration ss end) p l =
@@ -400,17 +447,6 @@ module _ (s : Tables) where
         let u = Behind end ∷ l in
         let m = in_each in_name h.formals (in_statement a u) in
         fills_both (class_prefix_events s prefix h.name.token.0) (statement_events v ClassBody a ++ []) l (Token h.name.token.0 ∷ m) (in_prefix prefix (Token h.name.token.0 ∷ m)) (prefix_fills s prefix h.name.token.0 (Token h.name.token.0 ∷ m)) (headed_fills h end (statement_events v ClassBody a) l (in_statement a u) (statement_fills ClassBody a p.3 u))
-
-  whole_fills : (b : Block) → PlainBlock b → (l : List Spot) → Fills (whole_events (judging s) b) l (in_block b l)
-  unfolding judging
-  whole_fills (Begin i ds ss end) p l =
-      let v = judging s in
-      let u = Behind end ∷ l in
-      let events = declarations_events v ds ++ (statements_events v Inside ss ++ []) in
-      fills_more events i l (in_declarations ds (in_statements ss u))
-      (fills_end events end l (in_declarations ds (in_statements ss u))
-      (fills_both (declarations_events v ds) (statements_events v Inside ss ++ []) u (in_statements ss u) (in_declarations ds (in_statements ss u)) (declarations_fill ds p.0 (in_statements ss u))
-      (fills_then (statements_events v Inside ss) [] u (in_statements ss u) (statements_fill Inside ss p.1 u) silent_none)))
 
   pub program_fills : (p : Program) → Plain p → Fills (program_events (judging s) p) [] (in_block p.block [])
   unfolding judging program_events program_prefix_events

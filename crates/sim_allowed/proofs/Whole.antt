@@ -16,7 +16,7 @@ use Rattle.sim_scope.specs.Walk.{program_events}
 use Rattle.sim_tree.specs.declared.expr.Identifier.{Identifier}
 use Rattle.sim_tree.specs.declared.stmt.TypeName.{TypeName}
 use Rattle.sim_tree.specs.Filled.{Filled}
-use Rattle.sim_tree.specs.Syntax.{Declarations, Heading, Statement, Statements}
+use Rattle.sim_tree.specs.Syntax.{Declarations, Heading, Statement, Statements, Expressions}
 use Rattle.sim_meaning.specs.Attributes.{is_connection}
 use Rattle.sim_meaning.specs.Closing.{class_parameters}
 use Rattle.sim_meaning.specs.Entries.{formals_of, is_held, numbers_of}
@@ -28,8 +28,9 @@ use Rattle.sim_agree.specs.Places.{PlacedArrays, PlacedStatement, PlacedStatemen
 use Rattle.sim_agree.specs.Plain.{Plain}
 use Rattle.sim_allowed.proofs.Bounds.{ArraysNamed, arrays_typed}
 use Rattle.sim_allowed.proofs.Said.{AllSay}
-use Rattle.sim_allowed.proofs.Statements.{statement_typed, statements_typed}
-use Rattle.sim_allowed.proofs.TextsOf.{TextFine, constants_there, text_fine}
+use Rattle.sim_allowed.proofs.Statements.{statement_typed, statements_typed, NoBody}
+use Rattle.sim_allowed.proofs.TextsOf.{TextFine, constants_there, text_fine, BlockFine}
+use Rattle.sim_scope.specs.declared.types.Position.{Position}
 
 -- What the tables of an allowed program say of its texts. A block has no formal parameters; its arrays are those that its table has, each once; what
 -- is written in it stands in it.
@@ -74,6 +75,7 @@ pub record Agreed (s : Source) : Type 0 where
   pub blocks : (k i : ℕ) (ds : Declarations) (ss : Statements) → text s k ≡ Some (BlockText i ds ss) → BlockIs s k ds ss
   pub bodies : (k : ℕ) (result : Option TypeName) (h : Heading) (a : Statement) → text s k ≡ Some (ProcedureText result h a) → ProcedureIs s k result a
   pub class_bodies : (k : ℕ) (prefix : Option Identifier) (h : Heading) (ds : Declarations) (ss : Statements) → text s k ≡ Some (ClassText prefix h ds ss) → ClassIs s k ds ss
+  pub prefixed_bodies : (k : ℕ) (class : Identifier) (es : Expressions) (ds : Declarations) (ss : Statements) → text s k ≡ Some (PrefixedText class es ds ss) → ClassIs s k ds ss
   pub connections : (k : ℕ) → text s k ≡ Some ConnectionText → ConnectionTyped s k
   pub not_class_free : (t u : ℕ) → encloser s.tables t ≡ Some u → is_class_free s t ≡ false → is_class_free s u ≡ false
   pub keeps_none : (k : ℕ) (result : Option TypeName) (h : Heading) (a : Statement) → text s k ≡ Some (ProcedureText result h a) → is_class_free s k ≡ false → list_any is_held (formals_of s k) ≡ false
@@ -94,20 +96,18 @@ module _ (s : Source) (agreed : Agreed s) (plain : Plain s.program) (filled : Fi
         statements = statements_typed s agreed.tabled k Inside ss tt fine.1.0 b.statements fine.1.1 fine.1.2;
       }
 
-  class_typed : (k : ℕ) (prefix : Option Identifier) (h : Heading) (ds : Declarations) (ss : Statements) → text s k ≡ Some (ClassText prefix h ds ss) → ClassTyped s k ds ss
-  class_typed k prefix h ds ss at =
-      let fine = fine_text k (ClassText prefix h ds ss) at in
-      let b = agreed.class_bodies k prefix h ds ss at in
+  class_typed : (k : ℕ) (q : Position) → NoBody q → (ds : Declarations) (ss : Statements) → is_connection (text s k) ≡ false → BlockFine s q ds ss → ClassIs s k ds ss → ClassTyped s k ds ss
+  class_typed k q no_body ds ss solid fine b =
       let tabled = agreed.tabled in record {
         formals = b.formals;
         parameters = b.parameters;
         different = b.different;
         constants = λ d type among e. (let c = tabled.constants d type e in record { value = c.value; is = c.is; of_type = c.of_type });
-        arrays = arrays_typed s agreed.tabled k (ap is_connection at) ds fine.0.0 b.arrays b.named fine.0.1 fine.0.2;
+        arrays = arrays_typed s agreed.tabled k solid ds fine.0.0 b.arrays b.named fine.0.1 fine.0.2;
         distinct = b.distinct;
         made = b.made;
         own = b.own;
-        statements = statements_typed s agreed.tabled k ClassStatement ss tt fine.1.0 b.statements fine.1.1 fine.1.2;
+        statements = statements_typed s agreed.tabled k q ss no_body fine.1.0 b.statements fine.1.1 fine.1.2;
         stays = b.stays;
         not_standard = b.not_standard;
       }
@@ -118,9 +118,9 @@ module _ (s : Source) (agreed : Agreed s) (plain : Plain s.program) (filled : Fi
       let fine = fine_text k (ProcedureText result h a) at in
       let p = agreed.bodies k result h a at in
       record { result = p.written; formals = p.formals; body = statement_typed s agreed.tabled k Inside a tt fine.0 p.body fine.1 fine.2 }
-  texts_typed k (ClassText prefix h ds ss) at = class_typed k prefix h ds ss at
+  texts_typed k (ClassText prefix h ds ss) at = class_typed k ClassStatement tt ds ss (ap is_connection at) (fine_text k (ClassText prefix h ds ss) at) (agreed.class_bodies k prefix h ds ss at)
   texts_typed k ConnectionText at = agreed.connections k at
-  texts_typed k (PrefixedText class arguments ds ss) at = absurd (fine_text k (PrefixedText class arguments ds ss) at)
+  texts_typed k (PrefixedText class es ds ss) at = class_typed k Inside tt ds ss (ap is_connection at) (fine_text k (PrefixedText class es ds ss) at) (agreed.prefixed_bodies k class es ds ss at)
   texts_typed k (StandardText which) at = absurd (fine_text k (StandardText which) at)
 
   pub said_typed : Typed s

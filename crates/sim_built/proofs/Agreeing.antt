@@ -1,5 +1,5 @@
 -- The tables of typed programs agree, as far as code rests on it.
-use Rattle.std.proofs.Common.{◌≡◌, ◌<◌, ℕ, zero, suc, Bool, if◌then◌else◌, true, false, List, [], ◌∷◌, length, Option, Some, None, refl, sym, ap, ◌∙◌, subst, arith}
+use Rattle.std.proofs.Common.{◌≡◌, ◌<◌, ◌≤◌, ℕ, zero, suc, Bool, if◌then◌else◌, true, false, List, [], ◌∷◌, length, Option, Some, None, refl, sym, ap, ◌∙◌, subst, arith}
 use Rattle.std.specs.Prelude.{slice_get}
 use Rattle.sim_base.specs.declared.numbering.DeclNo.{DeclNo}
 use Rattle.sim_scope.specs.declared.types.Entry.TheVariants as entry
@@ -12,17 +12,16 @@ use Rattle.sim_tree.specs.declared.stmt.TypeName.{TypeName}
 use Rattle.sim_meaning.specs.Attributes.{is_connection}
 use Rattle.sim_meaning.specs.Closing.{has_type}
 use Rattle.sim_meaning.specs.Entries.{numbers_of}
-use Rattle.sim_meaning.specs.Levels.{has_levels, is_class}
 use Rattle.sim_meaning.specs.Meaning.{has_result}
 use Rattle.sim_meaning.specs.Texts.{BlockText, ClassText, ConnectionText, PrefixedText, ProcedureText, StandardText, Text, text}
 use Rattle.sim_sound.specs.Held.{Among, first, given_by, later}
-use Rattle.sim_sound.specs.Typed.{ConnectionTyped, Distinct, Ends as BaseEnds, ResultWritten, Typed, outermost, prefixed}
+use Rattle.sim_sound.specs.Typed.{ConnectionTyped, Distinct, Ends as BaseEnds, Home, ResultWritten, Typed, connected, outermost, prefixed, stands}
 use Rattle.sim_sound.proofs.Attributes.{holds_result}
 use Rattle.sim_sound.proofs.Lists.{same_some}
 use Rattle.sim_sound.proofs.Prefixes.{level_is, level_number, prefix_level, same_level as own_level}
 use Rattle.sim_sound.proofs.Prefixes as prefixes
 use Rattle.codegen_expr.specs.Sites.{LevelOf, frame_text, frame_within, innermost, is_connected, outer, outward_or, prefix_of}
-use Rattle.codegen.specs.Agrees.{Agrees, Ends, PrefixThere, ProcedureThere, Unprefixed, before, is_prefixed, last}
+use Rattle.codegen.specs.Agrees.{Agrees, Ends, PrefixThere, ProcedureThere, before, last}
 use Rattle.sim_built.specs.Laid.{Laid}
 use Rattle.sim_built.proofs.Cells.{class_is_solid, front_is, level_solid, no_front}
 
@@ -86,30 +85,37 @@ module _ (s : Source) (ok : Typed s) (laid : Laid s) where
   front_level solid own_level = innermost
   front_level {t = t} solid (prefix_level {b = b} e x) = outer (front_is s ok laid t solid ∙ e) (front_level (class_is_solid (text s b) ((ok.prefixes).prefixed_by t b solid e).prefix) x)
 
-  -- a class has its prefix in front of it
-  class_has : (k : ℕ) → is_class (text s k) ≡ true → has_levels (text s k) ≡ true
-  class_has k is = by_text (text s k) refl is
-    where
-      by_text : (x : Option Text) → text s k ≡ x → is_class x ≡ true → has_levels x ≡ true
-      by_text (Some (ClassText prefix h ds ss)) e is = refl
-      by_text (Some (StandardText which)) e is = absurd (ok.texts k (StandardText which) e)
-      by_text None e is = absurd (cc)
-      by_text (Some (BlockText begin ds ss)) e is = absurd (cc)
-      by_text (Some (ProcedureText result h a)) e is = absurd (cc)
-      by_text (Some (PrefixedText class arguments ds ss)) e is = absurd (cc)
-      by_text (Some ConnectionText) e is = absurd (cc)
+  solid_frame : (n k : ℕ) → is_connection (text s k) ≡ false → frame_within n s.tables k ≡ k
+  solid_frame zero k solid = refl
+  solid_frame (suc n) k solid = ap (λ z. if z then outward_or (frame_within n s.tables) k (encloser s.tables k) else k) (laid.connected k ∙ solid)
 
+  -- the frames of a connection are those of the text around
+  connected_frame : (n k u h : ℕ) → encloser s.tables k ≡ Some u → is_connection (text s k) ≡ true → k ≤ n → ((m : ℕ) → u ≤ m → frame_within m s.tables u ≡ h) → frame_within n s.tables k ≡ h
+  connected_frame zero k u h e c le f = (let lt = laid.falls k u e in absurd (let none : ⊥ = omega (arith, lt, le) in none))
+  connected_frame (suc n) k u h e c le f =
+      let lt = laid.falls k u e in
+      ap (λ z. if z then outward_or (frame_within n s.tables) k (encloser s.tables k) else k) (laid.connected k ∙ c) ∙ ap (outward_or (frame_within n s.tables) k) e ∙ f n (omega (arith, lt, le))
+
+  -- the text around has the frames of the nearest one that is no connection
+  framed : {k h : ℕ} → Home s k h → (u : ℕ) × (encloser s.tables k ≡ Some u) × ((n : ℕ) → u ≤ n → frame_within n s.tables u ≡ h)
+  framed (stands {u = u} e solid) = (u, e, λ n le. solid_frame n u solid)
+  framed (connected {u = u} e c more) = (let r = framed more in (u, e, λ n le. connected_frame n u r.0 _ r.1 c le r.2))
+
+  -- what has a next level and is no connection has its prefix in front of it
   prefix_there : (k front : ℕ) → is_connection (text s k) ≡ false → base s.tables k ≡ Some front → PrefixThere s k front
+  unfolding frame_text
   prefix_there k front solid e =
-      let p = (ok.prefixes).prefixed_by k front solid e in record {
-        has = class_has k p.class;
+      let p = (ok.prefixes).prefixed_by k front solid e in
+      let home = framed p.around in
+      let frame : frame_text s home.0 ≡ p.outer = home.2 home.0 (omega arith) in record {
+        has = p.has;
         class = p.prefix;
         level = sym (level_number s ok solid (prefix_level e own_level));
         around = λ u f. (let same : p.outer_prefix ≡ u = same_some (encloser s.tables front) p.outer_prefix u p.around_prefix f in record {
-          around = p.outer;
-          is = p.around;
-          level = subst (λ z. LevelOf s.tables (frame_text s p.outer) (frame_text s z)) same (
-              subst (λ z. LevelOf s.tables z (frame_text s p.outer_prefix)) (sym (own_frame p.outer p.solid)) (subst (λ z. LevelOf s.tables p.outer z) (sym (own_frame p.outer_prefix (level_solid s ok laid p.outer p.outer_prefix p.solid p.declared))) (front_level p.solid (level_is s p.outer p.outer_prefix p.declared)))
+          around = home.0;
+          is = home.1;
+          level = subst (λ z. LevelOf s.tables (frame_text s home.0) (frame_text s z)) same (
+              subst (λ z. LevelOf s.tables z (frame_text s p.outer_prefix)) (sym frame) (subst (λ z. LevelOf s.tables p.outer z) (sym (own_frame p.outer_prefix (level_solid s ok laid p.outer p.outer_prefix p.solid p.declared))) (front_level p.solid (level_is s p.outer p.outer_prefix p.declared)))
               );
         });
       }
@@ -154,15 +160,3 @@ module _ (s : Source) (ok : Typed s) (laid : Laid s) where
     classes = λ d k e. (ok.classes d k e).around;
     procedures = procedure;
   }
-
-  pub no_prefixes : Unprefixed s
-  no_prefixes = record { blocks = λ k. by_text k (text s k) refl }
-    where
-      by_text : (k : ℕ) (x : Option Text) → text s k ≡ x → is_prefixed x ≡ false
-      by_text k None e = refl
-      by_text k (Some (PrefixedText class arguments ds ss)) e = absurd (ok.texts k (PrefixedText class arguments ds ss) e)
-      by_text k (Some (BlockText begin ds ss)) e = refl
-      by_text k (Some (ProcedureText result h a)) e = refl
-      by_text k (Some (ClassText prefix h ds ss)) e = refl
-      by_text k (Some ConnectionText) e = refl
-      by_text k (Some (StandardText which)) e = refl

@@ -274,6 +274,7 @@ module _ (s : Source) (ok : Typed s) (laid : Laid s) where
   key_in_text u d h c (BlockText begin ds ss) solid typed e a = listed_key s (numbers_of s u) d c h e a
   key_in_text u d h c (ProcedureText result g b) solid typed e a = behind_result result (Declared d.0) (cells_from s (numbers_of s u)) (listed_key s (numbers_of s u) d c h e a)
   key_in_text u d h c (ClassText prefix g ds ss) solid typed e a = listed_key s (numbers_of s u) d c h e a
+  key_in_text u d h c (PrefixedText class es ds ss) solid typed e a = listed_key s (numbers_of s u) d c h e a
   key_in_text u d h c ConnectionText solid typed e a = absurd (cc)
   key_in_text u d h c _ solid typed e a = absurd typed
 

@@ -24,7 +24,7 @@ use Rattle.sim_values.specs.declared.standard.StandardType.{StandardType}
 use Rattle.sim_values.specs.Standard.{is_image, moves_position, on_image, operands_of, row_of}
 use Rattle.sim_meaning.specs.Attributes.{connection_at, is_connection}
 use Rattle.sim_meaning.specs.Closing.{class_parameters, is_attribute, is_attribute_denoted, is_image_behind, is_variable, is_variable_denoted, stream_of}
-use Rattle.sim_meaning.specs.Levels.{class_at, class_denoted, class_text, is_class}
+use Rattle.sim_meaning.specs.Levels.{class_at, class_denoted, class_text, has_levels, is_class}
 use Rattle.sim_meaning.specs.Names.{procedure_named}
 use Rattle.sim_meaning.specs.Statements.{has_value, standard_leaves}
 use Rattle.sim_meaning.specs.Texts.{text}
@@ -222,14 +222,14 @@ module _ (s : Source) (ok : Typed s) (laid : Laid s) (t : ℕ) (from : Place) (s
 
   -- ---- objects
 
-  this_of : (k : ℕ) (connection class : Bool) (h : Holds) → is_connection (text s k) ≡ connection → ThisIs s from connection class k h → ThisOfBuilt s t k connection
-  this_of k true class h e a = record { has = connection_has s ok laid k e; inside = stands.around k a.0 }
+  this_of : (k : ℕ) (connection levels : Bool) (h : Holds) → is_connection (text s k) ≡ connection → ThisIs s from connection levels k h → ThisOfBuilt s t k connection
+  this_of k true levels h e a = record { has = connection_has s ok laid k e; inside = stands.around k a.0 }
   this_of k false true h e a = stands.around k a.0
   this_of k false false h e a = absurd a
 
   this_built : (found : Option ℕ) (h : Holds) → ThisFound s from found h → ThisFoundBuilt s t found
   this_built None h a = absurd a
-  this_built (Some k) h a = this_of k (is_connection (text s k)) (is_class (text s k)) h refl a
+  this_built (Some k) h a = this_of k (is_connection (text s k)) (has_levels (text s k)) h refl a
 
   generation_built : (token : ℕ) (Actuals Given : List Formal → Type 0) → ((fs : List Formal) → Actuals fs → Given fs) → Generates s from token Actuals → GenerationBuilt s t (denoted s token) (class_at s token) (Given (class_parameters s (class_at s token)))
   unfolding class_at

@@ -1,11 +1,12 @@
 -- Tables that agree with the texts of a program lie as code needs them.
-use Rattle.std.proofs.Common.{◌≡◌, Option, Some, None, refl, ◌∙◌}
+use Rattle.std.proofs.Common.{◌≡◌, Option, Some, None, refl, ap, ◌∙◌}
 use Rattle.std.specs.Prelude.{slice_get}
 use Rattle.sim_scope.specs.declared.types.BlockKind.{BlockKind}
 use Rattle.sim_scope.specs.declared.types.BlockKind.TheVariants as kind
 use Rattle.sim_scope.specs.Access.{is_connection as is_connection_kind, is_kind, is_so, kind_in}
 use Rattle.sim_scope.specs.Source.{Source}
 use Rattle.sim_scope.specs.Tables.{BlockOf}
+use Rattle.codegen_expr.specs.Built.{is_there}
 use Rattle.codegen_expr.specs.Sites.{connects, is_connected}
 use Rattle.codegen_expr.specs.Sites as sites
 use Rattle.sim_agree.specs.Inners.{Inners}
@@ -31,6 +32,7 @@ lies s a inners = record {
   as_many = a.as_many;
   connected = λ k. in_row (slice_get s.tables.blocks k) ∙ a.connections k;
   falls = a.nesting;
+  behind = λ k class es ds ss e. ap is_there (a.block_prefixes k class es ds ss e).based;
   owned = a.owned;
   different = a.different;
   formals = a.parameters;

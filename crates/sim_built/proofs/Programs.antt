@@ -5,13 +5,13 @@ use Rattle.sim_base.specs.declared.numbering.DeclNo.{DeclNo}
 use Rattle.sim_scope.specs.Source.{Source}
 use Rattle.sim_tree.specs.declared.expr.Identifier.{Identifier}
 use Rattle.sim_tree.specs.Filled.{Filled, FilledArms, FilledBlock, FilledDeclaration, FilledDeclarations, FilledStatement, FilledStatements}
-use Rattle.sim_tree.specs.Syntax.{Also, Arms, Arrayed, Arrays, Begin, Block, BoundPair, Declaration, Declarations, DeclareClass, DeclareProcedure, Heading, NoArm, NoDeclaration, NoStatement, Prefix, Statement, Statements, Variables, When, With}
+use Rattle.sim_tree.specs.Syntax.{Also, Arms, Arrayed, Arrays, Begin, Block, BoundPair, Declaration, Declarations, DeclareClass, DeclareProcedure, Expressions, Heading, NoArm, NoDeclaration, NoStatement, Prefix, Statement, Statements, Variables, When, With}
 use Rattle.sim_tree.specs.Syntax as syntax
 use Rattle.sim_values.specs.declared.kind.Kind.TheVariants as kind
 use Rattle.sim_meaning.specs.Attributes.{is_connection}
 use Rattle.sim_meaning.specs.Entries.{numbers_of}
 use Rattle.sim_meaning.specs.Levels.{writes_inner}
-use Rattle.sim_meaning.specs.Texts.{BlockText, ClassText, ConnectionText, ProcedureText, Text, arms_texts, block_texts, declaration_texts, declarations_texts, declared_at, prefix_texts, program_texts, statement_texts, statements_texts, text}
+use Rattle.sim_meaning.specs.Texts.{BlockText, ClassText, ConnectionText, PrefixedText, ProcedureText, Text, arms_texts, block_texts, declaration_texts, declarations_texts, declared_at, prefix_texts, prefixed_texts, program_texts, statement_texts, statements_texts, text}
 use Rattle.sim_agree.specs.Inners.{InnersIn}
 use Rattle.sim_agree.specs.Plain.{Each, Plain, PlainArms, PlainBlock, PlainDeclaration, PlainDeclarations, PlainPrefix, PlainStatement, PlainStatements}
 use Rattle.sim_agree.proofs.PlainNames.{no_prefix_texts}
@@ -21,7 +21,7 @@ use Rattle.sim_sound.specs.Typed.{ArraysAre, ArraysTyped, BoundsAre, SegmentsAre
 use Rattle.codegen_expr.specs.Sites.{is_constant}
 use Rattle.codegen.specs.BuiltProgram.{ArraysBuilt, BoundsBuilt, KeptBuilt, LevelBuilt, MadeBuilt, NamesBuilt, ProgramBuilt, SegmentsBuilt, TextBuilt, TextsBuilt, texts_of}
 use Rattle.sim_built.specs.Laid.{Laid}
-use Rattle.sim_built.proofs.Agreeing.{agrees, no_prefixes}
+use Rattle.sim_built.proofs.Agreeing.{agrees}
 use Rattle.sim_built.proofs.Cells.{slot_listed}
 use Rattle.sim_built.proofs.Expressions.{Stands, is_built}
 use Rattle.sim_built.proofs.Standing.{stands_in_bound}
@@ -86,6 +86,7 @@ abbrev Fit : Text → Type 0
 Fit (BlockText begin ds ss) = FilledStatements ss
 Fit (ProcedureText result h a) = FilledStatement a
 Fit (ClassText prefix h ds ss) = FilledStatements ss
+Fit (PrefixedText class es ds ss) = FilledStatements ss
 Fit ConnectionText = Unit {0}
 Fit _ = ⊥
 
@@ -109,8 +110,12 @@ mutual
   statement_fit (syntax.Inner i) p f = tt
   statement_fit (syntax.Inspect i e opening x end other) p f = (tt, both_each (statement_texts x) (statements_texts other) (statement_fit x p.1 f.0) (statements_fit other p.2 f.1))
   statement_fit (syntax.InspectWhen i e arms other) p f = both_each (arms_texts arms) (statements_texts other) (arms_fit arms p.1 f.0) (statements_fit other p.2 f.1)
-  statement_fit (syntax.Prefixed class arguments b) p f = absurd p
+  statement_fit (syntax.Prefixed class arguments b) p f = prefixed_fit class arguments b p.0 p.2 f
   statement_fit (syntax.Activate i word e schedule) p f = absurd p
+
+  prefixed_fit : (class : Identifier) (es : Expressions) (b : Block) → PlainPrefix (Some class) → PlainBlock b → FilledBlock b → Each Fit (prefixed_texts class es b)
+  prefixed_fit class es (Begin i ds ss end) n p f =
+      (f.1, fit_prefix (Some class) n (declarations_texts ds ++ statements_texts ss) (both_each (declarations_texts ds) (statements_texts ss) (declarations_fit ds p.0 f.0) (statements_fit ss p.1 f.1)))
 
   arms_fit : (arms : Arms) → PlainArms arms → FilledArms arms → Each Fit (arms_texts arms)
   arms_fit NoArm p f = tt
@@ -144,7 +149,7 @@ mutual
   declaration_fit (DeclareClass prefix i h interface (syntax.Inner j) end) p f = ((f, tt), fit_prefix prefix p.0 (statement_texts (syntax.Inner j)) (statement_fit (syntax.Inner j) p.3 f))
   declaration_fit (DeclareClass prefix i h interface (syntax.Inspect j e opening x close other) end) p f = ((f, tt), fit_prefix prefix p.0 (statement_texts (syntax.Inspect j e opening x close other)) (statement_fit (syntax.Inspect j e opening x close other) p.3 f))
   declaration_fit (DeclareClass prefix i h interface (syntax.InspectWhen j e arms other) end) p f = ((f, tt), fit_prefix prefix p.0 (statement_texts (syntax.InspectWhen j e arms other)) (statement_fit (syntax.InspectWhen j e arms other) p.3 f))
-  declaration_fit (DeclareClass prefix i h interface (syntax.Prefixed class arguments b) end) p f = absurd p.3
+  declaration_fit (DeclareClass prefix i h interface (syntax.Prefixed class arguments b) end) p f = ((f, tt), fit_prefix prefix p.0 (statement_texts (syntax.Prefixed class arguments b)) (statement_fit (syntax.Prefixed class arguments b) p.3 f))
   declaration_fit (DeclareClass prefix i h interface (syntax.Activate j word e schedule) end) p f = absurd p.3
 
 program_fit : (prefix : Option Prefix) (b : Block) → prefix ≡ None → PlainBlock b → FilledBlock b → Each Fit (program_texts prefix b)
@@ -170,6 +175,11 @@ module _ (s : Source) (ok : Typed s) (laid : Laid s) where
   text_built k (ProcedureText result h b) e f a = statement_built s ok laid k (ProcedureText result h b) e b (laid.inners k (ProcedureText result h b) e) f a.body
   text_built zero (ClassText prefix h ds ss) e f a = let block = ok.starts in absurd (cc)
   text_built (suc k) (ClassText prefix h ds ss) e f a = class_built (suc k) prefix h ds ss e f a
+  text_built zero (PrefixedText class es ds ss) e f a = let block = ok.starts in absurd (cc)
+  text_built (suc k) (PrefixedText class es ds ss) e f a = (
+    arrays_built s ok laid (suc k) (PrefixedText class es ds ss) e (ap is_connection e) ds a.own a.arrays,
+    statements_built s ok laid (suc k) (PrefixedText class es ds ss) e ss (laid.inners (suc k) (PrefixedText class es ds ss) e) f a.statements,
+  )
   text_built k ConnectionText e f a = tt
   text_built k _ e f a = absurd f
 
@@ -188,6 +198,5 @@ module _ (s : Source) (ok : Typed s) (laid : Laid s) where
       let fit = program_fit s.program.prefix s.program.block p.prefix p.block f in
       record {
         texts = texts_built 0 (program_texts s.program.prefix s.program.block) (λ i x e. ap (slice_get (program_texts s.program.prefix s.program.block)) (omega arith) ∙ e) fit;
-        unprefixed = no_prefixes s ok laid;
         agrees = agrees s ok laid;
       }

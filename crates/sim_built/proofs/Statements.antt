@@ -1,32 +1,35 @@
 -- Typed statements are built.
 use Rattle.std.proofs.Common.{◌≡◌, ℕ, zero, suc, true, List, [], ◌∷◌, Option, Some, None, refl, sym, ap, ◌∙◌, subst}
-use Rattle.std.specs.Prelude.{◌||◌}
+use Rattle.std.specs.Prelude.{◌&&◌, ◌||◌, not}
 use Rattle.sim_scope.specs.Assignments.{last_value, left_sides}
 use Rattle.sim_scope.specs.Access.{encloser}
 use Rattle.sim_scope.specs.Levels.{base}
 use Rattle.sim_scope.specs.Source.{Source, block_around, denoted, line_at}
 use Rattle.sim_tree.specs.Filled.{FilledArms, FilledStatement, FilledStatements, SomeElement, SomeSide}
-use Rattle.sim_tree.specs.Syntax.{Also, Arms, Begin, Element, Expression, NoArm, NoDeclaration, NoMore, NoStatement, RightSide, Statement, Statements, When, With}
+use Rattle.sim_tree.specs.Syntax.{Also, Arms, Begin, Element, Expression, Expressions, NoArm, NoDeclaration, NoMore, NoStatement, RightSide, Statement, Statements, When, With}
 use Rattle.sim_tree.specs.Syntax as syntax
 use Rattle.sim_values.specs.declared.kind.Kind.{Kind}
 use Rattle.sim_values.specs.declared.kind.Kind.TheVariants as kind
 use Rattle.sim_meaning.specs.Attributes.{cell_of_connection, connection_at, is_connection}
-use Rattle.sim_meaning.specs.Closing.{is_attribute, is_text, is_variable, stream_of}
+use Rattle.sim_meaning.specs.Closing.{class_parameters, is_attribute, is_text, is_variable, stream_of}
+use Rattle.sim_meaning.specs.Levels.{is_class}
 use Rattle.sim_meaning.specs.Pending.{Connection}
-use Rattle.sim_meaning.specs.Texts.{ConnectionText, Text, text}
+use Rattle.sim_meaning.specs.Statements.{begin_of}
+use Rattle.sim_meaning.specs.Texts.{ConnectionText, PrefixedText, Text, text}
 use Rattle.sim_agree.specs.Inners.{NoInner, NoInnerArms, NoInners, OneInner, behind, here}
 use Rattle.sim_sound.specs.Held.{Holds, In, Refers, Simply, reference_to}
 use Rattle.sim_sound.specs.Expressions.{ActualsFit, AreIntegers, AreOf, ExprIs}
-use Rattle.sim_sound.specs.Statements.{ArmsAre, BlockIs, CallIs, ConnectionIs, ElementIs, ElementsAre, LeftsAre, StatementIs, StatementsAre}
+use Rattle.sim_sound.specs.Statements.{ArmsAre, BlockIs, CallIs, ConnectionIs, ElementIs, ElementsAre, LeftsAre, PrefixedIs, StatementIs, StatementsAre}
 use Rattle.sim_sound.specs.Typed.{Typed}
 use Rattle.codegen_expr.specs.Built.{ActualsBuilt, ClassBuilt, IsBuilt, PlaceBuilt, is_there, slot_in}
 use Rattle.codegen_expr.specs.Sites.{frame_text}
-use Rattle.codegen.specs.BuiltProgram.{ArmsBuilt, AssignBuilt, CalledBuilt, ConnectsBuilt, ElementBuilt, ElementsBuilt, EnterBuilt, ForBuilt, InnerOrBuilt, LeftsBuilt, ListBuilt, StatementBuilt, StatementsBuilt, StepsBuilt, WithInnerBuilt}
+use Rattle.codegen.specs.Agrees.{stands_behind}
+use Rattle.codegen.specs.BuiltProgram.{ArmsBuilt, AssignBuilt, CalledBuilt, ConnectsBuilt, ElementBuilt, ElementsBuilt, EnterBuilt, ForBuilt, InnerOrBuilt, LeftsBuilt, ListBuilt, PrefixBuilt, StatementBuilt, StatementsBuilt, StepsBuilt, WithInnerBuilt}
 use Rattle.codegen.specs.CodeFor.{Variable, assigned_by, variable_of}
 use Rattle.codegen.specs.CodeLeft.{each_stored}
 use Rattle.codegen.specs.CodeStm.{inner_of}
 use Rattle.sim_built.specs.Laid.{Laid}
-use Rattle.sim_built.proofs.Cells.{connection_has}
+use Rattle.sim_built.proofs.Cells.{connection_has, front_is}
 use Rattle.sim_built.proofs.Expressions.{Stands, actuals_built, are_built, dot_built, dot_gives, integers_built, named_built, named_gives, text_place}
 use Rattle.sim_built.proofs.LeftSides.{Controls, built, controls, side_built}
 use Rattle.sim_built.proofs.Standing.{stands_here}
@@ -101,6 +104,18 @@ module _ (s : Source) (ok : Typed s) (laid : Laid s) (t : ℕ) (x : Text) (there
       by_number zero e = let none = ok.outermost in absurd (cc)
       by_number (suc n) e = e
 
+  -- a prefixed block is entered from the text in which it stands
+  prefixed_built : (es : Expressions) (token : ℕ) → PrefixedIs s t token (λ fs. ActualsFit s (In t) es fs) → PrefixBuilt s t es (block_around s token)
+  prefixed_built es token a = subst (PrefixBuilt s t es) (sym a.around) (by_number a.number a.stands_in a.is a.actuals)
+    where
+      behind_class : (k : ℕ) → text s k ≡ Some (PrefixedText a.class a.arguments a.declarations a.statements) → stands_behind s k ≡ true
+      behind_class k is =
+          ap (λ z. is_there z && not (is_class (text s k))) (front_is s ok laid k (ap is_connection is)) ∙ ap (λ z. z && not (is_class (text s k))) (laid.behind k a.class a.arguments a.declarations a.statements is) ∙ ap (λ z. not (is_class z)) is
+
+      by_number : (k : ℕ) → encloser s.tables k ≡ Some t → text s k ≡ Some (PrefixedText a.class a.arguments a.declarations a.statements) → ActualsFit s (In t) es (class_parameters s (Some k)) → PrefixBuilt s t es (Some k)
+      by_number zero e is fit = let none = ok.outermost in absurd (cc)
+      by_number (suc k) e is fit = (behind_class (suc k) is, e, actuals_built s ok laid t (In t) standing es (class_parameters s (Some (suc k))) fit)
+
   -- a connection is that which begins at its token
   connects_built : (opening : ℕ) (Body : ℕ → Type 0) → (c : ConnectionIs s t opening) → Body c.number → ConnectsBuilt s t opening (block_around s opening) Body
   connects_built opening Body c body = subst (λ z. ConnectsBuilt s t opening z Body) (sym c.around) (record {
@@ -134,7 +149,7 @@ module _ (s : Source) (ok : Typed s) (laid : Laid s) where
     )
     statement_built t x there (syntax.InspectWhen i e arms other) n f a = (value s ok laid t x there e (Simply kind.Reference) a.0, arms_built t x there arms n.0 f.0 a.1, statements_built t x there other n.1 f.1 a.2)
     statement_built t x there (syntax.Inner i) n f a = absurd n
-    statement_built t x there (syntax.Prefixed class arguments b) n f a = absurd a
+    statement_built t x there (syntax.Prefixed class arguments b) n f a = prefixed_built s ok laid t x there arguments (begin_of b) a
     statement_built t x there (syntax.Activate i word e schedule) n f a = absurd a
 
     arms_built : (t : ℕ) (x : Text) → text s t ≡ Some x → (arms : Arms) → NoInnerArms arms → FilledArms arms → ArmsAre s t arms → ArmsBuilt s t arms

@@ -47,8 +47,8 @@ abbrev pub BoundCompiles : Command → Source → Compiled → Type 0
 BoundCompiles Run s compiled = compiled ≡ Runnable s
 BoundCompiles Check s compiled = compiled ≡ Sound
 
--- For `run` it is not built that the entry of a procedure keeps instances: where a class is declared in the procedure, and an array by reference
--- is among its parameters.
+-- For `run` it is not built that the entry of a procedure keeps instances: where a class is declared or a block prefixed in the procedure, and an
+-- array by reference is among its parameters.
 abbrev pub must_keep : Command → Source → Bool
 must_keep Run s = keeps_instances s
 must_keep Check s = false
@@ -71,7 +71,7 @@ abbrev pub CheckedCompiles : Command → List Token → Tree → Checked → Com
 CheckedCompiles command tokens tree (Refused fault) compiled = compiled ≡ Rejected fault.rule (token_line tokens fault.token.0)
 CheckedCompiles command tokens tree (Allowed tables uses found_in types) compiled = AllowedCompiles command (source_with tree tables uses found_in types) compiled
 
--- What else is not built, for `run`: a standard name of coroutines, of sets or of simulation; a block with a prefix, virtual procedures, a parameter by
+-- What else is not built, for `run`: a standard name of coroutines, of sets or of simulation; a prefix of the program, virtual procedures, a parameter by
 -- name, a procedure as a parameter, an activation. `check` knows all forms.
 abbrev pub lacks_form : Command → List Token → Program → Bool
 lacks_form Run tokens p = has_unbuilt_name tokens || has_unbuilt_form p

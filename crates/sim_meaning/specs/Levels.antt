@@ -50,7 +50,7 @@ unless_standard false x = Some x
 -- Levels with `simset` or `simulation` in front, and standard classes, are not built.
 abbrev pub level_made : Source → (text : ℕ) → Option Text → Option Level
 level_made s k (Some (ClassText prefix h ds ss)) = unless_standard (has_standard s.tables k) (record { text = k; declarations = ds; statements = ss; inner_last = not (writes_inner s k) })
-level_made s k (Some (PrefixedText class arguments ds ss)) = unless_standard (has_standard s.tables k) (record { text = k; declarations = ds; statements = ss; inner_last = false })
+level_made s k (Some (PrefixedText class arguments ds ss)) = unless_standard (has_standard s.tables k) (record { text = k; declarations = ds; statements = ss; inner_last = true })
 level_made s k _ = None
 
 abbrev pub both : Option Level → Option (List Level) → Option (List Level)

@@ -356,3 +356,17 @@ plain_expr =
     (λ x y is. subst (λ z. FactorClaim (roll-Factor z)) is (factor_layer (map-Factor ExprPair SelectorPair FactorPair OperandPair TermPair Expr Selector Factor Operand Term first_expr first_selector first_factor first_operand first_term y) y.factor.1))
     (λ x y is. subst (λ z. OperandClaim (roll-Operand z)) is (operand_layer (map-Operand ExprPair SelectorPair FactorPair OperandPair TermPair Expr Selector Factor Operand Term first_expr first_selector first_factor first_operand first_term y) y.operand.1))
     (λ x y is. subst (λ z. TermClaim (roll-Term z)) is (term_layer (map-Term ExprPair SelectorPair FactorPair OperandPair TermPair Expr Selector Factor Operand Term first_expr first_selector first_factor first_operand first_term y) y.term.1))
+
+each_expr : (xs : List Expr) → Each (map derivation_of xs) (map syntax_of xs)
+each_expr [] = tt
+each_expr (x ∷ xs) = (plain_expr x, each_expr xs)
+
+-- actual parameters with something behind them
+behind_arguments : (xs : List Derivation) (es : List Expression) (rest : Forest) → Each xs es → Full (arguments xs rest) → Clean (arguments xs rest) → PlainExpressions (expressions es) × Full rest × Clean rest
+behind_arguments [] [] rest each full clean = (tt, full, clean)
+behind_arguments [] (e ∷ es) rest each full clean = absurd each
+behind_arguments (x ∷ xs) [] rest each full clean = absurd each
+behind_arguments (x ∷ xs) (e ∷ es) rest each full clean = ((valued each.0 full.1.0 full.1.1 clean.0.0, more_arguments xs es each.1 full.1.2 clean.0.1), full.2, clean.1)
+
+pub arguments_given : (xs : List Expr) (rest : Forest) → Full (arguments (map derivation_of xs) rest) → Clean (arguments (map derivation_of xs) rest) → PlainExpressions (expressions (map syntax_of xs)) × Full rest × Clean rest
+arguments_given xs rest full clean = behind_arguments (map derivation_of xs) (map syntax_of xs) rest (each_expr xs) full clean

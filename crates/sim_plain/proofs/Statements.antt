@@ -55,7 +55,7 @@ use Rattle.sim_static.specs.UnbuiltForms.{forms, has_code, has_some, has_unbuilt
 use Rattle.sim_static.specs.UnbuiltNames.{has_unbuilt_name, is_dot}
 use Rattle.sim_plain.specs.Clean.{Clean, CleanBehind}
 use Rattle.sim_agree.specs.Plain.{Each, Plain, PlainArms, PlainBlock, PlainBounds, PlainDeclaration, PlainDeclarations, PlainElement, PlainExpression, PlainHeading, PlainInterface, PlainMode, PlainName, PlainPrefix, PlainResult, PlainSegment, PlainSide, PlainSpecification, PlainSpecified, PlainStatement, PlainStatements, PlainType, PlainWord}
-use Rattle.sim_plain.proofs.Expressions.{operand_plain, plain_expr, valued}
+use Rattle.sim_plain.proofs.Expressions.{operand_plain, plain_expr, valued, arguments_given}
 use Rattle.sim_plain.proofs.Tokens.{none_spells, reads_clean}
 
 no : true ≡ false → ⊥
@@ -331,7 +331,9 @@ first_decl x = x.0
 stmt_step : induction.StmtStep Says Declares Blocks Classes Procedures Arms
 stmt_step (Stmt-F.Empty i) token full c p free = tt
 stmt_step (Stmt-F.Block b) token full c p free = let inside = free_compound p (block_syntax b.0) free in b.1 full.1 c.0 inside.0 inside.1
-stmt_step (Stmt-F.PrefixedBlock x b) token full c p free = absurd (no free)
+stmt_step (Stmt-F.PrefixedBlock x b) token full c p free =
+    let given = arguments_given x.arguments.items (node g.AfterFirstOperand (node g.Compound (block_derivation b.0) done) done) full c.1 in
+    (c.0, given.0, b.1 given.1.1.1 given.2.0.0 Inside (free_whole (block_syntax b.0) free))
 stmt_step (Stmt-F.Inner i) token full c p free = tt
 stmt_step (Stmt-F.Call e) token full c p free = called e done full c
 stmt_step (Stmt-F.Assignment e v) token full c p free = assigned_plain e v.items token full c

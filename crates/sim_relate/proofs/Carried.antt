@@ -9,7 +9,7 @@ use Rattle.sim_code.specs.declared.stage.Stage.{Stage}
 use Rattle.sim_code.specs.Code.{BlockOf, CodeOf}
 use Rattle.sim_code.specs.Machine.{Frames, Value}
 use Rattle.sim_code.specs.Machine as machine
-use Rattle.sim_meaning.specs.Pending.{Activation, AttributeOf, BackOp, BranchOp, CallOf, Cell, CopyOf, Do, Either, ElementOf, ElementsOp, EndBlock, EndLevel, EndObject, EndProcedure, EndProgram, Eval, FitsOf, Further, Given, GiveOp, IfOp, ImageOf, Instances, Item, Joined, KeptOf, Key, MemberOf, NewOf, NoTerm, One, Op, PlaceOf, QuaOf, QualifiedElementOf, QualifiedPlaceOf, RaiseOp, RemoteCallOf, ShareOp, StandardOf, StepTestOp, StoreOp, Target, Term, Terms, ToAddress, ToCell, ToPlace, ToReference, ToReferenceAt, ToText, ToTextAt, ToTextOf, Two, Unbuilt, Val, ValueAt, WhileElementOp}
+use Rattle.sim_meaning.specs.Pending.{Activation, AttributeOf, BackOp, BranchOp, CallOf, Cell, CopyOf, Do, Either, ElementOf, ElementsOp, EndBlock, EndLevel, EndObject, EndPrefixed, EndProcedure, EndProgram, Eval, FitsOf, Further, Given, GiveOp, IfOp, ImageOf, Instances, Item, Joined, KeptOf, Key, MemberOf, NewOf, NoTerm, One, Op, PlaceOf, QuaOf, QualifiedElementOf, QualifiedPlaceOf, RaiseOp, RemoteCallOf, ShareOp, StandardOf, StepTestOp, StoreOp, Target, Term, Terms, ToAddress, ToCell, ToPlace, ToReference, ToReferenceAt, ToText, ToTextAt, ToTextOf, Two, Unbuilt, Val, ValueAt, WhileElementOp}
 use Rattle.sim_meaning.specs.Sane.{AllKept, AllOf, KeptOf as KeptChains}
 use Rattle.codegen_expr.specs.Sites.{Site, class_number, frame_text, own_end}
 use Rattle.codegen.specs.CodeFor.{OfCell, OfPlace, OfReference, Variable}
@@ -24,7 +24,9 @@ end_later s code Below Below' f t b (EndProcedure v) p ks a =
     record { result = a.result; heading = a.heading; body = a.body; is = a.is; same = a.same; ends = let x = a.ends in record { last = x.last; at = x.at; heads = x.heads; none = x.none; below = f v x.below } }
 end_later s code Below Below' f t b EndProgram p ks a = (a.0, let x = a.1 in record { last = x.last; at = x.at; heads = x.heads; none = x.none; below = f false x.below })
 end_later s code Below Below' f t b EndObject p ks a =
-    record { not_first = a.not_first; was = a.was; block = a.block; found = a.found; ends = let x = a.ends in record { last = x.last; at = x.at; heads = x.heads; none = x.none; below = f false x.below } }
+    record { levels = a.levels; not_first = a.not_first; was = a.was; block = a.block; found = a.found; ends = let x = a.ends in record { last = x.last; at = x.at; heads = x.heads; none = x.none; below = f false x.below } }
+end_later s code Below Below' f t b EndPrefixed p ks a =
+    record { levels = a.levels; not_first = a.not_first; was = a.was; block = a.block; found = a.found; ends = let x = a.ends in record { last = x.last; at = x.at; heads = x.heads; none = x.none; below = f false x.below } }
 end_later s code Below Below' f t b _ p ks a = absurd a
 
 -- the temps of an instance that are in use
@@ -291,10 +293,10 @@ module _ (s : Source) (code : CodeOf) (m m' : Instances) (e : Later s m m') (ins
     rest_later t b used keeps (EndProcedure v ∷ w) p ks a = (a.0, comes_later s code m m' e inst home st fs fs' t b used keeps (length ks) a.0 p a.1, end_later s code Below Below' f (frame_text s t) b (EndProcedure v) a.0 ks a.2)
     rest_later t b used keeps (EndProgram ∷ w) p ks a = (a.0, comes_later s code m m' e inst home st fs fs' t b used keeps (length ks) a.0 p a.1, end_later s code Below Below' f (frame_text s t) b EndProgram a.0 ks a.2)
     rest_later t b used keeps (EndObject ∷ w) p ks a = (a.0, comes_later s code m m' e inst home st fs fs' t b used keeps (length ks) a.0 p a.1, end_later s code Below Below' f (frame_text s t) b EndObject a.0 ks a.2)
+    rest_later t b used keeps (EndPrefixed ∷ w) p ks a = (a.0, comes_later s code m m' e inst home st fs fs' t b used keeps (length ks) a.0 p a.1, end_later s code Below Below' f (frame_text s t) b EndPrefixed a.0 ks a.2)
     rest_later t b used keeps (EndLevel k ∷ w) p ks a =
         let c = a.2 in
         (a.0, a.1, a.2, comes_later s code m m' e inst home st fs fs' t b used keeps (length ks) a.0 p a.3, a.4, rest_later c.text c.runs c.used (ended_kept s code fs fs' inst b c a.0 a.1 ks a.4) w a.1 [] a.5)
-    rest_later t b used keeps (_ ∷ w) p ks a = absurd a
 
   pub work_later : (t : ℕ) → Stands s m inst t → (b : Runs) (used : ℕ) → TempsKept s code fs fs' inst t b used → (w : List Item) (p : ℕ) (ks : List Kind) → WorkAt s code m fs Below inst t b used w p ks → WorkAt s code m' fs' Below' inst t b used w p ks
   work_later t st b used keeps w p ks a = rest_later t st t b used keeps w p ks a

@@ -13,7 +13,7 @@ use Rattle.sim_code.specs.declared.code.BlockKind.{BlockKind}
 use Rattle.sim_code.specs.declared.code.BlockKind.TheVariants as kind
 use Rattle.sim_code.specs.Classes.{behind, class_numbered, class_of, in_class, is_among, levels, levels_in, levels_within}
 use Rattle.sim_code.specs.Classes as classes
-use Rattle.sim_code.specs.Code.{BlockOf, ClassOf, CodeOf}
+use Rattle.sim_code.specs.Code.{BlockOf, CodeOf}
 use Rattle.sim_code.specs.Instances.{Instance, live}
 use Rattle.sim_code.specs.Machine.{Cells, Frames}
 use Rattle.sim_code.specs.Machine as machine
@@ -23,10 +23,10 @@ use Rattle.sim_meaning.specs.Texts.{BlockText, ClassText, ConnectionText, Prefix
 use Rattle.codegen_expr.specs.Sites.{LevelOf, block_in_front, block_number, block_of_text, blocks_before, class_in, class_number, counted_unless, innermost, is_connected, outer, prefix_of}
 use Rattle.codegen_expr.specs.Sites as sites
 use Rattle.codegen.specs.Agrees.{Ends, before, last}
-use Rattle.codegen.specs.Compiled.{ClassIs, CodeHas, TextCode}
+use Rattle.codegen.specs.Compiled.{CodeHas, Compiled, TextCode}
+use Rattle.sim_relate.proofs.ClassTexts.{ClassHas, class_has, of_levels}
 use Rattle.sim_relate.proofs.LevelLists.{has_level_is, level_has, level_place, levels_behind, levels_first, levels_some, place_level, solid_level}
 use Rattle.sim_relate.proofs.Lists.{there_get}
-use Rattle.sim_relate.proofs.Plainly.{Coding}
 
 equal_number : (a : ℕ) → (a == a) ≡ true
 equal_number a = grind arith
@@ -97,52 +97,32 @@ fewer_before (suc t) (suc k) (x ∷ bs) b e c lt = counted_on (sites.is_connecti
 
 -- ---- classes and prefixed blocks have code
 
-module _ (s : Source) (code : CodeOf) (compiled : Coding s code) where
-  -- the record of a text with levels, and that of its class
-  pub record Levelled (k : ℕ) : Type 0 where
-    pub block : BlockOf
-    pub found : slice_get code.blocks (block_number s k) ≡ Some block
-    pub level : classes.class_in (Some block) ≡ Some block.class
-    pub class : ClassOf
-    pub is : ClassIs s code k block class
+module _ (s : Source) (code : CodeOf) (compiled : Compiled s code) where
+  abbrev Has : ℕ → Type 0
+  Has k = ClassHas s code k
 
-  by_code : (k : ℕ) (x : Text) (o : Option BlockOf) → slice_get code.blocks (block_number s k) ≡ o → has_levels (Some x) ≡ true → CodeHas s code k x o → Levelled k
-  by_code k (BlockText begin ds ss) o e h a = absurd (cc)
-  by_code k (ProcedureText result h' a') o e h a = absurd (cc)
-  by_code k ConnectionText o e h a = absurd (cc)
-  by_code k (StandardText which) o e h a = absurd (cc)
-  by_code k (ClassText prefix h' ds ss) None e h a = absurd a
-  by_code zero (ClassText prefix h' ds ss) (Some b) e h a = absurd a
-  by_code (suc k) (ClassText prefix h' ds ss) (Some b) e h a = record { block = b; found = e; level = of_kind b kind.Object a.heads.is_kind refl; class = a.class; is = a.is }
-    where
-      of_kind : (b : BlockOf) (x : BlockKind) → b.kind ≡ x → x ≡ kind.Object → classes.class_in (Some b) ≡ Some b.class
-      of_kind b x e f = rw (e, f) refl
-  by_code k (PrefixedText class arguments ds ss) None e h a = absurd a
-  by_code zero (PrefixedText class arguments ds ss) (Some b) e h a = absurd a
-  by_code (suc k) (PrefixedText class arguments ds ss) (Some b) e h a = record { block = b; found = e; level = of_kind b kind.Prefixed a.heads.is_kind refl; class = a.class; is = a.is }
-    where
-      of_kind : (b : BlockOf) (x : BlockKind) → b.kind ≡ x → x ≡ kind.Prefixed → classes.class_in (Some b) ≡ Some b.class
-      of_kind b x e f = rw (e, f) refl
+  -- the class of its block
+  class_there : (b : BlockOf) (x : BlockKind) → b.kind ≡ x → of_levels x ≡ true → classes.class_in (Some b) ≡ Some b.class
+  class_there b kind.Object e h = rw e refl
+  class_there b kind.Prefixed e h = rw e refl
+  class_there b kind.SubBlock e h = absurd (cc)
+  class_there b kind.Procedure e h = absurd (cc)
 
-  by_text : (k : ℕ) (o : Option Text) → text s k ≡ o → has_levels o ≡ true → Levelled k
-  by_text k None e h = absurd (cc)
-  by_text k (Some x) e h = by_code k x (slice_get code.blocks (block_number s k)) refl h (compiled.each k x e)
-
-  pub levelled : (k : ℕ) → has_levels (text s k) ≡ true → Levelled k
-  levelled k h = by_text k (text s k) refl h
-
-  pub number_is : (k : ℕ) (x : Levelled k) → class_number s code k ≡ x.block.class
+  pub number_is : (k : ℕ) (x : Has k) → class_number s code k ≡ x.block.class
   unfolding class_number
   number_is k x = ap class_in x.found
 
-  class_has : (k : ℕ) (o : Option Text) → text s k ≡ o → is_class o ≡ true → has_levels o ≡ true
-  class_has k None e h = absurd (cc)
-  class_has k (Some (BlockText begin ds ss)) e h = absurd (cc)
-  class_has k (Some (ProcedureText result h' a)) e h = absurd (cc)
-  class_has k (Some (ClassText prefix h' ds ss)) e h = refl
-  class_has k (Some (PrefixedText class arguments ds ss)) e h = absurd (cc)
-  class_has k (Some ConnectionText) e h = absurd (cc)
-  class_has k (Some (StandardText which)) e h = absurd (standard_uncoded (slice_get code.blocks (block_number s k)) (compiled.each k (StandardText which) e))
+  pub numbered : (k : ℕ) (x : Has k) → class_numbered code (class_number s code k) ≡ Some x.has.class
+  numbered k x = ap (class_numbered code) (number_is k x) ∙ x.has.is.numbered
+
+  class_by : (k : ℕ) (o : Option Text) → text s k ≡ o → is_class o ≡ true → has_levels o ≡ true
+  class_by k None e h = absurd (cc)
+  class_by k (Some (BlockText begin ds ss)) e h = absurd (cc)
+  class_by k (Some (ProcedureText result h' a)) e h = absurd (cc)
+  class_by k (Some (ClassText prefix h' ds ss)) e h = refl
+  class_by k (Some (PrefixedText class arguments ds ss)) e h = absurd (cc)
+  class_by k (Some ConnectionText) e h = absurd (cc)
+  class_by k (Some (StandardText which)) e h = absurd (standard_uncoded (slice_get code.blocks (block_number s k)) (compiled.each k (StandardText which) e))
     where
       standard_uncoded : (o : Option BlockOf) → CodeHas s code k (StandardText which) o → ⊥
       standard_uncoded None a = a
@@ -154,7 +134,7 @@ module _ (s : Source) (code : CodeOf) (compiled : Coding s code) where
 
   -- a class that is named has levels
   pub class_levels : (k : ℕ) → is_class (text s k) ≡ true → has_levels (text s k) ≡ true
-  class_levels k h = class_has k (text s k) refl h
+  class_levels k h = class_by k (text s k) refl h
 
   -- ---- different classes have different numbers
 
@@ -192,12 +172,12 @@ module _ (s : Source) (code : CodeOf) (compiled : Coding s code) where
 
   pub same_class : (t k : ℕ) → has_levels (text s t) ≡ true → has_levels (text s k) ≡ true → class_number s code t ≡ class_number s code k → t ≡ k
   same_class t k h h' e =
-      let x = levelled t h in
-      let y = levelled k h' in
+      let x = class_has s code compiled t h in
+      let y = class_has s code compiled k h' in
       let numbers : x.block.class ≡ y.block.class = sym (number_is t x) ∙ e ∙ number_is k y in
-      let one : Some x.class ≡ Some y.class = sym x.is.numbered ∙ ap (class_numbered code) numbers ∙ y.is.numbered in
-      let record_same : x.class ≡ y.class = cc (one) in
-      let blocks : block_number s t ≡ block_number s k = sym x.is.of_block ∙ ap (λ z. z.block) record_same ∙ y.is.of_block in
+      let one : Some x.has.class ≡ Some y.has.class = sym x.has.is.numbered ∙ ap (class_numbered code) numbers ∙ y.has.is.numbered in
+      let record_same : x.has.class ≡ y.has.class = cc (one) in
+      let blocks : block_number s t ≡ block_number s k = sym x.has.is.of_block ∙ ap (λ z. z.block) record_same ∙ y.has.is.of_block in
       ⊎_elim (λ lt. absurd (one_number t k h h' blocks lt)) (λ ge. ⊎_elim (λ lt. absurd (one_number k t h' h (sym blocks) lt)) (λ le. omega (arith, ge, le)) (cases_lt k t)) (cases_lt t k)
 
   class_test : (t k : ℕ) → has_levels (text s t) ≡ true → has_levels (text s k) ≡ true → (class_number s code t == class_number s code k) ≡ (t == k)
@@ -208,10 +188,10 @@ module _ (s : Source) (code : CodeOf) (compiled : Coding s code) where
   -- ---- the numbers of levels
 
   -- class numbers count from 1
-  pub counts : (k : ℕ) (x : Levelled k) → (n : ℕ) × (x.block.class ≡ suc n)
-  counts k x = by_number x.block.class x.is.numbered
+  pub counts : (k : ℕ) (x : Has k) → (n : ℕ) × (x.block.class ≡ suc n)
+  counts k x = by_number x.block.class x.has.is.numbered
     where
-      by_number : (c : ℕ) → class_numbered code c ≡ Some x.class → (n : ℕ) × (c ≡ suc n)
+      by_number : (c : ℕ) → class_numbered code c ≡ Some x.has.class → (n : ℕ) × (c ≡ suc n)
       by_number zero e = absurd (cc)
       by_number (suc n) e = (n, refl)
 
@@ -236,10 +216,10 @@ module _ (s : Source) (code : CodeOf) (compiled : Coding s code) where
   numbers k = map (class_number s code) (levels_of s k)
 
   -- the first level
-  first_within : (n k : ℕ) (x : Levelled k) → prefix_of s.tables k ≡ None → has_levels (text s k) ≡ true → class_numbered code (class_number s code k) ≡ Some x.class → levels_within (suc n) code (class_number s code k) ≡ Some (numbers k)
+  first_within : (n k : ℕ) (x : Has k) → prefix_of s.tables k ≡ None → has_levels (text s k) ≡ true → class_numbered code (class_number s code k) ≡ Some x.has.class → levels_within (suc n) code (class_number s code k) ≡ Some (numbers k)
   first_within n k x e h there =
       let c = class_number s code k in
-      let alone : x.class.prefix ≡ 0 = x.is.prefix ∙ in_front_none k e in
+      let alone : x.has.class.prefix ≡ 0 = x.has.is.prefix ∙ in_front_none k e in
       ap (classes.levels_by (levels_within n code) c) there ∙
       ap (λ p. if p == 0 then Some (c ∷ []) else if nat_lt p c then behind (levels_within n code p) c else None) alone ∙
       ap (λ z. Some (map (class_number s code) z)) (sym (levels_first s compiled.agrees k e (levels_solid k h)))
@@ -256,11 +236,11 @@ module _ (s : Source) (code : CodeOf) (compiled : Coding s code) where
   lower_number a b e = grind (arith, e)
 
   -- a level behind another one
-  next_within : (n k u : ℕ) (x : Levelled k) → prefix_of s.tables k ≡ Some u → class_numbered code (class_number s code k) ≡ Some x.class → class_number s code u ≢ 0 → class_number s code u < class_number s code k → levels_within n code (class_number s code u) ≡ Some (numbers u) → levels_within (suc n) code (class_number s code k) ≡ Some (numbers k)
+  next_within : (n k u : ℕ) (x : Has k) → prefix_of s.tables k ≡ Some u → class_numbered code (class_number s code k) ≡ Some x.has.class → class_number s code u ≢ 0 → class_number s code u < class_number s code k → levels_within n code (class_number s code u) ≡ Some (numbers u) → levels_within (suc n) code (class_number s code k) ≡ Some (numbers k)
   next_within n k u x e there some lower rest =
       let c = class_number s code k in
       let d = class_number s code u in
-      let front : x.class.prefix ≡ d = x.is.prefix ∙ in_front_is k u e in
+      let front : x.has.class.prefix ≡ d = x.has.is.prefix ∙ in_front_is k u e in
       ap (classes.levels_by (levels_within n code) c) there ∙
       ap (λ p. if p == 0 then Some (c ∷ []) else if nat_lt p c then behind (levels_within n code p) c else None) front ∙
       if_second (d == 0) (Some (c ∷ [])) (if nat_lt d c then behind (levels_within n code d) c else None) (other_number d 0 some) ∙
@@ -271,25 +251,25 @@ module _ (s : Source) (code : CodeOf) (compiled : Coding s code) where
 
   numbers_within : (n f k : ℕ) → Ends s.tables f k → has_levels (text s k) ≡ true → class_number s code k ≤ n → levels_within n code (class_number s code k) ≡ Some (numbers k)
   numbers_within zero f k ends h le =
-      let x = levelled k h in
+      let x = class_has s code compiled k h in
       let n = counts k x in
       let e = number_is k x ∙ n.1 in
       let no : ⊥ = omega (arith, e, le) in
       absurd no
   numbers_within (suc n) f k (last e) h le =
-      let x = levelled k h in
-      first_within n k x e h (ap (class_numbered code) (number_is k x) ∙ x.is.numbered)
+      let x = class_has s code compiled k h in
+      first_within n k x e h (numbered k x)
   numbers_within (suc n) f k (before {n = i} {u = u} e r) h le =
-      let x = levelled k h in
+      let x = class_has s code compiled k h in
       let h' = class_levels u ((compiled.agrees.prefixes k u e).class) in
-      let y = levelled u h' in
+      let y = class_has s code compiled u h' in
       let some = counts u y in
       let number = number_is u y ∙ some.1 in
-      let front = x.is.prefix ∙ in_front_is k u e in
-      let less = x.is.lower in
+      let front = x.has.is.prefix ∙ in_front_is k u e in
+      let less = x.has.is.lower in
       let own = number_is k x in
       let lower : class_number s code u < class_number s code k = omega (arith, front, less, own) in
-      next_within n k u x e (ap (class_numbered code) (number_is k x) ∙ x.is.numbered) (λ z. (let no : ⊥ = omega (arith, z, number) in no)) lower
+      next_within n k u x e (numbered k x) (λ z. (let no : ⊥ = omega (arith, z, number) in no)) lower
       (numbers_within n i u r h' (omega (arith, lower, le)))
 
   pub levels_numbers : (k : ℕ) → has_levels (text s k) ≡ true → levels code (class_number s code k) ≡ Some (map (class_number s code) (levels_of s k))
@@ -322,8 +302,8 @@ module _ (s : Source) (code : CodeOf) (compiled : Coding s code) where
   module _ (fs : Frames) (j t : ℕ) (y : Instance Cells) (lives : live fs j ≡ Some y) (number : y.text ≡ block_number s t) (has : has_levels (text s t) ≡ true) where
     pub own_class : class_of code fs j ≡ Some (class_number s code t)
     own_class =
-        let x = levelled t has in
-        ap (λ z. classes.class_in (classes.block_in code (machine.text_in z))) lives ∙ ap (λ n. classes.class_in (slice_get code.blocks n)) number ∙ ap classes.class_in x.found ∙ x.level ∙ ap Some (sym (number_is t x))
+        let x = class_has s code compiled t has in
+        ap (λ z. classes.class_in (classes.block_in code (machine.text_in z))) lives ∙ ap (λ n. classes.class_in (slice_get code.blocks n)) number ∙ ap classes.class_in x.found ∙ class_there x.block x.kind x.has.heads.is_kind x.levelled ∙ ap Some (sym (number_is t x))
 
     -- the levels that the machine finds
     pub levels_here : levels_in code (class_of code fs j) ≡ Some (map (class_number s code) (levels_of s t))

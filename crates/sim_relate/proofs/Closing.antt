@@ -35,7 +35,7 @@ use Rattle.sim_code.specs.Code.{CodeOf}
 use Rattle.sim_code.specs.Instances.{at_level}
 use Rattle.sim_meaning.specs.Attributes.{array_attribute, attribute, attribute_place, cell_of_connection, connected_object, connection_at, declared_attribute, entry_at, entry_attribute, fitting, generation, if_any, is_connection, kept_if, membership_term, parameter_at, parameter_attribute, parameter_qualification, place_of_attribute, qua_term, qualified, qualified_place, this_instance, this_term, variable_attribute, with_arrays_kept}
 use Rattle.sim_meaning.specs.Attributes as attributes
-use Rattle.sim_meaning.specs.Closing.{Joining, Lazily, Negated, Plainly, Sort, actual_term, array_place, array_term, attribute_term, behind_dot, class_parameters, close, close_actuals, close_all, close_place, constant_term, declared_place, declared_term, dot_term, formal_place, formal_term, formals_at, given_term, home_of, home_of_class, image_place, in_instance, is_attribute, is_text, is_text_type, is_variable, literal_term, name_term, named_place, named_term, object_term, reference_place, result_meant, result_place, signed_term, sort_of, standard_term, stream_denoted, stream_of, sysout, two_term, typed_token, variable_place, variable_term}
+use Rattle.sim_meaning.specs.Closing.{Joining, Lazily, Negated, Plainly, Sort, actual_term, array_place, array_term, attribute_term, behind_dot, class_parameters, close, close_actuals, close_all, close_parameters, close_place, constant_term, declared_place, declared_term, dot_term, formal_place, formal_term, formals_at, given_term, home_of, home_of_class, image_place, in_instance, is_attribute, is_text, is_text_type, is_variable, literal_term, name_term, named_place, named_term, object_term, reference_place, result_meant, result_place, signed_term, sort_of, standard_term, stream_denoted, stream_of, sysout, two_term, typed_token, variable_place, variable_term}
 use Rattle.sim_meaning.specs.Constants.{text_constant}
 use Rattle.sim_meaning.specs.Levels.{class_at, class_denoted, class_text, is_class, qualification}
 use Rattle.sim_meaning.specs.Names.{procedure_named, stream_named}
@@ -46,10 +46,10 @@ use Rattle.sim_meaning.specs.Texts.{constant_of, text}
 use Rattle.codegen_expr.specs.Sites.{At, HasCell, Inside, Is, LevelOf, Pushes, Site, block_number, class_number, frame_text, is_constant, slot_of}
 use Rattle.codegen_expr.specs.CodeExpr.{ActualAt, ActualsAt, ArrayAt, ArrayOfAt, ArrayPlaceAt, ArrayPlaceOfAt, AttributeAt, AttributePlaceAt, BehindDotAt, CallAt, CellAt, ConnectedAt, ConnectedNameAt, ConstantAt, ConstantAttributeAt, DeclaredAt, DeclaredPlaceAt, DotAt, ElementAt, ElementOfAt, ExprAt, ExprsAt, FittingAt, FormalAt, FormalPlaceAt, GenerationAt, GivenAt, LiteralAt, MemberAt, NameAt, NamedAt, NamedPlaceAt, ObjectAt, OfObjectAt, ParameterOfAt, ParameterPlaceOfAt, PlaceAt, PlaceBehindAt, PlaceOfObjectAt, PlaceOrResultAt, PlainAt, QuaAt, QualifiedPlaceAt, ReferencePlaceAt, RemoteCallAt, SignedAt, StandardAt, StandardIs, StreamPlaceAt, ThisFoundAt, ThisOfAt, ThroughAt, TwoAt, VariableAt, VariableOfAt, VariablePlaceAt, VariablePlaceOfAt, gives_entry, operands}
 use Rattle.codegen_expr.specs.CodeExpr as code_gives
+use Rattle.codegen.specs.Agrees.{Agrees}
 use Rattle.sim_relate.proofs.Formals.{actuals_counted, formals_same}
 use Rattle.sim_relate.proofs.Frames.{frame_idem, frame_level, own_frame}
 use Rattle.sim_relate.proofs.Known.{Any, Finds, FixedOf, IsImage, Kind, LeavesIs, Located, Refers, Stands, attribute_kind, gives, inside, is_read, kind_unless, of_input, of_output, outermost, read_given, reads, seen_at, text_gives}
-use Rattle.sim_relate.proofs.Plainly.{Agrees}
 use Rattle.sim_relate.proofs.Roomy.{FitsWhere, connected_fits, expression_fits}
 use Rattle.sim_relate.proofs.Trees.{Classed, CellIs, CellPlaceIs, FoundIs, GivenIs, OperandAt, ReadsAt, TermAt, TermsAt, empty, listed}
 
@@ -748,6 +748,10 @@ module _ (s : Source) (code : CodeOf) (m : Instances) (inst : ℕ) (site : Site)
       (close_place s m inst x) (close s m inst x) (close_all s m inst es) (λ d. close_actuals s m inst (line_at s name.token.0) es (formals_at s d))
       (stream_is x) (λ p q. place_at None x n p q) (λ p q. close_at x n p q) (λ p q. expression_fits s code site x n p q) (λ p q. close_all_at es n p q) (λ p q. close_all_at es (suc n) p q) (count_close es)
       (λ d p q b. (close_actuals_at false (line_at s name.token.0) es (formals_at s d) (suc n) p q b, count_actuals (line_at s name.token.0) (suc n) false es (formals_at s d) p q b, actuals_counted s code site (line_at s name.token.0) (suc n) false es (formals_at s d) p q b)) p q a
+
+  -- the actual parameters of a block prefix
+  pub close_parameters_at : (line : ℕ) (es : Expressions) (fs : List Formal) (n p q : ℕ) → ActualsAt s code site n line true es fs p q → TermsAt s code m inst site n (close_parameters s m inst line es fs) p q × (operands es ≡ count (close_parameters s m inst line es fs))
+  close_parameters_at line es fs n p q a = (close_actuals_at true line es fs n p q a, count_actuals line n true es fs p q a ∙ sym (count_kept fs (close_actuals s m inst line es fs)))
 
   -- ---- where references lie
 

@@ -30,6 +30,7 @@ use Rattle.sim_meaning.specs.Steps.{go}
 use Rattle.sim_meaning.specs.Texts.{text}
 use Rattle.codegen_expr.specs.Sites.{Ahead, Is, class_number, frame_text, is_connected, slot_of, own_end}
 use Rattle.codegen.specs.CodeStm.{ArmAt, ArmOfAt, ArmsAt, ConnectionAt, ConnectsAt, StmAt, StmsAt}
+use Rattle.codegen.specs.Compiled.{Compiled}
 use Rattle.sim_relate.proofs.Carried.{all_every, kept_every}
 use Rattle.sim_relate.proofs.Frames.{frame_idem, frame_level, frame_out, stands_same}
 use Rattle.sim_relate.proofs.Hands.{stack_length}
@@ -38,7 +39,6 @@ use Rattle.sim_relate.proofs.Known.{HandAt, Kind, Runs, SameFrame, StackAt, Stan
 use Rattle.sim_relate.proofs.Living.{own_level}
 use Rattle.sim_relate.proofs.Moved.{moved, work_moved}
 use Rattle.sim_relate.proofs.Pending.{pends, pends_in}
-use Rattle.sim_relate.proofs.Plainly.{Coding}
 use Rattle.sim_relate.proofs.Ranked.{Follows, InEach, Meets, at_once, caught, in_steps, simply}
 use Rattle.sim_relate.proofs.References.{class_named, in_class_same, object_here}
 use Rattle.sim_relate.proofs.Relation.{ChainAt, ConnectIs, OpAt, StateAt, WorkAt, stays, straight}
@@ -66,7 +66,7 @@ module _ (s : Source) where
   unfolding class_at
   class_classed token class e = denoted_classed (denoted s token) class e
 
-module _ (s : Source) (code : CodeOf) (coding : Coding s code) (l : Limits) (o : World) (m : Instances) (inst : ℕ) (w : List Item) (vals : List Val) (rest : List Activation) (fs : Frames) (t : ℕ) (b : Runs) (pc : ℕ) (stack : List Value) (below : List machine.Activation) (ks : List Kind) (here : Here s code m fs inst rest t b ks vals stack) (u q : ℕ) (ks' : List Kind) (low : own_end s code (frame_text s t) ≤ u) (k : WorkAt s code m fs (λ v. ChainAt s code m fs rest v below) inst t b u w q ks') where
+module _ (s : Source) (code : CodeOf) (coding : Compiled s code) (l : Limits) (o : World) (m : Instances) (inst : ℕ) (w : List Item) (vals : List Val) (rest : List Activation) (fs : Frames) (t : ℕ) (b : Runs) (pc : ℕ) (stack : List Value) (below : List machine.Activation) (ks : List Kind) (here : Here s code m fs inst rest t b ks vals stack) (u q : ℕ) (ks' : List Kind) (low : own_end s code (frame_text s t) ≤ u) (k : WorkAt s code m fs (λ v. ChainAt s code m fs rest v below) inst t b u w q ks') where
   abbrev R : Configuration → Machine → Type 0
   R = StateAt s code
 

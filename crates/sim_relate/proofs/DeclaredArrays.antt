@@ -14,7 +14,7 @@ use Rattle.sim_meaning.specs.Pending.{ArrayOp, Cell, CopyOp, Declared, Do, Eval,
 use Rattle.sim_meaning.specs.Texts.{declared_at, kind_named}
 use Rattle.sim_meaning.specs.Sane.{Lives}
 use Rattle.codegen_expr.specs.Sites.{Varies, At, frame_text, own_end}
-use Rattle.sim_relate.proofs.Plainly.{Agrees}
+use Rattle.codegen.specs.Agrees.{Agrees}
 use Rattle.codegen.specs.CodeArrays.{ArraysAt, BoundsAt, FurtherAt, KeepsArray, LoadsArray, MakesAt, SegmentsAt}
 use Rattle.sim_relate.proofs.Closing.{close_at}
 use Rattle.sim_relate.proofs.Frames.{own_frame}

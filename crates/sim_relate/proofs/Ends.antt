@@ -1,4 +1,4 @@
--- The ends of blocks, of procedures and of the program.
+-- The ends of blocks, of procedures, of objects and of the program.
 use Rattle.std.proofs.Common.{◌≡◌, ◌<◌, ◌+◌, ◌++◌, ℕ, Bool, true, false, List, [], ◌∷◌, length, Option, Some, None, refl, sym, ap, ◌∙◌, subst, arith}
 use Rattle.std.specs.Prelude.{◌==◌, if◌then◌else◌, nat_lt, pos, slice_get, slice_set}
 use Rattle.sim_base.specs.declared.limits.Limits.{Limits}
@@ -15,7 +15,7 @@ use Rattle.sim_code.specs.Outcome.{Going, Normal, Run, World}
 use Rattle.sim_chains.specs.Components.{AttachedObject, DetachedObject, NoObject, ResumedObject, Standing, TerminatedObject}
 use Rattle.sim_code.specs.declared.stage.Stage.TheVariants as stage
 use Rattle.sim_code.specs.Levels.{ended_by_kind, level_ended, outermost_ended, same_stage}
-use Rattle.sim_code.specs.Events.{choosing, having, no_rule, stopping, ticking, when}
+use Rattle.sim_code.specs.Events.{choosing, having, no_rule, stopping, when}
 use Rattle.sim_code.specs.Arrays.{giving_back}
 use Rattle.sim_code.specs.Instances.{Instance, ended_as, given, going_below, is_given_at_end, object_ended}
 use Rattle.sim_code.specs.Machine.{Frames, Machine, Value, frames_left, is_nothing, own_block, pushing, same_kind, text_in, with_result, words_of_block}
@@ -26,23 +26,24 @@ use Rattle.sim_code.proofs.Simulation.{Alike, ended, going}
 use Rattle.sim_meaning.specs.Meaning.{do_item, has_result, instances_left, leaving, text_of, words_of_text, world_left}
 use Rattle.sim_meaning.specs.Levels.{has_levels, is_class, text_at}
 use Rattle.sim_meaning.specs.Levels as meaning_levels
-use Rattle.sim_meaning.specs.Pending.{Activation, Configuration, EndBlock, EndObject, EndProcedure, EndProgram, Held, Instances, Item, Result, Val, cell}
-use Rattle.sim_meaning.specs.Texts.{ProcedureText, Text, text}
-use Rattle.sim_meaning.specs.Entries.{first_cells}
+use Rattle.sim_meaning.specs.Pending.{Activation, Configuration, EndBlock, EndObject, EndPrefixed, EndProcedure, EndProgram, Held, Instances, Item, Result, Val, cell}
+use Rattle.sim_meaning.specs.Texts.{BlockText, ClassText, ConnectionText, PrefixedText, ProcedureText, StandardText, Text, is_class_free, text}
+use Rattle.sim_meaning.specs.Entries.{first_cells, passes}
 use Rattle.codegen_expr.specs.Sites.{HasCell, block_in_front, block_number, block_of_text, cells_in, cells_of_block, frame_text, hidden_in, own_cells, own_part, place_of, prefix_of, slot_of, types_in}
-use Rattle.codegen.specs.Compiled.{type_of_name}
+use Rattle.codegen.specs.Agrees.{Agrees}
+use Rattle.codegen.specs.Compiled.{Compiled, type_of_name}
 use Rattle.sim_relate.proofs.Carried.{all_every, both_later, chain_changed, chain_later, kept_every, parked_changed}
 use Rattle.sim_relate.proofs.Frames.{frame_idem, frame_level, stands_same}
 use Rattle.sim_relate.proofs.Hands.{stack_length}
 use Rattle.sim_relate.proofs.Heads.{Heads, both_refl, given_standings, heads_refl, later_all}
 use Rattle.sim_relate.proofs.Lists.{set_both}
 use Rattle.sim_relate.proofs.Here.{Here, act, at_row}
-use Rattle.sim_relate.proofs.LevelCode.{class_code}
-use Rattle.sim_relate.proofs.Plainly.{Agrees, Coding, agreed}
+use Rattle.sim_relate.proofs.ClassLevels.{class_levels}
+use Rattle.sim_relate.proofs.ClassTexts.{class_has}
 use Rattle.sim_relate.proofs.Reach.{alone, other_numbers}
 use Rattle.sim_relate.proofs.Known.{Any, Every, Keeps, Kind, Later, Runs, Stands, ValAt, more_at}
-use Rattle.sim_relate.proofs.Relation.{ChainAt, Changed, EndAt, EndIs, StandingAt, StandingsAt, StateAt, StoreAt}
-use Rattle.sim_relate.proofs.Stores.{cell_read, frame_number, given_at_end_same, keeps_given, later_given, own_levels, store_given, unchanged}
+use Rattle.sim_relate.proofs.Relation.{ChainAt, Changed, EndAt, EndIs, OutermostEnds, StandingAt, StandingsAt, StateAt, StoreAt}
+use Rattle.sim_relate.proofs.Stores.{cell_read, frame_number, given_at_end_same, keeps_given, later_given, never_given, own_levels, store_given, unchanged}
 
 pub chosen : {A : Type 0} (P : A → Type 0) (b : Bool) (x y : A) → b ≡ true → P x → P (if b then x else y)
 chosen P true x y e h = h
@@ -72,13 +73,23 @@ no_front s agrees k h = by (prefix_of s.tables k) refl
     by None e = e
     by (Some u) e = let has = (agrees.prefixes k u e).has in absurd (cc (h, has))
 
+-- what has levels is not given back
+levels_stay : (x : Option Text) (free : Bool) → has_levels x ≡ true → passes x free ≡ false
+levels_stay None free h = absurd (cc)
+levels_stay (Some (BlockText begin ds ss)) free h = absurd (cc)
+levels_stay (Some (ProcedureText result h' a)) free h = absurd (cc)
+levels_stay (Some (ClassText prefix h' ds ss)) free h = refl
+levels_stay (Some (PrefixedText class arguments ds ss)) free h = refl
+levels_stay (Some ConnectionText) free h = absurd (cc)
+levels_stay (Some (StandardText which)) free h = absurd (cc)
+
 -- the program's block is no class
-first_plain : (s : Source) (code : CodeOf) → Coding s code → is_class (text s 0) ≡ false
+first_plain : (s : Source) (code : CodeOf) → Compiled s code → is_class (text s 0) ≡ false
 first_plain s code compiled = by (is_class (text s 0)) refl
   where
     by : (c : Bool) → is_class (text s 0) ≡ c → is_class (text s 0) ≡ false
     by false e = e
-    by true e = absurd ((class_code s code compiled 0 e).not_first refl)
+    by true e = absurd ((class_has s code compiled 0 (class_levels s code compiled 0 e)).not_first refl)
 
 -- the words of a text are those of its block
 pub words_agree : (s : Source) (code : CodeOf) (t : ℕ) (b : BlockOf) (x : Text) → text s t ≡ Some x → own_cells s t x ≡ first_cells s t x → block_in_front s code t ≡ None → b.cells ≡ cells_of_block (block_in_front s code t) + length (cells_in s t (text s t)) → words_of_text s t (text s t) ≡ words_of_block b
@@ -131,7 +142,7 @@ module _ (s : Source) (code : CodeOf) where
       let same : words_of_block b ≡ words_of_text s (text_of m j) (text s (text_of m j)) = sym words ∙ ap (λ k. words_of_text s k (text s k)) (sym is) in
       ap (λ f. if f then giving_back o j (words_of_block b) else o) (sym (given_at_end_same s code m fs a j)) ∙ ap (λ n. if is_given_at_end m j then giving_back o j n else o) same
 
-  module _ (o : World) (m : Instances) (fs : Frames) (a : StoreAt s code m fs) (parked : StandingsAt s code m fs) (j t : ℕ) (b : BlockOf) (is : text_of m j ≡ t) (words : words_of_text s t (text s t) ≡ words_of_block b) where
+  module _ (o : World) (m : Instances) (fs : Frames) (a : StoreAt s code m fs) (parked : StandingsAt s code m fs) (j : ℕ) (b : BlockOf) (worlds : machine.world_left b j o fs ≡ world_left s j o m) where
     chain_left : (rest : List Activation) (v : Bool) (below : List machine.Activation) → ChainAt s code m fs rest v below → ChainAt s code (instances_left j m) (frames_left j fs) rest v below
     chain_left rest v below c = chain_changed s code (stores_left m fs a j) rest (all_every rest) v below c
 
@@ -139,7 +150,7 @@ module _ (s : Source) (code : CodeOf) where
     parked_left = parked_changed s code (stores_left m fs a j) (kept_every m) parked
 
     in_world : (c : Configuration) (x : Machine) → R c x → Alike R (Going (world_left s j o m) c) (Going (machine.world_left b j o fs) x)
-    in_world c x h = subst (λ z. Alike R (Going (world_left s j o m) c) (Going z x)) (sym (worlds_left o m fs a j t b is words)) (going h)
+    in_world c x h = subst (λ z. Alike R (Going (world_left s j o m) c) (Going z x)) (sym worlds) (going h)
 
     -- control goes on below, with no value
     pub leave_still : (rest : List Activation) (below : List machine.Activation) → ChainAt s code m fs rest false below → Alike R (leaving s rest None j o m) (machine.leaving b below None j o fs)
@@ -184,7 +195,7 @@ module _ (s : Source) (code : CodeOf) where
           parked = parked_left;
         }))
 
-module _ (s : Source) (code : CodeOf) (compiled : Coding s code) (l : Limits) (o : World) (m : Instances) (inst : ℕ) (w : List Item) (vals : List Val) (rest : List Activation) (fs : Frames) (t : ℕ) (b : Runs) (pc : ℕ) (stack : List Value) (below : List machine.Activation) (ks : List Kind) (here : Here s code m fs inst rest t b ks vals stack) (used : ℕ) where
+module _ (s : Source) (code : CodeOf) (compiled : Compiled s code) (l : Limits) (o : World) (m : Instances) (inst : ℕ) (w : List Item) (vals : List Val) (rest : List Activation) (fs : Frames) (t : ℕ) (b : Runs) (pc : ℕ) (stack : List Value) (below : List machine.Activation) (ks : List Kind) (here : Here s code m fs inst rest t b ks vals stack) (used : ℕ) where
   abbrev Related : Configuration → Machine → Type 0
   Related = StateAt s code
 
@@ -200,20 +211,20 @@ module _ (s : Source) (code : CodeOf) (compiled : Coding s code) (l : Limits) (o
 
   -- a text that is no class is the own text of the instance
   own_is : is_class (text s (frame_text s t)) ≡ false → b.own ≡ frame_text s t
-  own_is c = alone s (agreed s code compiled) b.own (frame_text s t) c (own_levels s code m fs here.store inst b.own t here.own here.stands)
+  own_is c = alone s compiled.agrees b.own (frame_text s t) c (own_levels s code m fs here.store inst b.own t here.own here.stands)
 
   text_here : is_class (text s (frame_text s t)) ≡ false → text_of m inst ≡ frame_text s t
   text_here c = text_of_own m inst b.own here.own ∙ own_is c
 
   front_here : has_levels (text s (frame_text s t)) ≡ false → block_in_front s code (frame_text s t) ≡ None
   unfolding block_in_front
-  front_here h = ap (block_of_text s code) (no_front s (agreed s code compiled) (frame_text s t) h)
+  front_here h = ap (block_of_text s code) (no_front s compiled.agrees (frame_text s t) h)
 
   frame_own : frame_text s (frame_text s t) ≡ frame_text s t
-  frame_own = frame_idem s (agreed s code compiled) t
+  frame_own = frame_idem s compiled.agrees t
 
   frame_stands : Stands s m inst (frame_text s t)
-  frame_stands = stands_same s m inst (frame_text s t) t (record { frame = frame_own; level = frame_level s (agreed s code compiled) t }) here.stands
+  frame_stands = stands_same s m inst (frame_text s t) t (record { frame = frame_own; level = frame_level s compiled.agrees t }) here.stands
 
   own_alike : is_class (text s (frame_text s t)) ≡ false → (k : BlockKind) (r : Run Configuration) (go : BlockOf → Run Machine) → same_kind b.block.kind k ≡ true → Alike Related r (go b.block) → Alike Related r (own_block code k fs top o go)
   unfolding own_block when
@@ -229,7 +240,7 @@ module _ (s : Source) (code : CodeOf) (compiled : Coding s code) (l : Limits) (o
       let plain = ap is_class (a.0).is in
       at_row s code l o fs top below _ i.Leave x.at.line x.last x.at.is
       (own_alike plain block_kind.SubBlock _ _ (ap (λ z. same_kind z block_kind.SubBlock) (x.heads).is_kind)
-      (leave_still s code o m fs here.store here.parked inst (frame_text s t) b.block (text_here plain) (words_agree s code (frame_text s t) b.block _ (a.0).is refl (front_here (ap has_levels (a.0).is)) (x.heads).cells) rest below x.below))
+      (leave_still s code o m fs here.store here.parked inst b.block (worlds_left s code o m fs here.store inst (frame_text s t) b.block (text_here plain) (words_agree s code (frame_text s t) b.block _ (a.0).is refl (front_here (ap has_levels (a.0).is)) (x.heads).cells)) rest below x.below))
 
   result_alike : (r : Run Configuration) (go : Option Value → Run Machine) → is_nothing b.block.result_type ≡ false → Alike Related r (having (machine.cell fs inst 0) o (λ v. go (Some v))) → Alike Related r (with_result b.block fs inst o go)
   unfolding with_result
@@ -246,14 +257,14 @@ module _ (s : Source) (code : CodeOf) (compiled : Coding s code) (l : Limits) (o
       (result_alike _ _ (ap is_nothing (x.heads).gives ∙ is_typed type)
       (alike_having Configuration Machine Related Val Value ValAt (cell m inst Result) (machine.cell fs inst 0) o _ _
       (subst (λ c. Both ValAt (cell m inst Result) (machine.cell fs inst c)) (result_slot s code (frame_text s t) type h body is (front_here (ap has_levels is))) (cell_read s code m fs inst (frame_text s t) Result here.store frame_stands frame_own (result_there s (frame_text s t) type h body is) refl))
-      (λ v z ev ez vz. leave_value s code o m fs here.store here.parked inst (frame_text s t) b.block (text_here (ap is_class is)) (words_agree s code (frame_text s t) b.block _ is refl (front_here (ap has_levels is)) (x.heads).cells) v z vz rest below x.below))))
+      (λ v z ev ez vz. leave_value s code o m fs here.store here.parked inst b.block (worlds_left s code o m fs here.store inst (frame_text s t) b.block (text_here (ap is_class is)) (words_agree s code (frame_text s t) b.block _ is refl (front_here (ap has_levels is)) (x.heads).cells)) v z vz rest below x.below))))
 
   end_untyped : (h : Heading) (body : Statement) → text s (frame_text s t) ≡ Some (ProcedureText None h body) → EndIs s code i.Return block_kind.Procedure (type_of_name None) (frame_text s t) b.block pc ks (ChainAt s code m fs rest false below) → Alike Related (do_item s l o m inst w vals rest (EndProcedure false)) (on_top code l o fs top below)
   end_untyped h body is x =
       at_row s code l o fs top below _ i.Return x.at.line x.last x.at.is
       (own_alike (ap is_class is) block_kind.Procedure _ _ (ap (λ z. same_kind z block_kind.Procedure) (x.heads).is_kind)
       (no_result_alike _ _ (ap is_nothing (x.heads).gives)
-      (leave_still s code o m fs here.store here.parked inst (frame_text s t) b.block (text_here (ap is_class is)) (words_agree s code (frame_text s t) b.block _ is refl (front_here (ap has_levels is)) (x.heads).cells) rest below x.below)))
+      (leave_still s code o m fs here.store here.parked inst b.block (worlds_left s code o m fs here.store inst (frame_text s t) b.block (text_here (ap is_class is)) (words_agree s code (frame_text s t) b.block _ is refl (front_here (ap has_levels is)) (x.heads).cells)) rest below x.below)))
 
   end_of : (leaves : Bool) (result : Option TypeName) (h : Heading) (body : Statement) → has_result result ≡ leaves → text s (frame_text s t) ≡ Some (ProcedureText result h body) → EndIs s code i.Return block_kind.Procedure (type_of_name result) (frame_text s t) b.block pc ks (ChainAt s code m fs rest leaves below) → Alike Related (do_item s l o m inst w vals rest (EndProcedure leaves)) (on_top code l o fs top below)
   end_of true (Some type) h body e is x = end_typed type h body is x
@@ -325,13 +336,25 @@ module _ (s : Source) (code : CodeOf) (compiled : Coding s code) (l : Limits) (o
     ended_alike (Some TerminatedObject) (Some TerminatedObject) b c = ended
     ended_alike (Some _) (Some _) b c = absurd b
 
-  pub end_object : EndFollows EndObject
-  unfolding choosing when object_ended
-  end_object a =
+  outermost_alike : (kind : BlockKind) (r : Run Configuration) (a : OutermostEnds s code kind b pc ks (ChainAt s code m fs rest false below)) → Alike Related r (ended_by_kind l o fs below inst a.block kind) → Alike Related r (on_top code l o fs top below)
+  unfolding choosing when
+  outermost_alike kind r a h =
       let x = a.ends in
       at_row s code l o fs top below _ (i.EndLevel (pos 0)) x.at.line x.last x.at.is
-      (level_alike _ (left_out (λ q. Alike Related (ticking l o (λ p. object_ended p m inst rest)) q) (block_number s b.own == 0) (stopping Normal o) _ (other_numbers (block_number s b.own) 0 a.not_first)
-      (chosen (λ q. Alike Related (ticking l o (λ p. object_ended p m inst rest)) q) (same_stage b.stage (stage.Behind 0)) _ (no_rule o) (ap (λ z. same_stage z (stage.Behind 0)) a.was)
-      (alike_found Configuration Machine Related BlockOf (slice_get code.blocks (block_number s b.own)) a.block o _ _ a.found
-      (subst (λ z. Alike Related (ticking l o (λ p. object_ended p m inst rest)) (ended_by_kind l o fs below inst a.block z)) (sym (x.heads).is_kind)
-      (alike_ticking Configuration Machine Related l o _ _ (λ p. ended_alike p (slice_get m.standings inst) (slice_get fs.standings inst) (here.parked inst) x.below)))))))
+      (level_alike _ (left_out (λ q. Alike Related r q) (block_number s b.own == 0) (stopping Normal o) _ (other_numbers (block_number s b.own) 0 a.not_first)
+      (chosen (λ q. Alike Related r q) (same_stage b.stage (stage.Behind 0)) _ (no_rule o) (ap (λ z. same_stage z (stage.Behind 0)) a.was)
+      (alike_found Configuration Machine Related BlockOf (slice_get code.blocks (block_number s b.own)) a.block o r _ a.found
+      (subst (λ z. Alike Related r (ended_by_kind l o fs below inst a.block z)) (sym (x.heads).is_kind) h)))))
+
+  pub end_object : EndFollows EndObject
+  unfolding object_ended
+  end_object a = outermost_alike block_kind.Object _ a (alike_ticking Configuration Machine Related l o _ _ (λ p. ended_alike p (slice_get m.standings inst) (slice_get fs.standings inst) (here.parked inst) a.ends.below))
+
+  -- A prefixed block is never given back, and neither are its words.
+  pub end_prefixed : EndFollows EndPrefixed
+  end_prefixed a =
+      let stays = never_given s code m fs here.store inst b.own here.own (levels_stay (text s b.own) (is_class_free s b.own) a.levels) in
+      let frame_stays = sym (given_at_end_same s code m fs here.store inst) ∙ stays in
+      outermost_alike block_kind.Prefixed _ a
+      (leave_still s code o m fs here.store here.parked inst a.block
+      (ap (λ f. if f then giving_back o inst (words_of_block a.block) else o) frame_stays ∙ sym (ap (λ f. if f then giving_back o inst (words_of_text s (text_of m inst) (text s (text_of m inst))) else o) stays)) rest below a.ends.below)

@@ -25,11 +25,11 @@ use Rattle.sim_code.proofs.Lifts.{alike_found, alike_no_rule}
 use Rattle.sim_code.proofs.Simulation.{Alike}
 use Rattle.sim_meaning.specs.Entries.{new_instance, passes}
 use Rattle.sim_meaning.specs.Levels.{has_levels, text_in}
-use Rattle.sim_meaning.specs.Pending.{Activation, Configuration, Do, EndBlock, EndLevel, EndObject, EndProcedure, EndProgram, Held, Instances, Item, Key, held}
+use Rattle.sim_meaning.specs.Pending.{Activation, Configuration, Do, EndBlock, EndLevel, EndObject, EndPrefixed, EndProcedure, EndProgram, Held, Instances, Item, Key, held}
 use Rattle.sim_meaning.specs.Texts.{BlockText, ConnectionText, PrefixedText, Text, is_class_free, program_texts, text}
 use Rattle.codegen_expr.specs.Sites.{HasCell, LevelOf, block_in_front, block_number, block_of_text, cells_in, frame_text, hidden_in, innermost, outer, own_part, place_of, prefix_of, slot_of, start_of, types_in}
-use Rattle.sim_relate.proofs.Plainly.{Agrees, Coding}
-use Rattle.codegen.specs.Compiled.{CodeHas, RecordOf, TextCode, type_of_cell}
+use Rattle.codegen.specs.Agrees.{Agrees}
+use Rattle.codegen.specs.Compiled.{CodeHas, Compiled, RecordOf, TextCode, type_of_cell}
 use Rattle.sim_relate.proofs.Carried.{all_every, both_later, chain_later, kept_every}
 use Rattle.sim_relate.proofs.Ends.{chosen, left_out}
 use Rattle.sim_relate.proofs.Known.{Every, Kind, Runs, SlotAt, Stands, is_fixed, none_at}
@@ -76,7 +76,7 @@ coded s code k (BlockText begin ds ss) (Some b) e h = record { block = b; found 
 coded s code k _ None e h = absurd h
 coded s code k _ (Some b) e h = record { block = b; found = refl; has = h }
 
-pub code_there : (s : Source) (code : CodeOf) → Coding s code → (k : ℕ) (x : Text) → text s k ≡ Some x → is_connection (Some x) ≡ false → Coded s code k x (slice_get code.blocks (block_number s k))
+pub code_there : (s : Source) (code : CodeOf) → Compiled s code → (k : ℕ) (x : Text) → text s k ≡ Some x → is_connection (Some x) ≡ false → Coded s code k x (slice_get code.blocks (block_number s k))
 code_there s code c k x e own = coded s code k x (slice_get code.blocks (block_number s k)) own (c.each k x e)
 
 -- a text that is no connection has frames of its own
@@ -93,8 +93,8 @@ module _ (s : Source) (code : CodeOf) where
   work_below m fs Below inst t b used (EndProcedure leaves ∷ w) p ks a = (leaves, ((a.2).ends).below)
   work_below m fs Below inst t b used (EndProgram ∷ w) p ks a = (false, ((a.2).1).below)
   work_below m fs Below inst t b used (EndObject ∷ w) p ks a = (false, ((a.2).ends).below)
+  work_below m fs Below inst t b used (EndPrefixed ∷ w) p ks a = (false, ((a.2).ends).below)
   work_below m fs Below inst t b used (EndLevel k ∷ w) p ks a = work_below m fs Below inst (a.2).text (a.2).runs (a.2).used w a.1 [] a.5
-  work_below m fs Below inst t b used (_ ∷ w) p ks a = absurd a
 
   pub chain_owners : (m : Instances) (fs : Frames) (chain : List Activation) (v : Bool) (below : List machine.Activation) → ChainAt s code m fs chain v below → SameOwners s code chain below
   chain_owners m fs [] v [] c = tt
@@ -146,6 +146,7 @@ module _ (s : Source) (code : CodeOf) where
     level = heads.level;
     encloser = refl;
     passing = ap (λ z. machine.passes z b.class_free) heads.is_kind ∙ ap (machine.passes kind) heads.class_free ∙ sym free;
+    passes_so = refl;
     kept = refl;
     given_back = refl;
     own = own;

@@ -37,10 +37,10 @@ use Rattle.sim_meaning.specs.Steps.{go}
 use Rattle.sim_meaning.specs.Texts.{BlockText, ClassText, ConnectionText, PrefixedText, ProcedureText, StandardText, Text, is_class_free, text}
 use Rattle.sim_meaning.specs.Sane.{Lives, lives_alone}
 use Rattle.codegen_expr.specs.Sites.{At, block_in_front, block_number, cells_in, cells_of_block, frame_text, hidden_in, lined, own_cells, own_end, own_part}
+use Rattle.codegen.specs.Agrees.{Agrees}
 use Rattle.codegen.specs.CodeArrays.{ArraysAt, element_number}
 use Rattle.codegen.specs.CodeStm.{StmsAt}
-use Rattle.codegen.specs.Compiled.{ProcedureTextOf, ProgramOf, RecordOf, TextCode, code_formal, parameters_of, site_of, type_of_cell, type_of_name}
-use Rattle.sim_relate.proofs.Plainly.{Agrees, Coding, agreed}
+use Rattle.codegen.specs.Compiled.{Compiled, ProcedureTextOf, ProgramOf, RecordOf, TextCode, code_formal, parameters_of, site_of, type_of_cell, type_of_name}
 use Rattle.sim_relate.proofs.Parameters.{formals_vary, result_vary}
 use Rattle.sim_relate.proofs.Actuals.{arrays_same, behind_result, both_kept, counted_many, each_length}
 use Rattle.sim_relate.proofs.Carried.{all_every, chain_changed, kept_every, parked_changed}
@@ -99,14 +99,14 @@ module _ (s : Source) (code : CodeOf) (agrees : Agrees s) where
 
 -- ---- the work of a block that is entered
 
-module _ (s : Source) (code : CodeOf) (compiled : Coding s code) (m : Instances) (fs : Frames) (Below : Bool → Type 0) (j k : ℕ) (b : BlockOf) (stands : Stands s m j k) (own : frame_text s k ≡ k) (lives : Lives m j) where
+module _ (s : Source) (code : CodeOf) (compiled : Compiled s code) (m : Instances) (fs : Frames) (Below : Bool → Type 0) (j k : ℕ) (b : BlockOf) (stands : Stands s m j k) (own : frame_text s k ≡ k) (lives : Lives m j) where
   pub block_pends : (ds : Declarations) (ss : Statements) (end : Item) (p y q : ℕ) → ArraysAt s code (site_of s code k b) ds p y → StmsAt s code (site_of s code k b) 0 ss y q → WorkAt s code m fs Below j k (plainly k b) (own_end s code k) (end ∷ []) q []
       → WorkAt s code m fs Below j k (plainly k b) (own_end s code k) (block_work s m j ds ss end) p []
   block_pends ds ss end p y q arrays stms ends =
-      let low = used_low s code (agreed s code compiled) k own in
-      arrays_at s code (agreed s code compiled) m fs Below j k (plainly k b) (own_end s code k) low stands lives (Do (Execs ss) ∷ end ∷ []) ds p y arrays (pends s code m fs Below j k (plainly k b) (own_end s code k) low (end ∷ []) (Execs ss) y q [] [] (stms, refl) ends)
+      let low = used_low s code compiled.agrees k own in
+      arrays_at s code compiled.agrees m fs Below j k (plainly k b) (own_end s code k) low stands lives (Do (Execs ss) ∷ end ∷ []) ds p y arrays (pends s code m fs Below j k (plainly k b) (own_end s code k) low (end ∷ []) (Execs ss) y q [] [] (stms, refl) ends)
 
-module _ (s : Source) (code : CodeOf) (compiled : Coding s code) (l : Limits) (o : World) where
+module _ (s : Source) (code : CodeOf) (compiled : Compiled s code) (l : Limits) (o : World) where
   abbrev R : Configuration → Machine → Type 0
   R = StateAt s code
 
@@ -118,7 +118,7 @@ module _ (s : Source) (code : CodeOf) (compiled : Coding s code) (l : Limits) (o
   first_block m fs a parked begin ds ss is b found h =
       let heads = h.heads in
       let body = h.body in
-      let agrees = agreed s code compiled in
+      let agrees = compiled.agrees in
       let cells = first_cells s 0 (BlockText begin ds ss) in
       program_alike s code o b found (ap rows.first_stage heads.is_kind) (slice_get_within code.instrs b.entry _ (h.enter).at) _ _ (λ x ex.
       alike_entering Configuration Machine R l (line_at s begin) x.line.0 (words_of_cells cells) (words_of_block b) o _ _ (same_line x ex (h.enter).at) (words_same s code agrees 0 (BlockText begin ds ss) b is refl refl heads.cells) (λ p.
@@ -168,7 +168,7 @@ module _ (s : Source) (code : CodeOf) (compiled : Coding s code) (l : Limits) (o
 
 -- ---- entries from an instance
 
-module _ (s : Source) (code : CodeOf) (compiled : Coding s code) (l : Limits) (o : World) (m : Instances) (inst : ℕ) (w : List Item) (vals : List Val) (rest : List Activation) (fs : Frames) (t : ℕ) (b : Runs) (pc : ℕ) (stack : List Value) (below : List machine.Activation) (ks : List Kind) (here : Here s code m fs inst rest t b ks vals stack) (u q : ℕ) (ks' : List Kind) (low : own_end s code (frame_text s t) ≤ u) (work : WorkAt s code m fs (λ v. ChainAt s code m fs rest v below) inst t b u w q ks') where
+module _ (s : Source) (code : CodeOf) (compiled : Compiled s code) (l : Limits) (o : World) (m : Instances) (inst : ℕ) (w : List Item) (vals : List Val) (rest : List Activation) (fs : Frames) (t : ℕ) (b : Runs) (pc : ℕ) (stack : List Value) (below : List machine.Activation) (ks : List Kind) (here : Here s code m fs inst rest t b ks vals stack) (u q : ℕ) (ks' : List Kind) (low : own_end s code (frame_text s t) ≤ u) (work : WorkAt s code m fs (λ v. ChainAt s code m fs rest v below) inst t b u w q ks') where
   abbrev Related : Configuration → Machine → Type 0
   Related = StateAt s code
 
@@ -202,7 +202,7 @@ module _ (s : Source) (code : CodeOf) (compiled : Coding s code) (l : Limits) (o
 
   enter_block : (k line : ℕ) (begin : ℕ) (ds : Declarations) (ss : Statements) → text s (suc k) ≡ Some (BlockText begin ds ss) → At code (i.Enter (pos (block_number s (suc k)))) line pc q → encloser s.tables (suc k) ≡ Some t → ks' ≡ ks → Alike Related (sub_block_entered s l o m inst w vals rest (suc k) line (Some (BlockText begin ds ss))) (on_top code l o fs top below)
   enter_block k line begin ds ss is at around e =
-      let agrees = agreed s code compiled in
+      let agrees = compiled.agrees in
       let own = frame_there s agrees (suc k) (BlockText begin ds ss) is refl in
       let c = code_there s code compiled (suc k) (BlockText begin ds ss) is refl in
       let new_block = c.block in
@@ -234,7 +234,7 @@ module _ (s : Source) (code : CodeOf) (compiled : Coding s code) (l : Limits) (o
 
   enter_some : (k line : ℕ) (x : Text) → text s k ≡ Some x → At code (i.Enter (pos (block_number s k))) line pc q → encloser s.tables k ≡ Some t → ks' ≡ ks → Alike Related (sub_block_entered s l o m inst w vals rest k line (Some x)) (on_top code l o fs top below)
   unfolding no_rule
-  enter_some zero line x is at around e = absurd (no_around (encloser s.tables 0) t (agreed s code compiled).outermost around)
+  enter_some zero line x is at around e = absurd (no_around (encloser s.tables 0) t compiled.agrees.outermost around)
   enter_some (suc k) line (BlockText begin ds ss) is at around e = enter_block k line begin ds ss is at around e
   enter_some (suc k) line (ProcedureText result h body) is at around e = unruled
   enter_some (suc k) line (ClassText prefix h ds ss) is at around e = unruled
@@ -244,7 +244,7 @@ module _ (s : Source) (code : CodeOf) (compiled : Coding s code) (l : Limits) (o
 
   pub enter : (k line : ℕ) → Follows (EnterOp k line)
   enter k line a =
-      let x = text_there s k t (agreed s code compiled) a.1 in
+      let x = text_there s k t compiled.agrees a.1 in
       subst (λ z. Alike Related (sub_block_entered s l o m inst w vals rest k line z) (on_top code l o fs top below)) (sym x.1) (enter_some k line x.0 x.1 a.0 a.1 a.2)
 
   -- ---- procedures
@@ -268,7 +268,7 @@ module _ (s : Source) (code : CodeOf) (compiled : Coding s code) (l : Limits) (o
     cells' = put_from (results result) values' (machine.first_cells new_block)
 
     agrees : Agrees s
-    agrees = agreed s code compiled
+    agrees = compiled.agrees
 
     own : frame_text s k ≡ k
     own = frame_there s agrees k (ProcedureText result heading body) is refl

@@ -8,21 +8,21 @@ use Rattle.sim_code.specs.Code.{BlockOf, CodeOf}
 use Rattle.sim_code.specs.Machine.{Cells, first_value, joined}
 use Rattle.sim_code.specs.Machine as machine
 use Rattle.sim_meaning.specs.Entries.{cells_from, numbers_of}
-use Rattle.sim_meaning.specs.Levels.{is_class, levels_made, levels_of}
+use Rattle.sim_meaning.specs.Levels.{has_levels, levels_made, levels_of}
 use Rattle.sim_meaning.specs.Objects.{attributes_from, cells_of_levels}
 use Rattle.sim_meaning.specs.Pending.{Held, Key, Level, Val, held, same_key}
 use Rattle.sim_meaning.specs.Texts.{text}
 use Rattle.codegen_expr.specs.Sites.{HasCell, LevelOf, block_in_front, block_of_text, cells_in, cells_of_block, hidden_in, innermost, outer, own_part, place_of, prefix_of, slot_of, start_of, types_in}
-use Rattle.codegen.specs.Agrees.{Ends, before, last}
-use Rattle.codegen.specs.Compiled.{type_of_cell}
-use Rattle.sim_relate.proofs.ClassTexts.{ClassHas, class_has, class_unconnected}
+use Rattle.codegen.specs.Agrees.{Agrees, Ends, before, last}
+use Rattle.codegen.specs.Compiled.{Compiled, type_of_cell}
+use Rattle.sim_relate.proofs.ClassLevels.{levels_solid}
+use Rattle.sim_relate.proofs.ClassTexts.{ClassHas}
 use Rattle.sim_relate.proofs.Known.{SlotAt, is_declared, is_fixed}
 use Rattle.sim_relate.proofs.Layouts.{cells_by_key, declared_there, hidden_empty, less_or}
 use Rattle.sim_relate.proofs.LevelCells.{CellsOf}
-use Rattle.sim_relate.proofs.LevelCode.{made_of, none_made}
+use Rattle.sim_relate.proofs.LevelCode.{front_has, made_of, none_made}
 use Rattle.sim_relate.proofs.LevelFormals.{get_before, get_behind}
 use Rattle.sim_relate.proofs.LevelLists.{level_text, levels_behind, levels_first}
-use Rattle.sim_relate.proofs.Plainly.{Agrees, Coding, agreed}
 use Rattle.sim_relate.proofs.Reach.{same_some}
 use Rattle.sim_relate.proofs.Relation.{Laid}
 use Rattle.sim_relate.proofs.Slots.{HeldAt, Typed, attributes_at, attributes_keys, empty_behind, key_of, keys_length, keys_place, not_held, place_behind, place_first, types_split}
@@ -87,9 +87,9 @@ made_cells s (k ∷ ks) (x ∷ xs) e =
     let own : x.text ≡ k = level_text s p.number (text s p.number) x p.first ∙ number in
     ap (λ z. attributes_from s (numbers_of s z) ++ cells_of_levels s xs) own ∙ ap (λ z. attributes_from s (numbers_of s k) ++ z) (made_cells s ks xs (subst (λ z. levels_made s z ≡ Some xs) more p.rest))
 
-module _ (s : Source) (code : CodeOf) (compiled : Coding s code) (laid : (k : ℕ) → is_class (text s k) ≡ true → Laid s code k) where
+module _ (s : Source) (code : CodeOf) (compiled : Compiled s code) (laid : (k : ℕ) → has_levels (text s k) ≡ true → Laid s code k) where
   agrees : Agrees s
-  agrees = agreed s code compiled
+  agrees = compiled.agrees
 
   abbrev own_attributes : ℕ → List Held
   own_attributes k = attributes_from s (numbers_of s k)
@@ -97,22 +97,19 @@ module _ (s : Source) (code : CodeOf) (compiled : Coding s code) (laid : (k : �
   abbrev pub all_attributes : ℕ → List Held
   all_attributes k = attributes_of s (levels_of s k)
 
-  is_a_class : (k : ℕ) → ClassHas s code k → is_class (text s k) ≡ true
-  is_a_class k x = ap is_class x.is
-
   all_first : (k : ℕ) → ClassHas s code k → prefix_of s.tables k ≡ None → all_attributes k ≡ own_attributes k
-  all_first k x e = ap (attributes_of s) (levels_first s agrees k e (class_unconnected s agrees k (is_a_class k x))) ∙ no_more (own_attributes k)
+  all_first k x e = ap (attributes_of s) (levels_first s agrees k e (levels_solid s code compiled k x.levels)) ∙ no_more (own_attributes k)
 
   all_behind : (k u : ℕ) → prefix_of s.tables k ≡ Some u → all_attributes k ≡ all_attributes u ++ own_attributes k
   all_behind k u e = ap (attributes_of s) (levels_behind s agrees k u e) ∙ attributes_end s (levels_of s u) k
 
   front : (k u : ℕ) → prefix_of s.tables k ≡ Some u → ClassHas s code u
-  front k u e = class_has s code compiled u (agrees.prefixes k u e).class
+  front k u e = front_has s code compiled k u e
 
   -- ---- how many
 
   own_count : (k : ℕ) (x : ClassHas s code k) → length (cells_in s k (text s k)) ≡ length (own_attributes k)
-  own_count k x = ap (λ z. length (cells_in s k z)) x.is ∙ sym (keys_length (own_attributes k) (cells_from s (numbers_of s k)) (attributes_keys s (numbers_of s k)))
+  own_count k x = ap length x.cells ∙ sym (keys_length (own_attributes k) (cells_from s (numbers_of s k)) (attributes_keys s (numbers_of s k)))
 
   count_by : {n k : ℕ} → Ends s.tables n k → (x : ClassHas s code k) → x.block.cells ≡ length (all_attributes k)
   unfolding block_in_front
@@ -138,7 +135,7 @@ module _ (s : Source) (code : CodeOf) (compiled : Coding s code) (laid : (k : �
   -- ---- the own part
 
   own_keys : (k : ℕ) (x : ClassHas s code k) → map key_of (own_attributes k) ≡ map key_of (cells_in s k (text s k))
-  own_keys k x = attributes_keys s (numbers_of s k) ∙ ap (λ z. map key_of (cells_in s k z)) (sym x.is)
+  own_keys k x = attributes_keys s (numbers_of s k) ∙ ap (map key_of) (sym x.cells)
 
   own_has : (k : ℕ) (x : ClassHas s code k) (key : Key) → place_of key (own_attributes k) < length (own_attributes k) → HasCell s k key
   own_has k x key lt =
@@ -168,7 +165,7 @@ module _ (s : Source) (code : CodeOf) (compiled : Coding s code) (laid : (k : �
     behind_own = map type_of_cell (hidden_in s k) ++ x.has.heads.temps
 
     own_typed : own_first k x ≡ Typed s behind_own (cells_from s (numbers_of s k))
-    own_typed = ap (map first_value) (types_split (cells_in s k (text s k)) (hidden_in s k) x.has.heads.temps) ∙ ap (λ z. Typed s behind_own (cells_in s k z)) x.is
+    own_typed = ap (map first_value) (types_split (cells_in s k (text s k)) (hidden_in s k) x.has.heads.temps) ∙ ap (Typed s behind_own) x.cells
 
     own_at : HeldAt s (own_attributes k) (own_first k x)
     own_at = subst (λ z. HeldAt s (own_attributes k) z) (sym own_typed) (attributes_at s behind_own (numbers_of s k))
@@ -206,10 +203,10 @@ module _ (s : Source) (code : CodeOf) (compiled : Coding s code) (laid : (k : �
 
   module _ (k u : ℕ) (x : ClassHas s code k) (y : ClassHas s code u) (e : prefix_of s.tables k ≡ Some u) (ends : (n : ℕ) × Ends s.tables n u) (inner : CellsOf s code u (all_attributes u) (machine.first_cells y.block)) where
     laid_own : Laid s code k
-    laid_own = laid k (is_a_class k x)
+    laid_own = laid k x.levels
 
     laid_front : Laid s code u
-    laid_front = laid u (is_a_class u y)
+    laid_front = laid u y.levels
 
     both_types : machine.first_cells x.block ≡ machine.first_cells y.block ++ own_first k x
     unfolding block_in_front

@@ -23,13 +23,14 @@ use Rattle.sim_meaning.specs.Pending as meaning
 use Rattle.sim_meaning.specs.Sane.{IsObject, LastNames, Names}
 use Rattle.sim_meaning.specs.Steps.{go}
 use Rattle.codegen_expr.specs.Sites.{class_number, frame_text, own_end}
-use Rattle.sim_relate.proofs.ClassLevels.{class_levels, counts, levelled, number_is}
+use Rattle.codegen.specs.Compiled.{Compiled}
+use Rattle.sim_relate.proofs.ClassLevels.{class_levels, counts, number_is}
+use Rattle.sim_relate.proofs.ClassTexts.{class_has}
 use Rattle.sim_relate.proofs.Hands.{stack_length}
 use Rattle.sim_relate.proofs.Here.{Here, goes, kinds_as}
 use Rattle.sim_relate.proofs.Known.{HandAt, Kind, Runs, StackAt, ValAt, anys, array_at, element_at, image_at, link_at, more_at, plain_at, site_at}
 use Rattle.sim_relate.proofs.Living.{own_level}
 use Rattle.sim_relate.proofs.Moved.{moved, work_moved}
-use Rattle.sim_relate.proofs.Plainly.{Coding}
 use Rattle.sim_relate.proofs.Ranked.{Follows, InEach, Meets, at_once, both_stopping, caught, in_steps, lags, simply}
 use Rattle.sim_relate.proofs.References.{class_named, in_class_same, object_here}
 use Rattle.sim_relate.proofs.Relation.{ChainAt, OpAt, StateAt, StoreAt, WorkAt}
@@ -38,11 +39,11 @@ use Rattle.sim_relate.proofs.Stores.{levels_same, temp_written}
 use Rattle.sim_relate.proofs.Straight.{load_row, step_at}
 use Rattle.sim_relate.proofs.Trees.{Classed, FitsIs}
 
-module _ (s : Source) (code : CodeOf) (coding : Coding s code) where
+module _ (s : Source) (code : CodeOf) (coding : Compiled s code) where
   -- the number of a class is not 0
   pub class_counts : (c : ℕ) → Classed s c → (n : ℕ) × (class_number s code c ≡ suc n)
   class_counts c h =
-      let x = levelled s code coding c (class_levels s code coding c h) in
+      let x = class_has s code coding c (class_levels s code coding c h) in
       let y = counts s code coding c x in
       (y.0, number_is s code coding c x ∙ y.1)
 
@@ -68,7 +69,7 @@ module _ (s : Source) (code : CodeOf) (coding : Coding s code) where
   unfolding having choosing
   none_admitted fs o c line h z = admitting_is fs c line h (machine.Of Nothing) o z
 
-module _ (s : Source) (code : CodeOf) (coding : Coding s code) (l : Limits) (o : World) (m : Instances) (inst : ℕ) (w : List Item) (vals : List Val) (rest : List Activation) (fs : Frames) (t : ℕ) (b : Runs) (pc : ℕ) (stack : List Value) (below : List machine.Activation) (ks : List Kind) (here : Here s code m fs inst rest t b ks vals stack) (u q : ℕ) (ks' : List Kind) (low : own_end s code (frame_text s t) ≤ u) (k : WorkAt s code m fs (λ v. ChainAt s code m fs rest v below) inst t b u w q ks') where
+module _ (s : Source) (code : CodeOf) (coding : Compiled s code) (l : Limits) (o : World) (m : Instances) (inst : ℕ) (w : List Item) (vals : List Val) (rest : List Activation) (fs : Frames) (t : ℕ) (b : Runs) (pc : ℕ) (stack : List Value) (below : List machine.Activation) (ks : List Kind) (here : Here s code m fs inst rest t b ks vals stack) (u q : ℕ) (ks' : List Kind) (low : own_end s code (frame_text s t) ≤ u) (k : WorkAt s code m fs (λ v. ChainAt s code m fs rest v below) inst t b u w q ks') where
   abbrev R : Configuration → Machine → Type 0
   R = StateAt s code
 

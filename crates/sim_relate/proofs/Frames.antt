@@ -9,8 +9,8 @@ use Rattle.sim_meaning.specs.Entries.{first_cells}
 use Rattle.sim_meaning.specs.Pending.{Connection, Declared, Held, Instances, Key, Result}
 use Rattle.sim_meaning.specs.Texts.{BlockText, ClassText, ConnectionText, PrefixedText, ProcedureText, StandardText, Text, text}
 use Rattle.codegen_expr.specs.Sites.{HasCell, LevelOf, cells_in, frame_text, frame_within, hidden_before, hidden_from, hidden_in, is_connected, is_connection, outward_or, own_part, place_of}
+use Rattle.codegen.specs.Agrees.{Agrees}
 use Rattle.sim_relate.proofs.Known.{SameFrame, Stands, inside, is_declared, outermost}
-use Rattle.sim_relate.proofs.Plainly.{Agrees}
 
 pub bool_cases : {A : Type 0} (b : Bool) → (b ≡ true → A) → (b ≡ false → A) → A
 bool_cases true f g = f refl

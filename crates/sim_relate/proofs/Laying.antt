@@ -19,8 +19,8 @@ use Rattle.sim_meaning.specs.Levels.{has_levels, is_class}
 use Rattle.sim_meaning.specs.Pending.{Connection, Declared, Held, Key, Result, same_key}
 use Rattle.sim_meaning.specs.Texts.{BlockText, ClassText, ConnectionText, PrefixedText, ProcedureText, StandardText, Text, text}
 use Rattle.codegen_expr.specs.Sites.{HasCell, LevelOf, block_in_front, block_number, block_of_text, cells_in, connects, frame_text, hidden_before, hidden_from, hidden_in, innermost, is_connected, is_connection, outer, own_end, own_part, place_of, prefix_of, room_of_block, slot_of, start_of, types_in}
-use Rattle.codegen.specs.Compiled.{CodeHas, RecordOf, type_of_cell}
-use Rattle.sim_relate.proofs.Plainly.{Agrees, Coding}
+use Rattle.codegen.specs.Agrees.{Agrees}
+use Rattle.codegen.specs.Compiled.{CodeHas, Compiled, RecordOf, type_of_cell}
 use Rattle.sim_relate.proofs.Reach.{alone, level_cases, level_either, same_some}
 use Rattle.sim_relate.proofs.Relation.{Laid}
 use Rattle.sim_relate.proofs.Slots.{place_injective, same_is}
@@ -178,7 +178,7 @@ module _ (s : Source) where
 
 -- ---- the records of texts and of their levels
 
-module _ (s : Source) (code : CodeOf) (compiled : Coding s code) where
+module _ (s : Source) (code : CodeOf) (compiled : Compiled s code) where
   -- What the record of a text says of its frames: they have all that those of the text in front of it have, then its own part, then temps.
   pub record Recorded (k : ℕ) : Type 0 where
     pub block : BlockOf

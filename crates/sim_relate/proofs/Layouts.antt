@@ -8,9 +8,9 @@ use Rattle.sim_code.proofs.Lifts.{Both}
 use Rattle.sim_meaning.specs.Pending.{Connection, Declared, Held, Key, Result, Val, held}
 use Rattle.sim_meaning.specs.Texts.{text}
 use Rattle.codegen_expr.specs.Sites.{HasCell, cells_in, hidden_before, frame_text, hidden_from, hidden_in, is_connection, own_part, place_of}
+use Rattle.codegen.specs.Agrees.{Agrees}
 use Rattle.sim_relate.proofs.Known.{SlotAt, ValAt, is_declared, is_fixed}
 use Rattle.sim_relate.proofs.Frames.{bool_cases, hidden_missing}
-use Rattle.sim_relate.proofs.Plainly.{Agrees}
 use Rattle.sim_relate.proofs.Slots.{AllEmpty, HeldAt, cells_read, key_of, keys_length, keys_place, not_held, place_behind, place_first}
 
 less_is : (a b : ℕ) → nat_lt a b ≡ true → a < b

@@ -28,12 +28,12 @@ use Rattle.sim_meaning.specs.Pending as meaning
 use Rattle.sim_meaning.specs.Statements.{Lefts, assigning, before, lefts}
 use Rattle.codegen_expr.specs.Sites.{At, HasCell, Inside, Site, Varies, frame_text, is_constant, own_end}
 use Rattle.codegen_expr.specs.CodeExpr.{ElementAt, ExprAt, ExprsAt, PlaceAt, ReferencePlaceAt}
+use Rattle.codegen.specs.Agrees.{Agrees}
 use Rattle.codegen.specs.CodeLeft.{AtAddress, AtAttribute, GivesAt, GoesAt, InCell, LeftsAt, NotBuilt, ResultAt, SharesAt, StoreAt, Stored, ToReference, ToResult, ToText, below, each_stored, stored, stored_declared, stored_element, stored_formal, stored_found, stored_left, stored_named, stored_of, stored_result, stored_text, stored_variable}
 use Rattle.sim_relate.proofs.Closing.{close_all_at, close_at, count_close, place_at, reference_at}
 use Rattle.sim_relate.proofs.Frames.{own_frame}
 use Rattle.sim_relate.proofs.Known.{Any, Finds, IsRead, Kind, LeavesIs, Reaches, Refers, Runs, is_declared, is_fixed, leaves_any, leaves_read, reads, site_at}
 use Rattle.sim_relate.proofs.Pending.{evals, pends}
-use Rattle.sim_relate.proofs.Plainly.{Agrees}
 use Rattle.sim_relate.proofs.Relation.{GivesIs, StoreIs, TargetAt, WorkAt}
 use Rattle.sim_relate.proofs.Trees.{Classed, OperandAt, TermAt}
 

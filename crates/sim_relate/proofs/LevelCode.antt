@@ -1,30 +1,26 @@
 -- The code of the levels of an instance, as the code of its program has it, and the work of a level.
-use Rattle.std.proofs.Common.{◌≡◌, ◌≢◌, ◌<◌, ◌≤◌, ℕ, zero, suc, Bool, true, false, List, [], ◌∷◌, length, Option, Some, None, refl, sym, ap, ◌∙◌, subst, arith}
+use Rattle.std.proofs.Common.{◌≡◌, ◌<◌, ◌≤◌, ℕ, zero, suc, Bool, true, false, List, [], ◌∷◌, length, Option, Some, None, refl, sym, ap, ◌∙◌, subst, arith}
 use Rattle.std.specs.Prelude.{drop, not, pos, slice_get}
 use Rattle.sim_scope.specs.Levels.{has_standard}
 use Rattle.sim_scope.specs.Source.{Source}
-use Rattle.sim_tree.specs.Syntax.{Declarations, Statements}
-use Rattle.sim_code.specs.declared.code.BlockKind.TheVariants as kind
 use Rattle.sim_code.specs.declared.instr.Instr.TheVariants as i
 use Rattle.sim_code.specs.declared.stage.Stage.TheVariants as stage
-use Rattle.sim_code.specs.Classes.{class_numbered}
 use Rattle.sim_code.specs.Code.{BlockOf, ClassOf, CodeOf}
 use Rattle.sim_code.specs.Machine.{Frames}
-use Rattle.sim_meaning.specs.Attributes.{is_connection}
-use Rattle.sim_meaning.specs.Levels.{both, has_levels, is_class, level_made, levels_made, levels_of, unless_standard, writes_inner}
+use Rattle.sim_meaning.specs.Levels.{both, has_levels, level_made, levels_made, levels_of, unless_standard}
 use Rattle.sim_meaning.specs.Objects.{level_work, with_inner}
 use Rattle.sim_meaning.specs.Pending.{Do, Execs, InnerOp, Instances, Item, Level}
-use Rattle.sim_meaning.specs.Texts.{BlockText, ClassText, ConnectionText, PrefixedText, ProcedureText, StandardText, Text, text}
-use Rattle.codegen_expr.specs.Sites.{Is, LevelOf, block_in_front, block_number, block_of_text, class_in, class_number, frame_text, innermost, is_connected, outer, own_end, room_of_block}
-use Rattle.codegen.specs.Agrees.{is_prefixed}
+use Rattle.sim_meaning.specs.Texts.{text}
+use Rattle.codegen_expr.specs.Sites.{Is, LevelOf, block_in_front, block_number, block_of_text, frame_text, innermost, outer, own_end, prefix_of, room_of_block}
 use Rattle.codegen.specs.CodeArrays.{ArraysAt}
 use Rattle.codegen.specs.CodeStm.{LevelAt}
-use Rattle.codegen.specs.Compiled.{ClassTextOf, CodeHas, site_of}
+use Rattle.codegen.specs.Compiled.{Compiled, site_of}
+use Rattle.sim_relate.proofs.ClassLevels.{class_levels, level_levels, levels_solid, numbered}
+use Rattle.sim_relate.proofs.ClassTexts.{ClassHas, class_has}
 use Rattle.sim_relate.proofs.Frames.{frame_self, same_frame}
 use Rattle.sim_relate.proofs.Known.{Runs, site_at, spot}
 use Rattle.sim_relate.proofs.LevelLists.{place_level}
 use Rattle.sim_relate.proofs.Pending.{pends, pends_in}
-use Rattle.sim_relate.proofs.Plainly.{Coding, agreed}
 use Rattle.sim_relate.proofs.Relation.{AtLevel, LevelIs, WorkAt, inner_last, with_inner as among_them}
 
 some_is : {A : Type 0} {x y : A} → Some x ≡ Some y → x ≡ y
@@ -76,105 +72,35 @@ dropped_none zero (x ∷ xs) e = absurd (cc)
 dropped_none (suc n) [] e = refl
 dropped_none (suc n) (x ∷ xs) e = dropped_none n xs e
 
--- ---- classes
+-- ---- classes and prefixed blocks
 
-module _ (s : Source) (code : CodeOf) (compiled : Coding s code) where
-  -- the text of a class, and its code
-  pub record ClassCode (k : ℕ) : Type 0 where
-    pub declarations : Declarations
-    pub statements : Statements
-    pub made : level_made s k (text s k) ≡ unless_standard (has_standard s.tables k) (record { text = k; declarations = declarations; statements = statements; inner_last = not (writes_inner s k) })
-    pub not_first : k ≢ 0
-    pub block : BlockOf
-    pub found : slice_get code.blocks (block_number s k) ≡ Some block
-    pub code_is : ClassTextOf s code k kind.Object (writes_inner s k) declarations statements block
+module _ (s : Source) (code : CodeOf) (compiled : Compiled s code) where
+  pub levels_frame : (k : ℕ) → has_levels (text s k) ≡ true → frame_text s k ≡ k
+  levels_frame k h = frame_self s compiled.agrees k (levels_solid s code compiled k h)
 
-  by_code : (k : ℕ) (x : Text) (o : Option BlockOf) → text s k ≡ Some x → slice_get code.blocks (block_number s k) ≡ o → is_class (Some x) ≡ true → CodeHas s code k x o → ClassCode k
-  by_code k (BlockText begin ds ss) o e f c a = absurd (cc)
-  by_code k (ProcedureText result h' a') o e f c a = absurd (cc)
-  by_code k (PrefixedText class arguments ds ss) o e f c a = absurd (cc)
-  by_code k ConnectionText o e f c a = absurd (cc)
-  by_code k (StandardText which) None e f c a = absurd a
-  by_code zero (StandardText which) (Some b) e f c a = absurd a
-  by_code (suc k) (StandardText which) (Some b) e f c a = absurd a
-  by_code k (ClassText prefix h' ds ss) None e f c a = absurd a
-  by_code zero (ClassText prefix h' ds ss) (Some b) e f c a = absurd a
-  by_code (suc k) (ClassText prefix h' ds ss) (Some b) e f c a = record {
-    declarations = ds;
-    statements = ss;
-    made = ap (level_made s (suc k)) e;
-    not_first = λ zero_is. absurd (cc (zero_is));
-    block = b;
-    found = f;
-    code_is = a;
-  }
+  -- what has a level with levels has them too
+  pub levels_around : (own k : ℕ) → LevelOf s.tables own k → has_levels (text s k) ≡ true → has_levels (text s own) ≡ true
+  levels_around own _ innermost c = c
+  levels_around own k (outer {u = u} e more) c = (compiled.agrees.prefixes own u e).has
 
-  by_text : (k : ℕ) (o : Option Text) → text s k ≡ o → is_class o ≡ true → ClassCode k
-  by_text k None e c = absurd (cc)
-  by_text k (Some x) e c = by_code k x (slice_get code.blocks (block_number s k)) e refl c (compiled.each k x e)
-
-  pub class_code : (k : ℕ) → is_class (text s k) ≡ true → ClassCode k
-  class_code k c = by_text k (text s k) refl c
-
-  -- no block has a prefix
-  class_or : (o : Option Text) → has_levels o ≡ true → is_prefixed o ≡ false → is_class o ≡ true
-  class_or None h p = absurd (cc)
-  class_or (Some (ClassText prefix h' ds ss)) h p = refl
-  class_or (Some (PrefixedText class arguments ds ss)) h p = absurd (cc)
-  class_or (Some (BlockText begin ds ss)) h p = absurd (cc)
-  class_or (Some (ProcedureText result h' a)) h p = absurd (cc)
-  class_or (Some ConnectionText) h p = absurd (cc)
-  class_or (Some (StandardText which)) h p = absurd (cc)
-
-  pub levelled_class : (k : ℕ) → has_levels (text s k) ≡ true → is_class (text s k) ≡ true
-  levelled_class k h = class_or (text s k) h ((agreed s code compiled).flat.blocks k)
-
-  unconnected : (o : Option Text) → is_class o ≡ true → is_connection o ≡ false
-  unconnected None c = refl
-  unconnected (Some (ClassText prefix h' ds ss)) c = refl
-  unconnected (Some (StandardText which)) c = refl
-  unconnected (Some (BlockText begin ds ss)) c = refl
-  unconnected (Some (ProcedureText result h' a)) c = refl
-  unconnected (Some (PrefixedText class arguments ds ss)) c = refl
-  unconnected (Some ConnectionText) c = absurd (cc)
-
-  pub class_connected : (k : ℕ) → is_class (text s k) ≡ true → is_connected s.tables k ≡ false
-  class_connected k c = (agreed s code compiled).connected k ∙ unconnected (text s k) c
-
-  pub class_frame : (k : ℕ) → is_class (text s k) ≡ true → frame_text s k ≡ k
-  class_frame k c = frame_self s (agreed s code compiled) k (class_connected k c)
-
-  -- the levels of a class are classes
-  pub level_class : (own k : ℕ) → LevelOf s.tables own k → is_class (text s own) ≡ true → is_class (text s k) ≡ true
-  level_class own _ innermost c = c
-  level_class own k (outer {u = u} e more) c = level_class u k more ((agreed s code compiled).prefixes own u e).class
-
-  -- what has levels has them for its own
-  pub levels_class : (own k : ℕ) → LevelOf s.tables own k → is_class (text s k) ≡ true → is_class (text s own) ≡ true
-  levels_class own _ innermost c = c
-  levels_class own k (outer {u = u} e more) c = levelled_class own ((agreed s code compiled).prefixes own u e).has
-
-  pub number_of : (k : ℕ) (x : ClassCode k) → class_number s code k ≡ x.block.class
-  unfolding class_number
-  number_of k x = ap class_in x.found
-
-  pub numbered : (k : ℕ) (x : ClassCode k) → class_numbered code (class_number s code k) ≡ Some x.code_is.class
-  numbered k x = ap (class_numbered code) (number_of k x) ∙ x.code_is.is.numbered
+  -- what stands in front of a text with levels
+  pub front_has : (own u : ℕ) → prefix_of s.tables own ≡ Some u → ClassHas s code u
+  front_has own u e = class_has s code compiled u (class_levels s code compiled u (compiled.agrees.prefixes own u e).class)
 
   one_block : (n : ℕ) (x y : BlockOf) → slice_get code.blocks n ≡ Some x → slice_get code.blocks n ≡ Some y → x ≡ y
   one_block n x y e f = some_is (sym e ∙ f)
 
   -- a level needs no more room
-  pub room_within : (own k : ℕ) (x y : BlockOf) → LevelOf s.tables own k → is_class (text s own) ≡ true → slice_get code.blocks (block_number s own) ≡ Some x → slice_get code.blocks (block_number s k) ≡ Some y → y.room ≤ x.room
+  pub room_within : (own k : ℕ) (x y : BlockOf) → LevelOf s.tables own k → has_levels (text s own) ≡ true → slice_get code.blocks (block_number s own) ≡ Some x → slice_get code.blocks (block_number s k) ≡ Some y → y.room ≤ x.room
   unfolding block_in_front
   room_within own _ x y innermost c e f = let same = ap (λ z. z.room) (one_block (block_number s own) x y e f) in omega (arith, same)
   room_within own k x y (outer {u = u} front more) c e f =
-      let a = class_code own c in
-      let next = class_code u ((agreed s code compiled).prefixes own u front).class in
+      let a = class_has s code compiled own c in
+      let next = front_has own u front in
       let same = ap (λ z. z.room) (one_block (block_number s own) x a.block e a.found) in
       let in_front : block_in_front s code own ≡ Some next.block = ap (block_of_text s code) front ∙ next.found in
-      let less = subst (λ z. room_of_block z ≤ a.block.room) in_front a.code_is.heads.roomy in
-      let inside = room_within u k next.block y more ((agreed s code compiled).prefixes own u front).class next.found f in
+      let less = subst (λ z. room_of_block z ≤ a.block.room) in_front a.has.heads.roomy in
+      let inside = room_within u k next.block y more next.levels next.found f in
       omega (arith, same, less, inside)
 
   -- ---- levels
@@ -200,21 +126,21 @@ module _ (s : Source) (code : CodeOf) (compiled : Coding s code) where
     pub behind : ℕ
     pub ends : Is code (i.EndLevel (pos n)) stop behind
 
-  module _ (b : Runs) (own_block : BlockOf) (found : slice_get code.blocks (block_number s b.own) ≡ Some own_block) (roomy : own_block.room ≤ b.room) (own_class : is_class (text s b.own) ≡ true) where
-    pub level_is : (k n : ℕ) → slice_get (levels_of s b.own) n ≡ Some k → (x : ClassCode k) × LevelIs s code b k n x.block x.code_is.class
+  module _ (b : Runs) (own_block : BlockOf) (found : slice_get code.blocks (block_number s b.own) ≡ Some own_block) (roomy : own_block.room ≤ b.room) (own_levels : has_levels (text s b.own) ≡ true) where
+    pub level_is : (k n : ℕ) → slice_get (levels_of s b.own) n ≡ Some k → (x : ClassHas s code k) × LevelIs s code b k n x.block x.has.class
     level_is k n e =
-        let at = place_level s (agreed s code compiled) b.own k n (class_connected b.own own_class) e in
-        let c = level_class b.own k at.0 own_class in
-        let x = class_code k c in (
+        let at = place_level s compiled.agrees b.own k n (levels_solid s code compiled b.own own_levels) e in
+        let c = level_levels s code compiled b.own k at.0 own_levels in
+        let x = class_has s code compiled k c in (
           x,
           record {
             level = at.0;
-            has_class = c;
+            has = c;
             place_is = e;
-            frame = class_frame k c;
+            frame = levels_frame k c;
             found = x.found;
-            numbered = numbered k x;
-            roomy = let less = room_within b.own k own_block x.block at.0 own_class found x.found in omega (arith, less, roomy);
+            numbered = numbered s code compiled k x;
+            roomy = let less = room_within b.own k own_block x.block at.0 own_levels found x.found in omega (arith, less, roomy);
             own_roomy = λ y f. let same = ap (λ z. z.room) (one_block (block_number s b.own) y own_block f found) in omega (arith, same, roomy);
           },
         )
@@ -222,15 +148,15 @@ module _ (s : Source) (code : CodeOf) (compiled : Coding s code) where
     -- its code, for the level that is made of it
     pub level_code : (k n : ℕ) (x : Level) → slice_get (levels_of s b.own) n ≡ Some k → level_made s k (text s k) ≡ Some x → LevelCode b k n x
     level_code k n x e made =
-        let at = place_level s (agreed s code compiled) b.own k n (class_connected b.own own_class) e in
+        let at = place_level s compiled.agrees b.own k n (levels_solid s code compiled b.own own_levels) e in
         let r = level_is k n e in
         let a = r.0 in
-        let here = a.code_is.level in
-        let same = made_text s (has_standard s.tables k) (record { text = k; declarations = a.declarations; statements = a.statements; inner_last = not (writes_inner s k) }) x (sym a.made ∙ made) in
+        let here = a.has.level in
+        let same = made_text s (has_standard s.tables k) (record { text = k; declarations = a.declarations; statements = a.statements; inner_last = not a.written }) x (sym a.made ∙ made) in
         let placed : here.place ≡ n = let p = here.placed in let q = at.1 in omega (arith, p, q) in
         subst (λ z. LevelCode b k n z) same (record {
           block = a.block;
-          class = a.code_is.class;
+          class = a.has.class;
           level = r.1;
           text_is = refl;
           declared_there = here.declared_there;
@@ -240,9 +166,9 @@ module _ (s : Source) (code : CodeOf) (compiled : Coding s code) where
           next = subst (λ z. Is code (i.NextDecl (pos z)) here.x here.y) placed here.next;
           stated_there = here.stated_there;
           stop = here.stop;
-          written = writes_inner s k;
+          written = a.written;
           last = refl;
-          stated = subst (λ z. LevelAt s code (site_of s code k a.block) z a.code_is.class.after_inner (writes_inner s k) a.statements a.code_is.class.statements here.stop) placed here.stated;
+          stated = subst (λ z. LevelAt s code (site_of s code k a.block) z a.has.class.after_inner a.written a.statements a.has.class.statements here.stop) placed here.stated;
           behind_there = here.behind_there;
           behind = here.last;
           ends = subst (λ z. Is code (i.EndLevel (pos z)) here.stop here.last) placed here.ends;
@@ -254,7 +180,7 @@ module _ (s : Source) (code : CodeOf) (compiled : Coding s code) where
   pub moved_level : (b c : Runs) (k n : ℕ) (block : BlockOf) (class : ClassOf) → c.own ≡ b.own → c.room ≡ b.room → LevelIs s code b k n block class → LevelIs s code c k n block class
   moved_level b c k n block class own room a = record {
     level = subst (λ z. LevelOf s.tables z k) (sym own) a.level;
-    has_class = a.has_class;
+    has = a.has;
     place_is = subst (λ z. slice_get (levels_of s z) n ≡ Some k) (sym own) a.place_is;
     frame = a.frame;
     found = a.found;

@@ -17,20 +17,21 @@ use Rattle.sim_code.specs.Levels as code_levels
 use Rattle.sim_meaning.specs.Closing.{class_parameters}
 use Rattle.sim_meaning.specs.Closing as closing
 use Rattle.sim_meaning.specs.Entries.{cells_from, numbers_in, numbers_of}
-use Rattle.sim_meaning.specs.Levels.{is_class}
+use Rattle.sim_meaning.specs.Levels.{has_levels}
 use Rattle.sim_meaning.specs.Pending.{Declared}
 use Rattle.sim_meaning.specs.Pending as meaning
 use Rattle.sim_meaning.specs.Texts.{text}
 use Rattle.codegen_expr.specs.Sites.{block_in_front, block_of_text, cells_in, class_in, class_number, hidden_in, innermost, is_connected, outer, own_part, place_of, prefix_of, slot_of, start_of, types_in}
-use Rattle.codegen.specs.Agrees.{Ends, before, last}
-use Rattle.codegen.specs.Compiled.{code_formal, parameters_of}
-use Rattle.sim_relate.proofs.ClassTexts.{ClassHas, class_has, class_unconnected}
+use Rattle.codegen.specs.Agrees.{Agrees, Ends, before, last}
+use Rattle.codegen.specs.Compiled.{Compiled, code_formal}
+use Rattle.sim_relate.proofs.ClassLevels.{levels_solid, number_is, numbered}
+use Rattle.sim_relate.proofs.ClassTexts.{ClassHas, class_has}
 use Rattle.sim_relate.proofs.Known.{is_constant, is_fixed}
 use Rattle.sim_relate.proofs.Layouts.{less_or}
 use Rattle.sim_relate.proofs.LevelCells.{FormalCell}
+use Rattle.sim_relate.proofs.LevelCode.{front_has}
 use Rattle.sim_relate.proofs.LevelLists.{base_front, solid_front}
 use Rattle.sim_relate.proofs.Parameters.{AllFormal}
-use Rattle.sim_relate.proofs.Plainly.{Agrees, Coding, agreed}
 use Rattle.sim_relate.proofs.Reach.{if_false, if_true, same_some}
 use Rattle.sim_relate.proofs.Slots.{less_true, place_first, same_is, same_self}
 
@@ -114,9 +115,9 @@ module _ (s : Source) where
     pub varies : is_fixed s (Declared d.0) ≡ false
 
   module _ (agrees : Agrees s) where
-    numbered : (k : ℕ) (o : Option scope.BlockOf) → slice_get s.tables.blocks k ≡ o → (n : ℕ) (d : DeclNo) → slice_get (formals_in o) n ≡ Some d → (place_of (Declared d.0) (cells_from s (numbers_in o)) ≡ n) × (n < length (cells_from s (numbers_in o))) × (is_fixed s (Declared d.0) ≡ false)
-    numbered k None e n d is = absurd (cc)
-    numbered k (Some row) e n d is =
+    numbered_so : (k : ℕ) (o : Option scope.BlockOf) → slice_get s.tables.blocks k ≡ o → (n : ℕ) (d : DeclNo) → slice_get (formals_in o) n ≡ Some d → (place_of (Declared d.0) (cells_from s (numbers_in o)) ≡ n) × (n < length (cells_from s (numbers_in o))) × (is_fixed s (Declared d.0) ≡ false)
+    numbered_so k None e n d is = absurd (cc)
+    numbered_so k (Some row) e n d is =
         let all : AllFormal s (take row.formals row.numbers) = λ n d f. agrees.formals k n d (ap (λ z. slice_get (formals_in z) n) e ∙ f) in
         let once : Once row.numbers = λ n m d f g. agrees.once k n m d (ap (λ z. slice_get (numbers_in z) n) e ∙ f) (ap (λ z. slice_get (numbers_in z) m) e ∙ g) in
         let c = all n d is in
@@ -126,7 +127,7 @@ module _ (s : Source) where
 
     pub own_formal : (k n : ℕ) (d : DeclNo) → slice_get (formals_in (slice_get s.tables.blocks k)) n ≡ Some d → OwnFormal k n d
     own_formal k n d e =
-        let r = numbered k (slice_get s.tables.blocks k) refl n d e in
+        let r = numbered_so k (slice_get s.tables.blocks k) refl n d e in
         record { place = r.0; within = r.1; varies = r.2 }
 
     -- ---- the formal parameters of all levels
@@ -187,15 +188,15 @@ module _ (s : Source) where
 
 -- ---- code finds their cells
 
-module _ (s : Source) (code : CodeOf) (compiled : Coding s code) where
+module _ (s : Source) (code : CodeOf) (compiled : Compiled s code) where
   agrees : Agrees s
-  agrees = agreed s code compiled
+  agrees = compiled.agrees
 
   -- how many formal parameters the record of a class has
   pub formals_many : (k : ℕ) (x : ClassHas s code k) → is_connected s.tables k ≡ false → length x.block.formals ≡ length (class_formals s.tables k)
   formals_many k x c =
       let heads = x.has.heads in
-      let f = ap length (heads.formals ∙ ap (λ z. map code_formal (parameters_of s k z)) x.is) in
+      let f = ap length (heads.formals ∙ ap (map code_formal) x.parameters) in
       let p = length-map (class_parameters s (Some k)) code_formal in
       let q = parameters_count s agrees k c in
       omega (arith, f, p, q)
@@ -205,7 +206,7 @@ module _ (s : Source) (code : CodeOf) (compiled : Coding s code) where
   unfolding slot_of
   own_cell k x place m n d e at =
       let o = own_formal s agrees k n d e in
-      let cells : cells_in s k (text s k) ≡ cells_from s (numbers_of s k) = ap (cells_in s k) x.is in
+      let cells : cells_in s k (text s k) ≡ cells_from s (numbers_of s k) = x.cells in
       let here : place_of (Declared d.0) (cells_in s k (text s k)) ≡ n = ap (place_of (Declared d.0)) cells ∙ o.place in
       let within = o.within in
       let many = ap length cells in
@@ -242,13 +243,6 @@ module _ (s : Source) (code : CodeOf) (compiled : Coding s code) where
       let there = ap (class_numbered code) (sym zero) ∙ x.has.is.numbered in
       absurd (cc (there))
 
-  number_is : (k : ℕ) (x : ClassHas s code k) → class_number s code k ≡ x.block.class
-  unfolding class_number
-  number_is k x = ap class_in x.found
-
-  numbered_is : (k : ℕ) (x : ClassHas s code k) → class_numbered code (class_number s code k) ≡ Some x.has.class
-  numbered_is k x = ap (class_numbered code) (number_is k x) ∙ x.has.is.numbered
-
   -- what is in front of a class without a prefix, and of one with a prefix
   no_prefix : (k : ℕ) (x : ClassHas s code k) → prefix_of s.tables k ≡ None → x.has.class.prefix ≡ 0
   unfolding block_in_front
@@ -272,23 +266,23 @@ module _ (s : Source) (code : CodeOf) (compiled : Coding s code) where
   formal_by : {n k : ℕ} → Ends s.tables n k → (x : ClassHas s code k) → (bound : ℕ) → class_number s code k ≤ bound → (m : ℕ) (d : DeclNo) → slice_get (class_formals s.tables k) m ≡ Some d → FormalCell s code k (λ z. parameter_within bound code (class_number s code k) z) m d
   formal_by {k = k} e x zero le m d f = absurd (no_class k x le)
   formal_by (last {k = k} e) x (suc bound) le m d f =
-      let connected = class_unconnected s agrees k (ap is_class x.is) in
+      let connected = levels_solid s code compiled k x.levels in
       let own : slice_get (formals_in (slice_get s.tables.blocks k)) m ≡ Some d = sym (ap (λ z. slice_get z m) (formals_first s agrees k connected e)) ∙ f in
       own_cell k x (λ z. parameter_within (suc bound) code (class_number s code k) z) m m d own
-      (ap (parameter_by (λ p. parameter_within bound code p m) code m) (numbered_is k x)
+      (ap (parameter_by (λ p. parameter_within bound code p m) code m) (numbered s code compiled k x)
       ∙ ap (λ p. own_or_outer (parameter_within bound code p m) m (code_levels.in_front code p)) (no_prefix k x e)
       ∙ by_own (parameter_within bound code 0 m) m 0 0 (omega arith)
       ∙ ap Some (no_start k m e))
   formal_by (before {n = n} {k = k} {u = u} e more) x (suc bound) le m d f =
-      let connected = class_unconnected s agrees k (ap is_class x.is) in
-      let there = class_has s code compiled u (agrees.prefixes k u e).class in
-      let many = formals_many u there (class_unconnected s agrees u (ap is_class there.is)) in
-      let front = class_front (class_number s code u) there.has.class there.block (numbered_is u there) (ap (slice_get code.blocks) there.has.is.of_block ∙ there.found) in
+      let connected = levels_solid s code compiled k x.levels in
+      let there = front_has s code compiled k u e in
+      let many = formals_many u there (levels_solid s code compiled u there.levels) in
+      let front = class_front (class_number s code u) there.has.class there.block (numbered s code compiled u there) (ap (slice_get code.blocks) there.has.is.of_block ∙ there.found) in
       let prefix = prefix_is k x u e in
-      let number = number_is k x in
+      let number = number_is s code compiled k x in
       let lower = x.has.is.lower in
       let both = formals_behind s agrees k connected u e in
-      let by_class = ap (parameter_by (λ p. parameter_within bound code p m) code m) (numbered_is k x)
+      let by_class = ap (parameter_by (λ p. parameter_within bound code p m) code m) (numbered s code compiled k x)
       ∙ ap (λ p. own_or_outer (parameter_within bound code p m) m (code_levels.in_front code p)) prefix
       ∙ ap (own_or_outer (parameter_within bound code (class_number s code u) m) m) front in
       less_or m (length (class_formals s.tables u))
@@ -302,6 +296,6 @@ module _ (s : Source) (code : CodeOf) (compiled : Coding s code) where
       (by_class ∙ by_own (parameter_within bound code (class_number s code u) m) m (length there.block.types) (length there.block.formals) (omega (arith, past, many))
       ∙ ap Some (start_is k u e there m (length there.block.formals) many)))
 
-  pub formal_cell : (k : ℕ) → is_class (text s k) ≡ true → (m : ℕ) (d : DeclNo) → slice_get (class_formals s.tables k) m ≡ Some d → FormalCell s code k (parameter_cell code (class_number s code k)) m d
+  pub formal_cell : (k : ℕ) → has_levels (text s k) ≡ true → (m : ℕ) (d : DeclNo) → slice_get (class_formals s.tables k) m ≡ Some d → FormalCell s code k (parameter_cell code (class_number s code k)) m d
   unfolding parameter_cell
   formal_cell k e m d f = let le : class_number s code k ≤ class_number s code k = omega arith in formal_by (agrees.ends k) (class_has s code compiled k e) (class_number s code k) le m d f

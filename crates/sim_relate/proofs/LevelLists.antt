@@ -10,8 +10,7 @@ use Rattle.sim_meaning.specs.Levels.{both, is_class, level_made, levels_beyond, 
 use Rattle.sim_meaning.specs.Pending.{Level}
 use Rattle.sim_meaning.specs.Texts.{BlockText, ClassText, ConnectionText, PrefixedText, ProcedureText, StandardText, Text, text}
 use Rattle.codegen_expr.specs.Sites.{LevelOf, connects, in_front, innermost, is_connected, is_connection, outer, prefix_of}
-use Rattle.codegen.specs.Agrees.{Ends, before, last}
-use Rattle.sim_relate.proofs.Plainly.{Agrees}
+use Rattle.codegen.specs.Agrees.{Agrees, Ends, before, last}
 
 -- ---- lists
 
@@ -112,7 +111,7 @@ level_text s k (Some (ClassText prefix h ds ss)) y e = by (has_standard s.tables
     by false e = let f = e in ap (λ z. z.text) (sym (some_is f))
 level_text s k (Some (PrefixedText class arguments ds ss)) y e = by (has_standard s.tables k) e
   where
-    by : (c : Bool) → unless_standard c (record { text = k; declarations = ds; statements = ss; inner_last = false }) ≡ Some y → y.text ≡ k
+    by : (c : Bool) → unless_standard c (record { text = k; declarations = ds; statements = ss; inner_last = true }) ≡ Some y → y.text ≡ k
     by true e = absurd (cc)
     by false e = let f = e in ap (λ z. z.text) (sym (some_is f))
 level_text s k (Some ConnectionText) y e = absurd (cc)

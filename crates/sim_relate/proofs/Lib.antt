@@ -7,7 +7,6 @@ pub mod Carried
 pub mod Lists
 pub mod Slots
 pub mod Standards
-pub mod Plainly
 pub mod Frames
 pub mod Layouts
 pub mod Parameters
@@ -38,7 +37,9 @@ pub mod Actuals
 pub mod DeclaredArrays
 pub mod Ends
 pub mod Stages
+pub mod LevelEntries
 pub mod Generated
+pub mod PrefixedEntries
 pub mod Roomy
 pub mod References
 pub mod Fitting
@@ -63,4 +64,5 @@ pub mod ExampleProcedure
 pub mod ExampleBlock
 pub mod ExampleTexts
 pub mod ExampleObjects
+pub mod ExamplePrefix
 pub mod Examples

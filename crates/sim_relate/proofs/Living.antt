@@ -8,7 +8,7 @@ use Rattle.sim_code.specs.Instances.{Instance, Memory, at_level, entered, found_
 use Rattle.sim_meaning.specs.Pending.{Instances}
 use Rattle.sim_meaning.specs.Sane.{Lives, lives_alone, lives_inside}
 use Rattle.codegen_expr.specs.Sites.{Inside}
-use Rattle.sim_relate.proofs.Plainly.{Agrees}
+use Rattle.codegen.specs.Agrees.{Agrees}
 use Rattle.sim_relate.proofs.Heads.{is_live_at, lives_in}
 use Rattle.sim_relate.proofs.Lists.{append_at, append_before}
 use Rattle.sim_relate.proofs.Reach.{equal_numbers, if_true, is_there, reach}

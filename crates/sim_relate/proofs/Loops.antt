@@ -40,7 +40,7 @@ use Rattle.sim_meaning.specs.Steps.{go}
 use Rattle.sim_meaning.specs.Texts.{text}
 use Rattle.codegen_expr.specs.Sites.{Inside, Is, Site, HasCell, Pushes, slot_of, frame_text, own_end}
 use Rattle.codegen_expr.specs.CodeExpr.{ExprAt, PlaceAt}
-use Rattle.sim_relate.proofs.Plainly.{Agrees}
+use Rattle.codegen.specs.Agrees.{Agrees}
 use Rattle.codegen.specs.CodeFor.{OfCell, OfPlace, OfReference, PutsAt, TakesValues, variable_of, variable_stored, ElementsAt, ForAt, ListAt, LoadsVariable, OneElementAt, SharedAt, StoresVariable, Variable, is_empty, GivesVariable, assigned_by}
 use Rattle.codegen.specs.CodeLeft.{AtAddress, AtAttribute, InCell, NotBuilt, Stored, ToReference, ToResult, ToText, stored_declared, stored_element, stored_formal, stored_found, stored_left, stored_named, stored_result, stored_variable}
 use Rattle.codegen.specs.CodeStm.{StmAt}

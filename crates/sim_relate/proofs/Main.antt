@@ -1,8 +1,8 @@
 -- Where control has come to what is pending, the machine follows the program: both make a step, or the program one that shows nothing.
-use Rattle.std.proofs.Common.{◌≡◌, ◌<◌, ◌≤◌, ℕ, zero, suc, Option, Some, None, Bool, true, false, List, [], ◌∷◌, length, refl, sym, ap, ◌∙◌, subst, arith}
+use Rattle.std.proofs.Common.{◌≡◌, ◌<◌, ◌≤◌, ℕ, Bool, List, [], ◌∷◌, length, refl, sym, ap, ◌∙◌, subst, arith}
 use Rattle.std.specs.Prelude.{pos}
 use Rattle.sim_base.specs.declared.limits.Limits.{Limits}
-use Rattle.sim_scope.specs.Source.{Source, block_around, level_of, line_at}
+use Rattle.sim_scope.specs.Source.{Source, level_of}
 use Rattle.sim_tree.specs.Syntax.{Also, Element, NoStatement, Statement, Statements}
 use Rattle.sim_tree.specs.Syntax as syntax
 use Rattle.sim_code.specs.declared.instr.Instr.TheVariants as i
@@ -14,16 +14,12 @@ use Rattle.sim_code.specs.Machine as machine
 use Rattle.sim_code.specs.Rows.{mstep, on_top}
 use Rattle.sim_code.proofs.Simulation.{Alike, unruled}
 use Rattle.sim_meaning.specs.Meaning.{do_op, has_result, step}
-use Rattle.sim_meaning.specs.Pending.{Activation, AgainOp, ArrayOp, AttributeOf, AttributeOp, BackOp, BranchOp, CallOf, CallOp, Cell, ChooseOp, Configuration, ConnectOp, CopyOf, CopyOp, DeclareOp, Do, DropOp, Either, ElementOf, ElementOp, ElementsOp, EndBlock, EndLevel, EndObject, EndProcedure, EndProgram, EnterOp, Eval, Exec, Execs, FetchOp, FitsOf, FitsOp, Given, GiveOp, IfOp, ImageOf, Instances, Item, Joined, JoinOp, KeepOp, KeptOf, MemberOf, MemberOp, NewOf, NewOp, ObjectOp, One, OneOp, Op, PastOp, PlaceOf, QualifiedElementOf, QualifiedElementOp, QualifiedPlaceOf, QuaOf, QuaOp, RaiseOp, ReferOp, RemoteCallOf, ShareOp, StandardOf, StandardOp, StepOp, StepTestOp, StoreOp, SwapOp, Target, Term, Terms, TestOp, ToAddress, ToCell, ToPlace, ToReference, ToReferenceAt, ToText, ToTextAt, ToTextOf, Two, TwoOp, Unbuilt, Val, ValueAt, WhenOp, WhileElementOp}
+use Rattle.sim_meaning.specs.Pending.{Activation, AgainOp, ArrayOp, AttributeOf, AttributeOp, BackOp, BranchOp, CallOf, CallOp, Cell, ChooseOp, Configuration, ConnectOp, CopyOf, CopyOp, DeclareOp, Do, DropOp, Either, ElementOf, ElementOp, ElementsOp, EndBlock, EndLevel, EndObject, EndPrefixed, EndProcedure, EndProgram, EnterOp, Eval, Exec, Execs, FetchOp, FitsOf, FitsOp, Given, GiveOp, IfOp, ImageOf, Instances, Item, Joined, JoinOp, KeepOp, KeptOf, MemberOf, MemberOp, NewOf, NewOp, ObjectOp, One, OneOp, Op, PastOp, PlaceOf, PrefixedOp, QualifiedElementOf, QualifiedElementOp, QualifiedPlaceOf, QuaOf, QuaOp, RaiseOp, ReferOp, RemoteCallOf, ShareOp, StandardOf, StandardOp, StepOp, StepTestOp, StoreOp, SwapOp, Target, Term, Terms, TestOp, ToAddress, ToCell, ToPlace, ToReference, ToReferenceAt, ToText, ToTextAt, ToTextOf, Two, TwoOp, Unbuilt, Val, ValueAt, WhenOp, WhileElementOp}
 use Rattle.sim_meaning.specs.Entries.{arrays_declared}
-use Rattle.sim_meaning.specs.Statements.{begin_of}
 use Rattle.sim_meaning.specs.Steps.{count}
-use Rattle.sim_meaning.specs.Texts.{text}
 use Rattle.sim_meaning.specs.Sane.{NamesOn, Sane, SaneOn}
 use Rattle.codegen_expr.specs.Sites.{frame_text, own_end}
-use Rattle.codegen.specs.Agrees.{is_prefixed}
-use Rattle.codegen.specs.CodeStm.{PrefixedAt}
-use Rattle.sim_relate.proofs.Plainly.{Coding, agreed}
+use Rattle.codegen.specs.Compiled.{Compiled}
 use Rattle.sim_relate.proofs.Assigns as assigns
 use Rattle.sim_relate.proofs.Calls as calls
 use Rattle.sim_relate.proofs.Connections as connections
@@ -40,6 +36,7 @@ use Rattle.sim_relate.proofs.Living.{reached}
 use Rattle.sim_relate.proofs.Loops as loops
 use Rattle.sim_relate.proofs.Operators as operators
 use Rattle.sim_relate.proofs.Pending.{each_pends, pends}
+use Rattle.sim_relate.proofs.PrefixedEntries as prefixed
 use Rattle.sim_relate.proofs.Quiet.{arrays_weight, each_weight, weight}
 use Rattle.sim_relate.proofs.Quiet as quiet_steps
 use Rattle.sim_relate.proofs.Known.{Any, FixedOf, Kind, LinkTo, Located, OwnerOf, Refers, anys, given, more_at, site_at, text_gives, Runs, Spot}
@@ -57,7 +54,7 @@ pub data MovesNow (s : Source) (code : CodeOf) (l : Limits) (o : World) (c : Con
   several : Meets (mstep code l) (InEach (StateAt s code)) (step s l o c) o x → MovesNow s code l o c x
   quiet : (c' : Configuration) → step s l o c ≡ Going o c' → StateAt s code c' x → weight s c' < weight s c → MovesNow s code l o c x
 
-module _ (s : Source) (code : CodeOf) (compiled : Coding s code) (l : Limits) (o : World) (m : Instances) (inst : ℕ) (w : List Item) (vals : List Val) (rest : List Activation) (fs : Frames) (t : ℕ) (b : Runs) (pc : ℕ) (stack : List Value) (below : List machine.Activation) (ks : List Kind) (here : Here s code m fs inst rest t b ks vals stack) (u q : ℕ) (ks' : List Kind) (low : own_end s code (frame_text s t) ≤ u) (k : WorkAt s code m fs (λ v. ChainAt s code m fs rest v below) inst t b u w q ks') where
+module _ (s : Source) (code : CodeOf) (compiled : Compiled s code) (l : Limits) (o : World) (m : Instances) (inst : ℕ) (w : List Item) (vals : List Val) (rest : List Activation) (fs : Frames) (t : ℕ) (b : Runs) (pc : ℕ) (stack : List Value) (below : List machine.Activation) (ks : List Kind) (here : Here s code m fs inst rest t b ks vals stack) (u q : ℕ) (ks' : List Kind) (low : own_end s code (frame_text s t) ≤ u) (k : WorkAt s code m fs (λ v. ChainAt s code m fs rest v below) inst t b u w q ks') where
   abbrev Below : Bool → Type 0
   Below v = ChainAt s code m fs rest v below
 
@@ -129,41 +126,32 @@ module _ (s : Source) (code : CodeOf) (compiled : Coding s code) (l : Limits) (o
   eval_moves (KeptOf x) a = quiet _ refl (stands_so _ (quiet_steps.kept_opened s code m fs Below inst t b u low w pc q ks ks' k x a)) (omega arith)
   eval_moves Unbuilt a = both unruled
 
-  -- no block has a prefix
-  no_prefix : (es : syntax.Expressions) (line : ℕ) (o : Option ℕ) (p : ℕ) → PrefixedAt s code (site_at t b u) (length ks) line es o p q → ⊥
-  no_prefix es line None p a = a
-  no_prefix es line (Some zero) p a = a
-  no_prefix es line (Some (suc n)) p a = two_ways (is_prefixed (text s (suc n))) a.is ((agreed s code compiled).flat.blocks (suc n))
-    where
-      two_ways : (c : Bool) → c ≡ true → c ≡ false → ⊥
-      two_ways c e f = cc
-
   statement_moves : (x : Statement) → Follows (Exec x)
   statement_moves (syntax.Empty token) a = quiet _ refl (stands_so w (quiet_steps.empty_begun s code m fs Below inst t b u low w pc q ks ks' k token a)) (omega arith)
-  statement_moves (syntax.Compound x) a = both (statements.compound_statement s code l (agreed s code compiled) o m inst w vals rest fs t b pc stack below ks here u q ks' low k x a)
-  statement_moves (syntax.Call e) a = both (statements.call_statement s code l (agreed s code compiled) o m inst w vals rest fs t b pc stack below ks here u q ks' low k e a)
-  statement_moves (syntax.Assign left rs) a = both (statements.assign_statement s code l (agreed s code compiled) o m inst w vals rest fs t b pc stack below ks here u q ks' low k left rs a)
-  statement_moves (syntax.Choose token c x y) a = both (statements.choose_statement s code l (agreed s code compiled) o m inst w vals rest fs t b pc stack below ks here u q ks' low k token c x y a)
-  statement_moves (syntax.Repeat token c x) a = both (statements.repeat_statement s code l (agreed s code compiled) o m inst w vals rest fs t b pc stack below ks here u q ks' low k token c x a)
-  statement_moves (syntax.For token x sign assign es y) a = both (loops.for_statement s code l (agreed s code compiled) o m inst w vals rest fs t b pc stack below ks here u q ks' low k token x sign assign es y a)
-  statement_moves (syntax.Prefixed class arguments x) a = absurd (no_prefix arguments (line_at s class.token.0) (block_around s (begin_of x)) (a.0).0 (a.0).2)
+  statement_moves (syntax.Compound x) a = both (statements.compound_statement s code l compiled.agrees o m inst w vals rest fs t b pc stack below ks here u q ks' low k x a)
+  statement_moves (syntax.Call e) a = both (statements.call_statement s code l compiled.agrees o m inst w vals rest fs t b pc stack below ks here u q ks' low k e a)
+  statement_moves (syntax.Assign left rs) a = both (statements.assign_statement s code l compiled.agrees o m inst w vals rest fs t b pc stack below ks here u q ks' low k left rs a)
+  statement_moves (syntax.Choose token c x y) a = both (statements.choose_statement s code l compiled.agrees o m inst w vals rest fs t b pc stack below ks here u q ks' low k token c x y a)
+  statement_moves (syntax.Repeat token c x) a = both (statements.repeat_statement s code l compiled.agrees o m inst w vals rest fs t b pc stack below ks here u q ks' low k token c x a)
+  statement_moves (syntax.For token x sign assign es y) a = both (loops.for_statement s code l compiled.agrees o m inst w vals rest fs t b pc stack below ks here u q ks' low k token x sign assign es y a)
+  statement_moves (syntax.Prefixed class es x) a = both (statements.prefixed_statement s code l compiled.agrees o m inst w vals rest fs t b pc stack below ks here u q ks' low k class es x a)
   statement_moves (syntax.Inner token) a = absurd (a.0)
-  statement_moves (syntax.Inspect token e opening x end other) a = both (statements.inspect_statement s code l (agreed s code compiled) o m inst w vals rest fs t b pc stack below ks here u q ks' low k token e opening x end other a)
-  statement_moves (syntax.InspectWhen token e arms other) a = both (statements.inspect_when_statement s code l (agreed s code compiled) o m inst w vals rest fs t b pc stack below ks here u q ks' low k token e arms other a)
+  statement_moves (syntax.Inspect token e opening x end other) a = both (statements.inspect_statement s code l compiled.agrees o m inst w vals rest fs t b pc stack below ks here u q ks' low k token e opening x end other a)
+  statement_moves (syntax.InspectWhen token e arms other) a = both (statements.inspect_when_statement s code l compiled.agrees o m inst w vals rest fs t b pc stack below ks here u q ks' low k token e arms other a)
   statement_moves (syntax.Activate token word e schedule) a = absurd (a.0)
 
   elements_move : (x : Target) (es : List Element) (y : Statement) → Follows (ElementsOp x es y)
-  elements_move x [] y a = quiet _ refl (stands_so w (loops.none_rests s code l (agreed s code compiled) o m inst w vals rest fs t b pc stack below ks here u q ks' low k x y a)) (omega arith)
-  elements_move x (syntax.Once e ∷ es) y a = both (loops.once s code l (agreed s code compiled) o m inst w vals rest fs t b pc stack below ks here u q ks' low k x e es y a)
-  elements_move x (syntax.While e token c ∷ es) y a = quiet _ refl (stands_so _ (loops.while_rests s code l (agreed s code compiled) o m inst w vals rest fs t b pc stack below ks here u q ks' low k x e token c es y a)) (omega arith)
-  elements_move x (syntax.Step first token by limit ∷ es) y a = quiet _ refl (stands_so _ (loops.step_rests s code l (agreed s code compiled) o m inst w vals rest fs t b pc stack below ks here u q ks' low k x first token by limit es y a)) (omega arith)
+  elements_move x [] y a = quiet _ refl (stands_so w (loops.none_rests s code l compiled.agrees o m inst w vals rest fs t b pc stack below ks here u q ks' low k x y a)) (omega arith)
+  elements_move x (syntax.Once e ∷ es) y a = both (loops.once s code l compiled.agrees o m inst w vals rest fs t b pc stack below ks here u q ks' low k x e es y a)
+  elements_move x (syntax.While e token c ∷ es) y a = quiet _ refl (stands_so _ (loops.while_rests s code l compiled.agrees o m inst w vals rest fs t b pc stack below ks here u q ks' low k x e token c es y a)) (omega arith)
+  elements_move x (syntax.Step first token by limit ∷ es) y a = quiet _ refl (stands_so _ (loops.step_rests s code l compiled.agrees o m inst w vals rest fs t b pc stack below ks here u q ks' low k x first token by limit es y a)) (omega arith)
 
   -- the arrays of a level are declared
   declare_moves : (ds : syntax.Declarations) → Follows (DeclareOp ds)
   declare_moves ds a =
       let e = arrays_weight s m inst ds w in
       quiet _ refl (stands_so _ (subst (λ z. WorkAt s code m fs Below inst t b u (arrays_declared s m inst ds w) pc z) (sym a.1)
-      (arrays_at s code (agreed s code compiled) m fs Below inst t b u low here.stands here.lives w ds pc q a.0 (subst (λ z. WorkAt s code m fs Below inst t b u w q z) a.2 k)))) (omega (arith, e))
+      (arrays_at s code compiled.agrees m fs Below inst t b u low here.stands here.lives w ds pc q a.0 (subst (λ z. WorkAt s code m fs Below inst t b u w q z) a.2 k)))) (omega (arith, e))
 
   -- a step that is followed at once, or in several steps
   followed : {op : Op} → ranked.Follows (mstep code l) (StateAt s code) (do_op s l o m inst w vals rest op) o machine_here → MovesNow s code l o (record { chain = record { instance = inst; work = Do op ∷ w; values = vals } ∷ rest; memory = m }) machine_here
@@ -208,17 +196,18 @@ module _ (s : Source) (code : CodeOf) (compiled : Coding s code) (l : Limits) (o
   op_moves (Execs NoStatement) a = quiet _ refl (stands_so w (quiet_steps.none_begun s code m fs Below inst t b u low w pc q ks ks' k a)) (omega arith)
   op_moves (Execs (Also x more)) a = quiet _ refl (stands_so _ (quiet_steps.also_begun s code m fs Below inst t b u low w pc q ks ks' k x more a)) (omega arith)
   op_moves (EnterOp c line) a = both (entries.enter s code compiled l o m inst w vals rest fs t b pc stack below ks here u q ks' low k c line a)
-  op_moves (ChooseOp x y) a = both (statements.chosen_statement s code l (agreed s code compiled) o m inst w vals rest fs t b pc stack below ks here u q ks' low k x y a)
-  op_moves (TestOp c x) a = both (statements.test s code l (agreed s code compiled) o m inst w vals rest fs t b pc stack below ks here u q ks' low k c x a)
-  op_moves (BranchOp x next) a = both (statements.branch s code l (agreed s code compiled) o m inst w vals rest fs t b pc stack below ks here u q ks' low k x next a)
-  op_moves (BackOp op) a = both (statements.back s code l (agreed s code compiled) o m inst w vals rest fs t b pc stack below ks here u q ks' low k op a)
+  op_moves (ChooseOp x y) a = both (statements.chosen_statement s code l compiled.agrees o m inst w vals rest fs t b pc stack below ks here u q ks' low k x y a)
+  op_moves (TestOp c x) a = both (statements.test s code l compiled.agrees o m inst w vals rest fs t b pc stack below ks here u q ks' low k c x a)
+  op_moves (BranchOp x next) a = both (statements.branch s code l compiled.agrees o m inst w vals rest fs t b pc stack below ks here u q ks' low k x next a)
+  op_moves (BackOp op) a = both (statements.back s code l compiled.agrees o m inst w vals rest fs t b pc stack below ks here u q ks' low k op a)
   op_moves PastOp a = both (operators.past s code l o m inst w vals rest fs t b pc stack below ks here u q ks' low k a)
   op_moves (ElementsOp x es y) a = elements_move x es y a
-  op_moves (WhileElementOp x e c y) a = both (loops.while_element s code l (agreed s code compiled) o m inst w vals rest fs t b pc stack below ks here u q ks' low k x e c y a)
-  op_moves (StepTestOp x line by limit y) a = both (loops.step_tested s code l (agreed s code compiled) o m inst w vals rest fs t b pc stack below ks here u q ks' low k x line by limit y a)
-  op_moves (StepOp line) a = both (loops.step_test_op s code l (agreed s code compiled) o m inst w vals rest fs t b pc stack below ks here u q ks' low k line a)
-  op_moves (RaiseOp x line by limit y) a = quiet _ refl (stands_so _ (loops.raise_rests s code l (agreed s code compiled) o m inst w vals rest fs t b pc stack below ks here u q ks' low k x line by limit y a)) (omega arith)
+  op_moves (WhileElementOp x e c y) a = both (loops.while_element s code l compiled.agrees o m inst w vals rest fs t b pc stack below ks here u q ks' low k x e c y a)
+  op_moves (StepTestOp x line by limit y) a = both (loops.step_tested s code l compiled.agrees o m inst w vals rest fs t b pc stack below ks here u q ks' low k x line by limit y a)
+  op_moves (StepOp line) a = both (loops.step_test_op s code l compiled.agrees o m inst w vals rest fs t b pc stack below ks here u q ks' low k line a)
+  op_moves (RaiseOp x line by limit y) a = quiet _ refl (stands_so _ (loops.raise_rests s code l compiled.agrees o m inst w vals rest fs t b pc stack below ks here u q ks' low k x line by limit y a)) (omega arith)
   op_moves (NewOp c n line) a = both (generated.new_op s code compiled l o m inst w vals rest fs t b pc stack below ks here u q ks' low k c n line a)
+  op_moves (PrefixedOp c n line) a = both (prefixed.prefixed_op s code compiled l o m inst w vals rest fs t b pc stack below ks here u q ks' low k c n line a)
   op_moves (AttributeOp text key class line) a = both (references.attribute s code compiled l o m inst w vals rest fs t b pc stack below ks here u q ks' low k text key class line a)
   op_moves (ObjectOp c line) a = both (references.object s code compiled l o m inst w vals rest fs t b pc stack below ks here u q ks' low k c line a)
   op_moves (QualifiedElementOp n line c) a = both (references.qualified_element s code compiled l o m inst w vals rest fs t b pc stack below ks here u q ks' low k n line c a)
@@ -233,7 +222,7 @@ module _ (s : Source) (code : CodeOf) (compiled : Coding s code) (l : Limits) (o
   op_moves (DeclareOp ds) a = declare_moves ds a
   op_moves _ a = absurd a
 
-module _ (s : Source) (code : CodeOf) (compiled : Coding s code) (l : Limits) (o : World) where
+module _ (s : Source) (code : CodeOf) (compiled : Compiled s code) (l : Limits) (o : World) where
   abbrev Moves : Configuration → Machine → Type 0
   Moves c x = MovesNow s code l o c x
 
@@ -270,8 +259,8 @@ module _ (s : Source) (code : CodeOf) (compiled : Coding s code) (l : Limits) (o
   work_moves m inst (EndProcedure leaves ∷ w) vals rest fs t b pc stack below ks used here a = both (ends.end_procedure s code compiled l o m inst w vals rest fs t b pc stack below ks here used leaves a)
   work_moves m inst (EndProgram ∷ w) vals rest fs t b pc stack below ks used here a = both (ends.end_program s code compiled l o m inst w vals rest fs t b pc stack below ks here used a)
   work_moves m inst (EndObject ∷ w) vals rest fs t b pc stack below ks used here a = both (ends.end_object s code compiled l o m inst w vals rest fs t b pc stack below ks here used a)
+  work_moves m inst (EndPrefixed ∷ w) vals rest fs t b pc stack below ks used here a = both (ends.end_prefixed s code compiled l o m inst w vals rest fs t b pc stack below ks here used a)
   work_moves m inst (EndLevel level ∷ w) vals rest fs t b pc stack below ks used here a = both (stages.end_level s code l compiled o m inst w vals rest fs t b pc stack below ks here level a.0 a.1 a.2 a.3)
-  work_moves m inst (_ ∷ w) vals rest fs t b pc stack below ks used here a = absurd a
 
   chain_moves : (m : Instances) (chain : List Activation) (fs : Frames) (acts : List machine.Activation) → StoreAt s code m fs → StandingsAt s code m fs → SaneOn m chain → NamesOn s m chain → ChainNow s code m fs chain acts → Moves (record { chain = chain; memory = m }) (record { chain = acts; memory = fs })
   chain_moves m [] fs [] store parked sane names c = both (entries.first_alike s code compiled l o m fs store parked)

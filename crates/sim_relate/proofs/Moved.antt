@@ -4,7 +4,7 @@ use Rattle.sim_scope.specs.Source.{Source}
 use Rattle.sim_code.specs.Code.{CodeOf}
 use Rattle.sim_code.specs.Machine.{Frames, Value}
 use Rattle.sim_code.specs.Machine as machine
-use Rattle.sim_meaning.specs.Pending.{Activation, Do, EndBlock, EndLevel, EndObject, EndProcedure, EndProgram, Instances, Item, Val}
+use Rattle.sim_meaning.specs.Pending.{Activation, Do, EndBlock, EndLevel, EndObject, EndPrefixed, EndProcedure, EndProgram, Instances, Item, Val}
 use Rattle.sim_meaning.specs.Sane.{AllKept, AllOf}
 use Rattle.codegen_expr.specs.Sites.{frame_text, own_end}
 use Rattle.sim_relate.proofs.Known.{HandAt, Kind, StackAt, placed, Runs}
@@ -28,8 +28,8 @@ module _ (s : Source) (code : CodeOf) where
   work_more m fs Below inst t b u u' le (EndProcedure v ∷ w) p ks a = (a.0, comes_more fs inst t b u u' (length ks) a.0 p le a.1, a.2)
   work_more m fs Below inst t b u u' le (EndProgram ∷ w) p ks a = (a.0, comes_more fs inst t b u u' (length ks) a.0 p le a.1, a.2)
   work_more m fs Below inst t b u u' le (EndObject ∷ w) p ks a = (a.0, comes_more fs inst t b u u' (length ks) a.0 p le a.1, a.2)
+  work_more m fs Below inst t b u u' le (EndPrefixed ∷ w) p ks a = (a.0, comes_more fs inst t b u u' (length ks) a.0 p le a.1, a.2)
   work_more m fs Below inst t b u u' le (EndLevel k ∷ w) p ks a = (a.0, a.1, a.2, comes_more fs inst t b u u' (length ks) a.0 p le a.3, a.4, a.5)
-  work_more m fs Below inst t b u u' le (_ ∷ w) p ks a = absurd a
 
   module _ {Of : ℕ → Type 0} {m m' : Instances} {fs fs' : Frames} (x : Changed s code Of m fs m' fs') where
     -- where both sides stand then

@@ -1,26 +1,24 @@
--- The work of a new object: the declarations of all its levels, then the statements of the outermost one, and its end.
-use Rattle.std.proofs.Common.{◌≡◌, ◌≢◌, ◌<◌, ◌≤◌, ℕ, suc, Bool, true, false, List, [], ◌∷◌, length, Some, refl, ap, ◌∙◌, subst, arith}
-use Rattle.std.specs.Prelude.{drop, slice_get}
+-- The work of a new object or prefixed block: the declarations of all its levels, then the statements of the outermost one, and its end.
+use Rattle.std.proofs.Common.{◌≡◌, ◌<◌, ◌≤◌, ℕ, suc, Bool, true, List, [], ◌∷◌, length, Some, refl, ap, ◌∙◌, subst, arith}
+use Rattle.std.specs.Prelude.{drop, pos, slice_get}
 use Rattle.sim_scope.specs.Source.{Source}
-use Rattle.sim_code.specs.declared.code.BlockKind.TheVariants as block_kind
-use Rattle.sim_code.specs.declared.code.CodeType.TheVariants as type
+use Rattle.sim_code.specs.declared.instr.Instr.TheVariants as i
 use Rattle.sim_code.specs.declared.stage.Stage.TheVariants as stage
 use Rattle.sim_code.specs.Code.{BlockOf, CodeOf}
 use Rattle.sim_code.specs.Machine.{Frames}
-use Rattle.sim_meaning.specs.Levels.{is_class, level_made, levels_made, levels_of}
+use Rattle.sim_meaning.specs.Levels.{has_levels, level_made, levels_made, levels_of}
 use Rattle.sim_meaning.specs.Objects.{declared, level_work, levels_work}
-use Rattle.sim_meaning.specs.Pending.{DeclareOp, Do, EndObject, Instances, Item, Level, LevelOp}
+use Rattle.sim_meaning.specs.Pending.{DeclareOp, Do, Instances, Item, Level, LevelOp}
 use Rattle.sim_meaning.specs.Texts.{text}
-use Rattle.codegen_expr.specs.Sites.{block_number, frame_text, own_end}
-use Rattle.codegen.specs.Compiled.{RecordOf}
+use Rattle.codegen_expr.specs.Sites.{Is, block_number, frame_text, own_end}
+use Rattle.codegen.specs.Compiled.{Compiled}
 use Rattle.sim_relate.proofs.Frames.{same_frame}
 use Rattle.sim_relate.proofs.Known.{Runs, Spot}
 use Rattle.sim_relate.proofs.LevelCode.{LevelCode, dropped_at, dropped_none, level_begins, level_code, made_of, moved_level, none_made}
 use Rattle.sim_relate.proofs.Pending.{ends_at, pends, pends_in}
-use Rattle.sim_relate.proofs.Plainly.{Coding}
-use Rattle.sim_relate.proofs.Relation.{DeclaredTo, WorkAt, at_level, declares, to_first, to_next}
+use Rattle.sim_relate.proofs.Relation.{DeclaredTo, EndAt, WorkAt, at_level, declares, to_first, to_next}
 
-module _ (s : Source) (code : CodeOf) (compiled : Coding s code) (m : Instances) (fs : Frames) (Below : Bool → Type 0) (inst : ℕ) (b : Runs) (own_block : BlockOf) (found : slice_get code.blocks (block_number s b.own) ≡ Some own_block) (roomy : own_block.room ≤ b.room) (own_class : is_class (text s b.own) ≡ true) where
+module _ (s : Source) (code : CodeOf) (compiled : Compiled s code) (m : Instances) (fs : Frames) (Below : Bool → Type 0) (inst : ℕ) (b : Runs) (own_block : BlockOf) (found : slice_get code.blocks (block_number s b.own) ≡ Some own_block) (roomy : own_block.room ≤ b.room) (own_levels : has_levels (text s b.own) ≡ true) where
   abbrev Code : (k n : ℕ) → Level → Type 0
   Code k n x = LevelCode s code compiled b k n x
 
@@ -62,7 +60,7 @@ module _ (s : Source) (code : CodeOf) (compiled : Coding s code) (m : Instances)
         let more : p.more ≡ ks = cc (is) in
         let here = dropped_at n (levels_of s b.own) k (k' ∷ ks) at in
         let inward = dropped_at (suc n) (levels_of s b.own) k' ks here.1 in
-        let next = level_code s code compiled b own_block found roomy own_class k' (suc n) y inward.0 (subst (λ z. level_made s z (text s z) ≡ Some y) number p.first) in
+        let next = level_code s code compiled b own_block found roomy own_levels k' (suc n) y inward.0 (subst (λ z. level_made s z (text s z) ≡ Some y) number p.first) in
         one_level k n x a (at_level s code (declaring a) k' next.block (stage.Declaring (suc n))) next.class.declarations (declared (y ∷ ys) w) next.declared_there
         (to_next (record {
           text = k';
@@ -73,17 +71,12 @@ module _ (s : Source) (code : CodeOf) (compiled : Coding s code) (m : Instances)
           goes_on = refl;
         })) (declared_pends ks k' (suc n) y ys next here.1 (subst (λ z. levels_made s z ≡ Some ys) more p.rest))
 
-  -- What is pending at the beginning of an object. Its levels are those that are made of this list.
-  pub object_pends : (k : ℕ) (ks : List ℕ) (x : Level) (xs : List Level) (a : Code k 0 x) → levels_of s b.own ≡ k ∷ ks → levels_made s ks ≡ Some xs → block_number s b.own ≢ 0 → RecordOf s code b.own block_kind.Object type.Nothing own_block → Below false
-      → Pends k (declaring a) (levels_work (x ∷ xs) EndObject) a.class.declarations
-  object_pends k ks x xs a is made not_first heads below =
-      declared_pends k x a (level_work x xs (EndObject ∷ []))
-      (level_begins s code compiled m fs Below inst b k 0 x a xs (EndObject ∷ []) (ap (λ z. levels_made s (drop 1 z)) is ∙ made)
-      (ends_at s code m fs Below inst k (record b { block = a.block; stage = stage.Behind 0 }) (own_end s code k) EndObject [] a.stop [] (record {
-        not_first = not_first;
-        was = refl;
-        block = own_block;
-        found = found;
-        ends = record { last = a.behind; at = a.ends; heads = heads; none = refl; below = below };
-      })))
+  -- What is pending at the beginning of an object or a prefixed block. Its levels are those that are made of this list.
+  pub levels_pend : (end : Item) (k : ℕ) (ks : List ℕ) (x : Level) (xs : List Level) (a : Code k 0 x) → levels_of s b.own ≡ k ∷ ks → levels_made s ks ≡ Some xs
+      → ((block : BlockOf) (t p last : ℕ) → Is code (i.EndLevel (pos 0)) p last → EndAt s code Below t (record b { block = block; stage = stage.Behind 0 }) end p []) → Pends k (declaring a) (levels_work (x ∷ xs) end) a.class.declarations
+  levels_pend end k ks x xs a is made ends =
+      declared_pends k x a (level_work x xs (end ∷ []))
+      (level_begins s code compiled m fs Below inst b k 0 x a xs (end ∷ []) (ap (λ z. levels_made s (drop 1 z)) is ∙ made)
+      (ends_at s code m fs Below inst k (record b { block = a.block; stage = stage.Behind 0 }) (own_end s code k) end [] a.stop []
+      (ends a.block (frame_text s k) a.stop a.behind a.ends)))
       ks k 0 x xs a is made

@@ -11,8 +11,8 @@ use Rattle.sim_scope.specs.Tables.{BlockOf}
 use Rattle.sim_tree.specs.declared.stmt.TypeName.{TypeName}
 use Rattle.sim_meaning.specs.Entries.{cells_from, formals_from, formals_of, numbers_of, with_result}
 use Rattle.sim_meaning.specs.Pending.{Held}
+use Rattle.codegen.specs.Agrees.{Agrees}
 use Rattle.sim_relate.proofs.Known.{is_constant}
-use Rattle.sim_relate.proofs.Plainly.{Agrees}
 use Rattle.sim_relate.proofs.Slots.{VaryFirst, results}
 
 module _ (s : Source) where

@@ -3,7 +3,7 @@ use Rattle.std.proofs.Common.{◌≡◌, ◌≤◌, ◌+◌, ℕ, zero, suc, Boo
 use Rattle.sim_scope.specs.Source.{Source}
 use Rattle.sim_code.specs.Code.{CodeOf}
 use Rattle.sim_code.specs.Machine.{Frames}
-use Rattle.sim_meaning.specs.Pending.{Do, EndBlock, EndObject, EndProcedure, EndProgram, Eval, Further, Instances, Item, NoTerm, Op, Term, Terms}
+use Rattle.sim_meaning.specs.Pending.{Do, EndBlock, EndObject, EndPrefixed, EndProcedure, EndProgram, Eval, Further, Instances, Item, NoTerm, Op, Term, Terms}
 use Rattle.sim_meaning.specs.Steps.{count, each}
 use Rattle.codegen_expr.specs.Sites.{frame_text, own_end}
 use Rattle.sim_relate.proofs.Known.{AllRead, Any, Kind, Runs, SameFrame, Spot, anys, leaves_any, leaves_read, site_at, spot}
@@ -50,4 +50,5 @@ ends_at s code m fs Below inst t b u EndBlock w p ks a = (p, there refl, a)
 ends_at s code m fs Below inst t b u (EndProcedure v) w p ks a = (p, there refl, a)
 ends_at s code m fs Below inst t b u EndProgram w p ks a = (p, there refl, a)
 ends_at s code m fs Below inst t b u EndObject w p ks a = (p, there refl, a)
+ends_at s code m fs Below inst t b u EndPrefixed w p ks a = (p, there refl, a)
 ends_at s code m fs Below inst t b u _ w p ks a = absurd a

@@ -10,9 +10,8 @@ use Rattle.sim_meaning.specs.Attributes.{is_connection}
 use Rattle.sim_meaning.specs.Levels.{has_levels, is_class, text_at}
 use Rattle.sim_meaning.specs.Texts.{BlockText, ClassText, ConnectionText, PrefixedText, ProcedureText, StandardText, Text, text}
 use Rattle.codegen_expr.specs.Sites.{Inside, LevelOf, behind, frame_text, further, innermost, is_connected, itself, outer, prefix_of}
-use Rattle.codegen.specs.Agrees.{PrefixThere}
+use Rattle.codegen.specs.Agrees.{Agrees, PrefixThere}
 use Rattle.sim_relate.proofs.Frames.{bool_cases, frame_level, frame_out, frame_self, stands_same}
-use Rattle.sim_relate.proofs.Plainly.{Agrees}
 use Rattle.sim_relate.proofs.Known.{Reaches, Rooted, Stands, enclosed, inside, outermost, seen_at, seen_within}
 
 pub equal_numbers : (a b : ℕ) → a ≡ b → (a == b) ≡ true
@@ -56,7 +55,7 @@ class_no_connection (Some (PrefixedText class arguments ds ss)) e = absurd (cc)
 class_no_connection (Some ConnectionText) e = absurd (cc)
 class_no_connection (Some (StandardText which)) e = refl
 
-levels_no_connection : (o : Option Text) → has_levels o ≡ true → is_connection o ≡ false
+pub levels_no_connection : (o : Option Text) → has_levels o ≡ true → is_connection o ≡ false
 levels_no_connection None e = absurd (cc)
 levels_no_connection (Some (BlockText begin ds ss)) e = absurd (cc)
 levels_no_connection (Some (ProcedureText result h a)) e = absurd (cc)

@@ -28,8 +28,10 @@ use Rattle.sim_meaning.specs.Sane.{IsObject, LastNames, Names}
 use Rattle.sim_meaning.specs.Steps.{go}
 use Rattle.sim_meaning.specs.Texts.{text}
 use Rattle.codegen_expr.specs.Sites.{block_number, class_number, frame_text, slot_of, own_end}
+use Rattle.codegen.specs.Compiled.{Compiled}
 use Rattle.sim_relate.proofs.Assigns.{wrote_on}
-use Rattle.sim_relate.proofs.ClassLevels.{class_levels, counts, in_same, is_same, levelled, levels_solid, number_is}
+use Rattle.sim_relate.proofs.ClassLevels.{class_levels, counts, in_same, is_same, levels_solid, number_is, numbered}
+use Rattle.sim_relate.proofs.ClassTexts.{class_has}
 use Rattle.sim_relate.proofs.Frames.{frame_self}
 use Rattle.sim_relate.proofs.Hands.{hand_finding, hand_popping}
 use Rattle.sim_relate.proofs.Heads.{both_found, is_live_at}
@@ -39,13 +41,12 @@ use Rattle.sim_relate.proofs.LevelLists.{has_level_is, solid_level}
 use Rattle.sim_relate.proofs.Living.{reached}
 use Rattle.sim_relate.proofs.Operators.{alike_indexed, at_cell, onward, pushes, same_array, same_plain}
 use Rattle.sim_relate.proofs.Pending.{anys_more}
-use Rattle.sim_relate.proofs.Plainly.{Coding}
 use Rattle.sim_relate.proofs.Reach.{stands_as}
 use Rattle.sim_relate.proofs.Relation.{ChainAt, Changed, InstanceAt, OpAt, StateAt, StoreAt, WorkAt}
 use Rattle.sim_relate.proofs.Stores.{cell_write, live_pair}
 use Rattle.sim_relate.proofs.Trees.{AttributeIs, Classed, ConstantIs, FoundIs, ReferenceIs}
 
-module _ (s : Source) (code : CodeOf) (coding : Coding s code) (m : Instances) (fs : Frames) (store : StoreAt s code m fs) where
+module _ (s : Source) (code : CodeOf) (coding : Compiled s code) (m : Instances) (fs : Frames) (store : StoreAt s code m fs) where
   -- an object and its frame
   pub record ObjectHere (j : ℕ) : Type 0 where
     pub instance : Instance (List Held)
@@ -87,11 +88,10 @@ module _ (s : Source) (code : CodeOf) (coding : Coding s code) (m : Instances) (
   -- a class has a number, which names it
   pub class_named : (k : ℕ) → Classed s k → classes.class_named code (pos (class_number s code k)) ≡ Some (class_number s code k)
   class_named k c =
-      let x = levelled s code coding k (class_levels s code coding k c) in
-      let e = number_is s code coding k x in
-      ap (λ n. classes.if_there (class_number s code k) (classes.class_numbered code n)) e ∙ ap (classes.if_there (class_number s code k)) (x.is).numbered
+      let x = class_has s code coding k (class_levels s code coding k c) in
+      ap (classes.if_there (class_number s code k)) (numbered s code coding k x)
 
-module _ (s : Source) (code : CodeOf) (coding : Coding s code) (l : Limits) (o : World) (m : Instances) (inst : ℕ) (w : List Item) (vals : List Val) (rest : List Activation) (fs : Frames) (t : ℕ) (b : Runs) (pc : ℕ) (stack : List Value) (below : List machine.Activation) (ks : List Kind) (here : Here s code m fs inst rest t b ks vals stack) (u q : ℕ) (ks' : List Kind) (low : own_end s code (frame_text s t) ≤ u) (k : WorkAt s code m fs (λ v. ChainAt s code m fs rest v below) inst t b u w q ks') where
+module _ (s : Source) (code : CodeOf) (coding : Compiled s code) (l : Limits) (o : World) (m : Instances) (inst : ℕ) (w : List Item) (vals : List Val) (rest : List Activation) (fs : Frames) (t : ℕ) (b : Runs) (pc : ℕ) (stack : List Value) (below : List machine.Activation) (ks : List Kind) (here : Here s code m fs inst rest t b ks vals stack) (u q : ℕ) (ks' : List Kind) (low : own_end s code (frame_text s t) ≤ u) (k : WorkAt s code m fs (λ v. ChainAt s code m fs rest v below) inst t b u w q ks') where
   abbrev R : Configuration → Machine → Type 0
   R = StateAt s code
 
@@ -139,7 +139,7 @@ module _ (s : Source) (code : CodeOf) (coding : Coding s code) (l : Limits) (o :
 
   qualified_found : (c : ℕ) → Classed s c → (r : Run Configuration) (z : ℕ → Run Machine) → Alike R r (z (class_number s code c)) → Alike R r (rows.qualified code (pos (class_number s code c)) o z)
   qualified_found c h r z f =
-      let x = levelled s code coding c (class_levels s code coding c h) in
+      let x = class_has s code coding c (class_levels s code coding c h) in
       let n = counts s code coding c x in
       by_number c n.0 (number_is s code coding c x ∙ n.1) h r z f
 
@@ -306,7 +306,7 @@ module _ (s : Source) (code : CodeOf) (coding : Coding s code) (l : Limits) (o :
   -- where the class of an address is one
   admitting_on : (c line : ℕ) → Classed s c → (p : Plain) → Names s m (meaning.Of p) → (r : Run Configuration) (z : Run Machine) → Alike R r z → Alike R (qualifying line (is_in s m c) p o r) (classes.admitting code fs line (class_number s code c) (machine.Of p) o z)
   admitting_on c line h p n r z f =
-      let x = levelled s code coding c (class_levels s code coding c h) in
+      let x = class_has s code coding c (class_levels s code coding c h) in
       let y = counts s code coding c x in
       by_count y.0 (number_is s code coding c x ∙ y.1)
     where

@@ -25,12 +25,12 @@ use Rattle.sim_code.specs.Instances.{Instance}
 use Rattle.sim_code.specs.Machine.{Frames, Machine, Value, Cells, joined}
 use Rattle.sim_code.specs.Machine as machine
 use Rattle.sim_code.proofs.Lifts.{Both}
-use Rattle.sim_meaning.specs.Levels.{is_class, levels_made, levels_of, text_at}
-use Rattle.sim_meaning.specs.Pending.{Activation, AgainOp, ArrayOp, AttributeOp, BackOp, BranchOp, CallOp, ChooseOp, Configuration, ConnectOp, CopyOp, DeclareOp, Do, DropOp, ElementOp, ElementsOp, EndBlock, EndLevel, EndObject, EndProcedure, EndProgram, EnterOp, Eval, Exec, Execs, FetchOp, FitsOp, GiveOp, Held, IfOp, InnerOp, Instances, Item, JoinOp, KeepOp, Key, Level, LevelOp, MemberOp, NewOp, ObjectOp, OneOp, Op, PastOp, PrefixedOp, QuaOp, QualifiedElementOp, RaiseOp, ReferOp, ShareOp, StandardOp, StepOp, StepTestOp, StoreOp, SwapOp, Target, Term, TestOp, ToAddress, ToCell, ToPlace, ToReference, ToReferenceAt, ToText, ToTextAt, ToTextOf, TwoOp, Val, WhenOp, WhileElementOp, held}
-use Rattle.sim_meaning.specs.Entries.{formals_of}
+use Rattle.sim_meaning.specs.Levels.{has_levels, is_class, levels_made, levels_of, text_at}
+use Rattle.sim_meaning.specs.Pending.{Activation, AgainOp, ArrayOp, AttributeOp, BackOp, BranchOp, CallOp, ChooseOp, Configuration, ConnectOp, CopyOp, DeclareOp, Do, DropOp, ElementOp, ElementsOp, EndBlock, EndLevel, EndObject, EndPrefixed, EndProcedure, EndProgram, EnterOp, Eval, Exec, Execs, FetchOp, FitsOp, GiveOp, Held, IfOp, InnerOp, Instances, Item, JoinOp, KeepOp, Key, Level, LevelOp, MemberOp, NewOp, ObjectOp, OneOp, Op, PastOp, PrefixedOp, QuaOp, QualifiedElementOp, RaiseOp, ReferOp, ShareOp, StandardOp, StepOp, StepTestOp, StoreOp, SwapOp, Target, Term, TestOp, ToAddress, ToCell, ToPlace, ToReference, ToReferenceAt, ToText, ToTextAt, ToTextOf, TwoOp, Val, WhenOp, WhileElementOp, held}
+use Rattle.sim_meaning.specs.Entries.{formals_of, passes}
 use Rattle.sim_meaning.specs.Meaning.{has_result}
 use Rattle.sim_meaning.specs.Statements.{has_value}
-use Rattle.sim_meaning.specs.Texts.{BlockText, ProcedureText, text}
+use Rattle.sim_meaning.specs.Texts.{BlockText, ProcedureText, is_class_free, text}
 use Rattle.sim_meaning.specs.Texts as Texts
 use Rattle.codegen_expr.specs.Sites.{Ahead, At, HasCell, Is, LevelOf, LoopAt, Pushes, Site, block_number, class_number, frame_text, own_end, place_of, slot_of}
 use Rattle.codegen_expr.specs.CodeExpr.{ExprAt, PlaceAt, ReferencePlaceAt, StandardIs, member_instr, one_instr, two_instr}
@@ -94,6 +94,14 @@ module _ (s : Source) (code : CodeOf) where
     pub fits : length left < site.room
     pub «in» : before ≡ anys actuals (LinkTo text ∷ left)
     pub out : behind ≡ anys 1 left
+
+  -- the entry of a prefixed block, which stands in the text from which it is entered
+  pub record PrefixedOpIs (site : Site) (k actuals line p q : ℕ) (before behind : List Kind) : Type 0 where
+    pub is : At code (i.Pref (pos (block_number s k)) (pos actuals)) line p q
+    pub stands_in : encloser s.tables k ≡ Some site.text
+    pub has : has_levels (Texts.text s k) ≡ true
+    pub no_class : is_class (Texts.text s k) ≡ false
+    pub «in» : before ≡ anys actuals behind
 
   pub record AttributeOpIs (text : ℕ) (key : Key) (class : Option ℕ) (line p q : ℕ) (before behind : List Kind) : Type 0 where
     pub left : List Kind
@@ -447,14 +455,14 @@ module _ (s : Source) (code : CodeOf) where
   OpAt m fs inst site (WhenOp arms other) p q before behind = WhenIs site arms other p q before behind
   OpAt m fs inst site (LevelOp k) p q before behind = ⊥
   OpAt m fs inst site (InnerOp xs) p q before behind = ⊥
-  OpAt m fs inst site (PrefixedOp k n line) p q before behind = ⊥
+  OpAt m fs inst site (PrefixedOp k n line) p q before behind = PrefixedOpIs site k n line p q before behind
 
   -- ---- stages
 
   -- A level of an instance, counted from the outermost one: its text, the record of its block, and that of its class.
   pub record LevelIs (b : Runs) (text place : ℕ) (block : BlockOf) (class : ClassOf) : Type 0 where
     pub level : LevelOf s.tables b.own text
-    pub has_class : is_class (Texts.text s text) ≡ true
+    pub has : has_levels (Texts.text s text) ≡ true
     pub place_is : slice_get (levels_of s b.own) place ≡ Some text
     pub frame : frame_text s text ≡ text
     pub found : slice_get code.blocks (block_number s text) ≡ Some block
@@ -566,13 +574,14 @@ module _ (s : Source) (code : CodeOf) where
     pub same : has_result result ≡ leaves
     pub ends : Ends result
 
-  -- the end of an object
-  pub record ObjectEnds (b : Runs) (p : ℕ) (before : List Kind) (Below : Type 0) : Type 0 where
+  -- the end of an object or a prefixed block
+  pub record OutermostEnds (kind : BlockKind) (b : Runs) (p : ℕ) (before : List Kind) (Below : Type 0) : Type 0 where
+    pub levels : has_levels (text s b.own) ≡ true
     pub not_first : block_number s b.own ≢ 0
     pub was : b.stage ≡ stage.Behind 0
     pub block : BlockOf
     pub found : slice_get code.blocks (block_number s b.own) ≡ Some block
-    pub ends : EndIs (i.EndLevel (pos 0)) block_kind.Object type.Nothing b.own block p before Below
+    pub ends : EndIs (i.EndLevel (pos 0)) kind type.Nothing b.own block p before Below
 
   -- The end of a level inside another one: control goes on behind `inner` of that.
   pub record LevelEnds (b : Runs) (c : Spot) (p q : ℕ) (before : List Kind) : Type 0 where
@@ -595,7 +604,8 @@ module _ (s : Source) (code : CodeOf) where
   EndAt Below t b EndBlock p before = BlockEnds t × EndIs i.Leave block_kind.SubBlock type.Nothing t b.block p before (Below false)
   EndAt Below t b (EndProcedure leaves) p before = ProcedureEnds t leaves (λ result. EndIs i.Return block_kind.Procedure (type_of_name result) t b.block p before (Below leaves))
   EndAt Below t b EndProgram p before = (t ≡ 0) × EndIs (i.EndLevel (pos 0)) block_kind.SubBlock type.Nothing t b.block p before (Below false)
-  EndAt Below t b EndObject p before = ObjectEnds b p before (Below false)
+  EndAt Below t b EndObject p before = OutermostEnds block_kind.Object b p before (Below false)
+  EndAt Below t b EndPrefixed p before = OutermostEnds block_kind.Prefixed b p before (Below false)
   EndAt Below t b _ p before = ⊥
 
   -- an operator in its own place
@@ -615,9 +625,9 @@ module _ (s : Source) (code : CodeOf) where
   WorkAt m fs Below inst t b used (EndProcedure leaves ∷ w) p before = (at : ℕ) × ComesTo fs inst t b used (length before) at p × EndAt Below (frame_text s t) b (EndProcedure leaves) at before
   WorkAt m fs Below inst t b used (EndProgram ∷ w) p before = (at : ℕ) × ComesTo fs inst t b used (length before) at p × EndAt Below (frame_text s t) b EndProgram at before
   WorkAt m fs Below inst t b used (EndObject ∷ w) p before = (at : ℕ) × ComesTo fs inst t b used (length before) at p × EndAt Below (frame_text s t) b EndObject at before
+  WorkAt m fs Below inst t b used (EndPrefixed ∷ w) p before = (at : ℕ) × ComesTo fs inst t b used (length before) at p × EndAt Below (frame_text s t) b EndPrefixed at before
   WorkAt m fs Below inst t b used (EndLevel k ∷ w) p before =
       (at : ℕ) × (q : ℕ) × (c : Spot) × ComesTo fs inst t b used (length before) at p × LevelEnds b c at q before × WorkAt m fs Below inst c.text c.runs c.used w q []
-  WorkAt m fs Below inst t b used (_ ∷ w) p before = ⊥
 
   -- The same where control has come to the first part, which a statement begins in its own place.
   abbrev pub NowAt : Instances → Frames → (Below : Bool → Type 0) → (inst t : ℕ) → Runs → (used : ℕ) → List Item → (p : ℕ) → (before : List Kind) → Type 0
@@ -628,8 +638,8 @@ module _ (s : Source) (code : CodeOf) where
   NowAt m fs Below inst t b used (EndProcedure leaves ∷ w) p before = EndAt Below (frame_text s t) b (EndProcedure leaves) p before
   NowAt m fs Below inst t b used (EndProgram ∷ w) p before = EndAt Below (frame_text s t) b EndProgram p before
   NowAt m fs Below inst t b used (EndObject ∷ w) p before = EndAt Below (frame_text s t) b EndObject p before
+  NowAt m fs Below inst t b used (EndPrefixed ∷ w) p before = EndAt Below (frame_text s t) b EndPrefixed p before
   NowAt m fs Below inst t b used (EndLevel k ∷ w) p before = (q : ℕ) × (c : Spot) × LevelEnds b c p q before × WorkAt m fs Below inst c.text c.runs c.used w q []
-  NowAt m fs Below inst t b used (_ ∷ w) p before = ⊥
 
   -- ---- chains
 
@@ -684,6 +694,7 @@ module _ (s : Source) (code : CodeOf) where
     pub level : y.level ≡ x.level
     pub encloser : y.encloser ≡ x.encloser
     pub passing : y.passing ≡ x.passing
+    pub passes_so : x.passing ≡ passes (text s x.text) (is_class_free s x.text)
     pub kept : y.kept ≡ x.kept
     pub given_back : y.given_back ≡ x.given_back
     pub own : frame_text s x.text ≡ x.text

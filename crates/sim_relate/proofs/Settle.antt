@@ -18,7 +18,7 @@ use Rattle.sim_code.specs.Instances.{at_level}
 use Rattle.sim_code.specs.Machine.{Frames, Machine, Value, at, index, is_there, is_tick, jumping, level, on, pushing}
 use Rattle.sim_code.specs.Machine as machine
 use Rattle.sim_code.specs.Rows.{mstep, pushed, row}
-use Rattle.sim_meaning.specs.Pending.{Activation, Configuration, Do, EndBlock, EndLevel, EndObject, EndProcedure, EndProgram, Exec, Instances, Item, Op}
+use Rattle.sim_meaning.specs.Pending.{Activation, Configuration, Do, EndBlock, EndLevel, EndObject, EndPrefixed, EndProcedure, EndProgram, Exec, Instances, Item, Op}
 use Rattle.sim_meaning.specs.Pending as meaning
 use Rattle.sim_meaning.specs.Sane.{NamesOn, Sane, SaneOn}
 use Rattle.codegen_expr.specs.Sites.{Ahead, At, Is, frame_text, own_end}
@@ -203,8 +203,8 @@ comes_back s code m fs Below inst t b used (EndBlock ∷ w) p p' ks r a = (a.0, 
 comes_back s code m fs Below inst t b used (EndProcedure v ∷ w) p p' ks r a = (a.0, returning r a.1, a.2)
 comes_back s code m fs Below inst t b used (EndProgram ∷ w) p p' ks r a = (a.0, returning r a.1, a.2)
 comes_back s code m fs Below inst t b used (EndObject ∷ w) p p' ks r a = (a.0, returning r a.1, a.2)
+comes_back s code m fs Below inst t b used (EndPrefixed ∷ w) p p' ks r a = (a.0, returning r a.1, a.2)
 comes_back s code m fs Below inst t b used (EndLevel k ∷ w) p p' ks r a = (a.0, a.1, a.2, returning r a.3, a.4, a.5)
-comes_back s code m fs Below inst t b used (_ ∷ w) p p' ks r a = absurd a
 
 module _ (s : Source) (code : CodeOf) (l : Limits) where
   -- the state that the machine comes to
@@ -318,8 +318,8 @@ module _ (s : Source) (code : CodeOf) (l : Limits) where
   top_settles m inst vals rest fs t b stack below ks here used (EndProcedure v ∷ w) p a = end_settles m inst vals rest fs t b stack below ks here used w (EndProcedure v) a.0 p a.1 a.2
   top_settles m inst vals rest fs t b stack below ks here used (EndProgram ∷ w) p a = end_settles m inst vals rest fs t b stack below ks here used w EndProgram a.0 p a.1 a.2
   top_settles m inst vals rest fs t b stack below ks here used (EndObject ∷ w) p a = end_settles m inst vals rest fs t b stack below ks here used w EndObject a.0 p a.1 a.2
+  top_settles m inst vals rest fs t b stack below ks here used (EndPrefixed ∷ w) p a = end_settles m inst vals rest fs t b stack below ks here used w EndPrefixed a.0 p a.1 a.2
   top_settles m inst vals rest fs t b stack below ks here used (EndLevel k ∷ w) p a = end_settles m inst vals rest fs t b stack below ks here used w (EndLevel k) a.0 p a.3 (a.1, a.2, a.4, a.5)
-  top_settles m inst vals rest fs t b stack below ks here used (_ ∷ w) p a = absurd a
 
   -- an activation that is as the relation says
   pub as_act : (y : machine.Activation) (inst : ℕ) (run : Runs) → y.thunk ≡ false → y.home ≡ inst → y.room ≡ run.room → y.stage ≡ run.stage → y ≡ act inst y.pc y.stack run

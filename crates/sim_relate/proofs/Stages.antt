@@ -21,7 +21,7 @@ use Rattle.sim_code.specs.Outcome.{Going, Run, World}
 use Rattle.sim_code.specs.Rows.{on_top}
 use Rattle.sim_code.proofs.Lifts.{alike_found, alike_ticking}
 use Rattle.sim_code.proofs.Simulation.{Alike, unruled}
-use Rattle.sim_meaning.specs.Levels.{is_class, levels, levels_inside, levels_made, levels_of, text_at}
+use Rattle.sim_meaning.specs.Levels.{has_levels, levels, levels_inside, levels_made, levels_of, text_at}
 use Rattle.sim_meaning.specs.Meaning.{do_item, do_op}
 use Rattle.sim_meaning.specs.Objects.{level_work}
 use Rattle.sim_meaning.specs.Pending.{Activation, Configuration, Do, EndLevel, Exec, Execs, InnerOp, Instances, Item, Level, LevelOp, Val}
@@ -30,18 +30,19 @@ use Rattle.sim_meaning.specs.Steps.{go}
 use Rattle.sim_meaning.specs.Texts.{text}
 use Rattle.codegen_expr.specs.Sites.{Is, block_number, class_number, frame_text, own_end}
 use Rattle.codegen.specs.CodeStm.{InnerOrAt, StmAt, StmsAt, WithInnerAt, inner_of}
-use Rattle.sim_relate.proofs.ClassLevels.{class_levels, levels_here}
+use Rattle.codegen.specs.Compiled.{Compiled}
+use Rattle.sim_relate.proofs.ClassLevels.{levels_here, levels_solid}
+use Rattle.sim_relate.proofs.ClassTexts.{class_has}
 use Rattle.sim_relate.proofs.Ends.{chosen}
 use Rattle.sim_relate.proofs.Frames.{same_frame}
 use Rattle.sim_relate.proofs.Heads.{both_found, is_live_at}
 use Rattle.sim_relate.proofs.Here.{Here, There, act, at_row, goes, there_of}
 use Rattle.sim_relate.proofs.Known.{Kind, Runs, Spot, at_stage, site_at, spot}
-use Rattle.sim_relate.proofs.LevelCode.{class_code, class_connected, dropped_at, dropped_none, level_begins, level_code, levels_class, made_of, moved_level, none_made}
+use Rattle.sim_relate.proofs.LevelCode.{dropped_at, dropped_none, level_begins, level_code, levels_around, made_of, moved_level, none_made}
 use Rattle.sim_relate.proofs.LevelLists.{inside_made}
 use Rattle.sim_relate.proofs.Lists.{there_get}
 use Rattle.sim_relate.proofs.Living.{lives_now}
 use Rattle.sim_relate.proofs.Pending.{pends, pends_in}
-use Rattle.sim_relate.proofs.Plainly.{Coding, agreed}
 use Rattle.sim_relate.proofs.Reach.{equal_numbers, stands_as}
 use Rattle.sim_relate.proofs.Relation.{AtLevel, ChainAt, DeclaredIs, DeclaredTo, InnerHere, InnerIs, InstanceAt, LevelEnds, LevelIs, StateAt, WithInnerIs, WorkAt, at_level, inner_here, inner_last, straight, there, to_first, to_next, with_inner}
 use Rattle.sim_relate.proofs.Stores.{frame_number, live_pair, own_frame_at, own_stands}
@@ -49,7 +50,7 @@ use Rattle.sim_relate.proofs.Stores.{frame_number, live_pair, own_frame_at, own_
 some_is : {A : Type 0} {x y : A} → Some x ≡ Some y → x ≡ y
 some_is e = cc (e)
 
-module _ (s : Source) (code : CodeOf) (l : Limits) (compiled : Coding s code) (o : World) (m : Instances) (inst : ℕ) (w : List Item) (vals : List Val) (rest : List Activation) (fs : Frames) (t : ℕ) (b : Runs) (pc : ℕ) (stack : List Value) (below : List machine.Activation) (ks : List Kind) (here : Here s code m fs inst rest t b ks vals stack) where
+module _ (s : Source) (code : CodeOf) (l : Limits) (compiled : Compiled s code) (o : World) (m : Instances) (inst : ℕ) (w : List Item) (vals : List Val) (rest : List Activation) (fs : Frames) (t : ℕ) (b : Runs) (pc : ℕ) (stack : List Value) (below : List machine.Activation) (ks : List Kind) (here : Here s code m fs inst rest t b ks vals stack) where
   abbrev R : Configuration → Machine → Type 0
   R = StateAt s code
 
@@ -64,16 +65,16 @@ module _ (s : Source) (code : CodeOf) (l : Limits) (compiled : Coding s code) (o
   abbrev numbers : List ℕ
   numbers = map (class_number s code) (levels_of s b.own)
 
-  numbers_here : is_class (text s b.own) ≡ true → levels_in code (class_of code fs inst) ≡ Some numbers
+  numbers_here : has_levels (text s b.own) ≡ true → levels_in code (class_of code fs inst) ≡ Some numbers
   numbers_here c =
       let now = lives_now m inst here.lives in
       let f = both_found (InstanceAt s code) _ _ now.0 now.1 (live_pair s code m fs here.store inst) in
       let there = (is_live_at (slice_get fs.instances inst) f.it f.is).there in
       let number : Some f.it.text ≡ Some (block_number s b.own) = sym (ap text_in there) ∙ frame_number s code m fs here.store inst b.own here.own in
-      levels_here s code compiled fs inst b.own f.it f.is (some_is number) (class_levels s code compiled b.own c)
+      levels_here s code compiled fs inst b.own f.it f.is (some_is number) c
 
   -- the levels of the frame on top, which is at this stage
-  own_alike : (g : Stage) → is_class (text s b.own) ≡ true → b.stage ≡ g → same_stage g g ≡ true → (r : Run Configuration) (y : List ℕ → Run Machine) → Alike R r (y numbers) → Alike R r (own_levels code fs top g o y)
+  own_alike : (g : Stage) → has_levels (text s b.own) ≡ true → b.stage ≡ g → same_stage g g ≡ true → (r : Run Configuration) (y : List ℕ → Run Machine) → Alike R r (y numbers) → Alike R r (own_levels code fs top g o y)
   unfolding own_levels when
   own_alike g c e self r y h =
       chosen (λ z. Alike R r z) (same_stage b.stage g) _ (no_rule o) (ap (λ z. same_stage z g) e ∙ self)
@@ -94,15 +95,15 @@ module _ (s : Source) (code : CodeOf) (l : Limits) (compiled : Coding s code) (o
   no_class_at : (n : ℕ) → slice_get (levels_of s b.own) n ≡ None → class_at_level code numbers n ≡ None
   no_class_at n e = ap (record_in code) (slice_get-map (class_number s code) (levels_of s b.own) n ∙ ap (option_map (class_number s code)) e)
 
-  own_class : (k n : ℕ) (block : BlockOf) (class : ClassOf) → LevelIs s code b k n block class → is_class (text s b.own) ≡ true
-  own_class k n block class a = levels_class s code compiled b.own k a.level a.has_class
+  has_own : (k n : ℕ) (block : BlockOf) (class : ClassOf) → LevelIs s code b k n block class → has_levels (text s b.own) ≡ true
+  has_own k n block class a = levels_around s code compiled b.own k a.level a.has
 
   -- the instance at a level and a stage
   there_at : (k n : ℕ) (block : BlockOf) (class : ClassOf) (g : Stage) → LevelIs s code b k n block class → There s code m fs inst k (record b { block = block; stage = g }) ks vals stack
   there_at k n block class g a = record {
     store = here.store;
     parked = here.parked;
-    stands = stands_as s m (agreed s code compiled) inst b.own k here.own (own_stands s code m fs here.store inst b.own here.own) a.level a.frame (own_frame_at s code m fs here.store inst b.own here.own);
+    stands = stands_as s m compiled.agrees inst b.own k here.own (own_stands s code m fs here.store inst b.own here.own) a.level a.frame (own_frame_at s code m fs here.store inst b.own here.own);
     own = here.own;
     roomy = a.roomy;
     found = ap (λ z. slice_get code.blocks (block_number s z)) a.frame ∙ a.found;
@@ -126,7 +127,7 @@ module _ (s : Source) (code : CodeOf) (l : Limits) (compiled : Coding s code) (o
   end_level k q c a work =
       at_row s code l o fs top below _ (i.EndLevel (pos (suc a.place))) (a.is).line a.is_at (a.is).is
       (index_alike (suc a.place) _ _
-      (own_alike (stage.Behind (suc a.place)) (own_class a.text a.place a.block a.class a.level) a.was (equal_numbers (suc a.place) (suc a.place) refl) _ _
+      (own_alike (stage.Behind (suc a.place)) (has_own a.text a.place a.block a.class a.level) a.was (equal_numbers (suc a.place) (suc a.place) refl) _ _
       (alike_found Configuration Machine R ClassOf (class_at_level code numbers a.place) a.class o _ _ (class_at a.text a.place a.block a.class a.level)
       (to_level a.text a.place a.block a.class (stage.Behind a.place) a.class.after_inner w a.level (subst (λ z. z < length code.instrs) (sym a.leads) a.there)
       (work_as c (at_level s code b a.text a.block (stage.Behind a.place)) q a.class.after_inner [] a.goes_on (sym a.leads) a.none refl work)))))
@@ -140,12 +141,12 @@ module _ (s : Source) (code : CodeOf) (l : Limits) (compiled : Coding s code) (o
       where
         to : DeclaredTo s code b a.place c q → Alike R (go o m inst w vals rest) (levels_of_code.declarations_done code o fs top below a.place)
         to (to_next x) =
-            own_alike (stage.Declaring a.place) (own_class x.text (suc a.place) x.block x.class x.level) a.was (equal_numbers a.place a.place refl) _ _
+            own_alike (stage.Declaring a.place) (has_own x.text (suc a.place) x.block x.class x.level) a.was (equal_numbers a.place a.place refl) _ _
             (subst (λ z. Alike R (go o m inst w vals rest) (after_declarations code o fs top below a.place numbers z)) (sym (class_at x.text (suc a.place) x.block x.class x.level))
             (to_level x.text (suc a.place) x.block x.class (stage.Declaring (suc a.place)) x.class.declarations w x.level (subst (λ z. z < length code.instrs) (sym x.leads) a.there)
             (work_as c (at_level s code b x.text x.block (stage.Declaring (suc a.place))) q x.class.declarations ks' x.goes_on (sym x.leads) a.none a.none_behind work)))
         to (to_first x) =
-            own_alike (stage.Declaring a.place) (own_class x.text 0 x.block x.class x.level) a.was (equal_numbers a.place a.place refl) _ _
+            own_alike (stage.Declaring a.place) (has_own x.text 0 x.block x.class x.level) a.was (equal_numbers a.place a.place refl) _ _
             (subst (λ z. Alike R (go o m inst w vals rest) (after_declarations code o fs top below a.place numbers z)) (sym (no_class_at (suc a.place) x.last))
             (alike_found Configuration Machine R ClassOf (class_at_level code numbers 0) x.class o _ _ (class_at x.text 0 x.block x.class x.level)
             (to_level x.text 0 x.block x.class (stage.Stating 0) x.class.statements w x.level (subst (λ z. z < length code.instrs) (sym x.leads) a.there)
@@ -163,7 +164,7 @@ module _ (s : Source) (code : CodeOf) (l : Limits) (compiled : Coding s code) (o
         let at = a.at in
         at_row s code l o fs top below _ (i.Inner (pos a.place)) (a.is).line q (a.is).is
         (index_alike a.place _ _
-        (own_alike (stage.Stating a.place) (own_class t a.place b.block at.class at.level) at.was (equal_numbers a.place a.place refl) _ _
+        (own_alike (stage.Stating a.place) (has_own t a.place b.block at.class at.level) at.was (equal_numbers a.place a.place refl) _ _
         (by xs a.inside)))
       where
         by : (xs : List Level) → levels_made s (drop (suc a.place) (levels_of s b.own)) ≡ Some xs → Alike R (do_op s l o m inst w vals rest (InnerOp xs)) (at_inner code o fs top below a.place (class_at_level code numbers (suc a.place)))
@@ -172,11 +173,11 @@ module _ (s : Source) (code : CodeOf) (l : Limits) (compiled : Coding s code) (o
             (goes s code u q (restaged (stage.Behind a.place)) (work_as c (spot t (at_stage b (stage.Behind a.place)) u) q q ks' (a.at).goes_on refl (a.at).none (a.at).none_behind work) (a.is).is.on)
         by (x ∷ xs) e =
             let at = a.at in
-            let class = own_class t a.place b.block at.class at.level in
-            let own = class_code s code compiled b.own class in
+            let has = has_own t a.place b.block at.class at.level in
+            let own = class_has s code compiled b.own has in
             let made = made_of s (drop (suc a.place) (levels_of s b.own)) x xs e in
             let d = dropped_at (suc a.place) (levels_of s b.own) made.number made.more made.is in
-            let next = level_code s code compiled b own.block own.found (at.level.own_roomy own.block own.found) class made.number (suc a.place) x d.0 made.first in
+            let next = level_code s code compiled b own.block own.found (at.level.own_roomy own.block own.found) has made.number (suc a.place) x d.0 made.first in
             let inside : levels_made s (drop (suc (suc a.place)) (levels_of s b.own)) ≡ Some xs = ap (levels_made s) d.1 ∙ made.rest in
             let spotted : at_level s code b t b.block (stage.Behind a.place) ≡ c = ap (λ z. spot t (at_stage b (stage.Behind a.place)) z) (sym at.low) ∙ sym at.goes_on in
             let ends : WorkAt s code m fs Below inst made.number (record b { block = next.block; stage = stage.Behind (suc a.place) }) (own_end s code made.number) (EndLevel x.text ∷ w) next.stop [] = (
@@ -216,9 +217,9 @@ module _ (s : Source) (code : CodeOf) (l : Limits) (compiled : Coding s code) (o
         by None f = unruled
         by (Some xs) f =
             let at = a.at in
-            let class = own_class t a.place b.block at.class at.level in
+            let has = has_own t a.place b.block at.class at.level in
             let made : levels_made s (levels_of s b.own) ≡ Some xs = sym (ap (levels_of_instance s) here.own) ∙ f in
-            let inside = inside_made s (agreed s code compiled) b.own t a.place xs (class_connected s code compiled b.own class) made at.level.place_is in
+            let inside = inside_made s compiled.agrees b.own t a.place xs (levels_solid s code compiled b.own has) made at.level.place_is in
             goes s code u a.x (there_of s code here)
             (pends_in s code m fs Below inst t b u low w (InnerOp (levels_inside t xs)) t c a.x q ks ks' (same_frame s t) (inner_last (levels_inside t xs) refl (record { place = a.place; at = at; is = a.is; inside = inside })) work) (a.tick).is.on
 

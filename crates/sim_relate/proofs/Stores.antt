@@ -8,14 +8,16 @@ use Rattle.sim_chains.specs.Components.{Standing}
 use Rattle.sim_scope.specs.Access.{encloser}
 use Rattle.sim_scope.specs.Source.{Source, level_of}
 use Rattle.sim_code.specs.Code.{BlockOf, CodeOf}
-use Rattle.sim_code.specs.Instances.{Instance, at_level, cells_in as cells_of_live, cells_put, ends_in, entered, found_at, given, given_in, is_given_at_end, is_live, is_live_in, kept_at, kept_further, kept_on, level_within, live, outward, with_instance}
+use Rattle.sim_code.specs.Instances.{Instance, at_level, cells_in as cells_of_live, cells_put, ends_in, entered, found_at, given, given_in, is_given_at_end, is_live, is_live_in, kept_at, kept_further, kept_on, level_within, live, outward, unless_given, with_instance}
 use Rattle.sim_code.specs.Machine.{Cells, Frames, Value, joined}
 use Rattle.sim_code.specs.Machine as machine
 use Rattle.sim_code.proofs.Lifts.{Both}
+use Rattle.sim_meaning.specs.Entries.{passes}
 use Rattle.sim_meaning.specs.Levels.{text_at, text_in}
 use Rattle.sim_meaning.specs.Pending.{Activation, Held, Instances, Key, Val, held, same_key}
 use Rattle.sim_meaning.specs.Pending as meaning
 use Rattle.sim_meaning.specs.Sane.{Lives, Other}
+use Rattle.sim_meaning.specs.Texts.{is_class_free, text}
 use Rattle.codegen_expr.specs.Sites.{HasCell, LevelOf, block_number, frame_text, innermost, own_end, place_of, slot_of}
 use Rattle.sim_relate.proofs.Frames.{bool_cases}
 use Rattle.sim_relate.proofs.Heads.{Heads, Same, both_found, both_heads, entered_same, given_both, given_same, heads_refl, is_live_at, kept_same, later_all, later_heads, later_itself, set_self}
@@ -62,10 +64,10 @@ module _ (fs : Frames) (j : ℕ) (y : Instance Cells) (lives : live fs j ≡ Som
 
 module _ (s : Source) (code : CodeOf) where
   pub instance_kept : {x : Instance (List Held)} {y : Instance Cells} → InstanceAt s code x y → InstanceAt s code (record x { kept = true }) (record y { kept = true })
-  instance_kept a = record { number = a.number; level = a.level; encloser = a.encloser; passing = a.passing; kept = refl; given_back = a.given_back; own = a.own; laid = a.laid; cells = a.cells; there = a.there; size = a.size }
+  instance_kept a = record { number = a.number; level = a.level; encloser = a.encloser; passing = a.passing; passes_so = a.passes_so; kept = refl; given_back = a.given_back; own = a.own; laid = a.laid; cells = a.cells; there = a.there; size = a.size }
 
   pub instance_given : {x : Instance (List Held)} {y : Instance Cells} → InstanceAt s code x y → InstanceAt s code (record x { given_back = true }) (record y { given_back = true })
-  instance_given a = record { number = a.number; level = a.level; encloser = a.encloser; passing = a.passing; kept = a.kept; given_back = refl; own = a.own; laid = a.laid; cells = a.cells; there = a.there; size = a.size }
+  instance_given a = record { number = a.number; level = a.level; encloser = a.encloser; passing = a.passing; passes_so = a.passes_so; kept = a.kept; given_back = refl; own = a.own; laid = a.laid; cells = a.cells; there = a.there; size = a.size }
 
   -- each instance still stands for its own text
   all_heads : (m m' : Instances) → ((k : ℕ) → Both Heads (slice_get m.instances k) (slice_get m'.instances k)) → ((j : ℕ) (x : Instance (List Held)) → slice_get m.instances j ≡ Some x → Stands s m j x.text) → (j : ℕ) (x : Instance (List Held)) → slice_get m'.instances j ≡ Some x → Stands s m' j x.text
@@ -205,6 +207,7 @@ module _ (s : Source) (code : CodeOf) where
             level = p.level;
             encloser = p.encloser;
             passing = p.passing;
+            passes_so = p.passes_so;
             kept = p.kept;
             given_back = p.given_back;
             own = p.own;
@@ -305,6 +308,7 @@ module _ (s : Source) (code : CodeOf) where
           level = p.level;
           encloser = p.encloser;
           passing = p.passing;
+          passes_so = p.passes_so;
           kept = p.kept;
           given_back = p.given_back;
           own = p.own;
@@ -367,6 +371,22 @@ module _ (s : Source) (code : CodeOf) where
         subst (λ z. LevelOf s.tables z (frame_text s t)) same x.levels
 
     -- ---- flags
+
+    passing_by : (own : ℕ) (x : Option (Instance (List Held))) (y : Option (Instance Cells)) → Both (InstanceAt s code) x y → text_in x ≡ Some own → passes (text s own) (is_class_free s own) ≡ false → ends_in (unless_given x) ≡ false
+    passing_by own None y b e free = refl
+    passing_by own (Some x) None b e free = absurd b
+    passing_by own (Some x) (Some y) b e free = by x.given_back
+      where
+        same : x.text ≡ own
+        same = cc (e)
+
+        by : (g : Bool) → ends_in (if g then None else Some x) ≡ false
+        by true = refl
+        by false = ap (λ z. z && not x.kept) (b.passes_so ∙ ap (λ z. passes (text s z) (is_class_free s z)) same ∙ free)
+
+    -- an instance with levels is not given back at its end
+    pub never_given : (j own : ℕ) → text_at m j ≡ Some own → passes (text s own) (is_class_free s own) ≡ false → is_given_at_end m j ≡ false
+    never_given j own e free = passing_by own (slice_get m.instances j) (slice_get fs.instances j) (a.at j) e free
 
     same_flags : (x : Option (Instance (List Held))) (y : Option (Instance Cells)) → Both (InstanceAt s code) x y → ends_in x ≡ ends_in y
     same_flags None None b = refl

@@ -12,17 +12,15 @@ use Rattle.sim_code.proofs.Growing.{after_more}
 use Rattle.sim_meaning.specs.Meaning.{opening, run, step}
 use Rattle.sim_meaning.specs.Pending.{Configuration}
 use Rattle.sim_meaning.specs.Sane.{HasRules, NamesObjects, StaysSane}
-use Rattle.codegen.specs.Agrees.{Unprefixed}
 use Rattle.codegen.specs.Compiled.{Compiled}
 use Rattle.sim_relate.specs.SameRuns.{SameRuns}
-use Rattle.sim_relate.proofs.Plainly.{Coding, coding}
 use Rattle.sim_relate.proofs.Relation.{StateAt, StateNow}
 use Rattle.sim_relate.proofs.Main.{MovesNow, both, moves_now, quiet, several}
 use Rattle.sim_relate.proofs.Quiet.{weight}
 use Rattle.sim_relate.proofs.Ranked.{AlikeIn, Both, InEach, Meets, Moves, Quiet, Simulates, Slow, caught, forth, going, meets, meets_as, only, shown_step, simply}
 use Rattle.sim_relate.proofs.Settle.{Slows, no_step, one_step, settle}
 
-module _ (s : Source) (code : CodeOf) (ruled : HasRules s) (names : NamesObjects s) (stays : StaysSane s) (compiled : Coding s code) (l : Limits) (input : List ℕ) where
+module _ (s : Source) (code : CodeOf) (ruled : HasRules s) (names : NamesObjects s) (stays : StaysSane s) (compiled : Compiled s code) (l : Limits) (input : List ℕ) where
   -- the program comes to the configuration, in this world
   abbrev Comes : World → Configuration → Type 0
   Comes o c = (n : ℕ) × (run s l input n ≡ Going o c)
@@ -69,8 +67,8 @@ module _ (s : Source) (code : CodeOf) (ruled : HasRules s) (names : NamesObjects
       (going (settled _ no_instances no_instances (0, refl) (record { chain = record { still = refl; is = refl }; store = record { as_many = refl; at = λ j. tt; all = λ j x e. absurd (cc) }; parked = λ j. tt })))
 
 -- both runs show the same
-pub same_runs : (s : Source) (code : CodeOf) → HasRules s → NamesObjects s → StaysSane s → Unprefixed s → Compiled s code → SameRuns s code
-same_runs s code ruled names stays flat whole = let compiled = coding s code flat whole in record {
+pub same_runs : (s : Source) (code : CodeOf) → HasRules s → NamesObjects s → StaysSane s → Compiled s code → SameRuns s code
+same_runs s code ruled names stays compiled = record {
   shows = λ l input n. forth Configuration Machine (step s l) (mstep code l) (Ranks s code ruled names stays compiled l input) (weight s) (simulates s code ruled names stays compiled l input) n _ _ (caught (opens s code ruled names stays compiled l input));
   only = λ l input m. only Configuration Machine (step s l) (mstep code l) (Ranks s code ruled names stays compiled l input) (weight s) (simulates s code ruled names stays compiled l input) m _ _ (caught (opens s code ruled names stays compiled l input));
   steps = λ l input m.

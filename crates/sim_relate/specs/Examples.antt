@@ -1,11 +1,18 @@
 -- Codes of worked programs that stand for them.
-use Rattle.std.specs.Prelude.{codes, false, pos, [], ◌∷◌}
+use Rattle.std.specs.Prelude.{codes, false, pos, [], ◌∷◌, None}
+use Rattle.sim_scope.specs.Source.{Source}
+use Rattle.sim_tree.specs.declared.stmt.Assignment.TheVariants as assignment
+use Rattle.sim_tree.specs.declared.stmt.TypeName.TheVariants as type_name
+use Rattle.sim_tree.specs.Syntax.{Also, Assign, Begin, Compound, Constant, DeclareClass, IntegerValue, Named, NoDeclaration, NoMore, NoStatement, Prefixed, Simple, Then, Variables, With}
 use Rattle.sim_code.specs.declared.code.BlockKind.TheVariants as block_kind
+use Rattle.sim_code.specs.declared.code.CodeFormal.{CodeFormal}
+use Rattle.sim_code.specs.declared.code.CodeMode.TheVariants as mode
 use Rattle.sim_code.specs.declared.code.CodeType.TheVariants as type
+use Rattle.sim_code.specs.declared.code.FormalShape.TheVariants as shape
 use Rattle.sim_code.specs.declared.instr.Instr.TheVariants as i
 use Rattle.sim_code.specs.Code.{ClassOf, CodeOf}
-use Rattle.sim_meaning.specs.ClassExamples.{objects_without_end}
-use Rattle.sim_meaning.specs.Examples.{factorial_20, for_list, sub_block}
+use Rattle.sim_meaning.specs.ClassExamples.{Alone, at as at_token, objects_without_end, source_with_classes}
+use Rattle.sim_meaning.specs.Examples.{factorial_20, for_list, identifier, sub_block, token}
 use Rattle.sim_meaning.specs.TextExamples.{parts}
 use Rattle.codegen.specs.Compiled.{Compiled}
 use Rattle.codegen.specs.Examples.{at, block, code, factorial_20_code, for_list_code}
@@ -25,11 +32,29 @@ the_class = record { prefix = 0; block = 1; declarations = 17; statements = 18; 
 abbrev pub objects_code : CodeOf
 objects_code = record (code (record (block block_kind.SubBlock 1 1 0 0 type.Nothing (type.Integer ∷ []) []) { class_free = false } ∷ record (block block_kind.Object 2 2 0 17 type.Nothing (type.Integer ∷ type.Integer ∷ []) []) { class_free = false; class = 1 } ∷ []) (at 1 (i.Jump (pos 1)) ∷ at 0 i.Tick ∷ at 0 i.Tick ∷ at 0 (i.Bool (pos 1)) ∷ at 0 (i.JumpF (pos 16)) ∷ at 0 i.Tick ∷ at 0 i.Tick ∷ at 0 (i.Load (pos 1) (pos 0)) ∷ at 0 (i.Int (pos 1)) ∷ at 5 i.Add ∷ at 0 (i.Store (pos 1) (pos 0)) ∷ at 0 i.Tick ∷ at 0 (i.Link (pos 1)) ∷ at 6 (i.New (pos 1) (pos 0)) ∷ at 0 i.Pop ∷ at 0 (i.Jump (pos 2)) ∷ at 0 (i.EndLevel (pos 0)) ∷ at 0 (i.NextDecl (pos 0)) ∷ at 0 (i.Inner (pos 0)) ∷ at 0 (i.EndLevel (pos 0)) ∷ [])) { classes = the_class ∷ [] }
 
+-- begin class a(n); integer n; begin end; a(2) begin integer x; x := n end end
+abbrev pub block_with_prefix : Source
+block_with_prefix = source_with_classes ((1, 26) ∷ []) (at_token 21 Alone (codes "x") ∷ at_token 23 Alone (codes "n") ∷ []) ([]) ([]) (Begin 0 (With (DeclareClass None 1 (record { name = (identifier 2 (codes "a")); formals = (identifier 4 (codes "n") ∷ []); modes = []; specifications = (record { kind = Simple (type_name.Integer (token 7)); names = (identifier 8 (codes "n") ∷ []) } ∷ []) }) (record { protections = []; virtuals = [] }) (Compound (Begin 10 NoDeclaration NoStatement 11)) 12) NoDeclaration) (Also (Prefixed (identifier 13 (codes "a")) (Then (Constant (IntegerValue (pos 2)) 15) NoMore) (Begin 17 (With (Variables (type_name.Integer (token 18)) (record { name = (identifier 19 (codes "x")); value = None } ∷ [])) NoDeclaration) (Also (Assign (Named (identifier 21 (codes "x")) NoMore) (record { sign = assignment.Value; token = 22; value = (Named (identifier 23 (codes "n")) NoMore) } ∷ [])) NoStatement) 24)) NoStatement) 25)
+
+-- its code: the class in front, with its parameter, and the prefixed block behind it
+abbrev pub the_prefix : ClassOf
+the_prefix = record { prefix = 0; block = 1; declarations = 5; statements = 6; after_inner = 7; process = false; matches = [] }
+
+abbrev pub the_prefixed : ClassOf
+the_prefixed = record { prefix = 1; block = 2; declarations = 8; statements = 9; after_inner = 13; process = false; matches = [] }
+
+abbrev pub the_parameter : CodeFormal
+the_parameter = record { mode = mode.Value; shape = shape.Simple; code_type = type.Integer; class = 0 }
+
+abbrev pub prefixed_code : CodeOf
+prefixed_code = record (code (record (block block_kind.SubBlock 1 0 0 0 type.Nothing [] []) { class_free = false } ∷ record (block block_kind.Object 2 1 0 5 type.Nothing (type.Nothing ∷ []) (the_parameter ∷ [])) { class_free = false; class = 1 } ∷ record (block block_kind.Prefixed 2 2 0 8 type.Nothing (type.Nothing ∷ type.Integer ∷ []) (the_parameter ∷ [])) { class_free = false; class = 2 } ∷ []) (at 1 (i.Jump (pos 1)) ∷ at 0 i.Tick ∷ at 0 (i.Int (pos 2)) ∷ at 1 (i.Pref (pos 2) (pos 1)) ∷ at 0 (i.EndLevel (pos 0)) ∷ at 0 (i.NextDecl (pos 0)) ∷ at 0 (i.Inner (pos 0)) ∷ at 0 (i.EndLevel (pos 0)) ∷ at 0 (i.NextDecl (pos 1)) ∷ at 0 i.Tick ∷ at 0 (i.Load (pos 2) (pos 0)) ∷ at 0 (i.Store (pos 2) (pos 1)) ∷ at 0 (i.Inner (pos 1)) ∷ at 0 (i.EndLevel (pos 1)) ∷ [])) { classes = the_prefix ∷ the_prefixed ∷ [] }
+
 -- a `for` list of three kinds of elements with one statement; a procedure that calls itself; a sub-block with arrays, an assignment to
--- several left sides, a choice; attributes of texts, assignments of texts, `&`; objects of a class
+-- several left sides, a choice; attributes of texts, assignments of texts, `&`; objects of a class; a block with a prefix
 pub record WorkedCodes : Type 0 where
   pub for_list_stands : Compiled for_list for_list_code
   pub factorial_20_stands : Compiled factorial_20 factorial_20_code
   pub sub_block_stands : Compiled sub_block sub_block_apart
   pub parts_stands : Compiled parts parts_code
   pub objects_stand : Compiled objects_without_end objects_code
+  pub prefixed_stands : Compiled block_with_prefix prefixed_code

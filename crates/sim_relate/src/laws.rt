@@ -1,7 +1,6 @@
 //! That code shows what its program means. Each law is a function that does nothing; its clause is the law.
 ghost use Rattle.sim_scope.specs.Source.{Source};
 ghost use Rattle.sim_code.specs.Code.{CodeOf};
-ghost use Rattle.codegen.specs.Agrees.{Unprefixed};
 ghost use Rattle.codegen.specs.Compiled.{Compiled};
 ghost use Rattle.sim_meaning.specs.Sane.{HasRules, NamesObjects, StaysSane};
 ghost use Rattle.sim_relate.specs.SameRuns.{SameRuns};
@@ -14,15 +13,14 @@ ghost use Rattle.sim_relate.specs.Examples.{WorkedCodes};
 /// than the instruction that stands for them. A reference that was taken last into a hand names an object: tests of its class have no
 /// instruction for anything else. At each moment the instance that operates lives with its enclosers and stands at no other place of the
 /// chains: code needs it where an instruction finds an instance by its level, outward from the one that operates, and where a temp is
-/// written that no other work may count on. Each program that breaks no rule is so, as soundness shows. The fourth speaks of its tables:
-/// no block has a prefix, since prefixed blocks are not built yet.
+/// written that no other work may count on. Each program that breaks no rule is so, as soundness shows.
 #[tactic(auto, using(crate::proofs::Whole::same_runs))]
 pub fn compiled_code_runs_as_meant()
-    ensures { (s : Source) (code : CodeOf) → HasRules s → NamesObjects s → StaysSane s → Unprefixed s → Compiled s code → SameRuns s code }
+    ensures { (s : Source) (code : CodeOf) → HasRules s → NamesObjects s → StaysSane s → Compiled s code → SameRuns s code }
 {}
 
-/// There is code that stands for a program: five worked codes do, of a `for` list, of a procedure that calls itself, of a sub-block with
-/// arrays, of a program with texts, and of one that makes objects. So no part of what is asked of code speaks against another.
+/// There is code that stands for a program: six worked codes do, of a `for` list, of a procedure that calls itself, of a sub-block with
+/// arrays, of a program with texts, of one that makes objects, and of one with a prefixed block. So no part of what is asked of code speaks against another.
 #[tactic(auto, using(crate::proofs::Examples::worked_codes))]
 pub fn worked_codes_stand_for_their_programs()
     ensures { WorkedCodes }

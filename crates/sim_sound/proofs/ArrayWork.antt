@@ -11,7 +11,7 @@ use Rattle.sim_values.specs.declared.kind.Kind.TheVariants as kind
 use Rattle.sim_meaning.specs.Attributes.{is_connection}
 use Rattle.sim_meaning.specs.Closing.{close}
 use Rattle.sim_meaning.specs.Entries.{arrays_declared, arrays_of, bounds_of, first_array, further_arrays, numbers_of, segments_of}
-use Rattle.sim_meaning.specs.Levels.{is_class}
+use Rattle.sim_meaning.specs.Levels.{has_levels}
 use Rattle.sim_meaning.specs.Pending.{ArrayOp, Declared, Do, Eval, Instances, Item, StoreOp, ToCell}
 use Rattle.sim_meaning.specs.Texts.{Text, declared_at, kind_named, text}
 use Rattle.sim_sound.specs.Expressions.{ExprIs}
@@ -96,10 +96,10 @@ module _ (s : Source) (ok : Typed s) (o : AllArrays) (m : Instances) (j t k : �
 
   -- what its cell holds, and that it is there
   array_holds : (h : Holds) (n : Identifier) (a : ArrayIs s h n) → key_holds s k (Declared (a.declaration).0) ≡ Some (ArrayOf h)
-  array_holds h n a = ap (entry_holds s (is_class (text s k))) a.is ∙ ap (λ z. Some (ArrayOf z)) a.holds
+  array_holds h n a = ap (entry_holds s (has_levels (text s k))) a.is ∙ ap (λ z. Some (ArrayOf z)) a.holds
 
   array_key : (h : Holds) (n : Identifier) (a : ArrayIs s h n) → Among a.declaration (numbers_of s k) → KeyAmong (Declared (a.declaration).0) (keys_in s k (text s k))
-  array_key h n a among = key_there s ok k x a.declaration (ArrayOf h) (is_class (text s k)) (level_solid s ok solid at) is (array_holds h n a) among
+  array_key h n a among = key_there s ok k x a.declaration (ArrayOf h) (has_levels (text s k)) (level_solid s ok solid at) is (array_holds h n a) among
 
   stored_work : (d : DeclNo) (h : Holds) (todo : List DeclNo) (w : List Item) → key_holds s k (Declared d.0) ≡ Some (ArrayOf h) → KeyAmong (Declared d.0) (keys_in s k (text s k)) → Wk w todo [] → Wk (Do (StoreOp (ToCell j (Declared d.0))) ∷ w) (d ∷ todo) (Value (ArrayOf h) ∷ [])
   stored_work d h todo w holds there z = (todo, [], array_stored (record { declaration = d; element = h; level = k; of_level = at; is = refl; holds = holds; there = there; waits = refl; «in» = refl }), z)

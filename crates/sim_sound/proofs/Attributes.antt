@@ -1,5 +1,6 @@
 -- The closed trees of what objects have are fine: an attribute of the object that a tree gives, by the class that declares it.
 use Rattle.std.proofs.Common.{◌≡◌, ℕ, Bool, true, false, List, Option, Some, None, refl, sym, ap, ◌∙◌, subst}
+use Rattle.std.specs.Prelude.{not}
 use Rattle.sim_base.specs.declared.numbering.DeclNo.{DeclNo}
 use Rattle.sim_scope.specs.declared.types.Entry.{Entry}
 use Rattle.sim_scope.specs.declared.types.Entry.TheVariants as entry
@@ -10,25 +11,26 @@ use Rattle.sim_scope.specs.declared.types.Mode.{Mode}
 use Rattle.sim_scope.specs.declared.types.Mode.TheVariants as mode
 use Rattle.sim_scope.specs.declared.types.SimType.{SimType}
 use Rattle.sim_scope.specs.declared.types.SimType.TheVariants as type
-use Rattle.sim_scope.specs.Levels.{has_level}
+use Rattle.sim_scope.specs.Levels.{has_level, has_standard}
 use Rattle.sim_scope.specs.Scopes.{entry_of, result_in, result_of}
 use Rattle.sim_scope.specs.Source.{Source, block_of}
-use Rattle.sim_tree.specs.declared.expr.Identifier.{Identifier}
-use Rattle.sim_tree.specs.Syntax.{Declarations, Expressions, Heading, NoMore, Statements, Then}
+use Rattle.sim_tree.specs.Syntax.{Declarations, Expressions, NoMore, Statements, Then}
 use Rattle.sim_values.specs.declared.kind.Kind.TheVariants as kind
 use Rattle.sim_values.specs.Plain.{Plain, kind_of}
-use Rattle.sim_meaning.specs.Attributes.{array_attribute, attribute_place, element_at, entry_at, entry_attribute, is_connection, parameter_at, parameter_attribute, variable_at, variable_attribute}
-use Rattle.sim_meaning.specs.Entries.{formals_of}
-use Rattle.sim_meaning.specs.Levels.{is_class, qualification}
+use Rattle.sim_meaning.specs.Attributes.{array_attribute, attribute_place, element_at, entry_at, entry_attribute, parameter_at, parameter_attribute, variable_at, variable_attribute}
+use Rattle.sim_meaning.specs.Entries.{formals_of, numbers_of}
+use Rattle.sim_meaning.specs.Levels.{has_levels, level_made, qualification, unless_standard, writes_inner}
+use Rattle.sim_meaning.specs.Objects.{attributes_from}
 use Rattle.sim_meaning.specs.Pending.{Declared, Instances, Term, Terms}
-use Rattle.sim_meaning.specs.Texts.{ClassText, StandardText, Text, constant_of, kind_of_type, text}
+use Rattle.sim_meaning.specs.Texts.{ClassText, PrefixedText, Text, constant_of, kind_of_type, text}
 use Rattle.sim_sound.specs.Held.{ArrayOf, Fits, FitsIn, Holds, Refers, Simply, entry_holds, formal_holds, given_by, held_by, key_holds, reference_to, result_declared, result_holds}
 use Rattle.sim_sound.specs.Expressions.{ArrayNames, ConstantNames, DeclaredGives, HeldNames, VariableNames}
 use Rattle.sim_sound.specs.Statements.{LeftHeld}
 use Rattle.sim_sound.specs.Typed.{ClassTyped, Typed}
 use Rattle.sim_sound.proofs.Lists.{same_some}
+use Rattle.sim_sound.proofs.Prefixes.{levels_solid}
 use Rattle.sim_sound.proofs.Reach.{among_block, key_there}
-use Rattle.sim_sound.proofs.Sound.{AddressOf, AttributeFine, GivesResult, IntegersFine, IsPlain, KeyAmong, Kinds, ProcedureIn, TermFine, TermsFine, Value, formal_kinds, held_kinds, keys_in}
+use Rattle.sim_sound.proofs.Sound.{AddressOf, AttributeFine, GivesResult, IntegersFine, IsPlain, KeyAmong, Kinds, ProcedureIn, TermFine, TermsFine, Value, formal_kinds, held_kinds, keys_in, own_cells}
 
 -- ---- what is declared
 
@@ -123,23 +125,25 @@ module _ (s : Source) (Known : Type 0) (d : DeclNo) where
   text_left (Then x es) Indices None a = absurd a
 
 module _ (s : Source) (ok : Typed s) where
-  -- a class is as it is typed
-  pub record ClassWords (u : ℕ) : Type 0 where
-    pub prefix : Option Identifier
-    pub heading : Heading
+  -- a class or a prefixed block is as it is typed, and so is the level that is made of it
+  pub record Leveled (u : ℕ) : Type 0 where
+    pub words : Text
+    pub is : text s u ≡ Some words
     pub declarations : Declarations
     pub statements : Statements
-    pub is : text s u ≡ Some (ClassText prefix heading declarations statements)
     pub typed : ClassTyped s u declarations statements
+    pub own : own_cells s u words ≡ attributes_from s (numbers_of s u)
+    pub last : Bool
+    pub made : level_made s u (Some words) ≡ unless_standard (has_standard s.tables u) (record { text = u; declarations = declarations; statements = statements; inner_last = last })
 
-  words_of : (u : ℕ) (x : Option Text) → text s u ≡ x → is_class x ≡ true → ClassWords u
-  words_of u (Some (ClassText p h ds ss)) e c = record { prefix = p; heading = h; declarations = ds; statements = ss; is = e; typed = ok.texts u (ClassText p h ds ss) e }
-  words_of u (Some (StandardText which)) e c = absurd (ok.texts u (StandardText which) e)
-  words_of u None e c = absurd (cc)
-  words_of u (Some _) e c = absurd (cc)
+  leveled_as : (u : ℕ) (x : Option Text) → text s u ≡ x → has_levels x ≡ true → Leveled u
+  leveled_as u (Some (ClassText p h ds ss)) e has = record { words = ClassText p h ds ss; is = e; declarations = ds; statements = ss; typed = ok.texts u (ClassText p h ds ss) e; own = refl; last = not (writes_inner s u); made = refl }
+  leveled_as u (Some (PrefixedText c es ds ss)) e has = record { words = PrefixedText c es ds ss; is = e; declarations = ds; statements = ss; typed = ok.texts u (PrefixedText c es ds ss) e; own = refl; last = _; made = refl }
+  leveled_as u None e has = absurd (cc)
+  leveled_as u (Some _) e has = absurd (cc)
 
-  pub class_words : (u : ℕ) → is_class (text s u) ≡ true → ClassWords u
-  class_words u c = words_of u (text s u) refl c
+  pub leveled : (u : ℕ) → has_levels (text s u) ≡ true → Leveled u
+  leveled u has = leveled_as u (text s u) refl has
 
   -- a procedure stands in the text of its declaration, and gives what that says
   pub procedure_in : (d : DeclNo) (result : Option SimType) (k : ℕ) → entry_of s.tables d ≡ Some (entry.Procedure result k) → ProcedureIn s k (block_of s d)
@@ -158,24 +162,24 @@ module _ (s : Source) (ok : Typed s) where
   -- ---- the attributes of a class
 
   module _ (d : DeclNo) (c : ℕ) (level : has_level s.tables c (block_of s d) ≡ true) where
-    there_in : (h : Holds) → (is_class (text s (block_of s d)) ≡ true → key_holds s (block_of s d) (Declared d.0) ≡ Some h) → is_class (text s (block_of s d)) ≡ true → KeyAmong (Declared d.0) (keys_in s (block_of s d) (text s (block_of s d)))
-    there_in h is class =
-        let w = class_words (block_of s d) class in
-        let x = entry_there s (entry_of s.tables d) (is_class (text s (block_of s d))) h (is class) in
-        key_there s ok (block_of s d) (ClassText w.prefix w.heading w.declarations w.statements) d h (is_class (text s (block_of s d))) (ap is_connection w.is) w.is (is class) (among_block s ok d x.0 x.1)
+    there_in : (h : Holds) → (has_levels (text s (block_of s d)) ≡ true → key_holds s (block_of s d) (Declared d.0) ≡ Some h) → has_levels (text s (block_of s d)) ≡ true → KeyAmong (Declared d.0) (keys_in s (block_of s d) (text s (block_of s d)))
+    there_in h is has =
+        let w = leveled (block_of s d) has in
+        let x = entry_there s (entry_of s.tables d) (has_levels (text s (block_of s d))) h (is has) in
+        key_there s ok (block_of s d) w.words d h (has_levels (text s (block_of s d))) (levels_solid (text s (block_of s d)) has) w.is (is has) (among_block s ok d x.0 x.1)
 
     -- a variable, an array or a parameter
-    holding : (h : Holds) → entry_holds s true (entry_of s.tables d) ≡ Some h → is_class (text s (block_of s d)) ≡ true → key_holds s (block_of s d) (Declared d.0) ≡ Some h
-    holding h e class = ap (λ b. entry_holds s b (entry_of s.tables d)) class ∙ e
+    holding : (h : Holds) → entry_holds s true (entry_of s.tables d) ≡ Some h → has_levels (text s (block_of s d)) ≡ true → key_holds s (block_of s d) (Declared d.0) ≡ Some h
+    holding h e has = ap (λ b. entry_holds s b (entry_of s.tables d)) has ∙ e
 
     pub attribute_is : (h : Holds) → entry_holds s true (entry_of s.tables d) ≡ Some h → AttributeFine s (block_of s d) (Declared d.0) h c
     attribute_is h e = record { level = level; is = holding h e; there = there_in h (holding h e) }
 
     -- a constant, which has a value of its type
-    constant_held : (ty : SimType) (v : Plain) → entry_of s.tables d ≡ Some (entry.Constant ty) → constant_of s d ≡ Some v → is_class (text s (block_of s d)) ≡ true → key_holds s (block_of s d) (Declared d.0) ≡ Some (Simply (kind_of v))
-    constant_held ty v e is class =
-        let w = class_words (block_of s d) class in
-        let holds : key_holds s (block_of s d) (Declared d.0) ≡ Some (Simply (kind_of_type ty)) = holding (Simply (kind_of_type ty)) (ap (entry_holds s true) e) class in
+    constant_held : (ty : SimType) (v : Plain) → entry_of s.tables d ≡ Some (entry.Constant ty) → constant_of s d ≡ Some v → has_levels (text s (block_of s d)) ≡ true → key_holds s (block_of s d) (Declared d.0) ≡ Some (Simply (kind_of v))
+    constant_held ty v e is has =
+        let w = leveled (block_of s d) has in
+        let holds : key_holds s (block_of s d) (Declared d.0) ≡ Some (Simply (kind_of_type ty)) = holding (Simply (kind_of_type ty)) (ap (entry_holds s true) e) has in
         let known = (w.typed).constants d ty (among_block s ok d (entry.Constant ty) e) e in
         let same : v ≡ known.value = same_some (constant_of s d) v known.value is known.is in
         holds ∙ ap (λ z. Some (Simply z)) (sym (ap kind_of same ∙ known.of_type))

@@ -12,7 +12,7 @@ use Rattle.sim_code.specs.Instances.{Instance, live}
 use Rattle.sim_code.specs.Instances as instances
 use Rattle.sim_meaning.specs.Attributes.{cell_of_connection, is_connection}
 use Rattle.sim_meaning.specs.Entries.{first_cells, numbers_of}
-use Rattle.sim_meaning.specs.Levels.{is_class, qualification}
+use Rattle.sim_meaning.specs.Levels.{has_levels, qualification}
 use Rattle.sim_meaning.specs.Objects.{attributes_from, with_attribute}
 use Rattle.sim_meaning.specs.Pending.{ArrayValue, Connection, Declared, Held, Instances, Key, Of, Result, Val, cell, cell_set, held, held_set}
 use Rattle.sim_meaning.specs.Texts.{BlockText, ClassText, ConnectionText, PrefixedText, ProcedureText, StandardText, Text, text}
@@ -22,7 +22,7 @@ use Rattle.sim_sound.proofs.Sound.{AllArrays, Begun, CellIs, CellTarget, Instanc
 use Rattle.sim_sound.proofs.Changes.{held_fine, held_plain, set_there}
 use Rattle.sim_sound.proofs.Lists.{same_some}
 use Rattle.sim_sound.proofs.Moves.{knows_then}
-use Rattle.sim_sound.proofs.Prefixes.{LevelOf, level_class, level_solid, level_then, only_level, prefix_level, same_class, same_level}
+use Rattle.sim_sound.proofs.Prefixes.{LevelOf, class_has, is_connection_text, level_has_levels, level_solid, level_then, only_level, prefix_level, same_level, same_levels}
 
 -- a value that another instance knows, which is known
 pub val_up : (s : Source) (o : AllArrays) (m : Instances) (i j : ℕ) → Knows m i j → (h : Holds) (v : Val) → ValFine s o m j h v → ValFine s o m i h v
@@ -81,18 +81,6 @@ pub fine_at : (s : Source) (o : AllArrays) (m : Instances) (j t : ℕ) (todo : L
 fine_at s o m j t todo store p = store.instances j p.now p.lives
 
 -- the text of a connection has no cells
-connection_text : (x : Option Text) → is_connection x ≡ true → x ≡ Some ConnectionText
-connection_text None e = absurd (cc)
-connection_text (Some ConnectionText) e = refl
-connection_text (Some (BlockText begin ds ss)) e = absurd (cc)
-connection_text (Some (ProcedureText result h a)) e = absurd (cc)
-connection_text (Some (ClassText prefix h ds ss)) e = absurd (cc)
-connection_text (Some (PrefixedText class arguments ds ss)) e = absurd (cc)
-connection_text (Some (StandardText which)) e = absurd (cc)
-
-pub is_connection_text : (s : Source) (t : ℕ) → is_connection (text s t) ≡ true → text s t ≡ Some ConnectionText
-is_connection_text s t e = connection_text (text s t) e
-
 no_key : (s : Source) (t : ℕ) (key : Key) → KeyAmong key (keys_in s t (Some ConnectionText)) → ⊥
 unfolding first_cells
 no_key s t key a = elim a [ ]
@@ -132,32 +120,32 @@ attributes_declared : (s : Source) (key : Key) (ds : List DeclNo) → KeyAmong k
 attributes_declared s key [] a = elim a [ ]
 attributes_declared s key (d ∷ ds) a = attribute_declared s key d (entry_of s.tables d) (attributes_from s ds) (attributes_declared s key ds) a
 
--- those of a class are those of its declarations
-class_key : (s : Source) (u : ℕ) (x : Option Text) (key : Key) → is_class x ≡ true → KeyAmong key (keys_in s u x) → IsDeclared key
+-- those of what has levels are those of its declarations
+leveled_key : (s : Source) (u : ℕ) (x : Option Text) (key : Key) → has_levels x ≡ true → KeyAmong key (keys_in s u x) → IsDeclared key
 unfolding first_cells
-class_key s u (Some (ClassText prefix h ds ss)) key class a = attributes_declared s key (numbers_of s u) a
-class_key s u (Some (StandardText which)) key class a = elim a [ ]
-class_key s u None key class a = absurd (cc)
-class_key s u (Some (BlockText begin ds ss)) key class a = absurd (cc)
-class_key s u (Some (ProcedureText result h b)) key class a = absurd (cc)
-class_key s u (Some (PrefixedText c arguments ds ss)) key class a = absurd (cc)
-class_key s u (Some ConnectionText) key class a = absurd (cc)
+leveled_key s u (Some (ClassText prefix h ds ss)) key has a = attributes_declared s key (numbers_of s u) a
+leveled_key s u (Some (PrefixedText c arguments ds ss)) key has a = attributes_declared s key (numbers_of s u) a
+leveled_key s u None key has a = absurd (cc)
+leveled_key s u (Some (BlockText begin ds ss)) key has a = absurd (cc)
+leveled_key s u (Some (ProcedureText result h b)) key has a = absurd (cc)
+leveled_key s u (Some (StandardText which)) key has a = absurd (cc)
+leveled_key s u (Some ConnectionText) key has a = absurd (cc)
 
 pub key_level : (s : Source) → Typed s → {k u : ℕ} → is_connection (text s k) ≡ false → LevelOf s k u → (key : Key) → KeyAmong key (keys_in s u (text s u)) → key_holds s k key ≡ key_holds s u key
 key_level s ok solid same_level key a = refl
 key_level s ok {k = k} {u = u} solid (prefix_level {b = b} e x) key a =
     let p = (ok.prefixes).prefixed_by k b solid e in
-    let d = class_key s u (text s u) key (level_class s ok p.prefix x) a in
-    ap (key_holds s k) d.1 ∙ ap (λ z. entry_holds s z (entry_of s.tables (record { 0 = d.0 }))) (same_class s ok solid (prefix_level e x)) ∙ sym (ap (key_holds s u) d.1)
+    let d = leveled_key s u (text s u) key (level_has_levels s ok (class_has s ok b p.prefix) x) a in
+    ap (key_holds s k) d.1 ∙ ap (λ z. entry_holds s z (entry_of s.tables (record { 0 = d.0 }))) (same_levels s ok solid (prefix_level e x)) ∙ sym (ap (key_holds s u) d.1)
 
--- ---- of what is no class
+-- ---- of what has no levels
 
-pub keys_alone : (s : Source) → Typed s → (k : ℕ) (ks : List Key) → is_connection (text s k) ≡ false → is_class (text s k) ≡ false → ((key : Key) → KeyAmong key (keys_in s k (text s k)) → KeyAmong key ks) → (u : ℕ) → LevelOf s k u → (key : Key) → KeyAmong key (keys_in s u (text s u)) → KeyAmong key ks
-keys_alone s ok k ks solid no_class f u at key a = f key (subst (λ z. KeyAmong key (keys_in s z (text s z))) (sym (only_level s ok solid no_class at)) a)
+pub keys_alone : (s : Source) → Typed s → (k : ℕ) (ks : List Key) → is_connection (text s k) ≡ false → has_levels (text s k) ≡ false → ((key : Key) → KeyAmong key (keys_in s k (text s k)) → KeyAmong key ks) → (u : ℕ) → LevelOf s k u → (key : Key) → KeyAmong key (keys_in s u (text s u)) → KeyAmong key ks
+keys_alone s ok k ks solid has_none f u at key a = f key (subst (λ z. KeyAmong key (keys_in s z (text s z))) (sym (only_level s ok solid has_none at)) a)
 
-pub made_alone : (s : Source) → Typed s → (k : ℕ) (todo : List DeclNo) (hs : List Held) → is_connection (text s k) ≡ false → is_class (text s k) ≡ false → ((d : DeclNo) (h : Holds) → key_holds s k (Declared d.0) ≡ Some (ArrayOf h) → KeyAmong (Declared d.0) (keys_in s k (text s k)) → held (Declared d.0) hs ≡ None → Among d todo) → Made s k todo hs
-made_alone s ok k todo hs solid no_class f u at d h is there none =
-    let same : u ≡ k = sym (only_level s ok solid no_class at) in
+pub made_alone : (s : Source) → Typed s → (k : ℕ) (todo : List DeclNo) (hs : List Held) → is_connection (text s k) ≡ false → has_levels (text s k) ≡ false → ((d : DeclNo) (h : Holds) → key_holds s k (Declared d.0) ≡ Some (ArrayOf h) → KeyAmong (Declared d.0) (keys_in s k (text s k)) → held (Declared d.0) hs ≡ None → Among d todo) → Made s k todo hs
+made_alone s ok k todo hs solid has_none f u at d h is there none =
+    let same : u ≡ k = sym (only_level s ok solid has_none at) in
     f d h (subst (λ z. key_holds s z (Declared d.0) ≡ Some (ArrayOf h)) same is) (subst (λ z. KeyAmong (Declared d.0) (keys_in s z (text s z))) same there) none
 
 -- ---- values in cells

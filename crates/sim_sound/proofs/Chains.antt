@@ -13,7 +13,7 @@ below s o m Below Outermost Is f g j t (EndBlock ∷ w) todo before a = f _ a
 below s o m Below Outermost Is f g j t (EndProcedure leaves ∷ w) todo before a = f _ a.7
 below s o m Below Outermost Is f g j t (EndLevel k ∷ w) todo before a = below s o m Below Outermost Is f g j t w todo before a
 below s o m Below Outermost Is f g j t (EndObject ∷ w) todo before a = f _ a.4
-below s o m Below Outermost Is f g j t (EndPrefixed ∷ w) todo before a = absurd a
+below s o m Below Outermost Is f g j t (EndPrefixed ∷ w) todo before a = f _ a
 below s o m Below Outermost Is f g j t (EndProgram ∷ w) todo before a = g a
 
 pub chain_less : (s : Source) (o : AllArrays) (m : Instances) (bound : ℕ) (chain : List Activation) (v : Waits) → ChainFine s o m bound chain v → (j : ℕ) → OnChain j chain → j < bound

@@ -8,7 +8,7 @@ use Rattle.sim_scope.specs.declared.types.SimType.{SimType}
 use Rattle.sim_scope.specs.Scopes.{entry_of}
 use Rattle.sim_scope.specs.Source.{Source}
 use Rattle.sim_values.specs.Plain.{initial}
-use Rattle.sim_meaning.specs.Levels.{is_class}
+use Rattle.sim_meaning.specs.Levels.{has_levels}
 use Rattle.sim_meaning.specs.Objects.{attributes_from, constant_cell, filled_in, with_attribute}
 use Rattle.sim_meaning.specs.Pending.{Declared, Held, Instances, Key, Of, Val, held, held_set, same_key}
 use Rattle.sim_meaning.specs.Texts.{constant_of, kind_of_type, text}
@@ -70,9 +70,9 @@ module _ (s : Source) (o : AllArrays) (m : Instances) (j k : ℕ) where
 
   -- ---- the first cells
 
-  module _ (class : is_class (text s k) ≡ true) (fs : List DeclNo) where
+  module _ (has : has_levels (text s k) ≡ true) (fs : List DeclNo) where
     here : (d : DeclNo) (e : Option Entry) → entry_of s.tables d ≡ e → key_holds s k (Declared d.0) ≡ entry_holds s true e
-    here d e at = ap (λ z. entry_holds s z (entry_of s.tables d)) class ∙ ap (entry_holds s true) at
+    here d e at = ap (λ z. entry_holds s z (entry_of s.tables d)) has ∙ ap (entry_holds s true) at
 
     constant_fine : (d : DeclNo) (ty : SimType) → ConstantHas s d ty → CellFine s o m j (Some (Simply (kind_of_type ty))) (constant_cell (constant_of s d))
     constant_fine d ty c = subst (λ z. CellFine s o m j (Some (Simply (kind_of_type ty))) (constant_cell z)) (sym c.is) (c.of_type, constant_names s m d c.value c.is)
@@ -135,7 +135,7 @@ module _ (s : Source) (o : AllArrays) (m : Instances) (j k : ℕ) where
   fill (d ∷ ds) [] vs hs a b there apart w = absurd a
   fill (d ∷ ds) (f ∷ fs) [] hs a b there apart w = absurd b
   fill (d ∷ ds) (f ∷ fs) (v ∷ vs) hs a b there apart w =
-      let key : key_holds s k (Declared d.0) ≡ Some a.0 = ap (entry_holds s (is_class (text s k))) a.1 ∙ a.2 in
+      let key : key_holds s k (Declared d.0) ≡ Some a.0 = ap (entry_holds s (has_levels (text s k))) a.1 ∙ a.2 in
       let value : ValFine s o m j a.0 v = subst (λ z. SomeFine s o m j k z v) a.2 b.0 in
       let fine : CellFine s o m j (key_holds s k (Declared d.0)) (Some v) = subst (λ z. CellFine s o m j z (Some v)) (sym key) (cell_of s o m j a.0 v value) in
       let r = set_there (Declared d.0) v hs (there d first) in

@@ -1,6 +1,6 @@
--- The levels of a class, as they are made: the outermost prefix first, each as the text of its class says.
+-- The levels of a class or a prefixed block, as they are made: the outermost prefix first, each as its text says.
 use Rattle.std.proofs.Common.{◌≡◌, ℕ, zero, suc, Bool, true, false, List, [], ◌∷◌, ◌++◌, length, map, Option, Some, None, ◌⊎◌, inl, inr, ⊎_elim, refl, sym, ap, ◌∙◌, subst}
-use Rattle.std.specs.Prelude.{◌==◌, if◌then◌else◌, not, slice_get, take}
+use Rattle.std.specs.Prelude.{◌==◌, if◌then◌else◌, slice_get, take}
 use Rattle.sim_base.specs.declared.numbering.DeclNo.{DeclNo}
 use Rattle.sim_scope.specs.declared.types.Entry.{Entry}
 use Rattle.sim_scope.specs.declared.types.Entry.TheVariants as entry
@@ -8,21 +8,19 @@ use Rattle.sim_scope.specs.Levels.{base}
 use Rattle.sim_scope.specs.Scopes.{class_formals, class_formals_of, entry_of, formals_at, formals_beyond, formals_in}
 use Rattle.sim_scope.specs.Source.{Source}
 use Rattle.sim_scope.specs.Tables.{BlockOf}
-use Rattle.sim_tree.specs.declared.expr.Identifier.{Identifier}
-use Rattle.sim_tree.specs.Syntax.{Heading}
 use Rattle.sim_code.specs.Instances.{Instance, live}
 use Rattle.sim_meaning.specs.Entries.{numbers_in, numbers_of}
-use Rattle.sim_meaning.specs.Levels.{both, is_class, level_made, levels, levels_beyond, levels_from, levels_inside, levels_made, levels_of, unless_standard, writes_inner}
+use Rattle.sim_meaning.specs.Levels.{both, has_levels, level_made, levels, levels_beyond, levels_from, levels_inside, levels_made, levels_of, unless_standard}
 use Rattle.sim_meaning.specs.Objects.{attributes_from, cells_of_levels, with_attribute}
 use Rattle.sim_meaning.specs.Pending.{Held, Instances, Key, Level}
-use Rattle.sim_meaning.specs.Texts.{ClassText, text}
+use Rattle.sim_meaning.specs.Texts.{Text, text}
 use Rattle.sim_sound.specs.Held.{Among, InBound, first, later}
 use Rattle.sim_sound.specs.Typed.{ClassTyped, Distinct, Ends, Typed, arrays_of_block, outermost, prefixed}
 use Rattle.sim_sound.proofs.ArrayWork.{arrays_are}
-use Rattle.sim_sound.proofs.Attributes.{ClassWords, class_words}
+use Rattle.sim_sound.proofs.Attributes.{Leveled, leveled}
 use Rattle.sim_sound.proofs.Lists.{no_some, same_some}
-use Rattle.sim_sound.proofs.Prefixes.{LevelOf, class_solid, level_has, prefix_level, same_level}
-use Rattle.sim_sound.proofs.Sound.{EntryIsArray, KeyAmong, LevelsFine, first_key, key_of, later_key, own_text}
+use Rattle.sim_sound.proofs.Prefixes.{LevelOf, class_has, class_solid, level_has, levels_solid, prefix_level, same_level}
+use Rattle.sim_sound.proofs.Sound.{EntryIsArray, KeyAmong, LevelsFine, first_key, key_of, later_key, own_cells, own_text}
 
 -- ---- lists of declarations
 
@@ -63,12 +61,14 @@ distinct_cross (x ∷ xs) ys a d (later l) r = distinct_cross xs ys a.1 d l r
 
 -- ---- levels
 
--- a level of a text as the text of its class says
+-- a level of a text as the text of its class or of its block says
 pub record LevelIs (s : Source) (k : ℕ) (x : Level) : Type 0 where
   pub level : LevelOf s k x.text
-  pub prefix : Option Identifier
-  pub heading : Heading
-  pub is : text s x.text ≡ Some (ClassText prefix heading x.declarations x.statements)
+  pub has : has_levels (text s x.text) ≡ true
+  pub words : Text
+  pub is : text s x.text ≡ Some words
+  pub own : own_cells s x.text words ≡ attributes_from s (numbers_of s x.text)
+  pub typed : ClassTyped s x.text x.declarations x.statements
 
 abbrev pub LevelsAre : Source → (text : ℕ) → List Level → Type 0
 LevelsAre s k [] = Unit {0}
@@ -98,7 +98,7 @@ are_more s k (y ∷ xs) x a i = (a.0, are_more s k xs x a.1 i)
 
 are_up : (s : Source) (k b : ℕ) → base s.tables k ≡ Some b → (xs : List Level) → LevelsAre s b xs → LevelsAre s k xs
 are_up s k b e [] a = tt
-are_up s k b e (x ∷ xs) a = let i = a.0 in (record { level = prefix_level e i.level; prefix = i.prefix; heading = i.heading; is = i.is }, are_up s k b e xs a.1)
+are_up s k b e (x ∷ xs) a = let i = a.0 in (record { level = prefix_level e i.level; has = i.has; words = i.words; is = i.is; own = i.own; typed = i.typed }, are_up s k b e xs a.1)
 
 -- those inside a level
 inside_if : (s : Source) (k : ℕ) (b : Bool) (xs ys : List Level) → LevelsAre s k xs → LevelsAre s k ys → LevelsAre s k (if b then xs else ys)
@@ -171,34 +171,31 @@ level_key s key x (y ∷ xs) (later_level i) a =
     subst (λ z. KeyAmong key (map key_of z)) (sym (attributes_append s (numbers_of s y.text) (numbers_of_levels s xs))) (key_right key (attributes_from s (numbers_of s y.text)) (attributes_from s (numbers_of_levels s xs)) (level_key s key x xs i a))
 
 module _ (s : Source) (ok : Typed s) where
-  pub level_typed : (k : ℕ) (x : Level) → LevelIs s k x → ClassTyped s x.text x.declarations x.statements
-  level_typed k x i = ok.texts x.text (ClassText i.prefix i.heading x.declarations x.statements) i.is
-
   -- ---- their arrays
 
   pub level_arrays_are : (k : ℕ) (xs : List Level) → LevelsAre s k xs → (d : DeclNo) → Among d (arrays_of_levels s xs) → EntryIsArray s d
   level_arrays_are k [] a d q = elim q [ ]
   level_arrays_are k (x ∷ xs) a d q =
-      ⊎_elim (λ l. arrays_are s (InBound x.text) x.declarations (level_typed k x a.0).arrays d l) (λ r. level_arrays_are k xs a.1 d r) (among_either d (arrays_of_block s x.declarations) (arrays_of_levels s xs) q)
+      ⊎_elim (λ l. arrays_are s (InBound x.text) x.declarations (a.0).typed.arrays d l) (λ r. level_arrays_are k xs a.1 d r) (among_either d (arrays_of_block s x.declarations) (arrays_of_levels s xs) q)
 
   level_arrays_own : (k : ℕ) (xs : List Level) → LevelsAre s k xs → (d : DeclNo) → Among d (arrays_of_levels s xs) → Among d (numbers_of_levels s xs)
   level_arrays_own k [] a d q = elim q [ ]
   level_arrays_own k (x ∷ xs) a d q =
-      ⊎_elim (λ l. among_left d (numbers_of s x.text) (numbers_of_levels s xs) ((level_typed k x a.0).own d l))
+      ⊎_elim (λ l. among_left d (numbers_of s x.text) (numbers_of_levels s xs) ((a.0).typed.own d l))
       (λ r. among_right d (numbers_of s x.text) (numbers_of_levels s xs) (level_arrays_own k xs a.1 d r)) (among_either d (arrays_of_block s x.declarations) (arrays_of_levels s xs) q)
 
   pub level_arrays_distinct : (k : ℕ) (xs : List Level) → LevelsAre s k xs → Distinct (numbers_of_levels s xs) → Distinct (arrays_of_levels s xs)
   level_arrays_distinct k [] a d = tt
   level_arrays_distinct k (x ∷ xs) a d =
-      distinct_both (arrays_of_block s x.declarations) (arrays_of_levels s xs) (level_typed k x a.0).distinct (level_arrays_distinct k xs a.1 (distinct_right (numbers_of s x.text) (numbers_of_levels s xs) d))
-      (λ e l r. distinct_cross (numbers_of s x.text) (numbers_of_levels s xs) d e ((level_typed k x a.0).own e l) (level_arrays_own k xs a.1 e r))
+      distinct_both (arrays_of_block s x.declarations) (arrays_of_levels s xs) (a.0).typed.distinct (level_arrays_distinct k xs a.1 (distinct_right (numbers_of s x.text) (numbers_of_levels s xs) d))
+      (λ e l r. distinct_cross (numbers_of s x.text) (numbers_of_levels s xs) d e ((a.0).typed.own e l) (level_arrays_own k xs a.1 e r))
 
   -- an instance stands for each
   pub levels_fine : (m : Instances) (i : ℕ) (y : Instance (List Held)) → live m i ≡ Some y → (xs : List Level) → LevelsAre s y.text xs → LevelsFine s m i xs
   levels_fine m i y lives [] a = tt
-  levels_fine m i y lives (x ∷ xs) a = let l = a.0 in (record { now = y; lives = lives; stands = own_text l.level }, (level_typed y.text x l).statements, levels_fine m i y lives xs a.1)
+  levels_fine m i y lives (x ∷ xs) a = let l = a.0 in (record { now = y; lives = lives; stands = own_text l.level }, l.typed.statements, levels_fine m i y lives xs a.1)
 
-  -- ---- all levels of a class
+  -- ---- all levels of a class or a prefixed block
 
   abbrev MadeFrom : List ℕ → List Level → Type 0
   MadeFrom [] [] = Unit {0}
@@ -218,14 +215,14 @@ module _ (s : Source) (ok : Typed s) where
   made_more (j ∷ ks) [] k x a e = absurd a
   made_more (j ∷ ks) (y ∷ ys) k x a e = (a.0, made_more ks ys k x a.1 e)
 
-  abbrev own : (k : ℕ) → ClassWords s ok k → Level
-  own k w = record { text = k; declarations = w.declarations; statements = w.statements; inner_last = not (writes_inner s k) }
+  abbrev own : (k : ℕ) → Leveled s ok k → Level
+  own k w = record { text = k; declarations = w.declarations; statements = w.statements; inner_last = w.last }
 
-  own_is : (k : ℕ) (w : ClassWords s ok k) → LevelIs s k (own k w)
-  own_is k w = record { level = same_level; prefix = w.prefix; heading = w.heading; is = w.is }
+  own_is : (k : ℕ) → has_levels (text s k) ≡ true → (w : Leveled s ok k) → LevelIs s k (own k w)
+  own_is k has w = record { level = same_level; has = has; words = w.words; is = w.is; own = w.own; typed = w.typed }
 
-  own_made : (k : ℕ) (w : ClassWords s ok k) → level_made s k (text s k) ≡ Some (own k w)
-  own_made k w = ap (level_made s k) w.is ∙ ap (λ z. unless_standard z (own k w)) (w.typed).not_standard
+  own_made : (k : ℕ) (w : Leveled s ok k) → level_made s k (text s k) ≡ Some (own k w)
+  own_made k w = ap (level_made s k) w.is ∙ w.made ∙ ap (λ z. unless_standard z (own k w)) (w.typed).not_standard
 
   pub record AllLevels (n k : ℕ) : Type 0 where
     pub list : List Level
@@ -244,39 +241,39 @@ module _ (s : Source) (ok : Typed s) where
       let y = go u (subst (λ z. LevelOf s z u) (same_some (base s.tables k) c b f e) at) in
       (y.0, y.1, in_left y.0 xs (x ∷ []) y.2)
 
-  all_levels : (n k : ℕ) → Ends s.tables n k → is_class (text s k) ≡ true → AllLevels n k
-  all_levels zero k ends class = elim ends [ ]
-  all_levels (suc n) k (outermost none) class =
-      let w = class_words s ok k class in
+  all_levels : (n k : ℕ) → Ends s.tables n k → has_levels (text s k) ≡ true → AllLevels n k
+  all_levels zero k ends has = elim ends [ ]
+  all_levels (suc n) k (outermost none) has =
+      let w = leveled s ok k has in
       record {
         list = own k w ∷ [];
         made = subst (λ z. MadeFrom (levels_beyond (levels_from s.tables n) z ++ k ∷ []) (own k w ∷ [])) (sym none) (own_made k w, tt);
-        are = (own_is k w, tt);
+        are = (own_is k has w, tt);
         covers = covers_one k (own k w) refl none;
         distinct = subst Distinct (sym (none_more (numbers_of s k))) (w.typed).different;
       }
-  all_levels (suc n) k (prefixed {b = b} e ends) class =
-      let w = class_words s ok k class in
-      let p = (ok.prefixes).prefixed_by k b (class_solid (text s k) class) e in
-      let r = all_levels n b ends p.prefix in
+  all_levels (suc n) k (prefixed {b = b} e ends) has =
+      let w = leveled s ok k has in
+      let p = (ok.prefixes).prefixed_by k b (levels_solid (text s k) has) e in
+      let r = all_levels n b ends (class_has s ok b p.prefix) in
       let apart : (d : DeclNo) → Among d (numbers_of_levels s r.list) → Among d (numbers_of s k ++ []) → ⊥ = λ d l q. (
       let y = number_from s d r.list l in
       let i = level_among s b y.0 r.list r.are y.1 in
-      (ok.prefixes).apart k b (y.0).text d (class_solid (text s k) class) e (level_has s ok b (y.0).text (class_solid (text s b) p.prefix) i.level) y.2 (subst (Among d) (none_more (numbers_of s k)) q)) in
+      (ok.prefixes).apart k b (y.0).text d (levels_solid (text s k) has) e (level_has s ok b (y.0).text (class_solid (text s b) p.prefix) i.level) y.2 (subst (Among d) (none_more (numbers_of s k)) q)) in
       record {
         list = r.list ++ own k w ∷ [];
         made = subst (λ z. MadeFrom (levels_beyond (levels_from s.tables n) z ++ k ∷ []) (r.list ++ own k w ∷ [])) (sym e) (made_more (levels_from s.tables n b) r.list k (own k w) r.made (own_made k w));
-        are = are_more s k r.list (own k w) (are_up s k b e r.list r.are) (own_is k w);
+        are = are_more s k r.list (own k w) (are_up s k b e r.list r.are) (own_is k has w);
         covers = covers_more k b (own k w) r.list refl e r.covers;
         distinct = subst Distinct (sym (numbers_append s r.list (own k w ∷ []))) (distinct_both (numbers_of_levels s r.list) (numbers_of s k ++ []) r.distinct (subst Distinct (sym (none_more (numbers_of s k))) (w.typed).different) apart);
       }
 
-  pub class_levels : (k : ℕ) → is_class (text s k) ≡ true → AllLevels (length s.tables.blocks) k
-  class_levels k class = all_levels (length s.tables.blocks) k ((ok.prefixes).ends k (class_solid (text s k) class)) class
+  pub all_levels_of : (k : ℕ) → has_levels (text s k) ≡ true → AllLevels (length s.tables.blocks) k
+  all_levels_of k has = all_levels (length s.tables.blocks) k ((ok.prefixes).ends k (levels_solid (text s k) has)) has
 
-  pub levels_are : (k : ℕ) (class : is_class (text s k) ≡ true) → levels s k ≡ Some (class_levels k class).list
+  pub levels_are : (k : ℕ) (has : has_levels (text s k) ≡ true) → levels s k ≡ Some (all_levels_of k has).list
   unfolding levels levels_of
-  levels_are k class = made_is (levels_from s.tables (length s.tables.blocks) k) (class_levels k class).list (class_levels k class).made
+  levels_are k has = made_is (levels_from s.tables (length s.tables.blocks) k) (all_levels_of k has).list (all_levels_of k has).made
 
   -- ---- the formal parameters of all levels
 
@@ -319,28 +316,28 @@ module _ (s : Source) (ok : Typed s) where
       ∙ ap (λ z. z ++ formals_at s.tables (Some k)) (formals_same n m b x (subst (Ends s.tables m) (same_some (base s.tables k) c b f e) y))
       ∙ sym (ap (λ z. beyond m z ++ formals_at s.tables (Some k)) e)
 
-  formals_up : (n k u : ℕ) → is_class (text s k) ≡ true → Ends s.tables n k → LevelOf s k u → (d : DeclNo) → Among d (class_formals s.tables u) → Among d (class_formals_of s.tables n k)
+  formals_up : (n k u : ℕ) → has_levels (text s k) ≡ true → Ends s.tables n k → LevelOf s k u → (d : DeclNo) → Among d (class_formals s.tables u) → Among d (class_formals_of s.tables n k)
   unfolding class_formals class_formals_of
-  formals_up zero k u class ends at d a = elim ends [ ]
-  formals_up (suc n) k _ class ends same_level d a = subst (Among d) (formals_same (length s.tables.blocks) (suc n) k ((ok.prefixes).ends k (class_solid (text s k) class)) ends) a
-  formals_up (suc n) k u class (outermost none) (prefix_level {b = b} e at) d a = absurd (no_some (base s.tables k) b none e)
-  formals_up (suc n) k u class (prefixed {b = c} f ends) (prefix_level {b = b} e at) d a =
-      let p = (ok.prefixes).prefixed_by k b (class_solid (text s k) class) e in
-      among_left d (beyond n (base s.tables k)) (formals_at s.tables (Some k)) (subst (λ z. Among d (beyond n z)) (sym e) (formals_up n b u p.prefix (subst (Ends s.tables n) (same_some (base s.tables k) c b f e) ends) at d a))
+  formals_up zero k u has ends at d a = elim ends [ ]
+  formals_up (suc n) k _ has ends same_level d a = subst (Among d) (formals_same (length s.tables.blocks) (suc n) k ((ok.prefixes).ends k (levels_solid (text s k) has)) ends) a
+  formals_up (suc n) k u has (outermost none) (prefix_level {b = b} e at) d a = absurd (no_some (base s.tables k) b none e)
+  formals_up (suc n) k u has (prefixed {b = c} f ends) (prefix_level {b = b} e at) d a =
+      let p = (ok.prefixes).prefixed_by k b (levels_solid (text s k) has) e in
+      among_left d (beyond n (base s.tables k)) (formals_at s.tables (Some k)) (subst (λ z. Among d (beyond n z)) (sym e) (formals_up n b u (class_has s ok b p.prefix) (subst (Ends s.tables n) (same_some (base s.tables k) c b f e) ends) at d a))
 
-  module _ (k : ℕ) (class : is_class (text s k) ≡ true) where
+  module _ (k : ℕ) (has : has_levels (text s k) ≡ true) where
     ends_here : Ends s.tables (length s.tables.blocks) k
-    ends_here = (ok.prefixes).ends k (class_solid (text s k) class)
+    ends_here = (ok.prefixes).ends k (levels_solid (text s k) has)
 
     -- they are declared by its levels
-    pub formals_among : (d : DeclNo) → Among d (class_formals s.tables k) → Among d (numbers_of_levels s (class_levels k class).list)
+    pub formals_among : (d : DeclNo) → Among d (class_formals s.tables k) → Among d (numbers_of_levels s (all_levels_of k has).list)
     unfolding class_formals
     formals_among d a =
         let f = formals_from (length s.tables.blocks) k ends_here d a in
-        let y = (class_levels k class).covers f.0 f.1 in
-        number_in s d y.0 (class_levels k class).list y.2 (subst (λ z. Among d (numbers_of s z)) (sym y.1) f.2)
+        let y = (all_levels_of k has).covers f.0 f.1 in
+        number_in s d y.0 (all_levels_of k has).list y.2 (subst (λ z. Among d (numbers_of s z)) (sym y.1) f.2)
 
     -- and all that its levels declare are among them
     pub level_formal : (u : ℕ) → LevelOf s k u → (d : DeclNo) → Among d (class_formals s.tables u) → Among d (class_formals s.tables k)
     unfolding class_formals
-    level_formal u at d a = formals_up (length s.tables.blocks) k u class ends_here at d a
+    level_formal u at d a = formals_up (length s.tables.blocks) k u has ends_here at d a

@@ -40,19 +40,19 @@ use Rattle.sim_meaning.specs.Attributes.{attribute, cell_of_connection, connecte
 use Rattle.sim_meaning.specs.Closing.{Joining, Lazily, Negated, Plainly, Sort, actual_term, array_place, array_term, behind_dot, class_parameters, close, close_actuals, close_all, close_place, constant_term, declared_place, declared_term, dot_term, formal_place, formal_term, home_of, home_of_class, image_place, in_instance, is_attribute, is_attribute_denoted, is_image_behind, is_text, is_text_type, is_variable, is_variable_denoted, is_variable_entry, literal_term, name_term, named_place, named_term, object_term, signed_term, sort_of, standard_term, stream_denoted, stream_of, sysout, two_term, variable_place, variable_term}
 use Rattle.sim_meaning.specs.Constants.{text_constant}
 use Rattle.sim_meaning.specs.Entries.{formal_before, formals_from, formals_of, is_array_by_value}
-use Rattle.sim_meaning.specs.Levels.{class_at, class_denoted, class_text, is_class, qualification}
+use Rattle.sim_meaning.specs.Levels.{class_at, class_denoted, class_text, has_levels, is_class, qualification}
 use Rattle.sim_meaning.specs.Pending.{Cell, CallOf, CopyOf, Declared, ElementOf, FitsOf, Further, ImageOf, Instances, KeptOf, Key, NoTerm, PlaceOf, StandardOf, Term, Terms, Unbuilt, ValueAt}
 use Rattle.sim_meaning.specs.Texts.{constant_of, is_class_free, text}
 use Rattle.sim_sound.specs.Held.{Among, ArrayOf, Fits, Holds, In, InBound, IsFixed, Place, Refers, Sees, SeesConnected, Simply, StandsAround, declared_holds, entry_holds, formal_holds, held_by, reference_to}
 use Rattle.sim_sound.specs.Expressions.{ActualFits, ActualsFit, AreIntegers, AreOf, ArrayNames, BehindGives, CallGives, ConstantNames, DeclaredGives, DotGives, ExprIs, HeldNames, IsReference, KnownAt, LiteralIs, NameGives, NamedGives, NewIs, ObjectHas, OfText, SortKinds, StandardGives, ThisFound, ThisIs, VariableNames, passed}
 use Rattle.sim_sound.specs.Statements.{LeftHeld}
 use Rattle.sim_sound.specs.Typed.{Typed}
-use Rattle.sim_sound.proofs.Attributes.{class_words, entry_fine, entry_lies, entry_there, gives_result, held_plain, known_of, left_known, left_variable_is, names_variable, no_left_variable, procedure_in, text_left}
+use Rattle.sim_sound.proofs.Attributes.{entry_fine, entry_lies, entry_there, gives_result, held_plain, known_of, left_known, left_variable_is, leveled, names_variable, no_left_variable, procedure_in, text_left}
 use Rattle.sim_sound.proofs.Constants.{constant_no_reference, text_no_reference, value_fine}
 use Rattle.sim_sound.proofs.Fitting.{level_itself, level_self, plain_fits}
 use Rattle.sim_sound.proofs.Cells.{own_level}
 use Rattle.sim_sound.proofs.Lists.{if_true}
-use Rattle.sim_sound.proofs.Prefixes.{LevelOf, level_has, level_of_class}
+use Rattle.sim_sound.proofs.Prefixes.{LevelOf, class_has, level_has, level_of_levels, levels_solid}
 use Rattle.sim_sound.proofs.Reach.{Reached, Reaches, ReachesText, among_block, key_there}
 use Rattle.sim_sound.proofs.Sound.{AddressOf, AllArrays, CellTarget, Copied, ImageAddress, IntegersFine, IsImage, IsPlain, Kinds, Lasting, ObjectOf, OperandIs, OperandsAre, OperandsFine, PlainFine, Present, StoreFine, TermFine, TermsFine, Value, Whole, class_kinds, formal_kinds, held_kinds, in_connection, in_hand, in_instance as at_cell, kept_kinds, simple}
 
@@ -78,7 +78,7 @@ formals_same s d result k e = ap (λ o. closing.formals_from s (scopes.formals_a
 
 -- a class is one of its own levels
 class_itself : (s : Source) → Typed s → (k : ℕ) → is_class (text s k) ≡ true → has_level s.tables k k ≡ true
-class_itself s ok k is = level_itself s k ((class_words s ok k is).typed).stays
+class_itself s ok k is = level_itself s k ((leveled s ok k (class_has s ok k is)).typed).stays
 
 class_is : (s : Source) (x : Option ℕ) (k : ℕ) → class_text s x ≡ Some k → is_class (text s k) ≡ true
 class_is s None k e = absurd (cc)
@@ -225,7 +225,7 @@ same_declared a b q = let r : b ≡ a = cc in ap number r
 pub target_of : (s : Source) → Typed s → (m : Instances) (i : ℕ) (d : DeclNo) (h : Holds) → (x : Reached s m i d) → declared_holds s (block_of s d) d ≡ Some h → CellTarget s m i x.instance (Declared d.0) h
 target_of s ok m i d h x e =
     let p = x.here in
-    let at = entry_there s (entry_of s.tables d) (is_class (text s (block_of s d))) h e in
+    let at = entry_there s (entry_of s.tables d) (has_levels (text s (block_of s d))) h e in
     record {
       around = block_of s d;
       near = x.near;
@@ -233,7 +233,7 @@ target_of s ok m i d h x e =
       here = p;
       ready = λ c f a. x.ready (subst (λ z. Among z x.todo) (same_declared d.0 c.0 f) a);
       holds = e;
-      there = key_there s ok (block_of s d) x.words d h (is_class (text s (block_of s d))) x.solid x.has_text e (among_block s ok d at.0 at.1);
+      there = key_there s ok (block_of s d) x.words d h (has_levels (text s (block_of s d))) x.solid x.has_text e (among_block s ok d at.0 at.1);
     }
 
 -- the same instance, whole
@@ -339,20 +339,19 @@ module _ (s : Source) (ok : Typed s) (o : AllArrays) (m : Instances) (store : St
       let itself : has_level s.tables b.0 b.0 ≡ true = level_self s b.0 (block_of s d) b.3 in
       (b.0, b.3, connected_fine k (Refers b.0) b.1 (connected_around from k d a) (subst (λ z. Fits s (reference_to z) (Refers b.0)) (sym b.2) itself))
 
-  -- `this` is the object around, or what is connected
-  class_this : (k : ℕ) (h : Holds) → is_class (text s k) ≡ true → StandsAround s from k → Fits s (Refers k) h → Fine (this_instance (at_level m (level_of s k) i)) (Some (Value h))
-  class_this k h is stands fits =
+  -- `this` is the object or the prefixed block around, or what is connected
+  instance_this : (k : ℕ) (h : Holds) → has_levels (text s k) ≡ true → StandsAround s from k → Fits s (Refers k) h → Fine (this_instance (at_level m (level_of s k) i)) (Some (Value h))
+  instance_this k h has stands fits =
       let x = around k stands in
       let p = x.whole in
-      let w = class_words s ok k is in
       let f = store.instances x.instance p.now p.lives in
-      let at : LevelOf s (p.now).text k = own_level s p.now k (ap is_connection w.is) p.stands in
-      let class : is_class (text s (p.now).text) ≡ true = level_of_class s ok f.solid at is in
-      let free : is_class_free s (p.now).text ≡ false = ((class_words s ok (p.now).text class).typed).stays in
+      let at : LevelOf s (p.now).text k = own_level s p.now k (levels_solid (text s k) has) p.stands in
+      let inner : has_levels (text s (p.now).text) ≡ true = level_of_levels s ok f.solid at has in
+      let free : is_class_free s (p.now).text ≡ false = ((leveled s ok (p.now).text inner).typed).stays in
       let object : ObjectOf s m x.instance k = record {
         now = p.now;
         lives = p.lives;
-        object = class;
+        object = inner;
         levels = level_has s ok (p.now).text k f.solid at;
         stays = ap (λ z. z && not (p.now).kept) (f.ends ∙ free);
         words = p.words;
@@ -361,27 +360,27 @@ module _ (s : Source) (ok : Typed s) (o : AllArrays) (m : Instances) (store : St
       } in
       subst (λ z. Fine (this_instance z) (Some (Value h))) (sym x.found) (h, refl, plain_fits s ok o m store (Refers k) h (Object x.instance) fits object)
 
-  this_fine : (k : ℕ) (h : Holds) (c d : Bool) → is_connection (text s k) ≡ c → is_class (text s k) ≡ d → ThisIs s from c d k h → Fine (this_term s m i (Some k)) (Some (Value h))
-  this_fine k h true d is class a = subst (λ z. Fine (if_any (if z then Some k else None) (λ c. connected_object s m i c) (this_instance (at_level m (level_of s k) i))) (Some (Value h))) (sym is) (connected_fine k h is a.0 a.1)
-  this_fine k h false true is class a = subst (λ z. Fine (if_any (if z then Some k else None) (λ c. connected_object s m i c) (this_instance (at_level m (level_of s k) i))) (Some (Value h))) (sym is) (class_this k h class a.0 a.1)
-  this_fine k h false false is class a = absurd a
+  this_fine : (k : ℕ) (h : Holds) (c d : Bool) → is_connection (text s k) ≡ c → has_levels (text s k) ≡ d → ThisIs s from c d k h → Fine (this_term s m i (Some k)) (Some (Value h))
+  this_fine k h true d is has a = subst (λ z. Fine (if_any (if z then Some k else None) (λ c. connected_object s m i c) (this_instance (at_level m (level_of s k) i))) (Some (Value h))) (sym is) (connected_fine k h is a.0 a.1)
+  this_fine k h false true is has a = subst (λ z. Fine (if_any (if z then Some k else None) (λ c. connected_object s m i c) (this_instance (at_level m (level_of s k) i))) (Some (Value h))) (sym is) (instance_this k h has a.0 a.1)
+  this_fine k h false false is has a = absurd a
 
   this_found : (x : Option ℕ) (h : Holds) → ThisFound s from x h → Fine (this_term s m i x) (Some (Value h))
   this_found None h a = absurd a
-  this_found (Some k) h a = this_fine k h (is_connection (text s k)) (is_class (text s k)) refl refl a
+  this_found (Some k) h a = this_fine k h (is_connection (text s k)) (has_levels (text s k)) refl refl a
 
   -- ---- identifiers
 
   module _ (line : ℕ) (es : Expressions) (ts : Terms) (acts : List Formal → Terms) (Indices : Type 0) (Operands : List Kind → Type 0) (Actuals : List Formal → Type 0) (ints : Indices → IntegersFine s m i t todo ts) (ops : (ks : List Kind) → Operands ks → OperandsFine s m i t todo ts (value_kinds ks)) (go : (fs : List Formal) → Actuals fs → TermsFine s m i t todo (acts fs) (formal_kinds s fs)) where
     held_in : (d : DeclNo) (e : Entry) (h : Holds) → entry_of s.tables d ≡ Some e → ((c : Bool) → entry_holds s c (Some e) ≡ Some h) → declared_holds s (block_of s d) d ≡ Some h
-    held_in d e h is f = ap (entry_holds s (is_class (text s (block_of s d)))) is ∙ f (is_class (text s (block_of s d)))
+    held_in d e h is f = ap (entry_holds s (has_levels (text s (block_of s d)))) is ∙ f (has_levels (text s (block_of s d)))
 
     declared_fine : (d : DeclNo) (e : Option Entry) (h : Option Holds) → entry_of s.tables d ≡ e → DeclaredGives s (Sees s from d) d es Indices Actuals e h → Fine (declared_term s m i line d e es ts acts) (held_kinds h)
     declared_fine d (Some (entry.Procedure result k)) h e a = call_fine d result k line Actuals acts h e go a
     declared_fine d (Some (entry.Constant ty)) (Some h) e a = constant_fine d es h a
     declared_fine d (Some (entry.Variable ty)) (Some h) e a = variable_fine d es (held_by s ty) h (held_in d (entry.Variable ty) (held_by s ty) e (λ c. refl)) (names_variable s (Sees s from d) es Indices (held_by s ty) h (held_plain s ty) a)
     declared_fine d (Some (entry.Array ty n)) (Some h) e a = array_fine d line es ts Indices (held_by s ty) h (held_in d (entry.Array ty n) (ArrayOf (held_by s ty)) e (λ c. refl)) ints a
-    declared_fine d (Some (entry.Formal f)) (Some h) e a = formal_fine d f.mode f.kind f.ty line es ts Indices h (ap (entry_holds s (is_class (text s (block_of s d)))) e) ints a
+    declared_fine d (Some (entry.Formal f)) (Some h) e a = formal_fine d f.mode f.kind f.ty line es ts Indices h (ap (entry_holds s (has_levels (text s (block_of s d)))) e) ints a
     declared_fine d None h e a = absurd a
     declared_fine d (Some _) None e a = absurd a
     declared_fine d (Some _) (Some h) e a = absurd a
@@ -430,7 +429,7 @@ module _ (s : Source) (ok : Typed s) (o : AllArrays) (m : Instances) (store : St
     declared_lies : (d : DeclNo) (e : Option Entry) (h : Holds) → entry_of s.tables d ≡ e → LeftHeld (Sees s from d) es Indices (entry_holds s false e) h → Fine (declared_place s m i line d e es ts) (Some (AddressOf h))
     declared_lies d (Some (entry.Variable ty)) h e a = variable_lies d es (held_by s ty) h (held_plain s ty) (held_in d (entry.Variable ty) (held_by s ty) e (λ c. refl)) a
     declared_lies d (Some (entry.Array ty n)) h e a = element_lies d es (held_by s ty) h (held_in d (entry.Array ty n) (ArrayOf (held_by s ty)) e (λ c. refl)) a
-    declared_lies d (Some (entry.Formal f)) h e a = formal_lies d f.mode f.kind f.ty es h (ap (entry_holds s (is_class (text s (block_of s d)))) e) a
+    declared_lies d (Some (entry.Formal f)) h e a = formal_lies d f.mode f.kind f.ty es h (ap (entry_holds s (has_levels (text s (block_of s d)))) e) a
     declared_lies d None h e a = absurd (nothing_left (Sees s from d) es Indices h a)
     declared_lies d (Some _) h e a = absurd (nothing_left (Sees s from d) es Indices h a)
 
@@ -661,7 +660,7 @@ module _ (s : Source) (ok : Typed s) (o : AllArrays) (m : Instances) (store : St
         let a = actual_fine s ok (ExprIs s from e) (λ z h. Fine z (Some h)) line (close s m i e) (λ h y. expr_fine e h y) (λ y. copy_fine line (close s m i e) y) (λ k y. (k, refl, y)) (λ k y. (k, refl, y)) (λ z k level y. ((Refers k, level, refl), y)) f.mode f.kind f.ty x.0 in
         (a.0, formal_kinds s fs, ap (λ z. z ∷ formal_kinds s fs) a.1, a.2, actuals_fine line es fs x.1)
 
-    class_fine : (line : ℕ) (es : Expressions) (fs : List Formal) → ActualsFit s from es fs → TermsFine s m i t todo (with_arrays_kept fs (close_actuals s m i line es fs)) (class_kinds s fs)
+    pub class_fine : (line : ℕ) (es : Expressions) (fs : List Formal) → ActualsFit s from es fs → TermsFine s m i t todo (with_arrays_kept fs (close_actuals s m i line es fs)) (class_kinds s fs)
     class_fine line NoMore [] x = refl
     class_fine line NoMore (f ∷ fs) x = absurd x
     class_fine line (Then e es) [] x = absurd x

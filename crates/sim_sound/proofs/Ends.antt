@@ -9,7 +9,7 @@ use Rattle.sim_tree.specs.declared.stmt.TypeName.{TypeName}
 use Rattle.sim_tree.specs.Syntax.{Heading, Statement}
 use Rattle.sim_code.specs.Instances.{ended_as, ends_in, is_given_at_end, object_ended}
 use Rattle.sim_code.specs.Outcome.{World}
-use Rattle.sim_meaning.specs.Levels.{is_class}
+use Rattle.sim_meaning.specs.Levels.{has_levels}
 use Rattle.sim_meaning.specs.Meaning.{do_item, has_result, instances_left, leaving, with_any, world_left}
 use Rattle.sim_meaning.specs.Pending.{Activation, EndObject, EndProcedure, Instances, Item, Of, Result, Val, cell}
 use Rattle.sim_meaning.specs.Texts.{ProcedureText, is_class_free, text}
@@ -141,14 +141,14 @@ module _ (s : Source) (ok : Typed s) (l : Limits) (o : World) (g : List Sight) (
       ap ends_in p.lives ∙ ap (λ z. z && not (p.now).kept) (f.ends ∙ ap (is_class_free s) own ∙ free)
 
   -- the object that it is, when its arrays are made
-  pub object_here : todo ≡ [] → is_class_free s t ≡ false → is_class (text s t) ≡ true → ObjectOf s m i t
-  object_here made free class =
+  pub object_here : todo ≡ [] → is_class_free s t ≡ false → has_levels (text s t) ≡ true → ObjectOf s m i t
+  object_here made free has =
       let p = b.here in
       let f = fine_at s (see g o) m i t todo b.store p in
       record {
         now = p.now;
         lives = p.lives;
-        object = ap (λ z. is_class (text s z)) own ∙ class;
+        object = ap (λ z. has_levels (text s z)) own ∙ has;
         levels = ap (λ z. has_level s.tables z t) own ∙ has_itself s ok t;
         stays = ap (λ z. z && not (p.now).kept) (f.ends ∙ ap (is_class_free s) own ∙ free);
         words = p.words;
@@ -157,10 +157,10 @@ module _ (s : Source) (ok : Typed s) (l : Limits) (o : World) (g : List Sight) (
       }
 
   -- it is terminated, and its reference, which is in hand below, is one to an object with its arrays
-  pub object_ends : (w : List Item) (vals : List Val) (rest : List Activation) → Operates m i rest → todo ≡ [] → is_class_free s t ≡ false → is_class (text s t) ≡ true → ObjectStands m i → ChainFine s (see g o) m i rest (Generated i t) → Goes (IsFine s) (do_item s l o m i w vals rest EndObject)
+  pub object_ends : (w : List Item) (vals : List Val) (rest : List Activation) → Operates m i rest → todo ≡ [] → is_class_free s t ≡ false → has_levels (text s t) ≡ true → ObjectStands m i → ChainFine s (see g o) m i rest (Generated i t) → Goes (IsFine s) (do_item s l o m i w vals rest EndObject)
   unfolding object_ended
-  object_ends w vals [] top made free class stands c = absurd c
-  object_ends w vals (a ∷ rest) top made free class stands c =
+  object_ends w vals [] top made free has stands c = absurd c
+  object_ends w vals (a ∷ rest) top made free has stands c =
       let v = see g o in
       let below = a ∷ rest in
       let less = chain_less s v m i below (Generated i t) c in
@@ -169,7 +169,7 @@ module _ (s : Source) (ok : Typed s) (l : Limits) (o : World) (g : List Sight) (
       let store = store_terminated s v m i below top less stands b.store in
       let n = chain_later s v m v m' All e i (λ j d lt k h z q f. f) below (all_apart below) (Generated i t) c in
       let x = n.expects in
-      let object = object_later s v m v m' All e i t (object_here made free class) in
+      let object = object_later s v m v m' All e i t (object_here made free has) in
       let value : ValFine s v m' a.instance x.0 (Of (Object i)) = plain_val s v m' a.instance x.0 (Object i) (plain_fits s ok v m' store (Refers t) x.0 (Object i) x.1 object) in
       ticked (IsFine s) l o (λ p. object_ended p m i below) (λ t' w'.
       subst (λ z. Goes (IsFine s) (ended_as (ran o t' w') m i below z)) (sym (is_attached s v m i below top less stands)) (

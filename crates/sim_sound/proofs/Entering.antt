@@ -17,14 +17,14 @@ use Rattle.sim_code.specs.Instances as instances
 use Rattle.sim_code.specs.Outcome.{Run, World}
 use Rattle.sim_meaning.specs.Attributes.{is_connection}
 use Rattle.sim_meaning.specs.Entries.{arrays_by_value, filled_behind, first_cells, formals_of, in_instance, instances_kept, is_held, new_instance, numbers_of, passes, words_of_cells}
-use Rattle.sim_meaning.specs.Levels.{is_class}
+use Rattle.sim_meaning.specs.Levels.{has_levels}
 use Rattle.sim_meaning.specs.Meaning.{block_work, called, first_step, has_result, procedure_entered, program_entered, sub_block_entered}
 use Rattle.sim_meaning.specs.Pending.{Activation, Address, ArrayValue, Configuration, Declared, Do, EndBlock, EndProcedure, EndProgram, Exec, Execs, Held, Instances, Item, Key, Link, Of, PastOp, ProcedureValue, Tree, Val, instance_in, owner}
-use Rattle.sim_meaning.specs.Texts.{BlockText, ClassText, ConnectionText, ProcedureText, Text, is_class_free, text}
+use Rattle.sim_meaning.specs.Texts.{BlockText, ClassText, ConnectionText, PrefixedText, ProcedureText, Text, is_class_free, text}
 use Rattle.sim_sound.specs.Held.{ArrayOf, Holds, InBound}
 use Rattle.sim_sound.specs.Typed.{BlockTyped, ProcedureTyped, Typed, TextTyped, arrays_of_block}
 use Rattle.sim_sound.proofs.ArrayWork.{arrays_are, block_arrays}
-use Rattle.sim_sound.proofs.Attributes.{class_words}
+use Rattle.sim_sound.proofs.Attributes.{leveled}
 use Rattle.sim_sound.proofs.Cells.{key_level, keys_alone, made_alone, own_site}
 use Rattle.sim_sound.proofs.Chains.{work_less}
 use Rattle.sim_sound.proofs.Changes.{ElementsFine}
@@ -55,6 +55,7 @@ module _ (s : Source) (ok : Typed s) (v : AllArrays) (m : Instances) (k : ℕ) (
       by_text (BlockText begin ds ss) e a = refl
       by_text (ProcedureText result h b) e a = refl
       by_text (ClassText prefix h ds ss) e a = sym a.stays
+      by_text (PrefixedText class arguments ds ss) e a = sym a.stays
       by_text ConnectionText e a = absurd (let z : ◌≡◌ {A = Bool} true false = sym (ap is_connection e) ∙ solid in cc)
       by_text _ e a = absurd a
 
@@ -92,10 +93,10 @@ module _ (s : Source) (ok : Typed s) (v : AllArrays) (m : Instances) (k : ℕ) (
   pub encloser_stays : (j u : ℕ) → StoreFine s v m → encloser s.tables k ≡ Some u → (p : Whole s m j u) → is_class_free s k ≡ false → Stays m j
   encloser_stays j u store around p free = record { now = p.now; lives = p.lives; stays = ap (λ q. q && not (p.now).kept) ((store.instances j p.now p.lives).ends ∙ stands_free (p.now) u (store.instances j p.now p.lives).solid p.stands (ok.not_class_free k u around free)) }
     where
-      -- a class is not class-free
+      -- what has levels is not class-free
       level_free : {n t : ℕ} → is_connection (text s n) ≡ false → LevelOf s n t → is_class_free s t ≡ false → is_class_free s n ≡ false
       level_free no_connection same_level f = f
-      level_free {n = n} no_connection (prefix_level {b = b} q a) f = ((class_words s ok n ((ok.prefixes).prefixed_by n b no_connection q).class).typed).stays
+      level_free {n = n} no_connection (prefix_level {b = b} q a) f = ((leveled s ok n ((ok.prefixes).prefixed_by n b no_connection q).has).typed).stays
 
       stands_free : (y : Instance (List Held)) (t : ℕ) → is_connection (text s y.text) ≡ false → Rattle.sim_sound.proofs.Sound.StandsFor s y t → is_class_free s t ≡ false → is_class_free s y.text ≡ false
       stands_free y t no_connection (own_text at) f = level_free no_connection at f
@@ -144,17 +145,17 @@ module _ (s : Source) (ok : Typed s) (v : AllArrays) (m : Instances) (k : ℕ) (
   cells_fine = block_cells s v after (length m.instances) k begin ds ss is typed.no_formals
 
   block_holds : (d : DeclNo) (kd : Holds) → Rattle.sim_sound.specs.Held.key_holds s k (Declared d.0) ≡ Some (ArrayOf kd) → Rattle.sim_sound.specs.Held.entry_holds s false (Rattle.sim_scope.specs.Scopes.entry_of s.tables d) ≡ Some (ArrayOf kd)
-  block_holds d kd h = sym (ap (λ z. Rattle.sim_sound.specs.Held.entry_holds s z (Rattle.sim_scope.specs.Scopes.entry_of s.tables d)) (ap Rattle.sim_meaning.specs.Levels.is_class is)) ∙ h
+  block_holds d kd h = sym (ap (λ z. Rattle.sim_sound.specs.Held.entry_holds s z (Rattle.sim_scope.specs.Scopes.entry_of s.tables d)) (ap has_levels is)) ∙ h
 
-  no_class : is_class (text s k) ≡ false
-  no_class = ap is_class is
+  has_none : has_levels (text s k) ≡ false
+  has_none = ap has_levels is
 
   block_made : Made s k (arrays_of_block s ds) cells
-  block_made = made_alone s ok k (arrays_of_block s ds) cells (block_solid s k begin ds ss is) no_class (λ d kd holds there none. typed.made d kd (block_key s k begin ds ss d (subst (λ z. KeyAmong (Declared d.0) (keys_in s k z)) is there)) (block_holds d kd holds))
+  block_made = made_alone s ok k (arrays_of_block s ds) cells (block_solid s k begin ds ss is) has_none (λ d kd holds there none. typed.made d kd (block_key s k begin ds ss d (subst (λ z. KeyAmong (Declared d.0) (keys_in s k z)) is there)) (block_holds d kd holds))
 
   pub block_begun : StoreFine s v m → Enclosed s after (length m.instances) k e → Begun s v after (length m.instances) k (arrays_of_block s ds)
   block_begun store out =
-      begun_new s ok v m k e cells (NoObject None) (BlockText begin ds ss) is (block_solid s k begin ds ss is) store (keys_alone s ok k (map key_of cells) (block_solid s k begin ds ss is) no_class (λ key a. subst (λ z. KeyAmong key (keys_in s k z)) is a)) cells_fine out (arrays_of_block s ds) block_made
+      begun_new s ok v m k e cells (NoObject None) (BlockText begin ds ss) is (block_solid s k begin ds ss is) store (keys_alone s ok k (map key_of cells) (block_solid s k begin ds ss is) has_none (λ key a. subst (λ z. KeyAmong key (keys_in s k z)) is a)) cells_fine out (arrays_of_block s ds) block_made
 
   pub block_works : StoreFine s v m → Enclosed s after (length m.instances) k e → (Below : Waits → Type 0) (Outermost : Type 0) (end : Item) → WorkFine s v after Below Outermost (length m.instances) k (end ∷ []) [] [] → WorkFine s v after Below Outermost (length m.instances) k (block_work s after (length m.instances) ds ss end) (arrays_of_block s ds) []
   block_works store out Below Outermost end x =
@@ -280,8 +281,8 @@ module _ (s : Source) (ok : Typed s) (l : Limits) (o : World) (sights : List Sig
     keys : (key : Key) → KeyAmong key (keys_in s k (text s k)) → KeyAmong key (map key_of Cells)
     keys key z = subst (KeyAmong key) (sym (filled first).same_keys) (subst (λ q. KeyAmong key (keys_in s k q)) is z)
 
-    plain : is_class (text s k) ≡ false
-    plain = ap is_class is
+    plain : has_levels (text s k) ≡ false
+    plain = ap has_levels is
 
     made : Made s k [] Cells
     made = made_alone s ok k [] Cells solid plain (λ c kd holds there none. absurd (held_there s (see (handed first).sights P) (After first) N k (Declared c.0) Cells (filled first).held_all (keys (Declared c.0) there) none))

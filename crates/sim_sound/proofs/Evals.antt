@@ -1,21 +1,24 @@
 -- Trees are taken apart, and operators do what they do, in an instance.
-use Rattle.std.proofs.Common.{◌≡◌, ℕ, zero, suc, List, [], ◌∷◌, length, Option, Some, None, refl, sym, ap, ◌∙◌, subst}
+use Rattle.std.proofs.Common.{◌≡◌, ℕ, zero, suc, true, List, [], ◌∷◌, length, Option, Some, None, refl, sym, ap, ◌∙◌, subst}
 use Rattle.sim_base.specs.declared.numbering.DeclNo.{DeclNo}
 use Rattle.sim_scope.specs.declared.types.Formal.{Formal}
+use Rattle.sim_scope.specs.Access.{encloser}
 use Rattle.sim_scope.specs.Source.{Source}
 use Rattle.sim_values.specs.declared.kind.Kind.TheVariants as kind
 use Rattle.sim_code.specs.Instances.{CellPlace, ImagePlace}
 use Rattle.sim_code.specs.Outcome.{World}
 use Rattle.sim_meaning.specs.Entries.{formals_of}
 use Rattle.sim_meaning.specs.Closing.{class_parameters}
-use Rattle.sim_meaning.specs.Pending.{Activation, Address, AttributeOf, AttributeOp, CallOf, CallOp, Cell, Configuration, CopyOf, CopyOp, Do, Either, ElementOf, ElementOp, Eval, FetchOp, FitsOf, FitsOp, Further, Given, IfOp, ImageOf, Instances, Item, JoinOp, Joined, KeepOp, KeptOf, Link, MemberOf, MemberOp, NewOf, NewOp, NoTerm, ObjectOp, Of, One, OneOp, PlaceOf, QuaOf, QuaOp, QualifiedElementOf, QualifiedElementOp, QualifiedPlaceOf, RemoteCallOf, StandardOf, StandardOp, Term, Terms, Two, TwoOp, Unbuilt, Val, ValueAt, cell}
+use Rattle.sim_meaning.specs.Pending.{Activation, Address, AttributeOf, AttributeOp, CallOf, CallOp, Cell, Configuration, CopyOf, CopyOp, Do, Either, ElementOf, ElementOp, Eval, FetchOp, FitsOf, FitsOp, Further, Given, IfOp, ImageOf, Instances, Item, JoinOp, Joined, KeepOp, KeptOf, Link, MemberOf, MemberOp, NewOf, NewOp, NoTerm, ObjectOp, Of, One, OneOp, PlaceOf, PrefixedOp, QuaOf, QuaOp, QualifiedElementOf, QualifiedElementOp, QualifiedPlaceOf, RemoteCallOf, StandardOf, StandardOp, Term, Terms, Two, TwoOp, Unbuilt, Val, ValueAt, cell}
+use Rattle.sim_meaning.specs.Levels.{has_levels}
 use Rattle.sim_meaning.specs.Steps.{count, each, eval, go}
+use Rattle.sim_meaning.specs.Texts.{text}
 use Rattle.sim_sound.specs.Held.{ArrayOf, Refers, Simply}
 use Rattle.sim_sound.specs.Typed.{Typed}
 use Rattle.sim_sound.proofs.Cells.{cell_found}
 use Rattle.sim_sound.proofs.Lifts.{Goes, had}
 use Rattle.sim_sound.proofs.Fitting.{plain_val, val_fits}
-use Rattle.sim_sound.proofs.Sound.{AddressOf, Begun, ChainFine, Copied, Fine, GivesResult, HandsFine, ImageAddress, IntegersFine, Kinds, Lasting, LinkTo, OperandsFine, Operates, ProcedureIn, ReferenceAddress, Sight, TermFine, TermsFine, Value, Waits, WorkFine, class_kinds, formal_kinds, given, integers, onto, pushed, runs, see, simple}
+use Rattle.sim_sound.proofs.Sound.{AddressOf, Begun, ChainFine, Copied, Fine, GivesResult, HandsFine, ImageAddress, IntegersFine, Kinds, Lasting, LinkTo, OperandsFine, Operates, ProcedureIn, ReferenceAddress, Sight, Site, TermFine, TermsFine, Value, Waits, WorkFine, class_kinds, formal_kinds, given, integers, onto, pushed, runs, see, simple}
 
 -- the configurations that are fine
 abbrev pub IsFine : Source → World → Configuration → Type 0
@@ -86,6 +89,27 @@ module _ (s : Source) (o : World) (g : List Sight) (long : length g ≡ length o
             out = refl;
           },
           refl,
+        ),
+        work,
+      )
+
+  -- the actual parameters of the prefix of a block
+  pub prefix_work : (k : ℕ) (ts : Terms) (line around : ℕ) (w : List Item) (ks : List Kinds) → Site s m i around → encloser s.tables k ≡ Some around → has_levels (text s k) ≡ true → TermsFine s m i t [] ts (class_kinds s (class_parameters s (Some k))) → Work w [] ks → Work (each ts (Do (PrefixedOp k (count ts) line) ∷ w)) [] ks
+  prefix_work k ts line around w ks site stands has actuals work =
+      each_fine ts (class_kinds s (class_parameters s (Some k))) (Do (PrefixedOp k (count ts) line) ∷ w) [] ks actuals (
+        [],
+        ks,
+        (
+          refl,
+          refl,
+          record {
+            around = around;
+            site = site;
+            stands_in = stands;
+            has = has;
+            «in» = refl;
+            count = many ts (class_kinds s (class_parameters s (Some k))) [] actuals ∙ class_many (class_parameters s (Some k));
+          },
         ),
         work,
       )

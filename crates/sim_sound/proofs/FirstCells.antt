@@ -19,7 +19,7 @@ use Rattle.sim_scope.specs.declared.types.SimType.{SimType}
 use Rattle.sim_scope.specs.declared.types.SimType.TheVariants as t
 use Rattle.sim_values.specs.declared.kind.Kind.{Kind}
 use Rattle.sim_values.specs.declared.kind.Kind.TheVariants as kind
-use Rattle.sim_meaning.specs.Levels.{is_class, qualification}
+use Rattle.sim_meaning.specs.Levels.{has_levels, qualification}
 use Rattle.sim_sound.specs.Held.{Among, ArrayOf, Holds, IsOfKind, Refers, Simply, entry_holds, first, formal_holds, held_by, key_holds, later, reference_to, result_holds}
 use Rattle.sim_sound.specs.Typed.{FormalsAre, NoFormal, NoFormals, ResultWritten}
 use Rattle.sim_sound.proofs.Changes.{cell_of, equal_same}
@@ -52,7 +52,7 @@ held_kind s t.Text = refl
 held_kind s t.NoneType = refl
 
 module _ (s : Source) (o : AllArrays) (m : Instances) (j k : ℕ) where
-  module _ (plain : is_class (text s k) ≡ false) where
+  module _ (plain : has_levels (text s k) ≡ false) where
     here : (d : DeclNo) (e : Option Entry) → entry_of s.tables d ≡ e → key_holds s k (Declared d.0) ≡ entry_holds s false e
     here d e at = ap (λ z. entry_holds s z (entry_of s.tables d)) plain ∙ ap (entry_holds s false) at
 
@@ -70,7 +70,7 @@ module _ (s : Source) (o : AllArrays) (m : Instances) (j k : ℕ) where
 
   pub block_cells : (begin : ℕ) (ds : Declarations) (ss : Statements) → text s k ≡ Some (BlockText begin ds ss) → NoFormals s (numbers_of s k) → CellsFine s o m j k (first_cells s k (BlockText begin ds ss))
   unfolding first_cells
-  block_cells begin ds ss is n = cells_first (ap is_class is) (numbers_of s k) n
+  block_cells begin ds ss is n = cells_first (ap has_levels is) (numbers_of s k) n
 
   -- ---- values fill the cells of formal parameters
 
@@ -97,7 +97,7 @@ module _ (s : Source) (o : AllArrays) (m : Instances) (j k : ℕ) where
 
   fill_one : (d : DeclNo) (e : Option Entry) (f : Formal) (h : Holds) (v : Val) (vs : List Val) (hs : List Held) → entry_of s.tables d ≡ e → e ≡ Some (entry.Formal f) → formal_holds s f.mode f.kind f.ty ≡ Some h → ValFine s o m j h v → Filled vs hs → Filled (v ∷ vs) (with_cell d e hs)
   fill_one d e f h v vs hs at is holds a r =
-      let key : key_holds s k (Declared d.0) ≡ Some h = ap (entry_holds s (is_class (text s k))) (at ∙ is) ∙ holds in
+      let key : key_holds s k (Declared d.0) ≡ Some h = ap (entry_holds s (has_levels (text s k))) (at ∙ is) ∙ holds in
       subst (λ z. Filled (v ∷ vs) (with_cell d z hs)) (sym is) (record {
         cells = record { key = Declared d.0; value = Some v } ∷ r.cells;
         filled_is = ap (held_before (record { key = Declared d.0; value = Some v })) r.filled_is;

@@ -8,12 +8,12 @@ use Rattle.sim_values.specs.declared.kind.Kind.{Kind}
 use Rattle.sim_values.specs.declared.kind.Kind.TheVariants as kind
 use Rattle.sim_values.specs.Plain.{Character, Integer, Nothing, Object, Plain, Text, Truth, kind_of}
 use Rattle.sim_code.specs.Instances.{Instance, live, unless_given}
-use Rattle.sim_meaning.specs.Levels.{is_class, is_in, text_at, text_in, text_is_in}
+use Rattle.sim_meaning.specs.Levels.{has_levels, is_in, text_at, text_in, text_is_in}
 use Rattle.sim_meaning.specs.Pending.{Held, Instances, Of, Val}
 use Rattle.sim_meaning.specs.Texts.{has_class_in, is_class_free, text}
 use Rattle.sim_sound.specs.Held.{ArrayOf, Fits, Holds, Refers, Simply}
 use Rattle.sim_sound.specs.Typed.{Typed}
-use Rattle.sim_sound.proofs.Prefixes.{LevelOf, level_class, level_has, level_is, level_then}
+use Rattle.sim_sound.proofs.Prefixes.{LevelOf, level_has, level_has_levels, level_is, level_then}
 use Rattle.sim_sound.proofs.Sound.{AllArrays, IsPlain, Knows, NamesObject, ObjectOf, PlainFine, ReferenceFine, StoreFine, ValFine, Whole, own_text, staying}
 
 -- ---- levels
@@ -108,9 +108,9 @@ module _ (s : Source) (ok : Typed s) (o : AllArrays) (m : Instances) (store : St
     made = p.made;
   }
 
-  -- these are classes
-  pub object_class : (j c u : ℕ) → ObjectOf s m j c → has_level s.tables c u ≡ true → is_class (text s u) ≡ true
-  object_class j c u p e = level_class s ok p.object (object_level j c u p e)
+  -- these have levels
+  pub object_levels : (j c u : ℕ) → ObjectOf s m j c → has_level s.tables c u ≡ true → has_levels (text s u) ≡ true
+  object_levels j c u p e = level_has_levels s ok p.object (object_level j c u p e)
 
   -- it stands for each of them
   pub object_whole : (j c u : ℕ) → ObjectOf s m j c → has_level s.tables c u ≡ true → Whole s m j u

@@ -7,8 +7,8 @@ use Rattle.sim_scope.specs.Source.{Source}
 use Rattle.sim_values.specs.declared.kind.Kind.{Kind}
 use Rattle.sim_values.specs.Plain.{Nothing, Object, Plain}
 use Rattle.sim_code.specs.Instances.{CellPlace, ElementPlace, ImagePlace, Instance, ends_in, is_given_at_end, live, unless_given}
-use Rattle.sim_meaning.specs.Pending.{Activation, Address, ArrayValue, AttributeOf, BackOp, BranchOp, CallOf, Cell, ChooseOp, ConnectOp, CopyOf, Declared, Do, Either, ElementOf, ElementsOp, EndBlock, EndLevel, EndObject, EndPrefixed, EndProcedure, EndProgram, EnterOp, Eval, Exec, Execs, FitsOf, Further, Given, GiveOp, Held, IfOp, ImageOf, InnerOp, Instances, Item, Joined, KeptOf, Key, Level, Link, MemberOf, NewOf, NoTerm, Of, One, Op, PlaceOf, ProcedureValue, QuaOf, QualifiedElementOf, QualifiedPlaceOf, RaiseOp, RemoteCallOf, ShareOp, StandardOf, StepTestOp, StoreOp, Target, Term, Terms, TestOp, ToAddress, ToCell, ToPlace, ToReference, ToReferenceAt, ToText, ToTextAt, ToTextOf, Tree, Two, Unbuilt, Val, ValueAt, WhenOp, WhileElementOp, held}
-use Rattle.sim_meaning.specs.Levels.{is_class}
+use Rattle.sim_meaning.specs.Pending.{Activation, Address, ArrayValue, AttributeOf, BackOp, BranchOp, CallOf, Cell, ChooseOp, ConnectOp, CopyOf, Declared, Do, Either, ElementOf, ElementsOp, EndBlock, EndLevel, EndObject, EndPrefixed, EndProcedure, EndProgram, EnterOp, Eval, Exec, Execs, FitsOf, Further, Given, GiveOp, Held, IfOp, ImageOf, InnerOp, Instances, Item, Joined, KeptOf, Key, Level, Link, MemberOf, NewOf, NoTerm, Of, One, Op, PlaceOf, PrefixedOp, ProcedureValue, QuaOf, QualifiedElementOf, QualifiedPlaceOf, RaiseOp, RemoteCallOf, ShareOp, StandardOf, StepTestOp, StoreOp, Target, Term, Terms, TestOp, ToAddress, ToCell, ToPlace, ToReference, ToReferenceAt, ToText, ToTextAt, ToTextOf, Tree, Two, Unbuilt, Val, ValueAt, WhenOp, WhileElementOp, held}
+use Rattle.sim_meaning.specs.Levels.{has_levels}
 use Rattle.sim_meaning.specs.Texts.{text}
 use Rattle.sim_sound.specs.Held.{ArrayOf, Holds, Refers, Simply, key_holds}
 use Rattle.sim_sound.proofs.Lists.{there_is}
@@ -96,7 +96,7 @@ module _ (s : Source) (o : AllArrays) (m : Instances) (o' : AllArrays) (m' : Ins
       record {
         now = y.now;
         lives = y.lives;
-        object = ap (λ z. is_class (text s z)) (y.grown).text ∙ p.object;
+        object = ap (λ z. has_levels (text s z)) (y.grown).text ∙ p.object;
         levels = ap (λ z. has_level s.tables z class) (y.grown).text ∙ p.levels;
         stays = flags_grown p.now y.now y.grown ∙ p.stays;
         words = p.words;
@@ -315,6 +315,7 @@ module _ (s : Source) (o : AllArrays) (m : Instances) (o' : AllArrays) (m' : Ins
     op_later (WhenOp arms other) todo todo' before behind a = (a.0, a.1, a.2, sited_later _ _ (λ u z. z) a.3)
     op_later (ChooseOp x y) todo todo' before behind a = (a.0, a.1, a.2, sited_later _ _ (λ u z. z) a.3)
     op_later (TestOp c x) todo todo' before behind a = (a.0, a.1, a.2, sited_later _ _ (λ u z. z) a.3)
+    op_later (PrefixedOp k n line) todo todo' before behind a = let p = a.2 in (a.0, a.1, record { around = p.around; site = site_later p.around p.site; stands_in = p.stands_in; has = p.has; «in» = p.«in»; count = p.count })
     op_later _ todo todo' before behind a = a
 
     pub work_later : (Outermost : Type 0) (Below Below' : Waits → Type 0) → ((v : Waits) → Below v → Below' v) → (w : List Item) (todo : List DeclNo) (before : List Kinds) → WorkFine s o m Below Outermost j t w todo before → WorkFine s o' m' Below' Outermost j t w todo before
@@ -324,7 +325,7 @@ module _ (s : Source) (o : AllArrays) (m : Instances) (o' : AllArrays) (m' : Ins
     work_later Outermost Below Below' f (EndProcedure leaves ∷ w) todo before a = (a.0, a.1, a.2, a.3, a.4, a.5, a.6, f _ a.7)
     work_later Outermost Below Below' f (EndLevel k ∷ w) todo before a = work_later Outermost Below Below' f w todo before a
     work_later Outermost Below Below' f (EndObject ∷ w) todo before a = (a.0, a.1, a.2, e.objects j a.3, f _ a.4)
-    work_later Outermost Below Below' f (EndPrefixed ∷ w) todo before a = absurd a
+    work_later Outermost Below Below' f (EndPrefixed ∷ w) todo before a = f _ a
     work_later Outermost Below Below' f (EndProgram ∷ w) todo before a = a
 
 -- the instances on a chain are others than the one that is given back

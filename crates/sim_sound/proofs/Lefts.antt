@@ -24,7 +24,7 @@ use Rattle.sim_values.specs.declared.kind.Kind.TheVariants as kind
 use Rattle.sim_code.specs.Instances.{at_level}
 use Rattle.sim_meaning.specs.Attributes.{attribute_place, connected_object, connection_at, declared_attribute, element_at, entry_at, if_any, parameter_at, place_of_attribute, qualified, qualified_place, variable_at}
 use Rattle.sim_meaning.specs.Closing.{Left, LeftAddress, LeftCell, LeftReference, LeftText, LeftUnbuilt, array_left, array_place, block_if, close, close_all, close_left_of, close_place, declared_left, declared_place, formal_left, formal_place, home_of, image_place, in_instance, left_found, left_in, left_variable, named_left, named_place, own_block, own_block_denoted, own_result, reference_place, result_left, result_meant, result_or, result_place, stream_of, unless_connected, variable_left, variable_place}
-use Rattle.sim_meaning.specs.Levels.{is_class}
+use Rattle.sim_meaning.specs.Levels.{has_levels}
 use Rattle.sim_values.specs.Standard.{row_of}
 use Rattle.sim_meaning.specs.Pending.{AttributeOf, CallOf, Cell, CopyOf, Declared, Either, ElementOf, FitsOf, Given, ImageOf, Instances, Joined, KeptOf, MemberOf, NewOf, NoTerm, One, PlaceOf, QuaOf, QualifiedElementOf, QualifiedPlaceOf, RemoteCallOf, Result, StandardOf, Term, Terms, Two, Unbuilt, ValueAt}
 use Rattle.sim_meaning.specs.Texts.{ProcedureText, text}
@@ -216,12 +216,12 @@ module _ (s : Source) (ok : Typed s) (o : AllArrays) (m : Instances) (store : St
   declared_is d line NoMore (Some (entry.Procedure (Some ty) block)) k e a = result_is d ty block k e a.0 a.1
   declared_is d line NoMore (Some (entry.Procedure None block)) k e a = absurd a
   declared_is d line (Then x es) (Some (entry.Procedure result block)) k e a = absurd a
-  declared_is d line NoMore (Some (entry.Variable ty)) k e a = variable_is d NoMore (AreIntegers s (In u) NoMore) (held_by s ty) k (held_plain s ty) (ap (entry_holds s (is_class (text s (block_of s d)))) e) a
-  declared_is d line (Then x es) (Some (entry.Variable ty)) k e a = variable_is d (Then x es) (AreIntegers s (In u) (Then x es)) (held_by s ty) k (held_plain s ty) (ap (entry_holds s (is_class (text s (block_of s d)))) e) a
+  declared_is d line NoMore (Some (entry.Variable ty)) k e a = variable_is d NoMore (AreIntegers s (In u) NoMore) (held_by s ty) k (held_plain s ty) (ap (entry_holds s (has_levels (text s (block_of s d)))) e) a
+  declared_is d line (Then x es) (Some (entry.Variable ty)) k e a = variable_is d (Then x es) (AreIntegers s (In u) (Then x es)) (held_by s ty) k (held_plain s ty) (ap (entry_holds s (has_levels (text s (block_of s d)))) e) a
   declared_is d line NoMore (Some (entry.Array ty n)) k e a = absurd a
-  declared_is d line (Then x es) (Some (entry.Array ty n)) k e a = array_is d line (Then x es) (held_by s ty) k (ap (entry_holds s (is_class (text s (block_of s d)))) e) a
-  declared_is d line NoMore (Some (entry.Formal f)) k e a = formal_is d f.mode f.kind f.ty line NoMore k (ap (entry_holds s (is_class (text s (block_of s d)))) e) a
-  declared_is d line (Then x es) (Some (entry.Formal f)) k e a = formal_is d f.mode f.kind f.ty line (Then x es) k (ap (entry_holds s (is_class (text s (block_of s d)))) e) a
+  declared_is d line (Then x es) (Some (entry.Array ty n)) k e a = array_is d line (Then x es) (held_by s ty) k (ap (entry_holds s (has_levels (text s (block_of s d)))) e) a
+  declared_is d line NoMore (Some (entry.Formal f)) k e a = formal_is d f.mode f.kind f.ty line NoMore k (ap (entry_holds s (has_levels (text s (block_of s d)))) e) a
+  declared_is d line (Then x es) (Some (entry.Formal f)) k e a = formal_is d f.mode f.kind f.ty line (Then x es) k (ap (entry_holds s (has_levels (text s (block_of s d)))) e) a
   declared_is d line NoMore None k e a = absurd a
   declared_is d line (Then x es) None k e a = absurd a
   declared_is d line NoMore (Some _) k e a = absurd a

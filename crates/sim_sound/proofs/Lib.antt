@@ -38,4 +38,5 @@ pub mod Main
 pub mod Examples
 pub mod ClassExamples
 pub mod PrefixExamples
+pub mod BlockExamples
 pub mod WorkedPrograms

@@ -19,7 +19,7 @@ use Rattle.sim_sound.proofs.Evals.{IsFine, Work, goes_on}
 use Rattle.sim_sound.proofs.Keeping.{fine_sane}
 use Rattle.sim_sound.proofs.Lifts.{Goes, stops}
 use Rattle.sim_sound.proofs.Naming.{fine_names}
-use Rattle.sim_sound.proofs.Objects.{declare_goes, inner_goes, level_goes, new_goes}
+use Rattle.sim_sound.proofs.Objects.{declare_goes, inner_goes, level_goes, new_goes, prefixed_goes}
 use Rattle.sim_sound.proofs.Operators.{again_op, array_op, attribute_op, copy_op, drop_op, element_op, eval_op, fetch_op, fits_op, give_op, if_op, join_op, keep_op, member_op, object_op, one_op, past_op, qua_op, qualified_element_op, refer_op, share_op, standard_op, step_op, store_op, swap_op, two_op}
 use Rattle.sim_sound.proofs.Sound.{AllOn, Begun, ChainFine, Fine, HandsFine, Kinds, NothingKept, OpFine, Operates, Sight, StoreFine, Takes, Value, WorkFine, opens, runs, see}
 use Rattle.sim_sound.proofs.Statements.{branch_goes, choose_goes, elements_goes, exec_goes, execs_goes, raise_goes, step_goes, test_goes, while_goes}
@@ -133,7 +133,7 @@ module _ (s : Source) (ok : Typed s) (l : Limits) (o : World) (sights : List Sig
         let y = a.3 in
         let z = y.2 in
         ready todo todo' before behind (Stepped (RaiseOp x line f g c)) a.0 a.1 a.2 b h work (λ b h work. raise_goes s ok l o sights long m i t rest top w vals before b h work y.0 y.1 x line f g c z.0 z.1 z.2 z.3)
-    op_goes (PrefixedOp k n line) todo todo' before behind a b h work = absurd a
+    op_goes (PrefixedOp k n line) todo todo' before behind a b h work = prefixed_goes s ok l o sights long m i t rest top w vals k n line before behind a.2 (subst Bg a.0 b) h (subst (λ z. Wk w z behind) a.1 work)
 
     item_goes : (x : Item) (todo : List DeclNo) (ks : List Kinds) → Bg todo → Hd ks → Wk (x ∷ w) todo ks → Goes (IsFine s) (do_item s l o m i w vals rest x)
     item_goes (Do op) todo ks b h a = op_goes op todo a.0 ks a.1 a.2 b h a.3
@@ -141,7 +141,7 @@ module _ (s : Source) (ok : Typed s) (l : Limits) (o : World) (sights : List Sig
     item_goes (EndProcedure leaves') todo ks b h a = procedure_ends s ok l o sights long m i t todo b b.own leaves' w vals rest top a.0 a.1 a.2 a.3 a.4 a.5 a.6 a.7
     item_goes (EndLevel k) todo ks b h a = goes_on s o sights long m i t rest top w vals todo ks b h a
     item_goes EndObject todo ks b h a = object_ends s ok l o sights long m i t todo b b.own w vals rest top a.0 a.1 a.2 a.3 a.4
-    item_goes EndPrefixed todo ks b h a = absurd a
+    item_goes EndPrefixed todo ks b h a = leaves s ok l o sights long m i t todo b b.own rest top None None tt a
     item_goes EndProgram todo ks b h a = stops (IsFine s) Normal o (λ e. cc)
 
   work_goes : (m : Instances) (i t : ℕ) (rest : List Activation) (top : Operates m i rest) (vals : List Val) (work : List Item) (todo : List DeclNo) (ks : List Kinds) → Begun s (see sights o) m i t todo → HandsFine s (see sights o) m i ks vals → Work s o sights long m i t rest top work todo ks → Goes (IsFine s) (do_work s l o m i vals rest work)

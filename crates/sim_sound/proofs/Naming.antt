@@ -1,18 +1,16 @@
 -- Each configuration with a rule is one in which references name objects.
-use Rattle.std.proofs.Common.{ℕ, List, [], ◌∷◌, None, sym, ap, subst}
+use Rattle.std.proofs.Common.{ℕ, List, [], ◌∷◌, None, sym, subst}
 use Rattle.sim_scope.specs.Source.{Source}
 use Rattle.sim_values.specs.Plain.{Character, Integer, Nothing, Object, Text, Truth}
-use Rattle.sim_meaning.specs.Levels.{has_levels}
 use Rattle.sim_meaning.specs.Pending.{Activation, Address, ArrayValue, Configuration, Instances, Link, Of, ProcedureValue, Tree, Val}
 use Rattle.sim_meaning.specs.Sane.{IsObject, LastNames, Names, NamesOn}
 use Rattle.sim_sound.specs.Held.{ArrayOf, Refers, Simply}
 use Rattle.sim_sound.specs.Typed.{Typed}
-use Rattle.sim_sound.proofs.Attributes.{class_words}
 use Rattle.sim_sound.proofs.Sound.{AddressOf, AllArrays, ChainFine, Copied, DeepFine, Fine, HandsFine, ImageAddress, Kinds, Lasting, LinkTo, ObjectOf, ReferenceAddress, Takes, Value, opens, runs}
 
 module _ (s : Source) (ok : Typed s) (o : AllArrays) (m : Instances) where
   object_is : (j c : ℕ) → ObjectOf s m j c → IsObject s m j
-  object_is j c p = let w = class_words s ok (p.now).text p.object in record { instance = p.now; lives = p.lives; levels = ap has_levels w.is }
+  object_is j c p = record { instance = p.now; lives = p.lives; levels = p.object }
 
   deep_names : (i d : ℕ) (k : Kinds) (j : ℕ) → DeepFine s o m i d k (Of (Object j)) → IsObject s m j
   deep_names i d (Value (Simply k)) j a = let x = a.1 in object_is j x.0 x.1

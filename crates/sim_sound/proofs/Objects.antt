@@ -1,8 +1,8 @@
--- Objects are generated, and what is pending in them: declarations, levels and `inner`.
-use Rattle.std.proofs.Common.{◌≡◌, ◌<◌, ℕ, suc, Bool, true, false, List, [], ◌∷◌, ◌++◌, length, map, Option, Some, None, refl, sym, ap, ◌∙◌, subst, arith}
+-- Objects are generated and prefixed blocks are entered, and what is pending in them: declarations, levels and `inner`.
+use Rattle.std.proofs.Common.{◌≡◌, ◌<◌, ◌≤◌, ℕ, suc, Bool, true, false, List, [], ◌∷◌, ◌++◌, length, map, Option, Some, None, refl, sym, ap, ◌∙◌, subst, arith}
 use Rattle.sim_base.specs.declared.limits.Limits.{Limits}
 use Rattle.sim_base.specs.declared.numbering.DeclNo.{DeclNo}
-use Rattle.sim_chains.specs.Components.{AttachedObject, Standing, TerminatedObject}
+use Rattle.sim_chains.specs.Components.{AttachedObject, NoObject, Standing, TerminatedObject}
 use Rattle.sim_scope.specs.declared.types.Entry.{Entry}
 use Rattle.sim_scope.specs.declared.types.Entry.TheVariants as entry
 use Rattle.sim_scope.specs.declared.types.Formal.{Formal}
@@ -14,27 +14,27 @@ use Rattle.sim_scope.specs.declared.types.SimType.{SimType}
 use Rattle.sim_scope.specs.Access.{encloser}
 use Rattle.sim_scope.specs.Scopes.{class_formals, entry_of}
 use Rattle.sim_scope.specs.Source.{Source}
-use Rattle.sim_tree.specs.declared.expr.Identifier.{Identifier}
-use Rattle.sim_tree.specs.Syntax.{Declarations, Heading, Statements}
+use Rattle.sim_tree.specs.Syntax.{Declarations}
 use Rattle.sim_values.specs.Plain.{Object}
 use Rattle.sim_code.specs.Arrays.{handed_over}
 use Rattle.sim_code.specs.Events.{entering, having, pop_many, popping, when}
 use Rattle.sim_code.specs.Instances.{entered, is_live}
-use Rattle.sim_code.specs.Outcome.{Run, World}
+use Rattle.sim_code.specs.Outcome.{Going, Run, World}
 use Rattle.sim_meaning.specs.Attributes.{is_connection}
 use Rattle.sim_meaning.specs.Closing.{class_parameters}
 use Rattle.sim_meaning.specs.Entries.{arrays_among, is_array_by_value, new_instance, numbers_of, words_of_cells}
-use Rattle.sim_meaning.specs.Levels.{is_class, levels}
+use Rattle.sim_meaning.specs.Levels.{has_levels, levels}
 use Rattle.sim_meaning.specs.Meaning.{do_op}
-use Rattle.sim_meaning.specs.Objects.{arrays_given, attributes_from, cells_of_levels, declared, filled_in, generated, in_object, inner_done, levels_work, object_entered}
-use Rattle.sim_meaning.specs.Pending.{Activation, Configuration, Declared, DeclareOp, EndLevel, EndObject, Held, Instances, Item, Key, Level, LevelOp, Of, Val, held, instance_in}
-use Rattle.sim_meaning.specs.Texts.{ClassText, Text, text}
-use Rattle.sim_sound.specs.Held.{Among, ArrayOf, Fits, Holds, IsFormal, Refers, Simply, entry_holds, first, held_by, key_holds, later}
+use Rattle.sim_meaning.specs.Objects.{arrays_given, attributes_from, cells_of_levels, declared, filled_in, generated, inner_done, levels_work, object_entered, prefix_done, prefixed_entered}
+use Rattle.sim_meaning.specs.Pending.{Activation, Configuration, Declared, DeclareOp, EndLevel, EndObject, EndPrefixed, Held, Instances, Item, Key, Level, LevelOp, Of, Val, held, instance_in}
+use Rattle.sim_meaning.specs.Texts.{Text, is_class_free, text}
+use Rattle.sim_sound.specs.Held.{Among, ArrayOf, Holds, IsFormal, Refers, Simply, entry_holds, first, held_by, key_holds, later}
 use Rattle.sim_sound.specs.Typed.{ClassTyped, ConstantHas, Distinct, FormalsAre, Typed, arrays_of_block}
 use Rattle.sim_sound.proofs.ArrayWork.{level_arrays}
-use Rattle.sim_sound.proofs.Cells.{fine_at, held_no_array}
+use Rattle.sim_sound.proofs.Attributes.{Leveled, leveled}
+use Rattle.sim_sound.proofs.Cells.{fine_at, held_no_array, site_whole}
 use Rattle.sim_sound.proofs.ClassCells.{FilledIn, attributes_among, attributes_distinct, attributes_first, fill, none_waits}
-use Rattle.sim_sound.proofs.ClassLevels.{AllLevels, LevelIn, LevelIs, LevelsAre, arrays_in, arrays_of_levels, cells_are, class_levels, distinct_right, formals_among, level_among, level_arrays_are, level_arrays_distinct, level_formal, level_key, level_typed, levels_are, levels_fine, number_from, number_in, numbers_of_levels}
+use Rattle.sim_sound.proofs.ClassLevels.{AllLevels, LevelIn, LevelIs, LevelsAre, all_levels_of, arrays_in, arrays_of_levels, cells_are, distinct_right, formals_among, level_among, level_arrays_are, level_arrays_distinct, level_formal, level_key, levels_are, levels_fine, number_from, number_in, numbers_of_levels}
 use Rattle.sim_sound.proofs.Entering.{begun_new, below_new, chain_lives, enters_fine, inside_new, later_new, link_is, lives_is, new_knows, same_arrays, store_handed}
 use Rattle.sim_sound.proofs.Evals.{IsFine, Work, goes_on}
 use Rattle.sim_sound.proofs.FirstCells.{ActualsAre, AllSome, ValsFine, all_taken, taken}
@@ -43,9 +43,9 @@ use Rattle.sim_sound.proofs.Later.{All, Copies, Later, all_apart, chain_later, h
 use Rattle.sim_sound.proofs.Lifts.{Goes, any_popped, enters, had, ran, whens}
 use Rattle.sim_sound.proofs.Lists.{same_some}
 use Rattle.sim_sound.proofs.Moves.{new_standing}
-use Rattle.sim_sound.proofs.Prefixes.{LevelOf, level_words}
+use Rattle.sim_sound.proofs.Prefixes.{LevelOf, level_words, levels_solid}
 use Rattle.sim_sound.proofs.Reach.{attribute_key}
-use Rattle.sim_sound.proofs.Sound.{AllArrays, Begun, CellsFine, ChainFine, DeclareFine, Generated, HandsFine, KeyAmong, Kinds, LevelsFine, LinkTo, Made, NewOpFine, Operates, Sight, StoreFine, Value, Whole, WorkFine, class_kinds, holds_of, in_hand, kept_kinds, key_of, keys_in, see}
+use Rattle.sim_sound.proofs.Sound.{AllArrays, Begun, CellsFine, ChainFine, DeclareFine, Expected, Generated, HandsFine, KeepsNone, KeyAmong, Kinds, LevelsFine, LinkTo, Made, NewOpFine, Operates, PrefixedOpFine, Shown, Sight, StoreFine, Takes, Value, Waits, Whole, WorkFine, class_kinds, holds_of, in_hand, kept_kinds, key_of, keys_in, see}
 
 -- ---- actual parameters of a class
 
@@ -91,21 +91,27 @@ attached_goes_on : (z : Standing Activation) → z ≡ AttachedObject → z ≡ 
 attached_goes_on z e f = cc
 
 module _ (s : Source) (ok : Typed s) (l : Limits) (o : World) (sights : List Sight) (long : length sights ≡ length o.arrays) (m : Instances) (i t : ℕ) (rest : List Activation) (top : Operates m i rest) (w : List Item) where
-  -- ---- a class that is known, with the actual parameters in hand
+  -- ---- a text with levels, with the actual parameters of its class in hand
 
-  module _ (k line : ℕ) (prefix : Option Identifier) (heading : Heading) (ds : Declarations) (ss : Statements) (is : text s k ≡ Some (ClassText prefix heading ds ss)) (vs vs' : List Val) (d j u : ℕ) (todo : List DeclNo) (left : List Kinds) (holds : Holds) (fits : Fits s (Refers k) holds) (stands : encloser s.tables k ≡ Some u) (whole : Whole s m j u) (acts : ActualsAre s (see sights o) m i d (class_kinds s (class_parameters s (Some k))) vs) (less : length vs' < d) (b : Begun s (see sights o) m i t todo) (hands : HandsFine s (see sights o) m i left vs') (work : Work s o sights long m i t rest top w todo (Value holds ∷ left)) where
+  -- What enters it has these values in hand then, and waits. `z` says how the new instance stands, and its work ends with `end`.
+  module _ (k line : ℕ) (has : has_levels (text s k) ≡ true) (vs vs' : List Val) (d j u : ℕ) (todo : List DeclNo) (left : List Kinds) (stands : encloser s.tables k ≡ Some u) (whole : Whole s m j u) (acts : ActualsAre s (see sights o) m i d (class_kinds s (class_parameters s (Some k))) vs) (less : length vs' ≤ d) (b : Begun s (see sights o) m i t todo) (hands : HandsFine s (see sights o) m i left vs')
+      (waits : Waits) (hold : List Val) (shown : Shown waits hold vs') (expected : List Kinds) (expects : Expected s waits left expected) (work : Work s o sights long m i t rest top w todo expected) (z : Standing Activation) (kept : KeepsNone z) (living : z ≡ TerminatedObject → ⊥) (end : Item)
+      (ends : (v : AllArrays) (c : List Held) → ChainFine s v (entered m (new_instance s k (Some j) c) z) (length m.instances) (record { instance = i; work = w; values = hold } ∷ rest) waits → WorkFine s v (entered m (new_instance s k (Some j) c) z) (λ q. ChainFine s v (entered m (new_instance s k (Some j) c) z) (length m.instances) (record { instance = i; work = w; values = hold } ∷ rest) q) ((record { instance = i; work = w; values = hold } ∷ rest) ≡ []) (length m.instances) k (end ∷ []) [] []) where
+    abbrev own : Leveled s ok k
+    own = leveled s ok k has
+
     abbrev X : Text
-    X = ClassText prefix heading ds ss
+    X = own.words
+
+    abbrev is : text s k ≡ Some X
+    is = own.is
 
     abbrev N : ℕ
     N = length m.instances
 
-    abbrev class : is_class (text s k) ≡ true
-    class = ap is_class is
-
     -- its levels, with what they declare
     abbrev all : AllLevels s ok (length s.tables.blocks) k
-    all = class_levels s ok k class
+    all = all_levels_of s ok k has
 
     abbrev xs : List Level
     xs = all.list
@@ -125,19 +131,19 @@ module _ (s : Source) (ok : Typed s) (l : Limits) (o : World) (sights : List Sig
     abbrev P : World
     P = handed_over N (arrays_among vs) o
 
-    typed : ClassTyped s k ds ss
-    typed = ok.texts k X is
+    typed : ClassTyped s k own.declarations own.statements
+    typed = own.typed
 
     solid : is_connection (text s k) ≡ false
-    solid = ap is_connection is
+    solid = levels_solid (text s k) has
 
     -- with these cells
     abbrev After : List Held → Instances
-    After c = entered m (new_instance s k (Some j) c) AttachedObject
+    After c = entered m (new_instance s k (Some j) c) z
 
-    handed : (c : List Held) → Handed s m (After c) i N top.before (λ q. later_new s ok q m k (Some j) c AttachedObject X is solid) (new_knows s ok (see sights o) m k (Some j) c AttachedObject X is solid) o sights d P (λ z. (kk : ℕ) → ValsFine s z (After c) N kk (holds_of s fs) vs)
+    handed : (c : List Held) → Handed s m (After c) i N top.before (λ q. later_new s ok q m k (Some j) c z X is solid) (new_knows s ok (see sights o) m k (Some j) c z X is solid) o sights d P (λ v. (kk : ℕ) → ValsFine s v (After c) N kk (holds_of s fs) vs)
     handed c =
-        hand_every s m (After c) i N top.before (λ q. later_new s ok q m k (Some j) c AttachedObject X is solid) (new_knows s ok (see sights o) m k (Some j) c AttachedObject X is solid) fs (class_kinds s fs)
+        hand_every s m (After c) i N top.before (λ q. later_new s ok q m k (Some j) c z X is solid) (new_knows s ok (see sights o) m k (Some j) c z X is solid) fs (class_kinds s fs)
         (classes_hand s ⊥ formals fs typed.formals) vs o sights long d acts
 
     -- the formal parameters and constants of all levels
@@ -145,20 +151,20 @@ module _ (s : Source) (ok : Typed s) (l : Limits) (o : World) (sights : List Sig
     parameters e a f =
         let y = number_from s e xs a in
         let q = level_among s k y.0 xs all.are y.1 in
-        level_formal s ok k class (y.0).text q.level e ((level_typed s ok k y.0 q).parameters e y.2 f)
+        level_formal s ok k has (y.0).text q.level e ((q.typed).parameters e y.2 f)
 
     constants : (e : DeclNo) (ty : SimType) → Among e numbers → entry_of s.tables e ≡ Some (entry.Constant ty) → ConstantHas s e ty
     constants e ty a f =
         let y = number_from s e xs a in
-        (level_typed s ok k y.0 (level_among s k y.0 xs all.are y.1)).constants e ty y.2 f
+        ((level_among s k y.0 xs all.are y.1).typed).constants e ty y.2 f
 
     filled : (c : List Held) → FilledIn s (see (handed c).sights P) (After c) N k vs first_ones formals
     filled c =
         let v = see (handed c).sights P in
         fill s v (After c) N k formals fs vs first_ones typed.formals ((handed c).values k)
-        (λ e a. let f = formal_at s true formals fs typed.formals e a in attribute_key s numbers e true f.0 (formals_among s ok k class e a) f.1)
+        (λ e a. let f = formal_at s true formals fs typed.formals e a in attribute_key s numbers e true f.0 (formals_among s ok k has e a) f.1)
         (attributes_distinct s numbers all.distinct)
-        (attributes_first s v (After c) N k class formals numbers parameters constants)
+        (attributes_first s v (After c) N k has formals numbers parameters constants)
 
     abbrev Cells : List Held
     Cells = (filled first_ones).cells
@@ -180,7 +186,7 @@ module _ (s : Source) (ok : Typed s) (l : Limits) (o : World) (sights : List Sig
 
     -- it has the cells of each level
     of_level : (u : ℕ) (y : Level) → y.text ≡ u → LevelIs s k y → (key : Key) → KeyAmong key (keys_in s u (text s u)) → KeyAmong key (map key_of (attributes_from s (numbers_of s y.text)))
-    of_level u y same q key a = subst (λ z. KeyAmong key (keys_in s y.text z)) q.is (subst (λ z. KeyAmong key (keys_in s z (text s z))) (sym same) a)
+    of_level u y same q key a = subst (λ h. KeyAmong key (map key_of h)) q.own (subst (λ x. KeyAmong key (keys_in s y.text x)) q.is (subst (λ x. KeyAmong key (keys_in s x (text s x))) (sym same) a))
 
     keys : (u : ℕ) → LevelOf s k u → (key : Key) → KeyAmong key (keys_in s u (text s u)) → KeyAmong key (map key_of Cells)
     keys u at key a =
@@ -189,13 +195,13 @@ module _ (s : Source) (ok : Typed s) (l : Limits) (o : World) (sights : List Sig
 
     -- the arrays that the levels declare are still to be made
     made_level : (y : Level) → LevelIs s k y → LevelIn y xs → (c : DeclNo) (h : Holds) → key_holds s y.text (Declared c.0) ≡ Some (ArrayOf h) → Among c (numbers_of s y.text) → held (Declared c.0) Cells ≡ None → Among c (arrays_of_levels s xs)
-    made_level y q place c h is_array among none = by_entry (entry_of s.tables c) refl (sym (ap (λ z. entry_holds s z (entry_of s.tables c)) (ap is_class q.is)) ∙ is_array)
+    made_level y q place c h is_array among none = by_entry (entry_of s.tables c) refl (sym (ap (λ x. entry_holds s x (entry_of s.tables c)) q.has) ∙ is_array)
       where
         simply : (kd : Rattle.sim_values.specs.declared.kind.Kind.Kind) → Some (Simply kd) ≡ Some (ArrayOf h) → ⊥
         simply kd e = cc
 
         by_entry : (e : Option Entry) → entry_of s.tables c ≡ e → entry_holds s true e ≡ Some (ArrayOf h) → Among c (arrays_of_levels s xs)
-        by_entry (Some (entry.Array element dimensions)) e f = arrays_in s c y xs place ((level_typed s ok k y q).made c element dimensions among e)
+        by_entry (Some (entry.Array element dimensions)) e f = arrays_in s c y xs place ((q.typed).made c element dimensions among e)
         by_entry (Some (entry.Formal g)) e f = absurd ((filled first_ones).got c (parameters c (number_in s c y xs place among) (subst IsFormal (sym e) tt)) none)
         by_entry (Some (entry.Variable type)) e f = absurd (held_no_array s type h (same_some (Some (held_by s type)) (held_by s type) (ArrayOf h) refl f))
         by_entry (Some (entry.Constant type)) e f = absurd (simply _ f)
@@ -206,7 +212,7 @@ module _ (s : Source) (ok : Typed s) (l : Limits) (o : World) (sights : List Sig
     made u at c h is_array there none =
         let y = all.covers u at in
         let q = level_among s k y.0 xs all.are y.2 in
-        made_level y.0 q y.2 c h (subst (λ z. key_holds s z (Declared c.0) ≡ Some (ArrayOf h)) (sym y.1) is_array) (attributes_among s c (numbers_of s (y.0).text) (of_level u y.0 y.1 q (Declared c.0) there)) none
+        made_level y.0 q y.2 c h (subst (λ x. key_holds s x (Declared c.0) ≡ Some (ArrayOf h)) (sym y.1) is_array) (attributes_among s c (numbers_of s (y.0).text) (of_level u y.0 y.1 q (Declared c.0) there)) none
 
     e : Later s (see sights o) m V m All
     e = (handed Cells).later m
@@ -215,16 +221,16 @@ module _ (s : Source) (ok : Typed s) (l : Limits) (o : World) (sights : List Sig
     store = store_handed s ok l o sights long m i t rest top w vs' P G e b.store (handed Cells).elements
 
     begun : Begun s V M N k (arrays_of_levels s xs)
-    begun = begun_new s ok V m k (Some j) Cells AttachedObject X is solid store keys fine (inside_new s ok V m k (Some j) Cells AttachedObject X is solid j u refl stands (live_less m j whole.now whole.lives) store whole) (arrays_of_levels s xs) made
+    begun = begun_new s ok V m k (Some j) Cells z X is solid store keys fine (inside_new s ok V m k (Some j) Cells z X is solid j u refl stands (live_less m j whole.now whole.lives) store whole) (arrays_of_levels s xs) made
 
-    copies : (z y : ℕ) → z < i → Copies (see sights o) V z y
-    copies z y deep q kd c' small copy = (handed Cells).copies z q kd c' (λ same. absurd (let z : ⊥ = omega (arith, same, deep) in z)) copy
+    copies : (n y : ℕ) → n < i → Copies (see sights o) V n y
+    copies n y deep q kd c' small copy = (handed Cells).copies n q kd c' (λ same. absurd (let never : ⊥ = omega (arith, same, deep) in never)) copy
 
     abbrev Below : List Activation
-    Below = record { instance = i; work = w; values = Of (Object N) ∷ vs' } ∷ rest
+    Below = record { instance = i; work = w; values = hold } ∷ rest
 
-    -- what generates it has its reference in hand, and waits
-    chain : ChainFine s V m N Below (Generated N k)
+    -- what enters it waits
+    chain : ChainFine s V m N Below waits
     chain = record {
       before = top.before;
       of_text = t;
@@ -232,59 +238,62 @@ module _ (s : Source) (ok : Typed s) (l : Limits) (o : World) (sights : List Sig
       here = b.here;
       own = b.own;
       vals = vs';
-      shown = refl;
+      shown = shown;
       kinds = left;
-      hands = hands_later s (see sights o) m V m All e i tt left vs' (λ z kd c deep copy. (handed Cells).copies i z kd c (λ q. omega (arith, deep, less)) copy) hands;
-      expected = Value holds ∷ left;
-      expects = (holds, fits, refl);
-      goes = work_later s (see sights o) m V m All e i t tt (rest ≡ []) (λ q. ChainFine s (see sights o) m i rest q) (λ q. ChainFine s V m i rest q) (λ q c. chain_later s (see sights o) m V m All e i copies rest (all_apart rest) q c) w todo (Value holds ∷ left) work;
+      hands = hands_later s (see sights o) m V m All e i tt left vs' (λ n kd c deep copy. (handed Cells).copies i n kd c (λ q. omega (arith, deep, less)) copy) hands;
+      expected = expected;
+      expects = expects;
+      goes = work_later s (see sights o) m V m All e i t tt (rest ≡ []) (λ q. ChainFine s (see sights o) m i rest q) (λ q. ChainFine s V m i rest q) (λ q c. chain_later s (see sights o) m V m All e i copies rest (all_apart rest) q c) w todo expected work;
     }
 
     abbrev Wk : List Item → List DeclNo → List Kinds → Type 0
     Wk w todo ks = WorkFine s V M (λ q. ChainFine s V M N Below q) (Below ≡ []) N k w todo ks
 
-    ends : Wk (EndObject ∷ []) [] []
-    ends = (refl, typed.stays, class, (AttachedObject, new_standing s V m (new_instance s k (Some j) Cells) AttachedObject N refl top.parked, tt), below_new s ok V m k (Some j) Cells AttachedObject X is solid Below (Generated N k) chain)
+    at_end : Wk (end ∷ []) [] []
+    at_end = ends V Cells (below_new s ok V m k (Some j) Cells z X is solid Below waits chain)
 
     -- each of its levels, with those inside
     inside : (ys : List Level) → LevelsAre s k ys → LevelsFine s M N ys
-    inside ys a = levels_fine s ok M N (begun.here).now (begun.here).lives ys (subst (λ z. LevelsAre s z ys) (sym begun.own) a)
+    inside ys a = levels_fine s ok M N (begun.here).now (begun.here).lives ys (subst (λ x. LevelsAre s x ys) (sym begun.own) a)
 
-    inner : (last : Bool) (ys : List Level) → LevelsAre s k ys → Wk (Rattle.sim_meaning.specs.Objects.with_inner last ys (EndObject ∷ [])) [] []
-    inner true ys a = ([], [], (refl, refl, refl, inside ys a), ends)
-    inner false ys a = ends
+    inner : (last : Bool) (ys : List Level) → LevelsAre s k ys → Wk (Rattle.sim_meaning.specs.Objects.with_inner last ys (end ∷ [])) [] []
+    inner true ys a = ([], [], (refl, refl, refl, inside ys a), at_end)
+    inner false ys a = at_end
 
-    statements_work : (y : Level) (ys : List Level) → LevelIs s k y → LevelsAre s k ys → Wk (Rattle.sim_meaning.specs.Objects.level_work y ys (EndObject ∷ [])) [] []
+    statements_work : (y : Level) (ys : List Level) → LevelIs s k y → LevelsAre s k ys → Wk (Rattle.sim_meaning.specs.Objects.level_work y ys (end ∷ [])) [] []
     statements_work y ys q a = let f = inside (y ∷ []) (q, tt) in ([], [], (refl, refl, refl, (y.text, f.0, f.1)), inner y.inner_last ys a)
 
     declared_work : (ys : List Level) → LevelsAre s k ys → Distinct (arrays_of_levels s ys) → (w : List Item) → Wk w [] [] → Wk (declared ys w) (arrays_of_levels s ys) []
-    declared_work [] a apart w z = z
-    declared_work (y ∷ ys) a apart w z =
+    declared_work [] a apart w x = x
+    declared_work (y ∷ ys) a apart w x =
         let q = a.0 in
-        let p = level_typed s ok k y q in
+        let p = q.typed in
         let more = arrays_of_levels s ys in (
           more,
           [],
           (record { level = y.text; of_level = q.level; waits = refl; arrays = p.arrays; distinct = apart; own = p.own; all_arrays = level_arrays_are s ok k (y ∷ ys) a }, refl, refl),
-          (more, [], (refl, refl), declared_work ys a.1 (distinct_right (arrays_of_block s y.declarations) more apart) w z),
+          (more, [], (refl, refl), declared_work ys a.1 (distinct_right (arrays_of_block s y.declarations) more apart) w x),
         )
 
-    all_work : (ys : List Level) → LevelsAre s k ys → Distinct (arrays_of_levels s ys) → Wk (levels_work ys EndObject) (arrays_of_levels s ys) []
-    all_work [] a apart = ends
-    all_work (y ∷ ys) a apart = declared_work (y ∷ ys) a apart (Rattle.sim_meaning.specs.Objects.level_work y ys (EndObject ∷ [])) (statements_work y ys a.0 a.1)
+    all_work : (ys : List Level) → LevelsAre s k ys → Distinct (arrays_of_levels s ys) → Wk (levels_work ys end) (arrays_of_levels s ys) []
+    all_work [] a apart = at_end
+    all_work (y ∷ ys) a apart = declared_work (y ∷ ys) a apart (Rattle.sim_meaning.specs.Objects.level_work y ys (end ∷ [])) (statements_work y ys a.0 a.1)
 
-    works : Wk (levels_work xs EndObject) (arrays_of_levels s xs) []
+    works : Wk (levels_work xs end) (arrays_of_levels s xs) []
     works = all_work xs all.are (level_arrays_distinct s ok k xs all.are all.distinct)
 
     filled_same : filled_in vs (Some (cells_of_levels s xs)) formals ≡ Some Cells
-    filled_same = ap (λ z. filled_in vs (Some z) formals) (cells_are s xs) ∙ (filled first_ones).filled_is
+    filled_same = ap (λ c. filled_in vs (Some c) formals) (cells_are s xs) ∙ (filled first_ones).filled_is
 
-    pub object_goes : Goes (IsFine s) (object_entered s l o m i w vs' rest k line vs j xs)
-    object_goes =
-        had (IsFine s) (filled_in vs (Some (cells_of_levels s xs)) formals) Cells o (λ c. entering l line (words_of_cells (cells_of_levels s xs)) o (λ p. in_object s (arrays_given N vs p) m k j c xs Below)) filled_same
-        (enters (IsFine s) l line (words_of_cells (cells_of_levels s xs)) o (λ p. in_object s (arrays_given N vs p) m k j Cells xs Below) (λ t' w'.
+    abbrev pub Entered : World → List Held → Run Configuration
+    Entered p c = Going p (record { chain = record { instance = N; work = levels_work xs end; values = [] } ∷ Below; memory = After c })
+
+    pub entered_goes : Goes (IsFine s) (having (filled_in vs (Some (cells_of_levels s xs)) formals) o (λ c. entering l line (words_of_cells (cells_of_levels s xs)) o (λ p. Entered (arrays_given N vs p) c)))
+    entered_goes =
+        had (IsFine s) (filled_in vs (Some (cells_of_levels s xs)) formals) Cells o (λ c. entering l line (words_of_cells (cells_of_levels s xs)) o (λ p. Entered (arrays_given N vs p) c)) filled_same
+        (enters (IsFine s) l line (words_of_cells (cells_of_levels s xs)) o (λ p. Entered (arrays_given N vs p) Cells) (λ t' w'.
         same_arrays P (arrays_given N vs (ran o t' w')) _ (handed_same N (arrays_among vs) o (ran o t' w') refl)
-        (enters_fine s ok P G (handed Cells).long m k (Some j) Cells AttachedObject (arrays_of_levels s xs) tt (attached_goes_on AttachedObject refl) begun (levels_work xs EndObject) Below top.all top.parked (chain_lives s ok l o sights long m i t rest top w (Of (Object N) ∷ vs') (Of (Object N) ∷ vs') todo (Value holds ∷ left) work) works)))
+        (enters_fine s ok P G (handed Cells).long m k (Some j) Cells z (arrays_of_levels s xs) kept living begun (levels_work xs end) Below top.all top.parked (chain_lives s ok l o sights long m i t rest top w hold hold todo expected work) works)))
 
   module _ (vals : List Val) where
     class_many : (fs : List Formal) → length (class_kinds s fs) ≡ length fs
@@ -294,10 +303,10 @@ module _ (s : Source) (ok : Typed s) (l : Limits) (o : World) (sights : List Sig
     pub new_goes : (k n line : ℕ) (todo : List DeclNo) (before behind : List Kinds) → NewOpFine s k n before behind → Begun s (see sights o) m i t todo → HandsFine s (see sights o) m i before vals → Work s o sights long m i t rest top w todo behind → Goes (IsFine s) (generated s l o m i w vals rest k n line)
     new_goes k n line todo before behind c b h work =
         let q = c.class in
-        let typed : ClassTyped s k q.declarations q.statements = ok.texts k (ClassText q.prefix q.heading q.declarations q.statements) q.is in
-        let class : is_class (text s k) ≡ true = ap is_class q.is in
-        let xs = (class_levels s ok k class).list in
-        let r = taken s (see sights o) m i (class_kinds s (class_parameters s (Some k))) (LinkTo c.around ∷ c.left) vals (classes_some s (class_formals s.tables k) (class_parameters s (Some k)) typed.formals) (subst (λ z. HandsFine s (see sights o) m i z vals) (c.«in») h) in
+        let has : has_levels (text s k) ≡ true = ap has_levels q.is in
+        let own = leveled s ok k has in
+        let xs = (all_levels_of s ok k has).list in
+        let r = taken s (see sights o) m i (class_kinds s (class_parameters s (Some k))) (LinkTo c.around ∷ c.left) vals (classes_some s (class_formals s.tables k) (class_parameters s (Some k)) (own.typed).formals) (subst (λ z. HandsFine s (see sights o) m i z vals) (c.«in») h) in
         let many : n ≡ length r.values = c.count ∙ sym (class_many (class_parameters s (Some k))) ∙ sym r.count in
         subst (λ z. Goes (IsFine s) (pop_many z [] vals o next)) (sym many)
         (subst (λ z. Goes (IsFine s) (pop_many (length r.values) [] z o next)) (sym r.are)
@@ -305,16 +314,36 @@ module _ (s : Source) (ok : Typed s) (l : Limits) (o : World) (sights : List Sig
         (any_popped (IsFine s) s (see sights o) m i (LinkTo c.around) c.left r.rest o (λ v vs. having (instance_in v) o (λ j. when (is_live m j) o (having (levels s k) o (λ xs. object_entered s l o m i w vs rest k line r.values j xs)))) r.more (λ v vs same here more.
         link_is s ok l o sights long m i t rest top w vals c.around v (λ j. when (is_live m j) o (having (levels s k) o (λ xs. object_entered s l o m i w vs rest k line r.values j xs))) here (λ j near whole.
         whens (IsFine s) (is_live m j) o (having (levels s k) o (λ xs. object_entered s l o m i w vs rest k line r.values j xs)) (lives_is s ok l o sights long m i t rest top w vals j whole.now whole.lives)
-        (had (IsFine s) (levels s k) xs o (λ xs. object_entered s l o m i w vs rest k line r.values j xs) (levels_are s ok k class)
-        (object_goes k line q.prefix q.heading q.declarations q.statements q.is r.values vs (length r.rest) j c.around todo c.left c.holds c.fits q.stands_in whole r.fine (below_top r.rest v vs same) b more (subst (λ z. Work s o sights long m i t rest top w todo z) c.out work))))))))
+        (had (IsFine s) (levels s k) xs o (λ xs. object_entered s l o m i w vs rest k line r.values j xs) (levels_are s ok k has)
+        (entered_goes k line has r.values vs (length r.rest) j c.around todo c.left q.stands_in whole r.fine (below_top r.rest v vs same) b more (Generated (length m.instances) k) (Of (Object (length m.instances)) ∷ vs) refl (Value c.holds ∷ c.left) (c.holds, c.fits, refl) (subst (λ z. Work s o sights long m i t rest top w todo z) c.out work) AttachedObject tt (attached_goes_on AttachedObject refl) EndObject (λ v hs x. object_at_end v hs (own.typed).stays has j (record { instance = i; work = w; values = Of (Object (length m.instances)) ∷ vs } ∷ rest) x))))))))
       where
+        -- it is an object, which ends as one
+        object_at_end : (v : AllArrays) (hs : List Held) → is_class_free s k ≡ false → has_levels (text s k) ≡ true → (j : ℕ) → (below : List Activation) → ChainFine s v (entered m (new_instance s k (Some j) hs) AttachedObject) (length m.instances) below (Generated (length m.instances) k) → WorkFine s v (entered m (new_instance s k (Some j) hs) AttachedObject) (λ q. ChainFine s v (entered m (new_instance s k (Some j) hs) AttachedObject) (length m.instances) below q) (below ≡ []) (length m.instances) k (EndObject ∷ []) [] []
+        object_at_end v hs free has j below c = (refl, free, has, (AttachedObject, new_standing s v m (new_instance s k (Some j) hs) AttachedObject (length m.instances) refl top.parked, tt), c)
+
         next : List Val → List Val → Run Configuration
         next values vals = popping vals o (λ v vals. having (instance_in v) o (λ j. when (is_live m j) o (having (levels s k) o (λ xs. object_entered s l o m i w vals rest k line values j xs))))
 
-        below_top : (rest : List Val) (v : Val) (vs : List Val) → rest ≡ v ∷ vs → length vs < length rest
+        below_top : (rest : List Val) (v : Val) (vs : List Val) → rest ≡ v ∷ vs → length vs ≤ length rest
         below_top rest v vs e = let f : length rest ≡ suc (length vs) = ap length e in omega (arith, f)
 
-    -- ---- what is pending in an object
+    -- a prefixed block is entered
+    pub prefixed_goes : (k n line : ℕ) (before behind : List Kinds) → PrefixedOpFine s m i k n before behind → Begun s (see sights o) m i t [] → HandsFine s (see sights o) m i before vals → Work s o sights long m i t rest top w [] behind → Goes (IsFine s) (prefix_done s l o m i w vals rest k n line)
+    prefixed_goes k n line before behind c b h work =
+        let own = leveled s ok k c.has in
+        let xs = (all_levels_of s ok k c.has).list in
+        let r = taken s (see sights o) m i (class_kinds s (class_parameters s (Some k))) behind vals (classes_some s (class_formals s.tables k) (class_parameters s (Some k)) (own.typed).formals) (subst (λ z. HandsFine s (see sights o) m i z vals) (c.«in») h) in
+        let many : n ≡ length r.values = c.count ∙ sym (class_many (class_parameters s (Some k))) ∙ sym r.count in
+        subst (λ z. Goes (IsFine s) (pop_many z [] vals o next)) (sym many)
+        (subst (λ z. Goes (IsFine s) (pop_many (length r.values) [] z o next)) (sym r.are)
+        (subst (Goes (IsFine s)) (sym (all_taken r.values r.rest o next))
+        (had (IsFine s) (levels s k) xs o (λ xs. prefixed_entered s l o m (record { instance = i; work = w; values = r.rest } ∷ rest) k line r.values (Some i) EndPrefixed xs) (levels_are s ok k c.has)
+        (entered_goes k line c.has r.values r.rest (length r.rest) i c.around [] behind c.stands_in (site_whole s (see sights o) m i t c.around b c.site) r.fine (omega arith) b r.more (Takes None) r.rest refl behind refl work (NoObject None) tt (λ e. absurd (cc)) EndPrefixed (λ v hs x. x)))))
+      where
+        next : List Val → List Val → Run Configuration
+        next values vals = having (levels s k) o (λ xs. prefixed_entered s l o m (record { instance = i; work = w; values = vals } ∷ rest) k line values (Some i) EndPrefixed xs)
+
+    -- ---- what is pending in an object or a prefixed block
 
     -- the arrays of a level are made, before those of the levels inside
     pub declare_goes : (ds : Declarations) (todo todo' : List DeclNo) (before behind : List Kinds) → DeclareFine s t ds todo todo' → before ≡ [] → behind ≡ [] → Begun s (see sights o) m i t todo → HandsFine s (see sights o) m i before vals → Work s o sights long m i t rest top w todo' behind → Goes (IsFine s) (do_op s l o m i w vals rest (DeclareOp ds))

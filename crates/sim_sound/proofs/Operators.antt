@@ -20,7 +20,7 @@ use Rattle.sim_values.specs.Plain.{Character, Integer, Nothing, Object, Plain, T
 use Rattle.sim_code.specs.Arrays.{added, copying_array, keeping_array, live_array, making_array, pairs, with_array}
 use Rattle.sim_code.specs.Events.{choosing, having, popping, qualifying, when}
 use Rattle.sim_code.specs.Instances.{CellPlace, ElementPlace}
-use Rattle.sim_meaning.specs.Levels.{belongs, has_procedure, is_class, is_in, is_in_any}
+use Rattle.sim_meaning.specs.Levels.{belongs, has_procedure, has_levels, is_in, is_in_any}
 use Rattle.sim_meaning.specs.Objects.{is_member, putting_reference}
 use Rattle.sim_meaning.specs.Pending.{Activation, Address, AgainOp, ArrayOp, ArrayValue, AttributeOp, Configuration, CopyOp, Declared, Do, DropOp, ElementOp, Eval, FetchOp, FitsOp, GiveOp, IfOp, Instances, Item, JoinOp, KeepOp, Key, Link, MemberOp, ObjectOp, Of, OneOp, Op, PastOp, QuaOp, QualifiedElementOp, ReferOp, ShareOp, StandardOp, StepOp, StoreOp, SwapOp, Target, Term, ToAddress, ToCell, ToPlace, ToReference, ToReferenceAt, ToText, ToTextAt, ToTextOf, TwoOp, Val, array_in, cell_set, place_in, variable_in}
 use Rattle.sim_meaning.specs.Texts.{text}
@@ -32,7 +32,7 @@ use Rattle.sim_sound.proofs.Cells.{none_among}
 use Rattle.sim_sound.proofs.Changes.{copies_array, copies_replaced, elements_array, elements_replaced, later_array, later_replaced, more, new_lives, replaced}
 use Rattle.sim_sound.proofs.Constants.{names_none}
 use Rattle.sim_sound.proofs.Evals.{IsFine, Work, eval_goes, goes_on}
-use Rattle.sim_sound.proofs.Fitting.{knows_object, object_class, object_in, object_whole, plain_by_kind, val_fits}
+use Rattle.sim_sound.proofs.Fitting.{knows_object, object_in, object_levels, object_whole, plain_by_kind, val_fits}
 use Rattle.sim_sound.proofs.Later.{All, Copies, own_later, present_later}
 use Rattle.sim_sound.proofs.Lifts.{Goes, any_popped, assigning_goes, chosen, had, integers_popped, joining_goes, known_popped, one_applied, plain_popped, ran, step_applied, truth_popped, two_applied, whens}
 use Rattle.sim_sound.proofs.Lists.{set_len}
@@ -272,8 +272,8 @@ module _ (s : Source) (ok : Typed s) (l : Limits) (o : World) (g : List Sight) (
       target : (j : ℕ) (vs : List Val) → ObjectOf s m j a.0 → CellTarget s m i j key a.1
       target j vs p =
           let whole = object_whole s ok (see g o) m b.store j a.0 u p (a.4).level in
-          let class : is_class (text s u) ≡ true = object_class s ok (see g o) m b.store j a.0 u p (a.4).level in
-          record { around = u; near = knows_object s m i j a.0 p; todo = []; here = whole; ready = λ d e z. none_among d z; holds = (a.4).is class; there = (a.4).there class }
+          let has : has_levels (text s u) ≡ true = object_levels s ok (see g o) m b.store j a.0 u p (a.4).level in
+          record { around = u; near = knows_object s m i j a.0 p; todo = []; here = whole; ready = λ d e z. none_among d z; holds = (a.4).is has; there = (a.4).there has }
 
       address : (class : Option ℕ) (held : Holds) (x : Kinds) (d j : ℕ) → Addressed class held x → CellTarget s m i j key held → DeepFine s (see g o) m i d x (Address (CellPlace j key class))
       address None held x d j is c = subst (λ z. DeepFine s (see g o) m i d z (Address (CellPlace j key None))) is c

@@ -5,9 +5,9 @@ use Rattle.sim_scope.specs.Access.{encloser}
 use Rattle.sim_scope.specs.Levels.{base, has_level, holds, some_level_of}
 use Rattle.sim_scope.specs.Source.{Source, level_of}
 use Rattle.sim_meaning.specs.Attributes.{is_connection}
-use Rattle.sim_meaning.specs.Levels.{is_class}
+use Rattle.sim_meaning.specs.Levels.{has_levels, is_class}
 use Rattle.sim_meaning.specs.Texts.{BlockText, ClassText, ConnectionText, PrefixedText, ProcedureText, StandardText, Text, text}
-use Rattle.sim_sound.specs.Typed.{Ends, PrefixTyped, Typed, outermost, prefixed}
+use Rattle.sim_sound.specs.Typed.{Ends, Home, PrefixTyped, Typed, connected, outermost, prefixed, stands}
 use Rattle.sim_sound.proofs.Lists.{equal_numbers, no_some, numbers_equal, same_some}
 
 pub data LevelOf (s : Source) : (inner outer : ℕ) → Type 0 where
@@ -68,11 +68,61 @@ class_solid (Some (ProcedureText result h a)) e = absurd (cc)
 class_solid (Some (PrefixedText class arguments ds ss)) e = absurd (cc)
 class_solid (Some ConnectionText) e = absurd (cc)
 
-class_there : (x : Option Text) → is_class x ≡ true → (y : Text) × (x ≡ Some y)
-class_there (Some y) e = (y, refl)
-class_there None e = absurd (cc)
+pub levels_solid : (x : Option Text) → has_levels x ≡ true → is_connection x ≡ false
+levels_solid (Some (ClassText prefix h ds ss)) e = refl
+levels_solid (Some (PrefixedText class arguments ds ss)) e = refl
+levels_solid None e = absurd (cc)
+levels_solid (Some (BlockText begin ds ss)) e = absurd (cc)
+levels_solid (Some (ProcedureText result h a)) e = absurd (cc)
+levels_solid (Some (StandardText which)) e = absurd (cc)
+levels_solid (Some ConnectionText) e = absurd (cc)
+
+levels_there : (x : Option Text) → has_levels x ≡ true → (y : Text) × (x ≡ Some y)
+levels_there (Some y) e = (y, refl)
+levels_there None e = absurd (cc)
+
+connection_text : (x : Option Text) → is_connection x ≡ true → x ≡ Some ConnectionText
+connection_text None e = absurd (cc)
+connection_text (Some ConnectionText) e = refl
+connection_text (Some (BlockText begin ds ss)) e = absurd (cc)
+connection_text (Some (ProcedureText result h a)) e = absurd (cc)
+connection_text (Some (ClassText prefix h ds ss)) e = absurd (cc)
+connection_text (Some (PrefixedText class arguments ds ss)) e = absurd (cc)
+connection_text (Some (StandardText which)) e = absurd (cc)
+
+pub is_connection_text : (s : Source) (t : ℕ) → is_connection (text s t) ≡ true → text s t ≡ Some ConnectionText
+is_connection_text s t e = connection_text (text s t) e
+
+-- ---- the nearest text that is no connection
+
+pub home_solid : (s : Source) {k h : ℕ} → Home s k h → is_connection (text s h) ≡ false
+home_solid s (stands e solid) = solid
+home_solid s (connected e is x) = home_solid s x
+
+home_place : (s : Source) {k h : ℕ} → Home s k h → (v : ℕ) × (encloser s.tables k ≡ Some v)
+home_place s (stands {u = u} e solid) = (u, e)
+home_place s (connected {u = u} e is x) = (u, e)
+
+-- where the text around is none, it is that
+home_first : (s : Source) {k h : ℕ} → Home s k h → (v : ℕ) → encloser s.tables k ≡ Some v → is_connection (text s v) ≡ false → v ≡ h
+home_first s (stands {k = k} {u = u} e solid) v f other = same_some (encloser s.tables k) v u f e
+home_first s (connected {k = k} {u = u} e is x) v f other = absurd (let same : v ≡ u = same_some (encloser s.tables k) v u f e in let none : is_connection (text s u) ≡ false = subst (λ z. is_connection (text s z) ≡ false) same other in cc)
 
 module _ (s : Source) (ok : Typed s) where
+  -- a connection is on the level of the text around
+  pub connection_level : (t u : ℕ) → is_connection (text s t) ≡ true → encloser s.tables t ≡ Some u → level_of s t ≡ level_of s u
+  connection_level t u is e =
+      let c = ok.texts t ConnectionText (is_connection_text s t is) in
+      let w = c.stands in
+      let same : w.0 ≡ u = same_some (encloser s.tables t) w.0 u w.1 e in
+      subst (λ z. level_of s t ≡ level_of s z) same w.2
+
+  home_level : {k h : ℕ} → Home s k h → (v : ℕ) → encloser s.tables k ≡ Some v → level_of s v ≡ level_of s h
+  home_level (stands {k = k} {u = u} e solid) v f = ap (level_of s) (same_some (encloser s.tables k) v u f e)
+  home_level (connected {k = k} {u = u} e is x) v f =
+      let more = home_place s x in
+      ap (level_of s) (same_some (encloser s.tables k) v u f e) ∙ connection_level u more.0 is more.1 ∙ home_level x more.0 more.1
+
   -- it is found by the test
   pub level_has : (k u : ℕ) → is_connection (text s k) ≡ false → LevelOf s k u → has_level s.tables k u ≡ true
   unfolding has_level
@@ -88,24 +138,34 @@ module _ (s : Source) (ok : Typed s) where
   level_solid solid same_level = solid
   level_solid {k = k} solid (prefix_level {b = b} e x) = level_solid (prefix_solid k b solid e) x
 
-  -- a class has classes for its levels
-  pub level_class : {k u : ℕ} → is_class (text s k) ≡ true → LevelOf s k u → is_class (text s u) ≡ true
-  level_class class same_level = class
-  level_class {k = k} class (prefix_level {b = b} e x) = level_class (prefix_of k b (class_solid (text s k) class) e).prefix x
+  -- a class has levels
+  class_of_text : (k : ℕ) (x : Option Text) → text s k ≡ x → is_class x ≡ true → has_levels x ≡ true
+  class_of_text k (Some (ClassText prefix h ds ss)) e class = refl
+  class_of_text k (Some (StandardText which)) e class = absurd (ok.texts k (StandardText which) e)
+  class_of_text k None e class = absurd (cc)
+  class_of_text k (Some _) e class = absurd (cc)
 
-  -- and what has a class for a level is a class
-  pub level_of_class : {k u : ℕ} → is_connection (text s k) ≡ false → LevelOf s k u → is_class (text s u) ≡ true → is_class (text s k) ≡ true
-  level_of_class solid same_level class = class
-  level_of_class {k = k} solid (prefix_level {b = b} e x) class = (prefix_of k b solid e).class
+  pub class_has : (k : ℕ) → is_class (text s k) ≡ true → has_levels (text s k) ≡ true
+  class_has k class = class_of_text k (text s k) refl class
 
-  pub same_class : {k u : ℕ} → is_connection (text s k) ≡ false → LevelOf s k u → is_class (text s k) ≡ is_class (text s u)
-  same_class solid same_level = refl
-  same_class {k = k} solid (prefix_level {b = b} e x) = let p = prefix_of k b solid e in p.class ∙ sym (level_class p.prefix x)
+  -- each level of what has levels has levels
+  pub level_has_levels : {k u : ℕ} → has_levels (text s k) ≡ true → LevelOf s k u → has_levels (text s u) ≡ true
+  level_has_levels has same_level = has
+  level_has_levels {k = k} has (prefix_level {b = b} e x) = level_has_levels (class_has b (prefix_of k b (levels_solid (text s k) has) e).prefix) x
 
-  -- what is no class has no level but itself
-  pub only_level : {k u : ℕ} → is_connection (text s k) ≡ false → is_class (text s k) ≡ false → LevelOf s k u → k ≡ u
-  only_level solid no_class same_level = refl
-  only_level {k = k} solid no_class (prefix_level {b = b} e x) = absurd (let yes : is_class (text s k) ≡ true = (prefix_of k b solid e).class in cc)
+  -- and what has such a level has levels
+  pub level_of_levels : {k u : ℕ} → is_connection (text s k) ≡ false → LevelOf s k u → has_levels (text s u) ≡ true → has_levels (text s k) ≡ true
+  level_of_levels solid same_level has = has
+  level_of_levels {k = k} solid (prefix_level {b = b} e x) has = (prefix_of k b solid e).has
+
+  pub same_levels : {k u : ℕ} → is_connection (text s k) ≡ false → LevelOf s k u → has_levels (text s k) ≡ has_levels (text s u)
+  same_levels solid same_level = refl
+  same_levels {k = k} solid (prefix_level {b = b} e x) = let p = prefix_of k b solid e in p.has ∙ sym (level_has_levels (class_has b p.prefix) x)
+
+  -- what has no levels has none but itself
+  pub only_level : {k u : ℕ} → is_connection (text s k) ≡ false → has_levels (text s k) ≡ false → LevelOf s k u → k ≡ u
+  only_level solid has_none same_level = refl
+  only_level {k = k} solid has_none (prefix_level {b = b} e x) = absurd (let yes : has_levels (text s k) ≡ true = (prefix_of k b solid e).has in cc)
 
   -- All levels are on one level, since what stands around them is.
   chain_number : (n : ℕ) → ((k b : ℕ) → level_of s k ≤ n → is_connection (text s k) ≡ false → base s.tables k ≡ Some b → level_of s b ≡ level_of s k) → {k u : ℕ} → level_of s k ≤ n → is_connection (text s k) ≡ false → LevelOf s k u → level_of s k ≡ level_of s u
@@ -117,13 +177,16 @@ module _ (s : Source) (ok : Typed s) where
   prefix_number : (n k b : ℕ) → level_of s k ≤ n → is_connection (text s k) ≡ false → base s.tables k ≡ Some b → level_of s b ≡ level_of s k
   prefix_number zero k b le solid e =
       let p = prefix_of k b solid e in
-      let up = ok.levels k p.outer solid p.around in
+      let place = home_place s p.around in
+      let up = ok.levels k place.0 solid place.1 in
       absurd (omega (arith, le, up))
   prefix_number (suc n) k b le solid e =
       let p = prefix_of k b solid e in
-      let up = ok.levels k p.outer solid p.around in
-      let same = chain_number n (λ k b le solid e. prefix_number n k b le solid e) (omega (arith, le, up)) p.solid (level_is s p.outer p.outer_prefix p.declared) in
-      ok.levels b p.outer_prefix (prefix_solid k b solid e) p.around_prefix ∙ ap suc (sym same) ∙ sym up
+      let place = home_place s p.around in
+      let up = ok.levels k place.0 solid place.1 in
+      let out = home_level p.around place.0 place.1 in
+      let same = chain_number n (λ k b le solid e. prefix_number n k b le solid e) (omega (arith, le, up, out)) p.solid (level_is s p.outer p.outer_prefix p.declared) in
+      ok.levels b p.outer_prefix (prefix_solid k b solid e) p.around_prefix ∙ ap suc (sym same) ∙ ap suc (sym out) ∙ sym up
 
   pub level_number : {k u : ℕ} → is_connection (text s k) ≡ false → LevelOf s k u → level_of s k ≡ level_of s u
   level_number {k = k} solid x = chain_number (level_of s k) (λ k' b le solid e. prefix_number (level_of s k) k' b le solid e) (omega arith) solid x
@@ -131,10 +194,10 @@ module _ (s : Source) (ok : Typed s) where
   -- each has a text
   pub level_words : {k u : ℕ} → is_connection (text s k) ≡ false → LevelOf s k u → (x : Text) → text s k ≡ Some x → (y : Text) × (text s u ≡ Some y)
   level_words solid same_level x is = (x, is)
-  level_words {k = k} {u = u} solid (prefix_level {b = b} e y) x is = class_there (text s u) (level_class (prefix_of k b solid e).prefix y)
+  level_words {k = k} {u = u} solid (prefix_level {b = b} e y) x is = levels_there (text s u) (level_has_levels (class_has b (prefix_of k b solid e).prefix) y)
 
-  -- what stands around a level is what stands around the text, or a level of that
-  pub level_around : {k u : ℕ} → is_connection (text s k) ≡ false → LevelOf s k u → (w : ℕ) → encloser s.tables u ≡ Some w → (v : ℕ) × (encloser s.tables k ≡ Some v) × ((v ≡ w) ⊎ ((is_connection (text s v) ≡ false) × LevelOf s v w))
+  -- what stands around a level is what stands around the text, or a level of the nearest that is no connection
+  pub level_around : {k u : ℕ} → is_connection (text s k) ≡ false → LevelOf s k u → (w : ℕ) → encloser s.tables u ≡ Some w → (v : ℕ) × (encloser s.tables k ≡ Some v) × ((v ≡ w) ⊎ ((h : ℕ) × Home s k h × LevelOf s h w))
   level_around solid same_level w e = (w, e, inl refl)
   level_around {k = k} solid (prefix_level {b = b} f x) w e =
       let p = prefix_of k b solid f in
@@ -142,4 +205,5 @@ module _ (s : Source) (ok : Typed s) where
       let from : LevelOf s p.outer p.outer_prefix = level_is s p.outer p.outer_prefix p.declared in
       let same : p.outer_prefix ≡ more.0 = same_some (encloser s.tables b) p.outer_prefix more.0 p.around_prefix more.1 in
       let next : LevelOf s p.outer more.0 = subst (LevelOf s p.outer) same from in
-      (p.outer, p.around, inr (p.solid, ⊎_elim (λ is. subst (LevelOf s p.outer) is next) (λ l. level_then s next l.1) more.2))
+      let place = home_place s p.around in
+      (place.0, place.1, inr (p.outer, p.around, ⊎_elim (λ is. subst (LevelOf s p.outer) is next) (λ l. level_then s next (subst (λ z. LevelOf s z w) (sym (home_first s l.1 more.0 more.1 (level_solid p.solid next))) l.2)) more.2))

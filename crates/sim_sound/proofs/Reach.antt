@@ -17,14 +17,14 @@ use Rattle.sim_meaning.specs.Closing.{home_of}
 use Rattle.sim_meaning.specs.Entries.{cells_from, first_cells, numbers_of, with_cell, with_result}
 use Rattle.sim_meaning.specs.Objects.{attributes_from, with_attribute}
 use Rattle.sim_meaning.specs.Pending.{Declared, Held, Instances, Key, Result}
-use Rattle.sim_meaning.specs.Texts.{BlockText, ClassText, ConnectionText, ProcedureText, Text, text}
+use Rattle.sim_meaning.specs.Texts.{BlockText, ClassText, ConnectionText, PrefixedText, ProcedureText, Text, text}
 use Rattle.sim_sound.specs.Held.{Among, Around, Holds, In, InBound, IsFixed, Place, Seen, Sees, StandsAround, entry_holds, first, from_around, further, itself, later, own_fixed}
-use Rattle.sim_sound.specs.Typed.{TextTyped, Typed}
+use Rattle.sim_sound.specs.Typed.{Home, TextTyped, Typed, connected as past, stands}
 use Rattle.sim_sound.proofs.Sound.{AllArrays, Enclosed, InstanceFine, KeyAmong, Knows, Present, StandsFor, StoreFine, Whole, alone, connected, first_key, key_of, keys_in, later_key, own_cells, own_text, within}
-use Rattle.sim_sound.proofs.Cells.{fine_at, is_connection_text, none_among, own_level, stands_level_of}
+use Rattle.sim_sound.proofs.Cells.{fine_at, none_among, own_level, stands_level_of}
 use Rattle.sim_sound.proofs.Lists.{equal_numbers, if_false, if_true, no_some, other_numbers, same_some}
 use Rattle.sim_sound.proofs.Moves.{knows_itself, knows_then}
-use Rattle.sim_sound.proofs.Prefixes.{LevelOf, level_around, level_is, level_number, level_solid, level_then, level_words}
+use Rattle.sim_sound.proofs.Prefixes.{LevelOf, connection_level, home_solid, level_around, level_is, level_number, level_solid, level_then, level_words}
 
 -- what is seen from somewhere is found from the instance i
 pub record Reached (s : Source) (m : Instances) (i : ℕ) (d : DeclNo) : Type 0 where
@@ -66,23 +66,15 @@ has_itself s ok k = by_length (length s.tables.blocks) ok.some_block
     by_length (suc n) lt = first_test (nat_eq k k) _ (equal_numbers k k refl)
 
 module _ (s : Source) (ok : Typed s) (o : AllArrays) (m : Instances) where
-  -- a connection is on the level of the text around
-  connection_level : (t u : ℕ) → is_connection (text s t) ≡ true → encloser s.tables t ≡ Some u → level_of s t ≡ level_of s u
-  connection_level t u is e =
-      let c = ok.texts t ConnectionText (is_connection_text s t is) in
-      let w = c.stands in
-      let same : w.0 ≡ u = same_some (encloser s.tables t) w.0 u w.1 e in
-      subst (λ z. level_of s t ≡ level_of s z) same w.2
-
   stands_level : (x : Instance (List Held)) (t : ℕ) → is_connection (text s x.text) ≡ false → StandsFor s x t → level_of s x.text ≡ level_of s t
   stands_level x t solid (own_text at) = level_number s ok solid at
-  stands_level x t solid (connected {u = u} is around k a) = stands_level x u solid a ∙ sym (connection_level t u is around)
+  stands_level x t solid (connected {u = u} is around k a) = stands_level x u solid a ∙ sym (connection_level s ok t u is around)
 
   outward_step : (t u : ℕ) → encloser s.tables t ≡ Some u → level_of s u ≤ level_of s t
   outward_step t u e = by_flag (is_connection (text s t)) refl
     where
       by_flag : (b : Bool) → is_connection (text s t) ≡ b → level_of s u ≤ level_of s t
-      by_flag true is = let a = connection_level t u is e in omega (arith, a)
+      by_flag true is = let a = connection_level s ok t u is e in omega (arith, a)
       by_flag false is = let a = ok.levels t u is e in omega (arith, a)
 
   outward_levels : {t u : ℕ} → Around s.tables t u → level_of s u ≤ level_of s t
@@ -104,9 +96,20 @@ module _ (s : Source) (ok : Typed s) (o : AllArrays) (m : Instances) where
     pub whole : Whole s m instance u
 
   module _ (store : StoreFine s o m) where
-    -- an instance of a text is one of its levels
-    whole_level : (e v w : ℕ) → (v ≡ w) ⊎ ((is_connection (text s v) ≡ false) × LevelOf s v w) → Whole s m e v → Whole s m e w
-    whole_level e v w near p = ⊎_elim (λ same. subst (Whole s m e) same p) (λ l. record { now = p.now; lives = p.lives; stands = stands_level_of s p.now v w l.0 p.stands l.1; words = p.words; has_text = p.has_text; made = p.made }) near
+    -- what stands for a connection stands for the nearest text that is none
+    stands_home : (x : Instance (List Held)) → is_connection (text s x.text) ≡ false → {k h : ℕ} → Home s k h → (v : ℕ) → encloser s.tables k ≡ Some v → StandsFor s x v → StandsFor s x h
+    stands_home x solid (stands {k = k} {u = u} e other) v f a = subst (StandsFor s x) (same_some (encloser s.tables k) v u f e) a
+    stands_home x solid (past {k = k} {u = u} {h = h} e is way) v f a = by_stands (λ w around z. stands_home x solid way w around z) (subst (StandsFor s x) (same_some (encloser s.tables k) v u f e) a)
+      where
+        by_stands : ((w : ℕ) → encloser s.tables u ≡ Some w → StandsFor s x w → StandsFor s x h) → StandsFor s x u → StandsFor s x h
+        by_stands go (own_text at) = absurd (let none : is_connection (text s u) ≡ false = level_solid s ok solid at in cc)
+        by_stands go (connected {u = w} is' around key z) = go w around z
+
+    -- and an instance of a text is one of its levels
+    whole_level : (e t v w : ℕ) → encloser s.tables t ≡ Some v → (v ≡ w) ⊎ ((h : ℕ) × Home s t h × LevelOf s h w) → Whole s m e v → Whole s m e w
+    whole_level e t v w f near p =
+        ⊎_elim (λ same. subst (Whole s m e) same p)
+        (λ l. record { now = p.now; lives = p.lives; stands = stands_level_of s p.now l.0 w (home_solid s l.1) (stands_home p.now (store.instances e p.now p.lives).solid l.1 v f p.stands) l.2; words = p.words; has_text = p.has_text; made = p.made }) near
 
     -- from the encloser of an instance outward, as it is seen from a level of the instance's text
     outside : (n i t v u : ℕ) (x : Instance (List Held)) → live m i ≡ Some x → LevelOf s x.text t → encloser s.tables t ≡ Some v → Around s.tables v u → ((e : ℕ) → e < i → Whole s m e v → Found n e u) → Found (suc n) i u
@@ -115,7 +118,7 @@ module _ (s : Source) (ok : Typed s) (o : AllArrays) (m : Instances) where
         f : InstanceFine s o m i x
         f = store.instances i x lives
 
-        near : (w : ℕ) × (encloser s.tables x.text ≡ Some w) × ((w ≡ v) ⊎ ((is_connection (text s w) ≡ false) × LevelOf s w v))
+        near : (w : ℕ) × (encloser s.tables x.text ≡ Some w) × ((w ≡ v) ⊎ ((h : ℕ) × Home s x.text h × LevelOf s h v))
         near = level_around s ok f.solid at v around
 
         differs : x.level ≢ level_of s u
@@ -130,7 +133,7 @@ module _ (s : Source) (ok : Typed s) (o : AllArrays) (m : Instances) where
         by_out (alone is none) = absurd (no_some (encloser s.tables x.text) near.0 none near.1)
         by_out (within {e = e} {u = w} is around' less knows whole) =
             let same : w ≡ near.0 = same_some (encloser s.tables x.text) w near.0 around' near.1 in
-            let r = go e less (whole_level e near.0 v near.2 (subst (Whole s m e) same whole)) in
+            let r = go e less (whole_level e x.text near.0 v near.1 near.2 (subst (Whole s m e) same whole)) in
             record { instance = r.instance; found = further_found n (level_of s u) i e x lives differs is ∙ r.found; near = knows_then m i e r.instance knows r.near; whole = r.whole }
 
     walk : {t u : ℕ} → Around s.tables t u → (n i : ℕ) → i < n → Whole s m i t → Found n i u
@@ -273,6 +276,7 @@ key_there s ok k x d h c solid is e a = subst (λ z. KeyAmong (Declared d.0) (ke
     by_text (BlockText begin ds ss) c' z = from_key s (numbers_of s k) d c h a e
     by_text (ProcedureText result g b) c' z = behind_result result (Declared d.0) (cells_from s (numbers_of s k)) (from_key s (numbers_of s k) d c h a e)
     by_text (ClassText prefix g ds ss) c' z = attribute_key s (numbers_of s k) d c h a e
+    by_text (PrefixedText class arguments ds ss) c' z = attribute_key s (numbers_of s k) d c h a e
     by_text ConnectionText c' z = absurd (cc)
     by_text _ c' z = absurd z
 

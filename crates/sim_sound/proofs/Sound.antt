@@ -31,11 +31,11 @@ use Rattle.sim_code.specs.Running.{name_runs}
 use Rattle.sim_meaning.specs.Attributes.{cell_of_connection, is_connection}
 use Rattle.sim_meaning.specs.Closing.{class_parameters}
 use Rattle.sim_meaning.specs.Entries.{first_cells, formals_of, is_array_by_value, numbers_of}
-use Rattle.sim_meaning.specs.Levels.{is_class}
+use Rattle.sim_meaning.specs.Levels.{has_levels}
 use Rattle.sim_meaning.specs.Meaning.{has_result}
 use Rattle.sim_meaning.specs.Objects.{attributes_from}
 use Rattle.sim_meaning.specs.Pending.{Activation, Address, AgainOp, ArrayOp, ArrayValue, AttributeOf, AttributeOp, BackOp, BranchOp, CallOf, CallOp, Cell, ChooseOp, Configuration, ConnectOp, CopyOf, CopyOp, Declared, DeclareOp, Do, DropOp, Either, ElementOf, ElementOp, ElementsOp, EndBlock, EndLevel, EndObject, EndPrefixed, EndProcedure, EndProgram, EnterOp, Eval, Exec, Execs, FetchOp, FitsOf, FitsOp, Further, Given, GiveOp, Held, IfOp, ImageOf, InnerOp, Instances, Item, JoinOp, Joined, KeepOp, KeptOf, Key, Level, LevelOp, Link, MemberOf, MemberOp, NewOf, NewOp, NoTerm, ObjectOp, Of, One, OneOp, Op, PastOp, PlaceOf, PrefixedOp, QuaOf, QuaOp, QualifiedElementOf, QualifiedElementOp, QualifiedPlaceOf, RaiseOp, ReferOp, RemoteCallOf, ShareOp, StandardOf, StandardOp, StepOp, StepTestOp, StoreOp, SwapOp, Target, Term, Terms, TestOp, ToAddress, ToCell, ToPlace, ToReference, ToReferenceAt, ToText, ToTextAt, ToTextOf, Two, TwoOp, Unbuilt, Val, ValueAt, WhenOp, WhileElementOp, held}
-use Rattle.sim_meaning.specs.Texts.{BlockText, ClassText, ProcedureText, Text, is_class_free, text}
+use Rattle.sim_meaning.specs.Texts.{BlockText, ClassText, PrefixedText, ProcedureText, Text, is_class_free, text}
 use Rattle.sim_sound.specs.Expressions.{ExprIs, TwoKinds, some_holds, standard_kind}
 use Rattle.sim_sound.specs.Held.{Among, ArrayOf, Fits, FitsIn, Holds, In, InBound, IsOfKind, Refers, Simply, formal_holds, key_holds, reference_to, result_holds}
 use Rattle.sim_sound.specs.Statements.{ArmsAre, ConnectionIs, ElementsAre, StatementIs, StatementsAre}
@@ -107,6 +107,7 @@ key_of h = h.key
 -- the cells of a text of its own
 abbrev pub own_cells : Source → ℕ → Text → List Held
 own_cells s t (ClassText prefix h ds ss) = attributes_from s (numbers_of s t)
+own_cells s t (PrefixedText class arguments ds ss) = attributes_from s (numbers_of s t)
 own_cells s t x = first_cells s t x
 
 abbrev pub keys_in : Source → ℕ → Option Text → List Key
@@ -140,11 +141,11 @@ Whole s m j t = Present s m j t []
 
 -- ---- values
 
--- an object that has the class among its levels, with its arrays, which is not given back at its end
+-- an object, or a prefixed block, that has the class among its levels, with its arrays, which is not given back at its end
 pub record ObjectOf (s : Source) (m : Instances) (j class : ℕ) : Type 0 where
   pub now : Instance (List Held)
   pub lives : live m j ≡ Some now
-  pub object : is_class (text s now.text) ≡ true
+  pub object : has_levels (text s now.text) ≡ true
   pub levels : has_level s.tables now.text class ≡ true
   pub stays : (now.passing && not now.kept) ≡ false
   pub words : Text
@@ -369,8 +370,8 @@ pub record NewFine (s : Source) (m : Instances) (j e k : ℕ) (g : Option Kinds)
 -- an attribute that the class of a text declares, of an object of a class that has it among its levels
 pub record AttributeFine (s : Source) (text_of : ℕ) (key : Key) (holds : Holds) (class : ℕ) : Type 0 where
   pub level : has_level s.tables class text_of ≡ true
-  pub is : is_class (text s text_of) ≡ true → key_holds s text_of key ≡ Some holds
-  pub there : is_class (text s text_of) ≡ true → KeyAmong key (keys_in s text_of (text s text_of))
+  pub is : has_levels (text s text_of) ≡ true → key_holds s text_of key ≡ Some holds
+  pub there : has_levels (text s text_of) ≡ true → KeyAmong key (keys_in s text_of (text s text_of))
 
 -- where it lies, with the qualification that is held against
 abbrev pub Addressed : (class : Option ℕ) → Holds → Kinds → Type 0
@@ -502,6 +503,21 @@ pub record NewOpFine (s : Source) (k n : ℕ) (before behind : List Kinds) : Typ
   pub fits : Fits s (Refers k) holds
   pub out : behind ≡ Value holds ∷ left
 
+-- an instance that stands for a text
+pub record Site (s : Source) (m : Instances) (j t : ℕ) : Type 0 where
+  pub now : Instance (List Held)
+  pub lives : live m j ≡ Some now
+  pub stands : StandsFor s now t
+
+-- a prefixed block stands in a text for which the instance stands
+pub record PrefixedOpFine (s : Source) (m : Instances) (j k n : ℕ) (before behind : List Kinds) : Type 0 where
+  pub around : ℕ
+  pub site : Site s m j around
+  pub stands_in : encloser s.tables k ≡ Some around
+  pub has : has_levels (text s k) ≡ true
+  pub «in» : before ≡ onto (class_kinds s (class_parameters s (Some k))) behind
+  pub count : n ≡ length (class_parameters s (Some k))
+
 -- an array goes into the cell that waits for it
 pub record ArrayStored (s : Source) (j t : ℕ) (todo todo' : List DeclNo) (x : Target) (before behind : List Kinds) : Type 0 where
   pub declaration : DeclNo
@@ -523,11 +539,6 @@ abbrev pub Ready : (todo todo' : List DeclNo) → (before behind : List Kinds) �
 Ready todo todo' before behind Is = (todo ≡ []) × (todo' ≡ []) × (behind ≡ before) × Is
 
 -- it stands in a text for which the instance stands
-pub record Site (s : Source) (m : Instances) (j t : ℕ) : Type 0 where
-  pub now : Instance (List Held)
-  pub lives : live m j ≡ Some now
-  pub stands : StandsFor s now t
-
 abbrev pub Sited : Source → Instances → ℕ → (Is : ℕ → Type 0) → Type 0
 Sited s m j Is = (u : ℕ) × Site s m j u × Is u
 
@@ -621,7 +632,7 @@ OpFine s o m j t (StepTestOp x line step limit a) todo todo' before behind =
 OpFine s o m j t (StepOp line) todo todo' before behind = (left : List Kinds) × (before ≡ integers 3 left) × (behind ≡ Value (Simply kind.Boolean) ∷ left) × (todo' ≡ todo)
 OpFine s o m j t (RaiseOp x line step limit a) todo todo' before behind =
     Ready todo todo' before behind (Sited s m j (λ u. VariableFine s m j t x kind.Integer × ExprIs s (In u) step (Simply kind.Integer) × ExprIs s (In u) limit (Simply kind.Integer) × StatementIs s u a))
-OpFine s o m j t (PrefixedOp k n line) todo todo' before behind = ⊥
+OpFine s o m j t (PrefixedOp k n line) todo todo' before behind = (todo ≡ []) × (todo' ≡ []) × PrefixedOpFine s m j k n before behind
 
 -- an instance that is an object's
 abbrev pub IsObject : Standing Activation → Type 0
@@ -648,8 +659,8 @@ WorkFine s o m Below Outermost j t (EndProcedure leaves ∷ w) todo before =
 WorkFine s o m Below Outermost j t (EndLevel k ∷ w) todo before = WorkFine s o m Below Outermost j t w todo before
 -- an object that is attached, with its arrays
 WorkFine s o m Below Outermost j t (EndObject ∷ w) todo before =
-    (todo ≡ []) × (is_class_free s t ≡ false) × (is_class (text s t) ≡ true) × ObjectStands m j × Below (Generated j t)
-WorkFine s o m Below Outermost j t (EndPrefixed ∷ w) todo before = ⊥
+    (todo ≡ []) × (is_class_free s t ≡ false) × (has_levels (text s t) ≡ true) × ObjectStands m j × Below (Generated j t)
+WorkFine s o m Below Outermost j t (EndPrefixed ∷ w) todo before = Below (Takes None)
 WorkFine s o m Below Outermost j t (EndProgram ∷ w) todo before = Outermost
 
 -- ---- chains

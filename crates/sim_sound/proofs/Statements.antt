@@ -15,7 +15,7 @@ use Rattle.sim_scope.specs.Scopes.{entry_of}
 use Rattle.sim_tree.specs.declared.expr.Identifier.{Identifier}
 use Rattle.sim_tree.specs.declared.stmt.Assignment.{Assignment}
 use Rattle.sim_tree.specs.declared.stmt.Assignment.TheVariants as assignment
-use Rattle.sim_tree.specs.Syntax.{Also, Begin, Block, Element, Expression, NoDeclaration, NoMore, NoStatement, Statement, Statements, With}
+use Rattle.sim_tree.specs.Syntax.{Also, Begin, Block, Element, Expression, Expressions, NoDeclaration, NoMore, NoStatement, Statement, Statements, With}
 use Rattle.sim_tree.specs.Syntax as syntax
 use Rattle.sim_values.specs.declared.kind.Kind.{Kind}
 use Rattle.sim_values.specs.declared.kind.Kind.TheVariants as kind
@@ -24,32 +24,31 @@ use Rattle.sim_values.specs.declared.operators.Dyadic.TheVariants as dyadic
 use Rattle.sim_code.specs.Events.{choosing}
 use Rattle.sim_code.specs.Outcome.{World}
 use Rattle.sim_meaning.specs.Meaning.{do_op}
-use Rattle.sim_meaning.specs.Steps.{go}
+use Rattle.sim_meaning.specs.Steps.{count, each, go}
 use Rattle.sim_scope.specs.Levels.{base}
 use Rattle.sim_scope.specs.Source.{Source, block_around, denoted, level_of, line_at}
 use Rattle.sim_code.specs.Instances.{at_level}
-use Rattle.sim_meaning.specs.Attributes.{connection_at, is_connection}
-use Rattle.sim_meaning.specs.Closing.{Left, LeftAddress, LeftCell, LeftReference, LeftText, LeftUnbuilt, close, close_place, declared_left, formal_left, home_of, is_text, left_found, left_in, left_variable, named_left, reference_place}
-use Rattle.sim_meaning.specs.Levels.{is_class, levels_inside, text_at}
-use Rattle.sim_meaning.specs.Pending.{Activation, AgainOp, BackOp, BranchOp, ChooseOp, Configuration, ConnectOp, Do, DropOp, ElementsOp, EnterOp, Eval, Exec, Execs, InnerOp, Instances, Item, Key, Op, RaiseOp, StepOp, StepTestOp, StoreOp, Target, Term, TestOp, ToAddress, ToCell, ToPlace, ToReference, ToReferenceAt, ToText, ToTextAt, ToTextOf, TwoOp, Val, WhenOp, WhileElementOp}
-use Rattle.sim_meaning.specs.Statements.{assigned, assigning, compound, controlled, controlled_left, dropping, elements, entered_at, exec, execs, finding, first_branch, inner_begun, leaves, lefts, levels_of_instance, looping, raised, reading, step_tested, while_element}
+use Rattle.sim_meaning.specs.Attributes.{connection_at}
+use Rattle.sim_meaning.specs.Closing.{Left, LeftAddress, LeftCell, LeftReference, LeftText, LeftUnbuilt, class_parameters, close, close_parameters, close_place, declared_left, formal_left, home_of, is_text, left_found, left_in, left_variable, named_left, reference_place}
+use Rattle.sim_meaning.specs.Levels.{has_levels, levels_inside, text_at}
+use Rattle.sim_meaning.specs.Pending.{Activation, AgainOp, BackOp, BranchOp, ChooseOp, Configuration, ConnectOp, Do, DropOp, ElementsOp, EnterOp, Eval, Exec, Execs, InnerOp, Instances, Item, Key, Op, PrefixedOp, RaiseOp, StepOp, StepTestOp, StoreOp, Target, Term, TestOp, ToAddress, ToCell, ToPlace, ToReference, ToReferenceAt, ToText, ToTextAt, ToTextOf, TwoOp, Val, WhenOp, WhileElementOp}
+use Rattle.sim_meaning.specs.Statements.{assigned, assigning, begin_of, compound, controlled, controlled_left, dropping, elements, entered_at, exec, execs, finding, first_branch, inner_begun, leaves, lefts, levels_of_instance, looping, prefix_begun, raised, reading, step_tested, while_element}
 use Rattle.sim_meaning.specs.Texts.{text}
 use Rattle.sim_sound.specs.Held.{Holds, In, Simply, reference_to}
-use Rattle.sim_sound.specs.Expressions.{ExprIs}
-use Rattle.sim_sound.specs.Statements.{CallIs, CompoundIs, ControlIs, ElementsAre, InnerIs, StatementIs, StatementsAre, is_given}
+use Rattle.sim_sound.specs.Expressions.{ActualsFit, ExprIs}
+use Rattle.sim_sound.specs.Statements.{CallIs, CompoundIs, ControlIs, ElementsAre, InnerIs, PrefixedIs, StatementIs, StatementsAre, is_given}
 use Rattle.sim_sound.specs.Typed.{Typed}
 use Rattle.sim_sound.proofs.Assigns.{Found, assigning_fine, lefts_found}
-use Rattle.sim_sound.proofs.Attributes.{class_words}
 use Rattle.sim_sound.proofs.Cells.{own_level, site_whole}
-use Rattle.sim_sound.proofs.ClassLevels.{class_levels, inside_are, levels_are, levels_fine}
-use Rattle.sim_sound.proofs.Closing.{dot_fine, expr_fine, given_fine}
-use Rattle.sim_sound.proofs.Evals.{IsFine, Rest, Work, goes_on}
+use Rattle.sim_sound.proofs.ClassLevels.{all_levels_of, inside_are, levels_are, levels_fine}
+use Rattle.sim_sound.proofs.Closing.{class_fine, dot_fine, expr_fine, given_fine}
+use Rattle.sim_sound.proofs.Evals.{IsFine, Rest, Work, goes_on, prefix_work}
 use Rattle.sim_sound.proofs.Fitting.{text_there}
 use Rattle.sim_sound.proofs.Lefts.{LeftFine, reference_is, variable_fine}
 use Rattle.sim_sound.proofs.Lifts.{Goes, chosen, had, ran, ticked, truth_popped}
-use Rattle.sim_sound.proofs.Prefixes.{LevelOf, level_of_class}
+use Rattle.sim_sound.proofs.Prefixes.{LevelOf, class_has, class_solid, level_of_levels}
 use Rattle.sim_sound.proofs.Reach.{Reaches, ReachesText, reaches_in, text_in}
-use Rattle.sim_sound.proofs.Sound.{AddressOf, Begun, HandsFine, Kinds, LevelsFine, OpFine, Operates, Sight, Site, TermFine, Value, VariableFine, Whole, given, held_kinds, in_instance as at_cell, see, simple, value_stored}
+use Rattle.sim_sound.proofs.Sound.{AddressOf, Begun, HandsFine, Kinds, LevelsFine, OpFine, Operates, Sight, Site, TermFine, TermsFine, Value, VariableFine, Whole, class_kinds, given, held_kinds, in_instance as at_cell, see, simple, value_stored}
 
 -- ---- a variable as a left side is a cell, or is found by a tree
 
@@ -187,16 +186,27 @@ module _ (s : Source) (ok : Typed s) (l : Limits) (o : World) (sights : List Sig
   -- the levels inside the one in which it stands
   inner_goes : (token : ℕ) → InnerIs s u token → (t' w' : ℕ) → Goes P (inner_begun s (ran o t' w') m i w vals rest (block_around s token))
   inner_goes token a t' w' =
-      let c = class_words s ok u a.1 in
       let p = here in
       let k = (p.now).text in
-      let at : LevelOf s k u = own_level s p.now u (ap is_connection c.is) p.stands in
-      let class : is_class (text s k) ≡ true = level_of_class s ok (b.store.instances i p.now p.lives).solid at a.1 in
-      let all = class_levels s ok k class in
+      let at : LevelOf s k u = own_level s p.now u (class_solid (text s u) a.1) p.stands in
+      let has : has_levels (text s k) ≡ true = level_of_levels s ok (b.store.instances i p.now p.lives).solid at (class_has s ok u a.1) in
+      let all = all_levels_of s ok k has in
       let inside : LevelsFine s m i (levels_inside u all.list) = levels_fine s ok m i p.now p.lives (levels_inside u all.list) (inside_are s k u all.list all.are) in
       subst (λ z. Goes P (inner_begun s (ran o t' w') m i w vals rest z)) (sym a.0)
-      (had P (levels_of_instance s (text_at m i)) all.list (ran o t' w') (λ xs. go (ran o t' w') m i (Do (InnerOp (levels_inside u xs)) ∷ w) vals rest) (ap (levels_of_instance s) (text_there s m i p.now p.lives) ∙ levels_are s ok k class)
+      (had P (levels_of_instance s (text_at m i)) all.list (ran o t' w') (λ xs. go (ran o t' w') m i (Do (InnerOp (levels_inside u xs)) ∷ w) vals rest) (ap (levels_of_instance s) (text_there s m i p.now p.lives) ∙ levels_are s ok k has)
       (goes (Do (InnerOp (levels_inside u all.list)) ∷ w) ([], ks, (refl, refl, refl, inside), work)))
+
+  -- ---- prefixed blocks
+
+  -- the actual parameters are evaluated, and then the block is entered
+  prefixed_goes : (class : Identifier) (es : Expressions) (token : ℕ) → PrefixedIs s u token (λ fs. ActualsFit s (In u) es fs) → (t' w' : ℕ) → Goes P (prefix_begun s (ran o t' w') m i w vals rest class es (block_around s token))
+  prefixed_goes class es token a t' w' =
+      let line = line_at s class.token.0 in
+      let fs = class_parameters s (Some a.number) in
+      let terms = close_parameters s m i line es fs in
+      let fine : TermsFine s m i t [] terms (class_kinds s fs) = class_fine s ok (see sights o) m b.store i t [] (In u) reach around line es fs a.actuals in
+      subst (λ z. Goes P (prefix_begun s (ran o t' w') m i w vals rest class es z)) (sym a.around)
+      (goes (each terms (Do (PrefixedOp a.number (count terms) line) ∷ w)) (prefix_work s o sights long m i t rest top a.number terms line u w ks site a.stands_in (ap has_levels a.is) fine work))
 
   pub exec_goes : (a : Statement) → StatementIs s u a → Goes P (exec s l o m i w vals rest a)
   exec_goes (syntax.Empty token) x = goes w work
@@ -204,6 +214,7 @@ module _ (s : Source) (ok : Typed s) (l : Limits) (o : World) (sights : List Sig
     where
       compound_is : (a : Block) → StatementIs s u (syntax.Compound a) → CompoundIs s u a
       compound_is a x = x
+  exec_goes (syntax.Prefixed class es a) x = ticked P l o (λ p. prefix_begun s p m i w vals rest class es (block_around s (begin_of a))) (λ t' w'. prefixed_goes class es (begin_of a) x t' w')
   exec_goes (syntax.Call e) x = ticked P l o (λ p. go p m i (Do (Eval (close s m i e)) ∷ dropping (leaves s e) w) vals rest) (λ t' w'. goes (Do (Eval (close s m i e)) ∷ dropping (leaves s e) w) (call_goes e x))
   exec_goes (syntax.Assign left rs) x =
       ticked P l o (λ p. assigned s p m i w vals rest (lefts s m i (left_sides left rs)) (last_value left rs)) (λ t' w'.

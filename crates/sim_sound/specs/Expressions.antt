@@ -29,7 +29,7 @@ use Rattle.sim_meaning.specs.Attributes.{connection_at, is_connection}
 use Rattle.sim_meaning.specs.Closing.{Joining, Lazily, Negated, Plainly, Sort, class_parameters, is_text, sort_of, stream_of}
 use Rattle.sim_meaning.specs.Constants.{text_constant}
 use Rattle.sim_meaning.specs.Entries.{formals_of}
-use Rattle.sim_meaning.specs.Levels.{class_at, is_class}
+use Rattle.sim_meaning.specs.Levels.{class_at, has_levels, is_class}
 use Rattle.sim_meaning.specs.Names.{procedure_named}
 use Rattle.sim_meaning.specs.Texts.{constant_of, text}
 use Rattle.sim_sound.specs.Held.{ArrayOf, Fits, FitsIn, Holds, Place, Refers, Sees, SeesConnected, Simply, StandsAround, entry_holds, given_by, held_by, reference_to}
@@ -184,15 +184,15 @@ pub record ClassNamed (s : Source) (token : ℕ) : Type 0 where
   pub class : ℕ
   pub is : class_at s token ≡ Some class
 
--- `this`: the object of a class around, or what is connected
-abbrev pub ThisIs : Source → Place → (is_connection is_class : Bool) → (found : ℕ) → Holds → Type 0
+-- `this`: the object of a class around, a prefixed block around, or what is connected
+abbrev pub ThisIs : Source → Place → (is_connection has_levels : Bool) → (found : ℕ) → Holds → Type 0
 ThisIs s from true c k h = StandsAround s from k × Fits s (reference_to (base s.tables k)) h
 ThisIs s from false true k h = StandsAround s from k × Fits s (Refers k) h
 ThisIs s from false false k h = ⊥
 
 abbrev pub ThisFound : Source → Place → (found : Option ℕ) → Holds → Type 0
 ThisFound s from None h = ⊥
-ThisFound s from (Some k) h = ThisIs s from (is_connection (text s k)) (is_class (text s k)) k h
+ThisFound s from (Some k) h = ThisIs s from (is_connection (text s k)) (has_levels (text s k)) k h
 
 -- the class is seen, and the actual parameters fit the formal parameters of all its levels
 pub record Generates (s : Source) (from : Place) (token : ℕ) (Actuals : List Formal → Type 0) : Type 0 where

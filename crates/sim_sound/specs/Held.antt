@@ -17,7 +17,7 @@ use Rattle.sim_scope.specs.Tables.{Tables}
 use Rattle.sim_values.specs.declared.kind.Kind.{Kind}
 use Rattle.sim_values.specs.declared.kind.Kind.TheVariants as kind
 use Rattle.sim_meaning.specs.Attributes.{is_connection}
-use Rattle.sim_meaning.specs.Levels.{is_class, qualification}
+use Rattle.sim_meaning.specs.Levels.{has_levels, is_class, qualification}
 use Rattle.sim_meaning.specs.Pending.{Connection, Declared, Key, Result}
 use Rattle.sim_meaning.specs.Texts.{kind_of_type, text}
 
@@ -69,7 +69,7 @@ formal_holds s mode.ByValue shape.Array (Some type) = Some (ArrayOf (held_by s t
 formal_holds s mode.ByReference shape.Array (Some type) = Some (ArrayOf (held_by s type))
 formal_holds s _ _ _ = None
 
--- a constant of a class is read in its cell from outside
+-- a constant of a class is read in its cell from outside, and so has one in a prefixed block
 abbrev pub constant_holds : (in_class : Bool) → SimType → Option Holds
 constant_holds true type = Some (Simply (kind_of_type type))
 constant_holds false type = None
@@ -83,7 +83,7 @@ entry_holds s c (Some (entry.Formal f)) = formal_holds s f.mode f.kind f.ty
 entry_holds s c _ = None
 
 abbrev pub declared_holds : Source → (text : ℕ) → DeclNo → Option Holds
-declared_holds s t d = entry_holds s (is_class (text s t)) (entry_of s.tables d)
+declared_holds s t d = entry_holds s (has_levels (text s t)) (entry_of s.tables d)
 
 -- what a call gives that has a result of this type, or none
 abbrev pub given_by : Source → (result : Option SimType) → Option Holds

@@ -4,11 +4,13 @@ use Rattle.sim_scope.specs.declared.scopes.Denotation.{Denotation}
 use Rattle.sim_scope.specs.declared.scopes.Denotation.TheVariants as denotation
 use Rattle.sim_scope.specs.declared.types.Entry.{Entry}
 use Rattle.sim_scope.specs.declared.types.Entry.TheVariants as entry
+use Rattle.sim_scope.specs.declared.types.Formal.{Formal}
 use Rattle.sim_scope.specs.Access.{encloser}
 use Rattle.sim_scope.specs.Assignments.{LeftSide, last_value, left_sides}
 use Rattle.sim_scope.specs.Levels.{base}
 use Rattle.sim_scope.specs.Scopes.{entry_of}
 use Rattle.sim_scope.specs.Source.{Source, block_around, denoted, type_at}
+use Rattle.sim_tree.specs.declared.expr.Identifier.{Identifier}
 use Rattle.sim_tree.specs.declared.stmt.Assignment.{Assignment}
 use Rattle.sim_tree.specs.declared.stmt.Assignment.TheVariants as assignment
 use Rattle.sim_tree.specs.Syntax.{Also, Arms, Begin, Block, Declarations, Element, Expression, Expressions, NoArm, NoDeclaration, NoMore, NoStatement, Statement, Statements, Then, When, With}
@@ -16,10 +18,10 @@ use Rattle.sim_tree.specs.Syntax as syntax
 use Rattle.sim_values.specs.declared.kind.Kind.{Kind}
 use Rattle.sim_values.specs.declared.kind.Kind.TheVariants as kind
 use Rattle.sim_meaning.specs.Attributes.{connection_at, first_in}
-use Rattle.sim_meaning.specs.Closing.{is_text, result_meant, stream_of, typed_token}
+use Rattle.sim_meaning.specs.Closing.{class_parameters, is_text, result_meant, stream_of, typed_token}
 use Rattle.sim_meaning.specs.Levels.{class_at, is_class, qualification}
-use Rattle.sim_meaning.specs.Statements.{leaves}
-use Rattle.sim_meaning.specs.Texts.{BlockText, ConnectionText, text}
+use Rattle.sim_meaning.specs.Statements.{begin_of, leaves}
+use Rattle.sim_meaning.specs.Texts.{BlockText, ConnectionText, PrefixedText, text}
 use Rattle.sim_sound.specs.Held.{Around, ArrayOf, Holds, In, Refers, Simply, entry_holds, held_by, reference_to, result_holds}
 use Rattle.sim_sound.specs.Expressions.{ActualsFit, AreIntegers, AreOf, DotGives, ExprIs, KnownAt, NamedGives, ObjectHas}
 
@@ -152,6 +154,18 @@ pub record BlockIs (s : Source) (t token : ℕ) : Type 0 where
   pub statements : Statements
   pub is : text s number ≡ Some (BlockText begin declarations statements)
 
+-- A prefixed block is the text around its first token, and stands in this one, as the actual parameters of its prefix do.
+pub record PrefixedIs (s : Source) (t token : ℕ) (Actuals : List Formal → Type 0) : Type 0 where
+  pub number : ℕ
+  pub around : block_around s token ≡ Some number
+  pub stands_in : encloser s.tables number ≡ Some t
+  pub class : Identifier
+  pub arguments : Expressions
+  pub declarations : Declarations
+  pub statements : Statements
+  pub is : text s number ≡ Some (PrefixedText class arguments declarations statements)
+  pub actuals : Actuals (class_parameters s (Some number))
+
 abbrev pub WholeBlock : Source → ℕ → (token : ℕ) → Declarations → (Inner : Type 0) → Type 0
 WholeBlock s t token NoDeclaration Inner = Inner
 WholeBlock s t token (With d ds) Inner = BlockIs s t token
@@ -174,6 +188,7 @@ abbrev mutual
   pub StatementIs : Source → ℕ → Statement → Type 0
   StatementIs s t (syntax.Empty token) = Unit {0}
   StatementIs s t (syntax.Compound b) = CompoundIs s t b
+  StatementIs s t (syntax.Prefixed class es b) = PrefixedIs s t (begin_of b) (λ fs. ActualsFit s (In t) es fs)
   StatementIs s t (syntax.Inner token) = InnerIs s t token
   StatementIs s t (syntax.Call e) = CallIs s t e
   StatementIs s t (syntax.Assign left rs) = (k : Kind) × LeftsAre s t (left_sides left rs) k × ExprIs s (In t) (last_value left rs) (Simply k)

@@ -1,5 +1,5 @@
--- Which programs are typed: what the static rules give, as far as a run rests on it. So far for programs without block prefixes, parameters by
--- name and formal procedures.
+-- Which programs are typed: what the static rules give, as far as a run rests on it. So far for programs that have no prefix themselves, and no
+-- parameters by name and formal procedures.
 use Rattle.std.specs.Prelude.{◌≡◌, ◌<◌, ℕ, suc, true, false, List, [], ◌∷◌, length, slice_get, Option, Some, None}
 use Rattle.std.specs.List.{list_any}
 use Rattle.sim_base.specs.declared.numbering.DeclNo.{DeclNo}
@@ -21,8 +21,8 @@ use Rattle.sim_values.specs.Plain.{Plain, kind_of}
 use Rattle.sim_meaning.specs.Attributes.{first_in, is_connection}
 use Rattle.sim_meaning.specs.Closing.{class_parameters}
 use Rattle.sim_meaning.specs.Entries.{formals_of, is_held, numbers_of}
-use Rattle.sim_meaning.specs.Levels.{is_class}
-use Rattle.sim_meaning.specs.Texts.{BlockText, ClassText, ConnectionText, ProcedureText, Text, constant_of, declared_at, is_class_free, kind_named, kind_of_type, text}
+use Rattle.sim_meaning.specs.Levels.{has_levels, is_class}
+use Rattle.sim_meaning.specs.Texts.{BlockText, ClassText, ConnectionText, PrefixedText, ProcedureText, Text, constant_of, declared_at, is_class_free, kind_named, kind_of_type, text}
 use Rattle.sim_sound.specs.Held.{Among, ArrayOf, Holds, InBound, IsFormal, IsOfKind, Place, Simply, entry_holds, formal_holds, held_by, result_holds}
 use Rattle.sim_sound.specs.Expressions.{ExprIs}
 use Rattle.sim_sound.specs.Statements.{StatementIs, StatementsAre}
@@ -130,8 +130,8 @@ pub record ConstantHas (s : Source) (d : DeclNo) (type : SimType) : Type 0 where
   pub is : constant_of s d ≡ Some value
   pub of_type : kind_of value ≡ kind_of_type type
 
--- A class: the formal parameters of all its levels have something to hold; those of its own are formal parameters of the class; its arrays are
--- made before its statements.
+-- A class or a prefixed block: the formal parameters of all its levels have something to hold; those of its own are formal parameters of the
+-- class; its arrays are made before its statements.
 pub record ClassTyped (s : Source) (k : ℕ) (ds : Declarations) (ss : Statements) : Type 0 where
   pub formals : FormalsAre s (class_formals s.tables k) (class_parameters s (Some k))
   pub parameters : (d : DeclNo) → Among d (numbers_of s k) → IsFormal (entry_of s.tables d) → Among d (class_formals s.tables k)
@@ -155,6 +155,7 @@ abbrev pub TextTyped : Source → ℕ → Text → Type 0
 TextTyped s k (BlockText begin ds ss) = BlockTyped s k ds ss
 TextTyped s k (ProcedureText result h a) = ProcedureTyped s k result a
 TextTyped s k (ClassText prefix h ds ss) = ClassTyped s k ds ss
+TextTyped s k (PrefixedText class arguments ds ss) = ClassTyped s k ds ss
 TextTyped s k ConnectionText = ConnectionTyped s k
 TextTyped s k _ = ⊥
 
@@ -165,19 +166,24 @@ pub data Ends (tables : Tables) : (levels block : ℕ) → Type 0 where
   outermost : {n k : ℕ} → base tables k ≡ None → Ends tables (suc n) k
   prefixed : {n k b : ℕ} → base tables k ≡ Some b → Ends tables n b → Ends tables (suc n) k
 
--- The prefix of a class is a class. It is declared in the text around, which is no connection, or in a prefix of that.
+-- the nearest text around that is no connection
+pub data Home (s : Source) : (text home : ℕ) → Type 0 where
+  stands : {k u : ℕ} → encloser s.tables k ≡ Some u → is_connection (text s u) ≡ false → Home s k u
+  connected : {k u h : ℕ} → encloser s.tables k ≡ Some u → is_connection (text s u) ≡ true → Home s u h → Home s k h
+
+-- The prefix of a class or a block is a class. It is declared in the nearest text around that is no connection, or in a prefix of that.
 pub record PrefixTyped (s : Source) (k b : ℕ) : Type 0 where
-  pub class : is_class (text s k) ≡ true
+  pub has : has_levels (text s k) ≡ true
   pub prefix : is_class (text s b) ≡ true
   pub outer : ℕ
   pub outer_prefix : ℕ
-  pub around : encloser s.tables k ≡ Some outer
+  pub around : Home s k outer
   pub around_prefix : encloser s.tables b ≡ Some outer_prefix
   pub solid : is_connection (text s outer) ≡ false
   pub declared : has_level s.tables outer outer_prefix ≡ true
 
--- What has a next level is a connection, of which that is the class that is connected, or a class, of which that is the prefix. The levels of
--- a class are no more than there are texts, and what it declares is declared by no level of its prefix.
+-- What has a next level is a connection, of which that is the class that is connected, or a class or a block, of which that is the prefix. Its
+-- levels are no more than there are texts, and what it declares is declared by no level of its prefix.
 pub record Prefixes (s : Source) : Type 0 where
   pub prefixed_by : (k b : ℕ) → is_connection (text s k) ≡ false → base s.tables k ≡ Some b → PrefixTyped s k b
   pub ends : (k : ℕ) → is_connection (text s k) ≡ false → Ends s.tables (length s.tables.blocks) k

@@ -91,8 +91,8 @@ or_true : (b : Bool) → true ≡ (b || true)
 or_true true = refl
 or_true false = refl
 
-pub note_prefixed : (b c : Bool) (p : Position) (x : Stmt) (q : BlockPrefix) (k : Block) → x ≡ s.PrefixedBlock q k → Runs note true c (of_whole forms k) → Runs note b c (of_statement forms p x)
-note_prefixed b c p x q k is h = run_prefixed note forms b true c p x q k is (runs_one note b true true (or_true b)) h
+pub note_prefixed : (b c : Bool) (p : Position) (x : Stmt) (q : BlockPrefix) (k : Block) → x ≡ s.PrefixedBlock q k → Runs note b c (of_whole forms k) → Runs note b c (of_statement forms p x)
+note_prefixed b c p x q k is h = run_prefixed note forms b b c p x q k is (runs_none note b) h
 
 pub note_inner : (b : Bool) (p : Position) (x : Stmt) (i : TokenNo) → x ≡ s.Inner i → Runs note b b (of_statement forms p x)
 note_inner b p x i is = run_inner note forms b b p x i is (runs_none note b)

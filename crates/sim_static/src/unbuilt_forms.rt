@@ -1,4 +1,4 @@
-//! Programs with a form that is not built: prefixes of blocks, virtual procedures, parameters by name and of procedures, activations.
+//! Programs with a form that is not built: a prefix of the program, virtual procedures, parameters by name and of procedures, activations.
 ghost use Rattle.std.specs.Prelude.{◌≡◌, ◌||◌, false};
 ghost use Rattle.std.specs.List.{list_any};
 ghost use Rattle.sim_scope.specs.Runs.{each};
@@ -76,7 +76,7 @@ fn statement(met: bool, position: Position, stmt: &Stmt) -> bool
             Position::ClassStatement => self::block(met, block),
             Position::Inside => self::block(met, block),
         },
-        Stmt::PrefixedBlock { block, .. } => whole(true, block),
+        Stmt::PrefixedBlock { block, .. } => whole(met, block),
         Stmt::If {
             then_branch,
             else_branch,
@@ -211,7 +211,7 @@ fn declaration(met: bool, decl: &Decl) -> bool
     }
 }
 
-/// Whether a program has a block with a prefix, virtual procedures, a parameter by name, a procedure as a parameter, or an activation,
+/// Whether a program has a prefix itself, virtual procedures, a parameter by name, a procedure as a parameter, or an activation,
 /// wherever it stands.
 #[tactic(auto, using(crate::proofs::Notings::unbuilt))]
 pub fn has_unbuilt_form(program: &Program) -> bool

@@ -137,10 +137,14 @@ virtuals_full : (vs : List VirtualSpecification) (f : Forest) → Full (d.virtua
 virtuals_full [] f full = full
 virtuals_full (v ∷ vs) f full = full.2
 
+behind_arguments : (xs : List Derivation) (f : Forest) → Full (arguments xs f) → Full f
+behind_arguments [] f full = full
+behind_arguments (x ∷ xs) f full = full.2
+
 stmt_step : induction.StmtStep Says Declares Blocks Classes Procedures Arms
 stmt_step (Stmt-F.Empty i) token full = tt
 stmt_step (Stmt-F.Block b) token full = b.1 full.1
-stmt_step (Stmt-F.PrefixedBlock p b) token full = tt
+stmt_step (Stmt-F.PrefixedBlock p b) token full = b.1 (behind_arguments (map derivation_of p.arguments.items) (node g.AfterFirstOperand (node g.Compound (block_derivation b.0) done) done) full).1.1
 stmt_step (Stmt-F.Inner i) token full = tt
 stmt_step (Stmt-F.Call e) token full = tt
 stmt_step (Stmt-F.Assignment e v) token full = sides_filled e v.items token
@@ -182,10 +186,6 @@ when_step w full = w.body.1 full.0 full.1
 
 block_filled : (b : Block) → Blocks (block_derivation b) (block_syntax b)
 block_filled = induction.each_block Says Declares Blocks Classes Procedures Arms stmt_step decl_step block_step class_step procedure_step when_step
-
-behind_arguments : (xs : List Derivation) (f : Forest) → Full (arguments xs f) → Full f
-behind_arguments [] f full = full
-behind_arguments (x ∷ xs) f full = full.2
 
 pub filled : (ws : List Token) (p : ProgramTree) → IsTree ws p → Filled (program_syntax p)
 unfolding program_syntax

@@ -24,10 +24,10 @@ use Rattle.sim_tree.specs.Tree.{is_bare, IsTree}
 use Rattle.sim_tree.proofs.Induction as induction
 use Rattle.sim_tree.proofs.Full.{reads_full}
 use Rattle.sim_tree.specs.Nesting.{has_token}
-use Rattle.sim_tree.specs.Derivation.{Derivation, argument, arguments, expression, raise, row, derivation_of, whole}
+use Rattle.sim_tree.specs.Derivation.{Derivation, argument, arguments, expression, raise, row, derivation_of, whole, identifier}
 use Rattle.sim_tree.specs.ProgramDerivation as d
 use Rattle.sim_tree.specs.ProgramDerivation.{Declared, Plain, Prefixed, joined, acted, begun, contents, next_statement, assigned_derivation, statement_derivation, declaration_derivation, block_derivation, when_derivation, program_derivation}
-use Rattle.sim_tree.specs.Syntax.{Statement, Declaration, statements, declarations}
+use Rattle.sim_tree.specs.Syntax.{Statement, Declaration, statements, declarations, Named, expressions}
 use Rattle.sim_tree.specs.Syntax.{Block as BlockSyntax}
 use Rattle.sim_tree.specs.SyntaxOf.{syntax_of}
 use Rattle.sim_tree.specs.SyntaxOfProgram as t
@@ -46,6 +46,7 @@ use Rattle.sim_tree.specs.declared.stmt.VirtualSpecification.{VirtualSpecificati
 use Rattle.sim_tree.specs.Order.{AllBelow, Behind, InOrder, Spot, Token as Mark, in_arms, in_block, in_bounds, in_declaration, in_declarations, in_each, in_element, in_expression, in_name, in_segment, in_side, in_statement, in_statements, in_type, in_variable}
 use Rattle.sim_tree.proofs.ReadExpressions.{Full, is_full-Full}
 use Rattle.sim_tree.proofs.ReadStatements.{acted_full}
+use Rattle.sim_tree.proofs.NamedExpressions as n
 use Rattle.sim_tree.proofs.NamedExpressions.{name_expr, operand_named, valued}
 use Rattle.sim_tree.proofs.Spots.{Lays, ahead, both, expression_lays, keep, kept-none, kept_ascend, kept_below, lays_none, none, reads_ascend, reads_below, same_spots, skip, spots}
 
@@ -117,6 +118,25 @@ virtuals_none (v ∷ vs) f full rest = both (lays_none (row g.VirtualSpecificati
 behind_arguments : (xs : List Derivation) (f : Forest) {h : List Spot → List Spot} → Full (arguments xs f) → (Full f → Lays h (spots f)) → Lays h (spots (arguments xs f))
 behind_arguments [] f full rest = rest full
 behind_arguments (x ∷ xs) f full rest = both (lays_none (node g.Expression (whole x) (row g.NextArgument (map argument xs) done))) (rest full.2)
+
+-- a class in front of a block, with the actual parameters behind it
+arguments_full : (xs : List Derivation) (f : Forest) → Full (arguments xs f) → Full (arguments xs done) × Full f
+arguments_full [] f full = (tt, full)
+arguments_full (x ∷ xs) f full = ((full.0, full.1, tt), full.2)
+
+arguments_end : (xs : List Derivation) (f : Forest) (q : List Spot) → spots (arguments xs f) q ≡ spots (arguments xs done) (spots f q)
+arguments_end [] f q = refl
+arguments_end (x ∷ xs) f q = refl
+
+prefix_named : (x : Identifier) (es : List Expr) (f : Forest) {h : List Spot → List Spot} → Full (arguments (map derivation_of es) f) → (Full f → Lays h (spots f))
+    → Lays (λ r. in_expression (Named x (expressions (map syntax_of es))) (h r)) (spots (identifier x (arguments (map derivation_of es) f)))
+prefix_named x es f full rest =
+    let all = arguments_full (map derivation_of es) f full in
+    same_spots (λ q. ap (λ z. Mark x.token.0 ∷ z) (arguments_end (map derivation_of es) f q))
+    (both
+    (expression_lays (Named x (expressions (map syntax_of es))) (identifier x (arguments (map derivation_of es) done))
+    (n.keep (n.arguments_named (map derivation_of es) (map syntax_of es) done (λ r. r) (n.each_expr es) all.0 (λ full. n.none))))
+    (rest all.1))
 
 -- an expression
 expr_named : (e : Expr) → not (is_bare (expression e)) ≡ true → Full (expression e) → Lays (in_expression (syntax_of e)) (spots (expression e))
@@ -280,7 +300,7 @@ arms_named (x ∷ xs) full = both (x.1 full.1) (arms_named xs full.2)
 stmt_step : induction.StmtStep Says Declares Blocks Classes Procedures Arms
 stmt_step (Stmt-F.Empty i) token full = skip none
 stmt_step (Stmt-F.Block b) token full = b.1 full.1
-stmt_step (Stmt-F.PrefixedBlock p b) token full = skip (behind_arguments (map derivation_of p.arguments.items) (node g.AfterFirstOperand (node g.Compound (block_derivation b.0) done) done) full (λ full. b.1 full.1.1))
+stmt_step (Stmt-F.PrefixedBlock p b) token full = prefix_named p.class p.arguments.items (node g.AfterFirstOperand (node g.Compound (block_derivation b.0) done) done) full (λ full. b.1 full.1.1)
 stmt_step (Stmt-F.Inner i) token full = keep none
 stmt_step (Stmt-F.Call e) token full = called e done full (λ full. none)
 stmt_step (Stmt-F.Assignment e v) token full = assigned_named e v.items token full

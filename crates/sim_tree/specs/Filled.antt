@@ -21,10 +21,11 @@ abbrev pub FilledSegments : List Arrayed → Type 0
 FilledSegments [] = Unit {0}
 FilledSegments (a ∷ more) = SomeIdentifier a.names × FilledSegments more
 
--- of prefixed blocks and activations nothing is said
+-- of activations nothing is said
 abbrev mutual
   pub FilledStatement : Statement → Type 0
   FilledStatement (syntax.Compound b) = FilledBlock b
+  FilledStatement (syntax.Prefixed class es b) = FilledBlock b
   FilledStatement (syntax.Assign left rs) = SomeSide rs
   FilledStatement (syntax.Choose token c a b) = FilledStatement a × FilledStatements b
   FilledStatement (syntax.Repeat token c a) = FilledStatement a

@@ -82,7 +82,7 @@ abbrev mutual
   in_statement (s.Repeat i e x) l = in_expression e (in_statement x l)
   in_statement (s.For i name sign j elements x) l = in_name name (in_each in_element elements (in_statement x l))
   in_statement (s.Empty i) l = l
-  in_statement (s.Prefixed class es b) l = in_block b l
+  in_statement (s.Prefixed class es b) l = in_expression (s.Named class es) (in_block b l)
   in_statement (s.Inner i) l = Token i ∷ l
   in_statement (s.Inspect i e j x end y) l = in_expression e (Token j ∷ in_statement x (Behind end ∷ in_statements y l))
   in_statement (s.InspectWhen i e arms y) l = in_expression e (in_arms arms (in_statements y l))

@@ -4,7 +4,6 @@ use Rattle.std.specs.Vec.{with_items}
 use Rattle.std.proofs.lemmas.List.{with_items_is, places}
 use Rattle.sim_values.specs.Plain.{Object}
 use Rattle.sim_values.specs.Words.{instance_words}
-use Rattle.sim_code.specs.declared.stage.Stage.TheVariants as stage
 use Rattle.frame_arena.specs.declared.frames.Component.TheVariants as component
 use Rattle.sim_code.specs.Arrays.{handed_over}
 use Rattle.sim_code.specs.Events.{entering}
@@ -18,11 +17,10 @@ use Rattle.frame_arena.specs.Stacks.{values_from, values_of}
 use Rattle.object_machine.specs.declared.machine.Flow.TheVariants as flow
 use Rattle.object_machine.specs.declared.machine.Registers.{Registers}
 use Rattle.object_machine.specs.declared.openings.Beginning.{Beginning}
-use Rattle.object_machine.specs.Entering.{Opens, Pays, paid}
+use Rattle.object_machine.specs.Entering.{Pays, paid}
 use Rattle.object_machine.specs.Calling.{OpensWith, opened_with}
-use Rattle.object_machine.specs.Preparing.{ReadyFor}
+use Rattle.object_machine.specs.Preparing.{ReadyFor, with_levels}
 use Rattle.object_machine.specs.Standing.{AllAtWork, AtWork, Leaves, Obeys, activation_at, below_of}
-use Rattle.object_machine.proofs.BlockFacts.{same_found}
 use Rattle.object_machine.proofs.Covered.{covered_by}
 use Rattle.object_machine.proofs.Firsts.{pays_off}
 use Rattle.object_machine.proofs.Going.{act, along, no_rule_in}
@@ -56,17 +54,13 @@ pub returns-in_default-get-clause-row : goal.returns-in_default-get-clause-row
 unfolding Obeys Leaves
 returns-in_default-get-clause-row c code line now eb ei ec before o m s = tt
 
-pub returns-in_default-open-clause-row : goal.returns-in_default-open-clause-row
+pub returns-in_default-set_up-clause-row : goal.returns-in_default-set_up-clause-row
 unfolding Obeys Leaves
-returns-in_default-open-clause-row c code line now eb ei ec before o m s = tt
+returns-in_default-set_up-clause-row c code line now eb ei ec before o m s = tt
 
 pub returns-then-home-clause-row : goal.returns-then-home-clause-row
 unfolding Obeys Leaves
 returns-then-home-clause-row c code line now eb ei ec before o m s = tt
-
-pub returns-then-not-furnish-clause-row : goal.returns-then-not-furnish-clause-row
-unfolding Obeys Leaves
-returns-then-not-furnish-clause-row c code line now eb ei ec before o m s = tt
 
 pub returns-in_default-push-clause-row : goal.returns-in_default-push-clause-row
 unfolding Obeys Leaves
@@ -96,7 +90,6 @@ returns-in_default-flow c = record {
       (subst (λ z. ReadyFor x code l o m t.registers z under line (to_z w64 (of_z w64 c.args.class)) (to_z w64 (of_z w64 c.args.values))) c.deref-2.ensures.value (c.in-Some.ensures.row code p.cells.items l o m under line eb ei ec h slots))) in
       let there : slice_get code.blocks x.block ≡ Some b = ap (λ v. slice_get v x.block) eb ∙ found_at c.args.blocks.now x.block b c.in-Some-get.ensures.lookup.3.0 c.in-Some-get.ensures.lookup.1 in
       let ready : ReadyAs b x code l o m t.registers stack under line c.args.class c.args.values = ready_as b x code l o m t.registers stack under line c.args.class c.args.values ready there in
-      let filled_b = ready.filled in
       let inside : x.actuals.under < length stack = subst (λ z. x.actuals.under < length z) c.deref-2.ensures.value c.in-Some.ensures.under in
       let cells : b.cells ≡ c.block.inside.cells = ap (λ b. b.cells) (sym c.block.view_is) in
       let w : c.words_instance.result ≡ words_of_block b = c.words_instance.ensures.words ∙ ap (λ n. instance_words n false) (sym cells) in
@@ -125,39 +118,32 @@ returns-clause-row c code line now eb ei ec before o m s =
     (subst (λ z. ReadyFor x code l o m t.registers z under line (to_z w64 (of_z w64 c.args.class)) (to_z w64 (of_z w64 c.args.values))) c.deref-2.ensures.value (c.in-Some.ensures.row code p.cells.items l o m under line eb ei ec h slots))) in
     let there : slice_get code.blocks x.block ≡ Some b = ap (λ v. slice_get v x.block) eb ∙ found_at c.args.blocks.now x.block b c.in-Some-get.ensures.lookup.3.0 c.in-Some-get.ensures.lookup.1 in
     let ready : ReadyAs b x code l o m t.registers stack under line c.args.class c.args.values = ready_as b x code l o m t.registers stack under line c.args.class c.args.values ready there in
-    let filled_b = ready.filled in
-    let inside : x.actuals.under < length stack = subst (λ z. x.actuals.under < length z) c.deref-2.ensures.value c.in-Some.ensures.under in
     let cells : b.cells ≡ c.block.inside.cells = ap (λ b. b.cells) (sym c.block.view_is) in
     let w : c.words_instance.result ≡ words_of_block b = c.words_instance.ensures.words ∙ ap (λ n. instance_words n false) (sym cells) in
     let pays : Pays flow.On l line (words_of_block b) c.pay-flow.new.storage before now o m = subst (λ n. Pays flow.On l line n c.pay-flow.new.storage before now o m) w (c.in-On.ensures.row line before now o m s.stores) in
     let world = paid o (words_of_block b) in
     let p1 = c.pay-flow.new.storage in
-    let p3 = c.furnish.new.storage in
-    let g : Beginning = record { start = x.start; stage = stage.Declaring 0; component = component.Attached } in
+    let p3 = c.set_up.new.storage in
+    let g : Beginning = with_levels x component.Attached in
     let same = c.in-On.ensures.same refl in
     let works : AtWork p1 world m t.registers stack = subst (λ v. AtWork v world m t.registers stack) (sym same) s.top in
     let others : AllAtWork p1 world m c.args.below.now.items = subst (λ v. AllAtWork v world m c.args.below.now.items) (sym same) s.others in
     let parent : Leads p.frames.items m x.actuals.parent = subst (λ f. Leads f m x.actuals.parent) c.deref.ensures.value (c.in-Some.ensures.leads p.cells.items m h slots) in
     let leads : Leads p1.frames.items m x.actuals.parent = subst (λ v. Leads v.frames.items m x.actuals.parent) (sym same) parent in
-    let next = c.in-Ok.next in
-    let opens : Opens l p1 c.open.new.storage x.block b g (Some x.actuals.parent) next before now world m = c.in-Ok.ensures.row l before now world m pays.1 (λ r is. subst (λ f. Leads p1.frames.items m f) (same_found (Some x.actuals.parent) x.actuals.parent r refl is) leads) in
-    let works2 : AtWork p1 world m t.registers c.deref-3.result.now = subst (λ z. AtWork p1 world m t.registers z) (sym c.deref-3.ensures.value) works in
-    let vs2 = values_from c.deref-3.result.now x.actuals.at x.actuals.count in
+    let next = c.in-Some-set_up.next in
     let vs = values_from stack x.actuals.at x.actuals.count in
-    let es : vs2 ≡ vs = ap (λ z. values_from z x.actuals.at x.actuals.count) c.deref-3.ensures.value in
-    let filled : filled_by (parameter_cell code c.block.inside.class) 0 vs2 (Some (first_cells b)) ≡ Some ready.cells =
-    ap (λ z. filled_by (parameter_cell code c.block.inside.class) 0 z (Some (first_cells b))) es ∙ ap (λ k. filled_by (parameter_cell code k) 0 vs (Some (first_cells b))) (ap (λ b. b.class) c.block.view_is) ∙ filled_b in
-    let furnished0 = c.furnish.ensures.row c.if-not-furnish.false code l before now p1 world m x.block b g (Some x.actuals.parent) ready.cells next t.registers eb ec refl opens works2 filled in
     let o2 = handed_over (length m.instances) (arrays_among vs) world in
     let furnished : OpensWith l p1 p3 x.block b g (Some x.actuals.parent) ready.cells next before now world o2 m =
-    subst (λ z. OpensWith l p1 p3 x.block b g (Some x.actuals.parent) ready.cells next before now world (handed_over (length m.instances) (arrays_among z) world) m) es furnished0 in
+    subst (λ z. OpensWith l p1 p3 x.block b g (Some x.actuals.parent) ready.cells next before now world (handed_over (length m.instances) (arrays_among (values_from z x.actuals.at x.actuals.count)) world) m) c.deref-3.ensures.value
+    (c.in-Some-set_up.ensures.row code l before now world m ready.cells t.registers eb ec pays.1 (subst (λ z. AtWork p1 world m t.registers z) (sym c.deref-3.ensures.value) works) leads
+    (ap (λ z. filled_by (parameter_cell code b.class) 0 (values_from z x.actuals.at x.actuals.count) (Some (first_cells b))) c.deref-3.ensures.value ∙ ready.filled)) in
     let m2 = opened_with m x.block b g (Some x.actuals.parent) ready.cells in
     let w1 = furnished.others t.registers stack works in
     let pushed = c.push.new.stack in
     let items : (with_items t.stack pushed).items ≡ pushed = with_items_is t.stack pushed (search (rules, places)) in
     let r2 : Registers = record t.registers { depth = c.in-Some-push.depth } in
     let deref : c.deref_mut.result.now ≡ stack = c.deref_mut.ensures.value in
-    let object : value_of c.object.result ≡ Of (Object (length m.instances)) = c.object.ensures.value ∙ ap (λ n. Of (Object n)) (ap (λ a. a.home) opens.top) in
+    let object : value_of c.object.result ≡ Of (Object (length m.instances)) = c.object.ensures.value ∙ ap (λ n. Of (Object n)) (ap (λ a. a.home) furnished.top) in
     let w2 : AtWork p3 o2 m2 r2 pushed = record {
       home = w1.home;
       slots = c.push.ensures.leads p3.frames.items m2 (subst (λ z. AllLead p3.frames.items m2 z) (sym deref) w1.slots) (c.object.ensures.leads p3.frames.items m2 furnished.works.home);

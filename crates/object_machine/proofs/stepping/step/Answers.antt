@@ -254,3 +254,25 @@ returns-in-New-clause-row g c s e = (
         (c.generate-flow.ensures.row code line (outside (g.O.Sink.written c.args.out.now) s) e1 e2 e4)),
   ),
 )
+
+pub returns-in-Pref-clause-ends : goal.returns-in-Pref-clause-ends
+returns-in-Pref-clause-ends g c = flow_still g.O.Sink.written g.O.Sink.faults c.args.out.now _ c.without_ports-in-Pref.ensures.other
+
+pub returns-in-Pref-clause-read : goal.returns-in-Pref-clause-read
+returns-in-Pref-clause-read g c = input_still (g.I.Source.faults c.args.input.now) _ c.without_ports-in-Pref.ensures.read
+
+pub returns-in-Pref-clause-row : goal.returns-in-Pref-clause-row
+returns-in-Pref-clause-row g c s e = (
+  s,
+  e,
+  (
+    still_same c.without_ports-in-Pref.result (g.O.Sink.written c.args.out.now),
+    λ code line e1 e2 e3 e4.
+        let eblock : to_z w64 (of_z w64 c.in-Pref.block) ≡ c.in-Pref.block = search rules in
+        let evalues : to_z w64 (of_z w64 c.in-Pref.values) ≡ c.in-Pref.values = search rules in
+        c.without_ports-in-Pref.ensures.row _ _ _ _ _ _ _ _ _ _ _ _ _
+        (for_instr_in _ code c.args.limits.now line _ _ _ _ _ _ _ _ _ _ c.args.instr (i.Pref (to_z w64 (of_z w64 c.in-Pref.block)) (to_z w64 (of_z w64 c.in-Pref.values)))
+        (c.in-Pref.is ∙ ap (λ z. i.Pref z c.in-Pref.values) (sym eblock) ∙ ap (λ z. i.Pref (to_z w64 (of_z w64 c.in-Pref.block)) z) (sym evalues))
+        (c.enter_prefixed-flow.ensures.row code line (outside (g.O.Sink.written c.args.out.now) s) e1 e2 e4)),
+  ),
+)

@@ -6,15 +6,15 @@ use Rattle.sim_run.proofs.running.compile_and_run.Goals as goal
 
 pub run_code-requires-clause-ruled : goal.run_code-requires-clause-ruled
 run_code-requires-clause-ruled g c input =
-    is_ruled (source_of c.args.bound.now) c.in-Ok.code (c.compiled_code_runs_as_meant.ensures (source_of c.args.bound.now) c.in-Ok.code c.requires.ruled c.requires.names_objects c.requires.stays_sane c.requires.built.unprefixed c.in-Ok.ensures.stands) c.args.limits.now input c.requires
+    is_ruled (source_of c.args.bound.now) c.in-Ok.code (c.compiled_code_runs_as_meant.ensures (source_of c.args.bound.now) c.in-Ok.code c.requires.ruled c.requires.names_objects c.requires.stays_sane c.in-Ok.ensures.stands) c.args.limits.now input c.requires
 
 pub returns-in-Ok-clause-ran : goal.returns-in-Ok-clause-ran
 returns-in-Ok-clause-ran g c bytes told =
-    ran_of (source_of c.args.bound.now) c.in-Ok.code (c.compiled_code_runs_as_meant.ensures (source_of c.args.bound.now) c.in-Ok.code c.requires.ruled c.requires.names_objects c.requires.stays_sane c.requires.built.unprefixed c.in-Ok.ensures.stands) c.args.limits.now bytes _ _ c.run_code.result (c.run_code.ensures.ran bytes told)
+    ran_of (source_of c.args.bound.now) c.in-Ok.code (c.compiled_code_runs_as_meant.ensures (source_of c.args.bound.now) c.in-Ok.code c.requires.ruled c.requires.names_objects c.requires.stays_sane c.in-Ok.ensures.stands) c.args.limits.now bytes _ _ c.run_code.result (c.run_code.ensures.ran bytes told)
 
 pub returns-in-Ok-clause-broken : goal.returns-in-Ok-clause-broken
 returns-in-Ok-clause-broken g c bytes told =
-    broken_of c.output_grows.ensures (source_of c.args.bound.now) c.in-Ok.code (c.compiled_code_runs_as_meant.ensures (source_of c.args.bound.now) c.in-Ok.code c.requires.ruled c.requires.names_objects c.requires.stays_sane c.requires.built.unprefixed c.in-Ok.ensures.stands) (g.I.Source.faults c.args.input.now) (g.I.Source.faults c.run_code.new.input) c.args.limits.now bytes _ _ c.run_code.result (c.run_code.ensures.broken bytes told)
+    broken_of c.output_grows.ensures (source_of c.args.bound.now) c.in-Ok.code (c.compiled_code_runs_as_meant.ensures (source_of c.args.bound.now) c.in-Ok.code c.requires.ruled c.requires.names_objects c.requires.stays_sane c.in-Ok.ensures.stands) (g.I.Source.faults c.args.input.now) (g.I.Source.faults c.run_code.new.input) c.args.limits.now bytes _ _ c.run_code.result (c.run_code.ensures.broken bytes told)
 
 pub returns-in-Ok-clause-ends : goal.returns-in-Ok-clause-ends
 returns-in-Ok-clause-ends g c bytes = has_end (source_of c.args.bound.now) c.args.limits.now bytes c.requires (c.every_run_ends.ensures (source_of c.args.bound.now) c.args.limits.now bytes)
@@ -24,4 +24,4 @@ returns-in-Err-clause-ends g c bytes = has_end (source_of c.args.bound.now) c.ar
 
 pub returns-in-Ok-clause-takes : goal.returns-in-Ok-clause-takes
 returns-in-Ok-clause-takes g c bytes told never =
-    c.run_code.ensures.takes bytes told (code_takes (source_of c.args.bound.now) c.in-Ok.code (c.compiled_code_runs_as_meant.ensures (source_of c.args.bound.now) c.in-Ok.code c.requires.ruled c.requires.names_objects c.requires.stays_sane c.requires.built.unprefixed c.in-Ok.ensures.stands) c.args.limits.now bytes never)
+    c.run_code.ensures.takes bytes told (code_takes (source_of c.args.bound.now) c.in-Ok.code (c.compiled_code_runs_as_meant.ensures (source_of c.args.bound.now) c.in-Ok.code c.requires.ruled c.requires.names_objects c.requires.stays_sane c.in-Ok.ensures.stands) c.args.limits.now bytes never)

@@ -1,0 +1,258 @@
+-- The prefix of each prefixed block of an allowed plain program is a declared class, whose parameters are those of the block.
+use Rattle.std.proofs.Common.{◌≡◌, ℕ, zero, suc, Bool, true, false, List, [], ◌∷◌, ◌++◌, ◌+◌, length, map, Option, Some, None, refl, sym, ap, ◌∙◌, subst, append-nil}
+use Rattle.std.specs.Prelude.{◌||◌, not, slice_get}
+use Rattle.sim_base.specs.declared.numbering.DeclNo.{DeclNo}
+use Rattle.sim_tree.specs.declared.expr.Identifier.{Identifier}
+use Rattle.sim_tree.specs.Order.{InOrder}
+use Rattle.sim_tree.specs.Syntax.{Also, Arms, Arrays, Begin, Block, Declaration, Declarations, DeclareClass, DeclareProcedure, Expressions, NoArm, NoDeclaration, NoStatement, Prefix, Statement, Statements, Variables, When, With}
+use Rattle.sim_tree.specs.Syntax as syntax
+use Rattle.sim_scope.specs.declared.scopes.Denotation.{Denotation}
+use Rattle.sim_scope.specs.declared.scopes.Denotation.TheVariants as denotation
+use Rattle.sim_scope.specs.declared.types.BlockKind.{BlockKind}
+use Rattle.sim_scope.specs.declared.types.BlockKind.TheVariants as kind
+use Rattle.sim_scope.specs.declared.standard.StandardName.TheVariants as standard
+use Rattle.sim_scope.specs.declared.types.StandardClass.{StandardClass}
+use Rattle.sim_scope.specs.declared.types.StandardPrefix.{StandardPrefix}
+use Rattle.sim_scope.specs.Bodies.{Around, Body, arms_bodies, block_bodies, bodies_of, classes_declared, declaration_bodies, declarations_bodies, prefix_bodies, program_bodies, standard_bodies, standard_body, statement_bodies, statements_bodies}
+use Rattle.sim_scope.specs.Declare.{declared_by}
+use Rattle.sim_scope.specs.Laws.{Shape, outline, shape_of}
+use Rattle.sim_scope.specs.Levels.{base, base_in, owner_of_level}
+use Rattle.sim_scope.specs.Scopes.{class_formals, class_formals_of, entry_of, formals_at, formals_beyond, formals_in}
+use Rattle.sim_scope.specs.Source.{Source}
+use Rattle.sim_scope.specs.Standard.{standard_prefix}
+use Rattle.sim_scope.specs.Statements.{class_denoted, prefix_in}
+use Rattle.sim_scope.specs.Tables.{BlockOf, Tables, deeper}
+use Rattle.sim_scope.proofs.BodiesOfTables.{blocks_are_bodies}
+use Rattle.prefix_bind.specs.Prefixes.{breaks_prefix, is_known, prefix_faults, prefixed}
+use Rattle.sim_meaning.specs.Attributes.{is_connection}
+use Rattle.sim_meaning.specs.Closing as closing
+use Rattle.sim_meaning.specs.Entries.{numbers_of}
+use Rattle.sim_meaning.specs.Levels.{is_class}
+use Rattle.sim_meaning.specs.Texts.{ClassText, PrefixedText, text}
+use Rattle.sim_sound.specs.Held.{Among, first, later}
+use Rattle.sim_sound.specs.Typed.{Ends, NoFormal, NoFormals, outermost, prefixed as prefixed_by}
+use Rattle.sim_agree.specs.Facts.{BlockPrefix}
+use Rattle.sim_agree.specs.Plain.{Plain}
+use Rattle.sim_agree.specs.TablesOf.{TablesOf}
+use Rattle.sim_agree.proofs.Chains as c
+use Rattle.sim_agree.proofs.Chains.{prefix_known}
+use Rattle.sim_agree.proofs.Completing.{bare_row}
+use Rattle.sim_agree.proofs.Fine.{KindIs}
+use Rattle.sim_agree.proofs.Headings as h
+use Rattle.sim_agree.proofs.Qualified.{no_least}
+use Rattle.sim_agree.proofs.Tables as t
+use Rattle.sim_agree.proofs.Unprefixed.{Extras, extras_in, no_extras}
+
+-- ---- each body of the kind has a prefix
+
+abbrev HasPrefix : BlockKind → Option Identifier → Type 0
+HasPrefix kind.Prefixed None = ⊥
+HasPrefix _ _ = Unit {0}
+
+abbrev AllHave : List Body → Type 0
+AllHave [] = Unit {0}
+AllHave (b ∷ bs) = HasPrefix b.kind b.prefix × AllHave bs
+
+both_have : (xs ys : List Body) → AllHave xs → AllHave ys → AllHave (xs ++ ys)
+both_have [] ys a b = b
+both_have (x ∷ xs) ys a b = (a.0, both_have xs ys a.1 b)
+
+standard_have : (o : Around) (cs : List StandardClass) → AllHave (map (standard_body o) cs)
+standard_have o [] = tt
+standard_have o (x ∷ cs) = (tt, standard_have o cs)
+
+bodies_have : (o : Around) (name : List ℕ) (next : ℕ) → AllHave (standard_bodies o name next)
+unfolding standard_bodies
+bodies_have o name next = standard_have o (classes_declared (standard_prefix name))
+
+prefix_have : (o : Around) (prefix : Option Identifier) (next : ℕ) → AllHave (prefix_bodies o prefix next)
+prefix_have o None next = tt
+prefix_have o (Some class) next = bodies_have o class.name next
+
+mutual
+  statement_have : (o : Around) (a : Statement) (next : ℕ) → AllHave (statement_bodies o a next)
+  statement_have o (syntax.Empty i) next = tt
+  statement_have o (syntax.Compound b) next = block_have o b next
+  statement_have o (syntax.Prefixed class es (Begin i ds ss end)) next =
+      (tt, both_have _ _ (bodies_have _ class.name _) (both_have _ _ (declarations_have _ ds _) (statements_have _ ss _)))
+  statement_have o (syntax.Inner i) next = tt
+  statement_have o (syntax.Call e) next = tt
+  statement_have o (syntax.Assign e sides) next = tt
+  statement_have o (syntax.Choose i e a b) next = both_have _ _ (statement_have o a next) (statements_have o b _)
+  statement_have o (syntax.Repeat i e a) next = statement_have o a next
+  statement_have o (syntax.For i x sign j es a) next = statement_have o a next
+  statement_have o (syntax.Inspect i e opening a end other) next = (tt, both_have _ _ (statement_have _ a _) (statements_have o other _))
+  statement_have o (syntax.InspectWhen i e arms other) next = both_have _ _ (arms_have o arms next) (statements_have o other _)
+  statement_have o (syntax.Activate i word e schedule) next = tt
+
+  statements_have : (o : Around) (ss : Statements) (next : ℕ) → AllHave (statements_bodies o ss next)
+  statements_have o NoStatement next = tt
+  statements_have o (Also a more) next = both_have _ _ (statement_have o a next) (statements_have o more _)
+
+  arms_have : (o : Around) (arms : Arms) (next : ℕ) → AllHave (arms_bodies o arms next)
+  arms_have o NoArm next = tt
+  arms_have o (When i class opening a end more) next = (tt, both_have _ _ (statement_have _ a _) (arms_have o more _))
+
+  block_have : (o : Around) (b : Block) (next : ℕ) → AllHave (block_bodies o b next)
+  block_have o (Begin i NoDeclaration ss end) next = statements_have o ss next
+  block_have o (Begin i (With d ds) ss end) next = (tt, both_have _ _ (declarations_have _ (With d ds) _) (statements_have _ ss _))
+
+  declarations_have : (o : Around) (ds : Declarations) (next : ℕ) → AllHave (declarations_bodies o ds next)
+  declarations_have o NoDeclaration next = tt
+  declarations_have o (With d ds) next = both_have _ _ (declaration_have o d next) (declarations_have o ds _)
+
+  declaration_have : (o : Around) (d : Declaration) (next : ℕ) → AllHave (declaration_bodies o d next)
+  declaration_have o (Variables type vs) next = tt
+  declaration_have o (Arrays type i segments) next = tt
+  declaration_have o (DeclareProcedure result i head a end) next = (tt, statement_have _ a _)
+  declaration_have o (DeclareClass prefix i head interface (syntax.Compound (Begin j ds ss e)) end) next =
+      (tt, both_have _ _ (prefix_have _ prefix _) (both_have _ _ (declarations_have _ ds _) (statements_have _ ss _)))
+  declaration_have o (DeclareClass prefix i head interface a end) next =
+      let inner : Around = record { number = next; level = deeper kind.Class o.level } in
+      let m : ℕ = next + 1 + length (prefix_bodies inner prefix (next + 1)) in
+      (tt, both_have (prefix_bodies inner prefix (next + 1)) (statement_bodies inner a m) (prefix_have inner prefix (next + 1)) (statement_have inner a m))
+
+program_have : (prefix : Option Prefix) (b : Block) → AllHave (bodies_of prefix b)
+program_have None (Begin i ds ss end) = (tt, both_have _ _ (declarations_have _ ds _) (statements_have _ ss _))
+program_have (Some p) (Begin i ds ss end) = (tt, both_have _ _ (bodies_have _ p.class.name _) (both_have _ _ (declarations_have _ ds _) (statements_have _ ss _)))
+
+block_has : (bs : List BlockOf) (cs : List Body) (k : ℕ) (row : BlockOf) → map shape_of bs ≡ map outline cs → AllHave cs → slice_get bs k ≡ Some row → HasPrefix row.kind row.prefix
+block_has [] cs k row e a at = absurd (cc)
+block_has (b ∷ bs) [] k row e a at = absurd (cc)
+block_has (b ∷ bs) (x ∷ cs) zero row e a at = subst (λ (z : BlockOf). HasPrefix z.kind z.prefix) (let q : b ≡ row = cc in q) (subst (λ (z : Shape). HasPrefix z.kind z.prefix) (sym (head e)) a.0)
+  where
+    head : shape_of b ∷ map shape_of bs ≡ outline x ∷ map outline cs → shape_of b ≡ outline x
+    head q = cc
+block_has (b ∷ bs) (x ∷ cs) (suc k) row e a at = block_has bs cs k row (rest e) a.1 at
+  where
+    rest : shape_of b ∷ map shape_of bs ≡ outline x ∷ map outline cs → map shape_of bs ≡ map outline cs
+    rest q = cc
+
+-- ---- the parameters of a chain
+
+-- a chain that ends has no other parameters where more levels are looked at
+formals_more : (T : Tables) (n k : ℕ) → Ends T n k → class_formals_of T (suc n) k ≡ class_formals_of T n k
+unfolding class_formals_of
+formals_more T n k (outermost {n = m} e) =
+    ap (λ o. formals_beyond (λ b. class_formals_of T (suc m) b) o ++ formals_at T (Some k)) e ∙ ap (λ o. formals_beyond (λ b. class_formals_of T m b) o ++ formals_at T (Some k)) (sym e)
+formals_more T n k (prefixed_by {n = m} {b = b} e ends) =
+    ap (λ o. formals_beyond (λ b. class_formals_of T (suc m) b) o ++ formals_at T (Some k)) e
+    ∙ ap (λ z. z ++ formals_at T (Some k)) (formals_more T m b ends)
+    ∙ ap (λ o. formals_beyond (λ b. class_formals_of T m b) o ++ formals_at T (Some k)) (sym e)
+
+-- what has no parameters of its own has those of its prefix
+formals_same : (T : Tables) (n k b : ℕ) → Ends T n k → base T k ≡ Some b → formals_at T (Some k) ≡ [] → class_formals_of T n k ≡ class_formals_of T n b
+unfolding class_formals_of
+formals_same T n k b (outermost e) is none = absurd (let f : None ≡ Some b = sym e ∙ is in cc)
+formals_same T n k b (prefixed_by {n = m} {b = d} e ends) is none =
+    let same : d ≡ b = cc in
+    ap (λ o. formals_beyond (λ b. class_formals_of T m b) o ++ formals_at T (Some k)) is ∙ ap (λ z. class_formals_of T m b ++ z) none ∙ append-nil (class_formals_of T m b)
+    ∙ sym (formals_more T m b (subst (Ends T m) same ends))
+
+some_same : {A : Type 0} (a b : A) → Some a ≡ Some b → a ≡ b
+some_same a b e = cc
+
+-- ---- of a program
+
+module _ (s : Source) (of : TablesOf s) (plain : Plain s.program) (order : InOrder s.program) where
+  module _ (k : ℕ) (class : Identifier) (es : Expressions) (ds : Declarations) (ss : Statements) (is : text s k ≡ Some (PrefixedText class es ds ss)) where
+    abbrev T : Tables
+    T = prefixed (declared_by s.program).tables
+
+    other : is_connection (text s k) ≡ false
+    other = ap is_connection is
+
+    -- its block, as it was declared
+    declared_row : (row : BlockOf) × (slice_get (declared_by s.program).tables.blocks k ≡ Some row) × (row.kind ≡ kind.Prefixed)
+    unfolding text
+    declared_row = go (slice_get (declared_by s.program).tables.blocks k) refl (subst (λ o. KindIs (slice_get (declared_by s.program).tables.blocks k) o) is ((t.program_agrees s.program plain).fine.kinds k))
+      where
+        go : (o : Option BlockOf) → slice_get (declared_by s.program).tables.blocks k ≡ o → KindIs o (Some (PrefixedText class es ds ss)) → (row : BlockOf) × (o ≡ Some row) × (row.kind ≡ kind.Prefixed)
+        go None at q = absurd q
+        go (Some row) at q = (row, refl, q)
+
+    has_prefix : HasPrefix kind.Prefixed (declared_row.0).prefix
+    unfolding program_bodies
+    has_prefix =
+        subst (λ z. HasPrefix z (declared_row.0).prefix) declared_row.2
+        (block_has (declared_by s.program).tables.blocks (bodies_of s.program.prefix s.program.block) k declared_row.0 (blocks_are_bodies s.program) (program_have s.program.prefix s.program.block) declared_row.1)
+
+    -- its prefix is known, since no rule on prefixes is broken
+    known_base : (row : BlockOf) → slice_get T.blocks k ≡ Some row → (o : Option Identifier) → row.prefix ≡ o → HasPrefix kind.Prefixed o → row.standard ≡ None → (b : ℕ) × (row.base ≡ Some b)
+    known_base row at None e has none = absurd has
+    known_base row at (Some x) e has none = go row.base refl (known (is_known row) _ (sym (ap (breaks_prefix T row) e) ∙ prefix_known T (no_least (prefix_faults T) of.prefixes) k row at))
+      where
+        known : (a b : Bool) → (not a || b) ≡ false → a ≡ true
+        known true b f = refl
+        known false b f = absurd (cc)
+
+        standard_known : Option StandardPrefix → Bool
+        standard_known o = elim o [ Some which ↦ true | None ↦ false ]
+
+        base_known : Option ℕ → Option StandardPrefix → Bool
+        base_known o p = elim o [ Some b ↦ true | None ↦ standard_known p ]
+
+        go : (o : Option ℕ) → row.base ≡ o → is_known row ≡ true → (b : ℕ) × (o ≡ Some b)
+        go (Some b) f g = (b, refl)
+        go None f g = absurd (let q : base_known None None ≡ true = sym (ap (λ o. base_known o row.standard) f ∙ ap (base_known None) none) ∙ g in let z : false ≡ true = q in cc)
+
+    based : (b : ℕ) × (base s.tables k ≡ Some b)
+    unfolding base
+    based = go (slice_get T.blocks k) refl
+      where
+        go : (o : Option BlockOf) → slice_get T.blocks k ≡ o → (b : ℕ) × (base_in (slice_get s.tables.blocks k) ≡ Some b)
+        go None at = absurd (let f : None ≡ Some (record declared_row.0 { base = None }) = sym (ap bare_row at) ∙ (t.P s of plain order).blocks k ∙ ap bare_row declared_row.1 in cc)
+        go (Some row) at =
+            let same : record row { base = None } ≡ record declared_row.0 { base = None } = some_same (record row { base = None }) (record declared_row.0 { base = None }) (sym (ap bare_row at) ∙ (t.P s of plain order).blocks k ∙ ap bare_row declared_row.1) in
+            let written : row.prefix ≡ (declared_row.0).prefix = ap (λ (z : BlockOf). z.prefix) same in
+            let standard : row.standard ≡ None = ap (λ (z : BlockOf). z.standard) same ∙ ap (λ (z : Extras). z.standard) (sym (ap extras_in declared_row.1) ∙ (t.program_agrees s.program plain).fine.bare.blocks k) in
+            let b = known_base row at (declared_row.0).prefix written has_prefix standard in
+            (b.0, t.own_base s of plain order k other ∙ ap base_in at ∙ b.1)
+
+    -- the prefix is a class, which belongs to its declaration
+    owned : (d : DeclNo) × (owner_of_level s.tables (Some based.0) ≡ Some d)
+    unfolding text
+    owned =
+        let class = t.connects s of plain order k based.0 based.1 in
+        let q = t.program_owned s.program plain of.unbroken based.0 (ClassText class.0 class.1 class.2 class.3) class.4 in
+        (q.0, h.owner_at s of plain order based.0 q.0 (t.same_owner s of plain order based.0 ∙ q.2))
+
+    denoted : prefix_in s.tables (slice_get s.tables.blocks k) ≡ Some (denotation.Declared owned.0)
+    unfolding base
+    denoted = go (slice_get s.tables.blocks k) refl ((t.unprefixed s of plain order).blocks k) based.1
+      where
+        no_standard : (p : Option StandardPrefix) (o : Option Denotation) → p ≡ None → (elim p [ None ↦ o | Some which ↦ Some (denotation.Standard (standard.Prefix which)) ]) ≡ o
+        no_standard None o e = refl
+        no_standard (Some which) o e = absurd (cc)
+
+        go : (o : Option BlockOf) → slice_get s.tables.blocks k ≡ o → extras_in o ≡ no_extras → base_in o ≡ Some based.0 → prefix_in s.tables o ≡ Some (denotation.Declared owned.0)
+        go None at e f = absurd (cc)
+        go (Some row) at e f =
+            no_standard row.standard (class_denoted (owner_of_level s.tables row.base)) (ap (λ (z : Extras). z.standard) e) ∙ ap (λ o. class_denoted (owner_of_level s.tables o)) f ∙ ap class_denoted owned.1
+
+    -- the block itself has no parameters
+    no_parameters : formals_at s.tables (Some k) ≡ []
+    no_parameters = go (formals_in (slice_get s.tables.blocks k)) refl
+      where
+        go : (ns : List DeclNo) → formals_in (slice_get s.tables.blocks k) ≡ ns → ns ≡ []
+        go [] e = refl
+        go (d ∷ ns) e =
+            let at : slice_get (formals_in (slice_get s.tables.blocks k)) 0 ≡ Some d = ap (λ z. slice_get z 0) e in
+            let formal = h.parameters_formal s of plain order k 0 d at in
+            absurd (subst NoFormal formal.1 (none_of (numbers_of s k) d (h.no_formals s of plain order k (PrefixedText class es ds ss) (λ z. z) is) (h.formal_listed s of plain order k 0 d at)))
+          where
+            none_of : (xs : List DeclNo) (d : DeclNo) → NoFormals s xs → Among d xs → NoFormal (entry_of s.tables d)
+            none_of (x ∷ xs) d n first = n.0
+            none_of (x ∷ xs) d n (later a) = none_of xs d n.1 a
+            none_of [] d n a = elim a [ ]
+
+    pub block_prefix : BlockPrefix s k
+    unfolding class_formals
+    block_prefix =
+        let class = t.connects s of plain order k based.0 based.1 in record {
+          declaration = owned.0;
+          class = record { block = based.0; declares = c.owners s of plain order based.0 owned.0 (ap is_class class.4) owned.1; is = ap is_class class.4; owned = owned.1 };
+          based = based.1;
+          denoted = denoted;
+          parameters = ap (closing.formals_from s) (formals_same s.tables (length s.tables.blocks) k based.0 (c.ends s of plain order k other) based.1 no_parameters);
+        }

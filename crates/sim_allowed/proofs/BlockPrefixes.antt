@@ -1,0 +1,81 @@
+-- The actual parameters of a block prefix fit the parameters of its class.
+use Rattle.std.proofs.Common.{◌≡◌, ℕ, Bool, true, false, length, ◌+◌, Option, Some, None, refl, sym, ap, ◌∙◌, subst, arith, if◌then◌else◌}
+use Rattle.std.proofs.lemmas.Bool.{false≢true}
+use Rattle.std.proofs.lemmas.Bool.Decides.{nat_tests}
+use Rattle.std.specs.Prelude.{nat_eq, slice_get}
+use Rattle.sim_base.specs.declared.rule.Rule.TheVariants as r
+use Rattle.sim_scope.specs.declared.found.Fault.{Fault}
+use Rattle.sim_scope.specs.declared.outcome.Actuals.{Actuals}
+use Rattle.sim_scope.specs.declared.outcome.Extent.TheVariants as extent
+use Rattle.sim_scope.specs.declared.scopes.Denotation.{Denotation}
+use Rattle.sim_scope.specs.declared.scopes.Denotation.TheVariants as denotation
+use Rattle.sim_scope.specs.Access.{block_at}
+use Rattle.sim_scope.specs.Actuals.{formal_or_none, no_actuals, parameter_at, parameter_of}
+use Rattle.sim_scope.specs.Assignments.{fine, told, wrong}
+use Rattle.sim_scope.specs.Expressions.{actuals}
+use Rattle.sim_scope.specs.Judged.{gives, next, telling}
+use Rattle.sim_scope.specs.References.{formal_count, formal_count_of}
+use Rattle.sim_scope.specs.Scopes.{class_formals}
+use Rattle.sim_scope.specs.Source.{Source, block_around}
+use Rattle.sim_scope.specs.Statements.{prefix_applied, prefix_at, prefix_of_block, prefix_used, prefixed_events, prefixed_with}
+use Rattle.sim_tree.specs.declared.expr.Identifier.{Identifier}
+use Rattle.sim_tree.specs.Syntax.{Expressions}
+use Rattle.sim_meaning.specs.Closing.{class_parameters}
+use Rattle.sim_sound.specs.Held.{In}
+use Rattle.sim_sound.specs.Expressions.{ActualsFit}
+use Rattle.sim_agree.specs.Facts.{BlockPrefix, Tabled}
+use Rattle.sim_allowed.proofs.Actuals.{AllActuals, AllKnown, actuals_are, all_formals, size}
+use Rattle.sim_allowed.proofs.Classes.{class_row}
+use Rattle.sim_allowed.proofs.Headings.{class_heading}
+use Rattle.sim_allowed.proofs.Said.{AllSay, next_says}
+
+module _ (s : Source) (known : Tabled s) (k : ℕ) (class : Identifier) (es : Expressions) (begin number : ℕ) (placed : block_around s begin ≡ Some number) (prefix : BlockPrefix s number) (all : AllKnown s (In k) extent.Statement es) where
+  abbrev d : Denotation
+  d = denotation.Declared prefix.declaration
+
+  denotes : prefix_at s.tables begin ≡ Some (denotation.Declared prefix.declaration)
+  unfolding prefix_at block_around block_at
+  denotes = ap (prefix_of_block s.tables) placed ∙ prefix.denoted
+
+  abbrev a : Actuals
+  a = (actuals s.tables extent.Statement (Some (denotation.Declared prefix.declaration)) no_actuals es).value
+
+  class_parameter : (i : ℕ) → parameter_at s.tables (Some (denotation.Declared prefix.declaration)) i ≡ formal_or_none (slice_get (class_parameters s (Some prefix.class.block)) i)
+  unfolding parameter_at
+  class_parameter i = ap (parameter_of s.tables prefix.declaration i) prefix.class.declares ∙ ap formal_or_none ((class_heading s known prefix.declaration prefix.class.block prefix.class.declares).places i)
+
+  -- where no rule is broken each actual fits its parameter, and there are as many
+  fits : AllActuals s (In k) (Some (denotation.Declared prefix.declaration)) es no_actuals (actuals s.tables extent.Statement (Some (denotation.Declared prefix.declaration)) no_actuals es).value
+      → AllSay s (prefixed_with s.tables class.token.0 (Some (denotation.Declared prefix.declaration)) (actuals s.tables extent.Statement (Some (denotation.Declared prefix.declaration)) no_actuals es).value).events
+      → ActualsFit s (In k) es (class_parameters s (Some number))
+  unfolding prefixed_with fine wrong telling gives
+  fits are said = typed a.typed refl said
+    where
+      counted : nat_eq (formal_count s.tables d) a.count ≡ true → (m : Option Fault) → a.misfit ≡ m → AllSay s (told m).events → ActualsFit s (In k) es (class_parameters s (Some number))
+      counted same (Some f) is said = absurd said.0
+      counted same None is said =
+          let head = class_heading s known prefix.declaration prefix.class.block prefix.class.declares in
+          let formals : formal_count s.tables d ≡ length (class_formals s.tables prefix.class.block) = ap (formal_count_of s.tables) (class_row s.tables prefix.declaration prefix.class.block prefix.class.declares) in
+          let equal : formal_count s.tables d ≡ a.count = grind (arith, nat_tests) in
+          let given : a.count ≡ 0 + size es = are.count in
+          let none_before : 0 + size es ≡ size es = omega arith in
+          subst (λ fs. ActualsFit s (In k) es fs) (sym prefix.parameters)
+          (all_formals s (In k) (Some d) 0 es (class_parameters s (Some prefix.class.block))
+          (λ j. (let zero_more : 0 + j ≡ j = omega arith in ap (parameter_at s.tables (Some d)) zero_more ∙ class_parameter j))
+          head.proper (sym none_before ∙ sym given ∙ sym equal ∙ formals ∙ head.count) (are.fits is).1)
+
+      number_fits : (b : Bool) → nat_eq (formal_count s.tables d) a.count ≡ b → AllSay s (if b then told a.misfit else wrong class.token.0 r.WrongNumber).events → ActualsFit s (In k) es (class_parameters s (Some number))
+      number_fits true same said = counted same a.misfit refl said
+      number_fits false same said = absurd said.0
+
+      typed : (b : Bool) → a.typed ≡ b → AllSay s (if b then prefix_applied s.tables class.token.0 d a else fine).events → ActualsFit s (In k) es (class_parameters s (Some number))
+      typed true is said = number_fits (nat_eq (formal_count s.tables d) a.count) refl said
+      typed false is said = absurd (false≢true (sym is ∙ are.typed refl))
+
+  pub prefix_fits : AllSay s (prefixed_events s.tables class es begin) → ActualsFit s (In k) es (class_parameters s (Some number))
+  unfolding prefixed_events telling
+  prefix_fits said =
+      let events = subst (λ o. AllSay s (next (prefix_used class.token.0 o) (λ d. next (actuals s.tables extent.Statement d no_actuals es) (prefixed_with s.tables class.token.0 d))).events) denotes said in
+      let parts = next_says s (prefix_used class.token.0 (Some (denotation.Declared prefix.declaration))) (λ d. next (actuals s.tables extent.Statement d no_actuals es) (prefixed_with s.tables class.token.0 d)) events in
+      let more = next_says s (actuals s.tables extent.Statement (Some (denotation.Declared prefix.declaration)) no_actuals es) (prefixed_with s.tables class.token.0 (Some (denotation.Declared prefix.declaration))) parts.1 in
+      fits (actuals_are s known (In k) extent.Statement (Some (denotation.Declared prefix.declaration)) es all no_actuals more.0) more.1

@@ -1,0 +1,91 @@
+-- The entry of a prefixed block.
+use Rattle.std.proofs.Common.{◌≡◌, ◌≤◌, ℕ, false, List, [], ◌∷◌, length, Some, None, refl, ap, ◌∙◌, subst, arith}
+use Rattle.std.specs.Prelude.{pos}
+use Rattle.sim_base.specs.declared.limits.Limits.{Limits}
+use Rattle.sim_chains.specs.Components.{NoObject}
+use Rattle.sim_scope.specs.Source.{Source}
+use Rattle.sim_code.specs.declared.code.BlockKind.TheVariants as block_kind
+use Rattle.sim_code.specs.declared.code.CodeType.TheVariants as type
+use Rattle.sim_code.specs.declared.instr.Instr.TheVariants as i
+use Rattle.sim_code.specs.Arrays.{handed_over}
+use Rattle.sim_code.specs.Code.{BlockOf, CodeOf}
+use Rattle.sim_code.specs.Events.{entering, having}
+use Rattle.sim_code.specs.Levels.{levelled, supplied}
+use Rattle.sim_code.specs.Machine.{Cells, Frames, Machine, Value, in_prefixed, waiting, words_of_block}
+use Rattle.sim_code.specs.Machine as machine
+use Rattle.sim_code.specs.Outcome.{Run, World}
+use Rattle.sim_code.specs.Rows.{on_top}
+use Rattle.sim_code.proofs.Lifts.{EachAt, alike_found}
+use Rattle.sim_code.proofs.Simulation.{Alike}
+use Rattle.sim_meaning.specs.Levels.{levels}
+use Rattle.sim_meaning.specs.Meaning.{do_op}
+use Rattle.sim_meaning.specs.Objects.{prefixed_entered}
+use Rattle.sim_meaning.specs.Pending.{Activation, Configuration, EndPrefixed, Instances, Item, Op, PrefixedOp, Val}
+use Rattle.codegen_expr.specs.Sites.{block_number, frame_text, own_end}
+use Rattle.codegen.specs.Compiled.{Compiled, RecordOf}
+use Rattle.sim_relate.proofs.Actuals.{counted_many}
+use Rattle.sim_relate.proofs.ClassTexts.{ClassHas, class_has, of_levels}
+use Rattle.sim_relate.proofs.Entries.{call_row, waits}
+use Rattle.sim_relate.proofs.Here.{Here, act, at_row, kinds_as}
+use Rattle.sim_relate.proofs.Known.{HandAt, Kind, Runs, StackAt, ValAt, site_at}
+use Rattle.sim_relate.proofs.LevelEntries.{entry_alike, not_first}
+use Rattle.sim_relate.proofs.Relation.{ChainAt, OpAt, PrefixedOpIs, StateAt, WorkAt}
+
+module _ (s : Source) (code : CodeOf) (compiled : Compiled s code) (l : Limits) (o : World) (m : Instances) (inst : ℕ) (w : List Item) (vals : List Val) (rest : List Activation) (fs : Frames) (t : ℕ) (b : Runs) (pc : ℕ) (stack : List Value) (below : List machine.Activation) (ks : List Kind) (here : Here s code m fs inst rest t b ks vals stack) (u q : ℕ) (ks' : List Kind) (low : own_end s code (frame_text s t) ≤ u) (work : WorkAt s code m fs (λ v. ChainAt s code m fs rest v below) inst t b u w q ks') where
+  abbrev Related : Configuration → Machine → Type 0
+  Related = StateAt s code
+
+  abbrev top : machine.Activation
+  top = act inst pc stack b
+
+  abbrev Follows : Op → Type 0
+  Follows op = OpAt s code m fs inst (site_at t b u) op pc q ks ks' → Alike Related (do_op s l o m inst w vals rest op) (on_top code l o fs top below)
+
+  module _ (g n line : ℕ) (x : ClassHas s code g) (a : PrefixedOpIs s code (site_at t b u) g n line pc q ks ks') (values : List Val) (values' : List Value) (each : EachAt ValAt values values') (vals1 : List Val) (stack1 : List Value) (left_hand : StackAt (HandAt s code m) ks' vals1 stack1) where
+    abbrev chain : List Activation
+    chain = record { instance = inst; work = w; values = vals1 } ∷ rest
+
+    abbrev under : List machine.Activation
+    under = waiting top stack1 ∷ below
+
+    under_there : ChainAt s code m fs chain false under
+    under_there = waits s code compiled l o m inst w vals rest fs t b pc stack below ks here u q ks' low work false ks' vals1 stack1 left_hand (λ no. absurd (cc)) refl (a.is).on
+
+    -- what the machine does with the block
+    abbrev Goes : BlockOf → (start : ℕ) → Run Machine
+    Goes b' start =
+        having (supplied code b'.class b' values') o (λ cells.
+        entering l line (words_of_block b') o (λ p.
+        in_prefixed (handed_over (length fs.instances) (machine.arrays_among values') p) fs (block_number s g) b' start inst cells under))
+
+    abbrev Filled : (start : ℕ) → Cells → Run Machine
+    Filled start cells =
+        entering l line (words_of_block x.block) o (λ p.
+        in_prefixed (handed_over (length fs.instances) (machine.arrays_among values') p) fs (block_number s g) x.block start inst cells under)
+
+    follows : (start : ℕ) (cells : Cells) (y : Run Configuration) → supplied code x.block.class x.block values' ≡ Some cells → Alike Related y (Filled start cells) → Alike Related y (Goes x.block start)
+    follows start cells y is h = alike_found Configuration Machine Related Cells (supplied code x.block.class x.block values') cells o y _ is h
+
+    block_heads : RecordOf s code g block_kind.Prefixed type.Nothing x.block
+    block_heads = subst (λ z. RecordOf s code g z type.Nothing x.block) (x.of_block a.no_class) x.has.heads
+
+    prefixed_alike : Alike Related (having (levels s g) o (λ xs. prefixed_entered s l o m chain g line values (Some inst) EndPrefixed xs)) (levelled code block_kind.Prefixed (block_number s g) o Goes)
+    prefixed_alike =
+        subst (λ z. Alike Related (having (levels s g) o (λ xs. prefixed_entered s l o m chain g line values (Some inst) EndPrefixed xs)) (levelled code z (block_number s g) o Goes)) (x.of_block a.no_class)
+        (entry_alike s code compiled l o m fs here.store here.parked g line x values values' each inst t a.stands_in here.stands EndPrefixed (NoObject None) (NoObject None) chain under (λ m' fs'. tt) under_there
+        (λ m' fs' there block t' p last at. record {
+          levels = x.levels;
+          not_first = not_first s code compiled g x.block x.found (ap of_levels x.has.heads.is_kind ∙ x.levelled);
+          was = refl;
+          block = x.block;
+          found = x.found;
+          ends = record { last = last; at = at; heads = block_heads; none = refl; below = there };
+        }) Goes follows)
+
+  pub prefixed_op : (k n line : ℕ) → Follows (PrefixedOp k n line)
+  prefixed_op k n line a =
+      at_row s code l o fs top below _ (i.Pref (pos (block_number s k)) (pos n)) line q a.is
+      (call_row s code compiled l o m inst w vals rest fs t b pc stack below ks here u q ks' low work n _ _
+      (counted_many Configuration Machine Related (HandAt s code m) n n ks' [] [] vals stack o _ _ (kinds_as s code a.«in» here.values) tt (omega arith) (λ values values' vals1 stack1 each counted h1.
+      call_row s code compiled l o m inst w vals rest fs t b pc stack below ks here u q ks' low work (block_number s k) _ _
+      (prefixed_alike k n line (class_has s code compiled k a.has) a values values' each vals1 stack1 h1))))
