@@ -10,6 +10,7 @@ pub mod Holes
 pub mod ClassLevels
 pub mod Sides
 pub mod Ones
+pub mod TransferCalls
 pub mod TakenCalls
 pub mod BlockPrefixes
 pub mod Statements

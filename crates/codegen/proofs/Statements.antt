@@ -36,7 +36,7 @@ use Rattle.sim_tree.proofs.ProgramSyntaxLemmas as v
 use Rattle.sim_code.specs.declared.instr.Instr.{Instr}
 use Rattle.sim_code.specs.declared.instr.Instr.TheVariants as i
 use Rattle.sim_code.specs.Code.{CodeOf}
-use Rattle.sim_meaning.specs.Attributes.{connection_at}
+use Rattle.sim_meaning.specs.Attributes.{connection_at, transfer_at}
 use Rattle.sim_meaning.specs.Statements.{denoted_leaves, leaves}
 use Rattle.codegen_expr.specs.declared.spot.Spot.{Spot}
 use Rattle.codegen_expr.specs.Built.{ActualsBuilt, AreBuilt, ConnectedNameBuilt, IsBuilt, NamedBuilt, ThroughBuilt}
@@ -62,7 +62,10 @@ use Rattle.codegen.specs.declared.elements.Element.TheVariants as view
 use Rattle.codegen.specs.declared.targets.Target.{Target}
 use Rattle.codegen.specs.declared.targets.Target.TheVariants as target
 use Rattle.codegen.specs.EmitLeft.{FindsNamed, IsWhole}
+use Rattle.codegen.specs.EmitTransfers.{FindsTransfer}
 use Rattle.codegen.specs.ForElements.{view_syntax}
+use Rattle.codegen.specs.declared.transfers.Transfer.{Transfer as Word}
+use Rattle.codegen.proofs.TransferCalls.{NamedCall, at_none}
 use Rattle.codegen.proofs.Inspected.{WritesArms, WritesInspect}
 use Rattle.codegen.proofs.Cells.{cell_there}
 use Rattle.codegen.specs.declared.lists.Shared.{Shared}
@@ -293,10 +296,10 @@ module _ (b : Bound) (w : Spot) where
   write_other_call a c x f h is ec = call_as a c x (syntax_of x) refl (emits_nothing w a c _ _ (no_call (syntax_of x) (form_at f form.Other x h is)) ec)
 
   -- a value is left, or none, just as is given
-  called : (a c d : DraftOf) (x : Identifier) (es : List Expr) (o : Option Denotation) (k : Bool) → o ≡ denoted (source_of b) x.token.0 → k ≡ denoted_leaves (source_of b) o → k ≡ gives (source_of b) o → WritesNamed b w 0 a c x.token o es
+  called : (a c d : DraftOf) (x : Identifier) (es : List Expr) (o : Option Denotation) (k : Bool) → transfer_at (source_of b) x.token.0 ≡ None → o ≡ denoted (source_of b) x.token.0 → k ≡ denoted_leaves (source_of b) o → k ≡ gives (source_of b) o → WritesNamed b w 0 a c x.token o es
       → Emits w c d ⊤ (λ final site p q. DropsAt final k p q) → WritesCalled b w a d x es
   unfolding WritesCalled WritesNamed PutsNamed
-  called a c d x es o k eo el eg f g =
+  called a c d x es o k none eo el eg f g =
       let s = source_of b in
       let xs = expressions (map syntax_of es) in
       let same : denoted_leaves s (denoted s x.token.0) ≡ gives s (denoted s x.token.0) = ap (denoted_leaves s) (sym eo) ∙ sym el ∙ eg ∙ ap (gives s) eo in
@@ -304,27 +307,29 @@ module _ (b : Bound) (w : Spot) where
       let f' = subst (λ z. Emits w a c (ThroughBuilt (connection_at s x.token.0) (λ m. ConnectedNameBuilt s w.text m z xs (AreBuilt s w.text xs) (λ formals. ActualsBuilt s w.text xs formals)) (NamedBuilt s w.text z xs (AreBuilt s w.text xs) (λ formals. ActualsBuilt s w.text xs formals)))
       (λ final site p q. ThroughAt (connection_at s x.token.0) (λ m. ConnectedNameAt s final site 0 (line_at s x.token.0) m z xs (ExprsAt s final site 1 xs) (λ formals. ActualsAt s final site 1 (line_at s x.token.0) false xs formals))
       (NamedAt s final site 0 (line_at s x.token.0) z xs (ExprsAt s final site 0 xs) (ExprsAt s final site 1 xs) (λ formals. ActualsAt s final site 1 (line_at s x.token.0) false xs formals)) p q)) eo f in
-      emits_as w _ _ _ _ a d (λ h. (h.1, tt)) (λ h. (same, h.0)) (λ final site p q _ _ r. (r.0, (same, r.1), subst (λ z. DropsAt final z r.0 q) (sym drops) r.2))
-      (emits_then w _ ⊤ _ (λ final site p q. DropsAt final k p q) a c d f' g)
+      subst (NamedCall s w a d x xs) (sym none)
+      (emits_as w _ _ _ _ a d (λ h. (h.1, tt)) (λ h. (same, h.0)) (λ final site p q _ _ r. (r.0, (same, r.1), subst (λ z. DropsAt final z r.0 q) (sym drops) r.2))
+      (emits_then w _ ⊤ _ (λ final site p q. DropsAt final k p q) a c d f' g))
 
-  pub write_dropped : (a c d : DraftOf) (x : Identifier) (es : List Expr) (o : Option Denotation) (k m : Bool) → o ≡ denoted (source_of b) x.token.0 → k ≡ denoted_leaves (source_of b) o → k ≡ true → m ≡ gives (source_of b) o → m ≡ true → WritesNamed b w 0 a c x.token o es → d ≡ with_instr c i.Pop 0 → WritesCalled b w a d x es
-  write_dropped a c d x es o k m eo el is eg gs f ed =
-      called a c d x es o true eo (sym is ∙ el) (sym gs ∙ eg) f (emits_as w ⊤ ⊤ _ _ c d (λ h. h) (λ h. h) (λ final site p q _ _ r. record { line = 0; is = r }) (emits_at w c d i.Pop 0 ed (λ z. cc) refl))
+  pub write_dropped : (a c d : DraftOf) (x : Identifier) (es : List Expr) (o : Option Denotation) (t : Option Word) (k m : Bool) → o ≡ denoted (source_of b) x.token.0 → FindsTransfer t o → t ≡ None → k ≡ denoted_leaves (source_of b) o → k ≡ true → m ≡ gives (source_of b) o → m ≡ true → WritesNamed b w 0 a c x.token o es → d ≡ with_instr c i.Pop 0 → WritesCalled b w a d x es
+  write_dropped a c d x es o t k m eo et none el is eg gs f ed =
+      called a c d x es o true (at_none (source_of b) x.token.0 o t eo et none) eo (sym is ∙ el) (sym gs ∙ eg) f (emits_as w ⊤ ⊤ _ _ c d (λ h. h) (λ h. h) (λ final site p q _ _ r. record { line = 0; is = r }) (emits_at w c d i.Pop 0 ed (λ z. cc) refl))
 
-  pub write_kept : (a c : DraftOf) (x : Identifier) (es : List Expr) (o : Option Denotation) (k m : Bool) → o ≡ denoted (source_of b) x.token.0 → k ≡ denoted_leaves (source_of b) o → k ≡ false → m ≡ gives (source_of b) o → m ≡ false → WritesNamed b w 0 a c x.token o es → WritesCalled b w a c x es
-  write_kept a c x es o k m eo el is eg gs f = called a c c x es o false eo (sym is ∙ el) (sym gs ∙ eg) f (emits_none w c)
+  pub write_kept : (a c : DraftOf) (x : Identifier) (es : List Expr) (o : Option Denotation) (t : Option Word) (k m : Bool) → o ≡ denoted (source_of b) x.token.0 → FindsTransfer t o → t ≡ None → k ≡ denoted_leaves (source_of b) o → k ≡ false → m ≡ gives (source_of b) o → m ≡ false → WritesNamed b w 0 a c x.token o es → WritesCalled b w a c x es
+  write_kept a c x es o t k m eo et none el is eg gs f = called a c c x es o false (at_none (source_of b) x.token.0 o t eo et none) eo (sym is ∙ el) (sym gs ∙ eg) f (emits_none w c)
 
-  uncalled : (a c : DraftOf) (x : Identifier) (es : List Expr) (o : Option Denotation) (k m : Bool) → o ≡ denoted (source_of b) x.token.0 → k ≡ denoted_leaves (source_of b) o → m ≡ gives (source_of b) o → (k ≡ m → ⊥) → c ≡ given_up a → WritesCalled b w a c x es
+  uncalled : (a c : DraftOf) (x : Identifier) (es : List Expr) (o : Option Denotation) (k m : Bool) → transfer_at (source_of b) x.token.0 ≡ None → o ≡ denoted (source_of b) x.token.0 → k ≡ denoted_leaves (source_of b) o → m ≡ gives (source_of b) o → (k ≡ m → ⊥) → c ≡ given_up a → WritesCalled b w a c x es
   unfolding WritesCalled
-  uncalled a c x es o k m eo el eg never ec =
+  uncalled a c x es o k m none eo el eg never ec =
       let s = source_of b in
-      emits_nothing w a c _ _ (λ h. never (el ∙ ap (denoted_leaves s) eo ∙ h.0 ∙ ap (gives s) (sym eo) ∙ sym eg)) ec
+      subst (NamedCall s w a c x (expressions (map syntax_of es))) (sym none)
+      (emits_nothing w a c _ _ (λ h. never (el ∙ ap (denoted_leaves s) eo ∙ h.0 ∙ ap (gives s) (sym eo) ∙ sym eg)) ec)
 
-  pub write_lost : (a c : DraftOf) (x : Identifier) (es : List Expr) (o : Option Denotation) (k m : Bool) → o ≡ denoted (source_of b) x.token.0 → k ≡ denoted_leaves (source_of b) o → k ≡ true → m ≡ gives (source_of b) o → m ≡ false → c ≡ given_up a → WritesCalled b w a c x es
-  write_lost a c x es o k m eo el is eg gs ec = uncalled a c x es o k m eo el eg (λ h. cc) ec
+  pub write_lost : (a c : DraftOf) (x : Identifier) (es : List Expr) (o : Option Denotation) (t : Option Word) (k m : Bool) → o ≡ denoted (source_of b) x.token.0 → FindsTransfer t o → t ≡ None → k ≡ denoted_leaves (source_of b) o → k ≡ true → m ≡ gives (source_of b) o → m ≡ false → c ≡ given_up a → WritesCalled b w a c x es
+  write_lost a c x es o t k m eo et none el is eg gs ec = uncalled a c x es o k m (at_none (source_of b) x.token.0 o t eo et none) eo el eg (λ h. cc) ec
 
-  pub write_stays : (a c : DraftOf) (x : Identifier) (es : List Expr) (o : Option Denotation) (k m : Bool) → o ≡ denoted (source_of b) x.token.0 → k ≡ denoted_leaves (source_of b) o → k ≡ false → m ≡ gives (source_of b) o → m ≡ true → c ≡ given_up a → WritesCalled b w a c x es
-  write_stays a c x es o k m eo el is eg gs ec = uncalled a c x es o k m eo el eg (λ h. cc) ec
+  pub write_stays : (a c : DraftOf) (x : Identifier) (es : List Expr) (o : Option Denotation) (t : Option Word) (k m : Bool) → o ≡ denoted (source_of b) x.token.0 → FindsTransfer t o → t ≡ None → k ≡ denoted_leaves (source_of b) o → k ≡ false → m ≡ gives (source_of b) o → m ≡ true → c ≡ given_up a → WritesCalled b w a c x es
+  write_stays a c x es o t k m eo et none el is eg gs ec = uncalled a c x es o k m (at_none (source_of b) x.token.0 o t eo et none) eo el eg (λ h. cc) ec
 
   -- ---- assignments
 

@@ -1,5 +1,5 @@
 -- Calls of what is taken of an operand.
-use Rattle.std.proofs.Common.{◌≡◌, ◌≢◌, ◌<◌, ◌≤◌, ◌-◌, ℕ, zero, suc, Bool, true, false, List, [], ◌∷◌, length, map, drop, take, Option, refl, sym, ap, ◌∙◌, subst, arith}
+use Rattle.std.proofs.Common.{◌≡◌, ◌≢◌, ◌<◌, ◌≤◌, ◌-◌, ℕ, zero, suc, Bool, true, false, List, [], ◌∷◌, length, map, drop, take, Option, None, refl, sym, ap, ◌∙◌, subst, arith}
 use Rattle.std.specs.Prelude.{⊤, slice_index_or}
 use Rattle.std.specs.declared.alloc.Global.{Global}
 use Rattle.std.specs.declared.vec.Vec.{Vec}
@@ -17,22 +17,21 @@ use Rattle.sim_tree.specs.declared.operator.Operator.{Operator}
 use Rattle.sim_tree.specs.Syntax.{Dot, Expression, Qua, expressions}
 use Rattle.sim_tree.specs.SyntaxOf.{Cast, Selection, Tail, Take, expr_layer, factor_layer, factor_syntax, operand_layer, operand_syntax, selected, selector_layer, selector_syntax, syntax_of, term_layer, term_syntax}
 use Rattle.sim_code.specs.declared.instr.Instr.TheVariants as i
-use Rattle.sim_code.specs.Code.{CodeOf}
+use Rattle.sim_meaning.specs.Attributes.{transfer_at}
 use Rattle.sim_meaning.specs.Statements.{denoted_leaves, leaves}
 use Rattle.codegen_expr.specs.declared.operators.Object.{Object}
-use Rattle.codegen_expr.specs.declared.operators.Object.TheVariants as object
 use Rattle.codegen_expr.specs.declared.spot.Spot.{Spot}
 use Rattle.codegen_expr.specs.CodeExpr.{gives}
 use Rattle.codegen_expr.specs.Drafts.{DraftOf, Emits, given_up, with_instr}
-use Rattle.codegen_expr.specs.Emit.{Puts, PutsBefore, PutsPlace, WritesBefore, WritesDot, moves_next, moves_selection}
-use Rattle.codegen_expr.specs.Sites.{Site}
-use Rattle.codegen_expr.proofs.Pieces.{emits_as, emits_at, emits_none, emits_nothing, emits_then}
+use Rattle.codegen_expr.specs.Emit.{PutsBefore, WritesBefore, WritesDot, moves_next, moves_selection}
+use Rattle.codegen_expr.proofs.Pieces.{emits_as, emits_at, emits_none, emits_then}
+use Rattle.codegen_expr.proofs.Taken.{before_gives_up}
+use Rattle.codegen.specs.declared.transfers.Transfer.{Transfer as Word}
 use Rattle.codegen.specs.BuiltProgram.{CalledBuilt}
 use Rattle.codegen.specs.CodeStm.{CalledAt, DropsAt}
 use Rattle.codegen.specs.Emit.{WritesCalledBehind, WritesTakenCall}
-
-abbrev Part : Type 1
-Part = CodeOf → Site → ℕ → ℕ → Type 0
+use Rattle.codegen.specs.EmitTransfers.{FindsTransfer}
+use Rattle.codegen.proofs.TransferCalls.{DotCall, at_none}
 
 selector-Dot : (j : TokenNo) (y : Identifier) (l : Vec Expr Global) → selector_syntax (u.Dot j y l) ≡ Take j.0 y (expressions (map syntax_of l.items))
 unfolding selector_syntax syntax_of operand_syntax term_syntax factor_syntax
@@ -43,48 +42,37 @@ unfolding selector_syntax
 selector-Qua j y = ap selector_syntax (sym (u.rolls-Qua j y)) ∙ fold-roll-Selector Expression Selection Tail (Operator → Tail) Tail expr_layer selector_layer factor_layer operand_layer term_layer (Selector-F.Qua j y)
 
 module _ (b : Bound) (w : Spot) where
-  -- ---- a draft that gives up behind an object
-
-  gives_up : (P Q : Type 0) (A B : Part) (a c d : DraftOf) → Emits w a c P A → (Q → ⊥) → d ≡ given_up c → Emits w a d Q B
-  gives_up P Q A B a c d f never is =
-      emits_as w (P × ⊥) Q _ _ a d (λ q. absurd (never q)) (λ q. absurd q.1) (λ final site p q _ _ r. absurd r.2)
-      (emits_then w P ⊥ A (λ final site p q. ⊥) a c d f (emits_nothing w c d ⊥ (λ final site p q. ⊥) (λ z. z) is))
-
-  before_gives_up : (Q : Type 0) (B : Part) (start a c : DraftOf) (moves : Bool) (o : Object) (e : Expression) → PutsBefore (source_of b) w 0 start a moves o e → (Q → ⊥) → c ≡ given_up a → Emits w start c Q B
-  unfolding PutsPlace Puts
-  before_gives_up Q B start a c moves (object.Stream img) e f never ec = let same : a ≡ start = f.puts.0 in emits_nothing w start c Q B never (ec ∙ ap given_up same)
-  before_gives_up Q B start a c moves object.Place e f never ec = gives_up _ Q _ B start a c f.puts.0 never ec
-  before_gives_up Q B start a c moves object.Value e f never ec = gives_up _ Q _ B start a c f.puts.0 never ec
-
   -- ---- an attribute behind its object
 
-  behind : (a c d : DraftOf) (o : Object) (x : Identifier) (es : List Expr) (u : Option Denotation) (k : Bool) → u ≡ denoted (source_of b) x.token.0 → k ≡ denoted_leaves (source_of b) u → k ≡ gives (source_of b) u → WritesDot b w 0 a c o x es → Emits w c d ⊤ (λ final site p q. DropsAt final k p q) → WritesCalledBehind b w a d o x es
+  behind : (a c d : DraftOf) (o : Object) (x : Identifier) (es : List Expr) (u : Option Denotation) (k : Bool) → transfer_at (source_of b) x.token.0 ≡ None → u ≡ denoted (source_of b) x.token.0 → k ≡ denoted_leaves (source_of b) u → k ≡ gives (source_of b) u → WritesDot b w 0 a c o x es → Emits w c d ⊤ (λ final site p q. DropsAt final k p q) → WritesCalledBehind b w a d o x es
   unfolding WritesCalledBehind WritesDot
-  behind a c d o x es u k eu el eg f g start e token before =
+  behind a c d o x es u k none eu el eg f g start e token before =
       let s = source_of b in
       let same : denoted_leaves s (denoted s x.token.0) ≡ gives s (denoted s x.token.0) = ap (denoted_leaves s) (sym eu) ∙ sym el ∙ eg ∙ ap (gives s) eu in
       let drops : denoted_leaves s (denoted s x.token.0) ≡ k = ap (denoted_leaves s) (sym eu) ∙ sym el in
-      emits_as w _ _ _ _ start d (λ h. (h.1, tt)) (λ h. (same, h.0)) (λ final site p q _ _ r. (r.0, (same, r.1), subst (λ z. DropsAt final z r.0 q) (sym drops) r.2))
-      (emits_then w _ ⊤ _ (λ final site p q. DropsAt final k p q) start c d (f start e before) g)
+      subst (DotCall s w start d e token x (expressions (map syntax_of es))) (sym none)
+      (emits_as w _ _ _ _ start d (λ h. (h.1, tt)) (λ h. (same, h.0)) (λ final site p q _ _ r. (r.0, (same, r.1), subst (λ z. DropsAt final z r.0 q) (sym drops) r.2))
+      (emits_then w _ ⊤ _ (λ final site p q. DropsAt final k p q) start c d (f start e before) g))
 
-  pub behind_dropped : (a c d : DraftOf) (o : Object) (x : Identifier) (es : List Expr) (u : Option Denotation) (k m : Bool) → u ≡ denoted (source_of b) x.token.0 → k ≡ denoted_leaves (source_of b) u → k ≡ true → m ≡ gives (source_of b) u → m ≡ true → WritesDot b w 0 a c o x es → d ≡ with_instr c i.Pop 0 → WritesCalledBehind b w a d o x es
-  behind_dropped a c d o x es u k m eu el is eg gs f ed =
-      behind a c d o x es u true eu (sym is ∙ el) (sym gs ∙ eg) f (emits_as w ⊤ ⊤ _ _ c d (λ h. h) (λ h. h) (λ final site p q _ _ r. record { line = 0; is = r }) (emits_at w c d i.Pop 0 ed (λ z. cc) refl))
+  pub behind_dropped : (a c d : DraftOf) (o : Object) (x : Identifier) (es : List Expr) (u : Option Denotation) (t : Option Word) (k m : Bool) → u ≡ denoted (source_of b) x.token.0 → FindsTransfer t u → t ≡ None → k ≡ denoted_leaves (source_of b) u → k ≡ true → m ≡ gives (source_of b) u → m ≡ true → WritesDot b w 0 a c o x es → d ≡ with_instr c i.Pop 0 → WritesCalledBehind b w a d o x es
+  behind_dropped a c d o x es u t k m eu et none el is eg gs f ed =
+      behind a c d o x es u true (at_none (source_of b) x.token.0 u t eu et none) eu (sym is ∙ el) (sym gs ∙ eg) f (emits_as w ⊤ ⊤ _ _ c d (λ h. h) (λ h. h) (λ final site p q _ _ r. record { line = 0; is = r }) (emits_at w c d i.Pop 0 ed (λ z. cc) refl))
 
-  pub behind_kept : (a c : DraftOf) (o : Object) (x : Identifier) (es : List Expr) (u : Option Denotation) (k m : Bool) → u ≡ denoted (source_of b) x.token.0 → k ≡ denoted_leaves (source_of b) u → k ≡ false → m ≡ gives (source_of b) u → m ≡ false → WritesDot b w 0 a c o x es → WritesCalledBehind b w a c o x es
-  behind_kept a c o x es u k m eu el is eg gs f = behind a c c o x es u false eu (sym is ∙ el) (sym gs ∙ eg) f (emits_none w c)
+  pub behind_kept : (a c : DraftOf) (o : Object) (x : Identifier) (es : List Expr) (u : Option Denotation) (t : Option Word) (k m : Bool) → u ≡ denoted (source_of b) x.token.0 → FindsTransfer t u → t ≡ None → k ≡ denoted_leaves (source_of b) u → k ≡ false → m ≡ gives (source_of b) u → m ≡ false → WritesDot b w 0 a c o x es → WritesCalledBehind b w a c o x es
+  behind_kept a c o x es u t k m eu et none el is eg gs f = behind a c c o x es u false (at_none (source_of b) x.token.0 u t eu et none) eu (sym is ∙ el) (sym gs ∙ eg) f (emits_none w c)
 
-  unbehind : (a c : DraftOf) (o : Object) (x : Identifier) (es : List Expr) (u : Option Denotation) (k m : Bool) → u ≡ denoted (source_of b) x.token.0 → k ≡ denoted_leaves (source_of b) u → m ≡ gives (source_of b) u → (k ≡ m → ⊥) → c ≡ given_up a → WritesCalledBehind b w a c o x es
+  unbehind : (a c : DraftOf) (o : Object) (x : Identifier) (es : List Expr) (u : Option Denotation) (k m : Bool) → transfer_at (source_of b) x.token.0 ≡ None → u ≡ denoted (source_of b) x.token.0 → k ≡ denoted_leaves (source_of b) u → m ≡ gives (source_of b) u → (k ≡ m → ⊥) → c ≡ given_up a → WritesCalledBehind b w a c o x es
   unfolding WritesCalledBehind
-  unbehind a c o x es u k m eu el eg never ec start e token before =
+  unbehind a c o x es u k m none eu el eg never ec start e token before =
       let s = source_of b in
-      before_gives_up _ _ start a c _ o e before (λ h. never (el ∙ ap (denoted_leaves s) eu ∙ h.0 ∙ ap (gives s) (sym eu) ∙ sym eg)) ec
+      subst (DotCall s w start c e token x (expressions (map syntax_of es))) (sym none)
+      (before_gives_up b w 0 _ _ start a c _ o e before (λ h. never (el ∙ ap (denoted_leaves s) eu ∙ h.0 ∙ ap (gives s) (sym eu) ∙ sym eg)) ec)
 
-  pub behind_lost : (a c : DraftOf) (o : Object) (x : Identifier) (es : List Expr) (u : Option Denotation) (k m : Bool) → u ≡ denoted (source_of b) x.token.0 → k ≡ denoted_leaves (source_of b) u → k ≡ true → m ≡ gives (source_of b) u → m ≡ false → c ≡ given_up a → WritesCalledBehind b w a c o x es
-  behind_lost a c o x es u k m eu el is eg gs ec = unbehind a c o x es u k m eu el eg (λ h. cc) ec
+  pub behind_lost : (a c : DraftOf) (o : Object) (x : Identifier) (es : List Expr) (u : Option Denotation) (t : Option Word) (k m : Bool) → u ≡ denoted (source_of b) x.token.0 → FindsTransfer t u → t ≡ None → k ≡ denoted_leaves (source_of b) u → k ≡ true → m ≡ gives (source_of b) u → m ≡ false → c ≡ given_up a → WritesCalledBehind b w a c o x es
+  behind_lost a c o x es u t k m eu et none el is eg gs ec = unbehind a c o x es u k m (at_none (source_of b) x.token.0 u t eu et none) eu el eg (λ h. cc) ec
 
-  pub behind_stays : (a c : DraftOf) (o : Object) (x : Identifier) (es : List Expr) (u : Option Denotation) (k m : Bool) → u ≡ denoted (source_of b) x.token.0 → k ≡ denoted_leaves (source_of b) u → k ≡ false → m ≡ gives (source_of b) u → m ≡ true → c ≡ given_up a → WritesCalledBehind b w a c o x es
-  behind_stays a c o x es u k m eu el is eg gs ec = unbehind a c o x es u k m eu el eg (λ h. cc) ec
+  pub behind_stays : (a c : DraftOf) (o : Object) (x : Identifier) (es : List Expr) (u : Option Denotation) (t : Option Word) (k m : Bool) → u ≡ denoted (source_of b) x.token.0 → FindsTransfer t u → t ≡ None → k ≡ denoted_leaves (source_of b) u → k ≡ false → m ≡ gives (source_of b) u → m ≡ true → c ≡ given_up a → WritesCalledBehind b w a c o x es
+  behind_stays a c o x es u t k m eu et none el is eg gs ec = unbehind a c o x es u k m (at_none (source_of b) x.token.0 u t eu et none) eu el eg (λ h. cc) ec
 
   -- ---- the last of what is taken
 
@@ -132,6 +120,6 @@ module _ (b : Bound) (w : Spot) where
 
   pub call_cast : (a c d : DraftOf) (x : Expr) (ys : List Selector) (o : Object) (m : ℕ) (y : Selector) (j : TokenNo) (k : Identifier) → length ys ≢ 0 → WritesBefore b w 0 a c o x ys → m ≡ length ys - 1 → y ≡ slice_index_or ys m y → y ≡ u.Qua j k → d ≡ given_up c → WritesTakenCall b w a d x ys
   call_cast a c d x ys o m y j k some' f em is ey ed =
-      whole a c d x ys o m y (Cast j.0 k) some' f em is (ap selector_syntax ey ∙ selector-Qua j k) (λ e before. before_gives_up _ _ a c d _ o e before (λ h. h) ed)
+      whole a c d x ys o m y (Cast j.0 k) some' f em is (ap selector_syntax ey ∙ selector-Qua j k) (λ e before. before_gives_up b w 0 _ _ a c d _ o e before (λ h. h) ed)
 
 pub ruleset calls = (behind_dropped, behind_kept, behind_lost, behind_stays, call_dot, call_cast)

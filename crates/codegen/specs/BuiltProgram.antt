@@ -3,17 +3,18 @@ use Rattle.std.specs.Prelude.{◌≡◌, ⊤, ℕ, zero, suc, Bool, true, false,
 use Rattle.sim_base.specs.declared.numbering.DeclNo.{DeclNo}
 use Rattle.sim_scope.specs.Assignments.{last_value, left_sides}
 use Rattle.sim_scope.specs.Access.{encloser}
-use Rattle.sim_scope.specs.Source.{Source, block_around, block_of, denoted, line_at}
+use Rattle.sim_scope.specs.Source.{Source, block_around, block_of, denoted, found_at, line_at}
 use Rattle.sim_tree.specs.declared.expr.Identifier.{Identifier}
-use Rattle.sim_tree.specs.Syntax.{Also, Arms, Arrayed, Arrays, Begin, Block, BoundPair, Declarations, DeclareClass, DeclareProcedure, Element, Expression, Expressions, NoArm, NoDeclaration, NoMore, NoStatement, Statement, Statements, Variables, When, With}
+use Rattle.sim_tree.specs.Syntax.{Also, Arms, Arrayed, Arrays, Begin, Block, BoundPair, Declarations, DeclareClass, DeclareProcedure, Element, Expression, Expressions, NoArm, NoDeclaration, NoMore, NoStatement, Statement, Statements, Then, Variables, When, With}
 use Rattle.sim_tree.specs.Syntax as syntax
-use Rattle.sim_meaning.specs.Attributes.{cell_of_connection, connection_at}
+use Rattle.sim_code.specs.Transfers.{Calling, Detaching, Transfer}
+use Rattle.sim_meaning.specs.Attributes.{cell_of_connection, connection_at, transfer_at}
 use Rattle.sim_meaning.specs.Closing.{class_parameters, is_attribute, is_text, is_variable, stream_of}
 use Rattle.sim_meaning.specs.Levels.{class_at, writes_inner}
 use Rattle.sim_meaning.specs.Statements.{begin_of, leaves}
 use Rattle.sim_meaning.specs.Pending.{Connection, Declared, Result}
 use Rattle.sim_meaning.specs.Texts.{BlockText, ClassText, ConnectionText, PrefixedText, ProcedureText, StandardText, Text, declared_at, program_texts, text}
-use Rattle.codegen_expr.specs.Built.{ActualsBuilt, AreBuilt, CellBuilt, ClassBuilt, ConnectedNameBuilt, DotBuilt, IsBuilt, KeyBuilt, NamedBuilt, PlaceBuilt, ReferenceBuilt, ThroughBuilt, is_there, slot_in}
+use Rattle.codegen_expr.specs.Built.{ActualsBuilt, AreBuilt, CellBuilt, ClassBuilt, ConnectedNameBuilt, DotBuilt, IsBuilt, KeyBuilt, NamedBuilt, PlaceBuilt, ReferenceBuilt, ThisFoundBuilt, ThroughBuilt, is_there, slot_in}
 use Rattle.codegen_expr.specs.CodeExpr.{gives}
 use Rattle.codegen_expr.specs.Sites.{Varies, frame_text}
 use Rattle.codegen.specs.Agrees.{Agrees, stands_behind}
@@ -90,14 +91,26 @@ PrefixBuilt s text es None = ⊥
 PrefixBuilt s text es (Some zero) = ⊥
 PrefixBuilt s text es (Some (suc k)) = (stands_behind s (suc k) ≡ true) × (encloser s.tables (suc k) ≡ Some text) × ActualsBuilt s text es (class_parameters s (Some (suc k)))
 
--- a call: an identifier or an attribute, which leaves a value just where its entry or row says so, or `new`
+-- a transfer of control: `detach` has no actual parameter and stands where it is found, `call` has one
+abbrev pub TransferBuilt : Transfer → Expressions → (Around Operands : Type 0) → Type 0
+TransferBuilt Detaching NoMore Around Operands = Around
+TransferBuilt Calling (Then e NoMore) Around Operands = Operands
+TransferBuilt t es Around Operands = ⊥
+
+abbrev pub OrTransferBuilt : Option Transfer → (Transfers : Transfer → Type 0) → (Other : Type 0) → Type 0
+OrTransferBuilt None Transfers Other = Other
+OrTransferBuilt (Some t) Transfers Other = Transfers t
+
+-- a call: a transfer of control; an identifier or an attribute, which leaves a value just where its entry or row says so; or `new`
 abbrev pub CalledBuilt : Source → (text : ℕ) → Expression → Type 0
 CalledBuilt s text (syntax.Named name es) =
-    (leaves s (syntax.Named name es) ≡ gives s (denoted s name.token.0)) × ThroughBuilt (connection_at s name.token.0)
+    OrTransferBuilt (transfer_at s name.token.0) (λ t. TransferBuilt t es (ThisFoundBuilt s text (found_at s name.token.0)) (AreBuilt s text es))
+    ((leaves s (syntax.Named name es) ≡ gives s (denoted s name.token.0)) × ThroughBuilt (connection_at s name.token.0)
     (λ k. ConnectedNameBuilt s text k (denoted s name.token.0) es (AreBuilt s text es) (λ formals. ActualsBuilt s text es formals))
-    (NamedBuilt s text (denoted s name.token.0) es (AreBuilt s text es) (λ formals. ActualsBuilt s text es formals))
+    (NamedBuilt s text (denoted s name.token.0) es (AreBuilt s text es) (λ formals. ActualsBuilt s text es formals)))
 CalledBuilt s text (syntax.Dot token a name es) =
-    (leaves s (syntax.Dot token a name es) ≡ gives s (denoted s name.token.0)) × DotBuilt s (denoted s name.token.0) (stream_of s a) (is_variable s a || is_attribute s a) es (PlaceBuilt s text a) (IsBuilt s text a) (AreBuilt s text es) (λ formals. ActualsBuilt s text es formals)
+    OrTransferBuilt (transfer_at s name.token.0) (λ t. TransferBuilt Detaching es (IsBuilt s text a) (AreBuilt s text es))
+    ((leaves s (syntax.Dot token a name es) ≡ gives s (denoted s name.token.0)) × DotBuilt s (denoted s name.token.0) (stream_of s a) (is_variable s a || is_attribute s a) es (PlaceBuilt s text a) (IsBuilt s text a) (AreBuilt s text es) (λ formals. ActualsBuilt s text es formals))
 CalledBuilt s text (syntax.New token class es) = IsBuilt s text (syntax.New token class es)
 CalledBuilt s text _ = ⊥
 

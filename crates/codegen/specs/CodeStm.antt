@@ -2,12 +2,13 @@
 use Rattle.std.specs.Prelude.{◌≡◌, ◌||◌, ℕ, zero, suc, Bool, true, false, pos, Option, Some, None}
 use Rattle.sim_scope.specs.Assignments.{last_value, left_sides}
 use Rattle.sim_scope.specs.Access.{encloser}
-use Rattle.sim_scope.specs.Source.{Source, block_around, denoted, level_of, line_at}
-use Rattle.sim_tree.specs.Syntax.{Also, Arms, Begin, Block, Expression, Expressions, NoArm, NoDeclaration, NoMore, NoStatement, Statement, Statements, When, With}
+use Rattle.sim_scope.specs.Source.{Source, block_around, denoted, found_at, level_of, line_at}
+use Rattle.sim_tree.specs.Syntax.{Also, Arms, Begin, Block, Expression, Expressions, NoArm, NoDeclaration, NoMore, NoStatement, Statement, Statements, Then, When, With}
 use Rattle.sim_tree.specs.Syntax as syntax
 use Rattle.sim_code.specs.declared.instr.Instr.TheVariants as i
 use Rattle.sim_code.specs.Code.{CodeOf}
-use Rattle.sim_meaning.specs.Attributes.{cell_of_connection, connection_at}
+use Rattle.sim_code.specs.Transfers.{Calling, Detaching, Transfer}
+use Rattle.sim_meaning.specs.Attributes.{cell_of_connection, connection_at, transfer_at}
 use Rattle.sim_meaning.specs.Closing.{class_parameters, is_attribute, is_text, is_variable, stream_of}
 use Rattle.sim_meaning.specs.Levels.{class_at}
 use Rattle.sim_meaning.specs.Pending.{Connection}
@@ -15,7 +16,7 @@ use Rattle.sim_meaning.specs.Statements.{begin_of, leaves}
 use Rattle.sim_meaning.specs.Texts.{ConnectionText, text}
 use Rattle.sim_meaning.specs.Texts as Texts
 use Rattle.codegen_expr.specs.Sites.{Ahead, At, HasCell, IfAt, Is, LoopAt, Pushes, Site, WhenAt, block_number, class_number, frame_text, slot_of}
-use Rattle.codegen_expr.specs.CodeExpr.{ActualsAt, ConnectedNameAt, DotAt, ExprAt, ExprsAt, NamedAt, PlaceAt, ThroughAt, gives, operands}
+use Rattle.codegen_expr.specs.CodeExpr.{ActualsAt, ConnectedNameAt, DotAt, ExprAt, ExprsAt, NamedAt, PlaceAt, ThisFoundAt, ThroughAt, gives, operands}
 use Rattle.codegen.specs.Agrees.{stands_behind}
 use Rattle.codegen.specs.CodeFor.{ForAt, assigned_by, is_empty, variable_of}
 use Rattle.codegen.specs.CodeLeft.{AssignAt, each_stored}
@@ -46,15 +47,36 @@ PrefixedAt s code site n line es None p q = ⊥
 PrefixedAt s code site n line es (Some zero) p q = ⊥
 PrefixedAt s code site n line es (Some (suc k)) p q = PrefixAt s code site n line (suc k) es p q
 
--- A call that stands as a statement: an identifier or an attribute that leaves a value just where its entry or row says so, or `new`.
+-- `detach` of what a tree gives, which is an object; `call` of an actual parameter
+pub record DetachAt (code : CodeOf) (line : ℕ) (Object : ℕ → ℕ → Type 0) (p q : ℕ) : Type 0 where
+  pub x : ℕ
+  pub y : ℕ
+  pub object : Object p x
+  pub there : At code i.NotNone line x y
+  pub detaches : At code i.Detach line y q
+
+abbrev pub TransferAt : CodeOf → (line : ℕ) → Transfer → Expressions → (Around Operands : ℕ → ℕ → Type 0) → ℕ → ℕ → Type 0
+TransferAt code line Detaching NoMore Around Operands p q = DetachAt code line Around p q
+TransferAt code line Calling (Then e NoMore) Around Operands p q = (x : ℕ) × Operands p x × At code i.Attach line x q
+TransferAt code line t es Around Operands p q = ⊥
+
+-- a transfer of control, or another call
+abbrev pub OrTransferAt : Option Transfer → (Transfers : Transfer → ℕ → ℕ → Type 0) → (Other : ℕ → ℕ → Type 0) → ℕ → ℕ → Type 0
+OrTransferAt None Transfers Other p q = Other p q
+OrTransferAt (Some t) Transfers Other p q = Transfers t p q
+
+-- A call that stands as a statement: a transfer of control; an identifier or an attribute that leaves a value just where its entry or row says so;
+-- or `new`.
 abbrev pub CalledAt : Source → CodeOf → Site → ℕ → Expression → ℕ → ℕ → Type 0
 CalledAt s code site n (syntax.Named name es) p q =
-    (leaves s (syntax.Named name es) ≡ gives s (denoted s name.token.0)) × ThroughAt (connection_at s name.token.0)
+    OrTransferAt (transfer_at s name.token.0) (λ t. TransferAt code (line_at s name.token.0) t es (ThisFoundAt s code site n (found_at s name.token.0)) (ExprsAt s code site n es))
+    (λ p q. (leaves s (syntax.Named name es) ≡ gives s (denoted s name.token.0)) × ThroughAt (connection_at s name.token.0)
     (λ k. ConnectedNameAt s code site n (line_at s name.token.0) k (denoted s name.token.0) es (ExprsAt s code site (suc n) es) (λ formals. ActualsAt s code site (suc n) (line_at s name.token.0) false es formals))
-    (NamedAt s code site n (line_at s name.token.0) (denoted s name.token.0) es (ExprsAt s code site n es) (ExprsAt s code site (suc n) es) (λ formals. ActualsAt s code site (suc n) (line_at s name.token.0) false es formals)) p q
+    (NamedAt s code site n (line_at s name.token.0) (denoted s name.token.0) es (ExprsAt s code site n es) (ExprsAt s code site (suc n) es) (λ formals. ActualsAt s code site (suc n) (line_at s name.token.0) false es formals)) p q) p q
 CalledAt s code site n (syntax.Dot token a name es) p q =
-    (leaves s (syntax.Dot token a name es) ≡ gives s (denoted s name.token.0)) × DotAt s code site n (line_at s name.token.0) (denoted s name.token.0) (stream_of s a) (is_variable s a || is_attribute s a) es
-    (PlaceAt s code site n 0 a) (ExprAt s code site n a) (ExprsAt s code site n es) (ExprsAt s code site (suc n) es) (λ formals. ActualsAt s code site (suc n) (line_at s name.token.0) false es formals) p q
+    OrTransferAt (transfer_at s name.token.0) (λ t. TransferAt code (line_at s name.token.0) Detaching es (ExprAt s code site n a) (ExprsAt s code site n es))
+    (λ p q. (leaves s (syntax.Dot token a name es) ≡ gives s (denoted s name.token.0)) × DotAt s code site n (line_at s name.token.0) (denoted s name.token.0) (stream_of s a) (is_variable s a || is_attribute s a) es
+    (PlaceAt s code site n 0 a) (ExprAt s code site n a) (ExprsAt s code site n es) (ExprsAt s code site (suc n) es) (λ formals. ActualsAt s code site (suc n) (line_at s name.token.0) false es formals) p q) p q
 CalledAt s code site n (syntax.New token class es) p q = ExprAt s code site n (syntax.New token class es) p q
 CalledAt s code site n _ p q = ⊥
 

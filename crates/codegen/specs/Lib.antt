@@ -17,3 +17,4 @@ pub mod EmitProgram
 pub mod Planning
 pub mod EmitTargets
 pub mod EmitConnections
+pub mod EmitTransfers

@@ -2,6 +2,7 @@
 #![tactic(auto)]
 
 mod arrays;
+mod calls;
 mod connections;
 mod elements;
 mod frames;
@@ -21,6 +22,7 @@ mod several;
 mod statement;
 mod targets;
 mod texts;
+mod transfers;
 
 pub use program::compile;
 pub use records::holds_class;

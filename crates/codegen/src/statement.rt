@@ -7,27 +7,23 @@ ghost use Rattle.codegen.specs.EmitShared.{PutsTurn, WritesInside, WritesTurn, W
 ghost use Rattle.codegen.specs.EmitTargets.{line_in};
 ghost use Rattle.codegen.specs.CodeFor.{is_empty as is_empty_of};
 ghost use Rattle.sim_tree.specs.SyntaxOfProgram.{statement_syntax};
-ghost use Rattle.codegen.specs.Emit.{WritesAssignment, WritesBlock, WritesCall, WritesCalled, WritesCalledBehind, WritesElementOf, WritesFor, WritesList, WritesStatement, WritesStatements, WritesTakenCall};
+ghost use Rattle.codegen.specs.Emit.{WritesAssignment, WritesBlock, WritesElementOf, WritesFor, WritesList, WritesStatement, WritesStatements};
 ghost use Rattle.codegen.specs.EmitSeveral.{side_in};
 ghost use Rattle.codegen.specs.ForElements.{in_list, view_syntax};
 
+use crate::calls::emit_call;
 use crate::connections::{emit_arms, emit_connects, emit_otherwise, fill_all};
 use crate::elements::{Element, Elements, count, element_at};
-use crate::leaves::leaves;
 use crate::left::{Left, find_named};
 use crate::lists::{Shared, emit_returns, emit_sent, hole_at, is_empty, jump_to};
 use crate::prefixed::emit_prefixed;
 use crate::several::{Side, emit_one, emit_several};
 use crate::targets::{Target, emit_given, emit_loaded, emit_stored, takes_values};
-use codegen_expr::{
-    Cells, Draft, Form, Object, Spot, block_number, deeper, denoted, emit_before, emit_dot,
-    emit_element, emit_expr, emit_named, form_of, gives, is_text_at, line_at, load_instr,
-    store_instr,
-};
+use codegen_expr::{Cells, Draft, Spot, block_number, deeper, emit_expr, is_text_at, line_at};
 use sim_base::Line;
 use sim_code::Instr;
 use sim_scope::{Bound, block_at, encloser};
-use sim_tree::{Assigned, Block, Expr, Identifier, Selector, Stmt};
+use sim_tree::{Assigned, Block, Expr, Identifier, Stmt};
 use std::alloc::AllocError;
 
 /// Writes the code of a statement, which stands on no value. The draft stops being whole where a form is not built.
@@ -285,141 +281,6 @@ fn emit_entry(
         return Ok(());
     }
     draft.give_up();
-    Ok(())
-}
-
-/// A call behind its tick.
-#[tactic(auto, using(crate::proofs::Statements::writes))]
-fn emit_call(
-    bound: &Bound,
-    cells: &Cells,
-    spot: Spot,
-    draft: &mut Draft,
-    call: &Expr,
-) -> Result<(), AllocError>
-    requires cells { Known bound.now cells.now }
-    ensures { OnOk result (WritesCall bound.now spot draft.old draft.new call.now) }
-{
-    match form_of(call) {
-        Form::Named { name, arguments } => {
-            emit_called(bound, cells, spot, draft, name, arguments)?;
-            Ok(())
-        }
-        Form::Taken { primary, rest } => {
-            emit_taken_call(bound, cells, spot, draft, primary, rest)?;
-            Ok(())
-        }
-        Form::New { .. } => {
-            emit_expr(bound, cells, spot, draft, 0, call)?;
-            draft.put(Instr::Pop, Line(0))?;
-            Ok(())
-        }
-        Form::Closed { .. } => {
-            draft.give_up();
-            Ok(())
-        }
-        Form::Other => {
-            draft.give_up();
-            Ok(())
-        }
-    }
-}
-
-/// A call of an identifier, and what becomes of its value.
-#[tactic(auto, using(crate::proofs::Statements::writes))]
-fn emit_called(
-    bound: &Bound,
-    cells: &Cells,
-    spot: Spot,
-    draft: &mut Draft,
-    name: &Identifier,
-    arguments: &[Expr],
-) -> Result<(), AllocError>
-    requires cells { Known bound.now cells.now }
-    ensures { OnOk result (WritesCalled bound.now spot draft.old draft.new name.now arguments.now) }
-{
-    let denotation = denoted(bound, name.token);
-    if leaves(bound, denotation) {
-        if gives(bound, denotation) {
-            emit_named(
-                bound, cells, spot, draft, 0, name.token, denotation, arguments,
-            )?;
-            draft.put(Instr::Pop, Line(0))?;
-            return Ok(());
-        }
-        draft.give_up();
-        return Ok(());
-    }
-    if gives(bound, denotation) {
-        draft.give_up();
-        return Ok(());
-    }
-    emit_named(
-        bound, cells, spot, draft, 0, name.token, denotation, arguments,
-    )?;
-    Ok(())
-}
-
-/// A call of what is taken of an operand.
-#[tactic(auto, using(crate::proofs::TakenCalls::calls))]
-fn emit_taken_call(
-    bound: &Bound,
-    cells: &Cells,
-    spot: Spot,
-    draft: &mut Draft,
-    primary: &Expr,
-    rest: &[Selector],
-) -> Result<(), AllocError>
-    requires cells { Known bound.now cells.now }
-    requires some { length rest.now ≢ 0 }
-    ensures { OnOk result (WritesTakenCall bound.now spot draft.old draft.new primary.now rest.now) }
-{
-    let object = emit_before(bound, cells, spot, draft, 0, primary, rest)?;
-    match &rest[rest.len() - 1] {
-        Selector::Dot {
-            name,
-            arguments,
-            ..
-        } => {
-            emit_called_behind(bound, cells, spot, draft, object, name, arguments)?;
-            Ok(())
-        }
-        Selector::Qua { .. } => {
-            draft.give_up();
-            Ok(())
-        }
-    }
-}
-
-/// A call of an attribute behind its object, and what becomes of its value.
-#[tactic(auto, using(crate::proofs::TakenCalls::calls))]
-fn emit_called_behind(
-    bound: &Bound,
-    cells: &Cells,
-    spot: Spot,
-    draft: &mut Draft,
-    object: Object,
-    name: &Identifier,
-    arguments: &[Expr],
-) -> Result<(), AllocError>
-    requires cells { Known bound.now cells.now }
-    ensures { OnOk result (WritesCalledBehind bound.now spot draft.old draft.new object name.now arguments.now) }
-{
-    let denotation = denoted(bound, name.token);
-    if leaves(bound, denotation) {
-        if gives(bound, denotation) {
-            emit_dot(bound, cells, spot, draft, 0, object, name, arguments)?;
-            draft.put(Instr::Pop, Line(0))?;
-            return Ok(());
-        }
-        draft.give_up();
-        return Ok(());
-    }
-    if gives(bound, denotation) {
-        draft.give_up();
-        return Ok(());
-    }
-    emit_dot(bound, cells, spot, draft, 0, object, name, arguments)?;
     Ok(())
 }
 

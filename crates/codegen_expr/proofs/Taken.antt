@@ -108,7 +108,7 @@ module _ (b : Bound) (w : Spot) (n : ℕ) where
       emits_as w (P × ⊥) Q _ _ a d (λ q. absurd (never q)) (λ q. absurd q.1) (λ final site p q _ _ r. absurd r.2)
       (emits_then w P ⊥ A (λ final site p q. ⊥) a c d f (emits_nothing w c d ⊥ (λ final site p q. ⊥) (λ z. z) is))
 
-  before_gives_up : (Q : Type 0) (B : Part) (start a c : DraftOf) (moves : Bool) (o : Object) (e : Expression) → PutsBefore (source_of b) w n start a moves o e → (Q → ⊥) → c ≡ given_up a → Emits w start c Q B
+  pub before_gives_up : (Q : Type 0) (B : Part) (start a c : DraftOf) (moves : Bool) (o : Object) (e : Expression) → PutsBefore (source_of b) w n start a moves o e → (Q → ⊥) → c ≡ given_up a → Emits w start c Q B
   unfolding PutsPlace Puts
   before_gives_up Q B start a c moves (object.Stream img) e f never ec = let same : a ≡ start = f.puts.0 in emits_nothing w start c Q B never (ec ∙ ap given_up same)
   before_gives_up Q B start a c moves object.Place e f never ec = gives_up _ Q _ B start a c f.puts.0 never ec
@@ -164,7 +164,7 @@ module _ (b : Bound) (w : Spot) (n : ℕ) where
       dot_behind start a c x ys e d k false ed some g.puts.1 g.placed g.puts.0 f
 
   -- `sysin` and `sysout` are no values
-  streamless : (e : Expression) (img : ℕ) → stream_of (source_of b) e ≡ Some img → IsBuilt (source_of b) w.text e → ⊥
+  pub streamless : (e : Expression) (img : ℕ) → stream_of (source_of b) e ≡ Some img → IsBuilt (source_of b) w.text e → ⊥
   unfolding stream_of
   streamless (Named k es) img is h = named (denoted (source_of b) k.token.0) (connection_at (source_of b) k.token.0) is h.1
     where

@@ -236,7 +236,7 @@ fn emit_object(
 
 /// `this`. The token is that of the word.
 #[tactic(auto, using(crate::proofs::OfObjects::leaves))]
-pub(crate) fn emit_this(
+pub fn emit_this(
     bound: &Bound,
     cells: &Cells,
     spot: Spot,

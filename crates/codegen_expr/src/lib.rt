@@ -34,7 +34,7 @@ pub use instructions::{
     address_instr, attribute_instr, call_instr, character_instr, element_instr, link_instr,
     load_instr, member_instr, new_instr, standard_instr, store_instr, this_instr,
 };
-pub use leaves::{emit_cell, emit_connected};
+pub use leaves::{emit_cell, emit_connected, emit_this};
 pub use lookups::{
     block_number, block_of, cell_count, cell_number, constant_value, denoted, formals_of_block,
     gives, has_result, is_around, is_text, is_text_at, level_of, line_at, prefix_of, slot_of,

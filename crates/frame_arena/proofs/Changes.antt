@@ -7,7 +7,7 @@ use Rattle.sim_code.specs.Instances.{Instance, given, given_in, is_live, is_live
 use Rattle.sim_code.specs.Machine.{Cells, Frames}
 use Rattle.frame_arena.specs.declared.slot.Slot.{Slot}
 use Rattle.frame_arena.specs.declared.frames.Frame.{Frame}
-use Rattle.frame_arena.specs.Frames.{Apart, Has, Holds, Leads, frame_at, instance_of, no_frame, stands_as}
+use Rattle.frame_arena.specs.Frames.{Apart, Has, Holds, Leads, DetachedBefore, IsDetached, StandsAs, frame_at, instance_of, no_frame}
 
 -- ---- lists and numbers
 
@@ -66,6 +66,14 @@ module _ (fs : List Frame) (place : ℕ) (f : Frame) where
         | inr n ↦ ap (λ g. g.cells) (frame_other q n)
       ]
 
+  -- where the frame that is changed is not detached, or was so before
+  pub detached_set : ((n : ℕ) → IsDetached (set fs place f) place n → IsDetached fs place n) → DetachedBefore fs (set fs place f)
+  detached_set here q n h =
+      elim (same_or_not q place) [
+        | inl e ↦ subst (λ z. IsDetached fs z n) (sym e) (here n (subst (λ z. IsDetached (set fs place f) z n) e h))
+        | inr ne ↦ (has_from q n ne h.0, sym (ap (λ g. g.component) (frame_other q ne)) ∙ h.1)
+      ]
+
 -- regions stay apart
 pub apart_kept : (f g f2 g2 : Frame) → f2.base ≡ f.base → f2.cells ≡ f.cells → g2.base ≡ g.base → g2.cells ≡ g.cells → Apart f g → Apart f2 g2
 apart_kept f g f2 g2 a b c d h = elim h [ inl e ↦ inl (omega (arith, a, b, c, d, e)) | inr e ↦ inr (omega (arith, a, b, c, d, e)) ]
@@ -102,7 +110,7 @@ gives_in fs cells m place j f x h has e free b0 c0 =
           get_set_other m.instances n j _ (λ s. ne q n hq (h.single q place n (was q n hq) (has.0, has.1, has.2 ∙ sym s)))
           ∙ h.known q n (was q n hq)
           ∙ ap (λ g. Some (instance_of cells g)) (sym (frame_other fs place f q (ne q n hq)));
-      standings = λ q n hq. h.standings q n (was q n hq) ∙ ap (λ g. Some (stands_as g.component)) (sym (frame_other fs place f q (ne q n hq)));
+      standings = λ q n hq. subst (λ g. StandsAs g.component (slice_get m.standings n)) (sym (frame_other fs place f q (ne q n hq))) (h.standings q n (was q n hq));
       counted = h.counted ∙ sym (length-set m.instances j _);
       single = λ p q n hp hq. h.single p q n (was p n hp) (was q n hq);
       parents = λ q n hq r up. leads_given fs cells m place j f x r h has e (h.parents q n (was q n hq) r (sym (ap (λ g. g.parent) (frame_other fs place f q (ne q n hq))) ∙ up));
@@ -124,3 +132,6 @@ gives fs cells m place f h there on free b0 c0 =
     let e = h.known place (frame_at fs place).number has in
     subst (λ m2. Holds (set fs place f) cells m2) (sym (given_is m (frame_at fs place).number _ e))
     (gives_in fs cells m place (frame_at fs place).number f _ h has e free b0 c0)
+
+pub detached_given : (fs : List Frame) (place : ℕ) (f : Frame) → place < length fs → f.live ≡ false → DetachedBefore fs (set fs place f)
+detached_given fs place f there free = detached_set fs place f (λ n h. absurd (off (sym free ∙ sym (ap (λ g. g.live) (frame_same fs place f there)) ∙ h.0.1)))

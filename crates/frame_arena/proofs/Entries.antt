@@ -10,9 +10,9 @@ use Rattle.frame_arena.specs.declared.slot.Slot.{Slot}
 use Rattle.frame_arena.specs.declared.frames.Frame.{Frame}
 use Rattle.frame_arena.specs.Slots.{cell_value, empty_slot, value_of}
 use Rattle.frame_arena.specs.Stacks.{slot_at}
-use Rattle.frame_arena.specs.Frames.{Apart, Has, Holds, HoldsAfter, Leads, SlotLeads, cells_at, empty_memory, frame_at, instance_of, stands_as}
+use Rattle.frame_arena.specs.Frames.{Apart, DetachedBefore, Has, Holds, HoldsAfter, Leads, SlotLeads, cells_at, StandsAs, empty_memory, frame_at, instance_of}
 use Rattle.frame_arena.proofs.Reading.{cell_count, live_of}
-use Rattle.frame_arena.proofs.Changes.{apart_kept, base_kept, cells_kept, frame_other, frame_same, get_set_other, get_set_same, has_from, has_to, live_other, off, same_or_not}
+use Rattle.frame_arena.proofs.Changes.{apart_kept, base_kept, cells_kept, detached_set, frame_other, frame_same, get_set_other, get_set_same, has_from, has_to, live_other, off, same_or_not}
 
 -- ---- an entry
 
@@ -45,12 +45,11 @@ leads_entered fs m place f x s r free leads =
 pub here_entered : (fs : List Frame) (place : ℕ) (f : Frame) → place < length fs → f.live ≡ true → Has (set fs place f) place f.number
 here_entered fs place f there on = (subst (λ l. place < l) (sym (length-set fs place f)) there, ap (λ g. g.live) (frame_same fs place f there) ∙ on, ap (λ g. g.number) (frame_same fs place f there))
 
-pub enters : (fs : List Frame) (cells : List Slot) (m : Frames) (place : ℕ) (f : Frame) → Holds fs cells m → place < length fs → (frame_at fs place).live ≡ false →
+pub enters : (fs : List Frame) (cells : List Slot) (m : Frames) (place : ℕ) (f : Frame) (s : Standing Activation) → StandsAs f.component (Some s) → Holds fs cells m → place < length fs → (frame_at fs place).live ≡ false →
     f.number ≡ length m.instances → f.base ≡ (frame_at fs place).base → f.cells ≡ (frame_at fs place).cells → ((r : FrameRef) → f.parent ≡ Some r → Leads fs m r) →
-    Holds (set fs place f) cells (entered m (instance_of cells f) (stands_as f.component))
-enters fs cells m place f h there free numbered b0 c0 parent =
+    Holds (set fs place f) cells (entered m (instance_of cells f) s)
+enters fs cells m place f s stands h there free numbered b0 c0 parent =
     let x : Instance Cells = instance_of cells f in
-    let s : Standing Activation = stands_as f.component in
     let fresh : (q n : ℕ) → q ≡ place → Has (set fs place f) q n → n ≡ length m.instances = λ q n p hq. sym hq.2 ∙ ap (λ z. (frame_at (set fs place f) z).number) p ∙ ap (λ g. g.number) (frame_same fs place f there) ∙ numbered in
     record {
       known = λ q n hq.
@@ -63,12 +62,12 @@ enters fs cells m place f h there free numbered b0 c0 parent =
       standings = λ q n hq.
           elim (same_or_not q place) [
             | inl p ↦
-                ap (slice_get (m.standings ++ s ∷ [])) (fresh q n p hq ∙ sym h.counted) ∙ get_new m.standings s
-                ∙ ap (λ g. Some (stands_as g.component)) (sym (ap (frame_at (set fs place f)) p ∙ frame_same fs place f there))
+                subst (λ g. StandsAs g.component (slice_get (m.standings ++ s ∷ []) n)) (sym (ap (frame_at (set fs place f)) p ∙ frame_same fs place f there))
+                (subst (λ v. StandsAs f.component v) (sym (ap (slice_get (m.standings ++ s ∷ [])) (fresh q n p hq ∙ sym h.counted) ∙ get_new m.standings s)) stands)
             | inr ne ↦
                 let was : Has fs q n = has_from fs place f q n ne hq in
-                get_old m.standings (s ∷ []) n (subst (λ l. n < l) (sym h.counted) (known_below fs cells m q n h was)) ∙ h.standings q n was
-                ∙ ap (λ g. Some (stands_as g.component)) (sym (frame_other fs place f q ne))
+                subst (λ g. StandsAs g.component (slice_get (m.standings ++ s ∷ []) n)) (sym (frame_other fs place f q ne))
+                (subst (λ v. StandsAs (frame_at fs q).component v) (sym (get_old m.standings (s ∷ []) n (subst (λ l. n < l) (sym h.counted) (known_below fs cells m q n h was)))) (h.standings q n was))
           ];
       counted = let a = length-append m.standings (s ∷ []) in let b = length-append m.instances (x ∷ []) in let c = h.counted in omega (arith, a, b, c);
       single = λ p q n hp hq.
@@ -301,7 +300,7 @@ keeps fs cells m place h there on =
                 ∙ h.known q n (was q n hq)
                 ∙ ap (λ g. Some (instance_of cells g)) (sym (frame_other fs place f q ne))
           ];
-      standings = λ q n hq. h.standings q n (was q n hq) ∙ ap (λ c. Some (stands_as c)) (sym (kept_by (λ g. g.component) fs place f q there refl));
+      standings = λ q n hq. subst (λ c. StandsAs c (slice_get m.standings n)) (sym (kept_by (λ g. g.component) fs place f q there refl)) (h.standings q n (was q n hq));
       counted = h.counted ∙ sym (length-set m.instances j y);
       single = λ p q n hp hq. h.single p q n (was p n hp) (was q n hq);
       parents = λ q n hq r up. leads r (h.parents q n (was q n hq) r (sym (kept_by (λ g. g.parent) fs place f q there refl) ∙ up));
@@ -315,6 +314,12 @@ keeps fs cells m place h there on =
           apart_kept (frame_at fs p) (frame_at fs q) (frame_at (set fs place f) p) (frame_at (set fs place f) q) (base_kept fs place f p there refl) (cells_kept fs place f p there refl) (base_kept fs place f q there refl) (cells_kept fs place f q there refl)
           (h.apart p q (subst (λ l. p < l) (length-set fs place f) hp) (subst (λ l. q < l) (length-set fs place f) hq) d);
     }
+
+pub detached_kept : (fs : List Frame) (place : ℕ) → place < length fs → DetachedBefore fs (set fs place (record (frame_at fs place) { kept = true }))
+detached_kept fs place there =
+    let f : Frame = record (frame_at fs place) { kept = true } in
+    let same = frame_same fs place f there in
+    detached_set fs place f (λ n h. ((there, sym (ap (λ g. g.live) same) ∙ h.0.1, sym (ap (λ g. g.number) same) ∙ h.0.2), sym (ap (λ g. g.component) same) ∙ h.1))
 
 -- ---- the beginning
 

@@ -1,6 +1,6 @@
 -- More cells and more regions.
 use Rattle.std.proofs.Common.{◌≡◌, ℕ, zero, suc, ◌+◌, ◌<◌, ◌≤◌, inl, inr, List, [], ◌∷◌, ◌++◌, length, length-append, sym, subst, refl, ap, ◌∙◌, arith}
-use Rattle.std.specs.Prelude.{false, Some}
+use Rattle.std.specs.Prelude.{false, Some, slice_get}
 use Rattle.sim_values.specs.declared.value.FrameRef.{FrameRef}
 use Rattle.sim_code.specs.Machine.{Frames}
 use Rattle.frame_arena.specs.declared.slot.Slot.{Slot}
@@ -9,7 +9,7 @@ use Rattle.frame_arena.specs.Slots.{cell_value, empty_slot}
 use Rattle.frame_arena.specs.Stacks.{slot_at}
 use Rattle.sim_code.specs.Outcome.{ArrayOf}
 use Rattle.frame_arena.specs.Arrays.{AllLeadArrays, RegionOf, SlotLeadsArray}
-use Rattle.frame_arena.specs.Frames.{Apart, Has, Holds, Leads, SlotLeads, cells_at, frame_at, instance_of, stands_as}
+use Rattle.frame_arena.specs.Frames.{Apart, Has, Holds, Leads, SlotLeads, cells_at, DetachedBefore, StandsAs, frame_at, instance_of}
 use Rattle.frame_arena.proofs.Changes.{off, same_or_not}
 
 grown_at : (cells : List Slot) (q : ℕ) → slot_at (cells ++ empty_slot ∷ []) q ≡ slot_at cells q
@@ -68,6 +68,11 @@ module _ (fs : List Frame) (f : Frame) (free : f.live ≡ false) where
   pub leads_more : (m : Frames) (r : FrameRef) → Leads fs m r → Leads (fs ++ f ∷ []) m r
   leads_more m r leads = (leads.0, λ on. has_more r.frame r.stamp (leads.1 on))
 
+  pub detached_more : DetachedBefore fs (fs ++ f ∷ [])
+  detached_more q n h =
+      let was = has_old q n h.0 in
+      (was, sym (ap (λ g. g.component) (frame_before fs f q was.0)) ∙ h.1)
+
 turned : (f g : Frame) → Apart f g → Apart g f
 turned f g h = elim h [ inl a ↦ inr a | inr a ↦ inl a ]
 
@@ -82,7 +87,7 @@ adds fs old cells m f ho h free base inside =
           h.known q n was ∙ ap (λ g. Some (instance_of cells g)) (sym (frame_before fs f q was.0));
       standings = λ q n hq.
           let was = has_old fs f free q n hq in
-          h.standings q n was ∙ ap (λ g. Some (stands_as g.component)) (sym (frame_before fs f q was.0));
+          subst (λ g. StandsAs g.component (slice_get m.standings n)) (sym (frame_before fs f q was.0)) (h.standings q n was);
       counted = h.counted;
       single = λ p q n hp hq. h.single p q n (has_old fs f free p n hp) (has_old fs f free q n hq);
       parents = λ q n hq r up.

@@ -1,4 +1,4 @@
-pub mod Terminations
+pub mod Standings
 pub mod Tops
 pub mod Reading
 pub mod Changes

@@ -2,7 +2,7 @@
 -- number is used again, so that what was given back leaves no trace but in the machine's memory.
 use Rattle.std.specs.Prelude.{◌≡◌, ℕ, zero, suc, ◌+◌, ◌<◌, ◌≤◌, ◌⊎◌, Bool, true, false, List, [], ◌∷◌, length, get_or, slice_get, Option, Some, None}
 use Rattle.sim_values.specs.declared.value.FrameRef.{FrameRef}
-use Rattle.sim_chains.specs.Components.{AttachedObject, NoObject, Standing, TerminatedObject}
+use Rattle.sim_chains.specs.Components.{AttachedObject, DetachedObject, NoObject, Standing, TerminatedObject}
 use Rattle.sim_code.specs.Instances.{Instance, is_live, no_instances}
 use Rattle.sim_code.specs.Machine.{Activation, Cells, Frames, Value}
 use Rattle.frame_arena.specs.declared.slot.Slot.{Slot}
@@ -82,16 +82,30 @@ AllLead frames m slots = (at : ℕ) → SlotLeads frames m (slot_at slots at)
 abbrev pub Apart : Frame → Frame → Type 0
 Apart f g = (f.base + f.cells ≤ g.base) ⊎ (g.base + g.cells ≤ f.base)
 
--- how a frame stands among the components
-abbrev pub stands_as : Component → Standing Activation
-stands_as component.NoObject = NoObject None
-stands_as component.Attached = AttachedObject
-stands_as component.Terminated = TerminatedObject
+-- how a frame stands among the components; that of a detached object keeps some chain
+abbrev pub StandsAs : Component → Option (Standing Activation) → Type 0
+StandsAs component.NoObject s = s ≡ Some (NoObject None)
+StandsAs component.Attached s = s ≡ Some AttachedObject
+StandsAs component.Detached s = (chain : List Activation) × (s ≡ Some (DetachedObject chain))
+StandsAs component.Terminated s = s ≡ Some TerminatedObject
+
+-- how a frame stands at its entry, which is that of an object or is not
+abbrev pub stands_first : (object : Bool) → Standing Activation
+stands_first true = AttachedObject
+stands_first false = NoObject None
+
+-- the frame of a number lies at a place, and is that of a detached object
+abbrev pub IsDetached : List Frame → (place number : ℕ) → Type 0
+IsDetached frames place number = Has frames place number × ((frame_at frames place).component ≡ component.Detached)
+
+-- no other frame is that of a detached object than before
+abbrev pub DetachedBefore : (old new : List Frame) → Type 0
+DetachedBefore old new = (place number : ℕ) → IsDetached new place number → IsDetached old place number
 
 -- The frames in the regions are the instances that are not given back.
 pub record Holds (frames : List Frame) (cells : List Slot) (m : Frames) : Type 0 where
   pub known : (place number : ℕ) → Has frames place number → slice_get m.instances number ≡ Some (instance_of cells (frame_at frames place))
-  pub standings : (place number : ℕ) → Has frames place number → slice_get m.standings number ≡ Some (stands_as (frame_at frames place).component)
+  pub standings : (place number : ℕ) → Has frames place number → StandsAs (frame_at frames place).component (slice_get m.standings number)
   pub counted : length m.standings ≡ length m.instances
   pub single : (place other number : ℕ) → Has frames place number → Has frames other number → place ≡ other
   pub parents : (place number : ℕ) → Has frames place number → (r : FrameRef) → (frame_at frames place).parent ≡ Some r → Leads frames m r

@@ -2,11 +2,11 @@
 //! in the order of entry is never used again. A reference to a frame has its region and, as its stamp, its number.
 ghost use Rattle.std.specs.Prelude.{◌≡◌, ℕ, ◌<◌, List, IfSome, Some, None, length, slice_get, slice_set, nat_lt, true, false};
 ghost use Rattle.sim_values.specs.declared.value.FrameRef.{FrameRef};
-ghost use Rattle.sim_chains.specs.Components.{AttachedObject, Standing, TerminatedObject};
+ghost use Rattle.sim_chains.specs.Components.{AttachedObject, DetachedObject, Standing, TerminatedObject};
 ghost use Rattle.sim_code.specs.Instances.{Instance, at_level as frame_of_level, entered, given, is_given_at_end as ends_for_good, is_live, with_instance};
 ghost use Rattle.sim_code.specs.Machine.{Activation, Cells, Frames, Value, joined, cell as cell_of_frame, cell_set};
 ghost use Rattle.frame_arena.specs.declared.slot.Slot.{Slot};
-ghost use Rattle.frame_arena.specs.Frames.{Has, Holds, HoldsAfter, IsSpan, Leads, LeadsAfter, SlotLeads, cells_at, found_value, frame_at, instance_of, number_in, number_there, rooms, span_number, stands_as};
+ghost use Rattle.frame_arena.specs.Frames.{DetachedBefore, Has, Holds, HoldsAfter, IsDetached, IsSpan, Leads, LeadsAfter, SlotLeads, StandsAs, cells_at, found_value, frame_at, instance_of, number_in, number_there, rooms, span_number, stands_first};
 ghost use Rattle.frame_arena.specs.Slots.{cell_value, value_of};
 ghost use Rattle.frame_arena.specs.Stacks.{slot_at};
 ghost use Rattle.sim_code.specs.Outcome.{ArrayOf};
@@ -22,6 +22,8 @@ pub enum Component {
     NoObject,
     /// It is that of an attached object.
     Attached,
+    /// It is that of a detached object.
+    Detached,
     /// It is that of a terminated object.
     Terminated,
 }
@@ -246,6 +248,7 @@ pub fn give_back(frames: &mut [Frame], heads: &mut [u32], place: u32)
     ensures first { let block = (frame_at frames.old place).block in
         block < length heads.old → slice_get heads.new block ≡ Some place }
     ensures leads { (cells : List Slot) (m : Frames) (r : FrameRef) → Holds frames.old cells m → Leads frames.old m r → Leads frames.new (given m (frame_at frames.old place).number) r }
+    ensures detached { DetachedBefore frames.old frames.new }
 {
     let frame = &mut frames[place as usize];
     frame.live = false;
@@ -269,8 +272,21 @@ pub struct Entry {
     pub parent: Option<FrameRef>,
     /// Whether it is a sub-block or procedure whose text has no class declaration and no prefixed block.
     pub passing: bool,
-    /// How it stands as a component.
-    pub component: Component,
+    /// Whether it is that of an object, which is attached at first.
+    pub object: bool,
+}
+
+// How a frame stands at its entry.
+#[inline(always)]
+fn first_component(object: bool) -> Component
+    ensures standing { StandsAs result (Some (stands_first object)) }
+    ensures other { result ≡ Component.Detached → ⊥ }
+{
+    if object {
+        Component::Attached
+    } else {
+        Component::NoObject
+    }
 }
 
 /// A frame enters a region that is free. Its cells have what lies there: `set_free` puts it there before.
@@ -283,7 +299,8 @@ pub fn enter(frames: &mut [Frame], place: usize, entry: Entry)
     ensures leads { (m : Frames) (x : Instance Cells) (standing : Standing Activation) (r : FrameRef) → Leads frames.old m r → Leads frames.new (entered m x standing) r }
     ensures holds { (cells : List Slot) (m : Frames) → Holds frames.old cells m → entry.number ≡ length m.instances → ((r : FrameRef) → entry.parent ≡ Some r → Leads frames.old m r) →
         let region = frame_at frames.old place in
-        Holds frames.new cells (entered m (record { text = entry.block; level = entry.level; encloser = number_in entry.parent; cells = cells_at cells region.base region.cells; passing = entry.passing; kept = false; given_back = false }) (stands_as entry.component)) }
+        Holds frames.new cells (entered m (record { text = entry.block; level = entry.level; encloser = number_in entry.parent; cells = cells_at cells region.base region.cells; passing = entry.passing; kept = false; given_back = false }) (stands_first entry.object)) }
+    ensures detached { DetachedBefore frames.old frames.new }
 {
     let frame = &mut frames[place];
     frame.live = true;
@@ -293,7 +310,7 @@ pub fn enter(frames: &mut [Frame], place: usize, entry: Entry)
     frame.parent = entry.parent;
     frame.passing = entry.passing;
     frame.kept = false;
-    frame.component = entry.component;
+    frame.component = first_component(entry.object);
 }
 
 /// Puts a value into a cell, where its frame was not given back and has such a cell.
@@ -353,6 +370,7 @@ pub fn keep(frames: &mut [Frame], place: usize)
     ensures leads { (cells : List Slot) (m : Frames) (r : FrameRef) → Holds frames.old cells m → Leads frames.old m r →
         let frame = frame_at frames.old place in
         Leads frames.new (with_instance m frame.number (record (instance_of cells frame) { kept = true })) r }
+    ensures detached { DetachedBefore frames.old frames.new }
 {
     frames[place].kept = true;
 }
@@ -368,8 +386,18 @@ pub fn is_attached(frames: &[Frame], place: usize) -> bool
     match frames[place].component {
         Component::Attached => true,
         Component::NoObject => false,
+        Component::Detached => false,
         Component::Terminated => false,
     }
+}
+
+/// How the frame in a region stands as a component.
+#[inline(always)]
+pub fn component_at(frames: &[Frame], place: usize) -> Component
+    requires there { place < length frames.now }
+    ensures { result ≡ (frame_at frames.now place).component }
+{
+    frames[place].component
 }
 
 /// The object whose frame is in a region is terminated.
@@ -381,6 +409,37 @@ pub fn terminate(frames: &mut [Frame], place: usize)
     ensures holds { (cells : List Slot) (m : Frames) → Holds frames.old cells m →
         Holds frames.new cells (record m { standings = slice_set m.standings (frame_at frames.old place).number TerminatedObject }) }
     ensures leads { (m : Frames) (standings : List (Standing Activation)) (r : FrameRef) → Leads frames.old m r → Leads frames.new (record m { standings = standings }) r }
+    ensures detached { DetachedBefore frames.old frames.new }
+    ensures other { (number : ℕ) → IsDetached frames.new place number → ⊥ }
 {
     frames[place].component = Component::Terminated;
+}
+
+/// The object whose frame is in a region is attached.
+#[inline(always)]
+pub fn attach(frames: &mut [Frame], place: usize)
+    requires there { place < length frames.old }
+    requires live { (frame_at frames.old place).live ≡ true }
+    ensures stacks { rooms frames.new ≡ rooms frames.old }
+    ensures holds { (cells : List Slot) (m : Frames) → Holds frames.old cells m →
+        Holds frames.new cells (record m { standings = slice_set m.standings (frame_at frames.old place).number AttachedObject }) }
+    ensures leads { (m : Frames) (standings : List (Standing Activation)) (r : FrameRef) → Leads frames.old m r → Leads frames.new (record m { standings = standings }) r }
+    ensures detached { DetachedBefore frames.old frames.new }
+    ensures other { (number : ℕ) → IsDetached frames.new place number → ⊥ }
+{
+    frames[place].component = Component::Attached;
+}
+
+/// The object whose frame is in a region is detached. What chain it keeps is for the caller to say.
+#[inline(always)]
+pub fn detach(frames: &mut [Frame], place: usize)
+    requires there { place < length frames.old }
+    requires live { (frame_at frames.old place).live ≡ true }
+    ensures stacks { rooms frames.new ≡ rooms frames.old }
+    ensures holds { (cells : List Slot) (m : Frames) (chain : List Activation) → Holds frames.old cells m →
+        Holds frames.new cells (record m { standings = slice_set m.standings (frame_at frames.old place).number (DetachedObject chain) }) }
+    ensures leads { (m : Frames) (standings : List (Standing Activation)) (r : FrameRef) → Leads frames.old m r → Leads frames.new (record m { standings = standings }) r }
+    ensures detached { (at number : ℕ) → (at ≡ place → ⊥) → IsDetached frames.new at number → IsDetached frames.old at number }
+{
+    frames[place].component = Component::Detached;
 }

@@ -24,6 +24,7 @@ use Rattle.object_machine.specs.declared.machine.Activation as working
 use Rattle.object_machine.specs.declared.machine.Flow.TheVariants as flow
 use Rattle.object_machine.specs.Arrayed.{value_there}
 use Rattle.object_machine.specs.Standing.{Leaves, Outside, Stands}
+use Rattle.object_machine.proofs.Parks.{parks_later}
 
 -- ---- stacks
 
@@ -103,6 +104,8 @@ stands_arrays l p r stack below before now o m arrays list s holds keeps element
     arrays = holds;
     cells = all_kept p.arrays arrays o.arrays list p.cells.items keeps s.stores.cells;
     elements = elements;
+    parks = parks_later p.frames.items p.parks.items m m p.arrays.regions arrays.regions o.arrays list refl
+        (λ r stack w. record { home = w.home; slots = w.slots; arrays_lead = all_kept p.arrays arrays o.arrays list stack keeps w.arrays_lead }) s.stores.parks;
   };
   top = record { home = s.top.home; slots = s.top.slots; arrays_lead = all_kept p.arrays arrays o.arrays list stack keeps s.top.arrays_lead };
   others = λ k t e. record {
@@ -186,6 +189,7 @@ stands_paid l p r stack below before now o m words wanted s h = record {
     arrays = s.stores.arrays;
     cells = s.stores.cells;
     elements = s.stores.elements;
+    parks = s.stores.parks;
   };
   top = s.top;
   others = s.others;

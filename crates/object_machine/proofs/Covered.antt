@@ -7,7 +7,7 @@ use Rattle.sim_code.specs.Code.{BlockOf}
 use Rattle.sim_code.specs.Machine.{Cells, Frames, Machine, first_cells, in_new, waiting}
 use Rattle.sim_code.specs.Outcome.{Run, World}
 use Rattle.frame_arena.specs.declared.slot.Slot.{Slot}
-use Rattle.frame_arena.specs.Frames.{number_in, stands_as}
+use Rattle.frame_arena.specs.Frames.{number_in, stands_first}
 use Rattle.frame_arena.specs.Stacks.{values_of}
 use Rattle.object_machine.specs.declared.openings.Beginning.{Beginning}
 use Rattle.object_machine.specs.declared.machine.Storage.{Storage}
@@ -46,7 +46,7 @@ opens_first l p p2 k b g parent t before now o m h = record { stores = h.stores;
 
 module _ (l : Limits) (line : ℕ) (p p2 : Storage) (k : ℕ) (b : BlockOf) (g : Beginning) (parent : Option FrameRef) (cells : Cells) (next : working.Activation) (r : Registers) (stack : List Slot) (below : List working.Activation) (top : working.Activation) (below2 : List working.Activation) (before : Option (List ℕ)) (now : Outside) (o o2 : World) (m : Frames) where
   abbrev pub Entered : Run Machine
-  Entered = in_new o2 m k b g.start g.stage (stands_as g.component) (number_in parent) cells (waiting (activation_at r stack) (values_of r.depth stack) ∷ below_of below)
+  Entered = in_new o2 m k b g.start g.stage (stands_first g.object) (number_in parent) cells (waiting (activation_at r stack) (values_of r.depth stack) ∷ below_of below)
 
   module _ (h : OpensWith l p p2 k b g parent cells next before now o o2 m) (w : AtWork p2 o2 (opened_with m k b g parent cells) r stack) (s : AllAtWork p o m below) where
     still : (t : working.Activation) → t.registers ≡ record r { pc = r.pc + 1 } → t.stack.items ≡ stack → AtWork p2 o2 (opened_with m k b g parent cells) t.registers t.stack.items

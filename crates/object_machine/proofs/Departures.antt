@@ -5,6 +5,7 @@ use Rattle.std.proofs.Math.Nat.{sub-add-eq}
 use Rattle.std.specs.Prelude.{Bool, true, false, if◌then◌else◌, Option, IfSome, Some, None, slice_get}
 use Rattle.sim_base.specs.declared.limits.Limits.{Limits}
 use Rattle.sim_values.specs.declared.value.FrameRef.{FrameRef}
+use Rattle.sim_chains.specs.Components.{DetachedObject}
 use Rattle.sim_code.specs.Code.{BlockOf, CodeOf}
 use Rattle.sim_code.specs.declared.code.BlockKind.{BlockKind}
 use Rattle.sim_code.specs.Arrays.{given_with, giving_back, words_with}
@@ -15,16 +16,17 @@ use Rattle.sim_code.specs.Outcome.{ArrayOf, Run, World}
 use Rattle.frame_arena.specs.declared.frames.Frame.{Frame}
 use Rattle.frame_arena.specs.declared.slot.Slot.{Slot}
 use Rattle.frame_arena.specs.Arrays.{AllLeadArrays, ElementsLead, HoldsArrays, KeepLeading, RegionOf}
-use Rattle.frame_arena.specs.Frames.{AllLead, Has, Holds, Leads, frame_at, instance_of}
+use Rattle.frame_arena.specs.Frames.{AllLead, DetachedBefore, Has, Holds, Leads, frame_at, instance_of}
 use Rattle.frame_arena.specs.Stacks.{slot_at, values_of}
 use Rattle.object_machine.specs.declared.machine.Storage.{Storage}
 use Rattle.object_machine.specs.declared.machine.Registers.{Registers}
 use Rattle.object_machine.specs.declared.machine.Activation as working
 use Rattle.object_machine.specs.declared.machine.Flow.TheVariants as flow
 use Rattle.object_machine.specs.FrameEnds.{Ends, ValueLeads}
-use Rattle.object_machine.specs.Standing.{AllAtWork, AllFit, AtWork, Leaves, Outside, Stands, Stores, activation_at, activation_of, below_of, ports_of}
+use Rattle.object_machine.specs.Standing.{AllAtWork, AllFit, AtWork, Leaves, Outside, Stands, Stores, activation_at, activation_of, below_of, parked, ports_of}
 use Rattle.object_machine.proofs.Filling.{none_taken}
 use Rattle.object_machine.proofs.Going.{Stays, act, moved}
+use Rattle.object_machine.proofs.Parks.{get_front, parks_kept}
 use Rattle.object_machine.proofs.Places.{lead_later, led_array_at, led_at}
 
 -- ---- the block of the frame on top
@@ -89,11 +91,6 @@ popped_none xs ys n e z r = e ∙ ap (λ w. w ++ []) (r ∙ ap (λ k. take (k - 
 pub below_more : (rest : List working.Activation) (t : working.Activation) → below_of (rest ++ t ∷ []) ≡ activation_of t ∷ below_of rest
 below_more rest t = ap (λ l. map activation_of l) (reverse-append rest (t ∷ []))
 
-pub get_front : {X : Type 0} (xs ys : List X) (k : ℕ) (x : X) → slice_get xs k ≡ Some x → slice_get (xs ++ ys) k ≡ Some x
-get_front [] ys k x e = absurd (cc)
-get_front (z ∷ zs) ys zero x e = e
-get_front (z ∷ zs) ys (suc k) x e = get_front zs ys k x e
-
 pub get_last : {X : Type 0} (xs : List X) (x : X) → slice_get (xs ++ x ∷ []) (length xs) ≡ Some x
 get_last [] x = refl
 get_last (z ∷ zs) x = get_last zs x
@@ -113,6 +110,10 @@ given_count_in : (m : Frames) (j : ℕ) (x : Option (Instance Cells)) → length
 given_count_in m j None = refl
 given_count_in m j (Some x) = length-set m.instances j (record x { given_back = true })
 
+given_standings_in : (m : Frames) (j : ℕ) (x : Option (Instance Cells)) → (given_in m j x).standings ≡ m.standings
+given_standings_in m j None = refl
+given_standings_in m j (Some x) = refl
+
 module _ (l : Limits) (p p2 : Storage) (b : BlockOf) (j : ℕ) (before : Option (List ℕ)) (now : Outside) (o : World) (m : Frames) where
   pub ends_kept : is_given_at_end m j ≡ false → Stores l p before now o m → Ends l p p b j before now o m
   ends_kept e s = record {
@@ -131,10 +132,10 @@ module _ (l : Limits) (p p2 : Storage) (b : BlockOf) (j : ℕ) (before : Option 
 
     given_stores : (words : ℕ) → words ≡ words_of_block b → p2.words ≡ p.words - words - words_with j o.arrays →
         p2.texts ≡ p.texts → p2.image ≡ p.image → p2.ticks ≡ p.ticks → p2.entered ≡ p.entered → p2.cells ≡ p.cells →
-        Holds p2.frames.items p.cells.items (given m j) → HoldsArrays p2.arrays (given_with j o.arrays) → ElementsLead p.frames.items m p2.arrays.regions →
+        Holds p2.frames.items p.cells.items (given m j) → HoldsArrays p2.arrays (given_with j o.arrays) → ElementsLead p.frames.items m p2.arrays.regions → DetachedBefore p.frames.items p2.frames.items → length p.frames.items ≡ length p2.frames.items → p2.parks ≡ p.parks →
         Stores l p before now o m → Stores l p2 before now (giving_back o j (words_of_block b)) (given m j)
     unfolding giving_back
-    given_stores words w used texts image ticks count same holds owned elements s = record {
+    given_stores words w used texts image ticks count same holds owned elements detached long parks s = record {
       world = record {
         ticks = s.world.ticks ∙ sym ticks;
         words = ap (λ n. n - (words_of_block b + words_with j o.arrays)) s.world.words ∙ ap (λ n. p.words - (n + words_with j o.arrays)) (sym w) ∙ sub-add-eq p.words words (words_with j o.arrays) ∙ sym used;
@@ -148,14 +149,17 @@ module _ (l : Limits) (p p2 : Storage) (b : BlockOf) (j : ℕ) (before : Option 
       arrays = owned;
       cells = subst (λ x. AllLeadArrays p2.arrays.regions (given_with j o.arrays) x.items) (sym same) (λ at names. arrays _ (s.cells at names));
       elements = λ place at names. leads _ (elements place at names);
+      parks = parks_kept p.frames.items p2.frames.items p.parks.items p2.parks.items m (given m j) p.arrays.regions p2.arrays.regions o.arrays (given_with j o.arrays)
+          (ap (λ v. length v.items) parks ∙ s.parks.each ∙ long) (λ at. ap (λ v. parked v.items at) parks) detached
+          (λ place n chain d e. subst (λ w. slice_get w n ≡ Some (DetachedObject chain)) (sym (given_standings_in m j (slice_get m.instances j))) e) given_works s.parks;
     }
 
     pub ends_given : (words : ℕ) → is_given_at_end m j ≡ true → words ≡ words_of_block b → p2.words ≡ p.words - words - words_with j o.arrays →
         p2.texts ≡ p.texts → p2.image ≡ p.image → p2.ticks ≡ p.ticks → p2.entered ≡ p.entered → p2.cells ≡ p.cells →
-        Holds p2.frames.items p.cells.items (given m j) → HoldsArrays p2.arrays (given_with j o.arrays) → ElementsLead p.frames.items m p2.arrays.regions →
+        Holds p2.frames.items p.cells.items (given m j) → HoldsArrays p2.arrays (given_with j o.arrays) → ElementsLead p.frames.items m p2.arrays.regions → DetachedBefore p.frames.items p2.frames.items → length p.frames.items ≡ length p2.frames.items → p2.parks ≡ p.parks →
         Stores l p before now o m → Ends l p p2 b j before now o m
-    ends_given words e w used texts image ticks count same holds owned elements s = record {
-      stores = subst (λ c. Stores l p2 before now (if c then giving_back o j (words_of_block b) else o) (if c then given m j else m)) (sym e) (given_stores words w used texts image ticks count same holds owned elements s);
+    ends_given words e w used texts image ticks count same holds owned elements detached long parks s = record {
+      stores = subst (λ c. Stores l p2 before now (if c then giving_back o j (words_of_block b) else o) (if c then given m j else m)) (sym e) (given_stores words w used texts image ticks count same holds owned elements detached long parks s);
       others = λ r stack h. subst (λ c. AtWork p2 (if c then giving_back o j (words_of_block b) else o) (if c then given m j else m) r stack) (sym e) (given_works r stack h);
     }
 

@@ -135,6 +135,7 @@ stands_image l p r stack below before now o m i n t s e = record {
     arrays = s.stores.arrays;
     cells = s.stores.cells;
     elements = s.stores.elements;
+    parks = s.stores.parks;
   };
   top = s.top;
   others = s.others;

@@ -1,6 +1,9 @@
 pub mod Going
 pub mod Jumps
 pub mod Scalars
+pub mod Parks
+pub mod Transferring
+pub mod Moving
 pub mod Places
 pub mod BlockFacts
 pub mod Payment

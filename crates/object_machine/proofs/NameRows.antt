@@ -311,6 +311,7 @@ module _ (l : Limits) (line : ℕ) (p p2 : Storage) (below : List working.Activa
       arrays = s.stores.arrays;
       cells = s.stores.cells;
       elements = s.stores.elements;
+      parks = s.stores.parks;
     };
     top = record { home = s.top.home; slots = slots; arrays_lead = arrays };
     others = s.others;

@@ -15,13 +15,14 @@ use Rattle.sim_code.specs.Outcome.{Going, Normal, Run, World}
 use Rattle.frame_arena.specs.declared.frames.Frame.{Frame}
 use Rattle.frame_arena.specs.declared.slot.Slot.{Slot}
 use Rattle.frame_arena.specs.Arrays.{AllLeadArrays, ElementsLead, HoldsArrays}
-use Rattle.frame_arena.specs.Frames.{Has, Holds, Leads, frame_at}
+use Rattle.frame_arena.specs.Frames.{DetachedBefore, Has, Holds, Leads, frame_at}
 use Rattle.object_machine.specs.declared.machine.Storage.{Storage}
 use Rattle.object_machine.specs.declared.machine.Registers.{Registers}
 use Rattle.object_machine.specs.declared.machine.Activation as working
 use Rattle.object_machine.specs.declared.machine.Flow.TheVariants as flow
-use Rattle.object_machine.specs.Standing.{AtWork, Leaves, Outside, Stands, Works, activation_at, activation_of, below_of, ports_of}
-use Rattle.object_machine.proofs.Departures.{below_more, get_front, get_last}
+use Rattle.object_machine.specs.Standing.{AtWork, Leaves, Outside, Parks, Stands, Works, activation_at, activation_of, below_of, parked, ports_of}
+use Rattle.object_machine.proofs.Departures.{below_more, get_last}
+use Rattle.object_machine.proofs.Parks.{detached_attached, get_front, parks_kept, standings_other}
 use Rattle.object_machine.proofs.Places.{lead_later}
 
 -- ---- the end of an object
@@ -52,10 +53,10 @@ module _ (o : World) (m : Frames) (j : ℕ) where
 module _ (l : Limits) (line : ℕ) (p : Storage) (r : Registers) (stack : List Slot) (below rest : List working.Activation) (before : Option (List ℕ)) (now : Outside) (o : World) (m : Frames) (s : Stands l p r stack below before now o m) where
   pub object_left : (p2 : Storage) (next : working.Activation) (fs : List Frame) (j : ℕ) → below ≡ rest ++ next ∷ [] → slice_get m.standings j ≡ Some AttachedObject → p2.frames.items ≡ fs →
       Holds fs p.cells.items (record m { standings = set m.standings j TerminatedObject }) → ((x : FrameRef) → Leads p.frames.items m x → Leads fs (record m { standings = set m.standings j TerminatedObject }) x) →
-      p2.cells ≡ p.cells → p2.entered ≡ p.entered → p2.arrays ≡ p.arrays → p2.texts ≡ p.texts → p2.image ≡ p.image → p2.ticks ≡ p.ticks → p2.words ≡ p.words →
+      p2.cells ≡ p.cells → p2.entered ≡ p.entered → p2.arrays ≡ p.arrays → p2.texts ≡ p.texts → p2.image ≡ p.image → p2.ticks ≡ p.ticks → p2.words ≡ p.words → p2.parks ≡ p.parks → DetachedBefore p.frames.items fs → length p.frames.items ≡ length fs →
       Leaves flow.On l line p2 next.registers next.stack.items rest before now (object_ended o m j (below_of below))
   unfolding Leaves
-  object_left p2 next fs j e attached ef holds leads ec en ea et ei ek ew =
+  object_left p2 next fs j e attached ef holds leads ec en ea et ei ek ew ep detached long =
       let m2 : Frames = record m { standings = set m.standings j TerminatedObject } in
       let w = s.stores.world in
       let works : (r : Registers) (stack : List Slot) → AtWork p o m r stack → AtWork p2 o m2 r stack = λ r stack v.
@@ -72,6 +73,10 @@ module _ (l : Limits) (line : ℕ) (p : Storage) (r : Registers) (stack : List S
             arrays = subst (λ a. HoldsArrays a o.arrays) (sym ea) s.stores.arrays;
             cells = subst (λ x. AllLeadArrays p2.arrays.regions o.arrays x.items) (sym ec) (subst (λ a. AllLeadArrays a.regions o.arrays p.cells.items) (sym ea) s.stores.cells);
             elements = subst (λ f. ElementsLead f m2 p2.arrays.regions) (sym ef) (subst (λ a. ElementsLead fs m2 a.regions) (sym ea) (λ place at names. leads _ (s.stores.elements place at names)));
+            parks = subst (λ f. Parks f p2.parks.items m2 p2.arrays.regions o.arrays) (sym ef) (parks_kept p.frames.items fs p.parks.items p2.parks.items m m2 p.arrays.regions p2.arrays.regions o.arrays o.arrays
+                (ap (λ v. length v.items) ep ∙ s.stores.parks.each ∙ long) (λ at. ap (λ v. parked v.items at) ep) detached
+                (λ place n chain d there. standings_other m.standings n j TerminatedObject (λ same. detached_attached chain (sym there ∙ ap (λ n. slice_get m.standings n) same ∙ attached)) ∙ there)
+                (λ r stack v. subst (λ f. Works f m2 p2.arrays.regions o.arrays r stack) ef (works r stack v)) s.stores.parks);
           };
           top = works next.registers next.stack.items (s.others (length rest) next (subst (λ w. slice_get w (length rest) ≡ Some next) (sym e) (get_last rest next)));
           others = λ k u there. works u.registers u.stack.items (s.others k u (subst (λ w. slice_get w k ≡ Some u) (sym e) (get_front rest (next ∷ []) k u there)));

@@ -325,6 +325,7 @@ stands_texts l p r stack below before now o m new s = record {
     arrays = s.stores.arrays;
     cells = s.stores.cells;
     elements = s.stores.elements;
+    parks = s.stores.parks;
   };
   top = s.top;
   others = s.others;

@@ -50,5 +50,6 @@ module _ (l : Limits) (line wanted : â„•) (p : Storage) (before : Option (List â
           arrays = s.arrays;
           cells = s.cells;
           elements = s.elements;
+          parks = s.parks;
         },
       )

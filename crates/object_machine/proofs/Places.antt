@@ -4,6 +4,7 @@ use Rattle.std.proofs.lemmas.Option.{slice_get_within}
 use Rattle.std.specs.Prelude.{ℤ, true, false, Option, Some, None}
 use Rattle.sim_values.specs.declared.value.FrameRef.{FrameRef}
 use Rattle.sim_base.specs.declared.limits.Limits.{Limits}
+use Rattle.sim_chains.specs.Components.{Standing}
 use Rattle.sim_code.specs.Instances.{Instance, at_level, cells_of, cells_put, live}
 use Rattle.sim_code.specs.Events.{having, no_rule}
 use Rattle.sim_code.specs.Machine.{Activation, Cells, Frames, Machine, Value, cell_at, cell_set, index, level, number, on, put_in}
@@ -18,8 +19,9 @@ use Rattle.object_machine.specs.declared.machine.Registers.{Registers}
 use Rattle.object_machine.specs.declared.machine.Activation as working
 use Rattle.object_machine.specs.declared.machine.Flow.TheVariants as flow
 use Rattle.object_machine.specs.Placing.{IsPlaced, placed_in}
-use Rattle.object_machine.specs.Standing.{Leaves, Outside, SameBut, Stands, Works, activation_at, below_of, ports_of}
+use Rattle.object_machine.specs.Standing.{Leaves, Outside, Parks, SameBut, Stands, Works, activation_at, below_of, ports_of}
 use Rattle.object_machine.proofs.Going.{Stays, moved_behind}
+use Rattle.object_machine.proofs.Parks.{parks_later}
 use Rattle.object_machine.proofs.Scalars.{off}
 
 -- a frame that is there is led to
@@ -80,6 +82,18 @@ put_count m j None cells m2 e = absurd (cc)
 pub set_count : (m : Frames) (j c : ℕ) (v : Value) (m2 : Frames) → cell_set m j c v ≡ Some m2 → length m2.instances ≡ length m.instances
 set_count m j c v m2 e = put_count m j (live m j) (put_in (cells_of m j) c v) m2 e
 
+put_standings : (m : Frames) (j : ℕ) (x : Option (Instance Cells)) (cells : Option Cells) (m2 : Frames) → cells_put m j x cells ≡ Some m2 → m2.standings ≡ m.standings
+put_standings m j (Some x) (Some cells) m2 e = sym (ap standings e)
+  where
+    standings : Option Frames → List (Standing Activation)
+    standings None = m.standings
+    standings (Some w) = w.standings
+put_standings m j (Some x) None m2 e = absurd (cc)
+put_standings m j None cells m2 e = absurd (cc)
+
+set_standings : (m : Frames) (j c : ℕ) (v : Value) (m2 : Frames) → cell_set m j c v ≡ Some m2 → m2.standings ≡ m.standings
+set_standings m j c v m2 e = put_standings m j (live m j) (put_in (cells_of m j) c v) m2 e
+
 works_written : (fs : List Frame) (m m2 : Frames) (regions : List RegionOf) (arrays : List ArrayOf) → ((f : FrameRef) → Leads fs m f → Leads fs m2 f) → (q q2 : Registers) (slots : List Slot) → q2.home ≡ q.home →
     Works fs m regions arrays q slots → Works fs m2 regions arrays q2 slots
 works_written fs m m2 regions arrays later q q2 slots e x = record {
@@ -90,9 +104,9 @@ works_written fs m m2 regions arrays later q q2 slots e x = record {
 
 module _ (l : Limits) (line : ℕ) (p p2 : Storage) (same : SameBut p p2) (below : List working.Activation) (before : Option (List ℕ)) (now : Outside) (r r2 : Registers) (stack : List Slot) (o : World) (m : Frames) where
   stands_written : (m2 : Frames) → Stands l p r stack below before now o m → r2.home ≡ r.home →
-      Holds p.frames.items p2.cells.items m2 → AllLeadArrays p.arrays.regions o.arrays p2.cells.items → length m2.instances ≡ length m.instances → ((f : FrameRef) → Leads p.frames.items m f → Leads p.frames.items m2 f) →
+      Holds p.frames.items p2.cells.items m2 → AllLeadArrays p.arrays.regions o.arrays p2.cells.items → length m2.instances ≡ length m.instances → m2.standings ≡ m.standings → ((f : FrameRef) → Leads p.frames.items m f → Leads p.frames.items m2 f) →
       Stands l p2 r2 stack below before now o m2
-  stands_written m2 s e h arrays count later = record {
+  stands_written m2 s e h arrays count standings later = record {
     stores = record {
       world = record {
         ticks = s.stores.world.ticks ∙ sym same.ticks;
@@ -107,6 +121,8 @@ module _ (l : Limits) (line : ℕ) (p p2 : Storage) (same : SameBut p p2) (below
       arrays = subst (λ a. HoldsArrays a o.arrays) (sym same.arrays) s.stores.arrays;
       cells = subst (λ a. AllLeadArrays a.regions o.arrays p2.cells.items) (sym same.arrays) arrays;
       elements = subst (λ v. ElementsLead v.items m2 p2.arrays.regions) (sym same.frames) (subst (λ a. ElementsLead p.frames.items m2 a.regions) (sym same.arrays) (λ place at names. later _ (s.stores.elements place at names)));
+      parks = subst (λ v. Parks v.items p2.parks.items m2 p2.arrays.regions o.arrays) (sym same.frames) (subst (λ v. Parks p.frames.items v.items m2 p2.arrays.regions o.arrays) (sym same.parks) (subst (λ a. Parks p.frames.items p.parks.items m2 a.regions o.arrays) (sym same.arrays)
+          (parks_later p.frames.items p.parks.items m m2 p.arrays.regions p.arrays.regions o.arrays o.arrays standings (λ q slots x. works_written p.frames.items m m2 p.arrays.regions o.arrays later q q slots refl x) s.stores.parks)));
     };
     top = subst (λ v. Works v.items m2 p2.arrays.regions o.arrays r2 stack) (sym same.frames) (subst (λ a. Works p.frames.items m2 a.regions o.arrays r2 stack) (sym same.arrays) (works_written p.frames.items m m2 p.arrays.regions o.arrays later r r2 stack e s.top));
     others = λ k t there. subst (λ v. Works v.items m2 p2.arrays.regions o.arrays t.registers t.stack.items) (sym same.frames) (subst (λ a. Works p.frames.items m2 a.regions o.arrays t.registers t.stack.items) (sym same.arrays)
@@ -119,7 +135,7 @@ module _ (l : Limits) (line : ℕ) (p p2 : Storage) (same : SameBut p p2) (below
   unfolding having Leaves
   write_on j c depth v None e h leads arrays s e1 e2 e3 = absurd (off (sym h))
   write_on j c depth v (Some m2) e h leads arrays s e1 e2 e3 =
-      let t = stands_written m2 s e1.0 h.1 arrays (set_count m j c v m2 e) leads in
+      let t = stands_written m2 s e1.0 h.1 arrays (set_count m j c v m2 e) (set_standings m j c v m2 e) leads in
       (moved_behind r r2 stack depth below e1 e2 e3, t)
 
   -- a value is in the cell where an address leads
@@ -132,7 +148,7 @@ module _ (l : Limits) (line : ℕ) (p p2 : Storage) (same : SameBut p p2) (below
     world = o;
     memory = m2;
     is = λ go. is go ∙ ap (λ w. having w o (λ n. go o n)) e;
-    stands = stands_written m2 s e1 h.1 arrays (set_count m j c v m2 e) leads;
+    stands = stands_written m2 s e1 h.1 arrays (set_count m j c v m2 e) (set_standings m j c v m2 e) leads;
   }
 
   pub cell_not_placed : (cells : List Slot) (q : Option Frames) → HoldsAfter false p.frames.items cells q → (go : Frames → Run Machine) → having q o go ≡ no_rule o

@@ -1,5 +1,5 @@
 -- A new frame that gets its actual parameters.
-use Rattle.std.proofs.Common.{◌≡◌, ℕ, ◌≤◌, List, [], ◌∷◌, length, length-append, sym, subst, ap, ◌∙◌}
+use Rattle.std.proofs.Common.{◌≡◌, ℕ, ◌≤◌, List, [], ◌∷◌, length, length-append, sym, subst, refl, ap, ◌∙◌}
 use Rattle.std.specs.Prelude.{Option, Some, None, slice_get}
 use Rattle.sim_base.specs.declared.limits.Limits.{Limits}
 use Rattle.sim_values.specs.declared.value.FrameRef.{FrameRef}
@@ -17,11 +17,12 @@ use Rattle.object_machine.specs.declared.machine.Registers.{Registers}
 use Rattle.object_machine.specs.declared.machine.Activation as working
 use Rattle.object_machine.specs.Calling.{Filled, OpensWith, Supplied, cells_set_from, opened_with}
 use Rattle.object_machine.specs.Entering.{Opens, opened}
-use Rattle.object_machine.specs.Standing.{AtWork, InWorld, Outside, SameBut, Works, ports_of}
+use Rattle.object_machine.specs.Standing.{AtWork, InWorld, Outside, Parks, SameBut, Works, ports_of}
 use Rattle.sim_code.specs.Levels.{filled_by}
 use Rattle.object_machine.specs.Parameters.{cells_set_by}
 use Rattle.object_machine.proofs.ParameterCells.{filled_by_last}
 use Rattle.object_machine.proofs.Called.{cellular, filled_last}
+use Rattle.object_machine.proofs.Parks.{parks_later}
 use Rattle.object_machine.proofs.Places.{lead_later}
 
 works_on : (fs : List Frame) (m m2 : Frames) (regions : List RegionOf) (arrays : List ArrayOf) → ((f : FrameRef) → Leads fs m f → Leads fs m2 f) → (r : Registers) (slots : List Slot) → Works fs m regions arrays r slots → Works fs m2 regions arrays r slots
@@ -44,6 +45,8 @@ module _ (l : Limits) (p p1 p2 : Storage) (same : SameBut p1 p2) (k : ℕ) (b : 
           arrays = subst (λ a. HoldsArrays a o.arrays) (sym same.arrays) s.arrays;
           cells = subst (λ a. AllLeadArrays a.regions o.arrays p2.cells.items) (sym same.arrays) arrays;
           elements = subst (λ v. ElementsLead v.items m2 p2.arrays.regions) (sym same.frames) (subst (λ a. ElementsLead p1.frames.items m2 a.regions) (sym same.arrays) (λ place at names. leads _ (s.elements place at names)));
+          parks = subst (λ v. Parks v.items p2.parks.items m2 p2.arrays.regions o.arrays) (sym same.frames) (subst (λ v. Parks p1.frames.items v.items m2 p2.arrays.regions o.arrays) (sym same.parks) (subst (λ a. Parks p1.frames.items p1.parks.items m2 a.regions o.arrays) (sym same.arrays)
+              (parks_later p1.frames.items p1.parks.items (opened m k b g parent) m2 p1.arrays.regions p1.arrays.regions o.arrays o.arrays refl (λ r stack w. works_on p1.frames.items (opened m k b g parent) m2 p1.arrays.regions o.arrays leads r stack w) s.parks)));
         };
         top = h.top;
         works = still t.registers t.stack.items h.works;
@@ -87,10 +90,10 @@ handed_in p before now owner [] o i = i
 handed_in p before now owner (n ∷ rest) o i = handed_in p before now owner rest (owned_by owner (slice_get o.arrays n) o n) (owned_in p before now owner n (slice_get o.arrays n) o i)
 
 module _ (l : Limits) (p p2 p3 : Storage) (k : ℕ) (b : BlockOf) (g : Beginning) (parent : Option FrameRef) (cells : Cells) (t : working.Activation) (before : Option (List ℕ)) (now : Outside) (o : World) (m : Frames) (h : OpensWith l p p2 k b g parent cells t before now o o m) where
-  pub handed : (owner : ℕ) (ns : List ℕ) → p3.frames ≡ p2.frames → p3.cells ≡ p2.cells → p3.entered ≡ p2.entered → p3.texts ≡ p2.texts → p3.image ≡ p2.image → p3.ticks ≡ p2.ticks → p3.words ≡ p2.words →
+  pub handed : (owner : ℕ) (ns : List ℕ) → p3.frames ≡ p2.frames → p3.parks ≡ p2.parks → p3.cells ≡ p2.cells → p3.entered ≡ p2.entered → p3.texts ≡ p2.texts → p3.image ≡ p2.image → p3.ticks ≡ p2.ticks → p3.words ≡ p2.words →
       HoldsArrays p3.arrays (handed_over owner ns o).arrays → KeepLeading p2.arrays o.arrays p3.arrays (handed_over owner ns o).arrays → ElementsLead p2.frames.items (opened_with m k b g parent cells) p3.arrays.regions →
       OpensWith l p p3 k b g parent cells t before now o (handed_over owner ns o) m
-  handed owner ns ef ec en et ei ek ew holds keeps elements =
+  handed owner ns ef ep ec en et ei ek ew holds keeps elements =
       let o2 = handed_over owner ns o in
       let m2 = opened_with m k b g parent cells in
       let i = handed_in p2 before now owner ns o h.stores.world in
@@ -105,6 +108,8 @@ module _ (l : Limits) (p p2 p3 : Storage) (k : ℕ) (b : BlockOf) (g : Beginning
           arrays = holds;
           cells = subst (λ v. AllLeadArrays p3.arrays.regions o2.arrays v.items) (sym ec) (λ at names. keeps _ (h.stores.cells at names));
           elements = subst (λ v. ElementsLead v.items m2 p3.arrays.regions) (sym ef) elements;
+          parks = subst (λ v. Parks v.items p3.parks.items m2 p3.arrays.regions o2.arrays) (sym ef) (subst (λ v. Parks p2.frames.items v.items m2 p3.arrays.regions o2.arrays) (sym ep)
+              (parks_later p2.frames.items p2.parks.items m2 m2 p2.arrays.regions p3.arrays.regions o.arrays o2.arrays refl (λ r stack w. record { home = w.home; slots = w.slots; arrays_lead = λ at names. keeps _ (w.arrays_lead at names) }) h.stores.parks));
         };
         top = h.top;
         works = still t.registers t.stack.items h.works;

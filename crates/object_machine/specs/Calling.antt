@@ -9,7 +9,7 @@ use Rattle.sim_code.specs.Machine.{Cells, Frames, Machine, Value, cell_set, fram
 use Rattle.sim_code.specs.Outcome.{Run, World}
 use Rattle.frame_arena.specs.declared.frames.Frame.{Frame}
 use Rattle.frame_arena.specs.declared.slot.Slot.{Slot}
-use Rattle.frame_arena.specs.Frames.{Holds, Leads, number_in, stands_as}
+use Rattle.frame_arena.specs.Frames.{Holds, Leads, number_in, stands_first}
 use Rattle.frame_arena.specs.Slots.{value_of}
 use Rattle.frame_arena.specs.Stacks.{values_from, values_of}
 use Rattle.object_machine.specs.declared.calling.Actuals.{Actuals}
@@ -22,7 +22,7 @@ use Rattle.object_machine.specs.Standing.{AtWork, Outside, Stores, activation_of
 -- the memory with a new frame of a block, which has these cells
 abbrev pub opened_with : Frames → (block : ℕ) → BlockOf → Beginning → (parent : Option FrameRef) → Cells → Frames
 opened_with m k b g parent cells =
-    entered m (record { text = k; level = b.level; encloser = number_in parent; cells = cells; passing = passes b.kind b.class_free; kept = false; given_back = false }) (stands_as g.component)
+    entered m (record { text = k; level = b.level; encloser = number_in parent; cells = cells; passing = passes b.kind b.class_free; kept = false; given_back = false }) (stands_first g.object)
 
 -- A new frame with these cells stands in the parts, is at work, and all that was at work is so still.
 pub record OpensWith (l : Limits) (p p2 : Storage) (k : ℕ) (b : BlockOf) (g : Beginning) (parent : Option FrameRef) (cells : Cells) (t : working.Activation) (before : Option (List ℕ)) (now : Outside) (o o2 : World) (m : Frames) : Type 0 where

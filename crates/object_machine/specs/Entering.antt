@@ -8,11 +8,10 @@ use Rattle.sim_code.specs.Events.{entering, no_rule}
 use Rattle.sim_values.specs.declared.value.FrameRef.{FrameRef}
 use Rattle.sim_code.specs.Instances.{entered}
 use Rattle.sim_code.specs.declared.stage.Stage.TheVariants as stage
-use Rattle.frame_arena.specs.declared.frames.Component.TheVariants as component
 use Rattle.sim_code.specs.Machine.{Frames, Machine, block_at, first_cells, passes}
 use Rattle.sim_code.specs.Outcome.{Run, World}
 use Rattle.frame_arena.specs.declared.slot.Slot.{Slot}
-use Rattle.frame_arena.specs.Frames.{number_in, stands_as}
+use Rattle.frame_arena.specs.Frames.{number_in, stands_first}
 use Rattle.object_machine.specs.declared.machine.Storage.{Storage}
 use Rattle.object_machine.specs.declared.machine.Registers.{Registers}
 use Rattle.object_machine.specs.declared.machine.Activation as working
@@ -41,12 +40,12 @@ Pays f l line wanted p before now o m =
 
 -- how the frame of a sub-block or a procedure begins
 abbrev pub as_frame : BlockOf → Beginning
-as_frame b = record { start = b.entry; stage = stage.NoStage; component = component.NoObject }
+as_frame b = record { start = b.entry; stage = stage.NoStage; object = false }
 
 -- the memory with a new frame of a block, which has its first values
 abbrev pub opened : Frames → (block : ℕ) → BlockOf → Beginning → (parent : Option FrameRef) → Frames
 opened m k b g parent =
-    entered m (record { text = k; level = b.level; encloser = number_in parent; cells = first_cells b; passing = passes b.kind b.class_free; kept = false; given_back = false }) (stands_as g.component)
+    entered m (record { text = k; level = b.level; encloser = number_in parent; cells = first_cells b; passing = passes b.kind b.class_free; kept = false; given_back = false }) (stands_first g.object)
 
 -- A new frame stands in the parts, is at work, and all that was at work is so still.
 pub record Opens (l : Limits) (p p2 : Storage) (k : ℕ) (b : BlockOf) (g : Beginning) (parent : Option FrameRef) (t : working.Activation) (before : Option (List ℕ)) (now : Outside) (o : World) (m : Frames) : Type 0 where

@@ -18,3 +18,4 @@ pub mod Levelling
 pub mod Parameters
 pub mod Generating
 pub mod Preparing
+pub mod Transferring

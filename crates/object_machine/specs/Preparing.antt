@@ -1,5 +1,5 @@
 -- Objects that are to be generated, and prefixed blocks that are to be entered.
-use Rattle.std.specs.Prelude.{◌≡◌, ℕ, ℤ, List, ◌∷◌, length, slice_get, Option, Some, None}
+use Rattle.std.specs.Prelude.{◌≡◌, ℕ, ℤ, Bool, List, ◌∷◌, length, slice_get, Option, Some, None}
 use Rattle.sim_base.specs.declared.limits.Limits.{Limits}
 use Rattle.sim_values.specs.Plain.{Object}
 use Rattle.sim_code.specs.Arrays.{handed_over}
@@ -9,7 +9,6 @@ use Rattle.sim_code.specs.Levels.{entering_prefixed, filled_by, generating, para
 use Rattle.sim_code.specs.Machine.{Activation, Cells, Frames, Of, Value, arrays_among, first_cells, in_object, in_prefixed, pushing, waiting, words_of_block}
 use Rattle.sim_code.specs.Outcome.{World}
 use Rattle.sim_code.specs.declared.stage.Stage.TheVariants as stage
-use Rattle.frame_arena.specs.declared.frames.Component.{Component}
 use Rattle.frame_arena.specs.declared.slot.Slot.{Slot}
 use Rattle.frame_arena.specs.Stacks.{values_from, values_of}
 use Rattle.object_machine.specs.declared.generating.Ready.{Ready}
@@ -23,9 +22,9 @@ pub record Supplies (code : CodeOf) (b : BlockOf) (values : List Value) : Type 0
   pub filled : filled_by (parameter_cell code b.class) 0 values (Some (first_cells b)) ≡ Some cells
   pub is : supplied code b.class b values ≡ Some cells
 
--- how a frame with levels begins
-abbrev pub with_levels : Ready → Component → Beginning
-with_levels x c = record { start = x.start; stage = stage.Declaring 0; component = c }
+-- how a frame with levels begins, of an object or of a prefixed block
+abbrev pub with_levels : Ready → (object : Bool) → Beginning
+with_levels x object = record { start = x.start; stage = stage.Declaring 0; object = object }
 
 -- the block of the object, its cells, and what is left of the row
 pub record ReadyFor (x : Ready) (code : CodeOf) (l : Limits) (o : World) (m : Frames) (r : Registers) (stack : List Slot) (below : List Activation) (line : ℕ) (class values : ℤ) : Type 0 where

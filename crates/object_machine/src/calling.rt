@@ -6,7 +6,7 @@ ghost use Rattle.sim_code.specs.Code.{BlockOf, CodeOf};
 ghost use Rattle.sim_code.specs.Machine.{Activation as ActivationOf, Cells, Frames, Machine, Value, arrays_by_value, filled, first_cells, frame_in, frames_kept, in_new, is_held as is_held_of, is_nothing as is_nothing_of, waiting};
 ghost use Rattle.sim_code.specs.Outcome.{ArrayOf, Run, World};
 ghost use Rattle.frame_arena.specs.Arrays.{AllLeadArrays, RegionOf};
-ghost use Rattle.frame_arena.specs.Frames.{AllLead, Holds, Leads, SlotLeads, number_in, stands_as};
+ghost use Rattle.frame_arena.specs.Frames.{AllLead, Holds, Leads, SlotLeads, number_in, stands_first};
 ghost use Rattle.frame_arena.specs.Slots.{value_of};
 ghost use Rattle.frame_arena.specs.Stacks.{values_from, values_of};
 ghost use Rattle.object_machine.specs.Calling.{Filled, Fills, IsParent, Supplied, called, cells_set_from, with_actuals};
@@ -257,7 +257,7 @@ fn pass(
     ensures row { (l : LimitsOf) (line : ℕ) (before : Option (List ℕ)) (now : Outside) (p : Storage) (o : World) (m : Frames) (k : ℕ) (b : BlockOf) (g : Beginning) (parent : Option Reference) (cells : Cells) →
         b.formals ≡ formals.now → Opens l p storage.old k b g parent next before now o m → AtWork p o m top.old.registers top.old.stack.items → AllAtWork p o m below.old.items →
         filled first (values_from top.old.stack.items actuals.at actuals.count) (first_cells b) ≡ Some cells →
-        Leaves result l line storage.new top.new.registers top.new.stack.items below.new.items before now (in_new (handed_over (length m.instances) (arrays_by_value b.formals (values_from top.old.stack.items actuals.at actuals.count)) o) m k b g.start g.stage (stands_as g.component) (number_in parent) cells (waiting (activation_at top.old.registers top.old.stack.items) (values_of actuals.under top.old.stack.items) ∷ below_of below.old.items)) }
+        Leaves result l line storage.new top.new.registers top.new.stack.items below.new.items before now (in_new (handed_over (length m.instances) (arrays_by_value b.formals (values_from top.old.stack.items actuals.at actuals.count)) o) m k b g.start g.stage (stands_first g.object) (number_in parent) cells (waiting (activation_at top.old.registers top.old.stack.items) (values_of actuals.under top.old.stack.items) ∷ below_of below.old.items)) }
 {
     let home = next.registers.home;
     if !supply(storage, home, first, &top.stack, actuals) {

@@ -11,7 +11,6 @@ use crate::begin::{Begun, Stop};
 use crate::machine::{Flow, Storage};
 use crate::openings::{Beginning, open};
 use crate::paying::pay;
-use frame_arena::frames::Component;
 use sim_base::{Limits, Line};
 use sim_code::{BlockKind, BlockRecord, Lined, Stage};
 use sim_values::words_instance;
@@ -67,7 +66,7 @@ pub fn begin(
     let beginning = Beginning {
         start: block.entry as usize,
         stage,
-        component: Component::NoObject,
+        object: false,
     };
     match open(alloc, storage, 0, block, beginning, None) {
         Ok(activation) => Begun::Started(activation),

@@ -24,7 +24,7 @@ use crate::machine::{Activation, Flow, Registers, Storage};
 use crate::openings::{Beginning, open};
 use crate::parameters::{are_supplied, fill_parameters};
 use crate::paying::pay;
-use frame_arena::frames::{Component, Frame};
+use frame_arena::frames::Frame;
 use frame_arena::{Slot, stack};
 use sim_base::Limits;
 use sim_code::{BlockRecord, ClassRecord, Lined, Stage};
@@ -173,7 +173,7 @@ pub fn set_up(
     stack: &[Slot],
     block: &BlockRecord,
     ready: Ready,
-    component: Component,
+    object: bool,
 ) -> Option<Activation>
     requires within { ready.actuals.at + ready.actuals.count ≤ length stack.now }
     requires short { ready.actuals.count < 2 ^ 63 }
@@ -183,7 +183,7 @@ pub fn set_up(
     ensures row { IfSome result (λ t. (code : CodeOf) (l : LimitsOf) (before : Option (List ℕ)) (now : Outside) (o : World) (m : Frames) (cells : Cells) (r : Registers) → code.blocks ≡ blocks.now → code.classes ≡ classes.now →
         Stores l storage.old before now o m → AtWork storage.old o m r stack.now → Leads storage.old.frames.items m ready.actuals.parent →
         filled_by (parameter_cell code block.now.class) 0 (values_from stack.now ready.actuals.at ready.actuals.count) (Some (first_cells block.now)) ≡ Some cells →
-        OpensWith l storage.old storage.new ready.block block.now (with_levels ready component) (Some ready.actuals.parent) cells t before now o (handed_over (length m.instances) (arrays_among (values_from stack.now ready.actuals.at ready.actuals.count)) o) m) }
+        OpensWith l storage.old storage.new ready.block block.now (with_levels ready object) (Some ready.actuals.parent) cells t before now o (handed_over (length m.instances) (arrays_among (values_from stack.now ready.actuals.at ready.actuals.count)) o) m) }
 {
     let Ok(number) = u32::try_from(ready.block) else {
         return None;
@@ -191,7 +191,7 @@ pub fn set_up(
     let beginning = Beginning {
         start: ready.start as usize,
         stage: Stage::Declaring(0),
-        component,
+        object,
     };
     let parent = ready.actuals.parent;
     let Ok(next) = open(alloc, storage, number, block, beginning, Some(parent)) else {
@@ -256,14 +256,7 @@ pub fn generate(
         _ => return flow,
     }
     let Some(next) = set_up(
-        alloc,
-        blocks,
-        classes,
-        storage,
-        &top.stack,
-        block,
-        ready,
-        Component::Attached,
+        alloc, blocks, classes, storage, &top.stack, block, ready, true,
     ) else {
         return Flow::Memory;
     };

@@ -37,5 +37,6 @@ mod stepping;
 mod steps;
 mod stretching;
 mod texts;
+mod transfers;
 
 pub use running::run;

@@ -5,13 +5,13 @@ ghost use Rattle.sim_code.specs.Outcome.{ArrayOf, World};
 ghost use Rattle.sim_values.specs.declared.value.FrameRef.{FrameRef as Reference};
 ghost use Rattle.sim_base.specs.declared.limits.Limits.{Limits};
 ghost use Rattle.frame_arena.specs.Arrays.{AllLeadArrays, RegionOf, names_array};
-ghost use Rattle.frame_arena.specs.Frames.{Holds, Leads, cells_at, frame_at, names_frame};
+ghost use Rattle.frame_arena.specs.Frames.{DetachedBefore, Holds, Leads, cells_at, frame_at, names_frame};
 ghost use Rattle.frame_arena.specs.Slots.{cell_value, empty_slot};
 ghost use Rattle.object_machine.specs.Entering.{Opens, as_frame as as_frame_of};
-ghost use Rattle.object_machine.specs.Standing.{Outside, Stores};
+ghost use Rattle.object_machine.specs.Standing.{Outside, Stores, parked};
 
 use crate::machine::{Activation, Registers, Storage};
-use frame_arena::frames::{self, Component, Entry, Frame};
+use frame_arena::frames::{self, Entry, Frame};
 use frame_arena::regions::{add_region, take_free};
 use frame_arena::{EMPTY, NOTHING, Slot, SlotKind};
 use sim_code::{BlockKind, BlockRecord, CodeType, Stage};
@@ -50,12 +50,13 @@ fn first_slot(code_type: CodeType) -> Slot
     }
 }
 
-// A region that is free, with so many cells. A new one has no operand stack to spare.
+// A region that is free, with so many cells. A new one has no operand stack to spare, and nothing is parked there.
 #[inline(always)]
 fn reserve(
     frames: &mut Vec<Frame>,
     cells: &mut Vec<Slot>,
     spares: &mut Vec<Vec<Slot>>,
+    parks: &mut Vec<Vec<Activation>>,
     heads: &mut [u32],
     block: u32,
     count: u32,
@@ -66,12 +67,16 @@ fn reserve(
     ensures holds { IfOk result (λ place. (m : Frames) → Holds frames.old.items cells.old.items m → Holds frames.new.items cells.new.items m) }
     ensures leads { IfOk result (λ place. (m : Frames) (r : Reference) → Leads frames.old.items m r → Leads frames.new.items m r) }
     ensures arrays { IfOk result (λ place. (regions : List RegionOf) (arrays : List ArrayOf) → AllLeadArrays regions arrays cells.old.items → AllLeadArrays regions arrays cells.new.items) }
+    ensures detached { IfOk result (λ place. DetachedBefore frames.old.items frames.new.items) }
+    ensures each { IfOk result (λ place. length parks.old.items ≡ length frames.old.items → length parks.new.items ≡ length frames.new.items) }
+    ensures parked { IfOk result (λ place. (at : ℕ) → parked parks.new.items at ≡ parked parks.old.items at) }
 {
     if let Some(place) = take_free(frames, heads, block, count, 0) {
         return Ok(place);
     }
     let alloc = *frames.allocator();
     spares.push(Vec::new(alloc))?;
+    parks.push(Vec::new(alloc))?;
     let mut stacks = Vec::new(alloc);
     add_region(frames, cells, &mut stacks, count, 0)
 }
@@ -119,8 +124,8 @@ pub struct Beginning {
     pub start: usize,
     /// Which of its levels is under way then.
     pub stage: Stage,
-    /// How it stands as a component.
-    pub component: Component,
+    /// Whether it is that of an object.
+    pub object: bool,
 }
 
 /// How the frame of a sub-block or a procedure begins.
@@ -131,7 +136,7 @@ pub fn as_frame(block: &BlockRecord) -> Beginning
     Beginning {
         start: block.entry as usize,
         stage: Stage::NoStage,
-        component: Component::NoObject,
+        object: false,
     }
 }
 
@@ -175,6 +180,7 @@ pub fn open(
         &mut storage.frames,
         &mut storage.cells,
         &mut storage.spares,
+        &mut storage.parks,
         &mut storage.heads,
         number,
         count,
@@ -190,7 +196,7 @@ pub fn open(
         level: block.level,
         parent,
         passing: passes(block.kind, block.class_free),
-        component: beginning.component,
+        object: beginning.object,
     };
     frames::enter(&mut storage.frames, place, entry);
     storage.entered += 1;

@@ -15,7 +15,6 @@ use crate::levelled::{start_of, take_values};
 use crate::machine::{Activation, Flow, Registers, Storage};
 use crate::paying::pay;
 use frame_arena::Slot;
-use frame_arena::frames::Component;
 use sim_base::Limits;
 use sim_code::{BlockKind, BlockRecord, ClassRecord, Lined};
 use sim_values::words_instance;
@@ -104,14 +103,7 @@ pub fn enter_prefixed(
         _ => return flow,
     }
     let Some(next) = set_up(
-        alloc,
-        blocks,
-        classes,
-        storage,
-        &top.stack,
-        block,
-        ready,
-        Component::NoObject,
+        alloc, blocks, classes, storage, &top.stack, block, ready, false,
     ) else {
         return Flow::Memory;
     };

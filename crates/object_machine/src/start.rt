@@ -58,6 +58,7 @@ pub fn start(
         frames: Vec::new(alloc),
         cells: Vec::new(alloc),
         spares: Vec::new(alloc),
+        parks: Vec::new(alloc),
         heads,
         entered: 0,
         arrays: Arrays::new(alloc),

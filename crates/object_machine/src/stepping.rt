@@ -21,6 +21,7 @@ use crate::prefixing::enter_prefixed;
 use crate::rows::obey_other;
 use crate::stages::{inner, next_declarations};
 use crate::texts::constant;
+use crate::transfers::{attach, detach};
 use sim_base::{ByteString, Limits};
 use sim_code::{BlockRecord, ClassRecord, Instr, Lined};
 use sim_ports::{Sink, Source};
@@ -144,6 +145,14 @@ pub fn step<I: Source, O: Sink>(
         }
         Instr::EndLevel(level) => {
             let flow = end_level(blocks, instrs, classes, limits, storage, top, below, level);
+            without_ports(flow)
+        }
+        Instr::Detach => {
+            let flow = detach(storage, top, below);
+            without_ports(flow)
+        }
+        Instr::Attach => {
+            let flow = attach(storage, top, below);
             without_ports(flow)
         }
         _ => {

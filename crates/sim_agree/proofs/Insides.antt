@@ -7,7 +7,7 @@ use Rattle.std.proofs.lemmas.Option.{slice_get_within}
 use Rattle.sim_tree.specs.Order.{InOrder}
 use Rattle.sim_scope.specs.declared.types.BlockKind.{BlockKind}
 use Rattle.sim_scope.specs.declared.types.BlockKind.TheVariants as kind
-use Rattle.sim_scope.specs.Access.{block_at, encloser, is_connection as is_connection_kind, is_kind, is_so, joined, kind_in}
+use Rattle.sim_scope.specs.Access.{block_at, encloser, has_text_of_levels, is_connection as is_connection_kind, is_kind, is_so, joined, kind_in}
 use Rattle.sim_scope.specs.Calls.{inside_block, is_inside}
 use Rattle.sim_scope.specs.Declare.{declared_by}
 use Rattle.sim_scope.specs.Levels.{has_standard, is_standard, standard_in}
@@ -18,6 +18,7 @@ use Rattle.sim_meaning.specs.Texts.{BlockText, ClassText, ConnectionText, Prefix
 use Rattle.sim_sound.specs.Held.{Around, further, itself}
 use Rattle.sim_agree.specs.Plain.{Plain}
 use Rattle.sim_agree.specs.TablesOf.{TablesOf}
+use Rattle.sim_agree.proofs.ClassRows.{levels_of_kind}
 use Rattle.sim_agree.proofs.Depth.{Chain, Deep, IsOpen, beyond, program_deep, same}
 use Rattle.sim_agree.proofs.Fine.{KindIs}
 use Rattle.sim_agree.proofs.Groups.{PlainKind}
@@ -25,7 +26,7 @@ use Rattle.sim_agree.proofs.Laid.{program_held}
 use Rattle.sim_agree.proofs.Spots.{Final}
 use Rattle.sim_agree.proofs.Tables as t
 use Rattle.sim_agree.proofs.Tables.{program_final}
-use Rattle.sim_agree.proofs.Unprefixed.{Extras, extras_in, no_extras}
+use Rattle.sim_agree.proofs.Unprefixed.{Extras, extras_in, is_prefixable, no_extras}
 use Rattle.sim_meaning.specs.Levels.{has_levels}
 
 -- ---- tests
@@ -260,6 +261,24 @@ module _ (s : Source) (of : TablesOf s) (plain : Plain s.program) (order : InOrd
       go (Some row) (Some ConnectionText) q = ap is_connection_kind q
       go (Some row) (Some (PrefixedText class es ds ss)) q = ap is_connection_kind q
       go (Some row) (Some (StandardText which)) q = absurd q
+
+  -- a class and a block with a prefix have levels
+  pub level_kinds : (k : ℕ) → is_kind has_text_of_levels s.tables k ≡ true → has_levels (text s k) ≡ true
+  unfolding is_kind text
+  level_kinds k e = go (slice_get s.tables.blocks k) (text s k) (t.kind_at s of plain order k) e
+    where
+      same_kinds : (k : BlockKind) → has_text_of_levels k ≡ true → is_prefixable k ≡ true
+      same_kinds kind.Class e = refl
+      same_kinds kind.Prefixed e = refl
+      same_kinds kind.Program e = absurd (cc)
+      same_kinds kind.SubBlock e = absurd (cc)
+      same_kinds kind.Procedure e = absurd (cc)
+      same_kinds kind.Connection e = absurd (cc)
+      same_kinds (kind.StandardClass which) e = absurd (cc)
+
+      go : (o : Option BlockOf) (x : Option Text) → KindIs o x → is_so has_text_of_levels (kind_in o) ≡ true → has_levels x ≡ true
+      go None x q e = absurd (cc)
+      go (Some row) x q e = levels_of_kind row x q (same_kinds row.kind e)
 
   -- no block has a standard prefix
   pub not_standard : (k : ℕ) → has_standard s.tables k ≡ false

@@ -1,32 +1,36 @@
--- A name that is none of the names of coroutines, of sets and of simulation is no standard prefix, and brings no texts.
-use Rattle.std.proofs.Common.{◌≡◌, ℕ, Bool, true, false, List, [], ◌∷◌, Option, Some, None, refl, if◌then◌else◌}
-use Rattle.std.specs.Prelude.{◌||◌, codes}
-use Rattle.std.specs.List.{list_any}
+-- A name that is not spelt as a standard name that is not built is no standard prefix, and brings no texts.
+use Rattle.std.proofs.Common.{◌≡◌, ℕ, Bool, true, false, List, [], Option, Some, None, refl, sym, ap, ◌∙◌, if◌then◌else◌}
+use Rattle.std.proofs.lemmas.Slice.Eq.{bytes_eq-Decides}
+use Rattle.std.specs.Prelude.{codes}
 use Rattle.std.specs.Str.{bytes_eq}
 use Rattle.sim_tree.specs.declared.expr.Identifier.{Identifier}
 use Rattle.sim_scope.specs.declared.types.StandardPrefix.TheVariants as prefix
-use Rattle.sim_scope.specs.ClassNames.{is_name_of_classes, names_of_classes, names_of_simulation}
+use Rattle.sim_scope.specs.ClassNames.{is_name_of_classes}
 use Rattle.sim_scope.specs.Standard.{standard_prefix}
+use Rattle.sim_static.specs.UnbuiltNames.{is_unbuilt_name}
 use Rattle.sim_meaning.specs.Texts.{prefix_texts, standard_texts}
 use Rattle.sim_agree.specs.Plain.{PlainPrefix}
 
-abbrev NoneIs : List ℕ → List (List ℕ) → Type 0
-NoneIs name [] = Unit {0}
-NoneIs name (x ∷ xs) = (bytes_eq name x ≡ false) × NoneIs name xs
+-- it is not spelt as one of these
+other_name : (name word : List ℕ) → is_unbuilt_name name ≡ false → is_unbuilt_name word ≡ true → bytes_eq name word ≡ false
+other_name name word plain unbuilt = go (bytes_eq name word) refl
+  where
+    go : (b : Bool) → bytes_eq name word ≡ b → bytes_eq name word ≡ false
+    go false is = is
+    go true is = absurd (let same : false ≡ true = sym plain ∙ ap is_unbuilt_name ((bytes_eq-Decides name word).0 is) ∙ unbuilt in cc)
 
-either : (a b : Bool) → (a || b) ≡ false → (a ≡ false) × (b ≡ false)
-either true b e = absurd (cc)
-either false b e = (refl, e)
+simset_unbuilt : is_unbuilt_name (codes "simset") ≡ true
+unfolding is_unbuilt_name is_name_of_classes
+simset_unbuilt = refl
 
-none_is : (name : List ℕ) (xs : List (List ℕ)) → list_any (bytes_eq name) xs ≡ false → NoneIs name xs
-none_is name [] e = tt
-none_is name (x ∷ xs) e = let b = either (bytes_eq name x) (list_any (bytes_eq name) xs) e in (b.0, none_is name xs b.1)
+simulation_unbuilt : is_unbuilt_name (codes "simulation") ≡ true
+unfolding is_unbuilt_name is_name_of_classes
+simulation_unbuilt = refl
 
-pub no_standard_prefix : (name : List ℕ) → is_name_of_classes name ≡ false → standard_prefix name ≡ None
-unfolding standard_prefix is_name_of_classes
+pub no_standard_prefix : (name : List ℕ) → is_unbuilt_name name ≡ false → standard_prefix name ≡ None
+unfolding standard_prefix
 no_standard_prefix name plain =
-    let both = either (list_any (bytes_eq name) names_of_classes) (list_any (bytes_eq name) names_of_simulation) plain in
-    go (bytes_eq name (codes "simset")) (bytes_eq name (codes "simulation")) (none_is name names_of_classes both.0).1.1.1.0 (none_is name names_of_simulation both.1).1.1.1.1.1.0
+    go (bytes_eq name (codes "simset")) (bytes_eq name (codes "simulation")) (other_name name (codes "simset") plain simset_unbuilt) (other_name name (codes "simulation") plain simulation_unbuilt)
   where
     go : (a b : Bool) → a ≡ false → b ≡ false → (if a then Some prefix.Simset else if b then Some prefix.Simulation else None) ≡ None
     go true b sets other = absurd (cc)

@@ -16,7 +16,6 @@ use Rattle.sim_scope.specs.declared.types.Entry.TheVariants as entry
 use Rattle.sim_scope.specs.declared.types.StandardPrefix.{StandardPrefix}
 use Rattle.sim_scope.specs.Access.{encloser, is_connection, is_kind, is_so, joined, around}
 use Rattle.sim_scope.specs.Along.{first_along, from_next}
-use Rattle.sim_scope.specs.ClassNames.{is_name_of_classes}
 use Rattle.sim_scope.specs.Levels.{base, base_in, class_block, class_block_in, holds}
 use Rattle.sim_scope.specs.Runs.{run}
 use Rattle.sim_scope.specs.Scopes.{declared_in, lookup, shown, shown_of}
@@ -26,6 +25,7 @@ use Rattle.sim_scope.specs.Tables.{BlockOf, Tables, with_base_at}
 use Rattle.sim_scope.specs.Walk.{program_events}
 use Rattle.sim_scope.proofs.Kept.{kept_set, set_here, set_other}
 use Rattle.sim_scope.proofs.Walks.{run-append}
+use Rattle.sim_static.specs.UnbuiltNames.{is_unbuilt_name}
 use Rattle.prefix_bind.specs.declared.prefixes.PrefixFound.{PrefixFound}
 use Rattle.prefix_bind.specs.declared.prefixes.PrefixFound.TheVariants as found
 use Rattle.prefix_bind.specs.Prefixes.{block_prefixed, class_or_nothing, deepest, home_from, level_prefixed, numbers_to, prefix_found, prefix_from, prefix_of, prefix_of_level, prefix_outside, prefixed, shown_outward, shown_prefix, standard_or_nothing, unless_connection, with_prefix}
@@ -214,7 +214,7 @@ module _ (D : Tables) (bare : Unprefixed D) where
         both true b e = (refl, e)
         both false b e = absurd (cc)
 
-        outside : (x : Identifier) → is_name_of_classes x.name ≡ false → (o : Option ℕ) → Says k (prefix_outside T x o)
+        outside : (x : Identifier) → is_unbuilt_name x.name ≡ false → (o : Option ℕ) → Says k (prefix_outside T x o)
         outside x plain o = pick (holds (shown_outward T x.token.0 x.name) o)
           where
             pick : (c : Bool) → Says k (if c then found.Nothing else standard_or_nothing (standard_prefix x.name))
@@ -238,17 +238,17 @@ module _ (D : Tables) (bare : Unprefixed D) where
               listed = sym (same_lookup q.0 x.name) ∙ q.2;
             }
 
-        of_shown : (u : ℕ) → HomeFrom D row.encloser u → (x : Identifier) → is_name_of_classes x.name ≡ false → is_prefixable row.kind ≡ true → (o : Option DeclNo) → shown_of T (length T.blocks) (Some x.token.0) u x.name ≡ o → Says k (shown_prefix T x u o)
+        of_shown : (u : ℕ) → HomeFrom D row.encloser u → (x : Identifier) → is_unbuilt_name x.name ≡ false → is_prefixable row.kind ≡ true → (o : Option DeclNo) → shown_of T (length T.blocks) (Some x.token.0) u x.name ≡ o → Says k (shown_prefix T x u o)
         of_shown u around x plain class None e = outside x plain (encloser T u)
         of_shown u around x plain class (Some d) e = of_class u around x d e (class_block T d) refl class
 
         go : (p : Option Identifier) → row.prefix ≡ p → Says k (prefix_found T row p)
         go None e = tt
         go (Some x) e =
-            let b = both (is_prefixable row.kind) (is_name_of_classes x.name) (sym (ap (is_wrong row.kind) e) ∙ right) in
+            let b = both (is_prefixable row.kind) (is_unbuilt_name x.name) (sym (ap (is_wrong row.kind) e) ∙ right) in
             at_home x b.0 b.1 (home_from T row.encloser) refl
           where
-            at_home : (x : Identifier) → is_prefixable row.kind ≡ true → is_name_of_classes x.name ≡ false → (o : Option ℕ) → home_from T row.encloser ≡ o → Says k (prefix_from T x o)
+            at_home : (x : Identifier) → is_prefixable row.kind ≡ true → is_unbuilt_name x.name ≡ false → (o : Option ℕ) → home_from T row.encloser ≡ o → Says k (prefix_from T x o)
             at_home x class plain None e = says_nothing k (standard_prefix x.name) (no_standard_prefix x.name plain)
             at_home x class plain (Some u) e = of_shown u (home_is row.encloser u e) x plain class (shown_of T (length T.blocks) (Some x.token.0) u x.name) refl
 

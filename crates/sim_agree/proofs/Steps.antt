@@ -23,11 +23,11 @@ use Rattle.sim_scope.specs.declared.types.Mode.TheVariants as mode
 use Rattle.sim_scope.specs.declared.types.SimType.{SimType}
 use Rattle.sim_scope.specs.declared.types.WrittenMode.{WrittenMode}
 use Rattle.sim_scope.specs.Building.{BuildingOf, Mark, broken, broken_if, changed, changed_row, counted, counted_in, declared, declared_again, declared_at, declared_inside, declared_new, declared_twice, default_mode, entered, formal, headed, holding_class, in_class, inner, inner_at, inner_in, is_match, is_procedure, is_simple, marked, matched, mode_allowed, moded, moded_as, parameter, prefixed_by, qualified, row_of, specified, specified_as, token_in, unspecified_in, with_entry, with_mode, with_name, guards, guards_at, protecting}
-use Rattle.sim_scope.specs.ClassNames.{is_name_of_classes}
 use Rattle.sim_scope.specs.Runs.{run}
 use Rattle.sim_scope.specs.Scopes.{declared_in, entry_in, entry_of, is_virtual, numbered}
 use Rattle.sim_scope.specs.Tables.{BlockOf, Tables}
 use Rattle.sim_scope.proofs.Kept.{kept_set, more_here, more_other, set_here, set_other}
+use Rattle.sim_static.specs.UnbuiltNames.{is_unbuilt_name}
 use Rattle.sim_meaning.specs.Entries.{numbers_in}
 use Rattle.sim_sound.specs.Held.{Among, first, later}
 use Rattle.sim_agree.proofs.Groups.{OwnEntry, PlainFormal, Quals, qualifies, unqualified}
@@ -700,7 +700,7 @@ inner_step b token None cur = same_step b b Nothing refl refl
 inner_step b token (Some n) cur = inner_found b token n (slice_get b.tables.blocks n) cur refl
 
 -- a prefix in front of the innermost block, which is a class or a block that may have one
-prefix_found : (b : BuildingOf) (x : Identifier) (n : ℕ) (o : Option BlockOf) → b.current ≡ Some n → slice_get b.tables.blocks n ≡ o → is_name_of_classes x.name ≡ false → ((row : BlockOf) → o ≡ Some row → is_prefixable row.kind ≡ true) → Step b (changed_row b (prefixed_by x) n o) Nothing
+prefix_found : (b : BuildingOf) (x : Identifier) (n : ℕ) (o : Option BlockOf) → b.current ≡ Some n → slice_get b.tables.blocks n ≡ o → is_unbuilt_name x.name ≡ false → ((row : BlockOf) → o ≡ Some row → is_prefixable row.kind ≡ true) → Step b (changed_row b (prefixed_by x) n o) Nothing
 prefix_found b x n None cur at plain class = same_step b b Nothing refl refl
 prefix_found b x n (Some row) cur at plain class =
     bare_row_step b b Nothing n row (prefixed_by x row) cur at refl refl refl (λ e. ap (λ z. of_row z row) right ∙ ap without e) (same_step b b Nothing refl refl)
@@ -712,9 +712,9 @@ prefix_found b x n (Some row) cur at plain class =
     without z = record { wrong = false; standard = z.standard }
 
     right : is_wrong row.kind (Some x) ≡ false
-    right = ap (λ k. not k || is_name_of_classes x.name) (class row refl) ∙ plain
+    right = ap (λ k. not k || is_unbuilt_name x.name) (class row refl) ∙ plain
 
-pub prefix_step : (b : BuildingOf) (x : Identifier) (n : ℕ) → b.current ≡ Some n → is_name_of_classes x.name ≡ false → ((row : BlockOf) → slice_get b.tables.blocks n ≡ Some row → is_prefixable row.kind ≡ true) → Step b (changed b (prefixed_by x) b.current) Nothing
+pub prefix_step : (b : BuildingOf) (x : Identifier) (n : ℕ) → b.current ≡ Some n → is_unbuilt_name x.name ≡ false → ((row : BlockOf) → slice_get b.tables.blocks n ≡ Some row → is_prefixable row.kind ≡ true) → Step b (changed b (prefixed_by x) b.current) Nothing
 prefix_step b x n cur plain class = subst (λ o. Step b (changed b (prefixed_by x) o) Nothing) (sym cur) (prefix_found b x n (slice_get b.tables.blocks n) cur refl plain class)
 
 -- an attribute that the innermost block hides or protects

@@ -13,12 +13,12 @@ use Rattle.sim_scope.specs.declared.types.BlockKind.{BlockKind}
 use Rattle.sim_scope.specs.declared.types.BlockKind.TheVariants as kind
 use Rattle.sim_scope.specs.declared.types.StandardPrefix.{StandardPrefix}
 use Rattle.sim_scope.specs.Access.{block_at, encloser, some_around}
-use Rattle.sim_scope.specs.ClassNames.{is_name_of_classes}
 use Rattle.sim_scope.specs.Declare.{empty}
 use Rattle.sim_scope.specs.Levels.{base, base_in}
 use Rattle.sim_scope.specs.Scopes.{beyond, binding, brought_by, brought_in, declaration_from, declared_or_standard, ends_search, entry_in, entry_is, entry_of, is_detach, is_procedure_entry, is_virtual, level_shows, lookup, numbered, or_itself, outward, represented, represented_row, seen, shown_of, shows_detach, standard_at, virtual_among, virtual_of, seen_from}
 use Rattle.sim_scope.specs.Standard.{standard_name}
 use Rattle.sim_scope.specs.Tables.{BlockOf, Tables}
+use Rattle.sim_static.specs.UnbuiltNames.{is_unbuilt_name}
 
 -- what may have a prefix: a class or a block
 abbrev pub is_prefixable : BlockKind → Bool
@@ -26,10 +26,10 @@ is_prefixable kind.Class = true
 is_prefixable kind.Prefixed = true
 is_prefixable _ = false
 
--- a prefix where none may be: in front of what is neither, or one that is spelt as a standard name
+-- a prefix where none may be: in front of what is neither, or one that is spelt as a standard name that is not built
 abbrev pub is_wrong : BlockKind → Option Identifier → Bool
 is_wrong k None = false
-is_wrong k (Some x) = not (is_prefixable k) || is_name_of_classes x.name
+is_wrong k (Some x) = not (is_prefixable k) || is_unbuilt_name x.name
 
 -- what a block has of prefixes
 pub record Extras : Type 0 where

@@ -46,6 +46,7 @@ tables_agree s of plain order =
       procedures = h.procedures s of plain order;
       classes = h.classes s of plain order;
       class_levels = t.class_levels s of plain order;
+      level_kinds = i.level_kinds s of plain order;
       owners = c.owners s of plain order;
       blocks = λ k begin ds ss is. record {
         no_formals = h.no_formals s of plain order k (BlockText begin ds ss) (λ z. z) is;

@@ -11,7 +11,7 @@ use Rattle.sim_scope.specs.declared.types.Mode.TheVariants as mode
 use Rattle.sim_scope.specs.declared.types.SimType.{SimType}
 use Rattle.sim_scope.specs.declared.types.SimType.TheVariants as t
 use Rattle.sim_scope.specs.Calls.{attribute_in, is_inside}
-use Rattle.sim_scope.specs.Access.{block_at, is_connection as is_connection_kind, is_kind}
+use Rattle.sim_scope.specs.Access.{block_at, has_text_of_levels, is_connection as is_connection_kind, is_kind}
 use Rattle.sim_scope.specs.Levels.{base, has_level, owner_of_level}
 use Rattle.sim_scope.specs.Scopes.{binding, class_formals, entry_of, found_in}
 use Rattle.sim_scope.specs.Source.{Source, block_of}
@@ -118,8 +118,9 @@ pub record Tabled (s : Source) : Type 0 where
   pub outside : (token found : ℕ) (name : List ℕ) (d : DeclNo) (k : ℕ) → binding s.tables token name ≡ Some (denotation.Declared d) → entry_of s.tables d ≡ Some (entry.Class k) → found_in s.tables token name ≡ Some found → is_connection (text s found) ≡ false
   -- the prefix of a block is a declared class
   pub block_prefixes : (k : ℕ) (class : Identifier) (es : Expressions) (ds : Declarations) (ss : Statements) → text s k ≡ Some (PrefixedText class es ds ss) → BlockPrefix s k
-  -- a class has levels
+  -- a class has levels, and so has a block of the kind of a class or of one with a prefix
   pub class_levels : (k : ℕ) → is_class (text s k) ≡ true → has_levels (text s k) ≡ true
+  pub level_kinds : (k : ℕ) → is_kind has_text_of_levels s.tables k ≡ true → has_levels (text s k) ≡ true
   -- a next level is a class
   pub connects : (k c : ℕ) → base s.tables k ≡ Some c → is_class (text s c) ≡ true
   -- the blocks that are connections; what else has a next level is a class or a block with a prefix

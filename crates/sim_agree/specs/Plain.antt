@@ -1,23 +1,18 @@
 -- Programs that have no form that is not built: the program has no prefix itself, no class has virtual procedures, no parameter is called by name or
--- is a procedure, there are no activations, and what is used is not spelt as a standard name of coroutines, of sets or of simulation.
+-- is a procedure, there are no activations, and what is used is not spelt as a standard name that is not built.
 use Rattle.std.specs.Prelude.{◌≡◌, false, List, [], ◌∷◌, Option, Some, None}
 use Rattle.sim_tree.specs.declared.expr.Identifier.{Identifier}
 use Rattle.sim_tree.specs.declared.stmt.Mode.{Mode as Word}
 use Rattle.sim_tree.specs.declared.stmt.Mode.TheVariants as word
 use Rattle.sim_tree.specs.declared.stmt.TypeName.{TypeName}
 use Rattle.sim_tree.specs.declared.stmt.TypeName.TheVariants as type_name
-use Rattle.sim_scope.specs.ClassNames.{is_name_of_classes}
-use Rattle.sim_scope.specs.Scopes.{is_detach}
+use Rattle.sim_static.specs.UnbuiltNames.{is_unbuilt_name}
 use Rattle.sim_tree.specs.Syntax as s
 use Rattle.sim_tree.specs.Syntax.{Expression, Expressions, Statement, Statements, Arms, Block, Declarations, Declaration, RightSide, Element, BoundPair, Arrayed, Heading, Interface, Moded, Specification, Specified, Program}
 
--- an identifier that is not spelt as a standard name of coroutines, of sets or of simulation
+-- an identifier that is not spelt as a standard name that is not built
 abbrev pub PlainName : Identifier → Type 0
-PlainName x = is_name_of_classes x.name ≡ false
-
--- an attribute: of the names of the objects of a class without a standard prefix `detach` is the only one of these
-abbrev pub PlainAttribute : Identifier → Type 0
-PlainAttribute x = is_detach x.name ≡ false
+PlainName x = is_unbuilt_name x.name ≡ false
 
 abbrev mutual
   pub PlainExpression : Expression → Type 0
@@ -26,7 +21,7 @@ abbrev mutual
   PlainExpression (s.Not i a) = PlainExpression a
   PlainExpression (s.Signed sign i a) = PlainExpression a
   PlainExpression (s.Member m i a class) = PlainExpression a × PlainName class
-  PlainExpression (s.Dot i a name es) = PlainExpression a × PlainAttribute name × PlainExpressions es
+  PlainExpression (s.Dot i a name es) = PlainExpression a × PlainExpressions es
   PlainExpression (s.Qua i a class) = PlainExpression a × PlainName class
   PlainExpression (s.Constant literal i) = Unit {0}
   PlainExpression (s.Named name es) = PlainName name × PlainExpressions es

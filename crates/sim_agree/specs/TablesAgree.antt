@@ -8,7 +8,7 @@ use Rattle.sim_scope.specs.declared.types.Entry.TheVariants as entry
 use Rattle.sim_scope.specs.declared.types.Formal.{Formal}
 use Rattle.sim_scope.specs.declared.types.SimType.{SimType}
 use Rattle.sim_scope.specs.Calls.{attribute_in, is_inside}
-use Rattle.sim_scope.specs.Access.{block_at, encloser, is_connection as is_connection_kind, is_kind}
+use Rattle.sim_scope.specs.Access.{block_at, encloser, has_text_of_levels, is_connection as is_connection_kind, is_kind}
 use Rattle.sim_scope.specs.Levels.{base, has_level, has_standard, owner_of_level}
 use Rattle.sim_scope.specs.Scopes.{binding, class_formals, entry_of, formals_in}
 use Rattle.sim_scope.specs.Source.{Source, block_of, level_of}
@@ -86,6 +86,7 @@ pub record TablesAgree (s : Source) : Type 0 where
   pub procedures : (d : DeclNo) (result : Option SimType) (k : ℕ) → entry_of s.tables d ≡ Some (entry.Procedure result k) → ProcedureThere s d k
   pub classes : (d : DeclNo) (k : ℕ) → entry_of s.tables d ≡ Some (entry.Class k) → ClassThere s d k × (owner_of_level s.tables (Some k) ≡ Some d)
   pub class_levels : (k : ℕ) → is_class (text s k) ≡ true → has_levels (text s k) ≡ true
+  pub level_kinds : (k : ℕ) → is_kind has_text_of_levels s.tables k ≡ true → has_levels (text s k) ≡ true
   pub owners : (k : ℕ) (d : DeclNo) → is_class (text s k) ≡ true → owner_of_level s.tables (Some k) ≡ Some d → entry_of s.tables d ≡ Some (entry.Class k)
   -- texts
   pub blocks : (k i : ℕ) (ds : Declarations) (ss : Statements) → text s k ≡ Some (BlockText i ds ss) → BlockAgrees s k ds

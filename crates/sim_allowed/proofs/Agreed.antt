@@ -141,6 +141,7 @@ module _ (s : Source) (a : AllowedIs s) (plain : Plain s.program) where
     outside = not_found_outside;
     block_prefixes = g.block_prefixes;
     class_levels = g.class_levels;
+    level_kinds = g.level_kinds;
     connects = λ k c e. ap is_class (g.connects k c e).class;
     connections = g.connections;
     prefixes = g.prefixes;

@@ -18,22 +18,31 @@ use Rattle.sim_scope.specs.Source.{Source}
 use Rattle.sim_scope.specs.Standard.{signature}
 use Rattle.sim_tree.specs.Syntax.{Expression, NoMore}
 use Rattle.sim_tree.specs.Syntax as syntax
+use Rattle.sim_code.specs.Transfers.{Transfer}
+use Rattle.sim_meaning.specs.Attributes.{transfer_at}
 use Rattle.sim_meaning.specs.Closing.{is_text, result_meant, stream_of}
 use Rattle.sim_meaning.specs.Entries.{formals_of as meant_formals}
+use Rattle.sim_meaning.specs.Statements.{leaves}
 use Rattle.sim_sound.specs.Held.{Holds, Place}
 use Rattle.sim_sound.specs.Expressions.{ActualsFit, ExprIs}
+use Rattle.sim_sound.specs.Statements.{OrTransferIs, is_given}
 use Rattle.sim_agree.specs.Facts.{Tabled}
 use Rattle.sim_allowed.proofs.Headings.{HeadingIs, heading}
 use Rattle.sim_allowed.proofs.Classes.{proper_value}
-use Rattle.sim_allowed.proofs.Meant.{CallsFor, Means, ProcedureIs, StandardIs, Takes, TypeThere, Unowned, ValueIs}
+use Rattle.sim_allowed.proofs.Meant.{CallsFor, DotAs, Means, NamedAs, ProcedureIs, StandardIs, Takes, TypeThere, Unowned, ValueIs}
 use Rattle.sim_allowed.proofs.Said.{AllSay, next_says}
 
 -- ---- calls
 
+-- what gives a value is no transfer of control
+gives_value : (o : Option Transfer) (Other : Type 0) → OrTransferIs o (λ c. ⊥) Other → Other
+gives_value None Other a = a
+gives_value (Some c) Other a = absurd a
+
 -- what a call is
 call_value : (s : Source) (from : Place) (e : Expression) (type : SimType) → CallsFor s from e (Some type) → (h : Holds) → Takes s type h → ExprIs s from e h
-call_value s from (syntax.Named x es) type a h f = (a h f).0
-call_value s from (syntax.Dot i a x es) type b h f = (b h f).0
+call_value s from (syntax.Named x es) type a h f = (gives_value (transfer_at s x.token.0) (NamedAs s from x es (Some h) × (leaves s (syntax.Named x es) ≡ is_given (Some h))) (a h f)).0
+call_value s from (syntax.Dot i a x es) type b h f = (gives_value (transfer_at s x.token.0) (DotAs s from a x es (Some h) × (leaves s (syntax.Dot i a x es) ≡ is_given (Some h))) (b h f)).0
 call_value s from (syntax.New i class es) type a h f = a h f
 call_value s from (syntax.If i a b c) type g h f = absurd (g h f)
 call_value s from (syntax.Binary o i a b) type g h f = absurd (g h f)

@@ -70,7 +70,7 @@ plain_same s t.NoneType h p f = absurd p
 pub plain_value : (s : Source) (from : Place) (e : Expression) (type : SimType) → PlainType type → ExprIs s from e (Simply (kind_of_type type)) → (h : Holds) → Takes s type h → ExprIs s from e h
 plain_value s from e type p v h f = subst (λ z. ExprIs s from e z) (plain_same s type h p f) v
 
-reference_simply : (s : Source) (o : Option ℕ) → Fits s (reference_to o) (Simply kind.Reference)
+pub reference_simply : (s : Source) (o : Option ℕ) → Fits s (reference_to o) (Simply kind.Reference)
 reference_simply s None = refl
 reference_simply s (Some c) = refl
 

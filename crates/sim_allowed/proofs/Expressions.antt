@@ -12,7 +12,6 @@ use Rattle.sim_scope.specs.Judged.{gives, next, telling}
 use Rattle.sim_scope.specs.Operators.{literal_type}
 use Rattle.sim_scope.specs.Outcomes.{has, in_parentheses, one, side, three, two}
 use Rattle.sim_scope.specs.References.{class_named, member, new_object, qualified, this_object}
-use Rattle.sim_scope.specs.Scopes.{is_detach}
 use Rattle.sim_scope.specs.Source.{Source}
 use Rattle.sim_tree.specs.declared.expr.Identifier.{Identifier}
 use Rattle.sim_tree.specs.Syntax.{Expression, Expressions, Literal, NoMore, Then, first_of}
@@ -186,14 +185,14 @@ module _ (s : Source) (known : Tabled s) (from : Place) (sight : Sight s from (e
           named_with s known from X sight name placed.0 plain e es (bound s.tables X name).value bound_to (actuals s.tables X (bound s.tables X name).value.denotes no_actuals (Then e es)).value
           (actuals_are s known from X (bound s.tables X name).value.denotes (Then e es) all no_actuals first) last
 
-  behind_dot : (i : ℕ) (a : Expression) (name : Identifier) (es : Expressions) → is_detach name.name ≡ false → nat_eq i name.token.0 ≡ false → Known s from X a → AllKnown s from X es → Known s from X (syntax.Dot i a name es)
+  behind_dot : (i : ℕ) (a : Expression) (name : Identifier) (es : Expressions) → nat_eq i name.token.0 ≡ false → Known s from X a → AllKnown s from X es → Known s from X (syntax.Dot i a name es)
   unfolding judge next actuals gives
-  behind_dot i a name es plain other h all said =
+  behind_dot i a name es other h all said =
       let parts = next_says s (next (judge s.tables X a) (attribute s.tables X name (first_of a))) (λ d. next (actuals s.tables X d.denotes no_actuals es) (used s.tables i name d)) said in
       let inner = next_says s (judge s.tables X a) (attribute s.tables X name (first_of a)) parts.0 in
       let o = (judge s.tables X a).value in
       let d = (attribute s.tables X name (first_of a) o).value in
-      let b = attribute_is s known from a X name plain (first_of a) o (h inner.0) inner.1 in
+      let b = attribute_is s known from a X name (first_of a) o (h inner.0) inner.1 in
       let more = next_says s (actuals s.tables X d.denotes no_actuals es) (used s.tables i name d) parts.1 in
       go b es all more.0 more.1
     where
@@ -223,7 +222,7 @@ module _ (s : Source) (known : Tabled s) (from : Place) (sight : Sight s from (e
     expression_known (syntax.Signed g i a) p l there = signed g i a (expression_known a p l there)
     expression_known (syntax.Dot i a name es) p l there =
         let h = both_there s (expression_constants a) (expressions_constants es) there in
-        behind_dot i a name es p.1 l.1 (expression_known a p.0 l.0 h.0) (expressions_known es p.2 l.2 h.1)
+        behind_dot i a name es l.1 (expression_known a p.0 l.0 h.0) (expressions_known es p.1 l.2 h.1)
     expression_known (syntax.Constant literal' i) p l there = literal i literal' there
     expression_known (syntax.Named name es) p l there = named name es p.0 l (expressions_known es p.1 l.1 there)
     expression_known (syntax.Parentheses i a) p l there = in_brackets i a (expression_known a p l there)

@@ -10,6 +10,8 @@ pub mod Actuals
 pub mod Declared
 pub mod Uses
 pub mod Sights
+pub mod Nowhere
+pub mod Detached
 pub mod References
 pub mod This
 pub mod Named
@@ -19,7 +21,6 @@ pub mod BlockPrefixes
 pub mod Statements
 pub mod Bounds
 pub mod TextsOf
-pub mod Nowhere
 pub mod Counts
 pub mod Told
 pub mod ToldProgram

@@ -1,5 +1,5 @@
 -- What the outcome of an expression says of it.
-use Rattle.std.proofs.Common.{◌≡◌, ℕ, Bool, true, false, Option, Some, None}
+use Rattle.std.proofs.Common.{◌≡◌, ℕ, Bool, true, false, [], Option, Some, None}
 use Rattle.sim_base.specs.declared.numbering.DeclNo.{DeclNo}
 use Rattle.sim_scope.specs.declared.outcome.Outcome.{Outcome}
 use Rattle.sim_scope.specs.declared.outcome.Outcome.TheVariants as is
@@ -9,18 +9,19 @@ use Rattle.sim_scope.specs.declared.types.SimType.{SimType}
 use Rattle.sim_scope.specs.declared.types.SimType.TheVariants as t
 use Rattle.sim_scope.specs.Outcomes.{is_stream}
 use Rattle.sim_scope.specs.Scopes.{entry_of}
-use Rattle.sim_scope.specs.Source.{Source, denoted, type_at}
+use Rattle.sim_scope.specs.Source.{Source, denoted, found_at, type_at}
 use Rattle.sim_scope.specs.Standard.{signature}
-use Rattle.sim_tree.specs.Syntax.{Expression, NoMore}
+use Rattle.sim_tree.specs.declared.expr.Identifier.{Identifier}
+use Rattle.sim_tree.specs.Syntax.{Expression, Expressions, NoMore}
 use Rattle.sim_tree.specs.Syntax as syntax
-use Rattle.sim_meaning.specs.Attributes.{connection_at}
+use Rattle.sim_meaning.specs.Attributes.{connection_at, transfer_at}
 use Rattle.sim_meaning.specs.Closing.{is_text, is_text_type, result_meant, stream_of, typed_token}
 use Rattle.sim_meaning.specs.Entries.{formals_of}
 use Rattle.sim_meaning.specs.Names.{stream_named}
 use Rattle.sim_meaning.specs.Statements.{leaves}
 use Rattle.sim_sound.specs.Held.{ArrayOf, Fits, Holds, In, InBound, Place, Refers, Simply, held_by}
 use Rattle.sim_sound.specs.Expressions.{ActualsFit, AreIntegers, AreOf, DotGives, ExprIs, IsReference, NamedGives}
-use Rattle.sim_sound.specs.Statements.{LeftIs, PlaceIs, ResultIs, is_given}
+use Rattle.sim_sound.specs.Statements.{LeftIs, OrTransferIs, PlaceIs, ResultIs, TransferIs, is_given}
 use Rattle.sim_agree.specs.Facts.{ProperType}
 use Rattle.sim_values.specs.declared.kind.Kind.TheVariants as kind
 
@@ -42,13 +43,29 @@ pub record ValueIs (s : Source) (from : Place) (e : Expression) (type : SimType)
   pub typed : type_at s (typed_token e) ≡ Some type
   pub value : (h : Holds) → Takes s type h → ExprIs s from e h
 
+-- what is said of a text, and of no bound
+abbrev pub InText : Place → (ℕ → Type 0) → Type 0
+InText (In t) P = P t
+InText (InBound t) P = Unit {0}
+
+-- a transfer of control gives nothing
+abbrev pub GivesNone : Type 0 → Option Holds → Type 0
+GivesNone Transfers None = Transfers
+GivesNone Transfers (Some h) = ⊥
+
+abbrev pub NamedAs : Source → Place → Identifier → Expressions → Option Holds → Type 0
+NamedAs s from name es h = NamedGives s from (connection_at s name.token.0) (denoted s name.token.0) es (AreIntegers s from es) (λ ks. AreOf s from es ks) (λ fs. ActualsFit s from es fs) h
+
+abbrev pub DotAs : Source → Place → Expression → Identifier → Expressions → Option Holds → Type 0
+DotAs s from a name es h =
+    DotGives s (denoted s name.token.0) (stream_of s a) (ExprIs s from a (Simply kind.Text)) (λ c. ExprIs s from a (Refers c)) es (AreIntegers s from es) (λ ks. AreOf s from es ks) (λ fs. ActualsFit s from es fs) h
+
 -- what a call gives
 abbrev pub CallGiven : Source → Place → Expression → Option Holds → Type 0
 CallGiven s from (syntax.Named name es) h =
-    NamedGives s from (connection_at s name.token.0) (denoted s name.token.0) es (AreIntegers s from es) (λ ks. AreOf s from es ks) (λ fs. ActualsFit s from es fs) h × (leaves s (syntax.Named name es) ≡ is_given h)
+    OrTransferIs (transfer_at s name.token.0) (λ c. GivesNone (InText from (λ t. TransferIs s t c (found_at s name.token.0) es)) h) (NamedAs s from name es h × (leaves s (syntax.Named name es) ≡ is_given h))
 CallGiven s from (syntax.Dot token a name es) h =
-    DotGives s (denoted s name.token.0) (stream_of s a) (ExprIs s from a (Simply kind.Text)) (λ c. ExprIs s from a (Refers c)) es (AreIntegers s from es) (λ ks. AreOf s from es ks) (λ fs. ActualsFit s from es fs) h
-    × (leaves s (syntax.Dot token a name es) ≡ is_given h)
+    OrTransferIs (transfer_at s name.token.0) (λ c. GivesNone (ExprIs s from a (Simply kind.Reference) × AreOf s from es []) h) (DotAs s from a name es h × (leaves s (syntax.Dot token a name es) ≡ is_given h))
 CallGiven s from _ h = ⊥
 
 -- a call with a result of this type, or without one

@@ -21,38 +21,39 @@ use Rattle.sim_scope.specs.declared.types.SimType.TheVariants as t
 use Rattle.sim_scope.specs.Actuals.{no_actuals}
 use Rattle.sim_scope.specs.Access.{block_at}
 use Rattle.sim_scope.specs.Calls.{alone, applied, applied_untyped, attribute, attribute_by_value, attribute_found, attribute_in, attribute_of_type, attribute_of_value, barred_if, declared_alone, declared_applied, if_own, is_barred, is_connection_at, is_inside, is_undotted, occurs, own_of, own_undotted, remote, remote_as, remote_at, remote_in, through_connection, used, used_or_barred}
-use Rattle.sim_scope.specs.ClassNames.{is_name_of_classes}
 use Rattle.sim_scope.specs.Judged.{Judged, bars, gives, next, telling}
 use Rattle.sim_scope.specs.Levels.{class_block, has_classes}
 use Rattle.sim_scope.specs.Outcomes.{side}
 use Rattle.sim_scope.specs.Scopes.{binding, block_in, declared_or_standard, entry_of, formals_of, found_in, is_detach, result_in, result_of, shown}
 use Rattle.sim_scope.specs.Source.{Source, denoted, found_at}
 use Rattle.sim_scope.specs.Standard.{is_standard_class, signature, sysin_attribute, sysout_attribute, text_attribute}
+use Rattle.sim_static.specs.UnbuiltNames.{is_unbuilt_name}
 use Rattle.sim_tree.specs.declared.expr.Identifier.{Identifier}
 use Rattle.sim_tree.specs.Syntax.{Expression, Expressions, NoMore, Then}
 use Rattle.sim_tree.specs.Syntax as syntax
 use Rattle.sim_values.specs.declared.kind.Kind.TheVariants as kind
 use Rattle.sim_values.specs.declared.standard.Standard.TheVariants as detach
-use Rattle.sim_values.specs.Standard.{row_of}
-use Rattle.sim_meaning.specs.Attributes.{connection_at, connection_in, is_connection}
+use Rattle.sim_code.specs.Transfers.{Detaching}
+use Rattle.sim_meaning.specs.Attributes.{connection_at, connection_in, is_connection, transfer_named}
 use Rattle.sim_meaning.specs.Closing.{block_if, own_block, own_block_denoted, own_result, result_meant, stream_denoted, stream_of, unless_connected}
 use Rattle.sim_meaning.specs.Names.{procedure_named, stream_named}
 use Rattle.sim_meaning.specs.Statements.{denoted_leaves}
 use Rattle.sim_meaning.specs.Texts.{text}
 use Rattle.sim_sound.specs.Held.{Around, Fits, In, InBound, Place, Refers, Simply, given_by as held_given, held_by, result_declared, result_holds}
-use Rattle.sim_sound.specs.Expressions.{ActualsFit, AreIntegers, AreOf, BehindGives, DotGives, ExprIs, KnownAt, ObjectHas}
+use Rattle.sim_sound.specs.Expressions.{ActualsFit, AreIntegers, AreOf, BehindGives, DotGives, ExprIs, KnownAt, ObjectHas, ThisFound}
 use Rattle.sim_sound.specs.Statements.{LeftDeclared, LeftIs, LeftNamed, OwnText, ResultIs}
 use Rattle.sim_agree.specs.Facts.{IsClass, PlainGiven, Tabled}
 use Rattle.sim_allowed.proofs.Actuals.{AllActuals, AllFit, size}
 use Rattle.sim_allowed.proofs.Calls.{side_means}
 use Rattle.sim_allowed.proofs.Classes.{class_held, class_row, own_level, simply}
 use Rattle.sim_allowed.proofs.Declared.{alone_means, with_means}
-use Rattle.sim_allowed.proofs.Meant.{CallGiven, CallsFor, Means, OwnResult, ValueIs}
-use Rattle.sim_allowed.proofs.Names.{IsProcedure, NoAttribute, OfTexts, alone_no_class, alone_proper, attribute_gives, attribute_no_class, attribute_proper, given_by, kinds_of, procedure_no_class, procedure_proper, standard_gives, standard_left, sysin_name, sysout_name, text_name}
+use Rattle.sim_allowed.proofs.Detached.{detach_stands}
+use Rattle.sim_allowed.proofs.Meant.{CallGiven, CallsFor, InText, Means, OwnResult, ValueIs}
+use Rattle.sim_allowed.proofs.Names.{IsProcedure, OfTexts, alone_no_class, alone_proper, attribute_gives, attribute_no_class, attribute_proper, attribute_transfers_none, detach_alone, given_by, kinds_of, procedure_no_class, procedure_proper, procedure_transfers_none, standard_gives, standard_left, sysin_name, sysout_name, text_name}
 use Rattle.sim_allowed.proofs.Nowhere.{is_nowhere}
 use Rattle.sim_allowed.proofs.Said.{AllSay, next_says}
 use Rattle.sim_allowed.proofs.Sights.{Sight, text_of}
-use Rattle.sim_allowed.proofs.Uses.{BoundIs, bound_name, dot_calls, dot_use, is_procedure, named_use, plain_given, standard_call, standard_with, standard_without, unconnected_none}
+use Rattle.sim_allowed.proofs.Uses.{BoundIs, bound_name, dot_calls, dot_detaches, dot_given, dot_use, named_use, plain_given, standard_call, standard_transfers, standard_with, standard_without, unconnected_none}
 
 pub from_zero : (n m : ℕ) → n ≡ 0 + m → n ≡ m
 from_zero n m e = omega (arith, e)
@@ -63,16 +64,15 @@ nonzero n m e = grind (arith, nat_tests, e)
 same_token : (n : ℕ) → nat_eq n n ≡ true
 same_token n = grind (arith, nat_tests)
 
--- a standard name that is none of classes is seen through no connection
-plain_nowhere : (name : StandardName) → NoAttribute name → is_nowhere (denotation.Standard name) ≡ true
-unfolding is_name_of_classes row_of
+-- a standard name that is no transfer of control is seen through no connection
+plain_nowhere : (name : StandardName) → transfer_named (procedure_named name) ≡ None → is_nowhere (denotation.Standard name) ≡ true
 plain_nowhere found.Sysin a = refl
 plain_nowhere found.Sysout a = refl
 plain_nowhere (found.Prefix which) a = refl
-plain_nowhere (found.Procedure detach.Detach) a = absurd (false≢true (sym a.1))
+plain_nowhere (found.Procedure detach.Detach) a = absurd (let f : Some Detaching ≡ None = a in cc)
 plain_nowhere (found.Procedure x) a = refl
 
-unconnected : (s : Source) (e : Extent) (x : Identifier) (o : Occurrence) (b : BoundIs s e x o) (name : StandardName) → b.denotation ≡ denotation.Standard name → NoAttribute name → connection_at s x.token.0 ≡ None
+unconnected : (s : Source) (e : Extent) (x : Identifier) (o : Occurrence) (b : BoundIs s e x o) (name : StandardName) → b.denotation ≡ denotation.Standard name → transfer_named (procedure_named name) ≡ None → connection_at s x.token.0 ≡ None
 unfolding connection_at
 unconnected s e x o b name is a = ap (connection_in s) (b.nowhere (ap is_nowhere is ∙ plain_nowhere name a))
 
@@ -155,7 +155,12 @@ standard_owner s x (Then e es) name says = unconnected_none (connection_at s x.t
 
 -- ---- an identifier
 
-module _ (s : Source) (known : Tabled s) (from : Place) (e : Extent) (sight : Sight s from e) (x : Identifier) (placed : block_at s.tables x.token.0 ≡ Some (text_of from)) (plain : is_name_of_classes x.name ≡ false) where
+module _ (s : Source) (known : Tabled s) (from : Place) (e : Extent) (sight : Sight s from e) (x : Identifier) (placed : block_at s.tables x.token.0 ≡ Some (text_of from)) (plain : is_unbuilt_name x.name ≡ false) where
+  -- `detach` is found around
+  detach_seen : (name : StandardName) → binding s.tables x.token.0 x.name ≡ Some (denotation.Standard name) → ((block : ℕ) → found_in s.tables x.token.0 x.name ≡ Some block → found_at s x.token.0 ≡ Some block)
+      → name ≡ found.Procedure detach.Detach → InText from (λ t. ThisFound s (In t) (found_at s x.token.0) (Simply kind.Reference))
+  detach_seen name binds at is = detach_stands s known from x.token.0 x.name placed (binds ∙ ap (λ z. Some (denotation.Standard z)) is) at
+
   pub named_alone : (o : Occurrence) → BoundIs s e x o → AllSay s (used s.tables x.token.0 x o no_actuals).events → Means true s from (syntax.Named x NoMore) (used s.tables x.token.0 x o no_actuals).value
   unfolding used alone stream_of
   named_alone o b said = subst (λ z. Means true s from (syntax.Named x NoMore) (used s.tables x.token.0 x z no_actuals).value) (sym b.is) (go b.denotation refl b.says b.binds b.open_to (subst (λ z. AllSay s (used s.tables x.token.0 x z no_actuals).events) b.is said))
@@ -169,7 +174,7 @@ module _ (s : Source) (known : Tabled s) (from : Place) (e : Extent) (sight : Si
       go (denotation.Standard name) is says binds open_to said =
           let alone = bound_name s x.token.0 x.name name plain binds in
           standard_without s from (syntax.Named x NoMore) name x.token.0 refl (ap stream_denoted says) (standard_owner s x NoMore name says) (alone_no_class name alone) (alone_proper name alone) x.token
-          (λ other are. standard_call s from x NoMore name says (unconnected s e x o b name is alone) (is_procedure name alone other) (alone_proper name alone) are) said
+          (λ other are. standard_call s from x NoMore name says (unconnected s e x o b name is) (detach_seen name binds b.found) alone other (alone_proper name alone) are) said
 
   pub named_with : (first : Expression) (rest : Expressions) (o : Occurrence) → BoundIs s e x o → (a : Actuals) → AllActuals s from o.denotes (Then first rest) no_actuals a → AllSay s (used s.tables x.token.0 x o a).events
       → Means true s from (syntax.Named x (Then first rest)) (used s.tables x.token.0 x o a).value
@@ -199,19 +204,20 @@ module _ (s : Source) (known : Tabled s) (from : Place) (e : Extent) (sight : Si
       go (denotation.Standard name) is says binds open_to fits said =
           let alone = bound_name s x.token.0 x.name name plain binds in
           standard_with s from (syntax.Named x (Then first rest)) name x.token.0 refl (ap stream_denoted says) (standard_owner s x (Then first rest) name says) (alone_no_class name alone) (alone_proper name alone) (Then first rest)
-          (λ other are. standard_call s from x (Then first rest) name says (unconnected s e x o b name is alone) (is_procedure name alone other) (alone_proper name alone) are) a (from_zero a.count (suc (size rest)) all.count) fits x.token.0 said
+          (λ other are. standard_call s from x (Then first rest) name says (unconnected s e x o b name is) (detach_seen name binds b.found) alone other (alone_proper name alone) are) a (from_zero a.count (suc (size rest)) all.count) fits x.token.0 said
 
 -- ---- attributes behind dots
 
 abbrev pub OfWhich : Source → Place → Expression → StandardName → Type 0
-OfWhich s from a name = ((image : ℕ) × (stream_of s a ≡ Some image) × IsProcedure name) ⊎ ((stream_of s a ≡ None) × OfTexts name × ExprIs s from a (Simply kind.Text))
+OfWhich s from a name =
+    ((image : ℕ) × (stream_of s a ≡ Some image) × IsProcedure name) ⊎ (((stream_of s a ≡ None) × OfTexts name × ExprIs s from a (Simply kind.Text)) ⊎ ((name ≡ found.Procedure detach.Detach) × ExprIs s from a (Simply kind.Reference)))
 
--- what stands behind the dot: a name of sysin or sysout, or an attribute of a text; or a declared attribute of an object
+-- what stands behind the dot: a name of sysin or sysout, an attribute of a text, or `detach` of an object; or a declared attribute of an object
 pub data AttributeIs (s : Source) (from : Place) (a : Expression) (x : Identifier) (o : Occurrence) : Type 0 where
   standard : (name : StandardName) → o ≡ occurs (Some (denotation.Standard name)) false → denoted s x.token.0 ≡ Some (denotation.Standard name) → OfWhich s from a name → AttributeIs s from a x o
   declared : (d : DeclNo) → o ≡ occurs (Some (denotation.Declared d)) false → denoted s x.token.0 ≡ Some (denotation.Declared d) → (b : Entry) → entry_of s.tables d ≡ Some b → ObjectHas s (λ c. ExprIs s from a (Refers c)) d → AttributeIs s from a x o
 
-module _ (s : Source) (known : Tabled s) (from : Place) (a : Expression) (e : Extent) (x : Identifier) (plain : is_detach x.name ≡ false) where
+module _ (s : Source) (known : Tabled s) (from : Place) (a : Expression) (e : Extent) (x : Identifier) where
   found_attribute : (P : StandardName → Type 0) → ((name : StandardName) → P name → OfWhich s from a name) → (o : Option StandardName) → ((name : StandardName) → o ≡ Some name → P name) → AllSay s (attribute_found x o).events → AttributeIs s from a x (attribute_found x o).value
   unfolding telling
   found_attribute P of_which None all said = absurd said.0
@@ -231,12 +237,12 @@ module _ (s : Source) (known : Tabled s) (from : Place) (a : Expression) (e : Ex
 
       of : (d : Denotation) → attribute_in s.tables x.token.0 c.block x.name ≡ Some d → denoted s x.token.0 ≡ Some d → AttributeIs s from a x (occurs (Some d) false)
       of (denotation.Declared d) is says = let there = known.attributes x.token.0 c.block x.name d is in declared d refl says there.0 there.1 (c.block, c.is, there.2, object)
-      of (denotation.Standard name) is says = absurd (never (shown s.tables (Some x.token.0) c.block x.name) (is_detach x.name) plain is)
+      of (denotation.Standard name) is says = standard name refl says (inr (inr (it (shown s.tables (Some x.token.0) c.block x.name) (is_detach x.name) is, simply s from a (t.Ref class) v)))
         where
-          never : (o : Option DeclNo) (b : Bool) → b ≡ false → declared_or_standard s.tables o (if b then Some (found.Procedure detach.Detach) else None) ≡ Some (denotation.Standard name) → ⊥
-          never None true other is = false≢true (sym other)
-          never None false other is = cc
-          never (Some d) b other is = cc
+          it : (o : Option DeclNo) (b : Bool) → declared_or_standard s.tables o (if b then Some (found.Procedure detach.Detach) else None) ≡ Some (denotation.Standard name) → name ≡ found.Procedure detach.Detach
+          it None true is = (let same : found.Procedure detach.Detach ≡ name = cc in sym same)
+          it None false is = absurd (cc)
+          it (Some d) b is = absurd (cc)
 
       barred : (d : Denotation) → attribute_in s.tables x.token.0 c.block x.name ≡ Some d → (b : Bool) → AllSay s (used_or_barred x.token.0 d b).events → AttributeIs s from a x (barred_if false (used_or_barred x.token.0 d b).value)
       barred d is true said = absurd said.0
@@ -252,7 +258,7 @@ module _ (s : Source) (known : Tabled s) (from : Place) (a : Expression) (e : Ex
 
   of_text : (first : ℕ) (type : SimType) → ValueIs s from a type → AllSay s (attribute_of_type s.tables e x first (Some type)).events → AttributeIs s from a x (attribute_of_type s.tables e x first (Some type)).value
   unfolding telling gives
-  of_text first t.Text v said = found_attribute OfTexts (λ name p. inr (v.stream, p, simply s from a t.Text v)) (text_attribute x.name) (λ name e. text_name x.name name e) said
+  of_text first t.Text v said = found_attribute OfTexts (λ name p. inr (inl (v.stream, p, simply s from a t.Text v))) (text_attribute x.name) (λ name e. text_name x.name name e) said
   of_text first t.Integer v said = absurd said.0
   of_text first t.Boolean v said = absurd said.0
   of_text first t.Character v said = absurd said.0
@@ -303,33 +309,47 @@ module _ (s : Source) (from : Place) (i : ℕ) (a : Expression) (x : Identifier)
     where
       go : OfWhich s from a name → is_standard_class name ≡ false
       go (inl y) = procedure_no_class name y.2
-      go (inr y) = attribute_no_class name y.1
+      go (inr (inl y)) = attribute_no_class name y.1
+      go (inr (inr y)) = ap is_standard_class y.0 ∙ alone_no_class (found.Procedure detach.Detach) detach_alone
 
   dot_proper : PlainGiven (signature name).result
   dot_proper = go which
     where
       go : OfWhich s from a name → PlainGiven (signature name).result
       go (inl y) = procedure_proper name y.2
-      go (inr y) = attribute_proper name y.1
+      go (inr (inl y)) = attribute_proper name y.1
+      go (inr (inr y)) = subst (λ z. PlainGiven (signature z).result) (sym y.0) (alone_proper (found.Procedure detach.Detach) detach_alone)
 
   dot_none : stream_named name ≡ None
   dot_none = go which
     where
       go : OfWhich s from a name → stream_named name ≡ None
       go (inl y) = procedure_none name y.2
-      go (inr y) = attribute_none name y.1
+      go (inr (inl y)) = attribute_none name y.1
+      go (inr (inr y)) = ap stream_named y.0
 
   dot_call : (es : Expressions) → AreOf s from es (kinds_of (signature name)) → CallsFor s from (syntax.Dot i a x es) (signature name).result
-  dot_call es are = dot_calls s from i a x es (signature name).result (plain_given s (CallGiven s from (syntax.Dot i a x es)) (signature name).result dot_proper (
-    subst (λ z. DotGives s z (stream_of s a) (ExprIs s from a (Simply kind.Text)) (λ c. ExprIs s from a (Refers c)) es (AreIntegers s from es) (λ ks. AreOf s from es ks) (λ fs. ActualsFit s from es fs) (given_by (signature name).result)) (sym says) (go which),
-    ap (denoted_leaves s) says ∙ sym (standard_left name),
-  ))
+  dot_call es are = go which
     where
-      go : OfWhich s from a name → BehindGives (stream_of s a) (procedure_named name) (ExprIs s from a (Simply kind.Text)) (λ ks. AreOf s from es ks) (given_by (signature name).result)
-      go (inl y) = subst (λ z. BehindGives z (procedure_named name) (ExprIs s from a (Simply kind.Text)) (λ ks. AreOf s from es ks) (given_by (signature name).result)) (sym y.1) (standard_gives name y.2 (λ ks. AreOf s from es ks) are)
-      go (inr y) =
-          subst (λ z. BehindGives z (procedure_named name) (ExprIs s from a (Simply kind.Text)) (λ ks. AreOf s from es ks) (given_by (signature name).result)) (sym y.0)
-          (attribute_gives name y.1 (ExprIs s from a (Simply kind.Text)) y.2 (λ ks. AreOf s from es ks) are)
+      done : transfer_named (procedure_named name) ≡ None → BehindGives (stream_of s a) (procedure_named name) (ExprIs s from a (Simply kind.Text)) (λ ks. AreOf s from es ks) (given_by (signature name).result) → CallsFor s from (syntax.Dot i a x es) (signature name).result
+      done none given =
+          dot_calls s from i a x es (signature name).result (plain_given s (CallGiven s from (syntax.Dot i a x es)) (signature name).result dot_proper (
+          dot_given s from i a x es (given_by (signature name).result) (standard_transfers s x.token.0 name says ∙ none)
+          (subst (λ z. DotGives s z (stream_of s a) (ExprIs s from a (Simply kind.Text)) (λ c. ExprIs s from a (Refers c)) es (AreIntegers s from es) (λ ks. AreOf s from es ks) (λ fs. ActualsFit s from es fs) (given_by (signature name).result)) (sym says) given)
+          (ap (denoted_leaves s) says ∙ sym (standard_left name))
+          ))
+
+      go : OfWhich s from a name → CallsFor s from (syntax.Dot i a x es) (signature name).result
+      go (inl y) =
+          done (procedure_transfers_none name y.2)
+          (subst (λ z. BehindGives z (procedure_named name) (ExprIs s from a (Simply kind.Text)) (λ ks. AreOf s from es ks) (given_by (signature name).result)) (sym y.1) (standard_gives name y.2 (λ ks. AreOf s from es ks) are))
+      go (inr (inl y)) =
+          done (attribute_transfers_none name y.1)
+          (subst (λ z. BehindGives z (procedure_named name) (ExprIs s from a (Simply kind.Text)) (λ ks. AreOf s from es ks) (given_by (signature name).result)) (sym y.0)
+          (attribute_gives name y.1 (ExprIs s from a (Simply kind.Text)) y.2 (λ ks. AreOf s from es ks) are))
+      go (inr (inr y)) =
+          subst (λ z. CallsFor s from (syntax.Dot i a x es) (signature z).result) (sym y.0)
+          (dot_detaches s from i a x es (says ∙ ap (λ z. Some (denotation.Standard z)) y.0) y.1 (subst (λ z. AreOf s from es (kinds_of (signature z))) y.0 are))
 
   standard_alone : AllSay s (alone s.tables i x (denotation.Standard name)).events → Means true s from (syntax.Dot i a x NoMore) (alone s.tables i x (denotation.Standard name)).value
   unfolding alone stream_of result_meant

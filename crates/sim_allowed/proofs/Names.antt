@@ -1,9 +1,8 @@
 -- The standard names, as the rules and as the meaning have them.
-use Rattle.std.proofs.Common.{◌≡◌, ℕ, Bool, true, false, List, [], ◌∷◌, Option, Some, None, refl, sym, ◌∙◌, subst, if◌then◌else◌}
+use Rattle.std.proofs.Common.{◌≡◌, ◌⊎◌, inl, inr, ℕ, Bool, true, false, List, [], ◌∷◌, Option, Some, None, refl, sym, ap, ◌∙◌, subst, if◌then◌else◌}
 use Rattle.std.proofs.lemmas.Bool.{false≢true}
 use Rattle.std.proofs.lemmas.Slice.Eq.{bytes_eq-Decides}
 use Rattle.std.specs.Prelude.{◌||◌, ◌&&◌, codes}
-use Rattle.std.specs.List.{list_any}
 use Rattle.std.specs.Str.{bytes_eq}
 use Rattle.sim_scope.specs.declared.standard.Place.{Place}
 use Rattle.sim_scope.specs.declared.standard.Place.TheVariants as place
@@ -11,9 +10,11 @@ use Rattle.sim_scope.specs.declared.standard.Signature.{Signature}
 use Rattle.sim_scope.specs.declared.standard.StandardName.{StandardName}
 use Rattle.sim_scope.specs.declared.standard.StandardName.TheVariants as found
 use Rattle.sim_scope.specs.declared.types.SimType.{SimType}
-use Rattle.sim_scope.specs.declared.types.StandardPrefix.TheVariants as prefix
-use Rattle.sim_scope.specs.ClassNames.{is_name_of_classes, names_of_classes, names_of_simulation}
+use Rattle.sim_scope.specs.declared.types.StandardPrefix.{StandardPrefix}
+use Rattle.sim_scope.specs.ClassNames.{is_name_of_classes}
+use Rattle.sim_scope.specs.Scopes.{is_detach}
 use Rattle.sim_scope.specs.Standard.{first_named, is_seen, is_standard_class, named_beside, plain_or_none, prefix_or_none, procedure_or, signature, standard_name, standard_prefix, sysin_attribute, sysout_attribute, text_attribute}
+use Rattle.sim_static.specs.UnbuiltNames.{is_unbuilt_name}
 use Rattle.sim_values.specs.declared.kind.Kind.{Kind}
 use Rattle.sim_values.specs.declared.kind.Kind.TheVariants as kind
 use Rattle.sim_values.specs.declared.standard.Standard.{Standard}
@@ -21,6 +22,8 @@ use Rattle.sim_values.specs.declared.standard.Standard.TheVariants as name
 use Rattle.sim_values.specs.declared.standard.StandardType.{StandardType}
 use Rattle.sim_values.specs.declared.standard.TheConstants.{STANDARD_NAMES}
 use Rattle.sim_values.specs.Standard.{row_of}
+use Rattle.sim_code.specs.Transfers.{Calling, Detaching}
+use Rattle.sim_meaning.specs.Attributes.{transfer_named, transfer_of}
 use Rattle.sim_meaning.specs.Names.{procedure_named}
 use Rattle.sim_meaning.specs.Statements.{has_value, standard_leaves}
 use Rattle.sim_meaning.specs.Texts.{kind_of_type}
@@ -28,6 +31,7 @@ use Rattle.sim_sound.specs.Held.{Holds, Simply}
 use Rattle.sim_sound.specs.Expressions.{AttributeGives, StandardGives}
 use Rattle.sim_sound.specs.Statements.{is_given}
 use Rattle.sim_agree.specs.Facts.{PlainGiven}
+use Rattle.sim_agree.proofs.PlainNames.{no_standard_prefix}
 
 -- the kinds of the parameters of a name, and what it gives
 abbrev pub second_kind : Option SimType → List Kind
@@ -45,11 +49,11 @@ abbrev pub given_by : Option SimType → Option Holds
 given_by None = None
 given_by (Some ty) = Some (Simply (kind_of_type ty))
 
--- a name of the table that is seen alone, and none of classes
+-- a name of the table that is seen alone, and is built
 abbrev pub IsAlone : Standard → Type 0
-IsAlone x = (is_seen place.Alone (row_of x).owner ≡ true) × (is_name_of_classes (row_of x).spelling ≡ false)
+IsAlone x = (is_seen place.Alone (row_of x).owner ≡ true) × (is_unbuilt_name (row_of x).spelling ≡ false)
 
--- a name that is no attribute of texts, and none of classes
+-- a name that is no attribute of texts, and is built
 abbrev pub NoAttribute : StandardName → Type 0
 NoAttribute (found.Procedure x) = IsAlone x
 NoAttribute found.Sysin = Unit {0}
@@ -61,9 +65,9 @@ abbrev pub OfTexts : StandardName → Type 0
 OfTexts (found.Procedure x) = is_seen place.Text (row_of x).owner ≡ true
 OfTexts _ = ⊥
 
--- a procedure that is no attribute of texts, and none of classes
+-- a procedure that is no attribute of texts and no transfer of control, and is built
 abbrev pub IsProcedure : StandardName → Type 0
-IsProcedure (found.Procedure x) = IsAlone x
+IsProcedure (found.Procedure x) = IsAlone x × (transfer_of x ≡ None)
 IsProcedure _ = ⊥
 
 -- what the table finds is seen there, and spelt so
@@ -86,34 +90,10 @@ found_behind P place name k all e = go (first_named place name STANDARD_NAMES) r
     go None is e = absurd (cc)
     go (Some x) is e = let same : found.Procedure x ≡ k = cc in subst P same (all x (first_seen place name x STANDARD_NAMES is).0)
 
--- a name that is none of a list
-abbrev NoneIs : List ℕ → List (List ℕ) → Type 0
-NoneIs name [] = Unit {0}
-NoneIs name (x ∷ xs) = (bytes_eq name x ≡ false) × NoneIs name xs
+no_prefix : (name : List ℕ) (k : StandardName) → is_unbuilt_name name ≡ false → prefix_or_none (standard_prefix name) ≡ Some k → NoAttribute k
+no_prefix name k plain e = absurd (let f : None ≡ Some k = sym (ap prefix_or_none (no_standard_prefix name plain)) ∙ e in cc)
 
-either : (a b : Bool) → (a || b) ≡ false → (a ≡ false) × (b ≡ false)
-either true b e = absurd (false≢true (sym e))
-either false b e = (refl, e)
-
-none_is : (name : List ℕ) (xs : List (List ℕ)) → list_any (bytes_eq name) xs ≡ false → NoneIs name xs
-none_is name [] e = tt
-none_is name (x ∷ xs) e = let b = either (bytes_eq name x) (list_any (bytes_eq name) xs) e in (b.0, none_is name xs b.1)
-
-not_both : (P : Type 0) (b : Bool) → b ≡ false → b ≡ true → P
-not_both P b e f = absurd (false≢true (sym e ∙ f))
-
-no_prefix : (name : List ℕ) (k : StandardName) → is_name_of_classes name ≡ false → prefix_or_none (standard_prefix name) ≡ Some k → NoAttribute k
-unfolding standard_prefix is_name_of_classes
-no_prefix name k plain e =
-    let both = either (list_any (bytes_eq name) names_of_classes) (list_any (bytes_eq name) names_of_simulation) plain in
-    go (bytes_eq name (codes "simset")) (bytes_eq name (codes "simulation")) (none_is name names_of_classes both.0).1.1.1.0 (none_is name names_of_simulation both.1).1.1.1.1.1.0 e
-  where
-    go : (a b : Bool) → a ≡ false → b ≡ false → prefix_or_none (if a then Some prefix.Simset else if b then Some prefix.Simulation else None) ≡ Some k → NoAttribute k
-    go true b sets other e = absurd (false≢true (sym sets))
-    go false true sets other e = absurd (false≢true (sym other))
-    go false false sets other e = absurd (cc)
-
-beside_name : (name : List ℕ) (k : StandardName) → is_name_of_classes name ≡ false → named_beside name ≡ Some k → NoAttribute k
+beside_name : (name : List ℕ) (k : StandardName) → is_unbuilt_name name ≡ false → named_beside name ≡ Some k → NoAttribute k
 beside_name name k plain e = go (bytes_eq name (codes "sysin")) (bytes_eq name (codes "sysout")) e
   where
     go : (a b : Bool) → (if a then Some found.Sysin else if b then Some found.Sysout else prefix_or_none (standard_prefix name)) ≡ Some k → NoAttribute k
@@ -121,7 +101,7 @@ beside_name name k plain e = go (bytes_eq name (codes "sysin")) (bytes_eq name (
     go false true e = let same : found.Sysout ≡ k = cc in subst NoAttribute same tt
     go false false e = no_prefix name k plain e
 
-pub alone_name : (name : List ℕ) (k : StandardName) → is_name_of_classes name ≡ false → standard_name name ≡ Some k → NoAttribute k
+pub alone_name : (name : List ℕ) (k : StandardName) → is_unbuilt_name name ≡ false → standard_name name ≡ Some k → NoAttribute k
 unfolding standard_name
 alone_name name k plain e = go (first_named place.Alone name STANDARD_NAMES) refl e
   where
@@ -130,39 +110,39 @@ alone_name name k plain e = go (first_named place.Alone name STANDARD_NAMES) ref
     go (Some x) is e =
         let seen = first_seen place.Alone name x STANDARD_NAMES is in
         let same : found.Procedure x ≡ k = cc in
-        subst NoAttribute same (seen.0, subst (λ z. is_name_of_classes z ≡ false) ((bytes_eq-Decides name (row_of x).spelling).0 seen.1) plain)
+        subst NoAttribute same (seen.0, subst (λ z. is_unbuilt_name z ≡ false) ((bytes_eq-Decides name (row_of x).spelling).0 seen.1) plain)
 
 pub text_name : (name : List ℕ) (k : StandardName) → text_attribute name ≡ Some k → OfTexts k
 unfolding text_attribute
 text_name name k e = found_behind OfTexts place.Text name k (λ x seen. seen) e
 
 -- the names of sysin and sysout are seen alone
-sysin_alone : (x : Standard) → is_seen place.Sysin (row_of x).owner ≡ true → IsAlone x
-unfolding row_of is_name_of_classes
-sysin_alone name.Inimage seen = (refl, refl)
-sysin_alone name.Inchar seen = (refl, refl)
-sysin_alone name.Inint seen = (refl, refl)
-sysin_alone name.Intext seen = (refl, refl)
-sysin_alone name.Lastitem seen = (refl, refl)
-sysin_alone name.Endfile seen = (refl, refl)
-sysin_alone name.Image seen = (refl, refl)
-sysin_alone name.Pos seen = (refl, refl)
-sysin_alone name.Setpos seen = (refl, refl)
-sysin_alone name.More seen = (refl, refl)
-sysin_alone name.Length seen = (refl, refl)
+sysin_alone : (x : Standard) → is_seen place.Sysin (row_of x).owner ≡ true → IsProcedure (found.Procedure x)
+unfolding row_of is_unbuilt_name is_name_of_classes
+sysin_alone name.Inimage seen = ((refl, refl), refl)
+sysin_alone name.Inchar seen = ((refl, refl), refl)
+sysin_alone name.Inint seen = ((refl, refl), refl)
+sysin_alone name.Intext seen = ((refl, refl), refl)
+sysin_alone name.Lastitem seen = ((refl, refl), refl)
+sysin_alone name.Endfile seen = ((refl, refl), refl)
+sysin_alone name.Image seen = ((refl, refl), refl)
+sysin_alone name.Pos seen = ((refl, refl), refl)
+sysin_alone name.Setpos seen = ((refl, refl), refl)
+sysin_alone name.More seen = ((refl, refl), refl)
+sysin_alone name.Length seen = ((refl, refl), refl)
 sysin_alone _ seen = absurd (false≢true seen)
 
-sysout_alone : (x : Standard) → is_seen place.Sysout (row_of x).owner ≡ true → IsAlone x
-unfolding row_of is_name_of_classes
-sysout_alone name.Outimage seen = (refl, refl)
-sysout_alone name.Outchar seen = (refl, refl)
-sysout_alone name.Outtext seen = (refl, refl)
-sysout_alone name.Outint seen = (refl, refl)
-sysout_alone name.Image seen = (refl, refl)
-sysout_alone name.Pos seen = (refl, refl)
-sysout_alone name.Setpos seen = (refl, refl)
-sysout_alone name.More seen = (refl, refl)
-sysout_alone name.Length seen = (refl, refl)
+sysout_alone : (x : Standard) → is_seen place.Sysout (row_of x).owner ≡ true → IsProcedure (found.Procedure x)
+unfolding row_of is_unbuilt_name is_name_of_classes
+sysout_alone name.Outimage seen = ((refl, refl), refl)
+sysout_alone name.Outchar seen = ((refl, refl), refl)
+sysout_alone name.Outtext seen = ((refl, refl), refl)
+sysout_alone name.Outint seen = ((refl, refl), refl)
+sysout_alone name.Image seen = ((refl, refl), refl)
+sysout_alone name.Pos seen = ((refl, refl), refl)
+sysout_alone name.Setpos seen = ((refl, refl), refl)
+sysout_alone name.More seen = ((refl, refl), refl)
+sysout_alone name.Length seen = ((refl, refl), refl)
 sysout_alone _ seen = absurd (false≢true seen)
 
 pub sysin_name : (name : List ℕ) (k : StandardName) → sysin_attribute name ≡ Some k → IsProcedure k
@@ -174,8 +154,8 @@ unfolding sysout_attribute
 sysout_name name k e = found_behind IsProcedure place.Sysout name k sysout_alone e
 
 -- what a name alone, or behind `sysin` or `sysout`, gives
-row_gives : (x : Standard) → IsAlone x → (Operands : List Kind → Type 0) → Operands (kinds_of (signature (found.Procedure x))) → StandardGives (Some x) Operands (given_by (signature (found.Procedure x)).result)
-unfolding signature row_of is_name_of_classes
+row_gives : (x : Standard) → IsProcedure (found.Procedure x) → (Operands : List Kind → Type 0) → Operands (kinds_of (signature (found.Procedure x))) → StandardGives (Some x) Operands (given_by (signature (found.Procedure x)).result)
+unfolding signature row_of is_unbuilt_name is_name_of_classes
 row_gives name.Abs p Operands a = ((refl, refl), a)
 row_gives name.Sign p Operands a = ((refl, refl), a)
 row_gives name.Min p Operands a = ((refl, refl), a)
@@ -209,10 +189,10 @@ row_gives name.Pos p Operands a = ((refl, refl), [], refl, a)
 row_gives name.Setpos p Operands a = ((refl, refl), kind.Integer ∷ [], refl, a)
 row_gives name.More p Operands a = ((refl, refl), [], refl, a)
 row_gives name.Length p Operands a = ((refl, refl), [], refl, a)
-row_gives name.Detach p Operands a = absurd (false≢true (sym p.1))
-row_gives name.Call p Operands a = absurd (false≢true (sym p.1))
-row_gives name.Resume p Operands a = absurd (false≢true (sym p.1))
-row_gives _ p Operands a = absurd (false≢true p.0)
+row_gives name.Detach p Operands a = absurd (let f : Some Detaching ≡ None = p.1 in cc)
+row_gives name.Call p Operands a = absurd (let f : Some Calling ≡ None = p.1 in cc)
+row_gives name.Resume p Operands a = absurd (false≢true (sym p.0.1))
+row_gives _ p Operands a = absurd (false≢true p.0.0)
 
 pub standard_gives : (k : StandardName) → IsProcedure k → (Operands : List Kind → Type 0) → Operands (kinds_of (signature k)) → StandardGives (procedure_named k) Operands (given_by (signature k).result)
 standard_gives (found.Procedure x) p Operands a = row_gives x p Operands a
@@ -280,7 +260,7 @@ alone_proper (found.Prefix which) p = tt
 
 pub procedure_proper : (k : StandardName) → IsProcedure k → PlainGiven (signature k).result
 unfolding signature
-procedure_proper (found.Procedure x) p = row_proper x (seen_first _ _ p.0)
+procedure_proper (found.Procedure x) p = row_proper x (seen_first _ _ p.0.0)
 procedure_proper _ p = absurd p
 
 pub attribute_proper : (k : StandardName) → OfTexts k → PlainGiven (signature k).result
@@ -303,3 +283,73 @@ pub attribute_no_class : (k : StandardName) → OfTexts k → is_standard_class 
 unfolding is_standard_class
 attribute_no_class (found.Procedure x) p = refl
 attribute_no_class _ p = absurd p
+
+-- ---- transfers of control
+
+-- a name is `detach`, or `call`, or no transfer of control
+pub which_transfer : (k : StandardName) → (k ≡ found.Procedure name.Detach) ⊎ ((k ≡ found.Procedure name.Call) ⊎ (transfer_named (procedure_named k) ≡ None))
+which_transfer (found.Procedure name.Detach) = inl refl
+which_transfer (found.Procedure name.Call) = inr (inl refl)
+which_transfer (found.Procedure x) = inr (inr refl)
+which_transfer _ = inr (inr refl)
+
+-- a procedure and an attribute of texts are none
+pub procedure_transfers_none : (k : StandardName) → IsProcedure k → transfer_named (procedure_named k) ≡ None
+procedure_transfers_none (found.Procedure x) p = p.1
+procedure_transfers_none _ p = absurd p
+
+row_transfers_none : (x : Standard) → is_seen place.Text (row_of x).owner ≡ true → transfer_of x ≡ None
+unfolding row_of
+row_transfers_none name.Detach seen = absurd (false≢true seen)
+row_transfers_none name.Call seen = absurd (false≢true seen)
+row_transfers_none _ seen = refl
+
+pub attribute_transfers_none : (k : StandardName) → OfTexts k → transfer_named (procedure_named k) ≡ None
+attribute_transfers_none (found.Procedure x) p = row_transfers_none x p
+attribute_transfers_none _ p = absurd p
+
+-- `detach` has no parameter, `call` has a reference; neither gives anything
+pub detach_kinds : kinds_of (signature (found.Procedure name.Detach)) ≡ []
+unfolding signature row_of
+detach_kinds = refl
+
+pub detach_result : (signature (found.Procedure name.Detach)).result ≡ None
+unfolding signature row_of
+detach_result = refl
+
+pub call_kinds : kinds_of (signature (found.Procedure name.Call)) ≡ kind.Reference ∷ []
+unfolding signature row_of
+call_kinds = refl
+
+pub call_result : (signature (found.Procedure name.Call)).result ≡ None
+unfolding signature row_of
+call_result = refl
+
+pub detach_alone : NoAttribute (found.Procedure name.Detach)
+unfolding row_of is_unbuilt_name is_name_of_classes
+detach_alone = (refl, refl)
+
+-- `detach` is spelt so
+prefix_no_procedure : (o : Option StandardPrefix) (x : Standard) → prefix_or_none o ≡ Some (found.Procedure x) → ⊥
+prefix_no_procedure None x e = cc
+prefix_no_procedure (Some which) x e = cc
+
+beside_no_procedure : (name : List ℕ) (x : Standard) → named_beside name ≡ Some (found.Procedure x) → ⊥
+beside_no_procedure name x e = go (bytes_eq name (codes "sysin")) (bytes_eq name (codes "sysout")) e
+  where
+    go : (a b : Bool) → (if a then Some found.Sysin else if b then Some found.Sysout else prefix_or_none (standard_prefix name)) ≡ Some (found.Procedure x) → ⊥
+    go true b e = cc
+    go false true e = cc
+    go false false e = prefix_no_procedure (standard_prefix name) x e
+
+spelt_so : (n : List ℕ) (x : Standard) → standard_name n ≡ Some (found.Procedure x) → bytes_eq n (row_of x).spelling ≡ true
+unfolding standard_name
+spelt_so n x e = go (first_named place.Alone n STANDARD_NAMES) refl e
+  where
+    go : (o : Option Standard) → first_named place.Alone n STANDARD_NAMES ≡ o → procedure_or o (named_beside n) ≡ Some (found.Procedure x) → bytes_eq n (row_of x).spelling ≡ true
+    go None is e = absurd (beside_no_procedure n x e)
+    go (Some y) is e = let same : y ≡ x = cc in subst (λ z. bytes_eq n (row_of z).spelling ≡ true) same (first_seen place.Alone n y STANDARD_NAMES is).1
+
+pub detach_spelt : (n : List ℕ) → standard_name n ≡ Some (found.Procedure name.Detach) → is_detach n ≡ true
+unfolding is_detach row_of
+detach_spelt n e = spelt_so n name.Detach e

@@ -25,7 +25,7 @@ is_nowhere (denotation.Declared d) = false
 is_nowhere (denotation.Standard (found.Procedure name.Detach)) = false
 is_nowhere (denotation.Standard k) = true
 
-neither_or : {A : Type 0} (a b : Option A) → option_or a b ≡ None → (a ≡ None) × (b ≡ None)
+pub neither_or : {A : Type 0} (a b : Option A) → option_or a b ≡ None → (a ≡ None) × (b ≡ None)
 neither_or None b e = (refl, e)
 neither_or (Some x) b e = absurd (cc)
 
@@ -73,7 +73,7 @@ no_detach k nowhere n e = go (is_detach n) refl
         let it : found.Procedure name.Detach ≡ k = cc in
         absurd (false≢true (ap (λ z. is_nowhere (denotation.Standard z)) it ∙ nowhere))
 
-undeclared : (s : Tables) (token : ℕ) (n : List ℕ) (k : StandardName) → binding s token n ≡ Some (denotation.Standard k) → declaration_from s (Some token) (block_at s token) n ≡ None
+pub undeclared : (s : Tables) (token : ℕ) (n : List ℕ) (k : StandardName) → binding s token n ≡ Some (denotation.Standard k) → declaration_from s (Some token) (block_at s token) n ≡ None
 unfolding binding
 undeclared s token n k e = none_declared s (declaration_from s (Some token) (block_at s token) n) (standard_at s token n) k e
 

@@ -20,7 +20,6 @@ use Rattle.sim_scope.specs.declared.types.SimType.{SimType}
 use Rattle.sim_scope.specs.declared.types.SimType.TheVariants as t
 use Rattle.sim_scope.specs.Actuals.{formal_or_none, parameter_at, parameter_of}
 use Rattle.sim_scope.specs.Calls.{bound, misfitting_or, occurs}
-use Rattle.sim_scope.specs.ClassNames.{is_name_of_classes}
 use Rattle.sim_scope.specs.Judged.{Judged, bars, gives, next, telling}
 use Rattle.sim_scope.specs.Levels.{class_block}
 use Rattle.sim_scope.specs.Operators.{is_reference}
@@ -29,6 +28,7 @@ use Rattle.sim_scope.specs.References.{as_class, class_barred, class_compared, c
 use Rattle.sim_scope.specs.Scopes.{class_formals}
 use Rattle.sim_scope.specs.Source.{Source, denoted, type_at}
 use Rattle.sim_scope.specs.Standard.{is_standard_class}
+use Rattle.sim_static.specs.UnbuiltNames.{is_unbuilt_name}
 use Rattle.sim_tree.specs.declared.expr.Identifier.{Identifier}
 use Rattle.sim_tree.specs.declared.expr.Membership.{Membership}
 use Rattle.sim_tree.specs.Syntax.{Expression, Expressions}
@@ -61,7 +61,7 @@ pub record ClassIs (s : Source) (x : Extent) (name : Identifier) (o : Occurrence
   pub found : BoundIs s x name (occurs (Some (denotation.Declared declaration)) false)
   pub same : found.denotation ≡ denotation.Declared declaration
 
-pub class_means : (s : Source) → Tabled s → (x : Extent) (name : Identifier) → is_name_of_classes name.name ≡ false → AllSay s (class_named s.tables x name).events → ClassIs s x name (class_named s.tables x name).value
+pub class_means : (s : Source) → Tabled s → (x : Extent) (name : Identifier) → is_unbuilt_name name.name ≡ false → AllSay s (class_named s.tables x name).events → ClassIs s x name (class_named s.tables x name).value
 unfolding class_named as_class next gives telling
 class_means s known x name plain said =
     let parts = next_says s (bound s.tables x name) (as_class s.tables name.token.0) said in

@@ -42,14 +42,15 @@ use Rattle.sim_tree.specs.Syntax.{Also, Arms, Begin, Block, Element, Expression,
 use Rattle.sim_tree.specs.Syntax as syntax
 use Rattle.sim_values.specs.declared.kind.Kind.{Kind}
 use Rattle.sim_values.specs.declared.kind.Kind.TheVariants as kind
-use Rattle.sim_meaning.specs.Attributes.{connection_at}
+use Rattle.sim_code.specs.Transfers.{Transfer}
+use Rattle.sim_meaning.specs.Attributes.{connection_at, transfer_at}
 use Rattle.sim_meaning.specs.Closing.{is_text, is_text_type, class_parameters}
 use Rattle.sim_meaning.specs.Constants.{arms_constants, block_constants, element_constants, elements_constants, expression_constants, right_constants, statement_constants, statements_constants, expressions_constants}
 use Rattle.sim_meaning.specs.Levels.{class_at, qualification}
 use Rattle.sim_meaning.specs.Texts.{kind_of_type}
 use Rattle.sim_sound.specs.Held.{Fits, Holds, In, Place, Refers, Simply, formal_holds, held_by, reference_to as holds_reference}
-use Rattle.sim_sound.specs.Expressions.{ActualsFit, AreIntegers, DeclaredGives, ExprIs, HeldNames, KnownAt}
-use Rattle.sim_sound.specs.Statements.{ArmsAre, CallIs, CompoundIs, ControlIs, ElementIs, ElementsAre, LeftHeld, PlaceDeclared, PlaceIs, ReferenceAt, StatementIs, StatementsAre, TextLeft, PrefixedIs}
+use Rattle.sim_sound.specs.Expressions.{ActualsFit, AreIntegers, AreOf, DeclaredGives, ExprIs, HeldNames, KnownAt}
+use Rattle.sim_sound.specs.Statements.{ArmsAre, CallIs, CompoundIs, ControlIs, ElementIs, ElementsAre, LeftHeld, OrTransferIs, PlaceDeclared, PlaceIs, ReferenceAt, StatementIs, StatementsAre, TextLeft, TransferIs, PrefixedIs, is_given}
 use Rattle.sim_agree.specs.Facts.{PlainType, ProperEntry, ProperFormal, ProperType, Tabled}
 use Rattle.sim_agree.specs.Places.{PlacedArms, PlacedBlock, PlacedElement, PlacedExpression, PlacedName, PlacedSide, PlacedStatement, PlacedStatements, class_of_name, class_of_type, PlacedPrefixed}
 use Rattle.sim_agree.specs.Plain.{Each, PlainArms, PlainBlock, PlainElement, PlainExpression, PlainName, PlainSide, PlainStatement, PlainStatements}
@@ -59,14 +60,14 @@ use Rattle.sim_allowed.proofs.Calls.{called_means}
 use Rattle.sim_allowed.proofs.Classes.{class_held, class_qualifies, class_row, own_level, simply, simply_takes}
 use Rattle.sim_allowed.proofs.Declared.{NoResult, UseIs, formal_type, never_procedure, never_untyped, simple_held, variable_left, variable_names}
 use Rattle.sim_allowed.proofs.Expressions.{AllThere, both_there, expression_known, operand, expressions_known}
-use Rattle.sim_allowed.proofs.Meant.{CallsFor, Means, ValueIs}
+use Rattle.sim_allowed.proofs.Meant.{CallGiven, CallsFor, DotAs, Means, NamedAs, ValueIs}
 use Rattle.sim_allowed.proofs.Operators.{no_misfit, same_type}
 use Rattle.sim_allowed.proofs.References.{class_means, class_meets}
 use Rattle.sim_allowed.proofs.Said.{AllSay, both_say, next_says}
 use Rattle.sim_allowed.proofs.Sights.{Sight, statement_sight}
 use Rattle.sim_allowed.proofs.This.{extent_of}
 use Rattle.sim_allowed.proofs.Uses.{BoundIs, bound_is, named_use}
-use Rattle.sim_meaning.specs.Statements.{begin_of}
+use Rattle.sim_meaning.specs.Statements.{begin_of, leaves}
 use Rattle.sim_allowed.proofs.BlockPrefixes.{prefix_fits}
 
 -- ---- operands of a type
@@ -123,11 +124,32 @@ no_call s k (syntax.Constant l i) (Some ty) f n = f (Simply (kind_of_type ty)) (
 no_call s k (syntax.This i class) (Some ty) f n = f (Simply (kind_of_type ty)) (simply_takes s ty)
 no_call s k (syntax.Parentheses i a) (Some ty) f n = f (Simply (kind_of_type ty)) (simply_takes s ty)
 
+-- a call that gives this, or that gives a value
+given_call : (o : Option Transfer) (Transfers : Transfer → Type 0) (Gives Leaves : Option Holds → Type 0) (h : Option Holds) → OrTransferIs o Transfers (Gives h × Leaves h) → OrTransferIs o Transfers ((h : Option Holds) × Gives h × Leaves h)
+given_call None Transfers Gives Leaves h a = (h, a.0, a.1)
+given_call (Some c) Transfers Gives Leaves h a = a
+
+value_call : (o : Option Transfer) (Transfers : Transfer → Type 0) (Gives Leaves : Option Holds → Type 0) (h : Option Holds) → OrTransferIs o (λ c. ⊥) (Gives h × Leaves h) → OrTransferIs o Transfers ((h : Option Holds) × Gives h × Leaves h)
+value_call None Transfers Gives Leaves h a = (h, a.0, a.1)
+value_call (Some c) Transfers Gives Leaves h a = absurd a
+
+named_call : (s : Source) (k : ℕ) (x : Identifier) (es : Expressions) (h : Option Holds) → CallGiven s (In k) (syntax.Named x es) h → CallIs s k (syntax.Named x es)
+named_call s k x es None a =
+    given_call (transfer_at s x.token.0) (λ c. TransferIs s k c (found_at s x.token.0) es) (λ h. NamedAs s (In k) x es h) (λ h. leaves s (syntax.Named x es) ≡ is_given h) None a
+named_call s k x es (Some h) a =
+    value_call (transfer_at s x.token.0) (λ c. TransferIs s k c (found_at s x.token.0) es) (λ h. NamedAs s (In k) x es h) (λ h. leaves s (syntax.Named x es) ≡ is_given h) (Some h) a
+
+dot_call : (s : Source) (k i : ℕ) (b : Expression) (x : Identifier) (es : Expressions) (h : Option Holds) → CallGiven s (In k) (syntax.Dot i b x es) h → CallIs s k (syntax.Dot i b x es)
+dot_call s k i b x es None a =
+    given_call (transfer_at s x.token.0) (λ c. ExprIs s (In k) b (Simply kind.Reference) × AreOf s (In k) es []) (λ h. DotAs s (In k) b x es h) (λ h. leaves s (syntax.Dot i b x es) ≡ is_given h) None a
+dot_call s k i b x es (Some h) a =
+    value_call (transfer_at s x.token.0) (λ c. ExprIs s (In k) b (Simply kind.Reference) × AreOf s (In k) es []) (λ h. DotAs s (In k) b x es h) (λ h. leaves s (syntax.Dot i b x es) ≡ is_given h) (Some h) a
+
 call_is : (s : Source) (k : ℕ) (e : Expression) (result : Option SimType) → CallsFor s (In k) e result → CallIs s k e
-call_is s k (syntax.Named x es) None a = (None, a.0, a.1)
-call_is s k (syntax.Named x es) (Some ty) a = let c = a (Simply (kind_of_type ty)) (simply_takes s ty) in (Some (Simply (kind_of_type ty)), c.0, c.1)
-call_is s k (syntax.Dot i b x es) None a = (None, a.0, a.1)
-call_is s k (syntax.Dot i b x es) (Some ty) a = let c = a (Simply (kind_of_type ty)) (simply_takes s ty) in (Some (Simply (kind_of_type ty)), c.0, c.1)
+call_is s k (syntax.Named x es) None a = named_call s k x es None a
+call_is s k (syntax.Named x es) (Some ty) a = named_call s k x es (Some (Simply (kind_of_type ty))) (a (Simply (kind_of_type ty)) (simply_takes s ty))
+call_is s k (syntax.Dot i b x es) None a = dot_call s k i b x es None a
+call_is s k (syntax.Dot i b x es) (Some ty) a = dot_call s k i b x es (Some (Simply (kind_of_type ty))) (a (Simply (kind_of_type ty)) (simply_takes s ty))
 call_is s k (syntax.New i class es) None a = absurd a
 call_is s k (syntax.New i class es) (Some ty) a = generates_some s (In k) i class es (kind_of_type ty) (a (Simply (kind_of_type ty)) (simply_takes s ty))
 call_is s k (syntax.If i a b c) result f = absurd (no_call s k (syntax.If i a b c) result f tt)

@@ -1,5 +1,5 @@
 -- What an identifier is, alone and with actuals.
-use Rattle.std.proofs.Common.{◌≡◌, ℕ, Bool, true, false, List, [], Option, Some, None, refl, sym, ap, ◌∙◌, subst, arith, if◌then◌else◌}
+use Rattle.std.proofs.Common.{◌≡◌, ◌⊎◌, inl, inr, ℕ, Bool, true, false, List, [], ◌∷◌, Option, Some, None, refl, sym, ap, ◌∙◌, subst, arith, if◌then◌else◌}
 use Rattle.std.proofs.lemmas.Bool.{false≢true}
 use Rattle.std.proofs.lemmas.Bool.Decides.{nat_tests}
 use Rattle.std.specs.Prelude.{nat_eq}
@@ -20,31 +20,33 @@ use Rattle.sim_scope.specs.declared.types.Entry.{Entry}
 use Rattle.sim_scope.specs.declared.types.Entry.TheVariants as entry
 use Rattle.sim_scope.specs.declared.types.SimType.{SimType}
 use Rattle.sim_scope.specs.Calls.{bound, found_as, is_barred, located, misfitting_or, occurs, parameter_count, resulting, standard_applied, typed_if, used_in, used_or_barred}
-use Rattle.sim_scope.specs.ClassNames.{is_name_of_classes}
 use Rattle.sim_scope.specs.Judged.{Judged, gives, next, telling}
 use Rattle.sim_scope.specs.Outcomes.{breaks, call_of, is_stream}
 use Rattle.sim_scope.specs.Scopes.{binding, entry_of, found_in}
 use Rattle.sim_scope.specs.Source.{Source, denoted, found_at, type_at}
 use Rattle.sim_scope.specs.Standard.{is_standard_class, signature}
+use Rattle.sim_static.specs.UnbuiltNames.{is_unbuilt_name}
 use Rattle.sim_tree.specs.declared.expr.Identifier.{Identifier}
 use Rattle.sim_tree.specs.Syntax.{Expression, Expressions, NoMore, Then}
 use Rattle.sim_tree.specs.Syntax as syntax
 use Rattle.sim_values.specs.declared.kind.Kind.TheVariants as kind
-use Rattle.sim_meaning.specs.Attributes.{connection_at}
+use Rattle.sim_values.specs.declared.standard.Standard.TheVariants as name_of
+use Rattle.sim_code.specs.Transfers.{Calling, Detaching, Transfer}
+use Rattle.sim_meaning.specs.Attributes.{connection_at, transfer_at, transfer_denoted, transfer_named}
 use Rattle.sim_meaning.specs.Closing.{is_text, is_text_type, own_block, own_block_denoted, own_result, result_meant, stream_denoted, stream_of, typed_token, unless_connected}
-use Rattle.sim_meaning.specs.Names.{stream_named}
-use Rattle.sim_meaning.specs.Statements.{denoted_leaves}
+use Rattle.sim_meaning.specs.Names.{procedure_named, stream_named}
+use Rattle.sim_meaning.specs.Statements.{denoted_leaves, leaves}
 use Rattle.sim_sound.specs.Held.{Holds, In, InBound, Place, Refers, Simply, held_by}
-use Rattle.sim_sound.specs.Expressions.{ActualsFit, AreIntegers, AreOf, DotGives, ExprIs, KnownAt, NamedGives, ObjectHas}
-use Rattle.sim_sound.specs.Statements.{LeftDeclared, LeftDot, NoText, PlaceDeclared, PlaceNamed}
+use Rattle.sim_sound.specs.Expressions.{ActualsFit, AreIntegers, AreOf, DotGives, ExprIs, KnownAt, NamedGives, ObjectHas, ThisFound}
+use Rattle.sim_sound.specs.Statements.{LeftDeclared, LeftDot, NoText, OrTransferIs, PlaceDeclared, PlaceNamed, TransferIs, is_given}
 use Rattle.sim_agree.specs.Facts.{PlainGiven}
 use Rattle.sim_agree.proofs.Unprefixed.{standard_is as standard_found}
 use Rattle.sim_allowed.proofs.Actuals.{AllFit, all_operands, size}
 use Rattle.sim_allowed.proofs.Calls.{call_means}
 use Rattle.sim_allowed.proofs.Classes.{plain_proper, plain_same}
 use Rattle.sim_allowed.proofs.Declared.{GivenFor, NoResult, UseIs}
-use Rattle.sim_allowed.proofs.Meant.{CallGiven, CallsFor, Means, TypeThere, Varies}
-use Rattle.sim_allowed.proofs.Names.{IsProcedure, NoAttribute, alone_name, given_by, kinds_of, parameter_kinds, standard_gives, standard_left}
+use Rattle.sim_allowed.proofs.Meant.{CallGiven, CallsFor, DotAs, GivesNone, InText, Means, NamedAs, TypeThere, Varies}
+use Rattle.sim_allowed.proofs.Names.{IsProcedure, NoAttribute, alone_name, call_kinds, call_result, detach_kinds, detach_result, given_by, kinds_of, parameter_kinds, standard_gives, standard_left, which_transfer}
 use Rattle.sim_allowed.proofs.Nowhere.{is_nowhere}
 use Rattle.sim_allowed.proofs.Said.{AllSay, both_say}
 
@@ -79,8 +81,8 @@ bound_is s x name said = go (binding s.tables name.token.0 name.name) refl said
         let both = both_say s (located name.token.0 (found_in s.tables name.token.0 name.name)).events (used_or_barred name.token.0 d (is_barred s.tables x name.token.0 d)).events said in
         barred d e (located_says s name.token.0 (found_in s.tables name.token.0 name.name) both.0) (is_barred s.tables x name.token.0 d) refl both.1
 
--- a standard name that is found alone is no attribute of texts, and none of classes
-pub bound_name : (s : Source) (token : ℕ) (name : List ℕ) (k : StandardName) → is_name_of_classes name ≡ false → binding s.tables token name ≡ Some (denotation.Standard k) → NoAttribute k
+-- a standard name that is found alone is no attribute of texts, and is built
+pub bound_name : (s : Source) (token : ℕ) (name : List ℕ) (k : StandardName) → is_unbuilt_name name ≡ false → binding s.tables token name ≡ Some (denotation.Standard k) → NoAttribute k
 bound_name s token name k plain e = alone_name name k plain (standard_found s.tables token name k e)
 
 -- ---- types of what is named
@@ -103,11 +105,11 @@ no_stream found.Sysin e = absurd (false≢true (sym e))
 no_stream found.Sysout e = absurd (false≢true (sym e))
 no_stream _ e = refl
 
-pub is_procedure : (name : StandardName) → NoAttribute name → is_stream name ≡ false → IsProcedure name
-is_procedure found.Sysin a e = absurd (false≢true (sym e))
-is_procedure found.Sysout a e = absurd (false≢true (sym e))
-is_procedure (found.Prefix which) a e = absurd a
-is_procedure (found.Procedure x) a e = a
+is_procedure : (name : StandardName) → NoAttribute name → is_stream name ≡ false → transfer_named (procedure_named name) ≡ None → IsProcedure name
+is_procedure found.Sysin a e none = absurd (false≢true (sym e))
+is_procedure found.Sysout a e none = absurd (false≢true (sym e))
+is_procedure (found.Prefix which) a e none = absurd a
+is_procedure (found.Procedure x) a e none = (a, none)
 
 no_parameters : (first second : Option SimType) → first ≡ None → parameter_kinds first second ≡ []
 no_parameters None second e = refl
@@ -179,15 +181,78 @@ pub dot_calls : (s : Source) (from : Place) (i : ℕ) (a : Expression) (x : Iden
 dot_calls s from i a x es None g = g
 dot_calls s from i a x es (Some type) g = g
 
+-- whether an identifier denotes a transfer of control
+pub standard_transfers : (s : Source) (token : ℕ) (name : StandardName) → denoted s token ≡ Some (denotation.Standard name) → transfer_at s token ≡ transfer_named (procedure_named name)
+unfolding transfer_at
+standard_transfers s token name says = ap transfer_denoted says
+
+declared_transfers : (s : Source) (token : ℕ) (d : DeclNo) → denoted s token ≡ Some (denotation.Declared d) → transfer_at s token ≡ None
+unfolding transfer_at
+declared_transfers s token d says = ap transfer_denoted says
+
+-- what a call gives that is no transfer of control, and one that is
+named_given : (s : Source) (from : Place) (x : Identifier) (es : Expressions) (h : Option Holds) → transfer_at s x.token.0 ≡ None → NamedAs s from x es h → leaves s (syntax.Named x es) ≡ is_given h → CallGiven s from (syntax.Named x es) h
+named_given s from x es h none a left =
+    subst (λ o. OrTransferIs o (λ c. GivesNone (InText from (λ t. TransferIs s t c (found_at s x.token.0) es)) h) (NamedAs s from x es h × (leaves s (syntax.Named x es) ≡ is_given h))) (sym none) (a, left)
+
+named_transfers : (s : Source) (from : Place) (x : Identifier) (es : Expressions) (c : Transfer) → transfer_at s x.token.0 ≡ Some c → InText from (λ t. TransferIs s t c (found_at s x.token.0) es) → CallGiven s from (syntax.Named x es) None
+named_transfers s from x es c is a =
+    subst (λ o. OrTransferIs o (λ c. GivesNone (InText from (λ t. TransferIs s t c (found_at s x.token.0) es)) None) (NamedAs s from x es None × (leaves s (syntax.Named x es) ≡ is_given None))) (sym is) a
+
+pub dot_given : (s : Source) (from : Place) (i : ℕ) (a : Expression) (x : Identifier) (es : Expressions) (h : Option Holds) → transfer_at s x.token.0 ≡ None → DotAs s from a x es h → leaves s (syntax.Dot i a x es) ≡ is_given h
+    → CallGiven s from (syntax.Dot i a x es) h
+dot_given s from i a x es h none b left =
+    subst (λ o. OrTransferIs o (λ c. GivesNone (ExprIs s from a (Simply kind.Reference) × AreOf s from es []) h) (DotAs s from a x es h × (leaves s (syntax.Dot i a x es) ≡ is_given h))) (sym none) (b, left)
+
+-- `detach` of an object, behind a dot
+pub dot_detaches : (s : Source) (from : Place) (i : ℕ) (a : Expression) (x : Identifier) (es : Expressions) → denoted s x.token.0 ≡ Some (denotation.Standard (found.Procedure name_of.Detach)) → ExprIs s from a (Simply kind.Reference)
+    → AreOf s from es (kinds_of (signature (found.Procedure name_of.Detach))) → CallsFor s from (syntax.Dot i a x es) (signature (found.Procedure name_of.Detach)).result
+dot_detaches s from i a x es says object are =
+    subst (λ z. CallsFor s from (syntax.Dot i a x es) z) (sym detach_result)
+    (subst (λ o. OrTransferIs o (λ c. GivesNone (ExprIs s from a (Simply kind.Reference) × AreOf s from es []) None) (DotAs s from a x es None × (leaves s (syntax.Dot i a x es) ≡ is_given None)))
+    (sym (standard_transfers s x.token.0 (found.Procedure name_of.Detach) says)) (object, subst (λ ks. AreOf s from es ks) detach_kinds are))
+
 -- an expression that names a standard procedure, with its operands
-pub standard_call : (s : Source) (from : Place) (x : Identifier) (es : Expressions) (name : StandardName) → denoted s x.token.0 ≡ Some (denotation.Standard name) → connection_at s x.token.0 ≡ None
-    → IsProcedure name → PlainGiven (signature name).result → AreOf s from es (kinds_of (signature name)) → CallsFor s from (syntax.Named x es) (signature name).result
-standard_call s from x es name says unconnected p proper are =
-    named_calls s from x es (signature name).result (plain_given s (CallGiven s from (syntax.Named x es)) (signature name).result proper (
-      subst (λ c. NamedGives s from c (denoted s x.token.0) es (AreIntegers s from es) (λ ks. AreOf s from es ks) (λ fs. ActualsFit s from es fs) (given_by (signature name).result)) (sym unconnected)
-          (subst (λ z. NamedGives s from None z es (AreIntegers s from es) (λ ks. AreOf s from es ks) (λ fs. ActualsFit s from es fs) (given_by (signature name).result)) (sym says) (standard_gives name p (λ ks. AreOf s from es ks) are)),
-      ap (denoted_leaves s) says ∙ sym (standard_left name),
-    ))
+pub standard_call : (s : Source) (from : Place) (x : Identifier) (es : Expressions) (name : StandardName) → denoted s x.token.0 ≡ Some (denotation.Standard name) → (transfer_named (procedure_named name) ≡ None → connection_at s x.token.0 ≡ None)
+    → (name ≡ found.Procedure name_of.Detach → InText from (λ t. ThisFound s (In t) (found_at s x.token.0) (Simply kind.Reference))) → NoAttribute name → is_stream name ≡ false → PlainGiven (signature name).result
+    → AreOf s from es (kinds_of (signature name)) → CallsFor s from (syntax.Named x es) (signature name).result
+standard_call s from x es name says unconnected around alone other proper are = go (which_transfer name)
+  where
+    transfers : (k : StandardName) → name ≡ k → transfer_at s x.token.0 ≡ transfer_named (procedure_named k)
+    transfers k is = standard_transfers s x.token.0 name says ∙ ap (λ z. transfer_named (procedure_named z)) is
+
+    are_of : (k : StandardName) → name ≡ k → AreOf s from es (kinds_of (signature k))
+    are_of k is = subst (λ z. AreOf s from es (kinds_of (signature z))) is are
+
+    back : (k : StandardName) → name ≡ k → (signature k).result ≡ None → CallGiven s from (syntax.Named x es) None → CallsFor s from (syntax.Named x es) (signature name).result
+    back k is none a = subst (λ z. CallsFor s from (syntax.Named x es) (signature z).result) (sym is) (subst (λ z. CallsFor s from (syntax.Named x es) z) (sym none) a)
+
+    detaches : (f : Place) → InText f (λ t. ThisFound s (In t) (found_at s x.token.0) (Simply kind.Reference)) → AreOf s f es [] → InText f (λ t. TransferIs s t Detaching (found_at s x.token.0) es)
+    detaches (In t) found are = (found, are)
+    detaches (InBound t) found are = tt
+
+    calls : (f : Place) → AreOf s f es (kind.Reference ∷ []) → InText f (λ t. TransferIs s t Calling (found_at s x.token.0) es)
+    calls (In t) are = are
+    calls (InBound t) are = tt
+
+    done : transfer_named (procedure_named name) ≡ None → CallsFor s from (syntax.Named x es) (signature name).result
+    done none =
+        named_calls s from x es (signature name).result (plain_given s (CallGiven s from (syntax.Named x es)) (signature name).result proper (
+        named_given s from x es (given_by (signature name).result) (standard_transfers s x.token.0 name says ∙ none)
+        (subst (λ c. NamedGives s from c (denoted s x.token.0) es (AreIntegers s from es) (λ ks. AreOf s from es ks) (λ fs. ActualsFit s from es fs) (given_by (signature name).result)) (sym (unconnected none))
+        (subst (λ z. NamedGives s from None z es (AreIntegers s from es) (λ ks. AreOf s from es ks) (λ fs. ActualsFit s from es fs) (given_by (signature name).result)) (sym says)
+        (standard_gives name (is_procedure name alone other none) (λ ks. AreOf s from es ks) are)))
+        (ap (denoted_leaves s) says ∙ sym (standard_left name))
+        ))
+
+    go : (name ≡ found.Procedure name_of.Detach) ⊎ ((name ≡ found.Procedure name_of.Call) ⊎ (transfer_named (procedure_named name) ≡ None)) → CallsFor s from (syntax.Named x es) (signature name).result
+    go (inl is) =
+        let k = found.Procedure name_of.Detach in
+        back k is detach_result (named_transfers s from x es Detaching (transfers k is) (detaches from (around is) (subst (λ ks. AreOf s from es ks) detach_kinds (are_of k is))))
+    go (inr (inl is)) =
+        let k = found.Procedure name_of.Call in
+        back k is call_result (named_transfers s from x es Calling (transfers k is) (calls from (subst (λ ks. AreOf s from es ks) call_kinds (are_of k is))))
+    go (inr (inr none)) = done none
 
 -- ---- identifiers and attributes that are declared
 
@@ -243,7 +308,7 @@ named_use s from x es d says = record {
   at = refl;
   stream = ap stream_denoted says;
   value = λ h a. subst (λ z. NamedGives s from (connection_at s x.token.0) z es (AreIntegers s from es) (λ ks. AreOf s from es ks) (λ fs. ActualsFit s from es fs) (Some h)) (sym says) a;
-  call = λ h a leaves. (subst (λ z. NamedGives s from (connection_at s x.token.0) z es (AreIntegers s from es) (λ ks. AreOf s from es ks) (λ fs. ActualsFit s from es fs) h) (sym says) a, ap (denoted_leaves s) says ∙ leaves);
+  call = λ h a left. named_given s from x es h (declared_transfers s x.token.0 d says) (subst (λ z. NamedGives s from (connection_at s x.token.0) z es (AreIntegers s from es) (λ ks. AreOf s from es ks) (λ fs. ActualsFit s from es fs) h) (sym says) a) (ap (denoted_leaves s) says ∙ left);
   calls = λ result g. named_calls s from x es result g;
   place = λ type a. place from type a;
   unowned = λ none. ap (unless_connected (connection_at s x.token.0)) (no_own s x d es says none) ∙ unconnected_none (connection_at s x.token.0);
@@ -259,7 +324,9 @@ dot_use s from i b x es d says = record {
   at = refl;
   stream = refl;
   value = λ h a. subst (λ z. DotGives s z (stream_of s b) (ExprIs s from b (Simply kind.Text)) (λ c. ExprIs s from b (Refers c)) es (AreIntegers s from es) (λ ks. AreOf s from es ks) (λ fs. ActualsFit s from es fs) (Some h)) (sym says) a;
-  call = λ h a leaves. (subst (λ z. DotGives s z (stream_of s b) (ExprIs s from b (Simply kind.Text)) (λ c. ExprIs s from b (Refers c)) es (AreIntegers s from es) (λ ks. AreOf s from es ks) (λ fs. ActualsFit s from es fs) h) (sym says) a, ap (denoted_leaves s) says ∙ leaves);
+  call = λ h a left.
+      dot_given s from i b x es h (declared_transfers s x.token.0 d says) (subst (λ z. DotGives s z (stream_of s b) (ExprIs s from b (Simply kind.Text)) (λ c. ExprIs s from b (Refers c)) es (AreIntegers s from es) (λ ks. AreOf s from es ks) (λ fs. ActualsFit s from es fs) h) (sym says) a)
+      (ap (denoted_leaves s) says ∙ left);
   calls = λ result g. dot_calls s from i b x es result g;
   place = λ type a. place from type a;
   unowned = λ none. refl;

@@ -227,7 +227,7 @@ module _ (s : Source) (ok : Typed s) (laid : Laid s) (t : ℕ) (from : Place) (s
   this_of k false true h e a = stands.around k a.0
   this_of k false false h e a = absurd a
 
-  this_built : (found : Option ℕ) (h : Holds) → ThisFound s from found h → ThisFoundBuilt s t found
+  pub this_built : (found : Option ℕ) (h : Holds) → ThisFound s from found h → ThisFoundBuilt s t found
   this_built None h a = absurd a
   this_built (Some k) h a = this_of k (is_connection (text s k)) (has_levels (text s k)) h refl a
 

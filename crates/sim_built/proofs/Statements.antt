@@ -4,33 +4,35 @@ use Rattle.std.specs.Prelude.{◌&&◌, ◌||◌, not}
 use Rattle.sim_scope.specs.Assignments.{last_value, left_sides}
 use Rattle.sim_scope.specs.Access.{encloser}
 use Rattle.sim_scope.specs.Levels.{base}
-use Rattle.sim_scope.specs.Source.{Source, block_around, denoted, line_at}
+use Rattle.sim_scope.specs.Source.{Source, block_around, denoted, found_at, line_at}
 use Rattle.sim_tree.specs.Filled.{FilledArms, FilledStatement, FilledStatements, SomeElement, SomeSide}
-use Rattle.sim_tree.specs.Syntax.{Also, Arms, Begin, Element, Expression, Expressions, NoArm, NoDeclaration, NoMore, NoStatement, RightSide, Statement, Statements, When, With}
+use Rattle.sim_tree.specs.Syntax.{Also, Arms, Begin, Element, Expression, Expressions, NoArm, NoDeclaration, NoMore, NoStatement, RightSide, Statement, Statements, Then, When, With}
 use Rattle.sim_tree.specs.Syntax as syntax
 use Rattle.sim_values.specs.declared.kind.Kind.{Kind}
 use Rattle.sim_values.specs.declared.kind.Kind.TheVariants as kind
-use Rattle.sim_meaning.specs.Attributes.{cell_of_connection, connection_at, is_connection}
+use Rattle.sim_code.specs.Transfers.{Calling, Detaching, Transfer}
+use Rattle.sim_meaning.specs.Attributes.{cell_of_connection, connection_at, is_connection, transfer_at}
 use Rattle.sim_meaning.specs.Closing.{class_parameters, is_attribute, is_text, is_variable, stream_of}
 use Rattle.sim_meaning.specs.Levels.{is_class}
 use Rattle.sim_meaning.specs.Pending.{Connection}
-use Rattle.sim_meaning.specs.Statements.{begin_of}
+use Rattle.sim_meaning.specs.Statements.{begin_of, leaves}
 use Rattle.sim_meaning.specs.Texts.{ConnectionText, PrefixedText, Text, text}
 use Rattle.sim_agree.specs.Inners.{NoInner, NoInnerArms, NoInners, OneInner, behind, here}
 use Rattle.sim_sound.specs.Held.{Holds, In, Refers, Simply, reference_to}
-use Rattle.sim_sound.specs.Expressions.{ActualsFit, AreIntegers, AreOf, ExprIs}
-use Rattle.sim_sound.specs.Statements.{ArmsAre, BlockIs, CallIs, ConnectionIs, ElementIs, ElementsAre, LeftsAre, PrefixedIs, StatementIs, StatementsAre}
+use Rattle.sim_sound.specs.Expressions.{ActualsFit, AreIntegers, AreOf, DotGives, ExprIs, NamedGives}
+use Rattle.sim_sound.specs.Statements.{ArmsAre, BlockIs, CallIs, ConnectionIs, ElementIs, ElementsAre, LeftsAre, OrTransferIs, PrefixedIs, StatementIs, StatementsAre, TransferIs, is_given}
 use Rattle.sim_sound.specs.Typed.{Typed}
-use Rattle.codegen_expr.specs.Built.{ActualsBuilt, ClassBuilt, IsBuilt, PlaceBuilt, is_there, slot_in}
+use Rattle.codegen_expr.specs.Built.{ActualsBuilt, AreBuilt, ClassBuilt, ConnectedNameBuilt, DotBuilt, IsBuilt, NamedBuilt, PlaceBuilt, ThisFoundBuilt, ThroughBuilt, is_there, slot_in}
+use Rattle.codegen_expr.specs.CodeExpr.{gives}
 use Rattle.codegen_expr.specs.Sites.{frame_text}
 use Rattle.codegen.specs.Agrees.{stands_behind}
-use Rattle.codegen.specs.BuiltProgram.{ArmsBuilt, AssignBuilt, CalledBuilt, ConnectsBuilt, ElementBuilt, ElementsBuilt, EnterBuilt, ForBuilt, InnerOrBuilt, LeftsBuilt, ListBuilt, PrefixBuilt, StatementBuilt, StatementsBuilt, StepsBuilt, WithInnerBuilt}
+use Rattle.codegen.specs.BuiltProgram.{ArmsBuilt, AssignBuilt, CalledBuilt, ConnectsBuilt, ElementBuilt, ElementsBuilt, EnterBuilt, ForBuilt, InnerOrBuilt, LeftsBuilt, ListBuilt, OrTransferBuilt, PrefixBuilt, StatementBuilt, StatementsBuilt, StepsBuilt, TransferBuilt, WithInnerBuilt}
 use Rattle.codegen.specs.CodeFor.{Variable, assigned_by, variable_of}
 use Rattle.codegen.specs.CodeLeft.{each_stored}
 use Rattle.codegen.specs.CodeStm.{inner_of}
 use Rattle.sim_built.specs.Laid.{Laid}
 use Rattle.sim_built.proofs.Cells.{connection_has, front_is}
-use Rattle.sim_built.proofs.Expressions.{Stands, actuals_built, are_built, dot_built, dot_gives, integers_built, named_built, named_gives, text_place}
+use Rattle.sim_built.proofs.Expressions.{Stands, actuals_built, are_built, dot_built, dot_gives, integers_built, named_built, named_gives, text_place, this_built}
 use Rattle.sim_built.proofs.LeftSides.{Controls, built, controls, side_built}
 use Rattle.sim_built.proofs.Standing.{stands_here}
 
@@ -74,18 +76,46 @@ module _ (s : Source) (ok : Typed s) (laid : Laid s) (t : ℕ) (x : Text) (there
 
   -- ---- calls and blocks
 
+  transfer_built : (c : Transfer) (found : Option ℕ) (es : Expressions) → TransferIs s t c found es → TransferBuilt c es (ThisFoundBuilt s t found) (AreBuilt s t es)
+  transfer_built Detaching found NoMore a = this_built s ok laid t (In t) standing found (Simply kind.Reference) a.0
+  transfer_built Detaching found (Then e es) a = absurd a.1
+  transfer_built Calling found NoMore a = absurd a
+  transfer_built Calling found (Then e NoMore) a = are_built s ok laid t (In t) standing (Then e NoMore) (kind.Reference ∷ []) a
+  transfer_built Calling found (Then e (Then f es)) a = absurd a.1
+
+  detach_built : (b : Expression) (es : Expressions) → ExprIs s (In t) b (Simply kind.Reference) × AreOf s (In t) es [] → TransferBuilt Detaching es (IsBuilt s t b) (AreBuilt s t es)
+  detach_built b NoMore a = value b (Simply kind.Reference) a.0
+  detach_built b (Then e es) a = absurd a.1
+
+  -- a transfer of control, or another call
+  or_built : (o : Option Transfer) (Is Built : Transfer → Type 0) (Other OtherBuilt : Type 0) → ((c : Transfer) → Is c → Built c) → (Other → OtherBuilt) → OrTransferIs o Is Other → OrTransferBuilt o Built OtherBuilt
+  or_built None Is Built Other OtherBuilt f g a = g a
+  or_built (Some c) Is Built Other OtherBuilt f g a = f c a
+
   call_built : (e : Expression) → CallIs s t e → CalledBuilt s t e
-  call_built (syntax.Named name es) a = (
-    a.2 ∙ sym (named_gives s (In t) (connection_at s name.token.0) (denoted s name.token.0) es (AreIntegers s (In t) es) (λ ks. AreOf s (In t) es ks) (λ fs. ActualsFit s (In t) es fs) a.0 a.1),
-    named_built s ok laid t (In t) standing es (λ y. integers_built s ok laid t (In t) standing es y) (λ ks y. are_built s ok laid t (In t) standing es ks y) (λ fs. ActualsFit s (In t) es fs) (λ fs. ActualsBuilt s t es fs) (λ fs y. actuals_built s ok laid t (In t) standing es fs y)
-        (connection_at s name.token.0) (denoted s name.token.0) a.0 a.1,
-  )
-  call_built (syntax.Dot i b name es) a = (
-    a.2 ∙ sym (dot_gives s (denoted s name.token.0) (stream_of s b) (ExprIs s (In t) b (Simply kind.Text)) (λ c. ExprIs s (In t) b (Refers c)) es (AreIntegers s (In t) es) (λ ks. AreOf s (In t) es ks) (λ fs. ActualsFit s (In t) es fs) a.0 a.1),
-    dot_built s ok laid t (In t) standing es (λ y. integers_built s ok laid t (In t) standing es y) (λ ks y. are_built s ok laid t (In t) standing es ks y) (λ fs. ActualsFit s (In t) es fs) (λ fs. ActualsBuilt s t es fs) (λ fs y. actuals_built s ok laid t (In t) standing es fs y)
-        (ExprIs s (In t) b (Simply kind.Text)) (PlaceBuilt s t b) (IsBuilt s t b) (λ c. ExprIs s (In t) b (Refers c)) (denoted s name.token.0) (stream_of s b) (is_variable s b || is_attribute s b) a.0
-        (λ v y. text_place s ok laid t (In t) standing b v y) (λ y. value b (Simply kind.Text) y) (λ c y. value b (Refers c) y) a.1,
-  )
+  call_built (syntax.Named name es) a =
+      or_built (transfer_at s name.token.0) (λ c. TransferIs s t c (found_at s name.token.0) es) (λ c. TransferBuilt c es (ThisFoundBuilt s t (found_at s name.token.0)) (AreBuilt s t es))
+      ((h : Option Holds) × NamedGives s (In t) (connection_at s name.token.0) (denoted s name.token.0) es (AreIntegers s (In t) es) (λ ks. AreOf s (In t) es ks) (λ fs. ActualsFit s (In t) es fs) h × (leaves s (syntax.Named name es) ≡ is_given h))
+      ((leaves s (syntax.Named name es) ≡ gives s (denoted s name.token.0))
+      × ThroughBuilt (connection_at s name.token.0) (λ k. ConnectedNameBuilt s t k (denoted s name.token.0) es (AreBuilt s t es) (λ fs. ActualsBuilt s t es fs)) (NamedBuilt s t (denoted s name.token.0) es (AreBuilt s t es) (λ fs. ActualsBuilt s t es fs)))
+      (λ c y. transfer_built c (found_at s name.token.0) es y)
+      (λ y. (
+        y.2 ∙ sym (named_gives s (In t) (connection_at s name.token.0) (denoted s name.token.0) es (AreIntegers s (In t) es) (λ ks. AreOf s (In t) es ks) (λ fs. ActualsFit s (In t) es fs) y.0 y.1),
+        named_built s ok laid t (In t) standing es (λ z. integers_built s ok laid t (In t) standing es z) (λ ks z. are_built s ok laid t (In t) standing es ks z) (λ fs. ActualsFit s (In t) es fs) (λ fs. ActualsBuilt s t es fs) (λ fs z. actuals_built s ok laid t (In t) standing es fs z)
+            (connection_at s name.token.0) (denoted s name.token.0) y.0 y.1,
+      )) a
+  call_built (syntax.Dot i b name es) a =
+      or_built (transfer_at s name.token.0) (λ c. ExprIs s (In t) b (Simply kind.Reference) × AreOf s (In t) es []) (λ c. TransferBuilt Detaching es (IsBuilt s t b) (AreBuilt s t es))
+      ((h : Option Holds) × DotGives s (denoted s name.token.0) (stream_of s b) (ExprIs s (In t) b (Simply kind.Text)) (λ c. ExprIs s (In t) b (Refers c)) es (AreIntegers s (In t) es) (λ ks. AreOf s (In t) es ks) (λ fs. ActualsFit s (In t) es fs) h × (leaves s (syntax.Dot i b name es) ≡ is_given h))
+      ((leaves s (syntax.Dot i b name es) ≡ gives s (denoted s name.token.0))
+      × DotBuilt s (denoted s name.token.0) (stream_of s b) (is_variable s b || is_attribute s b) es (PlaceBuilt s t b) (IsBuilt s t b) (AreBuilt s t es) (λ fs. ActualsBuilt s t es fs))
+      (λ c y. detach_built b es y)
+      (λ y. (
+        y.2 ∙ sym (dot_gives s (denoted s name.token.0) (stream_of s b) (ExprIs s (In t) b (Simply kind.Text)) (λ c. ExprIs s (In t) b (Refers c)) es (AreIntegers s (In t) es) (λ ks. AreOf s (In t) es ks) (λ fs. ActualsFit s (In t) es fs) y.0 y.1),
+        dot_built s ok laid t (In t) standing es (λ z. integers_built s ok laid t (In t) standing es z) (λ ks z. are_built s ok laid t (In t) standing es ks z) (λ fs. ActualsFit s (In t) es fs) (λ fs. ActualsBuilt s t es fs) (λ fs z. actuals_built s ok laid t (In t) standing es fs z)
+            (ExprIs s (In t) b (Simply kind.Text)) (PlaceBuilt s t b) (IsBuilt s t b) (λ c. ExprIs s (In t) b (Refers c)) (denoted s name.token.0) (stream_of s b) (is_variable s b || is_attribute s b) y.0
+            (λ v z. text_place s ok laid t (In t) standing b v z) (λ z. value b (Simply kind.Text) z) (λ c z. value b (Refers c) z) y.1,
+      )) a
   call_built (syntax.New i c es) a = value (syntax.New i c es) (Simply kind.Reference) a
   call_built (syntax.If i c b d) a = absurd a
   call_built (syntax.Binary op i b d) a = absurd a

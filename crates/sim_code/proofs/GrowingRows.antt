@@ -1,7 +1,8 @@
 -- Each row of the machine's table leaves what is written.
 use Rattle.std.proofs.Common.{◌≡◌, ℕ, zero, suc, List, [], ◌∷◌, length, Option, Some, None, Bool, true, false, refl, sym, subst, ap, ◌∙◌}
-use Rattle.std.specs.Prelude.{◌==◌, ◌*◌, ℤ, pos, negsuc, slice_get, slice_set, if◌then◌else◌}
+use Rattle.std.specs.Prelude.{◌==◌, ◌*◌, ℤ, pos, negsuc, slice_get, slice_set, if◌then◌else◌, Result}
 use Rattle.sim_base.specs.declared.limits.Limits.{Limits}
+use Rattle.sim_base.specs.declared.run_error.RunError.{RunError}
 use Rattle.sim_values.specs.declared.kind.Kind.{Kind}
 use Rattle.sim_values.specs.declared.operators.Comparison.{Comparison}
 use Rattle.sim_values.specs.declared.operators.Dyadic.{Dyadic}
@@ -11,7 +12,7 @@ use Rattle.sim_values.specs.declared.value.TextVal.{TextVal}
 use Rattle.sim_values.specs.Plain.{Plain, Text}
 use Rattle.sim_values.specs.Store.{Store, image_at, with_image}
 use Rattle.sim_values.specs.Texts.{same_text}
-use Rattle.sim_chains.specs.Components.{AttachedObject, DetachedObject, NoObject, ResumedObject, Standing, TerminatedObject}
+use Rattle.sim_chains.specs.Components.{AttachedObject, Components, DetachedObject, NoObject, ResumedObject, Standing, TerminatedObject}
 use Rattle.sim_code.specs.declared.code.BlockKind.{BlockKind}
 use Rattle.sim_code.specs.declared.code.BlockKind.TheVariants as block
 use Rattle.sim_code.specs.declared.instr.Instr.{Instr}
@@ -23,12 +24,13 @@ use Rattle.sim_code.specs.Outcome.{ArrayOf, Going, Run, World}
 use Rattle.sim_code.specs.Events.{image_moved, image_set, no_rule, text_val}
 use Rattle.sim_code.specs.Arrays.{element, element_set, element_set_in, giving_back, handed_over, live_array, owned_by, with_array}
 use Rattle.sim_code.specs.Instances.{CellPlace, ElementPlace, ImagePlace, Place, at_level, ended_as, going_below, is_given_at_end, is_live, object_ended}
+use Rattle.sim_code.specs.Transfers.{Calling, Detaching, Transfer, component_in, transferred, transferring}
 use Rattle.sim_code.specs.Machine.{Activation, Address, ArrayValue, Cells, Frames, Link, Machine, Of, ProcedureValue, ThunkValue, Value, arrays_among, arrays_by_value, variable_in, words_of_block, array_in, block_at, cell, cell_at, cell_set, frame_in, index, jumping, leaving, level, link_in, number, operand, own_block, owner, place_in, plain, pushing, pushing_any, same_kind, value_at, with_result}
 use Rattle.sim_code.specs.Classes.{admitting, class_named, in_class, is_in, is_of, may_stand, qualifying}
 use Rattle.sim_code.specs.Levels.{after_declarations, at_inner, at_stage, class_at_level, declarations_done, ended_by_kind, entering_prefixed, generating, inner_reached, leading, level_ended, levelled, objects_of, outermost_ended, own_levels}
 use Rattle.sim_code.specs.Rows.{class_at, code_of, comparison_of, element_kind, entering_procedure, first_stage, mstep, mrun, no_class, on_chain, one_row, opening, pushed, put_back, putting, qualified, row, standard_of, storing, truth_of, two_row, without_class}
 use Rattle.sim_code.specs.Growing.{Grown, OutputGrows, written}
-use Rattle.sim_code.proofs.Growing.{Grows, after_grows, after_more, grown_same, grows_assigning, grows_choosing, grows_copying, grows_entering, grows_finding, grows_having, grows_if, grows_integers, grows_keeping, grows_making, grows_many, grows_no_rule, grows_object, grows_one, grows_performing, grows_plain, grows_popping, grows_step, grows_stopping, grows_ticking, grows_truth, grows_two, grows_when}
+use Rattle.sim_code.proofs.Growing.{Grows, after_grows, after_more, grown_same, grows_assigning, grows_choosing, grows_computing, grows_copying, grows_entering, grows_finding, grows_having, grows_if, grows_integers, grows_keeping, grows_making, grows_many, grows_no_rule, grows_object, grows_one, grows_performing, grows_plain, grows_popping, grows_step, grows_stopping, grows_ticking, grows_truth, grows_two, grows_when}
 
 -- going on here writes nothing
 abbrev Here : World → Run Machine → Type 0
@@ -224,21 +226,27 @@ inner_grows code o m a below n = own_levels_grow code m a _ o _ (λ cs. by_next 
     by_next None = going o _
     by_next (Some x) = stage_grows code o m a below _ x.statements
 
+below_grows : (o : World) (below : List Activation) (m : Frames) → Here o (going_below o below m)
+below_grows o [] m = record { more = grown_same o.store.written }
+below_grows o (a ∷ below) m = going o _
+
 ended_grows : (o : World) (m : Frames) (j : ℕ) (below : List Activation) → Here o (object_ended o m j below)
 unfolding object_ended
 ended_grows o m j below = by_standing (slice_get m.standings j)
   where
-    by_below : (m : Frames) (below : List Activation) → Here o (going_below o below m)
-    by_below m [] = record { more = grown_same o.store.written }
-    by_below m (a ∷ below) = going o _
-
     by_standing : (s : Option (Standing Activation)) → Here o (ended_as o m j below s)
     by_standing None = record { more = grown_same o.store.written }
     by_standing (Some (NoObject main)) = record { more = grown_same o.store.written }
-    by_standing (Some AttachedObject) = by_below _ below
+    by_standing (Some AttachedObject) = below_grows o below _
     by_standing (Some (DetachedObject chain)) = record { more = grown_same o.store.written }
     by_standing (Some ResumedObject) = record { more = grown_same o.store.written }
     by_standing (Some TerminatedObject) = record { more = grown_same o.store.written }
+
+transfer_grows : (t : Transfer) (line : ℕ) (o : World) (chain : List Activation) (m : Frames) (v : Plain) → Here o (transferring owner t line o chain m v)
+unfolding transferring
+transfer_grows t line o chain m v =
+    grows_having Machine (Option ℕ) (component_in v) o _ (λ y _. grows_having Machine (Result (Components Activation) RunError) (transferred owner t _ y) o _ (λ r _.
+    grows_computing Machine (Components Activation) line r o _ (λ c. below_grows o c.operating _)))
 
 outermost_grows : (code : CodeOf) (l : Limits) (o : World) (m : Frames) (a : Activation) (below : List Activation) (j k : ℕ) → Here o (outermost_ended code l o m a below j k)
 outermost_grows code l o m a below j k = grows_when Machine _ o _ (grows_having Machine BlockOf _ o _ (λ b _. by_kind b b.kind))
@@ -321,8 +329,8 @@ row_grows code l o m a below line i.Keep = grows_popping Machine Value plain a.s
 row_grows code l o m a below line i.AssignT = grows_assigning Machine Value plain line a.stack o _ (λ p stack. going p _)
 row_grows code l o m a below line (i.Std z) = grows_having Machine Standard (standard_of z) o _ (λ name _. grows_when Machine _ o _ (grows_performing Machine Value Frames operand put_back back_grows l line name a.stack o m _ (λ p m value stack. going p _)))
 row_grows code l o m a below line (i.Act z) = none o
-row_grows code l o m a below line i.Detach = none o
-row_grows code l o m a below line i.Attach = none o
+row_grows code l o m a below line i.Detach = grows_plain Machine Value plain a.stack o _ (λ v stack. transfer_grows Detaching line o _ m v)
+row_grows code l o m a below line i.Attach = grows_plain Machine Value plain a.stack o _ (λ v stack. transfer_grows Calling line o _ m v)
 row_grows code l o m a below line i.Resume = none o
 row_grows code l o m a below line i.NotNone = grows_object Machine Value plain line a.stack o _ (λ j stack. going o _)
 

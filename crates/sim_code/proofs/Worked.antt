@@ -13,6 +13,8 @@ use Rattle.sim_code.specs.Classes.{levels}
 use Rattle.sim_code.specs.Levels.{leading, levelled, objects_of, own_levels, parameter_cell}
 use Rattle.sim_code.specs.Events.{pop_object, referring}
 use Rattle.sim_code.specs.ClassExamples.{Worked as WorkedClasses}
+use Rattle.sim_code.specs.CoroutineExamples.{Worked as WorkedCoroutines}
+use Rattle.sim_code.specs.Transfers.{transferring}
 
 pub worked : Worked
 unfolding digits element_place making_array copying_array keeping_array finding_element giving_back handed_over stopping no_rule ticking taking entering having when computing choosing popping pop_many pop_plain pop_truth pop_integers pop_operands pop_text answering applying_one applying_two testing_step performing putting_back assigning making_text joining at_level kept_on pushing index level_of_machine cell_at jumping block_at own_block leaving with_result putting put_back calculate compare compare_as_texts connect same_objects same_texts two_of one_of step_test take_integer take_character take_text take_nothing row_of standard_effect
@@ -73,4 +75,20 @@ worked_classes = record {
   no_declarations = refl;
   value_missing = refl;
   no_level_ends = refl;
+}
+
+pub worked_coroutines : WorkedCoroutines
+unfolding digits element_place making_array copying_array keeping_array finding_element giving_back handed_over stopping no_rule ticking taking entering having when computing choosing popping pop_many pop_plain pop_truth pop_integers pop_operands pop_text answering applying_one applying_two testing_step performing putting_back assigning making_text joining at_level kept_on pushing index level_of_machine cell_at jumping block_at own_block leaving with_result putting put_back calculate compare compare_as_texts connect same_objects same_texts two_of one_of step_test take_integer take_character take_text take_nothing row_of standard_effect levels pop_object referring parameter_cell leading levelled objects_of own_levels object_ended transferring
+worked_coroutines = record {
+  both_end = refl;
+  terminated = refl;
+  value_kept = refl;
+  not_operating = refl;
+  ended_object = refl;
+  no_object_detached = refl;
+  no_object_called = refl;
+  none_no_component = refl;
+  through_none = refl;
+  none_untested = refl;
+  calls_itself = refl;
 }

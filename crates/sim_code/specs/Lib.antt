@@ -3,6 +3,7 @@ pub mod Outcome
 pub mod Events
 pub mod Arrays
 pub mod Instances
+pub mod Transfers
 pub mod Machine
 pub mod Classes
 pub mod Levels
@@ -12,3 +13,4 @@ pub mod Running
 pub mod Growing
 pub mod Examples
 pub mod ClassExamples
+pub mod CoroutineExamples

@@ -1,5 +1,5 @@
 -- A closed expression takes no more steps than the expression allows.
-use Rattle.std.proofs.Common.{◌≡◌, ◌≤◌, ℕ, suc, ◌+◌, Bool, true, false, List, [], ◌∷◌, Option, Some, None, arith, refl}
+use Rattle.std.proofs.Common.{◌≡◌, ◌≤◌, ℕ, ◌+◌, Bool, true, false, List, [], ◌∷◌, Option, Some, None, arith, refl}
 use Rattle.std.specs.Prelude.{◌&&◌, ◌||◌}
 use Rattle.sim_base.specs.declared.numbering.DeclNo.{DeclNo}
 use Rattle.sim_scope.specs.declared.scopes.Denotation.{Denotation}
@@ -23,11 +23,12 @@ use Rattle.sim_values.specs.Plain.{Plain}
 use Rattle.sim_values.specs.Standard.{is_image, moves_position, on_image}
 use Rattle.sim_meaning.specs.Closing.{actual_term, array_place, array_term, attribute_term, behind_dot, class_parameters, close, close_actuals, close_all, close_place, constant_term, declared_place, declared_term, dot_term, formal_place, formal_term, formals_at, given_term, home_of, home_of_class, image_place, in_instance, is_attribute, is_text, is_text_type, is_variable, Joining, Lazily, literal_term, name_term, named_place, named_term, Negated, object_term, Plainly, signed_term, Sort, sort_of, standard_term, stream_of, sysout, two_term, variable_place, variable_term}
 use Rattle.sim_code.specs.Instances.{at_level}
-use Rattle.sim_meaning.specs.Attributes.{array_attribute, attribute, attribute_place, connected_object, connection_at, connection_in, declared_attribute, element_at, entry_at, entry_attribute, fitting, generation, if_any, kept_if, membership_term, parameter_at, parameter_attribute, parameter_qualification, place_of_attribute, qua_term, this_instance, this_term, variable_at, variable_attribute, with_arrays_kept}
+use Rattle.sim_meaning.specs.Attributes.{array_attribute, attribute, attribute_place, connected_object, connection_at, connection_in, declared_attribute, element_at, entry_at, entry_attribute, fitting, generation, if_any, kept_if, membership_term, parameter_at, parameter_attribute, parameter_qualification, place_of_attribute, qua_term, this_instance, this_term, transfer_at, transfer_term, variable_at, variable_attribute, with_arrays_kept}
+use Rattle.sim_code.specs.Transfers.{Calling, Detaching, Transfer}
 use Rattle.sim_meaning.specs.Constants.{text_constant}
 use Rattle.sim_meaning.specs.Levels.{class_at}
 use Rattle.sim_meaning.specs.Names.{procedure_named}
-use Rattle.sim_meaning.specs.Pending.{Instances, NoTerm, Term, Terms, Unbuilt}
+use Rattle.sim_meaning.specs.Pending.{Further, Instances, NoTerm, Term, Terms, Unbuilt}
 use Rattle.sim_meaning.specs.Texts.{constant_of}
 use Rattle.sim_finite.proofs.Weights.{expression_weight, expressions_weight, term_weight, terms_weight}
 
@@ -259,6 +260,12 @@ this_small : (s : Source) (m : Instances) (i : ℕ) (x : Option ℕ) → term_we
 this_small s m i None = omega arith
 this_small s m i (Some k) = if_small (connection_in s (Some k)) _ _ 1 (λ c. connected_small s m i c) (instance_small (at_level m (level_of s k) i))
 
+transfer_small : (t : Transfer) (line : ℕ) (around : Term) (terms : Terms) → term_weight (transfer_term t line around terms) ≤ 4 + (term_weight around + terms_weight terms)
+transfer_small Detaching line around terms = omega arith
+transfer_small Calling line around NoTerm = omega arith
+transfer_small Calling line around (Further a NoTerm) = omega arith
+transfer_small Calling line around (Further a (Further b terms)) = omega arith
+
 fitting_small : (class : Option ℕ) (line : ℕ) (a : Term) → term_weight (fitting class line a) ≤ 2 + term_weight a
 fitting_small None line a = omega arith
 fitting_small (Some k) line a = omega arith
@@ -299,22 +306,25 @@ mutual
   close_small s m i (syntax.Member member token a class) = omega (arith, membership_small member (class_at s class.token.0) (close s m i a), close_small s m i a)
   close_small s m i (syntax.Dot token a name es) =
       let line = line_at s name.token.0 in
-      if_small (declared_attribute (denoted s name.token.0)) _ _ (expression_weight (syntax.Dot token a name es))
+      if_small (transfer_at s name.token.0) _ _ (expression_weight (syntax.Dot token a name es)) (λ t. omega (arith, close_small s m i a))
+      (if_small (declared_attribute (denoted s name.token.0)) _ _ (expression_weight (syntax.Dot token a name es))
       (attribute_of_small s line (close s m i a) (close_all s m i es) (expression_weight (syntax.Dot token a name es)) (omega (arith, close_small s m i a, close_all_small s m i es))
       (λ d. close_actuals s m i line es (formals_at s d)) (λ d. omega (arith, close_small s m i a, close_actuals_small s m i line es (formals_at s d))) es)
       (dot_small line (expression_weight a) (expression_weight (syntax.Dot token a name es)) (close_place s m i a) (close s m i a) (close_all s m i es)
-      (close_place_small s m i a) (close_small s m i a) (omega (arith, close_all_small s m i es)) s m (denoted s name.token.0) (stream_of s a) (is_variable s a || is_attribute s a))
+      (close_place_small s m i a) (close_small s m i a) (omega (arith, close_all_small s m i es)) s m (denoted s name.token.0) (stream_of s a) (is_variable s a || is_attribute s a)))
   close_small s m i (syntax.Qua token a class) = omega (arith, qua_small (class_at s class.token.0) (line_at s token) (close s m i a), close_small s m i a)
   close_small s m i (syntax.Constant literal token) = literal_small s token literal
   close_small s m i (syntax.Named name es) =
       let line = line_at s name.token.0 in
-      if_small (connection_at s name.token.0) _ _ (9 + expressions_weight es)
+      if_small (transfer_at s name.token.0) _ _ (9 + expressions_weight es)
+      (λ t. omega (arith, transfer_small t line (this_term s m i (found_at s name.token.0)) (close_all s m i es), this_small s m i (found_at s name.token.0), close_all_small s m i es))
+      (if_small (connection_at s name.token.0) _ _ (9 + expressions_weight es)
       (λ k. if_small (declared_attribute (denoted s name.token.0)) _ _ (9 + expressions_weight es)
       (attribute_of_small s line (connected_object s m i k) (close_all s m i es) (9 + expressions_weight es) (omega (arith, connected_small s m i k, close_all_small s m i es))
       (λ d. close_actuals s m i line es (formals_at s d)) (λ d. omega (arith, connected_small s m i k, close_actuals_small s m i line es (formals_at s d))) es)
       (omega arith))
       (named_small s m i (9 + expressions_weight es) (omega arith) line (close_all s m i es) (omega (arith, close_all_small s m i es))
-      (λ fs. close_actuals s m i line es fs) (λ fs. omega (arith, close_actuals_small s m i line es fs)) (denoted s name.token.0) es)
+      (λ fs. close_actuals s m i line es fs) (λ fs. omega (arith, close_actuals_small s m i line es fs)) (denoted s name.token.0) es))
   close_small s m i (syntax.This token class) = this_small s m i (found_at s token)
   close_small s m i (syntax.New token class es) =
       let line = line_at s class.token.0 in

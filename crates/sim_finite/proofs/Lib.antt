@@ -1,4 +1,5 @@
 mod Weights
+mod Transfers
 mod Lifts
 mod Closing
 mod Operators

@@ -1,5 +1,5 @@
 -- What each event goes on with: the ticks are as they were, or there is one more.
-use Rattle.std.proofs.Common.{◌≡◌, ◌≤◌, ◌<◌, ℕ, zero, suc, ◌+◌, Bool, true, false, List, [], ◌∷◌, length, Option, Some, None, refl, sym, ◌∙◌, arith, subst}
+use Rattle.std.proofs.Common.{◌≡◌, ◌≤◌, ◌<◌, ℕ, zero, suc, ◌+◌, Bool, true, false, List, [], ◌∷◌, Option, Some, None, refl, sym, ◌∙◌, arith, subst}
 use Rattle.std.proofs.lemmas.Bool.Decides.{nat_tests}
 use Rattle.std.specs.Prelude.{ℤ, nat_lt, Result, Ok, Err, if◌then◌else◌}
 use Rattle.sim_base.specs.declared.limits.Limits.{Limits}
@@ -9,14 +9,13 @@ use Rattle.sim_values.specs.declared.operators.Dyadic.{Dyadic}
 use Rattle.sim_values.specs.declared.operators.Monadic.{Monadic}
 use Rattle.sim_values.specs.declared.standard.Standard.{Standard}
 use Rattle.sim_values.specs.declared.value.TextVal.{TextVal}
-use Rattle.sim_values.specs.Operators.{Answer, one_of, step_test, two_of}
+use Rattle.sim_values.specs.Operators.{Answer}
 use Rattle.sim_values.specs.Plain.{Character, Integer, Nothing, Object, Plain, Text, Truth}
-use Rattle.sim_values.specs.Standard.{operands_of, row_of, standard_effect}
 use Rattle.sim_values.specs.Words.{array_words, is_exhausted}
-use Rattle.sim_code.specs.Outcome.{ArrayOf, Ended, Ending, Going, Run, World}
+use Rattle.sim_code.specs.Outcome.{Ended, Ending, Going, Run, World}
 use Rattle.sim_values.specs.Texts.{Making, assign, concatenated}
 use Rattle.sim_code.specs.Events.{answering, applying_one, applying_two, assigning, choosing, computing, entering, having, integer_in, joining, making_text, no_rule, performing, pop_integers, pop_object, pop_many, pop_operands, pop_plain, pop_text, pop_truth, popping, putting_back, qualifying, referring, stopping, taking, testing_step, text_val, ticking, truth_in, when, with_texts}
-use Rattle.sim_code.specs.Arrays.{copying_array, element_place, finding_element, keeping_array, live_array, making_array, words_of_array}
+use Rattle.sim_code.specs.Arrays.{copying_array, finding_element, keeping_array, live_array, making_array, words_of_array}
 
 -- where it goes on, this holds
 abbrev pub Goes : {S : Type 0} → (P : World → S → Type 0) → Run S → Type 0
@@ -57,6 +56,11 @@ module _ {S : Type 0} (P : World → S → Type 0) where
   unfolding having
   having_goes None o f x = none o
   having_goes (Some a) o f x = x a
+
+  pub having_knows : {A : Type 0} (x : Option A) (o : World) (f : A → Run S) → ((a : A) → x ≡ Some a → Goes P (f a)) → Goes P (having x o f)
+  unfolding having
+  having_knows None o f x = none o
+  having_knows (Some a) o f x = x a refl
 
   pub when_goes : (b : Bool) (o : World) (r : Run S) → Goes P r → Goes P (when b o r)
   unfolding when
@@ -110,24 +114,24 @@ module _ {S : Type 0} (P : World → S → Type 0) where
     operands_goes read zero first stack o f x = x [] first stack
     operands_goes read (suc n) first stack o f x = popping_goes stack o _ (λ v rest. having_goes (read v) o _ (λ p. operands_goes read n (Some v) rest o _ (λ ps first rest. x (p ∷ ps) first rest)))
 
-    module _ {M : Type 0} (put : V → TextVal → World → M → (World → M → Run S) → Run S) where
-      -- where putting a text back goes on, it leaves the ticks
+    module _ {M : Type 0} (put : V → TextVal → World → M → (World → M → Run S) → Run S) (kept : M → ℕ) where
+      -- where putting a text back goes on, it leaves the ticks, and what the memory keeps
       abbrev pub Puts : Type 0
-      Puts = (v : V) (t : TextVal) (o : World) (m : M) (f : World → M → Run S) → ((p : World) (m : M) → p.ticks ≡ o.ticks → Goes P (f p m)) → Goes P (put v t o m f)
+      Puts = (v : V) (t : TextVal) (o : World) (m : M) (f : World → M → Run S) → ((p : World) (n : M) → p.ticks ≡ o.ticks → kept n ≡ kept m → Goes P (f p n)) → Goes P (put v t o m f)
 
-      back_goes : Puts → (first : Option V) (moved : Option TextVal) (o : World) (m : M) (f : World → M → Run S) → ((p : World) (m : M) → p.ticks ≡ o.ticks → Goes P (f p m)) → Goes P (putting_back put first moved o m f)
+      back_goes : Puts → (first : Option V) (moved : Option TextVal) (o : World) (m : M) (f : World → M → Run S) → ((p : World) (n : M) → p.ticks ≡ o.ticks → kept n ≡ kept m → Goes P (f p n)) → Goes P (putting_back put first moved o m f)
       unfolding putting_back
       back_goes puts (Some v) (Some t) o m f x = puts v t o m f x
-      back_goes puts (Some v) None o m f x = x o m refl
-      back_goes puts None (Some t) o m f x = x o m refl
-      back_goes puts None None o m f x = x o m refl
+      back_goes puts (Some v) None o m f x = x o m refl refl
+      back_goes puts None (Some t) o m f x = x o m refl refl
+      back_goes puts None None o m f x = x o m refl refl
 
       pub performing_goes : Puts → (read : World → M → V → Option Plain) (l : Limits) (line : ℕ) (name : Standard) (stack : List V) (o : World) (m : M) (f : World → M → Option Plain → List V → Run S)
-          → ((p : World) (m : M) (value : Option Plain) (rest : List V) → p.ticks ≡ o.ticks → Goes P (f p m value rest)) → Goes P (performing read put l line name stack o m f)
+          → ((p : World) (n : M) (value : Option Plain) (rest : List V) → p.ticks ≡ o.ticks → kept n ≡ kept m → Goes P (f p n value rest)) → Goes P (performing read put l line name stack o m f)
       unfolding performing
       performing_goes puts read l line name stack o m f x =
           operands_goes (read o m) _ None stack o _ (λ vs first rest. having_goes _ o _ (λ effect. taking_goes l line _ o _ (λ p same. computing_goes line effect.answer _ _ (λ value.
-          back_goes puts first effect.moved (record p { store = effect.store }) m _ (λ q m more. x q m value rest (more ∙ same))))))
+          back_goes puts first effect.moved (record p { store = effect.store }) m _ (λ q n more still. x q n value rest (more ∙ same) still)))))
 
     module _ (plain : V → Option Plain) where
       pub plain_goes : (stack : List V) (o : World) (f : Plain → List V → Run S) → ((p : Plain) (rest : List V) → Goes P (f p rest)) → Goes P (pop_plain plain stack o f)

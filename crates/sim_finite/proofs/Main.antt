@@ -1,19 +1,19 @@
 -- Each step leads to less that is pending, or to a tick; so each run comes to an end.
-use Rattle.std.proofs.Common.{◌≡◌, ◌≤◌, ◌<◌, ℕ, zero, suc, ◌+◌, Bool, true, false, List, [], ◌∷◌, length, Option, Some, None, refl, ◌∙◌, arith}
+use Rattle.std.proofs.Common.{◌≡◌, ◌≤◌, ◌<◌, ℕ, zero, suc, ◌+◌, true, false, List, [], ◌∷◌, length, Option, Some, None, refl, ◌∙◌, arith}
 use Rattle.std.specs.Prelude.{◌==◌}
 use Rattle.sim_base.specs.declared.limits.Limits.{Limits}
 use Rattle.sim_scope.specs.Source.{Source, line_at}
-use Rattle.sim_code.specs.Outcome.{Ended, Ending, Going, Run, World, after, first_world, next}
+use Rattle.sim_code.specs.Outcome.{Ended, Ending, Going, Run, World, after, first_world}
 use Rattle.sim_code.specs.Instances.{no_instances}
 use Rattle.sim_meaning.specs.Constants.{constants_of}
-use Rattle.sim_meaning.specs.Meaning.{do_chain, do_item, do_work, opening, program_entered, step}
+use Rattle.sim_meaning.specs.Meaning.{do_chain, do_item, do_work, program_entered, step}
 use Rattle.sim_meaning.specs.Pending.{Activation, Configuration, Do, EndBlock, EndLevel, EndObject, EndPrefixed, EndProcedure, EndProgram, Instances, Item, Result, Val, cell}
 use Rattle.sim_meaning.specs.Levels.{levels}
 use Rattle.sim_meaning.specs.Texts.{BlockText, PrefixedText, ProcedureText, Text, text}
 use Rattle.sim_finite.specs.Coming.{ComesToAnEnd}
 use Rattle.sim_finite.proofs.Lifts.{Goes, entering_goes, having_goes, none, stops, when_goes}
 use Rattle.sim_finite.proofs.Operators.{leaving_falls, object_ended_falls, op_falls, prefixed_goes}
-use Rattle.sim_finite.proofs.Weights.{Lower, chain_weight, item_weight, lighter, ticked, weight, work_weight}
+use Rattle.sim_finite.proofs.Weights.{Lower, chain_weight, item_weight, kept_weight, lighter, ticked, weight, work_weight}
 
 -- ---- one step
 
@@ -21,30 +21,30 @@ module _ (s : Source) (l : Limits) (o : World) where
   abbrev From : ℕ → World → Configuration → Type 0
   From n = Lower l o.ticks n
 
-  item_falls : (m : Instances) (i : ℕ) (w : List Item) (vals : List Val) (rest : List Activation) (x : Item) → Goes (From (item_weight x + work_weight w + chain_weight rest)) (do_item s l o m i w vals rest x)
+  item_falls : (m : Instances) (i : ℕ) (w : List Item) (vals : List Val) (rest : List Activation) (x : Item) → Goes (From (item_weight x + work_weight w + chain_weight rest + kept_weight m)) (do_item s l o m i w vals rest x)
   item_falls m i w vals rest (Do op) = op_falls s l o m i w vals rest op
   item_falls m i w vals rest EndBlock = leaving_falls s l o m i (work_weight w) rest None
-  item_falls m i w vals rest (EndProcedure true) = having_goes (From (1 + work_weight w + chain_weight rest)) (cell m i Result) o _ (λ v. leaving_falls s l o m i (work_weight w) rest (Some v))
+  item_falls m i w vals rest (EndProcedure true) = having_goes (From (1 + work_weight w + chain_weight rest + kept_weight m)) (cell m i Result) o _ (λ v. leaving_falls s l o m i (work_weight w) rest (Some v))
   item_falls m i w vals rest (EndProcedure false) = leaving_falls s l o m i (work_weight w) rest None
   item_falls m i w vals rest (EndLevel k) = lighter refl (omega arith)
   item_falls m i w vals rest EndObject = object_ended_falls s l o m i (work_weight w) rest
   item_falls m i w vals rest EndPrefixed = leaving_falls s l o m i (work_weight w) rest None
-  item_falls m i w vals rest EndProgram = stops (From (1 + work_weight w + chain_weight rest)) _ o
+  item_falls m i w vals rest EndProgram = stops (From (1 + work_weight w + chain_weight rest + kept_weight m)) _ o
 
-  work_falls : (m : Instances) (i : ℕ) (vals : List Val) (rest : List Activation) (w : List Item) → Goes (From (work_weight w + chain_weight rest)) (do_work s l o m i vals rest w)
-  work_falls m i vals rest [] = none (From (work_weight [] + chain_weight rest)) o
+  work_falls : (m : Instances) (i : ℕ) (vals : List Val) (rest : List Activation) (w : List Item) → Goes (From (work_weight w + chain_weight rest + kept_weight m)) (do_work s l o m i vals rest w)
+  work_falls m i vals rest [] = none (From (0 + chain_weight rest + kept_weight m)) o
   work_falls m i vals rest (x ∷ w) = item_falls m i w vals rest x
 
-  program_falls : (m : Instances) (x : Option Text) → Goes (From 0) (program_entered s l o m x)
-  program_falls m None = none (From 0) o
-  program_falls m (Some (BlockText begin ds ss)) = entering_goes (From 0) l _ _ o _ (λ p more most. ticked (omega (arith, more)) most)
-  program_falls m (Some (ProcedureText result h a)) = none (From 0) o
+  program_falls : (m : Instances) (x : Option Text) → Goes (From (0 + kept_weight m)) (program_entered s l o m x)
+  program_falls m None = none (From (0 + kept_weight m)) o
+  program_falls m (Some (BlockText begin ds ss)) = entering_goes (From (0 + kept_weight m)) l _ _ o _ (λ p more most. ticked (omega (arith, more)) most)
+  program_falls m (Some (ProcedureText result h a)) = none (From (0 + kept_weight m)) o
   program_falls m (Some (PrefixedText class arguments ds ss)) =
-      having_goes (From 0) (levels s 0) o _ (λ xs. prefixed_goes (From 0) s l o m [] 0 (line_at s class.token.0) [] None EndProgram xs (λ p c more most. ticked more most))
-  program_falls m (Some _) = none (From 0) o
+      having_goes (From (0 + kept_weight m)) (levels s 0) o _ (λ xs. prefixed_goes (From (0 + kept_weight m)) s l o m [] 0 (line_at s class.token.0) [] None EndProgram xs (λ p c more most. ticked more most))
+  program_falls m (Some _) = none (From (0 + kept_weight m)) o
 
-  chain_falls : (m : Instances) (chain : List Activation) → Goes (From (chain_weight chain)) (do_chain s l o m chain)
-  chain_falls m [] = when_goes (From 0) (length m.instances == 0) o _ (program_falls m (text s 0))
+  chain_falls : (m : Instances) (chain : List Activation) → Goes (From (chain_weight chain + kept_weight m)) (do_chain s l o m chain)
+  chain_falls m [] = when_goes (From (0 + kept_weight m)) (length m.instances == 0) o _ (program_falls m (text s 0))
   chain_falls m (a ∷ rest) = work_falls m a.instance a.values rest a.work
 
   step_falls : (c : Configuration) → Goes (From (weight c)) (step s l o c)

@@ -1,9 +1,10 @@
 -- What is pending leads to less, or to a tick.
-use Rattle.std.proofs.Common.{◌≡◌, ◌≤◌, ◌<◌, ℕ, ◌+◌, Bool, true, false, List, [], ◌∷◌, length, Option, Some, None, refl, ◌∙◌, arith}
-use Rattle.std.specs.Prelude.{◌*◌, slice_get, if◌then◌else◌}
+use Rattle.std.proofs.Common.{◌≡◌, ◌≤◌, ◌<◌, ℕ, ◌+◌, Bool, true, false, List, [], ◌∷◌, length, Option, Some, None, refl, ap, ◌∙◌, arith, subst}
+use Rattle.std.specs.Prelude.{◌*◌, slice_get, if◌then◌else◌, Result, Ok, Err}
 use Rattle.sim_base.specs.declared.limits.Limits.{Limits}
 use Rattle.sim_base.specs.declared.numbering.DeclNo.{DeclNo}
-use Rattle.sim_chains.specs.Components.{AttachedObject, DetachedObject, NoObject, ResumedObject, Standing, TerminatedObject}
+use Rattle.sim_base.specs.declared.run_error.RunError.{RunError}
+use Rattle.sim_chains.specs.Components.{AttachedObject, Components, DetachedObject, NoObject, ResumedObject, Standing, TerminatedObject}
 use Rattle.sim_scope.specs.Scopes.{class_formals}
 use Rattle.sim_scope.specs.Source.{Source, block_around, line_at}
 use Rattle.sim_tree.specs.declared.expr.Identifier.{Identifier}
@@ -17,15 +18,16 @@ use Rattle.sim_values.specs.declared.value.TextVal.{TextVal}
 use Rattle.sim_values.specs.Store.{image_at, with_image}
 use Rattle.sim_values.specs.Texts.{same_text}
 use Rattle.sim_code.specs.Outcome.{ArrayOf, Run, World}
-use Rattle.sim_code.specs.Events.{having, image_moved, text_val, ticking}
+use Rattle.sim_code.specs.Events.{computing, having, image_moved, text_val, ticking}
 use Rattle.sim_code.specs.Arrays.{element, element_set_in, giving_back, handed_over, live_array, owned_by, pairs}
-use Rattle.sim_code.specs.Instances.{CellPlace, ElementPlace, ImagePlace, Place, ended_as, is_given_at_end, is_live, object_ended}
+use Rattle.sim_code.specs.Instances.{CellPlace, ElementPlace, ImagePlace, Instance, Place, cells_of, cells_put, ended_as, given, given_in, going_below, is_given_at_end, is_live, live, object_ended, with_instance}
+use Rattle.sim_code.specs.Transfers.{Transfer, component_in, transferred, transferring}
 use Rattle.sim_meaning.specs.Connections.{arm_tried, arms_tried, connected, object_connected}
 use Rattle.sim_meaning.specs.Levels.{class_at, has_procedure, is_in, levels, text_at}
 use Rattle.sim_meaning.specs.Objects.{cells_of_levels, filled_in, generated, inner_done, is_member, object_entered, prefix_done, prefixed_entered, putting_reference, with_inner}
 use Rattle.sim_meaning.specs.Entries.{arrays_among, arrays_by_value, arrays_declared, arrays_of, bounds_of, filled_behind, first_array, further_arrays, segments_of, first_cells, formals_of, words_of_cells}
 use Rattle.sim_meaning.specs.Meaning.{called, do_op, leaving, procedure_entered, sub_block_entered}
-use Rattle.sim_meaning.specs.Pending.{Activation, Address, AgainOp, array_in, ArrayOp, AttributeOf, AttributeOp, BackOp, BranchOp, CallOf, CallOp, Cell, cell, cell_made, cell_set, ChooseOp, Configuration, Connection, ConnectOp, CopyOf, CopyOp, DeclareOp, Do, DropOp, Either, ElementOf, ElementOp, ElementsOp, EndLevel, EndPrefixed, EnterOp, Eval, Exec, Execs, FetchOp, FitsOf, FitsOp, Further, Given, GiveOp, IfOp, ImageOf, InnerOp, instance_in, Instances, Item, Joined, JoinOp, KeepOp, KeptOf, Key, Level, LevelOp, Link, MemberOf, MemberOp, NewOf, NewOp, NoTerm, ObjectOp, Of, One, OneOp, Op, PastOp, place_in, PlaceOf, plain, PrefixedOp, ProcedureValue, QualifiedElementOf, QualifiedElementOp, QualifiedPlaceOf, QuaOf, QuaOp, RaiseOp, ReferOp, RemoteCallOf, ShareOp, StandardOf, StandardOp, StepOp, StepTestOp, StoreOp, SwapOp, Target, Term, Terms, TestOp, ToAddress, ToCell, ToPlace, ToReference, ToReferenceAt, ToText, ToTextAt, ToTextOf, Tree, Two, TwoOp, Unbuilt, Val, ValueAt, WhenOp, WhileElementOp, variable_in}
+use Rattle.sim_meaning.specs.Pending.{Activation, Address, AgainOp, array_in, ArrayOp, AttributeOf, AttributeOp, BackOp, BranchOp, CallOf, CallOp, Cell, cell, cell_made, cell_set, ChooseOp, Configuration, Connection, ConnectOp, CopyOf, CopyOp, DeclareOp, Do, DropOp, Either, ElementOf, ElementOp, ElementsOp, EndLevel, EndPrefixed, EnterOp, Eval, Exec, Execs, FetchOp, FitsOf, FitsOp, Further, Given, GiveOp, Held, IfOp, ImageOf, InnerOp, instance_in, Instances, Item, Joined, JoinOp, KeepOp, KeptOf, Key, Level, LevelOp, Link, made_in, MemberOf, MemberOp, NewOf, NewOp, NoTerm, NotNoneOf, NotNoneOp, ObjectOp, Of, One, OneOp, Op, owner, PastOp, place_in, PlaceOf, plain, PrefixedOp, ProcedureValue, put_in, QualifiedElementOf, QualifiedElementOp, QualifiedPlaceOf, QuaOf, QuaOp, RaiseOp, ReferOp, RemoteCallOf, ShareOp, StandardOf, StandardOp, StepOp, StepTestOp, StoreOp, SwapOp, Target, Term, Terms, TestOp, ToAddress, ToCell, ToPlace, ToReference, ToReferenceAt, ToText, ToTextAt, ToTextOf, TransferOf, TransferOp, Tree, Two, TwoOp, Unbuilt, Val, ValueAt, WhenOp, WhileElementOp, variable_in}
 use Rattle.sim_meaning.specs.Pending as pending
 use Rattle.sim_meaning.specs.Statements as statement
 use Rattle.sim_meaning.specs.Statements.{assigned, begin_of, compound, elements, entered_at, exec, execs, first_branch, inner_begun, levels_of_instance, looping, prefix_begun, raised, reading}
@@ -33,8 +35,9 @@ use Rattle.sim_meaning.specs.Steps.{count, each, eval, put_back, putting, stored
 use Rattle.sim_meaning.specs.Texts.{BlockText, ProcedureText, declared_at, kind_named}
 use Rattle.sim_meaning.specs.Texts as texts
 use Rattle.sim_finite.proofs.Closing.{close_small}
-use Rattle.sim_finite.proofs.Lifts.{Goes, assigning_goes, choosing_goes, copying_goes, entering_goes, finding_goes, having_goes, integers_goes, joining_goes, keeping_goes, making_goes, many_goes, none, object_goes, one_goes, performing_goes, plain_goes, popping_goes, qualifying_goes, step_goes, ticking_goes, truth_goes, two_goes, when_goes}
-use Rattle.sim_finite.proofs.Weights.{Lower, arms_weight, bounds_weight, chain_weight, declarations_weight, elements_weight, expression_weight, levels_weight, lighter, names_weight, op_weight, segments_weight, statements_weight, target_weight, term_weight, terms_weight, ticked, work_weight}
+use Rattle.sim_finite.proofs.Lifts.{Goes, assigning_goes, choosing_goes, copying_goes, entering_goes, finding_goes, having_goes, having_knows, integers_goes, joining_goes, keeping_goes, making_goes, many_goes, none, object_goes, one_goes, performing_goes, plain_goes, popping_goes, qualifying_goes, step_goes, stops, ticking_goes, truth_goes, two_goes, when_goes}
+use Rattle.sim_finite.proofs.Transfers.{NotMore, NotMoreIn, transfer_small}
+use Rattle.sim_finite.proofs.Weights.{Lower, arms_weight, bounds_weight, chain_weight, declarations_weight, elements_weight, expression_weight, kept_weight, levels_weight, lighter, names_weight, op_weight, segments_weight, standings_weight, statements_weight, target_weight, term_weight, terms_weight, ticked, work_weight}
 
 -- ---- worlds with the same ticks
 
@@ -51,6 +54,28 @@ handed_ticks owner (n ∷ rest) o = handed_ticks owner rest _ ∙ owned_ticks (s
     owned_ticks : (a : Option ArrayOf) → (owned_by owner a o n).ticks ≡ o.ticks
     owned_ticks None = refl
     owned_ticks (Some a) = refl
+
+-- ---- memories that keep the same chains
+
+put_kept : (m : Instances) (j : ℕ) (x : Option (Instance (List Held))) (cells : Option (List Held)) (n : Instances) → cells_put m j x cells ≡ Some n → kept_weight n ≡ kept_weight m
+put_kept m j (Some x) (Some cells) n is = let same : n ≡ with_instance m j (record x { cells = cells }) = cc in ap kept_weight same
+put_kept m j (Some x) None n is = absurd (cc)
+put_kept m j None (Some cells) n is = absurd (cc)
+put_kept m j None None n is = absurd (cc)
+
+cell_kept : (m : Instances) (j : ℕ) (key : Key) (v : Val) (n : Instances) → cell_set m j key v ≡ Some n → kept_weight n ≡ kept_weight m
+cell_kept m j key v n is = put_kept m j (live m j) (put_in (cells_of m j) key v) n is
+
+made_kept : (m : Instances) (j : ℕ) (key : Key) (v : Val) (n : Instances) → cell_made m j key v ≡ Some n → kept_weight n ≡ kept_weight m
+made_kept m j key v n is = put_kept m j (live m j) (made_in (cells_of m j) key v) n is
+
+given_kept : (m : Instances) (j : ℕ) (x : Option (Instance (List Held))) → kept_weight (given_in m j x) ≡ kept_weight m
+given_kept m j None = refl
+given_kept m j (Some x) = refl
+
+left_kept : (b : Bool) (m : Instances) (j : ℕ) → kept_weight (if b then given m j else m) ≡ kept_weight m
+left_kept true m j = given_kept m j (slice_get m.instances j)
+left_kept false m j = refl
 
 module _ (P : World → Configuration → Type 0) where
   set_goes : (n k : ℕ) (v : Plain) (a : Option ArrayOf) (old : Option Plain) (o : World) (f : World → Run Configuration) → ((p : World) → p.ticks ≡ o.ticks → Goes P (f p)) → Goes P (having (element_set_in o n k v a old) o f)
@@ -69,29 +94,29 @@ module _ (P : World → Configuration → Type 0) where
       by_same true = x _ refl
       by_same false = none P o
 
-  pub putting_goes : (p : Place Key (Option ℕ)) (v : Val) (o : World) (m : Instances) (f : World → Instances → Run Configuration) → ((q : World) (m : Instances) → q.ticks ≡ o.ticks → Goes P (f q m)) → Goes P (putting p v o m f)
+  pub putting_goes : (p : Place Key (Option ℕ)) (v : Val) (o : World) (m : Instances) (f : World → Instances → Run Configuration) → ((q : World) (n : Instances) → q.ticks ≡ o.ticks → kept_weight n ≡ kept_weight m → Goes P (f q n)) → Goes P (putting p v o m f)
   unfolding putting
-  putting_goes (CellPlace j key None) v o m f x = having_goes P (cell_set m j key v) o _ (λ m. x o m refl)
+  putting_goes (CellPlace j key None) v o m f x = having_knows P (cell_set m j key v) o _ (λ n is. x o n refl (cell_kept m j key v n is))
   putting_goes (CellPlace j key (Some k)) v o m f x = none P o
-  putting_goes (ElementPlace a n None) v o m f x = having_goes P (plain v) o _ (λ p. set_goes a n p (live_array o a) (element o a n) o _ (λ q same. x q m same))
+  putting_goes (ElementPlace a n None) v o m f x = having_goes P (plain v) o _ (λ p. set_goes a n p (live_array o a) (element o a n) o _ (λ q same. x q m same refl))
   putting_goes (ElementPlace a n (Some k)) v o m f x = none P o
-  putting_goes (ImagePlace n) v o m f x = having_goes P (plain v) o _ (λ p. moved_goes n (image_at o.store n) (text_val p) o _ (λ q same. x q m same))
+  putting_goes (ImagePlace n) v o m f x = having_goes P (plain v) o _ (λ p. moved_goes n (image_at o.store n) (text_val p) o _ (λ q same. x q m same refl))
 
-  pub back_goes : (v : Val) (t : TextVal) (o : World) (m : Instances) (f : World → Instances → Run Configuration) → ((q : World) (m : Instances) → q.ticks ≡ o.ticks → Goes P (f q m)) → Goes P (put_back v t o m f)
+  pub back_goes : (v : Val) (t : TextVal) (o : World) (m : Instances) (f : World → Instances → Run Configuration) → ((q : World) (n : Instances) → q.ticks ≡ o.ticks → kept_weight n ≡ kept_weight m → Goes P (f q n)) → Goes P (put_back v t o m f)
   unfolding put_back
   back_goes (Address p) t o m f x = putting_goes p (Of (Text t)) o m f x
-  back_goes (Of p) t o m f x = x o m refl
-  back_goes (Link j) t o m f x = x o m refl
-  back_goes (pending.ArrayValue a) t o m f x = x o m refl
-  back_goes (ProcedureValue k j) t o m f x = x o m refl
-  back_goes (Tree e) t o m f x = x o m refl
+  back_goes (Of p) t o m f x = x o m refl refl
+  back_goes (Link j) t o m f x = x o m refl refl
+  back_goes (pending.ArrayValue a) t o m f x = x o m refl refl
+  back_goes (ProcedureValue k j) t o m f x = x o m refl refl
+  back_goes (Tree e) t o m f x = x o m refl refl
 
-  pub putting_reference_goes : (s : Source) (line : ℕ) (p : Place Key (Option ℕ)) (v : Plain) (o : World) (m : Instances) (f : World → Instances → Run Configuration) → ((q : World) (m : Instances) → q.ticks ≡ o.ticks → Goes P (f q m)) → Goes P (putting_reference s line p v o m f)
+  pub putting_reference_goes : (s : Source) (line : ℕ) (p : Place Key (Option ℕ)) (v : Plain) (o : World) (m : Instances) (f : World → Instances → Run Configuration) → ((q : World) (n : Instances) → q.ticks ≡ o.ticks → kept_weight n ≡ kept_weight m → Goes P (f q n)) → Goes P (putting_reference s line p v o m f)
   unfolding putting_reference
   putting_reference_goes s line (CellPlace j key None) v o m f x = none P o
-  putting_reference_goes s line (CellPlace j key (Some k)) v o m f x = qualifying_goes P line (is_in s m k) v o _ (having_goes P (cell_set m j key (Of v)) o _ (λ m. x o m refl))
+  putting_reference_goes s line (CellPlace j key (Some k)) v o m f x = qualifying_goes P line (is_in s m k) v o _ (having_knows P (cell_set m j key (Of v)) o _ (λ n is. x o n refl (cell_kept m j key (Of v) n is)))
   putting_reference_goes s line (ElementPlace a n None) v o m f x = none P o
-  putting_reference_goes s line (ElementPlace a n (Some k)) v o m f x = qualifying_goes P line (is_in s m k) v o _ (set_goes a n v (live_array o a) (element o a n) o _ (λ q same. x q m same))
+  putting_reference_goes s line (ElementPlace a n (Some k)) v o m f x = qualifying_goes P line (is_in s m k) v o _ (set_goes a n v (live_array o a) (element o a n) o _ (λ q same. x q m same refl))
   putting_reference_goes s line (ImagePlace n) v o m f x = none P o
 
 -- ---- what is pending of operands, and of a controlled variable
@@ -173,7 +198,7 @@ declarations_small s m i (With (DeclareClass prefix token h interface a end) ds)
 module _ (s : Source) (l : Limits) (o : World) (m : Instances) (i : ℕ) (w : List Item) (vals : List Val) (rest : List Activation) where
   -- from where this much is pending beside the work behind it
   abbrev From : ℕ → World → Configuration → Type 0
-  From n = Lower l o.ticks (n + work_weight w + chain_weight rest)
+  From n = Lower l o.ticks (n + work_weight w + chain_weight rest + kept_weight m)
 
   abbrev Falls : ℕ → Run Configuration → Type 0
   Falls n r = Goes (From n) r
@@ -201,12 +226,14 @@ module _ (s : Source) (l : Limits) (o : World) (m : Instances) (i : ℕ) (w : Li
   eval_falls (QuaOf k line a) = lighter refl (omega arith)
   eval_falls (FitsOf k line a) = lighter refl (omega arith)
   eval_falls (KeptOf a) = lighter refl (omega arith)
+  eval_falls (NotNoneOf line a) = lighter refl (omega arith)
+  eval_falls (TransferOf t line a) = lighter refl (omega arith)
   eval_falls Unbuilt = none (From 1) o
 
   store_falls : (t : Target) → Falls (target_weight t) (stored o m i w vals rest t)
-  store_falls (ToCell j key) = popping_goes (From 1) vals o _ (λ v vals. having_goes (From 1) (cell_set m j key v) o _ (λ m. lighter refl (omega arith)))
+  store_falls (ToCell j key) = popping_goes (From 1) vals o _ (λ v vals. having_knows (From 1) (cell_set m j key v) o _ (λ n is. lighter refl (omega (arith, cell_kept m j key v n is))))
   store_falls ToAddress =
-      popping_goes (From 1) vals o _ (λ v vals. popping_goes (From 1) vals o _ (λ p vals. having_goes (From 1) (variable_in p) o _ (λ p. putting_goes (From 1) p v o m _ (λ q m same. lighter same (omega arith)))))
+      popping_goes (From 1) vals o _ (λ v vals. popping_goes (From 1) vals o _ (λ p vals. having_goes (From 1) (variable_in p) o _ (λ p. putting_goes (From 1) p v o m _ (λ q n same still. lighter same (omega (arith, still))))))
   store_falls (ToText line) = assigning_goes (From 1) plain line vals o _ (λ p vals same. lighter same (omega arith))
   store_falls (ToTextOf j key line) = assigning_goes (From 1) plain line vals o _ (λ p vals same. lighter same (omega arith))
   store_falls (ToReference line) = lighter refl (omega arith)
@@ -294,7 +321,7 @@ module _ (s : Source) (l : Limits) (o : World) (m : Instances) (i : ℕ) (w : Li
 
   -- connections: one arm is left less, or a statement is begun
   connected_falls : (n k j : ℕ) (vals : List Val) (a : Statement) → 3 ≤ n → Falls n (connected o m i w vals rest k j a)
-  connected_falls n k j vals a h = having_goes (From n) (cell_made m i (Connection k) (Of (Object j))) o _ (λ m. lighter refl (omega (arith, h)))
+  connected_falls n k j vals a h = having_knows (From n) (cell_made m i (Connection k) (Of (Object j))) o _ (λ made is. lighter refl (omega (arith, h, made_kept m i (Connection k) (Of (Object j)) made is)))
 
   inspect_falls : (vals : List Val) (k : ℕ) (a : Statement) (other : Statements) (p : Plain) → Falls (3 + statements_weight other) (object_connected o m i w vals rest k a other p)
   inspect_falls vals k a other (Object j) = connected_falls (3 + statements_weight other) k j vals a (omega arith)
@@ -323,6 +350,21 @@ module _ (s : Source) (l : Limits) (o : World) (m : Instances) (i : ℕ) (w : Li
   arms_falls vals (When token class opening a end more) other (Character c) = none (From (3 + ((1 + arms_weight more) + statements_weight other))) o
   arms_falls vals (When token class opening a end more) other (Text t) = none (From (3 + ((1 + arms_weight more) + statements_weight other))) o
 
+  -- a transfer of control
+  below_falls : (operating : List Activation) (standings : List (Standing Activation)) → chain_weight operating + standings_weight standings ≤ work_weight w + chain_weight rest + kept_weight m → Falls 1 (going_below o operating (record m { standings = standings }))
+  below_falls [] standings less = tt
+  below_falls (a ∷ below) standings less = lighter refl (omega (arith, less))
+
+  moved_falls : (line : ℕ) (r : Result (Components Activation) RunError) → NotMore (work_weight w + chain_weight rest + kept_weight m) r → Falls 1 (computing line r o (λ c. going_below o c.operating (record m { standings = c.standings })))
+  unfolding computing
+  moved_falls line (Ok c) less = below_falls c.operating c.standings less
+  moved_falls line (Err e) less = stops (From 1) _ o
+
+  transfer_falls : (vals : List Val) (t : Transfer) (line : ℕ) (p : Plain) → Falls 1 (transferring owner t line o (record { instance = i; work = w; values = vals } ∷ rest) m p)
+  unfolding transferring
+  transfer_falls vals t line p =
+      having_goes (From 1) (component_in p) o _ (λ y. having_knows (From 1) (transferred owner t _ y) o _ (λ r is. moved_falls line r (subst (NotMoreIn (work_weight w + chain_weight rest + kept_weight m)) is (transfer_small t _ y))))
+
   inner_falls : (xs : List Level) → Falls (levels_weight xs) (inner_done o m i w vals rest xs)
   inner_falls [] = lighter refl (omega arith)
   inner_falls (x ∷ xs) = lighter refl (omega (arith, inner_weight x.inner_last xs (EndLevel x.text ∷ w)))
@@ -350,7 +392,7 @@ module _ (s : Source) (l : Limits) (o : World) (m : Instances) (i : ℕ) (w : Li
   op_falls FetchOp = popping_goes (From 1) vals o _ (λ v vals. having_goes (From 1) (place_in v) o _ (λ p. having_goes (From 1) (value_at o m p) o _ (λ v. lighter refl (omega arith))))
   op_falls (CopyOp line) = popping_goes (From 1) vals o _ (λ v vals. having_goes (From 1) (array_in v) o _ (λ a. copying_goes (From 1) l line i a o _ (λ n p same. lighter same (omega arith))))
   op_falls (CallOp k n line) = call_falls k n line
-  op_falls (StandardOp name line) = performing_goes (From 1) put_back (back_goes (From 1)) _ l line name vals o m _ (λ p m value vals same. lighter same (omega arith))
+  op_falls (StandardOp name line) = performing_goes (From 1) put_back kept_weight (back_goes (From 1)) _ l line name vals o m _ (λ p n value vals same still. lighter same (omega (arith, still)))
   op_falls (NewOp k n line) = generation_falls k n line
   op_falls (AttributeOp k key class line) = object_goes (From 1) plain line vals o _ (λ j vals. when_goes (From 1) (is_in s m k j) o _ (lighter refl (omega arith)))
   op_falls (ObjectOp k line) = object_goes (From 1) plain line vals o _ (λ j vals. when_goes (From 1) (has_procedure s m k j) o _ (lighter refl (omega arith)))
@@ -359,6 +401,8 @@ module _ (s : Source) (l : Limits) (o : World) (m : Instances) (i : ℕ) (w : Li
   op_falls (QuaOp k line) = object_goes (From 1) plain line vals o _ (λ j vals. qualifying_goes (From 1) line (is_in s m k) (Object j) o _ (lighter refl (omega arith)))
   op_falls (FitsOp k line) = plain_goes (From 1) plain vals o _ (λ p vals. qualifying_goes (From 1) line (is_in s m k) p o _ (lighter refl (omega arith)))
   op_falls KeepOp = popping_goes (From 1) vals o _ (λ v vals. having_goes (From 1) (array_in v) o _ (λ a. keeping_goes (From 1) a o _ (λ p same. lighter same (omega arith))))
+  op_falls (NotNoneOp line) = object_goes (From 1) plain line vals o _ (λ j vals. lighter refl (omega arith))
+  op_falls (TransferOp t line) = plain_goes (From 1) plain vals o _ (λ p vals. transfer_falls vals t line p)
   op_falls DropOp = popping_goes (From 1) vals o _ (λ v vals. lighter refl (omega arith))
   op_falls AgainOp = popping_goes (From 1) vals o _ (λ v vals. lighter refl (omega arith))
   op_falls SwapOp = popping_goes (From 1) vals o _ (λ v vals. popping_goes (From 1) vals o _ (λ u vals. lighter refl (omega arith)))
@@ -366,7 +410,7 @@ module _ (s : Source) (l : Limits) (o : World) (m : Instances) (i : ℕ) (w : Li
   op_falls (ShareOp ts) = popping_goes (From (op_weight (ShareOp ts))) vals o _ (λ v vals. lighter refl (omega arith))
   op_falls (GiveOp v ts) = give_falls v ts
   op_falls (ReferOp line) =
-      plain_goes (From 1) plain vals o _ (λ p vals. popping_goes (From 1) vals o _ (λ v vals. having_goes (From 1) (place_in v) o _ (λ a. putting_reference_goes (From 1) s line a p o m _ (λ q m same. lighter same (omega arith)))))
+      plain_goes (From 1) plain vals o _ (λ p vals. popping_goes (From 1) vals o _ (λ v vals. having_goes (From 1) (place_in v) o _ (λ a. putting_reference_goes (From 1) s line a p o m _ (λ q n same still. lighter same (omega (arith, still))))))
   op_falls (ArrayOp kind n line) = integers_goes (From 1) plain (2 * n) [] vals o _ (λ bounds vals. making_goes (From 1) l line i kind (pairs bounds) o _ (λ n p same. lighter same (omega arith)))
   op_falls (Exec a) = exec_falls a
   op_falls (Execs ss) = execs_falls ss
@@ -392,17 +436,17 @@ module _ (s : Source) (l : Limits) (o : World) (m : Instances) (i : ℕ) (w : Li
 -- ---- ends
 
 -- an instance ends, and the one below goes on
-pub leaving_falls : (s : Source) (l : Limits) (o : World) (m : Instances) (i n : ℕ) (rest : List Activation) (v : Option Val) → Goes (Lower l o.ticks (1 + n + chain_weight rest)) (leaving s rest v i o m)
+pub leaving_falls : (s : Source) (l : Limits) (o : World) (m : Instances) (i n : ℕ) (rest : List Activation) (v : Option Val) → Goes (Lower l o.ticks (1 + n + chain_weight rest + kept_weight m)) (leaving s rest v i o m)
 unfolding leaving
-leaving_falls s l o m i n [] v = none (Lower l o.ticks (1 + n + 0)) o
-leaving_falls s l o m i n (a ∷ rest) v = lighter (back_ticks (is_given_at_end m i) o i _) (omega arith)
+leaving_falls s l o m i n [] v = none (Lower l o.ticks (1 + n + 0 + kept_weight m)) o
+leaving_falls s l o m i n (a ∷ rest) v = lighter (back_ticks (is_given_at_end m i) o i _) (omega (arith, left_kept (is_given_at_end m i) m i))
 
 -- an object ends, and what is below goes on
-pub object_ended_falls : (s : Source) (l : Limits) (o : World) (m : Instances) (i n : ℕ) (rest : List Activation) → Goes (Lower l o.ticks (1 + n + chain_weight rest)) (ticking l o (λ p. object_ended p m i rest))
+pub object_ended_falls : (s : Source) (l : Limits) (o : World) (m : Instances) (i n : ℕ) (rest : List Activation) → Goes (Lower l o.ticks (1 + n + chain_weight rest + kept_weight m)) (ticking l o (λ p. object_ended p m i rest))
 unfolding object_ended
-object_ended_falls s l o m i n rest = ticking_goes (Lower l o.ticks (1 + n + chain_weight rest)) l o _ (λ p more most. by_standing p (omega (arith, more)) most (slice_get m.standings i) rest)
+object_ended_falls s l o m i n rest = ticking_goes (Lower l o.ticks (1 + n + chain_weight rest + kept_weight m)) l o _ (λ p more most. by_standing p (omega (arith, more)) most (slice_get m.standings i) rest)
   where
-    by_standing : (p : World) → o.ticks < p.ticks → p.ticks ≤ l.ticks → (x : Option (Standing Activation)) (below : List Activation) → Goes (Lower l o.ticks (1 + n + chain_weight rest)) (ended_as p m i below x)
+    by_standing : (p : World) → o.ticks < p.ticks → p.ticks ≤ l.ticks → (x : Option (Standing Activation)) (below : List Activation) → Goes (Lower l o.ticks (1 + n + chain_weight rest + kept_weight m)) (ended_as p m i below x)
     by_standing p lt le (Some AttachedObject) [] = tt
     by_standing p lt le (Some AttachedObject) (a ∷ below) = ticked lt le
     by_standing p lt le None below = tt

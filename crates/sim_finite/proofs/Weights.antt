@@ -1,11 +1,12 @@
 -- How much is pending: no more steps can come between two ticks.
-use Rattle.std.proofs.Common.{◌≡◌, ◌≤◌, ◌<◌, ℕ, ◌+◌, List, [], ◌∷◌}
+use Rattle.std.proofs.Common.{◌≡◌, ◌≤◌, ◌<◌, ℕ, ◌+◌, List, [], ◌∷◌, Some}
 use Rattle.sim_base.specs.declared.limits.Limits.{Limits}
+use Rattle.sim_chains.specs.Components.{DetachedObject, NoObject, Standing}
 use Rattle.sim_tree.specs.declared.expr.Identifier.{Identifier}
 use Rattle.sim_tree.specs.Syntax.{Also, Arms, Arrayed, Arrays, BoundPair, Declarations, DeclareClass, DeclareProcedure, Element, Expression, Expressions, NoArm, NoDeclaration, NoMore, NoStatement, Statements, Then, Variables, When, With}
 use Rattle.sim_tree.specs.Syntax as syntax
 use Rattle.sim_code.specs.Outcome.{World}
-use Rattle.sim_meaning.specs.Pending.{Activation, AgainOp, ArrayOp, AttributeOf, AttributeOp, BackOp, BranchOp, CallOf, CallOp, Cell, ChooseOp, Configuration, ConnectOp, CopyOf, CopyOp, DeclareOp, Do, DropOp, Either, ElementOf, ElementOp, ElementsOp, EndBlock, EndLevel, EndObject, EndPrefixed, EndProcedure, EndProgram, EnterOp, Eval, Exec, Execs, FetchOp, FitsOf, FitsOp, Further, Given, GiveOp, IfOp, ImageOf, InnerOp, Item, Joined, JoinOp, KeepOp, KeptOf, Level, LevelOp, MemberOf, MemberOp, NewOf, NewOp, NoTerm, ObjectOp, One, OneOp, Op, PastOp, PlaceOf, PrefixedOp, QualifiedElementOf, QualifiedElementOp, QualifiedPlaceOf, QuaOf, QuaOp, RaiseOp, ReferOp, RemoteCallOf, ShareOp, StandardOf, StandardOp, StepOp, StepTestOp, StoreOp, SwapOp, Target, Term, Terms, TestOp, ToAddress, ToCell, ToPlace, ToReference, ToReferenceAt, ToText, ToTextAt, ToTextOf, Two, TwoOp, Unbuilt, ValueAt, WhenOp, WhileElementOp}
+use Rattle.sim_meaning.specs.Pending.{Activation, AgainOp, ArrayOp, AttributeOf, AttributeOp, BackOp, BranchOp, CallOf, CallOp, Cell, ChooseOp, Configuration, ConnectOp, CopyOf, CopyOp, DeclareOp, Do, DropOp, Either, ElementOf, ElementOp, ElementsOp, EndBlock, EndLevel, EndObject, EndPrefixed, EndProcedure, EndProgram, EnterOp, Eval, Exec, Execs, FetchOp, FitsOf, FitsOp, Further, Given, GiveOp, IfOp, ImageOf, InnerOp, Instances, Item, Joined, JoinOp, KeepOp, KeptOf, Level, LevelOp, MemberOf, MemberOp, NewOf, NewOp, NoTerm, NotNoneOf, NotNoneOp, ObjectOp, One, OneOp, Op, PastOp, PlaceOf, PrefixedOp, QualifiedElementOf, QualifiedElementOp, QualifiedPlaceOf, QuaOf, QuaOp, RaiseOp, ReferOp, RemoteCallOf, ShareOp, StandardOf, StandardOp, StepOp, StepTestOp, StoreOp, SwapOp, Target, Term, Terms, TestOp, ToAddress, ToCell, ToPlace, ToReference, ToReferenceAt, ToText, ToTextAt, ToTextOf, TransferOf, TransferOp, Two, TwoOp, Unbuilt, ValueAt, WhenOp, WhileElementOp}
 
 -- the steps that a closed tree takes
 abbrev mutual
@@ -32,6 +33,8 @@ abbrev mutual
   term_weight (QuaOf k line a) = 2 + term_weight a
   term_weight (FitsOf k line a) = 2 + term_weight a
   term_weight (KeptOf a) = 2 + term_weight a
+  term_weight (NotNoneOf line a) = 2 + term_weight a
+  term_weight (TransferOf t line a) = 2 + term_weight a
   term_weight Unbuilt = 1
 
   pub terms_weight : Terms → ℕ
@@ -133,6 +136,8 @@ op_weight (MemberOp member k) = 1
 op_weight (QuaOp k line) = 1
 op_weight (FitsOp k line) = 1
 op_weight KeepOp = 1
+op_weight (NotNoneOp line) = 1
+op_weight (TransferOp t line) = 1
 op_weight DropOp = 1
 op_weight AgainOp = 1
 op_weight SwapOp = 1
@@ -178,8 +183,22 @@ abbrev pub chain_weight : List Activation → ℕ
 chain_weight [] = 0
 chain_weight (a ∷ rest) = work_weight a.work + chain_weight rest
 
+-- the chain that an instance keeps
+abbrev pub standing_weight : Standing Activation → ℕ
+standing_weight (NoObject (Some main)) = chain_weight main
+standing_weight (DetachedObject chain) = chain_weight chain
+standing_weight _ = 0
+
+abbrev pub standings_weight : List (Standing Activation) → ℕ
+standings_weight [] = 0
+standings_weight (x ∷ xs) = standing_weight x + standings_weight xs
+
+abbrev pub kept_weight : Instances → ℕ
+kept_weight m = standings_weight m.standings
+
+-- on the operating chain, and on those that are kept
 abbrev pub weight : Configuration → ℕ
-weight c = chain_weight c.chain
+weight c = chain_weight c.chain + kept_weight c.memory
 
 -- Less is pending than before, or a tick was taken.
 pub data Lower (l : Limits) (ticks before : ℕ) (o : World) (c : Configuration) : Type 0 where

@@ -1,3 +1,4 @@
 pub mod Worked
 pub mod WorkedClasses
+pub mod WorkedCoroutines
 pub mod TextsOfBodies

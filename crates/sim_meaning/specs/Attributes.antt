@@ -1,6 +1,6 @@
 -- The closed trees of what objects have: of attributes behind a dot, and of those that are seen in a connection; of the classes that are
 -- named in expressions; and of references, which have a qualification.
-use Rattle.std.specs.Prelude.{ℕ, Bool, true, false, if◌then◌else◌, List, [], ◌∷◌, slice_get, Option, Some, None}
+use Rattle.std.specs.Prelude.{ℕ, Bool, true, false, if◌then◌else◌, List, ◌∷◌, slice_get, Option, Some, None}
 use Rattle.sim_base.specs.declared.numbering.DeclNo.{DeclNo}
 use Rattle.sim_scope.specs.declared.scopes.Denotation.{Denotation}
 use Rattle.sim_scope.specs.declared.scopes.Denotation.TheVariants as denotation
@@ -13,15 +13,19 @@ use Rattle.sim_scope.specs.declared.types.Mode.{Mode}
 use Rattle.sim_scope.specs.declared.types.Mode.TheVariants as mode
 use Rattle.sim_scope.specs.declared.types.SimType.{SimType}
 use Rattle.sim_scope.specs.Scopes.{entry_of}
-use Rattle.sim_scope.specs.Source.{Source, block_of, found_at, level_of}
+use Rattle.sim_scope.specs.Source.{Source, block_of, denoted, found_at, level_of}
 use Rattle.sim_scope.specs.Tables.{BlockOf}
 use Rattle.sim_tree.specs.declared.expr.Membership.{Membership}
 use Rattle.sim_tree.specs.Syntax.{Expressions, NoMore, Then}
+use Rattle.sim_values.specs.declared.standard.Standard.{Standard}
+use Rattle.sim_values.specs.declared.standard.Standard.TheVariants as name_of
 use Rattle.sim_values.specs.Plain.{Object}
 use Rattle.sim_code.specs.Instances.{at_level}
+use Rattle.sim_code.specs.Transfers.{Calling, Detaching, Transfer}
+use Rattle.sim_meaning.specs.Names.{procedure_named}
 use Rattle.sim_meaning.specs.Levels.{qualification}
 use Rattle.sim_meaning.specs.Texts.{ConnectionText, Text, text}
-use Rattle.sim_meaning.specs.Pending.{AttributeOf, Cell, Connection, Declared, ElementOf, FitsOf, Further, Given, Instances, KeptOf, Key, MemberOf, NewOf, NoTerm, PlaceOf, QuaOf, QualifiedElementOf, QualifiedPlaceOf, RemoteCallOf, Term, Terms, Unbuilt, ValueAt}
+use Rattle.sim_meaning.specs.Pending.{AttributeOf, Cell, Connection, Declared, ElementOf, FitsOf, Further, Given, Instances, KeptOf, Key, MemberOf, NewOf, NoTerm, NotNoneOf, PlaceOf, QuaOf, QualifiedElementOf, QualifiedPlaceOf, RemoteCallOf, Term, Terms, TransferOf, Unbuilt, ValueAt}
 
 -- what is there, or else another tree
 abbrev pub if_any : {A : Type 0} → Option A → (A → Term) → Term → Term
@@ -135,6 +139,35 @@ this_instance (Some j) = Given (Object j)
 abbrev pub this_term : Source → Instances → ℕ → (found : Option ℕ) → Term
 this_term s m i None = Unbuilt
 this_term s m i (Some k) = if_any (connection_in s (Some k)) (λ c. connected_object s m i c) (this_instance (at_level m (level_of s k) i))
+
+-- ---- transfers of control
+
+-- `detach` and `call`, where an identifier denotes one of these
+abbrev pub transfer_of : Standard → Option Transfer
+transfer_of name_of.Detach = Some Detaching
+transfer_of name_of.Call = Some Calling
+transfer_of _ = None
+
+abbrev pub transfer_named : Option Standard → Option Transfer
+transfer_named None = None
+transfer_named (Some name) = transfer_of name
+
+abbrev pub transfer_denoted : Option Denotation → Option Transfer
+transfer_denoted (Some (denotation.Standard name)) = transfer_named (procedure_named name)
+transfer_denoted _ = None
+
+unfoldable pub transfer_at : Source → (token : ℕ) → Option Transfer
+transfer_at s token = transfer_denoted (denoted s token)
+
+-- `x.detach`: E6 where x is none
+abbrev pub detach_term : (line : ℕ) → (object : Term) → Term
+detach_term line object = TransferOf Detaching line (NotNoneOf line object)
+
+-- `detach` is that of the object or prefixed block around, or of the connected object; `call` has the component as its actual parameter
+abbrev pub transfer_term : Transfer → (line : ℕ) → (around : Term) → Terms → Term
+transfer_term Detaching line around terms = detach_term line around
+transfer_term Calling line around (Further a NoTerm) = TransferOf Calling line a
+transfer_term Calling line around _ = Unbuilt
 
 -- ---- references
 

@@ -1,15 +1,14 @@
 -- Small programs with classes, as what scopes make of their abstract syntax. Tokens are numbered as they stand in the source. In an example
 -- each class has a name of its own.
-use Rattle.std.specs.Prelude.{◌≡◌, ℕ, ◌+◌, Bool, true, false, ◌&&◌, if◌then◌else◌, pos, List, [], ◌∷◌, ◌++◌, length, replicate, slice_get, Option, Some, None, codes}
+use Rattle.std.specs.Prelude.{◌≡◌, ℕ, ◌+◌, Bool, true, false, ◌&&◌, if◌then◌else◌, pos, List, [], ◌∷◌, ◌++◌, replicate, Option, Some, None, codes}
 use Rattle.std.specs.Str.{bytes_eq}
-use Rattle.sim_base.specs.declared.limits.Limits.{Limits}
 use Rattle.sim_base.specs.declared.numbering.DeclNo.{DeclNo}
 use Rattle.sim_base.specs.declared.run_error.RunError.TheVariants.{AccessThroughNone, OutsideQualification}
 use Rattle.sim_scope.specs.declared.scopes.Declaration.{Declaration as Row}
 use Rattle.sim_scope.specs.declared.scopes.Denotation.{Denotation}
 use Rattle.sim_scope.specs.declared.scopes.Denotation.TheVariants as denotation
 use Rattle.sim_scope.specs.declared.scopes.Qualification.{Qualification}
-use Rattle.sim_scope.specs.declared.types.BlockKind.{BlockKind}
+use Rattle.sim_scope.specs.declared.standard.StandardName.TheVariants as standard
 use Rattle.sim_scope.specs.declared.types.Entry.{Entry}
 use Rattle.sim_scope.specs.declared.types.Entry.TheVariants as entry
 use Rattle.sim_scope.specs.declared.types.SimType.{SimType}
@@ -18,7 +17,7 @@ use Rattle.sim_scope.specs.Access.{is_connection}
 use Rattle.sim_scope.specs.Declare.{declared_by}
 use Rattle.sim_scope.specs.Levels.{class_block, class_block_in}
 use Rattle.sim_scope.specs.References.{this_block}
-use Rattle.sim_scope.specs.Scopes.{binding, entry_of, found_in, shown}
+use Rattle.sim_scope.specs.Scopes.{binding, entry_of, found_in, is_detach, shown}
 use Rattle.sim_scope.specs.Source.{Source}
 use Rattle.sim_scope.specs.Standard.{text_attribute}
 use Rattle.sim_scope.specs.Tables.{BlockOf, Tables, with_entry_at}
@@ -32,8 +31,9 @@ use Rattle.sim_tree.specs.declared.stmt.Assignment.TheVariants as assignment
 use Rattle.sim_tree.specs.declared.stmt.Constant.TheVariants as constant
 use Rattle.sim_tree.specs.declared.stmt.Mode.TheVariants as mode
 use Rattle.sim_tree.specs.declared.stmt.TypeName.TheVariants as type_name
-use Rattle.sim_tree.specs.Syntax.{Also, Array, Arrays, Assign, Begin, Binary, Block, BooleanValue, Call, CharacterValue, Choose, Compound, Constant, DeclareClass, DeclareProcedure, Dot, Empty, For, If, Inner, Inspect, InspectWhen, IntegerValue, Member, Named, New, NoArm, NoDeclaration, NoMore, NoObject, NoStatement, NoText, Not, Once, Parentheses, Prefixed, Program, Qua, Repeat, Simple, Step, TextValue, Then, This, Variables, When, With}
-use Rattle.sim_code.specs.Outcome.{Normal, RunFault, Shown, StorageExhausted}
+use Rattle.sim_tree.specs.Syntax.{Also, Array, Arrays, Assign, Begin, Binary, Block, BooleanValue, Call, CharacterValue, Choose, Compound, Constant, DeclareClass, DeclareProcedure, Dot, For, If, Inner, Inspect, InspectWhen, IntegerValue, Member, Named, New, NoArm, NoDeclaration, NoMore, NoObject, NoStatement, NoText, Not, Once, Parentheses, Prefixed, Program, Qua, Repeat, Simple, Step, TextValue, Then, This, Variables, When, With}
+use Rattle.sim_values.specs.declared.standard.Standard.TheVariants as procedure
+use Rattle.sim_code.specs.Outcome.{Normal, RunFault, StorageExhausted}
 use Rattle.sim_meaning.specs.Examples.{identifier, limits, lines_of, seen, shows, token}
 use Rattle.sim_meaning.specs.TextExamples.{attribute, gap}
 
@@ -114,17 +114,18 @@ pub record Use : Type 0 where
 abbrev pub at : ℕ → Where → List ℕ → Use
 at token where_it_is name = record { token = token; where_it_is = where_it_is; name = name }
 
-abbrev pub declaration : Option DeclNo → Option Denotation
-declaration None = None
-declaration (Some d) = Some (denotation.Declared d)
-
 abbrev pub attribute_of : Tables → ℕ → List ℕ → Option ℕ → Option DeclNo
 attribute_of tables token name None = None
 attribute_of tables token name (Some k) = shown tables (Some token) k name
 
+-- behind what a class declares each object has `detach`
+abbrev pub attribute_or_detach : List ℕ → Option DeclNo → Option Denotation
+attribute_or_detach name (Some d) = Some (denotation.Declared d)
+attribute_or_detach name None = if is_detach name then Some (denotation.Standard (standard.Procedure procedure.Detach)) else None
+
 abbrev pub denotes : Tables → Use → Where → Option Denotation
 denotes tables x Alone = binding tables x.token x.name
-denotes tables x (Behind class) = declaration (attribute_of tables x.token x.name (block_of_class tables (class_named tables class)))
+denotes tables x (Behind class) = attribute_or_detach x.name (attribute_of tables x.token x.name (block_of_class tables (class_named tables class)))
 denotes tables x OfText = attribute (text_attribute x.name)
 denotes tables x OfThis = None
 

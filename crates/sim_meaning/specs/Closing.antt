@@ -24,7 +24,6 @@ use Rattle.sim_tree.specs.declared.operator.Operator.{Operator}
 use Rattle.sim_tree.specs.declared.operator.Operator.TheVariants as op
 use Rattle.sim_tree.specs.declared.stmt.Assignment.{Assignment}
 use Rattle.sim_tree.specs.declared.stmt.Assignment.TheVariants as assignment
-use Rattle.sim_tree.specs.declared.expr.Identifier.{Identifier}
 use Rattle.sim_tree.specs.Syntax.{Expression, Expressions, Literal, NoMore, Then, naming}
 use Rattle.sim_tree.specs.Syntax as syntax
 use Rattle.sim_values.specs.declared.operators.Calculation.TheVariants as calculation
@@ -40,7 +39,7 @@ use Rattle.sim_values.specs.Plain.{Character, Integer, Nothing, Plain, Text, Tru
 use Rattle.sim_values.specs.Standard.{is_image, moves_position, on_image}
 use Rattle.sim_values.specs.Texts.{notext}
 use Rattle.sim_code.specs.Instances.{at_level}
-use Rattle.sim_meaning.specs.Attributes.{attribute, connected_object, connection_at, declared_attribute, fitting, generation, if_any, membership_term, parameter_qualification, place_of_attribute, qua_term, qualified_place, this_term, with_arrays_kept}
+use Rattle.sim_meaning.specs.Attributes.{attribute, connected_object, connection_at, declared_attribute, detach_term, fitting, generation, if_any, membership_term, parameter_qualification, place_of_attribute, qua_term, qualified_place, this_term, transfer_at, transfer_term, with_arrays_kept}
 use Rattle.sim_meaning.specs.Constants.{text_constant}
 use Rattle.sim_meaning.specs.Levels.{class_at, qualification}
 use Rattle.sim_meaning.specs.Names.{is_image_in, procedure_named, stream_named}
@@ -334,17 +333,19 @@ abbrev mutual
   close s m i (syntax.Signed sign token a) = signed_term sign (line_at s token) (close s m i a)
   close s m i (syntax.Member member token a class) = membership_term member (class_at s class.token.0) (close s m i a)
   close s m i (syntax.Dot token a name es) =
-      if_any (declared_attribute (denoted s name.token.0))
+      if_any (transfer_at s name.token.0) (λ t. detach_term (line_at s name.token.0) (close s m i a))
+      (if_any (declared_attribute (denoted s name.token.0))
       (attribute s (line_at s name.token.0) (close s m i a) es (close_all s m i es) (λ d. close_actuals s m i (line_at s name.token.0) es (formals_at s d)))
-      (dot_term (denoted s name.token.0) (stream_of s a) (is_variable s a || is_attribute s a) (line_at s name.token.0) (close_place s m i a) (close s m i a) (close_all s m i es))
+      (dot_term (denoted s name.token.0) (stream_of s a) (is_variable s a || is_attribute s a) (line_at s name.token.0) (close_place s m i a) (close s m i a) (close_all s m i es)))
   close s m i (syntax.Qua token a class) = qua_term (class_at s class.token.0) (line_at s token) (close s m i a)
   close s m i (syntax.Constant literal token) = literal_term s token literal
   close s m i (syntax.Named name es) =
-      if_any (connection_at s name.token.0)
+      if_any (transfer_at s name.token.0) (λ t. transfer_term t (line_at s name.token.0) (this_term s m i (found_at s name.token.0)) (close_all s m i es))
+      (if_any (connection_at s name.token.0)
       (λ k. if_any (declared_attribute (denoted s name.token.0))
       (attribute s (line_at s name.token.0) (connected_object s m i k) es (close_all s m i es) (λ d. close_actuals s m i (line_at s name.token.0) es (formals_at s d)))
       Unbuilt)
-      (named_term s m i (line_at s name.token.0) (denoted s name.token.0) es (close_all s m i es) (λ formals. close_actuals s m i (line_at s name.token.0) es formals))
+      (named_term s m i (line_at s name.token.0) (denoted s name.token.0) es (close_all s m i es) (λ formals. close_actuals s m i (line_at s name.token.0) es formals)))
   close s m i (syntax.This token class) = this_term s m i (found_at s token)
   close s m i (syntax.New token class es) =
       generation (home_of_class s m i (denoted s class.token.0)) (class_at s class.token.0)

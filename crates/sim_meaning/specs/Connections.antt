@@ -1,6 +1,6 @@
 -- Connections: `inspect`. The object that is connected is kept in a cell of the instance in which the statement stands, one for each arm, and
 -- what the object has is read through that cell. The cell takes no words.
-use Rattle.std.specs.Prelude.{ℕ, Bool, true, false, List, [], ◌∷◌, Option, Some, None}
+use Rattle.std.specs.Prelude.{ℕ, Bool, true, false, List, ◌∷◌}
 use Rattle.sim_scope.specs.Source.{Source}
 use Rattle.sim_tree.specs.Syntax.{Arms, NoArm, Statement, Statements, When}
 use Rattle.sim_values.specs.Plain.{Nothing, Object, Plain}

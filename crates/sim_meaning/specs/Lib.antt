@@ -15,3 +15,4 @@ pub mod Sane
 pub mod Examples
 pub mod TextExamples
 pub mod ClassExamples
+pub mod CoroutineExamples

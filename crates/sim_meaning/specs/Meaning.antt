@@ -8,14 +8,14 @@ use Rattle.sim_code.specs.Outcome.{Going, Normal, Run, World, after, first_world
 use Rattle.sim_code.specs.Events.{applying_one, applying_two, choosing, entering, having, joining, no_rule, performing, pop_integers, pop_many, pop_truth, popping, stopping, testing_step, ticking, when}
 use Rattle.sim_code.specs.Arrays.{giving_back, handed_over, making_array, pairs}
 use Rattle.sim_code.specs.Instances.{Instance, given, is_given_at_end, is_live, no_instances, object_ended}
-use Rattle.sim_meaning.specs.Pending.{Activation, AgainOp, ArrayOp, ArrayValue, AttributeOp, BackOp, BranchOp, CallOp, ChooseOp, Configuration, ConnectOp, CopyOp, DeclareOp, Do, DropOp, ElementOp, ElementsOp, EndBlock, EndLevel, EndObject, EndPrefixed, EndProcedure, EndProgram, EnterOp, Eval, Exec, Execs, FetchOp, FitsOp, GiveOp, Held, IfOp, InnerOp, Instances, Item, JoinOp, KeepOp, LevelOp, MemberOp, NewOp, ObjectOp, Of, OneOp, Op, PastOp, PrefixedOp, QuaOp, QualifiedElementOp, RaiseOp, ReferOp, Result, ShareOp, StandardOp, StepOp, StepTestOp, StoreOp, SwapOp, TestOp, TwoOp, Val, WhenOp, WhileElementOp, cell, instance_in, plain}
+use Rattle.sim_meaning.specs.Pending.{Activation, AgainOp, ArrayOp, ArrayValue, AttributeOp, BackOp, BranchOp, CallOp, ChooseOp, Configuration, ConnectOp, CopyOp, DeclareOp, Do, DropOp, ElementOp, ElementsOp, EndBlock, EndLevel, EndObject, EndPrefixed, EndProcedure, EndProgram, EnterOp, Eval, Exec, Execs, FetchOp, FitsOp, GiveOp, Held, IfOp, InnerOp, Instances, Item, JoinOp, KeepOp, LevelOp, MemberOp, NewOp, NotNoneOp, ObjectOp, Of, OneOp, Op, PastOp, PrefixedOp, QuaOp, QualifiedElementOp, RaiseOp, ReferOp, Result, ShareOp, StandardOp, StepOp, StepTestOp, StoreOp, SwapOp, TestOp, TransferOp, TwoOp, Val, WhenOp, WhileElementOp, cell, instance_in, plain}
 use Rattle.sim_meaning.specs.Constants.{constants_of}
 use Rattle.sim_meaning.specs.Texts.{BlockText, PrefixedText, ProcedureText, Text, text}
 use Rattle.sim_meaning.specs.Levels.{levels}
 use Rattle.sim_meaning.specs.Closing.{close}
 use Rattle.sim_meaning.specs.Steps.{copied, element_found, eval, fetched, given_to, go, operand, put_back, stored, with_value}
 use Rattle.sim_meaning.specs.Statements.{elements, exec, execs, first_branch, raised, step_tested, while_element}
-use Rattle.sim_meaning.specs.Objects.{attribute_found, fitted, generated, inner_done, kept, member_tested, object_found, prefix_done, prefixed_entered, qua_tested, qualified_element_found, referred}
+use Rattle.sim_meaning.specs.Objects.{attribute_found, fitted, generated, inner_done, kept, member_tested, not_none, object_found, prefix_done, prefixed_entered, qua_tested, qualified_element_found, referred, transfer_done}
 use Rattle.sim_meaning.specs.Connections.{inspected, inspected_when}
 use Rattle.sim_meaning.specs.Entries.{arrays_by_value, arrays_declared, filled_behind, first_cells, formals_of, in_instance, instances_kept, words_of_cells}
 
@@ -103,6 +103,8 @@ do_op s l o m i w vals rest (MemberOp member k) = member_tested s o m i w vals r
 do_op s l o m i w vals rest (QuaOp k line) = qua_tested s o m i w vals rest k line
 do_op s l o m i w vals rest (FitsOp k line) = fitted s o m i w vals rest k line
 do_op s l o m i w vals rest KeepOp = kept o m i w vals rest
+do_op s l o m i w vals rest (NotNoneOp line) = not_none o m i w vals rest line
+do_op s l o m i w vals rest (TransferOp t line) = transfer_done o m i w vals rest t line
 -- values in hand, and assignments
 do_op s l o m i w vals rest DropOp = popping vals o (λ v vals. go o m i w vals rest)
 do_op s l o m i w vals rest AgainOp = popping vals o (λ v vals'. go o m i w (v ∷ vals) rest)

@@ -14,8 +14,9 @@ use Rattle.sim_code.specs.Outcome.{Going, Run, World}
 use Rattle.sim_code.specs.Events.{entering, having, no_rule, pop_many, pop_object, pop_plain, popping, qualifying, when}
 use Rattle.sim_code.specs.Arrays.{element_set, finding_element, handed_over, keeping_array}
 use Rattle.sim_code.specs.Instances.{CellPlace, ElementPlace, Place, entered, is_live}
+use Rattle.sim_code.specs.Transfers.{Transfer, transferring}
 use Rattle.sim_meaning.specs.Levels.{belongs, has_procedure, is_in, levels}
-use Rattle.sim_meaning.specs.Pending.{Activation, Address, ArrayValue, Configuration, Declared, DeclareOp, Do, EndLevel, EndObject, EndPrefixed, Execs, Held, InnerOp, Instances, Item, Key, Level, LevelOp, Link, Of, Val, array_in, cell_set, held_set, instance_in, place_in, plain}
+use Rattle.sim_meaning.specs.Pending.{Activation, Address, ArrayValue, Configuration, Declared, DeclareOp, Do, EndLevel, EndObject, EndPrefixed, Execs, Held, InnerOp, Instances, Item, Key, Level, LevelOp, Link, Of, Val, array_in, cell_set, held_set, instance_in, owner, place_in, plain}
 use Rattle.sim_meaning.specs.Texts.{constant_of}
 use Rattle.sim_meaning.specs.Steps.{go}
 use Rattle.sim_meaning.specs.Entries.{arrays_among, cell_before, in_instance, new_instance, numbers_of, with_cell, words_of_cells}
@@ -69,6 +70,16 @@ abbrev pub referred : Source → World → Instances → ℕ → List Item → L
 referred s o m i w vals rest line =
     pop_plain plain vals o (λ p vals. popping vals o (λ v vals. having (place_in v) o (λ place.
     putting_reference s line place p o m (λ o m. go o m i w vals rest))))
+
+-- ---- transfers of control
+
+-- the object in hand; E6 for none
+abbrev pub not_none : World → Instances → ℕ → List Item → List Val → List Activation → (line : ℕ) → Run Configuration
+not_none o m i w vals rest line = pop_object plain line vals o (λ j vals. go o m i w (Of (Object j) ∷ vals) rest)
+
+-- `detach` or `call` of the object in hand; the instance that does it goes on when control returns to it
+abbrev pub transfer_done : World → Instances → ℕ → List Item → List Val → List Activation → Transfer → (line : ℕ) → Run Configuration
+transfer_done o m i w vals rest t line = pop_plain plain vals o (λ p vals. transferring owner t line o (record { instance = i; work = w; values = vals } ∷ rest) m p)
 
 -- ---- the work of an instance with levels
 

@@ -8,6 +8,7 @@ use Rattle.sim_values.specs.declared.operators.Monadic.{Monadic}
 use Rattle.sim_values.specs.declared.standard.Standard.{Standard}
 use Rattle.sim_values.specs.Plain.{Plain}
 use Rattle.sim_code.specs.Instances.{CellPlace, ElementPlace, Memory, Place, State, cells_of, with_cells}
+use Rattle.sim_code.specs.Transfers.{Transfer}
 
 -- A cell of an instance: that of a declaration, by its number; that of the result of a procedure; or that of a connection, by its token.
 pub data Key : Type 0 where
@@ -51,6 +52,9 @@ mutual
     FitsOf : (class line : ℕ) → (actual : Term) → Term
     -- an array that is kept
     KeptOf : Term → Term
+    -- a reference that is not none; `detach` and `call` of the object that a reference names
+    NotNoneOf : (line : ℕ) → (object : Term) → Term
+    TransferOf : Transfer → (line : ℕ) → (object : Term) → Term
     -- a form that is not built
     Unbuilt : Term
 
@@ -132,6 +136,8 @@ pub data Op : Type 0 where
   QuaOp : (class line : ℕ) → Op
   FitsOp : (class line : ℕ) → Op
   KeepOp : Op
+  NotNoneOp : (line : ℕ) → Op
+  TransferOp : Transfer → (line : ℕ) → Op
   -- the value in hand is dropped, or there once more; the last two change places
   DropOp : Op
   AgainOp : Op

@@ -3,6 +3,7 @@ ghost use Rattle.std.specs.Prelude.{◌≡◌, Some, map};
 ghost use Rattle.sim_scope.specs.Bodies.{program_bodies};
 ghost use Rattle.sim_tree.specs.Syntax.{Program};
 ghost use Rattle.sim_meaning.specs.ClassExamples.{WorkedClasses};
+ghost use Rattle.sim_meaning.specs.CoroutineExamples.{WorkedCoroutines};
 ghost use Rattle.sim_meaning.specs.Examples.{Worked};
 ghost use Rattle.sim_meaning.specs.TextExamples.{WorkedTexts};
 ghost use Rattle.sim_meaning.specs.Texts.{program_texts, text_of};
@@ -20,6 +21,11 @@ pub fn worked_programs_with_texts()
 /// Small programs with classes do so too.
 pub fn worked_programs_with_classes()
     ensures { WorkedClasses }
+{}
+
+/// Small programs with coroutines do so too.
+pub fn worked_programs_with_coroutines()
+    ensures { WorkedCoroutines }
 {}
 
 /// The texts of each program are what its bodies are made of, one for one and in their order. Since the blocks of the tables of scopes are

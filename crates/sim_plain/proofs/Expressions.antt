@@ -31,7 +31,7 @@ use Rattle.sim_tree.specs.SyntaxOf.{Tail, Operands, Selection, Take, Cast, chain
 use Rattle.sim_tree.proofs.Nests.{level_plain}
 use Rattle.sim_tree.proofs.ReadExpressions.{Full}
 use Rattle.sim_plain.specs.Clean.{Clean}
-use Rattle.sim_agree.specs.Plain.{PlainAttribute, PlainExpression, PlainExpressions, PlainName}
+use Rattle.sim_agree.specs.Plain.{PlainExpression, PlainExpressions, PlainName}
 
 pub record Claim (x : Derivation) (e : Expression) : Type 0 where
   pub known : not (is_bare x.inside) ≡ true → Full x.inside → Clean x.inside → PlainExpression e
@@ -103,7 +103,7 @@ abbrev FactorClaim : Factor → Type 0
 FactorClaim x = StepClaim (factor_derivation x) (factor_syntax x)
 
 abbrev PlainSelection : Selection → Type 0
-PlainSelection (Take i name es) = PlainAttribute name × PlainExpressions es
+PlainSelection (Take i name es) = PlainExpressions es
 PlainSelection (Cast i class) = PlainName class
 
 abbrev PlainSelections : List Selection → Type 0
@@ -112,7 +112,7 @@ PlainSelections (x ∷ xs) = PlainSelection x × PlainSelections xs
 
 plain_selected : (e : Expression) (xs : List Selection) → PlainExpression e → PlainSelections xs → PlainExpression (selected e xs)
 plain_selected e [] p ps = p
-plain_selected e (Take i name es ∷ xs) p ps = plain_selected (s.Dot i e name es) xs (p, ps.0.0, ps.0.1) ps.1
+plain_selected e (Take i name es ∷ xs) p ps = plain_selected (s.Dot i e name es) xs (p, ps.0) ps.1
 plain_selected e (Cast i class ∷ xs) p ps = plain_selected (s.Qua i e class) xs (p, ps.0) ps.1
 
 abbrev SelectorClaim : Selector → Type 0
@@ -314,7 +314,7 @@ SelectorLayer x =
 
 selector_step : (y : Selector-F ExprPair SelectorPair FactorPair OperandPair TermPair)
     → SelectorLayer (map-Selector ExprPair SelectorPair FactorPair OperandPair TermPair Expr Selector Factor Operand Term first_expr first_selector first_factor first_operand first_term y)
-selector_step (Selector-F.Dot i x v) full clean = (clean.1.0, actuals v.items full clean.1.1)
+selector_step (Selector-F.Dot i x v) full clean = actuals v.items full clean.1.1
 selector_step (Selector-F.Qua i x) full clean = clean.1.0
 
 selector_layer : (x : Selector-F Expr Selector Factor Operand Term) → SelectorLayer x → SelectorClaim (roll-Selector x)

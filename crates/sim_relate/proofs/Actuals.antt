@@ -29,7 +29,7 @@ use Rattle.sim_relate.proofs.Heads.{kept_standings}
 use Rattle.sim_relate.proofs.Known.{Any, Every, Kind, StackAt, ValAt, anys, array_at, element_at, image_at, link_at, more_at, plain_at}
 use Rattle.sim_relate.proofs.Relation.{Changed, StoreAt}
 use Rattle.sim_relate.proofs.Slots.{results}
-use Rattle.sim_relate.proofs.Stores.{SameOwners, keeps_kept, later_kept, store_kept, unchanged}
+use Rattle.sim_relate.proofs.Stores.{SameOwners, keeps_kept, kept_long, later_kept, store_kept, unchanged}
 
 -- ---- formal parameters, as the code says them
 
@@ -113,6 +113,7 @@ module _ (s : Source) (code : CodeOf) where
     keeps = keeps_kept s code m fs below;
     standings = kept_standings meaning.owner chain m;
     frame_standings = kept_standings machine.owner below fs;
+    as_many = kept_long s m chain;
   }
   kept_alike m fs a chain below owners true false e = absurd (cc)
   kept_alike m fs a chain below owners false true e = absurd (cc)

@@ -1,5 +1,5 @@
 -- What is related stays so in later stores.
-use Rattle.std.proofs.Common.{◌≡◌, ◌<◌, ◌≤◌, ℕ, suc, Bool, false, List, [], ◌∷◌, length, Option, Some, None, refl, sym, subst, ◌∙◌, arith}
+use Rattle.std.proofs.Common.{◌≡◌, ◌<◌, ◌≤◌, ℕ, suc, Bool, false, List, [], ◌∷◌, length, Option, Some, None, refl, sym, ap, subst, ◌∙◌, arith}
 use Rattle.std.specs.Prelude.{slice_get}
 use Rattle.sim_chains.specs.Components.{AttachedObject, DetachedObject, NoObject, ResumedObject, Standing, TerminatedObject}
 use Rattle.sim_scope.specs.Source.{Source, level_of}
@@ -9,13 +9,13 @@ use Rattle.sim_code.specs.declared.stage.Stage.{Stage}
 use Rattle.sim_code.specs.Code.{BlockOf, CodeOf}
 use Rattle.sim_code.specs.Machine.{Frames, Value}
 use Rattle.sim_code.specs.Machine as machine
-use Rattle.sim_meaning.specs.Pending.{Activation, AttributeOf, BackOp, BranchOp, CallOf, Cell, CopyOf, Do, Either, ElementOf, ElementsOp, EndBlock, EndLevel, EndObject, EndPrefixed, EndProcedure, EndProgram, Eval, FitsOf, Further, Given, GiveOp, IfOp, ImageOf, Instances, Item, Joined, KeptOf, Key, MemberOf, NewOf, NoTerm, One, Op, PlaceOf, QuaOf, QualifiedElementOf, QualifiedPlaceOf, RaiseOp, RemoteCallOf, ShareOp, StandardOf, StepTestOp, StoreOp, Target, Term, Terms, ToAddress, ToCell, ToPlace, ToReference, ToReferenceAt, ToText, ToTextAt, ToTextOf, Two, Unbuilt, Val, ValueAt, WhileElementOp}
+use Rattle.sim_meaning.specs.Pending.{Activation, AttributeOf, BackOp, BranchOp, CallOf, Cell, CopyOf, Do, Either, ElementOf, ElementsOp, EndBlock, EndLevel, EndObject, EndPrefixed, EndProcedure, EndProgram, Eval, FitsOf, Further, Given, GiveOp, IfOp, ImageOf, Instances, Item, Joined, KeptOf, Key, MemberOf, NewOf, NoTerm, NotNoneOf, One, Op, PlaceOf, QuaOf, QualifiedElementOf, QualifiedPlaceOf, RaiseOp, RemoteCallOf, ShareOp, StandardOf, StepTestOp, StoreOp, Target, Term, Terms, ToAddress, ToCell, ToPlace, ToReference, ToReferenceAt, ToText, ToTextAt, ToTextOf, TransferOf, Two, Unbuilt, Val, ValueAt, WhileElementOp}
 use Rattle.sim_meaning.specs.Sane.{AllKept, AllOf, KeptOf as KeptChains}
 use Rattle.codegen_expr.specs.Sites.{Site, class_number, frame_text, own_end}
 use Rattle.codegen.specs.CodeFor.{OfCell, OfPlace, OfReference, Variable}
 use Rattle.sim_relate.proofs.Known.{Any, Every, FixedOf, HandAt, Keeps, Kind, Later, LinkTo, Located, OwnerOf, Reaches, Refers, RefersAt, Runs, Spot, StackAt, Stands, more_at, none_at, placed, refers_cell, refers_element, site_at}
 use Rattle.sim_relate.proofs.Trees.{CellPlaceIs, GivenIs, OperandAt, ReadsAt, TermAt, TermsAt}
-use Rattle.sim_relate.proofs.Relation.{AtLevel, Bottom, ChainAt, ChainOn, Changed, ComesTo, DeclaredTo, EndAt, GivesIs, InStage, LevelEnds, OpAt, PlaceStoreIs, StandingAt, StandingsAt, StoreIs, TargetAt, VariableIs, WorkAt, at_level, declares, inner_here, inner_last, over, returning, stays, there, to_first, to_next, with_inner}
+use Rattle.sim_relate.proofs.Relation.{AtLevel, Bottom, ChainAt, ChainOn, Changed, ComesTo, DeclaredTo, EndAt, GivesIs, InStage, LevelEnds, ObjectIs, OpAt, PlaceStoreIs, StandingAt, StandingsAt, StoreIs, TargetAt, VariableIs, WorkAt, at_level, declares, inner_here, inner_last, over, returning, stays, there, to_first, to_next, with_inner}
 
 end_later : (s : Source) (code : CodeOf) (Below Below' : Bool → Type 0) → ((v : Bool) → Below v → Below' v) → (t : ℕ) (b : Runs) (x : Item) (p : ℕ) (ks : List Kind) → EndAt s code Below t b x p ks → EndAt s code Below' t b x p ks
 end_later s code Below Below' f t b (Do op) p ks a = absurd a
@@ -162,6 +162,8 @@ module _ (s : Source) (code : CodeOf) (m m' : Instances) (e : Later s m m') wher
       term_later site n (QuaOf k line x) p q a = (a.0, (term_later site n x p a.0 (a.1).0, (a.1).1), a.2)
       term_later site n (FitsOf k line x) p q a = (a.0, (term_later site n x p a.0 (a.1).0, (a.1).1), a.2)
       term_later site n (KeptOf x) p q a = (a.0, (term_later site n x p a.0 (a.1).0, (a.1).1), a.2)
+      term_later site n (NotNoneOf line x) p q a = (a.0, (term_later site n x p a.0 (a.1).0, (a.1).1), a.2)
+      term_later site n (TransferOf t line x) p q a = (a.0, (term_later site n x p a.0 (a.1).0, (a.1).1), a.2)
       term_later site n Unbuilt p q a = a
 
       pub terms_later : (site : Site) (n : ℕ) (xs : Terms) (p q : ℕ) → TermsAt s code m inst site n xs p q → TermsAt s code m' inst site n xs p q
@@ -327,21 +329,24 @@ module _ (s : Source) (code : CodeOf) (m m' : Instances) (fs fs' : Frames) (e : 
   pub chain_later : (chain : List Activation) → AllOf Of chain → (v : Bool) (below : List machine.Activation) → ChainAt s code m fs chain v below → ChainAt s code m' fs' chain v below
   chain_later chain all v below c = chain_on_later (Bottom s code) (Bottom s code) (λ w b g. g) chain all v below c
 
-  -- the chains that are kept
-  standing_later : (x : Standing Activation) (y : Standing machine.Activation) → KeptChains Of x → StandingAt s code m fs x y → StandingAt s code m' fs' x y
-  standing_later (NoObject None) (NoObject None) all a = a
-  standing_later (NoObject (Some chain)) (NoObject (Some below)) all a = chain_later chain all false below a
-  standing_later AttachedObject AttachedObject all a = a
-  standing_later (DetachedObject chain) (DetachedObject below) all a = chain_later chain all false below a
-  standing_later ResumedObject ResumedObject all a = a
-  standing_later TerminatedObject TerminatedObject all a = a
-  standing_later _ _ all a = absurd a
+  object_later : (j : ℕ) → ObjectIs s code m j → ObjectIs s code m' j
+  object_later j x = record { own = x.own; is = e.texts j x.own x.is; class = x.class }
 
-  pub both_later : (x : Option (Standing Activation)) (y : Option (Standing machine.Activation)) → ((z : Standing Activation) → x ≡ Some z → KeptChains Of z) → Both (StandingAt s code m fs) x y → Both (StandingAt s code m' fs') x y
-  both_later None None o a = a
-  both_later None (Some y) o a = absurd a
-  both_later (Some x) None o a = absurd a
-  both_later (Some x) (Some y) o a = standing_later x y (o x refl) a
+  -- the chains that are kept
+  standing_later : (j : ℕ) (x : Standing Activation) (y : Standing machine.Activation) → KeptChains Of x → StandingAt s code m fs j x y → StandingAt s code m' fs' j x y
+  standing_later j (NoObject None) (NoObject None) all a = a
+  standing_later j (NoObject (Some chain)) (NoObject (Some below)) all a = chain_later chain all false below a
+  standing_later j AttachedObject AttachedObject all a = object_later j a
+  standing_later j (DetachedObject chain) (DetachedObject below) all a = (object_later j a.0, chain_later chain all false below a.1)
+  standing_later j ResumedObject ResumedObject all a = a
+  standing_later j TerminatedObject TerminatedObject all a = a
+  standing_later j _ _ all a = absurd a
+
+  pub both_later : (j : ℕ) (x : Option (Standing Activation)) (y : Option (Standing machine.Activation)) → ((z : Standing Activation) → x ≡ Some z → KeptChains Of z) → Both (StandingAt s code m fs j) x y → Both (StandingAt s code m' fs' j) x y
+  both_later j None None o a = a
+  both_later j None (Some y) o a = absurd a
+  both_later j (Some x) None o a = absurd a
+  both_later j (Some x) (Some y) o a = standing_later j x y (o x refl) a
 
 -- the chains behind a step that makes no instance
 module _ (s : Source) (code : CodeOf) {Of : ℕ → Type 0} {m m' : Instances} {fs fs' : Frames} (x : Changed s code Of m fs m' fs') where
@@ -349,10 +354,13 @@ module _ (s : Source) (code : CodeOf) {Of : ℕ → Type 0} {m m' : Instances} {
   chain_changed chain all v below c = chain_later s code m m' fs fs' x.later Of x.keeps chain all v below c
 
   pub parked_changed : AllKept Of m → StandingsAt s code m fs → StandingsAt s code m' fs'
-  parked_changed all a j =
-      subst (λ z. Both (StandingAt s code m' fs') (slice_get z j) (slice_get fs'.standings j)) (sym x.standings)
-      (subst (λ z. Both (StandingAt s code m' fs') (slice_get m.standings j) (slice_get z j)) (sym x.frame_standings)
-      (both_later s code m m' fs fs' x.later Of x.keeps (slice_get m.standings j) (slice_get fs.standings j) (λ z is. all j z is) (a j)))
+  parked_changed all a = record {
+    each = λ j.
+        subst (λ z. Both (StandingAt s code m' fs' j) (slice_get z j) (slice_get fs'.standings j)) (sym x.standings)
+        (subst (λ z. Both (StandingAt s code m' fs' j) (slice_get m.standings j) (slice_get z j)) (sym x.frame_standings)
+        (both_later s code m m' fs fs' x.later Of x.keeps j (slice_get m.standings j) (slice_get fs.standings j) (λ z is. all j z is) (a.each j)));
+    counted = ap length x.standings ∙ a.counted ∙ sym x.as_many;
+  }
 
   -- a step, and another one behind it
   pub changed_twice : {m2 : Instances} {fs2 : Frames} → Changed s code Of m' fs' m2 fs2 → Changed s code Of m fs m2 fs2
@@ -362,6 +370,7 @@ module _ (s : Source) (code : CodeOf) {Of : ℕ → Type 0} {m m' : Instances} {
     keeps = record { temps = λ j t c b of st found temp. (y.keeps).temps j t c b of ((x.later).stands j t st) found temp ∙ (x.keeps).temps j t c b of st found temp };
     standings = y.standings ∙ x.standings;
     frame_standings = y.frame_standings ∙ x.frame_standings;
+    as_many = y.as_many ∙ x.as_many;
   }
 
 -- each chain is one of any instances

@@ -1,8 +1,7 @@
 -- The code of an expression evaluates its closed tree.
 use Rattle.std.proofs.Common.{◌≡◌, ℕ, suc, Bool, true, false, List, [], ◌∷◌, length, Option, Some, None, refl, sym, ap, ◌∙◌, subst}
-use Rattle.std.specs.Prelude.{pos, slice_get, ◌&&◌, ◌||◌, if◌then◌else◌}
+use Rattle.std.specs.Prelude.{pos, ◌&&◌, ◌||◌, if◌then◌else◌}
 use Rattle.sim_base.specs.declared.numbering.DeclNo.{DeclNo}
-use Rattle.sim_scope.specs.declared.scopes.Declaration.{Declaration}
 use Rattle.sim_scope.specs.declared.scopes.Denotation.{Denotation}
 use Rattle.sim_scope.specs.declared.scopes.Denotation.TheVariants as denotation
 use Rattle.sim_scope.specs.declared.standard.StandardName.{StandardName}
@@ -15,10 +14,9 @@ use Rattle.sim_scope.specs.declared.types.FormalKind.TheVariants as shape
 use Rattle.sim_scope.specs.declared.types.Mode.{Mode}
 use Rattle.sim_scope.specs.declared.types.Mode.TheVariants as mode
 use Rattle.sim_scope.specs.declared.types.SimType.{SimType}
-use Rattle.sim_scope.specs.declared.types.SimType.TheVariants as t
 use Rattle.sim_scope.specs.Access.{encloser}
-use Rattle.sim_scope.specs.Levels.{class_block, class_block_in}
-use Rattle.sim_scope.specs.Scopes.{entry_in, entry_of}
+use Rattle.sim_scope.specs.Levels.{class_block}
+use Rattle.sim_scope.specs.Scopes.{entry_of}
 use Rattle.sim_scope.specs.Source.{Source, block_of, denoted, found_at, level_of, line_at, type_at}
 use Rattle.sim_tree.specs.declared.expr.Identifier.{Identifier}
 use Rattle.sim_tree.specs.declared.expr.Membership.{Membership}
@@ -33,11 +31,12 @@ use Rattle.sim_values.specs.Standard.{is_image, moves_position, on_image, row_of
 use Rattle.sim_code.specs.declared.instr.Instr.TheVariants as i
 use Rattle.sim_code.specs.Code.{CodeOf}
 use Rattle.sim_code.specs.Instances.{at_level}
-use Rattle.sim_meaning.specs.Attributes.{array_attribute, attribute, attribute_place, cell_of_connection, connected_object, connection_at, declared_attribute, entry_at, entry_attribute, fitting, generation, if_any, is_connection, kept_if, membership_term, parameter_at, parameter_attribute, parameter_qualification, place_of_attribute, qua_term, qualified, qualified_place, this_instance, this_term, variable_attribute, with_arrays_kept}
+use Rattle.sim_code.specs.Transfers.{Transfer}
+use Rattle.sim_meaning.specs.Attributes.{array_attribute, attribute, attribute_place, cell_of_connection, connected_object, connection_at, declared_attribute, detach_term, entry_at, entry_attribute, fitting, generation, if_any, is_connection, kept_if, membership_term, parameter_at, parameter_attribute, parameter_qualification, place_of_attribute, qua_term, qualified, qualified_place, this_instance, this_term, transfer_at, transfer_term, variable_attribute, with_arrays_kept}
 use Rattle.sim_meaning.specs.Attributes as attributes
 use Rattle.sim_meaning.specs.Closing.{Joining, Lazily, Negated, Plainly, Sort, actual_term, array_place, array_term, attribute_term, behind_dot, class_parameters, close, close_actuals, close_all, close_parameters, close_place, constant_term, declared_place, declared_term, dot_term, formal_place, formal_term, formals_at, given_term, home_of, home_of_class, image_place, in_instance, is_attribute, is_text, is_text_type, is_variable, literal_term, name_term, named_place, named_term, object_term, reference_place, result_meant, result_place, signed_term, sort_of, standard_term, stream_denoted, stream_of, sysout, two_term, typed_token, variable_place, variable_term}
 use Rattle.sim_meaning.specs.Constants.{text_constant}
-use Rattle.sim_meaning.specs.Levels.{class_at, class_denoted, class_text, is_class, qualification}
+use Rattle.sim_meaning.specs.Levels.{class_at, class_denoted, qualification}
 use Rattle.sim_meaning.specs.Names.{procedure_named, stream_named}
 use Rattle.sim_meaning.specs.Pending.{CallOf, Cell, Declared, ElementOf, Further, ImageOf, Instances, Key, NoTerm, PlaceOf, RemoteCallOf, Result, Term, Terms, Unbuilt, ValueAt}
 use Rattle.sim_meaning.specs.Statements.{has_value, standard_leaves}
@@ -47,10 +46,12 @@ use Rattle.codegen_expr.specs.Sites.{At, HasCell, Inside, Is, LevelOf, Pushes, S
 use Rattle.codegen_expr.specs.CodeExpr.{ActualAt, ActualsAt, ArrayAt, ArrayOfAt, ArrayPlaceAt, ArrayPlaceOfAt, AttributeAt, AttributePlaceAt, BehindDotAt, CallAt, CellAt, ConnectedAt, ConnectedNameAt, ConstantAt, ConstantAttributeAt, DeclaredAt, DeclaredPlaceAt, DotAt, ElementAt, ElementOfAt, ExprAt, ExprsAt, FittingAt, FormalAt, FormalPlaceAt, GenerationAt, GivenAt, LiteralAt, MemberAt, NameAt, NamedAt, NamedPlaceAt, ObjectAt, OfObjectAt, ParameterOfAt, ParameterPlaceOfAt, PlaceAt, PlaceBehindAt, PlaceOfObjectAt, PlaceOrResultAt, PlainAt, QuaAt, QualifiedPlaceAt, ReferencePlaceAt, RemoteCallAt, SignedAt, StandardAt, StandardIs, StreamPlaceAt, ThisFoundAt, ThisOfAt, ThroughAt, TwoAt, VariableAt, VariableOfAt, VariablePlaceAt, VariablePlaceOfAt, gives_entry, operands}
 use Rattle.codegen_expr.specs.CodeExpr as code_gives
 use Rattle.codegen.specs.Agrees.{Agrees}
+use Rattle.sim_relate.proofs.ClassNames.{class_found, class_is, declared_class, denoted_classed, parameter_classed, qualification_classed}
 use Rattle.sim_relate.proofs.Formals.{actuals_counted, formals_same}
 use Rattle.sim_relate.proofs.Frames.{frame_idem, frame_level, own_frame}
 use Rattle.sim_relate.proofs.Known.{Any, Finds, FixedOf, IsImage, Kind, LeavesIs, Located, Refers, Stands, attribute_kind, gives, inside, is_read, kind_unless, of_input, of_output, outermost, read_given, reads, seen_at, text_gives}
 use Rattle.sim_relate.proofs.Roomy.{FitsWhere, connected_fits, expression_fits}
+use Rattle.sim_relate.proofs.TransferNames.{no_transfer}
 use Rattle.sim_relate.proofs.Trees.{Classed, CellIs, CellPlaceIs, FoundIs, GivenIs, OperandAt, ReadsAt, TermAt, TermsAt, empty, listed}
 
 module _ (s : Source) (code : CodeOf) (m : Instances) (inst : ℕ) (site : Site) (agrees : Agrees s) (reach : (u : ℕ) → Inside s.tables site.text u → Finds s m inst u) where
@@ -529,63 +530,17 @@ module _ (s : Source) (code : CodeOf) (m : Instances) (inst : ℕ) (site : Site)
       let r = reach t a.inside in
       subst (λ z. OperandAt s code m inst site n (this_instance z) p q) (sym r.2) (record { text = t; push = a.push; reaches = r.1 }, refl)
 
-  this_at : (found : Option ℕ) (n p q : ℕ) → ThisFoundAt s code site n found p q → OperandAt s code m inst site n (this_term s m inst found) p q
+  pub this_at : (found : Option ℕ) (n p q : ℕ) → ThisFoundAt s code site n found p q → OperandAt s code m inst site n (this_term s m inst found) p q
   this_at None n p q a = absurd a
   this_at (Some t) n p q a = this_by t n p q (is_connection (text s t)) a
 
-  -- the class that a declaration is
-  class_found : (o : Option ℕ) (k : ℕ) → class_text s o ≡ Some k → (o ≡ Some k) × (is_class (text s k) ≡ true)
-  class_found None k e = absurd (cc)
-  class_found (Some t) k e = by_test (is_class (text s t)) refl e
-    where
-      by_test : (c : Bool) → is_class (text s t) ≡ c → (if c then Some t else None) ≡ Some k → (Some t ≡ Some k) × (is_class (text s k) ≡ true)
-      by_test true h e = (e, subst (λ z. is_class (text s z) ≡ true) (cc (e)) h)
-      by_test false h e = absurd (cc)
-
-  entry_is : (o : Option Declaration) (k : ℕ) → class_block_in (elim o [ None ↦ None | Some row ↦ Some row.entry ]) ≡ Some k → entry_in o ≡ Some (entry.Class k)
-  entry_is None k e = absurd (cc)
-  entry_is (Some row) k e = by_entry row.entry refl
-    where
-      by_entry : (x : Entry) → row.entry ≡ x → Some row.entry ≡ Some (entry.Class k)
-      by_entry (entry.Class t) h = ap Some h ∙ ap (λ z. Some (entry.Class z)) (cc (e, h))
-      by_entry _ h = absurd (cc)
-
-  declared_class : (d : DeclNo) (k : ℕ) → class_block s.tables d ≡ Some k → entry_of s.tables d ≡ Some (entry.Class k)
-  unfolding class_block entry_of
-  declared_class d k e = entry_is (slice_get s.tables.declarations d.0) k e
-
-  class_is : (token : ℕ) → class_denoted s (denoted s token) ≡ class_at s token
-  unfolding class_at
-  class_is token = refl
-
-  -- a class that is named
-  denoted_classed : (u : Option Denotation) (k : ℕ) → class_denoted s u ≡ Some k → Classed s k
-  denoted_classed (Some (denotation.Declared d)) k e = (class_found (class_block s.tables d) k e).1
-  denoted_classed (Some (denotation.Standard name)) k e = absurd (cc)
-  denoted_classed None k e = absurd (cc)
-
-  pub qualification_classed : (type : Option SimType) (k : ℕ) → qualification s type ≡ Some k → Classed s k
-  unfolding qualification
-  qualification_classed None k e = absurd (cc)
-  qualification_classed (Some t.Integer) k e = absurd (cc)
-  qualification_classed (Some t.Boolean) k e = absurd (cc)
-  qualification_classed (Some t.Character) k e = absurd (cc)
-  qualification_classed (Some t.Text) k e = absurd (cc)
-  qualification_classed (Some (t.Ref d)) k e = (class_found (class_block s.tables d) k e).1
-  qualification_classed (Some t.NoneType) k e = absurd (cc)
-
-  parameter_classed : (kind : FormalKind) (type : Option SimType) (k : ℕ) → parameter_qualification s kind type ≡ Some k → Classed s k
-  parameter_classed shape.Simple type k e = qualification_classed type k e
-  parameter_classed shape.Array type k e = absurd (cc)
-  parameter_classed shape.Procedure type k e = absurd (cc)
-
   member_at : (member : Membership) (u : Option Denotation) (class : Option ℕ) → class_denoted s u ≡ class → (A : ℕ → ℕ → Type 0) (n : ℕ) (x : Term) → ObjectIs n A x → (p q : ℕ) → MemberAt s code member class A p q → OperandAt s code m inst site n (membership_term member class x) p q
   member_at member u None e A n x f p q a = absurd a
-  member_at member u (Some k) e A n x f p q a = ((a.0, f p a.0 a.1, (denoted_classed u k e, a.2)), refl)
+  member_at member u (Some k) e A n x f p q a = ((a.0, f p a.0 a.1, (denoted_classed s u k e, a.2)), refl)
 
   qua_at : (line : ℕ) (u : Option Denotation) (class : Option ℕ) → class_denoted s u ≡ class → (A : ℕ → ℕ → Type 0) (n : ℕ) (x : Term) → ObjectIs n A x → (p q : ℕ) → QuaAt s code line class A p q → OperandAt s code m inst site n (qua_term class line x) p q
   qua_at line u None e A n x f p q a = absurd a
-  qua_at line u (Some k) e A n x f p q a = ((a.0, f p a.0 a.1, (denoted_classed u k e, a.2)), refl)
+  qua_at line u (Some k) e A n x f p q a = ((a.0, f p a.0 a.1, (denoted_classed s u k e, a.2)), refl)
 
   generation_at : (u : Option Denotation) (class : Option ℕ) (line n : ℕ) (es : Expressions) (Actuals : ℕ → ℕ → Type 0) (terms : Terms) → class_denoted s u ≡ class → ((p q : ℕ) → Actuals p q → TermsAt s code m inst site (suc n) terms p q × (operands es ≡ count terms)) → (p q : ℕ) → GenerationAt s code site n line u class es Actuals p q
       → OperandAt s code m inst site n (generation (home_of_class s m inst u) class terms line) p q
@@ -595,7 +550,7 @@ module _ (s : Source) (code : CodeOf) (m : Instances) (inst : ℕ) (site : Site)
   generation_at (Some (denotation.Declared d)) None line n es Actuals terms e h p q a = absurd a
   generation_at (Some (denotation.Declared d)) (Some t) line n es Actuals terms e h p q a =
       let r = reach (block_of s d) a.inside in
-      let class = class_found (class_block s.tables d) t e in
+      let class = class_found s (class_block s.tables d) t e in
       let inner = h a.x a.y a.actuals in
       subst (λ z. OperandAt s code m inst site n (generation z (Some t) terms line) p q) (sym r.2) (
         record {
@@ -606,7 +561,7 @@ module _ (s : Source) (code : CodeOf) (m : Instances) (inst : ℕ) (site : Site)
           reaches = r.1;
           actuals = inner.0;
           new = subst (λ c. At code (i.New (pos (class_number s code t)) (pos c)) line a.y q) inner.1 a.new;
-          stands_in = agrees.classes d t (declared_class d t class.0);
+          stands_in = agrees.classes d t (declared_class s d t class.0);
           class = class.1;
         },
         refl,
@@ -642,14 +597,14 @@ module _ (s : Source) (code : CodeOf) (m : Instances) (inst : ℕ) (site : Site)
   actual_at false mode.ByReference shape.Array type text line n A x f p q a = f p q a
   actual_at true mode.ByValue shape.Array type text line n A x f p q a = ((a.0, f p a.0 a.1, a.2), refl)
   actual_at false mode.ByValue shape.Array type text line n A x f p q a = ((a.0, f p a.0 a.1, a.2), refl)
-  actual_at true mode.ByValue shape.Simple type text line n A x f p q a = fits (parameter_qualification s shape.Simple type) (parameter_classed shape.Simple type) line n (ActualAt code site n line true mode.ByValue shape.Simple text A) (actual_term line mode.ByValue shape.Simple text x) (λ p q. plain_actual mode.ByValue text line n A x f true p q) p q a
-  actual_at false mode.ByValue shape.Simple type text line n A x f p q a = fits (parameter_qualification s shape.Simple type) (parameter_classed shape.Simple type) line n (ActualAt code site n line false mode.ByValue shape.Simple text A) (actual_term line mode.ByValue shape.Simple text x) (λ p q. plain_actual mode.ByValue text line n A x f false p q) p q a
-  actual_at true mode.ByReference shape.Simple type text line n A x f p q a = fits (parameter_qualification s shape.Simple type) (parameter_classed shape.Simple type) line n (ActualAt code site n line true mode.ByReference shape.Simple text A) (actual_term line mode.ByReference shape.Simple text x) (λ p q. plain_actual mode.ByReference text line n A x f true p q) p q a
-  actual_at false mode.ByReference shape.Simple type text line n A x f p q a = fits (parameter_qualification s shape.Simple type) (parameter_classed shape.Simple type) line n (ActualAt code site n line false mode.ByReference shape.Simple text A) (actual_term line mode.ByReference shape.Simple text x) (λ p q. plain_actual mode.ByReference text line n A x f false p q) p q a
+  actual_at true mode.ByValue shape.Simple type text line n A x f p q a = fits (parameter_qualification s shape.Simple type) (parameter_classed s shape.Simple type) line n (ActualAt code site n line true mode.ByValue shape.Simple text A) (actual_term line mode.ByValue shape.Simple text x) (λ p q. plain_actual mode.ByValue text line n A x f true p q) p q a
+  actual_at false mode.ByValue shape.Simple type text line n A x f p q a = fits (parameter_qualification s shape.Simple type) (parameter_classed s shape.Simple type) line n (ActualAt code site n line false mode.ByValue shape.Simple text A) (actual_term line mode.ByValue shape.Simple text x) (λ p q. plain_actual mode.ByValue text line n A x f false p q) p q a
+  actual_at true mode.ByReference shape.Simple type text line n A x f p q a = fits (parameter_qualification s shape.Simple type) (parameter_classed s shape.Simple type) line n (ActualAt code site n line true mode.ByReference shape.Simple text A) (actual_term line mode.ByReference shape.Simple text x) (λ p q. plain_actual mode.ByReference text line n A x f true p q) p q a
+  actual_at false mode.ByReference shape.Simple type text line n A x f p q a = fits (parameter_qualification s shape.Simple type) (parameter_classed s shape.Simple type) line n (ActualAt code site n line false mode.ByReference shape.Simple text A) (actual_term line mode.ByReference shape.Simple text x) (λ p q. plain_actual mode.ByReference text line n A x f false p q) p q a
   actual_at keeps mode.ByValue shape.Procedure type text line n A x f p q a = absurd a
   actual_at keeps mode.ByReference shape.Procedure type text line n A x f p q a = absurd a
-  actual_at true mode.ByName shape.Simple type text line n A x f p q a = fits (parameter_qualification s shape.Simple type) (parameter_classed shape.Simple type) line n (ActualAt code site n line true mode.ByName shape.Simple text A) (actual_term line mode.ByName shape.Simple text x) (λ p q. plain_actual mode.ByName text line n A x f true p q) p q a
-  actual_at false mode.ByName shape.Simple type text line n A x f p q a = fits (parameter_qualification s shape.Simple type) (parameter_classed shape.Simple type) line n (ActualAt code site n line false mode.ByName shape.Simple text A) (actual_term line mode.ByName shape.Simple text x) (λ p q. plain_actual mode.ByName text line n A x f false p q) p q a
+  actual_at true mode.ByName shape.Simple type text line n A x f p q a = fits (parameter_qualification s shape.Simple type) (parameter_classed s shape.Simple type) line n (ActualAt code site n line true mode.ByName shape.Simple text A) (actual_term line mode.ByName shape.Simple text x) (λ p q. plain_actual mode.ByName text line n A x f true p q) p q a
+  actual_at false mode.ByName shape.Simple type text line n A x f p q a = fits (parameter_qualification s shape.Simple type) (parameter_classed s shape.Simple type) line n (ActualAt code site n line false mode.ByName shape.Simple text A) (actual_term line mode.ByName shape.Simple text x) (λ p q. plain_actual mode.ByName text line n A x f false p q) p q a
   actual_at keeps mode.ByName shape.Array type text line n A x f p q a = absurd a
   actual_at keeps mode.ByName shape.Procedure type text line n A x f p q a = absurd a
 
@@ -668,6 +623,47 @@ module _ (s : Source) (code : CodeOf) (m : Instances) (inst : ℕ) (site : Site)
   count_actuals line n keeps (Then e es) [] p q a = absurd a
   count_actuals line n keeps (Then e es) (f ∷ fs) p q a = ap suc (count_actuals line (suc n) keeps es fs a.0 q a.2)
 
+  -- ---- calls that are no transfers of control
+
+  abbrev pub named_tree : Identifier → Expressions → Term
+  named_tree name es =
+      if_any (connection_at s name.token.0)
+      (λ k. if_any (declared_attribute (denoted s name.token.0)) (attribute s (line_at s name.token.0) (connected_object s m inst k) es (close_all s m inst es) (λ d. close_actuals s m inst (line_at s name.token.0) es (formals_at s d))) Unbuilt)
+      (named_term s m inst (line_at s name.token.0) (denoted s name.token.0) es (close_all s m inst es) (λ fs. close_actuals s m inst (line_at s name.token.0) es fs))
+
+  abbrev pub dot_tree : Expression → Identifier → Expressions → Term
+  dot_tree x name es =
+      if_any (declared_attribute (denoted s name.token.0)) (attribute s (line_at s name.token.0) (close s m inst x) es (close_all s m inst es) (λ d. close_actuals s m inst (line_at s name.token.0) es (formals_at s d)))
+      (dot_term (denoted s name.token.0) (stream_of s x) (is_variable s x || is_attribute s x) (line_at s name.token.0) (close_place s m inst x) (close s m inst x) (close_all s m inst es))
+
+  abbrev pub NamedCallAt : Identifier → Expressions → (n p q : ℕ) → Type 0
+  NamedCallAt name es n p q =
+      ThroughAt (connection_at s name.token.0) (λ t. ConnectedNameAt s code site n (line_at s name.token.0) t (denoted s name.token.0) es (ExprsAt s code site (suc n) es) (λ fs. ActualsAt s code site (suc n) (line_at s name.token.0) false es fs))
+      (NamedAt s code site n (line_at s name.token.0) (denoted s name.token.0) es (ExprsAt s code site n es) (ExprsAt s code site (suc n) es) (λ fs. ActualsAt s code site (suc n) (line_at s name.token.0) false es fs)) p q
+
+  abbrev pub DotCallAt : Expression → Identifier → Expressions → (n p q : ℕ) → Type 0
+  DotCallAt x name es n p q =
+      DotAt s code site n (line_at s name.token.0) (denoted s name.token.0) (stream_of s x) (is_variable s x || is_attribute s x) es (PlaceAt s code site n 0 x) (ExprAt s code site n x) (ExprsAt s code site n es) (ExprsAt s code site (suc n) es) (λ fs. ActualsAt s code site (suc n) (line_at s name.token.0) false es fs) p q
+
+  pub named_call : (name : Identifier) (es : Expressions) → ((n p q : ℕ) → ExprsAt s code site n es p q → TermsAt s code m inst site n (close_all s m inst es) p q) → ((fs : List Formal) (n p q : ℕ) → ActualsAt s code site n (line_at s name.token.0) false es fs p q → TermsAt s code m inst site n (close_actuals s m inst (line_at s name.token.0) es fs) p q)
+      → (n p q : ℕ) → NamedCallAt name es n p q → NamedIs n (code_gives.gives s (denoted s name.token.0)) (named_tree name es) p q
+  named_call name es f g n p q a =
+      through_at (connection_at s name.token.0) (denoted s name.token.0) (line_at s name.token.0) n es (ExprsAt s code site n es) (ExprsAt s code site (suc n) es) (λ fs. ActualsAt s code site (suc n) (line_at s name.token.0) false es fs)
+      (close_all s m inst es) (λ fs. close_actuals s m inst (line_at s name.token.0) es fs) (λ p q. f n p q) (λ p q. f (suc n) p q) (count_close es)
+      (λ fs p q b. (g fs (suc n) p q b, count_actuals (line_at s name.token.0) (suc n) false es fs p q b, actuals_counted s code site (line_at s name.token.0) (suc n) false es fs p q b)) p q a
+
+  pub dot_call : (x : Expression) (name : Identifier) (es : Expressions) (n : ℕ) → ((p q : ℕ) → PlaceAt s code site n 0 x p q → ReadAt n (close_place s m inst x) p q) → ((p q : ℕ) → ExprAt s code site n x p q → OperandAt s code m inst site n (close s m inst x) p q) → ((n p q : ℕ) → ExprsAt s code site n es p q → TermsAt s code m inst site n (close_all s m inst es) p q)
+      → ((fs : List Formal) (n p q : ℕ) → ActualsAt s code site n (line_at s name.token.0) false es fs p q → TermsAt s code m inst site n (close_actuals s m inst (line_at s name.token.0) es fs) p q) → (p q : ℕ) → DotCallAt x name es n p q → NamedIs n (code_gives.gives s (denoted s name.token.0)) (dot_tree x name es) p q
+  dot_call x name es n place object f g p q a =
+      dot_at (denoted s name.token.0) (stream_of s x) (is_variable s x || is_attribute s x) (line_at s name.token.0) n es (PlaceAt s code site n 0 x) (ExprAt s code site n x) (ExprsAt s code site n es) (ExprsAt s code site (suc n) es) (λ fs. ActualsAt s code site (suc n) (line_at s name.token.0) false es fs)
+      (close_place s m inst x) (close s m inst x) (close_all s m inst es) (λ d. close_actuals s m inst (line_at s name.token.0) es (formals_at s d))
+      (stream_is x) place object (λ p q. expression_fits s code site x n p q) (λ p q. f n p q) (λ p q. f (suc n) p q) (count_close es)
+      (λ d p q b. (g (formals_at s d) (suc n) p q b, count_actuals (line_at s name.token.0) (suc n) false es (formals_at s d) p q b, actuals_counted s code site (line_at s name.token.0) (suc n) false es (formals_at s d) p q b)) p q a
+
+  -- an expression gives a value, so that it is no transfer
+  no_transfer_at : (token : ℕ) (f : Transfer → Term) (x : Term) (n p q : ℕ) → code_gives.gives s (denoted s token) ≡ true → OperandAt s code m inst site n x p q → OperandAt s code m inst site n (if_any (transfer_at s token) f x) p q
+  no_transfer_at token f x n p q e a = subst (λ z. OperandAt s code m inst site n (if_any z f x) p q) (sym (no_transfer s token e)) a
+
   -- ---- expressions
 
   mutual
@@ -678,26 +674,19 @@ module _ (s : Source) (code : CodeOf) (m : Instances) (inst : ℕ) (site : Site)
         two_at (sort_of (is_text s x) op) (line_at s token) n (ExprAt s code site n x) (ExprAt s code site n y) (ExprAt s code site (suc n) y) (close s m inst x) (close s m inst y) p q (λ p q. close_at x n p q) (λ p q. close_at y n p q) (λ p q. close_at y (suc n) p q) a
     close_at (syntax.Not token x) n p q a = ((a.0, close_at x n p a.0 a.1, a.2), refl)
     close_at (syntax.Signed k token x) n p q a = signed_at k (line_at s token) n (ExprAt s code site n x) (close s m inst x) p q (λ p q. close_at x n p q) a
-    close_at (syntax.Member member token x class) n p q a = member_at member (denoted s class.token.0) (class_at s class.token.0) (class_is class.token.0) (ExprAt s code site n x) n (close s m inst x) (λ p q. close_at x n p q) p q a
+    close_at (syntax.Member member token x class) n p q a = member_at member (denoted s class.token.0) (class_at s class.token.0) (class_is s class.token.0) (ExprAt s code site n x) n (close s m inst x) (λ p q. close_at x n p q) p q a
     close_at (syntax.Dot token x name es) n p q a =
-        let y =
-        dot_at (denoted s name.token.0) (stream_of s x) (is_variable s x || is_attribute s x) (line_at s name.token.0) n es (PlaceAt s code site n 0 x) (ExprAt s code site n x) (ExprsAt s code site n es) (ExprsAt s code site (suc n) es) (λ fs. ActualsAt s code site (suc n) (line_at s name.token.0) false es fs)
-        (close_place s m inst x) (close s m inst x) (close_all s m inst es) (λ d. close_actuals s m inst (line_at s name.token.0) es (formals_at s d))
-        (stream_is x) (λ p q. place_at None x n p q) (λ p q. close_at x n p q) (λ p q. expression_fits s code site x n p q) (λ p q. close_all_at es n p q) (λ p q. close_all_at es (suc n) p q) (count_close es)
-        (λ d p q b. (close_actuals_at false (line_at s name.token.0) es (formals_at s d) (suc n) p q b, count_actuals (line_at s name.token.0) (suc n) false es (formals_at s d) p q b, actuals_counted s code site (line_at s name.token.0) (suc n) false es (formals_at s d) p q b)) p q a.1 in
-        (y.0, y.1 ∙ a.0)
-    close_at (syntax.Qua token x class) n p q a = qua_at (line_at s token) (denoted s class.token.0) (class_at s class.token.0) (class_is class.token.0) (ExprAt s code site n x) n (close s m inst x) (λ p q. close_at x n p q) p q a
+        let y = dot_call x name es n (λ p q. place_at None x n p q) (λ p q. close_at x n p q) (λ n p q. close_all_at es n p q) (λ fs n p q. close_actuals_at false (line_at s name.token.0) es fs n p q) p q a.1 in
+        no_transfer_at name.token.0 (λ way. detach_term (line_at s name.token.0) (close s m inst x)) (dot_tree x name es) n p q a.0 (y.0, y.1 ∙ a.0)
+    close_at (syntax.Qua token x class) n p q a = qua_at (line_at s token) (denoted s class.token.0) (class_at s class.token.0) (class_is s class.token.0) (ExprAt s code site n x) n (close s m inst x) (λ p q. close_at x n p q) p q a
     close_at (syntax.Constant x token) n p q a = literal_at token x n p q a
     close_at (syntax.Named name es) n p q a =
-        let x =
-        through_at (connection_at s name.token.0) (denoted s name.token.0) (line_at s name.token.0) n es (ExprsAt s code site n es) (ExprsAt s code site (suc n) es) (λ fs. ActualsAt s code site (suc n) (line_at s name.token.0) false es fs)
-        (close_all s m inst es) (λ fs. close_actuals s m inst (line_at s name.token.0) es fs) (λ p q. close_all_at es n p q) (λ p q. close_all_at es (suc n) p q) (count_close es)
-        (λ fs p q b. (close_actuals_at false (line_at s name.token.0) es fs (suc n) p q b, count_actuals (line_at s name.token.0) (suc n) false es fs p q b, actuals_counted s code site (line_at s name.token.0) (suc n) false es fs p q b)) p q a.1 in
-        (x.0, x.1 ∙ a.0)
+        let x = named_call name es (λ n p q. close_all_at es n p q) (λ fs n p q. close_actuals_at false (line_at s name.token.0) es fs n p q) n p q a.1 in
+        no_transfer_at name.token.0 (λ way. transfer_term way (line_at s name.token.0) (this_term s m inst (found_at s name.token.0)) (close_all s m inst es)) (named_tree name es) n p q a.0 (x.0, x.1 ∙ a.0)
     close_at (syntax.This token class) n p q a = this_at (found_at s token) n p q a
     close_at (syntax.New token class es) n p q a =
         let fs = class_parameters s (class_at s class.token.0) in
-        generation_at (denoted s class.token.0) (class_at s class.token.0) (line_at s token) n es (ActualsAt s code site (suc n) (line_at s class.token.0) true es fs) (with_arrays_kept fs (close_actuals s m inst (line_at s class.token.0) es fs)) (class_is class.token.0)
+        generation_at (denoted s class.token.0) (class_at s class.token.0) (line_at s token) n es (ActualsAt s code site (suc n) (line_at s class.token.0) true es fs) (with_arrays_kept fs (close_actuals s m inst (line_at s class.token.0) es fs)) (class_is s class.token.0)
         (λ p q b. (close_actuals_at true (line_at s class.token.0) es fs (suc n) p q b, count_actuals (line_at s class.token.0) (suc n) true es fs p q b ∙ sym (count_kept fs (close_actuals s m inst (line_at s class.token.0) es fs)))) p q a
     close_at (syntax.Parentheses token x) n p q a = close_at x n p q a
 
@@ -723,7 +712,7 @@ module _ (s : Source) (code : CodeOf) (m : Instances) (inst : ℕ) (site : Site)
     close_all_at NoMore n p q a = a
     close_all_at (Then e es) n p q a = (a.0, close_at e n p a.0 a.1, close_all_at es (suc n) a.0 q a.2)
 
-    close_actuals_at : (keeps : Bool) (line : ℕ) (es : Expressions) (fs : List Formal) (n p q : ℕ) → ActualsAt s code site n line keeps es fs p q → TermsAt s code m inst site n (kept_all keeps fs (close_actuals s m inst line es fs)) p q
+    pub close_actuals_at : (keeps : Bool) (line : ℕ) (es : Expressions) (fs : List Formal) (n p q : ℕ) → ActualsAt s code site n line keeps es fs p q → TermsAt s code m inst site n (kept_all keeps fs (close_actuals s m inst line es fs)) p q
     close_actuals_at true line NoMore [] n p q a = a
     close_actuals_at false line NoMore [] n p q a = a
     close_actuals_at keeps line NoMore (f ∷ fs) n p q a = absurd a
@@ -732,22 +721,6 @@ module _ (s : Source) (code : CodeOf) (m : Instances) (inst : ℕ) (site : Site)
         (a.0, actual_at true f.mode f.kind f.ty (is_text_type f.ty) line n (ExprAt s code site n e) (close s m inst e) (λ p q. close_at e n p q) p a.0 a.1, close_actuals_at true line es fs (suc n) a.0 q a.2)
     close_actuals_at false line (Then e es) (f ∷ fs) n p q a =
         (a.0, actual_at false f.mode f.kind f.ty (is_text_type f.ty) line n (ExprAt s code site n e) (close s m inst e) (λ p q. close_at e n p q) p a.0 a.1, close_actuals_at false line es fs (suc n) a.0 q a.2)
-
-  -- a call that stands as a statement
-  pub call_named_at : (name : Identifier) (es : Expressions) (n p q : ℕ) → ThroughAt (connection_at s name.token.0) (λ t. ConnectedNameAt s code site n (line_at s name.token.0) t (denoted s name.token.0) es (ExprsAt s code site (suc n) es) (λ fs. ActualsAt s code site (suc n) (line_at s name.token.0) false es fs)) (NamedAt s code site n (line_at s name.token.0) (denoted s name.token.0) es (ExprsAt s code site n es) (ExprsAt s code site (suc n) es) (λ fs. ActualsAt s code site (suc n) (line_at s name.token.0) false es fs)) p q
-      → NamedIs n (code_gives.gives s (denoted s name.token.0)) (close s m inst (syntax.Named name es)) p q
-  call_named_at name es n p q a =
-      through_at (connection_at s name.token.0) (denoted s name.token.0) (line_at s name.token.0) n es (ExprsAt s code site n es) (ExprsAt s code site (suc n) es) (λ fs. ActualsAt s code site (suc n) (line_at s name.token.0) false es fs)
-      (close_all s m inst es) (λ fs. close_actuals s m inst (line_at s name.token.0) es fs) (λ p q. close_all_at es n p q) (λ p q. close_all_at es (suc n) p q) (count_close es)
-      (λ fs p q b. (close_actuals_at false (line_at s name.token.0) es fs (suc n) p q b, count_actuals (line_at s name.token.0) (suc n) false es fs p q b, actuals_counted s code site (line_at s name.token.0) (suc n) false es fs p q b)) p q a
-
-  pub call_dot_at : (token : ℕ) (x : Expression) (name : Identifier) (es : Expressions) (n p q : ℕ) → DotAt s code site n (line_at s name.token.0) (denoted s name.token.0) (stream_of s x) (is_variable s x || is_attribute s x) es (PlaceAt s code site n 0 x) (ExprAt s code site n x) (ExprsAt s code site n es) (ExprsAt s code site (suc n) es) (λ fs. ActualsAt s code site (suc n) (line_at s name.token.0) false es fs) p q
-      → NamedIs n (code_gives.gives s (denoted s name.token.0)) (close s m inst (syntax.Dot token x name es)) p q
-  call_dot_at token x name es n p q a =
-      dot_at (denoted s name.token.0) (stream_of s x) (is_variable s x || is_attribute s x) (line_at s name.token.0) n es (PlaceAt s code site n 0 x) (ExprAt s code site n x) (ExprsAt s code site n es) (ExprsAt s code site (suc n) es) (λ fs. ActualsAt s code site (suc n) (line_at s name.token.0) false es fs)
-      (close_place s m inst x) (close s m inst x) (close_all s m inst es) (λ d. close_actuals s m inst (line_at s name.token.0) es (formals_at s d))
-      (stream_is x) (λ p q. place_at None x n p q) (λ p q. close_at x n p q) (λ p q. expression_fits s code site x n p q) (λ p q. close_all_at es n p q) (λ p q. close_all_at es (suc n) p q) (count_close es)
-      (λ d p q b. (close_actuals_at false (line_at s name.token.0) es (formals_at s d) (suc n) p q b, count_actuals (line_at s name.token.0) (suc n) false es (formals_at s d) p q b, actuals_counted s code site (line_at s name.token.0) (suc n) false es (formals_at s d) p q b)) p q a
 
   -- the actual parameters of a block prefix
   pub close_parameters_at : (line : ℕ) (es : Expressions) (fs : List Formal) (n p q : ℕ) → ActualsAt s code site n line true es fs p q → TermsAt s code m inst site n (close_parameters s m inst line es fs) p q × (operands es ≡ count (close_parameters s m inst line es fs))
@@ -774,7 +747,7 @@ module _ (s : Source) (code : CodeOf) (m : Instances) (inst : ℕ) (site : Site)
       by_class : (o : Option ℕ) → qualification s (type_at s (typed_token e)) ≡ o → QualifiedPlaceAt s code site n o e p q → ReferenceFound e n p q
       by_class None h a = absurd a
       by_class (Some k) h a =
-          let c = qualification_classed (type_at s (typed_token e)) k h in
+          let c = qualification_classed s (type_at s (typed_token e)) k h in
           record {
             class = k;
             is_class = c;

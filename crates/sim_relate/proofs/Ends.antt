@@ -32,18 +32,18 @@ use Rattle.sim_meaning.specs.Entries.{first_cells, passes}
 use Rattle.codegen_expr.specs.Sites.{HasCell, block_in_front, block_number, block_of_text, cells_in, cells_of_block, frame_text, hidden_in, own_cells, own_part, place_of, prefix_of, slot_of, types_in}
 use Rattle.codegen.specs.Agrees.{Agrees}
 use Rattle.codegen.specs.Compiled.{Compiled, type_of_name}
-use Rattle.sim_relate.proofs.Carried.{all_every, both_later, chain_changed, chain_later, kept_every, parked_changed}
+use Rattle.sim_relate.proofs.Carried.{all_every, chain_changed, kept_every, parked_changed}
 use Rattle.sim_relate.proofs.Frames.{frame_idem, frame_level, stands_same}
 use Rattle.sim_relate.proofs.Hands.{stack_length}
-use Rattle.sim_relate.proofs.Heads.{Heads, both_refl, given_standings, heads_refl, later_all}
-use Rattle.sim_relate.proofs.Lists.{set_both}
+use Rattle.sim_relate.proofs.Heads.{given_standings}
 use Rattle.sim_relate.proofs.Here.{Here, act, at_row}
 use Rattle.sim_relate.proofs.ClassLevels.{class_levels}
 use Rattle.sim_relate.proofs.ClassTexts.{class_has}
 use Rattle.sim_relate.proofs.Reach.{alone, other_numbers}
-use Rattle.sim_relate.proofs.Known.{Any, Every, Keeps, Kind, Later, Runs, Stands, ValAt, more_at}
+use Rattle.sim_relate.proofs.Known.{Any, Every, Kind, Runs, Stands, ValAt, more_at}
 use Rattle.sim_relate.proofs.Relation.{ChainAt, Changed, EndAt, EndIs, OutermostEnds, StandingAt, StandingsAt, StateAt, StoreAt}
-use Rattle.sim_relate.proofs.Stores.{cell_read, frame_number, given_at_end_same, keeps_given, later_given, never_given, own_levels, store_given, unchanged}
+use Rattle.sim_relate.proofs.Standings.{goes_below, stands_now}
+use Rattle.sim_relate.proofs.Stores.{cell_read, frame_number, given_at_end_same, given_long, keeps_given, later_given, never_given, own_levels, store_given, unchanged}
 
 pub chosen : {A : Type 0} (P : A → Type 0) (b : Bool) (x y : A) → b ≡ true → P x → P (if b then x else y)
 chosen P true x y e h = h
@@ -129,7 +129,7 @@ module _ (s : Source) (code : CodeOf) where
   -- ---- the stores behind an end
 
   left_alike : (m : Instances) (fs : Frames) → StoreAt s code m fs → (j : ℕ) (b b' : Bool) → b' ≡ b → Changed s code Every m fs (if b then given m j else m) (if b' then given fs j else fs)
-  left_alike m fs a j true true e = record { store = store_given s code m fs a j; later = later_given s m j; keeps = keeps_given s code m fs j; standings = given_standings m j (slice_get m.instances j); frame_standings = given_standings fs j (slice_get fs.instances j) }
+  left_alike m fs a j true true e = record { store = store_given s code m fs a j; later = later_given s m j; keeps = keeps_given s code m fs j; standings = given_standings m j (slice_get m.instances j); frame_standings = given_standings fs j (slice_get fs.instances j); as_many = given_long s m j }
   left_alike m fs a j true false e = absurd (cc)
   left_alike m fs a j false true e = absurd (cc)
   left_alike m fs a j false false e = unchanged s code m fs a
@@ -298,37 +298,14 @@ module _ (s : Source) (code : CodeOf) (compiled : Compiled s code) (l : Limits) 
   -- ---- the end of an object
 
   module _ (p : World) where
-    abbrev ended_m : Instances
-    ended_m = record m { standings = slice_set m.standings inst TerminatedObject }
+    terminated : ChainAt s code m fs rest false below → Alike Related (going_below p rest (record m { standings = slice_set m.standings inst TerminatedObject })) (going_below p below (record fs { standings = slice_set fs.standings inst TerminatedObject }))
+    terminated c = goes_below s code m fs here.store _ _ p rest below (stands_now s code m fs here.store inst TerminatedObject TerminatedObject here.parked tt) c
 
-    abbrev ended_fs : Frames
-    ended_fs = record fs { standings = slice_set fs.standings inst TerminatedObject }
-
-    ended_later : Later s m ended_m
-    ended_later = later_all s m ended_m (λ k. both_refl Heads heads_refl (slice_get m.instances k))
-
-    ended_keeps : Keeps s code m fs ended_fs Every
-    ended_keeps = record { temps = λ j t c block of st found temp. refl }
-
-    ended_store : StoreAt s code ended_m ended_fs
-    ended_store = let a = here.store in record { as_many = a.as_many; at = a.at; all = λ j x e. ended_later.stands j x.text (a.all j x e) }
-
-    ended_parked : StandingsAt s code ended_m ended_fs
-    ended_parked =
-        set_both (StandingAt s code ended_m ended_fs) m.standings fs.standings inst TerminatedObject TerminatedObject
-        (λ j. both_later s code m ended_m fs ended_fs ended_later Every ended_keeps (slice_get m.standings j) (slice_get fs.standings j) (λ z is. kept_every m j z is) (here.parked j)) tt
-
-    goes_below : (chain : List Activation) (under : List machine.Activation) → ChainAt s code m fs chain false under → Alike Related (going_below p chain ended_m) (going_below p under ended_fs)
-    goes_below [] [] c = ended
-    goes_below [] (x ∷ under) c = absurd (cc (c.is))
-    goes_below (y ∷ chain) [] c = absurd c
-    goes_below (y ∷ chain) (x ∷ under) c = going (record { chain = chain_later s code m ended_m fs ended_fs ended_later Every ended_keeps (y ∷ chain) (all_every (y ∷ chain)) false (x ∷ under) c; store = ended_store; parked = ended_parked })
-
-    ended_alike : (x : Option (Standing Activation)) (y : Option (Standing machine.Activation)) → Both (StandingAt s code m fs) x y → ChainAt s code m fs rest false below → Alike Related (ended_as p m inst rest x) (ended_as p fs inst below y)
+    ended_alike : (x : Option (Standing Activation)) (y : Option (Standing machine.Activation)) → Both (StandingAt s code m fs inst) x y → ChainAt s code m fs rest false below → Alike Related (ended_as p m inst rest x) (ended_as p fs inst below y)
     ended_alike None None b c = ended
     ended_alike None (Some y) b c = absurd b
     ended_alike (Some x) None b c = absurd b
-    ended_alike (Some AttachedObject) (Some AttachedObject) b c = goes_below rest below c
+    ended_alike (Some AttachedObject) (Some AttachedObject) b c = terminated c
     ended_alike (Some (NoObject None)) (Some (NoObject None)) b c = ended
     ended_alike (Some (NoObject (Some x))) (Some (NoObject (Some y))) b c = ended
     ended_alike (Some (DetachedObject x)) (Some (DetachedObject y)) b c = ended
@@ -348,7 +325,7 @@ module _ (s : Source) (code : CodeOf) (compiled : Compiled s code) (l : Limits) 
 
   pub end_object : EndFollows EndObject
   unfolding object_ended
-  end_object a = outermost_alike block_kind.Object _ a (alike_ticking Configuration Machine Related l o _ _ (λ p. ended_alike p (slice_get m.standings inst) (slice_get fs.standings inst) (here.parked inst) a.ends.below))
+  end_object a = outermost_alike block_kind.Object _ a (alike_ticking Configuration Machine Related l o _ _ (λ p. ended_alike p (slice_get m.standings inst) (slice_get fs.standings inst) (here.parked.each inst) a.ends.below))
 
   -- A prefixed block is never given back, and neither are its words.
   pub end_prefixed : EndFollows EndPrefixed

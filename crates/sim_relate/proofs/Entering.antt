@@ -1,5 +1,5 @@
 -- What entries of all kinds have in common.
-use Rattle.std.proofs.Common.{◌≡◌, ◌<◌, ◌≤◌, ℕ, Bool, true, false, List, [], ◌∷◌, ◌++◌, length, map, Option, Some, None, refl, sym, ap, ◌∙◌, subst, arith}
+use Rattle.std.proofs.Common.{◌≡◌, ◌<◌, ◌≤◌, ◌+◌, ℕ, Bool, true, false, List, [], ◌∷◌, ◌++◌, length, map, Option, Some, None, refl, sym, ap, ◌∙◌, subst, arith, length-append}
 use Rattle.std.proofs.lemmas.List.{length-map}
 use Rattle.sim_meaning.specs.Attributes.{is_connection}
 use Rattle.std.proofs.lemmas.Option.{slice_get_within}
@@ -86,7 +86,7 @@ frame_there s a k x e own = frame_self s a k (a.connected k ∙ ap is_connection
 -- ---- what is below on a chain
 
 module _ (s : Source) (code : CodeOf) where
-  work_below : (m : Instances) (fs : Frames) (Below : Bool → Type 0) (inst t : ℕ) (b : Runs) (used : ℕ) (w : List Item) (p : ℕ) (ks : List Kind) → WorkAt s code m fs Below inst t b used w p ks → (v : Bool) × Below v
+  pub work_below : (m : Instances) (fs : Frames) (Below : Bool → Type 0) (inst t : ℕ) (b : Runs) (used : ℕ) (w : List Item) (p : ℕ) (ks : List Kind) → WorkAt s code m fs Below inst t b used w p ks → (v : Bool) × Below v
   work_below m fs Below inst t b used [] p ks a = absurd a
   work_below m fs Below inst t b used (Do op ∷ w) p ks a = work_below m fs Below inst (a.5).text (a.5).runs (a.5).used w a.2 a.3 a.11
   work_below m fs Below inst t b used (EndBlock ∷ w) p ks a = (false, ((a.2).1).below)
@@ -219,10 +219,14 @@ module _ (s : Source) (code : CodeOf) where
     pub chain_entered : (chain : List Activation) (v : Bool) (below : List machine.Activation) → ChainAt s code m fs chain v below → ChainAt s code later_m later_fs chain v below
     chain_entered chain v below c = chain_later s code m later_m fs later_fs (later_entered s m x p) Every (keeps_entered s code m fs a.as_many y r) chain (all_every chain) v below c
 
-    pub parked_entered : StandingAt s code later_m later_fs p r → StandingsAt s code m fs → StandingsAt s code later_m later_fs
-    parked_entered new old =
-        append_both (StandingAt s code later_m later_fs) m.standings fs.standings p r
-        (λ j. both_later s code m later_m fs later_fs (later_entered s m x p) Every (keeps_entered s code m fs a.as_many y r) (slice_get m.standings j) (slice_get fs.standings j) (λ z is. kept_every m j z is) (old j)) new
+    pub parked_entered : StandingAt s code later_m later_fs (length m.instances) p r → StandingsAt s code m fs → StandingsAt s code later_m later_fs
+    parked_entered new old = record {
+      each =
+          append_both (StandingAt s code later_m later_fs) m.standings fs.standings p r
+          (λ j. both_later s code m later_m fs later_fs (later_entered s m x p) Every (keeps_entered s code m fs a.as_many y r) j (slice_get m.standings j) (slice_get fs.standings j) (λ z is. kept_every m j z is) (old.each j))
+          (subst (λ n. StandingAt s code later_m later_fs n p r) (sym old.counted) new);
+      counted = length-append m.standings (p ∷ []) ∙ ap (λ n. n + 1) old.counted ∙ sym (length-append m.instances (x ∷ []));
+    }
 
     pub enters : StandingsAt s code later_m later_fs → (chain : List Activation) (below : List machine.Activation) (k : ℕ) (b : Runs) → InstanceAt s code x y → slice_get code.blocks (block_number s (frame_text s k)) ≡ Some b.block → Stands s later_m (length m.instances) k → Stands s later_m (length m.instances) x.text → x.text ≡ b.own → b.block.room ≤ b.room → (w : List Item) (used pc : ℕ)
         → WorkAt s code later_m later_fs (λ v. ChainAt s code later_m later_fs chain v below) (length m.instances) k b used w pc []

@@ -13,7 +13,7 @@ use Rattle.sim_code.specs.Instances as instances
 use Rattle.sim_code.specs.Machine.{Frames, Value, Cells}
 use Rattle.sim_code.specs.Machine as machine
 use Rattle.sim_code.proofs.Lifts.{Both}
-use Rattle.sim_meaning.specs.Pending.{AttributeOf, CallOf, Connection, Declared, Held, Instances, Key, PlaceOf, QualifiedElementOf, QualifiedPlaceOf, RemoteCallOf, StandardOf, Target, Term, ToCell, ToPlace, ToTextAt, ToTextOf, Unbuilt, Val}
+use Rattle.sim_meaning.specs.Pending.{AttributeOf, CallOf, Connection, Declared, Held, Instances, Key, PlaceOf, QualifiedElementOf, QualifiedPlaceOf, RemoteCallOf, StandardOf, Target, Term, ToCell, ToPlace, ToTextAt, ToTextOf, TransferOf, Unbuilt, Val}
 use Rattle.sim_meaning.specs.Pending as meaning
 use Rattle.sim_meaning.specs.Levels.{text_at}
 use Rattle.sim_meaning.specs.Meaning.{has_result}
@@ -62,8 +62,8 @@ AllRead zero ks left = ks ≡ left
 AllRead (suc n) [] left = ⊥
 AllRead (suc n) (k ∷ ks) left = IsRead k × AllRead n ks left
 
--- Whether the evaluation of a tree leaves a value that may lie in a cell: a procedure or a standard name may have no result, and where a
--- cell lies is no such value.
+-- Whether the evaluation of a tree leaves a value that may lie in a cell: a procedure or a standard name may have no result, a transfer of
+-- control has none, and where a cell lies is no such value.
 abbrev pub text_gives : Option Text → Bool
 text_gives (Some (ProcedureText result h a)) = has_result result
 text_gives _ = false
@@ -76,6 +76,7 @@ gives s (PlaceOf j key) = false
 gives s (AttributeOf text key class line a) = false
 gives s (QualifiedPlaceOf j key k) = false
 gives s (QualifiedElementOf line k a ts) = false
+gives s (TransferOf t line a) = false
 gives s _ = true
 
 -- whether a cell is that of a constant

@@ -29,7 +29,7 @@ use Rattle.sim_code.proofs.Lifts.{EachAt, alike_entering, alike_found}
 use Rattle.sim_code.proofs.Simulation.{Alike, going, unruled}
 use Rattle.sim_meaning.specs.Attributes.{is_connection}
 use Rattle.sim_meaning.specs.Entries.{arrays_among, new_instance, words_of_cells}
-use Rattle.sim_meaning.specs.Levels.{has_levels, level_made, levels, levels_made, levels_of}
+use Rattle.sim_meaning.specs.Levels.{has_levels, level_made, levels, levels_made, levels_of, text_at, text_in}
 use Rattle.sim_meaning.specs.Objects.{arrays_given, cells_of_levels, filled_in, levels_work}
 use Rattle.sim_meaning.specs.Pending.{Activation, Configuration, Held, Instances, Item, Level, Val}
 use Rattle.sim_meaning.specs.Texts.{BlockText, ClassText, ConnectionText, PrefixedText, ProcedureText, StandardText, Text, is_class_free, program_texts, text}
@@ -48,7 +48,7 @@ use Rattle.sim_relate.proofs.LevelCells.{CellsOf, Fills, FormalCell, FormalCells
 use Rattle.sim_relate.proofs.LevelCode.{LevelCode, level_code, levels_frame, made_of, none_made}
 use Rattle.sim_relate.proofs.LevelFormals.{formal_cell, formals_many}
 use Rattle.sim_relate.proofs.LevelLists.{levels_some}
-use Rattle.sim_relate.proofs.Lists.{there_get}
+use Rattle.sim_relate.proofs.Lists.{append_at, there_get}
 use Rattle.sim_relate.proofs.ObjectWork.{levels_pend}
 use Rattle.sim_relate.proofs.Reach.{equal_numbers, if_true, levels_no_connection, stands_level}
 use Rattle.sim_relate.proofs.Relation.{ChainAt, EndAt, Laid, StandingAt, StandingsAt, StateAt, StoreAt, WorkAt}
@@ -170,7 +170,7 @@ module _ (s : Source) (code : CodeOf) (compiled : Compiled s code) (l : Limits) 
 
     -- How it stands as a component, what is below on the chain, and its end.
     module _ (end : Item) (standing : Standing Activation) (frame_standing : Standing machine.Activation) (chain : List Activation) (under : List machine.Activation)
-        (stands_alike : (m' : Instances) (fs' : Frames) → StandingAt s code m' fs' standing frame_standing) (under_there : ChainAt s code m fs chain false under)
+        (stands_alike : (m' : Instances) (fs' : Frames) (number : ℕ) → text_at m' number ≡ Some g → StandingAt s code m' fs' number standing frame_standing) (under_there : ChainAt s code m fs chain false under)
         (ends : (m' : Instances) (fs' : Frames) → ChainAt s code m' fs' chain false under → (block : BlockOf) (t p last : ℕ) → Is code (i.EndLevel (pos 0)) p last → EndAt s code (λ v. ChainAt s code m' fs' chain v under) t (record { own = g; room = new_block.room; block = block; stage = stage.Behind 0 }) end p []) where
       -- what the machine does when the cells are filled
       abbrev pub Fresh : (start : ℕ) → Cells → Run Machine
@@ -231,7 +231,7 @@ module _ (s : Source) (code : CodeOf) (compiled : Compiled s code) (l : Limits) 
             entered_state : Related (record { chain = record { instance = length m.instances; work = levels_work (x0 ∷ xs) end; values = [] } ∷ chain; memory = new_m }) (record { chain = record { thunk = false; home = length fs.instances; pc = outermost.class.declarations; stack = []; room = new_block.room; stage = stage.Declaring 0 } ∷ under; memory = new_fs })
             entered_state =
                 let pair = instance_of s code g x.kind type.Nothing new_block heads x.found (x.passes (is_class_free s g)) own laid_here (Some j) r.now r.frame r.at (r.long ∙ first_long) in
-                enters s code m fs store new frame standing frame_standing (parked_entered s code m fs store new frame standing frame_standing (stands_alike new_m new_fs) parked) chain under k0 begins pair
+                enters s code m fs store new frame standing frame_standing (parked_entered s code m fs store new frame standing frame_standing (stands_alike new_m new_fs (length m.instances) (ap text_in (append_at m.instances new))) parked) chain under k0 begins pair
                 (ap (λ z. slice_get code.blocks (block_number s z)) outermost.level.frame ∙ outermost.level.found) stands_first stands_own refl outermost.level.roomy (levels_work (x0 ∷ xs) end) (own_end s code k0) outermost.class.declarations pending
 
             supplied_is : supplied code new_block.class new_block values' ≡ Some r.frame

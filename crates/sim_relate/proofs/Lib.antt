@@ -56,6 +56,12 @@ pub mod Straight
 pub mod Silent
 pub mod JoinTexts
 pub mod Shapes
+pub mod ClassNames
+pub mod TransferNames
+pub mod Called
+pub mod Standings
+pub mod Chains
+pub mod Transfers
 pub mod Joins
 pub mod Placed
 pub mod ExampleTables

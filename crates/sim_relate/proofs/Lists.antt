@@ -1,6 +1,6 @@
 -- Lists read place by place, two at a time.
 use Rattle.std.proofs.Common.{◌≡◌, ◌≢◌, ℕ, zero, suc, ◌<◌, List, [], ◌∷◌, ◌++◌, length, Option, Some, refl, sym, ap, subst, arith}
-use Rattle.std.specs.Prelude.{slice_get, slice_set}
+use Rattle.std.specs.Prelude.{slice_get, slice_index_or, slice_set}
 use Rattle.sim_code.proofs.Lifts.{Both}
 
 -- ---- one list
@@ -33,25 +33,41 @@ append_at (x ∷ xs) y = append_at xs y
 
 -- ---- two lists
 
-module _ {A B : Type 0} (P : A → B → Type 0) where
-  -- one more on each
-  pub append_both : (xs : List A) (ys : List B) (x : A) (y : B) → ((j : ℕ) → Both P (slice_get xs j) (slice_get ys j)) → P x y → (j : ℕ) → Both P (slice_get (xs ++ x ∷ []) j) (slice_get (ys ++ y ∷ []) j)
-  append_both [] [] x y all here zero = here
-  append_both [] [] x y all here (suc j) = tt
-  append_both [] (b ∷ ys) x y all here j = absurd (all 0)
-  append_both (a ∷ xs) [] x y all here j = absurd (all 0)
-  append_both (a ∷ xs) (b ∷ ys) x y all here zero = all 0
-  append_both (a ∷ xs) (b ∷ ys) x y all here (suc j) = append_both xs ys x y (λ k. all (suc k)) here j
+module _ {A B : Type 0} where
+  -- lists that are related place by place are equally long
+  pub same_length : (P : A → B → Type 0) (xs : List A) (ys : List B) → ((j : ℕ) → Both P (slice_get xs j) (slice_get ys j)) → length xs ≡ length ys
+  same_length P [] [] all = refl
+  same_length P [] (b ∷ ys) all = absurd (all 0)
+  same_length P (a ∷ xs) [] all = absurd (all 0)
+  same_length P (a ∷ xs) (b ∷ ys) all = ap suc (same_length P xs ys (λ j. all (suc j)))
+
+  -- Related by their places too: one more on each.
+  pub append_both : (P : ℕ → A → B → Type 0) (xs : List A) (ys : List B) (x : A) (y : B) → ((j : ℕ) → Both (P j) (slice_get xs j) (slice_get ys j)) → P (length xs) x y → (j : ℕ) → Both (P j) (slice_get (xs ++ x ∷ []) j) (slice_get (ys ++ y ∷ []) j)
+  append_both P [] [] x y all here zero = here
+  append_both P [] [] x y all here (suc j) = tt
+  append_both P [] (b ∷ ys) x y all here j = absurd (all 0)
+  append_both P (a ∷ xs) [] x y all here j = absurd (all 0)
+  append_both P (a ∷ xs) (b ∷ ys) x y all here zero = all 0
+  append_both P (a ∷ xs) (b ∷ ys) x y all here (suc j) = append_both (λ k. P (suc k)) xs ys x y (λ k. all (suc k)) here j
 
   -- a write at the same place
-  pub set_both : (xs : List A) (ys : List B) (i : ℕ) (x : A) (y : B) → ((j : ℕ) → Both P (slice_get xs j) (slice_get ys j)) → P x y → (j : ℕ) → Both P (slice_get (slice_set xs i x) j) (slice_get (slice_set ys i y) j)
-  set_both [] [] i x y all here j = tt
-  set_both [] (b ∷ ys) i x y all here j = absurd (all 0)
-  set_both (a ∷ xs) [] i x y all here j = absurd (all 0)
-  set_both (a ∷ xs) (b ∷ ys) zero x y all here zero = here
-  set_both (a ∷ xs) (b ∷ ys) zero x y all here (suc j) = all (suc j)
-  set_both (a ∷ xs) (b ∷ ys) (suc i) x y all here zero = all 0
-  set_both (a ∷ xs) (b ∷ ys) (suc i) x y all here (suc j) = set_both xs ys i x y (λ k. all (suc k)) here j
+  pub set_both : (P : ℕ → A → B → Type 0) (xs : List A) (ys : List B) (i : ℕ) (x : A) (y : B) → ((j : ℕ) → Both (P j) (slice_get xs j) (slice_get ys j)) → P i x y → (j : ℕ) → Both (P j) (slice_get (slice_set xs i x) j) (slice_get (slice_set ys i y) j)
+  set_both P [] [] i x y all here j = tt
+  set_both P [] (b ∷ ys) i x y all here j = absurd (all 0)
+  set_both P (a ∷ xs) [] i x y all here j = absurd (all 0)
+  set_both P (a ∷ xs) (b ∷ ys) zero x y all here zero = here
+  set_both P (a ∷ xs) (b ∷ ys) zero x y all here (suc j) = all (suc j)
+  set_both P (a ∷ xs) (b ∷ ys) (suc i) x y all here zero = all 0
+  set_both P (a ∷ xs) (b ∷ ys) (suc i) x y all here (suc j) = set_both (λ k. P (suc k)) xs ys i x y (λ k. all (suc k)) here j
 
+  -- reads that have a value where nothing is
+  pub read_or : (P : ℕ → A → B → Type 0) (x : A) (y : B) → ((j : ℕ) → P j x y) → (xs : List A) (ys : List B) → ((j : ℕ) → Both (P j) (slice_get xs j) (slice_get ys j)) → (j : ℕ) → P j (slice_index_or xs j x) (slice_index_or ys j y)
+  read_or P x y none [] [] all j = none j
+  read_or P x y none [] (b ∷ ys) all j = absurd (all 0)
+  read_or P x y none (a ∷ xs) [] all j = absurd (all 0)
+  read_or P x y none (a ∷ xs) (b ∷ ys) all zero = all 0
+  read_or P x y none (a ∷ xs) (b ∷ ys) all (suc j) = read_or (λ k. P (suc k)) x y (λ k. none (suc k)) xs ys (λ k. all (suc k)) j
+
+module _ {A B : Type 0} (P : A → B → Type 0) where
   pub both_as : (x x' : Option A) (y y' : Option B) → x' ≡ x → y' ≡ y → Both P x y → Both P x' y'
   both_as x x' y y' ex ey b = subst (λ z. Both P z y') (sym ex) (subst (λ z. Both P x z) (sym ey) b)

@@ -11,9 +11,10 @@ use Rattle.sim_values.specs.declared.kind.Kind.{Kind as ElementKind}
 use Rattle.sim_values.specs.declared.standard.Standard.{Standard}
 use Rattle.sim_code.specs.Code.{CodeOf}
 use Rattle.sim_code.specs.Machine.{Frames}
+use Rattle.sim_code.specs.Transfers.{Transfer}
 use Rattle.sim_meaning.specs.Closing.{close}
 use Rattle.sim_meaning.specs.Entries.{arrays_declared, arrays_of, bounds_of, segments_of}
-use Rattle.sim_meaning.specs.Pending.{Activation, DeclareOp, AttributeOf, AttributeOp, CallOp, FitsOf, FitsOp, KeepOp, KeptOf, Key, MemberOf, MemberOp, ObjectOp, QuaOf, QuaOp, QualifiedElementOf, QualifiedElementOp, ReferOp, RemoteCallOf, StoreOp, SwapOp, ToAddress, ToPlace, ToReference, ToReferenceAt, CallOf, Cell, Configuration, CopyOf, CopyOp, Do, Either, ElementOf, ElementOp, ElementsOp, Eval, Exec, Execs, FetchOp, Further, GiveOp, Given, IfOp, ImageOf, Instances, Item, JoinOp, Joined, NoTerm, One, OneOp, Op, PlaceOf, RaiseOp, StandardOf, StandardOp, Target, Term, Terms, Two, TwoOp, Val, ValueAt}
+use Rattle.sim_meaning.specs.Pending.{Activation, DeclareOp, AttributeOf, AttributeOp, CallOp, FitsOf, FitsOp, KeepOp, KeptOf, Key, MemberOf, MemberOp, NotNoneOf, NotNoneOp, ObjectOp, QuaOf, QuaOp, QualifiedElementOf, QualifiedElementOp, ReferOp, RemoteCallOf, StoreOp, SwapOp, ToAddress, ToPlace, ToReference, ToReferenceAt, CallOf, Cell, Configuration, CopyOf, CopyOp, Do, Either, ElementOf, ElementOp, ElementsOp, Eval, Exec, Execs, FetchOp, Further, GiveOp, Given, IfOp, ImageOf, Instances, Item, JoinOp, Joined, NoTerm, One, OneOp, Op, PlaceOf, RaiseOp, StandardOf, StandardOp, Target, Term, Terms, TransferOf, TransferOp, Two, TwoOp, Val, ValueAt}
 use Rattle.sim_meaning.specs.Steps.{count, each}
 use Rattle.sim_meaning.specs.Texts.{kind_named, text}
 use Rattle.codegen_expr.specs.Sites.{frame_text, own_end}
@@ -47,6 +48,8 @@ abbrev mutual
   opened (QuaOf k line a) = suc (opened a)
   opened (FitsOf k line a) = suc (opened a)
   opened (KeptOf a) = suc (opened a)
+  opened (NotNoneOf line a) = suc (opened a)
+  opened (TransferOf t line a) = suc (opened a)
   opened _ = 0
 
   pub opened_first : Terms → ℕ
@@ -245,6 +248,14 @@ module _ (s : Source) (code : CodeOf) (m : Instances) (fs : Frames) (Below : Boo
 
   pub kept_opened : (x : Term) → Becomes (Do (Eval x) ∷ Do KeepOp ∷ w) (Eval (KeptOf x))
   kept_opened x a = let y = a.0 in let z = y.2 in opens x KeepOp y.0 y.1 (record { line = z.line; works = record { is = z.is; left = ks; «in» = refl; out = a.1 } })
+
+  -- ---- transfers of control
+
+  pub not_none_opened : (line : ℕ) (x : Term) → Becomes (Do (Eval x) ∷ Do (NotNoneOp line) ∷ w) (Eval (NotNoneOf line x))
+  not_none_opened line x a = let y = a.0 in opens x (NotNoneOp line) y.0 y.1 (record { is = y.2; left = ks; «in» = refl; out = a.1 })
+
+  pub transfer_opened : (way : Transfer) (line : ℕ) (x : Term) → Becomes (Do (Eval x) ∷ Do (TransferOp way line) ∷ w) (Eval (TransferOf way line x))
+  transfer_opened way line x a = let y = a.0 in opens x (TransferOp way line) y.0 y.1 (record { is = y.2; left = ks; «in» = refl; out = a.1 })
 
   -- ---- stores
 

@@ -22,7 +22,7 @@ use Rattle.sim_code.proofs.Simulation.{Alike}
 use Rattle.sim_meaning.specs.Levels.{belongs, has_levels, has_procedure, is_in, is_in_any, is_of, text_at, text_in, text_is, text_is_in}
 use Rattle.sim_meaning.specs.Meaning.{do_op}
 use Rattle.sim_meaning.specs.Objects.{is_member, putting_reference}
-use Rattle.sim_meaning.specs.Pending.{Activation, AttributeOp, Configuration, Declared, Eval, Held, QualifiedPlaceOf, Instances, Item, KeepOp, Key, MemberOp, ObjectOp, Op, QuaOp, QualifiedElementOp, ReferOp, SwapOp, Val, array_in, cell_set, place_in, plain}
+use Rattle.sim_meaning.specs.Pending.{Activation, AttributeOp, Configuration, Declared, Eval, Held, QualifiedPlaceOf, Instances, Item, KeepOp, Key, MemberOp, NotNoneOp, ObjectOp, Op, QuaOp, QualifiedElementOp, ReferOp, SwapOp, Val, array_in, cell_set, place_in, plain}
 use Rattle.sim_meaning.specs.Pending as meaning
 use Rattle.sim_meaning.specs.Sane.{IsObject, LastNames, Names}
 use Rattle.sim_meaning.specs.Steps.{go}
@@ -142,6 +142,12 @@ module _ (s : Source) (code : CodeOf) (coding : Compiled s code) (l : Limits) (o
       let x = class_has s code coding c (class_levels s code coding c h) in
       let n = counts s code coding c x in
       by_number c n.0 (number_is s code coding c x ∙ n.1) h r z f
+
+  -- ---- objects that are detached
+
+  pub not_none : (line : ℕ) → Follows (NotNoneOp line)
+  not_none line a = at_row s code l o fs top below _ i.NotNone line q a.is
+      (pops_object line a.left _ _ a.«in» (λ j vals' stack' n hs. on_with (more_at plain_at hs) a.out a.is.on))
 
   -- ---- procedures of objects
 

@@ -26,7 +26,7 @@ use Rattle.sim_code.specs.Machine.{Frames, Machine, Value, Cells, joined}
 use Rattle.sim_code.specs.Machine as machine
 use Rattle.sim_code.proofs.Lifts.{Both}
 use Rattle.sim_meaning.specs.Levels.{has_levels, is_class, levels_made, levels_of, text_at}
-use Rattle.sim_meaning.specs.Pending.{Activation, AgainOp, ArrayOp, AttributeOp, BackOp, BranchOp, CallOp, ChooseOp, Configuration, ConnectOp, CopyOp, DeclareOp, Do, DropOp, ElementOp, ElementsOp, EndBlock, EndLevel, EndObject, EndPrefixed, EndProcedure, EndProgram, EnterOp, Eval, Exec, Execs, FetchOp, FitsOp, GiveOp, Held, IfOp, InnerOp, Instances, Item, JoinOp, KeepOp, Key, Level, LevelOp, MemberOp, NewOp, ObjectOp, OneOp, Op, PastOp, PrefixedOp, QuaOp, QualifiedElementOp, RaiseOp, ReferOp, ShareOp, StandardOp, StepOp, StepTestOp, StoreOp, SwapOp, Target, Term, TestOp, ToAddress, ToCell, ToPlace, ToReference, ToReferenceAt, ToText, ToTextAt, ToTextOf, TwoOp, Val, WhenOp, WhileElementOp, held}
+use Rattle.sim_meaning.specs.Pending.{Activation, AgainOp, ArrayOp, AttributeOp, BackOp, BranchOp, CallOp, ChooseOp, Configuration, ConnectOp, CopyOp, DeclareOp, Do, DropOp, ElementOp, ElementsOp, EndBlock, EndLevel, EndObject, EndPrefixed, EndProcedure, EndProgram, EnterOp, Eval, Exec, Execs, FetchOp, FitsOp, GiveOp, Held, IfOp, InnerOp, Instances, Item, JoinOp, KeepOp, Key, Level, LevelOp, MemberOp, NewOp, NotNoneOp, ObjectOp, OneOp, Op, PastOp, PrefixedOp, QuaOp, QualifiedElementOp, RaiseOp, ReferOp, ShareOp, StandardOp, StepOp, StepTestOp, StoreOp, SwapOp, Target, Term, TestOp, ToAddress, ToCell, ToPlace, ToReference, ToReferenceAt, ToText, ToTextAt, ToTextOf, TransferOp, TwoOp, Val, WhenOp, WhileElementOp, held}
 use Rattle.sim_meaning.specs.Entries.{formals_of, passes}
 use Rattle.sim_meaning.specs.Meaning.{has_result}
 use Rattle.sim_meaning.specs.Statements.{has_value}
@@ -39,7 +39,7 @@ use Rattle.codegen.specs.CodeFor.{ElementsAt, OfCell, OfPlace, OfReference, Retu
 use Rattle.codegen.specs.CodeStm.{ArmsAt, ConnectsAt, StmAt, StmsAt, WithInnerAt}
 use Rattle.codegen.specs.Compiled.{RecordOf, type_of_name}
 use Rattle.sim_relate.proofs.Known.{AllRead, Any, HandAt, IsLink, IsRead, IsTemp, Keeps, Kind, Later, LinkTo, OwnerOf, Reaches, Refers, Runs, SameFrame, SlotAt, Spot, StackAt, Stands, ValAt, anys, at_stage, attribute_kind, given, is_declared, is_fixed, place_target, placed, reads, site_at, spot, variable_target, LeavesIs}
-use Rattle.sim_relate.proofs.Trees.{Classed, JoinsIs, ProcedureIs, FoundIs, FetchesAt, FitsIs, TermAt, OperandAt}
+use Rattle.sim_relate.proofs.Trees.{Classed, JoinsIs, ProcedureIs, FoundIs, FetchesAt, FitsIs, TermAt, OperandAt, transfer_instr}
 
 module _ (s : Source) (code : CodeOf) where
   -- ---- operators: `before` are the kinds of the values in hand before it, `behind` those behind it
@@ -448,6 +448,8 @@ module _ (s : Source) (code : CodeOf) where
   OpAt m fs inst site (QuaOp k line) p q before behind = Classed s k × Works (i.Qua (pos (class_number s code k))) line 1 true p q before behind
   OpAt m fs inst site (FitsOp k line) p q before behind = FitsOpIs site k line p q before behind
   OpAt m fs inst site KeepOp p q before behind = WorksAnyLine i.Keep 1 true p q before behind
+  OpAt m fs inst site (NotNoneOp line) p q before behind = Works i.NotNone line 1 true p q before behind
+  OpAt m fs inst site (TransferOp t line) p q before behind = Works (transfer_instr t) line 1 false p q before behind
   OpAt m fs inst site SwapOp p q before behind = SwapIs p q before behind
   OpAt m fs inst site (ReferOp line) p q before behind = ReferIs line p q before behind
   OpAt m fs inst site (DeclareOp ds) p q before behind = ArraysAt s code site ds p q × (before ≡ []) × (behind ≡ [])
@@ -709,18 +711,26 @@ module _ (s : Source) (code : CodeOf) where
     pub at : (j : ℕ) → Both InstanceAt (slice_get m.instances j) (slice_get fs.instances j)
     pub all : (j : ℕ) (x : Instance (List Held)) → slice_get m.instances j ≡ Some x → Stands s m j x.text
 
-  -- How an instance and its frame stand as components: alike, and the chains that they keep stand for each other.
-  abbrev pub StandingAt : Instances → Frames → Standing Activation → Standing machine.Activation → Type 0
-  StandingAt m fs (NoObject None) (NoObject None) = ⊤
-  StandingAt m fs (NoObject (Some chain)) (NoObject (Some below)) = ChainAt m fs chain false below
-  StandingAt m fs AttachedObject AttachedObject = ⊤
-  StandingAt m fs (DetachedObject chain) (DetachedObject below) = ChainAt m fs chain false below
-  StandingAt m fs ResumedObject ResumedObject = ⊤
-  StandingAt m fs TerminatedObject TerminatedObject = ⊤
-  StandingAt m fs _ _ = ⊥
+  -- an object: its own text is a class, so that its end gives no value
+  pub record ObjectIs (m : Instances) (j : ℕ) : Type 0 where
+    pub own : ℕ
+    pub is : text_at m j ≡ Some own
+    pub class : is_class (Texts.text s own) ≡ true
 
-  abbrev pub StandingsAt : Instances → Frames → Type 0
-  StandingsAt m fs = (j : ℕ) → Both (StandingAt m fs) (slice_get m.standings j) (slice_get fs.standings j)
+  -- How an instance and its frame stand as components: alike, and the chains that they keep stand for each other. Nothing is below on these.
+  abbrev pub StandingAt : Instances → Frames → (instance : ℕ) → Standing Activation → Standing machine.Activation → Type 0
+  StandingAt m fs j (NoObject None) (NoObject None) = ⊤
+  StandingAt m fs j (NoObject (Some chain)) (NoObject (Some below)) = ChainAt m fs chain false below
+  StandingAt m fs j AttachedObject AttachedObject = ObjectIs m j
+  StandingAt m fs j (DetachedObject chain) (DetachedObject below) = ObjectIs m j × ChainAt m fs chain false below
+  StandingAt m fs j ResumedObject ResumedObject = ⊤
+  StandingAt m fs j TerminatedObject TerminatedObject = ⊤
+  StandingAt m fs j _ _ = ⊥
+
+  -- each instance stands in some way
+  pub record StandingsAt (m : Instances) (fs : Frames) : Type 0 where
+    pub each : (j : ℕ) → Both (StandingAt m fs j) (slice_get m.standings j) (slice_get fs.standings j)
+    pub counted : length m.standings ≡ length m.instances
 
   -- What a step does to both stores, if it makes no instance: all is found as before, temps of some instances are as they were, and so is
   -- how each instance stands.
@@ -730,6 +740,7 @@ module _ (s : Source) (code : CodeOf) where
     pub keeps : Keeps s code m fs fs' Of
     pub standings : m'.standings ≡ m.standings
     pub frame_standings : fs'.standings ≡ fs.standings
+    pub as_many : length m'.instances ≡ length m.instances
 
   pub record StateAt (c : Configuration) (x : Machine) : Type 0 where
     pub chain : ChainAt c.memory x.memory c.chain false x.chain

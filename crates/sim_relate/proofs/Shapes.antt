@@ -11,7 +11,7 @@ use Rattle.sim_scope.specs.declared.types.FormalKind.TheVariants as shape
 use Rattle.sim_scope.specs.declared.types.Mode.{Mode}
 use Rattle.sim_scope.specs.declared.types.Mode.TheVariants as mode
 use Rattle.sim_scope.specs.Scopes.{entry_of}
-use Rattle.sim_scope.specs.Source.{Source, denoted, line_at}
+use Rattle.sim_scope.specs.Source.{Source, denoted, found_at, line_at}
 use Rattle.sim_tree.specs.declared.expr.Identifier.{Identifier}
 use Rattle.sim_tree.specs.Syntax.{Expression, Expressions, NoMore, Then}
 use Rattle.sim_tree.specs.Syntax as syntax
@@ -19,11 +19,12 @@ use Rattle.sim_values.specs.declared.standard.Standard.{Standard}
 use Rattle.sim_values.specs.Plain.{Plain}
 use Rattle.sim_values.specs.Standard.{is_image, on_image}
 use Rattle.std.specs.Prelude.{◌||◌}
-use Rattle.sim_meaning.specs.Attributes.{array_attribute, attribute, attribute_place, connected_object, connection_at, declared_attribute, entry_attribute, generation, if_any, parameter_attribute, variable_attribute}
+use Rattle.sim_code.specs.Transfers.{Calling, Detaching, Transfer}
+use Rattle.sim_meaning.specs.Attributes.{array_attribute, attribute, attribute_place, connected_object, connection_at, declared_attribute, entry_attribute, generation, if_any, parameter_attribute, this_term, transfer_at, transfer_term, variable_attribute}
 use Rattle.sim_meaning.specs.Closing.{formals_at, is_attribute, array_term, behind_dot, close, close_actuals, close_all, close_place, constant_term, declared_term, dot_term, formal_term, home_of, home_of_class, in_instance, is_variable, name_term, named_term, standard_term, stream_of, sysout, variable_term}
 use Rattle.sim_meaning.specs.Levels.{class_at}
 use Rattle.sim_meaning.specs.Names.{procedure_named}
-use Rattle.sim_meaning.specs.Pending.{Instances, Term, Terms}
+use Rattle.sim_meaning.specs.Pending.{Further, Instances, NoTerm, Term, Terms}
 use Rattle.sim_meaning.specs.Texts.{constant_of}
 use Rattle.sim_relate.proofs.Known.{Kind, given, gives, leaving}
 
@@ -126,19 +127,27 @@ module _ (s : Source) (m : Instances) (i : ℕ) where
   attribute_leaves : (line : ℕ) (object : Term) (es : Expressions) (terms : Terms) (actuals : DeclNo → Terms) (d : DeclNo) → Leaves (attribute s line object es terms actuals d)
   attribute_leaves line object es terms actuals d = entry_attribute_leaves line d (entry_of s.tables d) object es terms (actuals d)
 
+  transfer_leaves : (way : Transfer) (line : ℕ) (around : Term) (terms : Terms) → Leaves (transfer_term way line around terms)
+  transfer_leaves Detaching line around terms = λ ks. refl
+  transfer_leaves Calling line around NoTerm = λ ks. refl
+  transfer_leaves Calling line around (Further x NoTerm) = λ ks. refl
+  transfer_leaves Calling line around (Further x (Further y more)) = λ ks. refl
+
   -- calls
   pub named_call_leaves : (name : Identifier) (es : Expressions) → Leaves (close s m i (syntax.Named name es))
   named_call_leaves name es =
       let line = line_at s name.token.0 in
-      any_leaves (connection_at s name.token.0) _ _
+      any_leaves (transfer_at s name.token.0) _ _ (λ way. transfer_leaves way line (this_term s m i (found_at s name.token.0)) (close_all s m i es))
+      (any_leaves (connection_at s name.token.0) _ _
       (λ k. any_leaves (declared_attribute (denoted s name.token.0)) _ _ (attribute_leaves line (connected_object s m i k) es (close_all s m i es) (λ d. close_actuals s m i line es (formals_at s d))) (λ ks. refl))
-      (named_leaves line (denoted s name.token.0) es (close_all s m i es) (λ fs. close_actuals s m i line es fs))
+      (named_leaves line (denoted s name.token.0) es (close_all s m i es) (λ fs. close_actuals s m i line es fs)))
 
   pub dot_call_leaves : (token : ℕ) (e : Expression) (name : Identifier) (es : Expressions) → Leaves (close s m i (syntax.Dot token e name es))
   dot_call_leaves token e name es =
       let line = line_at s name.token.0 in
-      any_leaves (declared_attribute (denoted s name.token.0)) _ _ (attribute_leaves line (close s m i e) es (close_all s m i es) (λ d. close_actuals s m i line es (formals_at s d)))
-      (dot_leaves (denoted s name.token.0) (stream_of s e) (is_variable s e || is_attribute s e) line (close_place s m i e) (close s m i e) (close_all s m i es))
+      any_leaves (transfer_at s name.token.0) _ _ (λ way ks. refl)
+      (any_leaves (declared_attribute (denoted s name.token.0)) _ _ (attribute_leaves line (close s m i e) es (close_all s m i es) (λ d. close_actuals s m i line es (formals_at s d)))
+      (dot_leaves (denoted s name.token.0) (stream_of s e) (is_variable s e || is_attribute s e) line (close_place s m i e) (close s m i e) (close_all s m i es)))
 
   generation_leaves : (o c : Option ℕ) (terms : Terms) (line : ℕ) → Leaves (generation o c terms line)
   generation_leaves (Some j) (Some k) terms line = λ ks. refl

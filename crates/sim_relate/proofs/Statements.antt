@@ -31,7 +31,8 @@ use Rattle.codegen.specs.CodeStm.{BlockAt, CalledAt, DropsAt, EnterAt, PrefixedA
 use Rattle.sim_relate.proofs.Known.{Any, Finds, HandAt, Kind, anys, given, site_at, gives, leaves_as, Runs}
 use Rattle.sim_relate.proofs.Trees.{TermAt}
 use Rattle.sim_relate.proofs.Relation.{BeginsAt, ChainAt, OpAt, StateAt, WorkAt, straight}
-use Rattle.sim_relate.proofs.Closing.{call_named_at, close_at, close_parameters_at, call_dot_at}
+use Rattle.sim_relate.proofs.Called.{called_dot_at, called_named_at}
+use Rattle.sim_relate.proofs.Closing.{close_at, close_parameters_at}
 use Rattle.sim_relate.proofs.Hands.{hand_truth}
 use Rattle.sim_relate.proofs.Here.{Here, act, at_row, goes, kinds_as, there_of, with_values}
 use Rattle.sim_relate.proofs.Lefts.{goes_at, lefts_at}
@@ -103,16 +104,16 @@ module _ (s : Source) (code : CodeOf) (l : Limits) (agrees : Agrees s) (o : Worl
 
   called : (p : World) (e : Expression) (y x : ℕ) → CalledAt s code (site_at t b u) (length ks) e y x → DropsAt code (leaves s e) x q → ks' ≡ ks → Alike R (go p m inst (Do (Eval (close s m inst e)) ∷ dropping (leaves s e) w) vals rest) (Going p (record { chain = act inst y stack b ∷ below; memory = fs }))
   called p (syntax.Named name es) y x a d e =
-      let c = call_named_at s code m inst (site_at t b u) agrees reaching name es (length ks) y x a.1 in
-      calls p (syntax.Named name es) y x c.0 (a.0 ∙ sym c.1) (named_call_leaves s m inst name es) d e
+      let c = called_named_at s code m inst (site_at t b u) agrees reaching name es (length ks) y x a in
+      calls p (syntax.Named name es) y x c.0 (sym c.1) (named_call_leaves s m inst name es) d e
   called p (syntax.If token c z y') y x a d e = absurd a
   called p (syntax.Binary op token z y') y x a d e = absurd a
   called p (syntax.Not token z) y x a d e = absurd a
   called p (syntax.Signed n token z) y x a d e = absurd a
   called p (syntax.Member member token z class) y x a d e = absurd a
   called p (syntax.Dot token z name es) y x a d e =
-      let c = call_dot_at s code m inst (site_at t b u) agrees reaching token z name es (length ks) y x a.1 in
-      calls p (syntax.Dot token z name es) y x c.0 (a.0 ∙ sym c.1) (dot_call_leaves s m inst token z name es) d e
+      let c = called_dot_at s code m inst (site_at t b u) agrees reaching token z name es (length ks) y x a in
+      calls p (syntax.Dot token z name es) y x c.0 (sym c.1) (dot_call_leaves s m inst token z name es) d e
   called p (syntax.Qua token z class) y x a d e = absurd a
   called p (syntax.Constant z token) y x a d e = absurd a
   called p (syntax.This token class) y x a d e = absurd a

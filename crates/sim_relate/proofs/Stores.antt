@@ -22,7 +22,7 @@ use Rattle.codegen_expr.specs.Sites.{HasCell, LevelOf, block_number, frame_text,
 use Rattle.sim_relate.proofs.Frames.{bool_cases}
 use Rattle.sim_relate.proofs.Heads.{Heads, Same, both_found, both_heads, entered_same, given_both, given_same, heads_refl, is_live_at, kept_same, later_all, later_heads, later_itself, set_self}
 use Rattle.sim_relate.proofs.Layouts.{less_or}
-use Rattle.sim_relate.proofs.Lists.{append_at, append_before, append_both, both_as, set_both, set_other, set_same, there_get}
+use Rattle.sim_relate.proofs.Lists.{append_at, append_before, append_both, both_as, same_length, set_both, set_other, set_same, there_get}
 use Rattle.sim_relate.proofs.Living.{lives_now}
 use Rattle.sim_relate.proofs.Reach.{if_true, is_there, same_some}
 use Rattle.sim_relate.proofs.Known.{Every, IsTemp, Keeps, Later, Rooted, Runs, SlotAt, Stands, ValAt, fixed_value, inside, is_declared, is_fixed, outermost, placed, placed_in, unenclosed}
@@ -82,7 +82,7 @@ module _ (s : Source) (code : CodeOf) where
   pub store_put : {m : Instances} {fs : Frames} → StoreAt s code m fs → (j : ℕ) (old x : Instance (List Held)) (y : Instance Cells) → slice_get m.instances j ≡ Some old → Heads old x → InstanceAt s code x y → StoreAt s code (with_instance m j x) (with_instance fs j y)
   store_put {m} {fs} a j old x y there h p = record {
     as_many = length-set m.instances j x ∙ a.as_many ∙ sym (length-set fs.instances j y);
-    at = set_both (InstanceAt s code) m.instances fs.instances j x y a.at p;
+    at = set_both (λ k. InstanceAt s code) m.instances fs.instances j x y a.at p;
     all = all_heads m (with_instance m j x) (λ k. set_self Heads heads_refl m.instances j old x there h k) a.all;
   }
 
@@ -233,6 +233,7 @@ module _ (s : Source) (code : CodeOf) where
             store = store_put a j f.now new new_frame there.there heads pair_then;
             standings = refl;
             frame_standings = refl;
+            as_many = length-set m.instances j new;
             later = later_all s m (with_instance m j new) (λ k. set_self Heads heads_refl m.instances j f.now new there.there heads k);
             keeps = record {
               temps = λ k u c b _ stands found temp.
@@ -328,6 +329,7 @@ module _ (s : Source) (code : CodeOf) where
             keeps = record { temps = λ k u c b other st found temp. others k c (λ same. absurd (other same)) };
             standings = refl;
             frame_standings = refl;
+            as_many = refl;
           };
           holds = placed_holds fs j f.frame f.frame_lives temp y lt;
           others = λ c apart. others j c (λ _. apart);
@@ -414,7 +416,7 @@ module _ (s : Source) (code : CodeOf) where
     pub store_entered : (x : Instance (List Held)) (y : Instance Cells) (p : Standing Activation) (q : Standing machine.Activation) → InstanceAt s code x y → Stands s (entered m x p) (length m.instances) x.text → StoreAt s code (entered m x p) (entered fs y q)
     store_entered x y p q pair st = record {
       as_many = length-append m.instances (x ∷ []) ∙ ap (λ n. n + 1) a.as_many ∙ sym (length-append fs.instances (y ∷ []));
-      at = append_both (InstanceAt s code) m.instances fs.instances x y a.at pair;
+      at = append_both (λ k. InstanceAt s code) m.instances fs.instances x y a.at pair;
       all = λ j z e. less_or j (length m.instances)
           (λ lt. (later_new x p).stands j z.text (a.all j z (sym (append_before m.instances x j lt) ∙ e)))
           (λ le. let n = slice_get_within (m.instances ++ x ∷ []) j z e in
@@ -475,6 +477,12 @@ module _ (s : Source) (m : Instances) where
   pub later_entered : (x : Instance (List Held)) (p : Standing Activation) → Later s m (entered m x p)
   later_entered x p = later_heads s m (entered m x p) (λ k y e. both_found Heads (slice_get m.instances k) (slice_get (entered m x p).instances k) y e (both_heads (slice_get m.instances k) (slice_get (entered m x p).instances k) (entered_same m x p k (slice_get_within m.instances k y e))))
 
+  pub given_long : (i : ℕ) → length (given m i).instances ≡ length m.instances
+  given_long i = sym (same_length Same m.instances (given m i).instances (given_same m i))
+
+  pub kept_long : (chain : List Activation) → length (kept_on meaning.owner chain m).instances ≡ length m.instances
+  kept_long chain = sym (same_length Same m.instances (kept_on meaning.owner chain m).instances (λ k. kept_same meaning.owner k chain m))
+
   pub later_given : (i : ℕ) → Later s m (given m i)
   later_given i = later_all s m (given m i) (λ k. both_heads (slice_get m.instances k) (slice_get (given m i).instances k) (given_same m i k))
 
@@ -519,7 +527,7 @@ module _ (s : Source) (code : CodeOf) (m : Instances) where
 
 module _ (s : Source) (code : CodeOf) where
   pub unchanged : (m : Instances) (fs : Frames) → StoreAt s code m fs → Changed s code Every m fs m fs
-  unchanged m fs a = record { store = a; later = later_itself s m; keeps = record { temps = λ j t c b of st found temp. refl }; standings = refl; frame_standings = refl }
+  unchanged m fs a = record { store = a; later = later_itself s m; keeps = record { temps = λ j t c b of st found temp. refl }; standings = refl; frame_standings = refl; as_many = refl }
 
   found_alike : (level j : ℕ) (look look' : ℕ → Option ℕ) → ((k : ℕ) → look' k ≡ look k) → (x : Option (Instance (List Held))) (y : Option (Instance Cells)) → Both (InstanceAt s code) x y → found_at level look' j y ≡ found_at level look j x
   found_alike level j look look' e None None b = refl

@@ -9,10 +9,12 @@ use Rattle.sim_tree.specs.Syntax as syntax
 use Rattle.sim_values.specs.declared.value.TextVal.{TextVal}
 use Rattle.sim_values.specs.Plain.{Nothing, Object, Plain, Text as PlainText}
 use Rattle.sim_values.specs.Texts.{notext}
+use Rattle.sim_code.specs.declared.instr.Instr.{Instr}
 use Rattle.sim_code.specs.declared.instr.Instr.TheVariants as i
 use Rattle.sim_code.specs.Code.{CodeOf}
+use Rattle.sim_code.specs.Transfers.{Calling, Detaching, Transfer}
 use Rattle.sim_meaning.specs.Levels.{is_class}
-use Rattle.sim_meaning.specs.Pending.{AttributeOf, CallOf, Cell, CopyOf, Either, ElementOf, FitsOf, Further, Given, ImageOf, Instances, Joined, KeptOf, Key, MemberOf, NewOf, NoTerm, One, PlaceOf, QuaOf, QualifiedElementOf, QualifiedPlaceOf, RemoteCallOf, StandardOf, Term, Terms, Two, Unbuilt, ValueAt}
+use Rattle.sim_meaning.specs.Pending.{AttributeOf, CallOf, Cell, CopyOf, Either, ElementOf, FitsOf, Further, Given, ImageOf, Instances, Joined, KeptOf, Key, MemberOf, NewOf, NoTerm, NotNoneOf, One, PlaceOf, QuaOf, QualifiedElementOf, QualifiedPlaceOf, RemoteCallOf, StandardOf, Term, Terms, TransferOf, Two, Unbuilt, ValueAt}
 use Rattle.sim_meaning.specs.Entries.{formals_of}
 use Rattle.sim_meaning.specs.Steps.{count}
 use Rattle.sim_meaning.specs.Texts.{ProcedureText, constant_of, text}
@@ -24,6 +26,11 @@ use Rattle.sim_relate.proofs.Known.{Any, FixedOf, Kind, Located, Reaches, Refers
 -- the text of a class, which has a number
 abbrev pub Classed : Source → ℕ → Type 0
 Classed s k = is_class (Texts.text s k) ≡ true
+
+-- the instruction of a transfer of control
+abbrev pub transfer_instr : Transfer → Instr
+transfer_instr Detaching = i.Detach
+transfer_instr Calling = i.Attach
 
 module _ (s : Source) (code : CodeOf) where
   -- ---- closed trees
@@ -204,6 +211,8 @@ module _ (s : Source) (code : CodeOf) where
     TermAt m inst site n (QuaOf k line a) p q = (x : ℕ) × (TermAt m inst site n a p x × (gives s a ≡ true)) × (Classed s k × At code (i.Qua (pos (class_number s code k))) line x q)
     TermAt m inst site n (FitsOf k line a) p q = (x : ℕ) × (TermAt m inst site n a p x × (gives s a ≡ true)) × FitsIs site n k line x q
     TermAt m inst site n (KeptOf a) p q = (x : ℕ) × (TermAt m inst site n a p x × (gives s a ≡ true)) × Is code i.Keep x q
+    TermAt m inst site n (NotNoneOf line a) p q = (x : ℕ) × (TermAt m inst site n a p x × (gives s a ≡ true)) × At code i.NotNone line x q
+    TermAt m inst site n (TransferOf t line a) p q = (x : ℕ) × (TermAt m inst site n a p x × (gives s a ≡ true)) × At code (transfer_instr t) line x q
     TermAt m inst site n Unbuilt p q = ⊤
 
     -- one value after the other

@@ -64,7 +64,7 @@ module _ (s : Source) (code : CodeOf) (ruled : HasRules s) (names : NamesObjects
   opens : AlikeIn Ranked (opening s l input) (rows.opening code l input)
   opens =
       subst (λ z. AlikeIn Ranked (opening s l input) (Going (first_world z l input) no_instances)) (sym compiled.texts)
-      (going (settled _ no_instances no_instances (0, refl) (record { chain = record { still = refl; is = refl }; store = record { as_many = refl; at = λ j. tt; all = λ j x e. absurd (cc) }; parked = λ j. tt })))
+      (going (settled _ no_instances no_instances (0, refl) (record { chain = record { still = refl; is = refl }; store = record { as_many = refl; at = λ j. tt; all = λ j x e. absurd (cc) }; parked = record { each = λ j. tt; counted = refl } })))
 
 -- both runs show the same
 pub same_runs : (s : Source) (code : CodeOf) → HasRules s → NamesObjects s → StaysSane s → Compiled s code → SameRuns s code

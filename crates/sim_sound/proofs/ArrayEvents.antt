@@ -10,13 +10,12 @@ use Rattle.sim_values.specs.declared.kind.Kind.TheVariants as kind
 use Rattle.sim_values.specs.Plain.{Plain, initial, kind_of}
 use Rattle.sim_values.specs.Words.{array_words, count_from, element_count, extent_of}
 use Rattle.sim_code.specs.Outcome.{ArrayOf as OneArray, Run, World}
-use Rattle.sim_code.specs.Instances.{ends_in}
 use Rattle.sim_base.specs.declared.numbering.DeclNo.{DeclNo}
 use Rattle.sim_code.specs.Arrays.{added, are_inside, as_many, copying_array, element_place, finding_element, is_inside, live_array, making_array, place_from, unless_given, words_of_array}
 use Rattle.sim_code.specs.Events.{computing, having, popping, taking}
 use Rattle.sim_meaning.specs.Pending.{Address, ArrayValue, Instances, Link, Of, ProcedureValue, Tree, Val, array_in, plain}
 use Rattle.sim_sound.specs.Held.{ArrayOf, Holds, IsOfKind, Refers, Simply}
-use Rattle.sim_sound.proofs.Sound.{AllArrays, ArrayFine, CopyFine, ElementFine, HandsFine, Hidden, Kinds, NamesObject, Knows, Open, PlainFine, Present, Sight, StoreFine, ValFine, Value, earlier, integers, see, staying}
+use Rattle.sim_sound.proofs.Sound.{AllArrays, ArrayFine, CopyFine, ElementFine, HandsFine, Hidden, Kinds, Marks, NamesObject, Near, Open, PlainFine, Present, Sight, StoreFine, ValFine, Value, at_itself, integers, near_below, see}
 use Rattle.sim_sound.proofs.Changes.{more}
 use Rattle.sim_sound.proofs.Lifts.{Goes, any_popped, computed, had, integers_popped, ran, took}
 use Rattle.sim_sound.proofs.Lists.{append_at}
@@ -115,14 +114,6 @@ pub record NewArray (s : Source) (m : Instances) (j : ℕ) (h : Holds) (x : OneA
   pub elements : (i : ℕ) (p : Plain) → slice_get x.elements i ≡ Some p → PlainFine s m h p
   pub count : length x.elements ≡ element_count x.bounds
 
--- an instance knows what is its own
-pub knows_own : (s : Source) (m : Instances) (j t : ℕ) (todo : List DeclNo) → Present s m j t todo → Knows m j j
-knows_own s m j t todo p = by_end ((p.now).passing && not (p.now).kept) refl
-  where
-    by_end : (b : Bool) → ((p.now).passing && not (p.now).kept) ≡ b → Knows m j j
-    by_end true e = earlier (ap ends_in p.lives ∙ e) (omega arith)
-    by_end false e = staying (record { now = p.now; lives = p.lives; stays = e })
-
 lives_if : (x : OneArray) (b : Bool) → b ≡ false → (if b then None else Some x) ≡ Some x
 lives_if x true e = absurd (cc)
 lives_if x false e = refl
@@ -130,12 +121,12 @@ lives_if x false e = refl
 sight_at : (o : AllArrays) (z : Sight) (x : OneArray) → length o.sights ≡ length o.real → slice_get (more o z x).sights (length o.real) ≡ Some z
 sight_at o z x e = ap (slice_get (o.sights ++ z ∷ [])) (sym e) ∙ append_at o.sights z
 
-pub added_fine : (s : Source) (o : AllArrays) (m : Instances) (j : ℕ) (h : Holds) (x : OneArray) → length o.sights ≡ length o.real → Knows m j j → NewArray s m j h x → ArrayFine (more o (Open h) x) m j h (length o.real)
-added_fine s o m j h x e self f = record {
+pub added_fine : (s : Source) (o : AllArrays) (m : Instances) (j : ℕ) (h : Holds) (x : OneArray) → length o.sights ≡ length o.real → NewArray s m j h x → ArrayFine (more o (Open h) x) m j h (length o.real)
+added_fine s o m j h x e f = record {
   it = x;
   lives = ap unless_given (append_at o.real x) ∙ lives_if x x.given_back f.back;
   known = sight_at o (Open h) x e;
-  owned = inr (subst (Knows m j) (sym f.owned) self);
+  owned = inr (subst (Near (more o (Open h) x) m j) (sym f.owned) (near_below at_itself));
   count = f.count;
 }
 
@@ -151,7 +142,7 @@ module _ {S : Type 0} (P : World → S → Type 0) where
       took P l line wanted o (λ p. f (length p.arrays) (added p x)) (λ t w.
       go t w x (record { owned = refl; back = refl; elements = λ i p d. subst (PlainFine s m h) (all_same (element_count bounds) (initial k) i p d) (initial_fine s m h k is); count = as_long (element_count bounds) (initial k) })))
 
-  pub copied_array : (l : Limits) (line owner : ℕ) (h : Holds) (array : ℕ) (o : World) (g : List Sight) (f : ℕ → World → Run S) (s : Source) (m : Instances) → StoreFine s (see g o) m → ArrayFine (see g o) m owner h array → ((t w : ℕ) (x : OneArray) → NewArray s m owner h x → Goes P (f (length o.arrays) (added (ran o t w) x))) → Goes P (copying_array l line owner array o f)
+  pub copied_array : (l : Limits) (line owner : ℕ) (h : Holds) (array : ℕ) (o : World) (g : Marks) (f : ℕ → World → Run S) (s : Source) (m : Instances) → StoreFine s (see g o) m → ArrayFine (see g o) m owner h array → ((t w : ℕ) (x : OneArray) → NewArray s m owner h x → Goes P (f (length o.arrays) (added (ran o t w) x))) → Goes P (copying_array l line owner array o f)
   unfolding copying_array
   copied_array l line owner h array o g f s m store y go =
       let x : OneArray = record { bounds = (y.it).bounds; elements = (y.it).elements; owner = owner; kept = false; given_back = false } in
@@ -168,7 +159,7 @@ module _ {S : Type 0} (P : World → S → Type 0) where
   array_is s a m j h (ProcedureValue t i) o f y x = absurd y
   array_is s a m j h (Tree t) o f y x = absurd y
 
-  pub found_element : (s : Source) (m : Instances) (j : ℕ) (h : Holds) (n line : ℕ) (left : List Kinds) (vals : List Val) (o : World) (g : List Sight) (f : ℕ → ℕ → List Val → Run S) → HandsFine s (see g o) m j (integers n (Value (ArrayOf h) ∷ left)) vals → ((array index : ℕ) (rest : List Val) → ElementFine (see g o) m j h array index → HandsFine s (see g o) m j left rest → Goes P (f array index rest)) → Goes P (finding_element plain array_in n line vals o f)
+  pub found_element : (s : Source) (m : Instances) (j : ℕ) (h : Holds) (n line : ℕ) (left : List Kinds) (vals : List Val) (o : World) (g : Marks) (f : ℕ → ℕ → List Val → Run S) → HandsFine s (see g o) m j (integers n (Value (ArrayOf h) ∷ left)) vals → ((array index : ℕ) (rest : List Val) → ElementFine (see g o) m j h array index → HandsFine s (see g o) m j left rest → Goes P (f array index rest)) → Goes P (finding_element plain array_in n line vals o f)
   unfolding finding_element
   found_element s m j h n line left vals o g f hands go =
       integers_popped P s (see g o) m j n (Value (ArrayOf h) ∷ left) [] vals o (λ subscripts rest. popping rest o (λ v rest. having (array_in v) o (λ array. having (live_array o array) o (λ a. computing line (element_place a.bounds subscripts) o (λ index. f array index rest))))) hands (λ zs rest more.

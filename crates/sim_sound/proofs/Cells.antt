@@ -18,20 +18,20 @@ use Rattle.sim_meaning.specs.Pending.{ArrayValue, Connection, Declared, Held, In
 use Rattle.sim_meaning.specs.Texts.{BlockText, ClassText, ConnectionText, PrefixedText, ProcedureText, StandardText, Text, text}
 use Rattle.sim_sound.specs.Held.{Among, ArrayOf, Holds, Refers, Simply, connection_holds, entry_holds, given_by, held_by, key_holds, reference_to, result_type}
 use Rattle.sim_sound.specs.Typed.{ConnectionTyped, Typed}
-use Rattle.sim_sound.proofs.Sound.{AllArrays, Begun, CellIs, CellTarget, InstanceFine, IsPlain, KeyAmong, Knows, Made, Present, Site, StandsFor, StoreFine, ValFine, Whole, connected, first_key, in_connection, in_instance, key_of, keys_in, later_key, own_made, own_text}
+use Rattle.sim_sound.proofs.Sound.{AllArrays, Begun, CellIs, CellTarget, InstanceFine, IsPlain, KeyAmong, Made, Near, Present, Site, StandsFor, StoreFine, ValFine, Whole, connected, first_key, in_connection, in_instance, key_of, keys_in, later_key, own_made, own_text}
 use Rattle.sim_sound.proofs.Changes.{held_fine, held_plain, set_there}
 use Rattle.sim_sound.proofs.Lists.{same_some}
-use Rattle.sim_sound.proofs.Moves.{knows_then}
+use Rattle.sim_sound.proofs.Moves.{knows_near, near_then}
 use Rattle.sim_sound.proofs.Prefixes.{LevelOf, class_has, is_connection_text, level_has_levels, level_solid, level_then, only_level, prefix_level, same_level, same_levels}
 
 -- a value that another instance knows, which is known
-pub val_up : (s : Source) (o : AllArrays) (m : Instances) (i j : ℕ) → Knows m i j → (h : Holds) (v : Val) → ValFine s o m j h v → ValFine s o m i h v
-val_up s o m i j knows (Simply k) (Of p) a = a
-val_up s o m i j knows (Refers c) (Of p) a = a
-val_up s o m i j knows (ArrayOf k) (ArrayValue n) a = record { it = a.it; lives = a.lives; known = a.known; owned = ⊎_elim (λ k. inl k) (λ w. inr (knows_then m i j (a.it).owner knows w)) a.owned; count = a.count }
-val_up s o m i j knows (Simply k) _ a = absurd a
-val_up s o m i j knows (Refers c) _ a = absurd a
-val_up s o m i j knows (ArrayOf k) _ a = absurd a
+pub val_up : (s : Source) (o : AllArrays) (m : Instances) (i j : ℕ) → Near o m i j → (h : Holds) (v : Val) → ValFine s o m j h v → ValFine s o m i h v
+val_up s o m i j near (Simply k) (Of p) a = a
+val_up s o m i j near (Refers c) (Of p) a = a
+val_up s o m i j near (ArrayOf k) (ArrayValue n) a = record { it = a.it; lives = a.lives; known = a.known; owned = ⊎_elim (λ k. inl k) (λ w. inr (near_then o m i j (a.it).owner near w)) a.owned; count = a.count }
+val_up s o m i j near (Simply k) _ a = absurd a
+val_up s o m i j near (Refers c) _ a = absurd a
+val_up s o m i j near (ArrayOf k) _ a = absurd a
 
 -- what a variable may hold is the same for all instances
 pub plain_anywhere : (s : Source) (o : AllArrays) (m : Instances) (j i : ℕ) (h : Holds) (v : Val) → IsPlain h → ValFine s o m j h v → ValFine s o m i h v
@@ -196,7 +196,7 @@ same_among : (d e : DeclNo) (key : Key) (todo : List DeclNo) → key ≡ Declare
 same_among d e key todo f g a = subst (λ z. Among z todo) (same_decl e.0 d.0 (sym g ∙ f)) a
 
 pub cell_found : (s : Source) → Typed s → (o : AllArrays) (m : Instances) (i t : ℕ) (todo : List DeclNo) (e : ℕ) (key : Key) (h : Holds) → Begun s o m i t todo → CellIs s m i t todo e key h → (v : Val) × (cell m e key ≡ Some v) × ValFine s o m i h v
-cell_found s ok o m i t todo e key h b (in_instance c) = let x = target_cell s o m i e key h b.store c in (x.0, x.1, val_up s o m i e c.near h x.0 x.2)
+cell_found s ok o m i t todo e key h b (in_instance c) = let x = target_cell s o m i e key h b.store c in (x.0, x.1, val_up s o m i e (knows_near s o m b.store i e c.near) h x.0 x.2)
 cell_found s ok o m i t todo e key h b (own_made {d = d} {u = u} same name level is there free) =
     let p = b.here in
     let f = fine_at s o m i t todo b.store p in
@@ -205,7 +205,7 @@ cell_found s ok o m i t todo e key h b (own_made {d = d} {u = u} same name level
     (x.0, ap (λ z. cell m z key) same ∙ x.1, x.2)
 cell_found s ok o m i t todo e key h b (in_connection {c = c} knows whole is same holds) =
     let x = connection_cell s ok o m e c b.store is whole in
-    (x.0, ap (cell m e) same ∙ x.1, val_up s o m i e knows h x.0 (subst (λ z. ValFine s o m e z x.0) (sym holds) x.2))
+    (x.0, ap (cell m e) same ∙ x.1, val_up s o m i e (knows_near s o m b.store i e knows) h x.0 (subst (λ z. ValFine s o m e z x.0) (sym holds) x.2))
 
 -- ---- a cell is set
 

@@ -9,22 +9,37 @@ use Rattle.sim_code.specs.Arrays.{owned_by, unless_given, with_array}
 use Rattle.sim_meaning.specs.Pending.{Declared, Held, Instances, Key, Val, before, held, held_set, same_key}
 use Rattle.sim_meaning.specs.Pending as meaning
 use Rattle.sim_sound.specs.Held.{ArrayOf, Holds, Refers, Simply, key_holds}
-use Rattle.sim_sound.proofs.Sound.{AllArrays, ArrayFine, CellFine, CellsFine, CopyFine, ElementFine, Hidden, KeptFine, KeyAmong, Knows, Open, PlainFine, Sight, ValFine, elements_of, first_key, key_of, later_key, see}
+use Rattle.sim_sound.proofs.Sound.{AllArrays, ArrayFine, Beneath, CellFine, CellsFine, CopyFine, ElementFine, Hidden, KeptFine, KeyAmong, Marks, Near, Open, PlainFine, Sight, ValFine, at_itself, elements_of, first_key, key_of, later_key, near_below, near_staying, one_lower, see}
 use Rattle.sim_sound.proofs.Later.{All, Copies, Later, as_it_was}
 use Rattle.sim_sound.proofs.Lists.{append_at, append_before, equal_numbers, if_false, if_true, numbers_equal, same_some, set_len, set_other, set_same}
 
 -- ---- arrays alone
 
-arrays_later : (s : Source) (o o' : AllArrays) (m : Instances) → ((j : ℕ) (h : Holds) (a : ℕ) → ArrayFine o m j h a → ArrayFine o' m j h a) → ((j : ℕ) (h : Holds) (a n : ℕ) → ElementFine o m j h a n → ElementFine o' m j h a n) → ((h : Holds) (a : ℕ) → KeptFine o h a → KeptFine o' h a) → Later s o m o' m All
-arrays_later s o o' m f g k = record {
+arrays_later : (s : Source) (o o' : AllArrays) (m : Instances) → o'.beneath ≡ o.beneath → ((j : ℕ) (h : Holds) (a : ℕ) → ArrayFine o m j h a → ArrayFine o' m j h a) → ((j : ℕ) (h : Holds) (a n : ℕ) → ElementFine o m j h a n → ElementFine o' m j h a n) → ((h : Holds) (a : ℕ) → KeptFine o h a → KeptFine o' h a) → Later s o m o' m All
+arrays_later s o o' m same f g k = record {
   arrays = λ j h a ok x. f j h a x;
   elements = λ j h a n ok x. g j h a n x;
   kept = k;
   there = λ j x ok lives. record { now = x; lives = lives; grown = as_it_was x };
   stays = λ j a. tt;
   apart = λ j e a b. tt;
+  near = λ j e a b. tt;
+  beneath = λ j x is. ap (λ z. slice_get z j) same ∙ is;
   objects = λ j a. a;
+  nobody = λ j a. a;
 }
+
+-- what is beneath an instance does not lie in the arrays
+beneath_same : (o o' : AllArrays) (m : Instances) → o'.beneath ≡ o.beneath → {j e : ℕ} → Beneath o m j e → Beneath o' m j e
+beneath_same o o' m same at_itself = at_itself
+beneath_same o o' m same (one_lower {j = j} ends is way) = one_lower ends (ap (λ z. slice_get z j) same ∙ is) (beneath_same o o' m same way)
+
+near_same : (o o' : AllArrays) (m : Instances) (j e : ℕ) → o'.beneath ≡ o.beneath → Near o m j e → Near o' m j e
+near_same o o' m j e same (near_staying a) = near_staying a
+near_same o o' m j e same (near_below way) = near_below (beneath_same o o' m same way)
+
+owned_same : (o o' : AllArrays) (m : Instances) (j : ℕ) (it : OneArray) → o'.beneath ≡ o.beneath → (it.kept ≡ true) ⊎ Near o m j it.owner → (it.kept ≡ true) ⊎ Near o' m j it.owner
+owned_same o o' m j it same a = ⊎_elim (λ k. inl k) (λ n. inr (near_same o o' m j it.owner same n)) a
 
 -- what the elements of all arrays hold
 abbrev pub ElementsFine : Source → AllArrays → Instances → Type 0
@@ -42,15 +57,15 @@ get_more (z ∷ xs) x zero y e = e
 get_more (z ∷ xs) x (suc n) y e = get_more xs x n y e
 
 abbrev pub more : AllArrays → Sight → OneArray → AllArrays
-more o z x = record { sights = o.sights ++ z ∷ []; real = o.real ++ x ∷ [] }
+more o z x = record o { sights = o.sights ++ z ∷ []; real = o.real ++ x ∷ [] }
 
 array_more : (o : AllArrays) (m : Instances) (z : Sight) (x : OneArray) (j : ℕ) (h : Holds) (a : ℕ) → ArrayFine o m j h a → ArrayFine (more o z x) m j h a
-array_more o m z x j h a f = record { it = f.it; lives = more_lives o.real x a f.it f.lives; known = get_more o.sights z a (Open h) f.known; owned = f.owned; count = f.count }
+array_more o m z x j h a f = record { it = f.it; lives = more_lives o.real x a f.it f.lives; known = get_more o.sights z a (Open h) f.known; owned = owned_same o (more o z x) m j f.it refl f.owned; count = f.count }
 
 pub later_array : (s : Source) (o : AllArrays) (m : Instances) (z : Sight) (x : OneArray) → Later s o m (more o z x) m All
 unfolding array_more
 later_array s o m z x =
-    arrays_later s o (more o z x) m (λ j h a f. array_more o m z x j h a f) (λ j h a n f. record { array = array_more o m z x j h a f.array; there = f.there })
+    arrays_later s o (more o z x) m refl (λ j h a f. array_more o m z x j h a f) (λ j h a n f. record { array = array_more o m z x j h a f.array; there = f.there })
     (λ h a f. record { it = f.it; lives = more_lives o.real x a f.it f.lives; known = get_more o.sights z a (Open h) f.known; keeps = f.keeps; count = f.count })
 
 pub copies_array : (o : AllArrays) (z : Sight) (x : OneArray) (j d : ℕ) → Copies o (more o z x) j d
@@ -120,14 +135,14 @@ module _ (o : AllArrays) (a0 : ℕ) (old new : OneArray) (is : unless_given (sli
               it = new;
               lives = new_lives a same;
               known = f.known;
-              owned = ⊎_elim (λ k. inl (kept (subst (λ x. x.kept ≡ true) e k))) (λ k. ⊎_elim (λ was. inl (kept was)) (λ same. inr (subst (λ x. Knows m j x) (ap (λ x. x.owner) e ∙ sym same) k)) owner) f.owned;
+              owned = ⊎_elim (λ k. inl (kept (subst (λ x. x.kept ≡ true) e k))) (λ k. ⊎_elim (λ was. inl (kept was)) (λ same. inr (near_same o replaced m j new.owner refl (subst (λ x. Near o m j x) (ap (λ x. x.owner) e ∙ sym same) k))) owner) f.owned;
               count = count_new f.it e f.count;
             },
             λ lt. subst (λ x. n < x) (ap (λ x. length x.elements) e ∙ sym len) lt,
           )
 
       other : a ≢ a0 → (y : ArrayFine replaced m j h a) × (n < length (f.it).elements → n < length (y.it).elements)
-      other differ = (record { it = f.it; lives = others_live a differ ∙ f.lives; known = f.known; owned = f.owned; count = f.count }, λ lt. lt)
+      other differ = (record { it = f.it; lives = others_live a differ ∙ f.lives; known = f.known; owned = owned_same o replaced m j f.it refl f.owned; count = f.count }, λ lt. lt)
 
   kept_replaced : (h : Holds) (a : ℕ) → KeptFine o h a → KeptFine replaced h a
   kept_replaced h a f = ⊎_elim here other (cases_eq a a0)
@@ -140,7 +155,7 @@ module _ (o : AllArrays) (a0 : ℕ) (old new : OneArray) (is : unless_given (sli
 
   pub later_replaced : (s : Source) (m : Instances) → Later s o m replaced m All
   later_replaced s m =
-      arrays_later s o replaced m (λ j h a f. (array_replaced m j h a 0 f).0) (λ j h a n f. let y = array_replaced m j h a n f.array in record { array = y.0; there = y.1 f.there }) (λ h a f. kept_replaced h a f)
+      arrays_later s o replaced m refl (λ j h a f. (array_replaced m j h a 0 f).0) (λ j h a n f. let y = array_replaced m j h a n f.array in record { array = y.0; there = y.1 f.there }) (λ h a f. kept_replaced h a f)
 
   pub elements_replaced : (s : Source) (m : Instances) (x : Sight) → slice_get o.sights a0 ≡ Some x → ((i : ℕ) (p : Plain) → slice_get new.elements i ≡ Some p → PlainFine s m (elements_of x) p) → ElementsFine s o m → ElementsFine s replaced m
   elements_replaced s m x sight fine all a i it y p lives is at = ⊎_elim here other (cases_eq a a0)
@@ -194,51 +209,51 @@ module _ (o : AllArrays) (m : Instances) (j0 : ℕ) (h0 : Holds) (a0 i : ℕ) (v
 
 -- ---- a copy goes over to an instance
 
-module _ (o : World) (g : List Sight) (m : Instances) (i d : ℕ) (h0 : Holds) (a0 : ℕ) (copy : CopyFine (see g o) i d h0 a0) (n : ℕ) where
+module _ (o : World) (g : Marks) (m : Instances) (i d : ℕ) (h0 : Holds) (a0 : ℕ) (copy : CopyFine (see g o) i d h0 a0) (n : ℕ) where
   abbrev moved : OneArray
   moved = record copy.it { owner = n }
 
-  abbrev pub handed_sights : List Sight
-  handed_sights = slice_set g a0 (Open h0)
+  abbrev pub handed_marks : Marks
+  handed_marks = record g { sights = slice_set g.sights a0 (Open h0) }
 
   abbrev pub handed_world : World
   handed_world = with_array o a0 moved
 
   abbrev Now : AllArrays
-  Now = see handed_sights handed_world
+  Now = see handed_marks handed_world
 
   pub handed_is : owned_by n (slice_get o.arrays a0) o a0 ≡ handed_world
   handed_is = ap (λ x. owned_by n x o a0) (array_there (slice_get o.arrays a0) copy.it copy.lives).0
 
-  pub handed_long : length g ≡ length o.arrays → length handed_sights ≡ length handed_world.arrays
-  handed_long e = set_len g a0 (Open h0) ∙ e ∙ sym (set_len o.arrays a0 moved)
+  pub handed_long : length g.sights ≡ length o.arrays → length handed_marks.sights ≡ length handed_world.arrays
+  handed_long e = set_len g.sights a0 (Open h0) ∙ e ∙ sym (set_len o.arrays a0 moved)
 
   handed_array : (j : ℕ) (h : Holds) (a : ℕ) → ArrayFine (see g o) m j h a → ArrayFine Now m j h a
   handed_array j h a f =
-      let differ : a ≢ a0 = λ same. sights_differ g a0 a i d h0 h (sym same) copy.hidden f.known in
-      record { it = f.it; lives = ap unless_given (set_other o.arrays a0 a moved differ) ∙ f.lives; known = set_other g a0 a (Open h0) differ ∙ f.known; owned = f.owned; count = f.count }
+      let differ : a ≢ a0 = λ same. sights_differ g.sights a0 a i d h0 h (sym same) copy.hidden f.known in
+      record { it = f.it; lives = ap unless_given (set_other o.arrays a0 a moved differ) ∙ f.lives; known = set_other g.sights a0 a (Open h0) differ ∙ f.known; owned = owned_same (see g o) Now m j f.it refl f.owned; count = f.count }
 
   handed_kept : (h : Holds) (a : ℕ) → KeptFine (see g o) h a → KeptFine Now h a
   handed_kept h a f =
-      let differ : a ≢ a0 = λ same. sights_differ g a0 a i d h0 h (sym same) copy.hidden f.known in
-      record { it = f.it; lives = ap unless_given (set_other o.arrays a0 a moved differ) ∙ f.lives; known = set_other g a0 a (Open h0) differ ∙ f.known; keeps = f.keeps; count = f.count }
+      let differ : a ≢ a0 = λ same. sights_differ g.sights a0 a i d h0 h (sym same) copy.hidden f.known in
+      record { it = f.it; lives = ap unless_given (set_other o.arrays a0 a moved differ) ∙ f.lives; known = set_other g.sights a0 a (Open h0) differ ∙ f.known; keeps = f.keeps; count = f.count }
 
   pub handed_later : (s : Source) → Later s (see g o) m Now m All
   unfolding handed_array
-  handed_later s = arrays_later s (see g o) Now m (λ j h a f. handed_array j h a f) (λ j h a n f. record { array = handed_array j h a f.array; there = f.there }) (λ h a f. handed_kept h a f)
+  handed_later s = arrays_later s (see g o) Now m refl (λ j h a f. handed_array j h a f) (λ j h a n f. record { array = handed_array j h a f.array; there = f.there }) (λ h a f. handed_kept h a f)
 
   pub handed_copy : (j e : ℕ) (k : Holds) (a : ℕ) → (j ≡ i → e ≢ d) → CopyFine (see g o) j e k a → CopyFine Now j e k a
   handed_copy j e k a apart f =
-      let differ : a ≢ a0 = λ same. hidden_apart (same_some (slice_get g a0) (Hidden k j e) (Hidden h0 i d) (subst (λ z. slice_get g z ≡ Some (Hidden k j e)) same f.hidden) copy.hidden) apart in
-      record { it = f.it; lives = ap unless_given (set_other o.arrays a0 a moved differ) ∙ f.lives; hidden = set_other g a0 a (Open h0) differ ∙ f.hidden; owned = f.owned; count = f.count }
+      let differ : a ≢ a0 = λ same. hidden_apart (same_some (slice_get g.sights a0) (Hidden k j e) (Hidden h0 i d) (subst (λ z. slice_get g.sights z ≡ Some (Hidden k j e)) same f.hidden) copy.hidden) apart in
+      record { it = f.it; lives = ap unless_given (set_other o.arrays a0 a moved differ) ∙ f.lives; hidden = set_other g.sights a0 a (Open h0) differ ∙ f.hidden; owned = f.owned; count = f.count }
     where
       hidden_apart : Hidden k j e ≡ Hidden h0 i d → (j ≡ i → e ≢ d) → ⊥
       hidden_apart same apart = let x : j ≡ i = cc in let y : e ≡ d = cc in apart x y
 
-  pub handed_over_array : (m' : Instances) → Knows m' n n → ArrayFine Now m' n h0 a0
-  handed_over_array m' knows =
+  pub handed_over_array : (m' : Instances) → ArrayFine Now m' n h0 a0
+  handed_over_array m' =
       let w = array_there (slice_get o.arrays a0) copy.it copy.lives in
-      record { it = moved; lives = array_lives (slice_get (slice_set o.arrays a0 moved) a0) moved (set_same o.arrays a0 copy.it moved w.0) w.1; known = set_same g a0 (Hidden h0 i d) (Open h0) copy.hidden; owned = inr knows; count = copy.count }
+      record { it = moved; lives = array_lives (slice_get (slice_set o.arrays a0 moved) a0) moved (set_same o.arrays a0 copy.it moved w.0) w.1; known = set_same g.sights a0 (Hidden h0 i d) (Open h0) copy.hidden; owned = inr (near_below at_itself); count = copy.count }
 
   pub handed_elements : (s : Source) → ElementsFine s (see g o) m → ElementsFine s Now m
   handed_elements s all a k it y p lives is at = ⊎_elim here other (cases_eq a a0)
@@ -247,15 +262,15 @@ module _ (o : World) (g : List Sight) (m : Instances) (i d : ℕ) (h0 : Holds) (
       here same =
           let w = array_there (slice_get o.arrays a0) copy.it copy.lives in
           let e : it ≡ moved = same_some (unless_given (slice_get (slice_set o.arrays a0 moved) a)) it moved lives (array_lives (slice_get (slice_set o.arrays a0 moved) a) moved (ap (slice_get (slice_set o.arrays a0 moved)) same ∙ set_same o.arrays a0 copy.it moved w.0) w.1) in
-          let f : Open h0 ≡ y = same_some (slice_get handed_sights a) (Open h0) y (ap (slice_get handed_sights) same ∙ set_same g a0 (Hidden h0 i d) (Open h0) copy.hidden) is in
+          let f : Open h0 ≡ y = same_some (slice_get handed_marks.sights a) (Open h0) y (ap (slice_get handed_marks.sights) same ∙ set_same g.sights a0 (Hidden h0 i d) (Open h0) copy.hidden) is in
           subst (λ q. PlainFine s m (elements_of q) p) f (all a0 k copy.it (Hidden h0 i d) p copy.lives copy.hidden (ap (λ q. slice_get q.elements k) (sym e) ∙ at))
 
       other : a ≢ a0 → PlainFine s m (elements_of y) p
-      other differ = all a k it y p (sym (ap unless_given (set_other o.arrays a0 a moved differ)) ∙ lives) (sym (set_other g a0 a (Open h0) differ) ∙ is) at
+      other differ = all a k it y p (sym (ap unless_given (set_other o.arrays a0 a moved differ)) ∙ lives) (sym (set_other g.sights a0 a (Open h0) differ) ∙ is) at
 
 -- ---- an array that is kept goes over to an instance
 
-module _ (o : World) (g : List Sight) (m : Instances) (h0 : Holds) (a0 : ℕ) (kept : KeptFine (see g o) h0 a0) (n : ℕ) where
+module _ (o : World) (g : Marks) (m : Instances) (h0 : Holds) (a0 : ℕ) (kept : KeptFine (see g o) h0 a0) (n : ℕ) where
   abbrev given : OneArray
   given = record kept.it { owner = n }
 
@@ -268,7 +283,7 @@ module _ (o : World) (g : List Sight) (m : Instances) (h0 : Holds) (a0 : ℕ) (k
   pub given_is : owned_by n (slice_get o.arrays a0) o a0 ≡ given_world
   given_is = ap (λ x. owned_by n x o a0) (array_there (slice_get o.arrays a0) kept.it kept.lives).0
 
-  pub given_long : length g ≡ length o.arrays → length g ≡ length given_world.arrays
+  pub given_long : length g.sights ≡ length o.arrays → length g.sights ≡ length given_world.arrays
   given_long e = e ∙ sym (set_len o.arrays a0 given)
 
   pub given_later : (s : Source) → Later s (see g o) m Then m All

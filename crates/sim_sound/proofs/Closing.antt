@@ -36,7 +36,8 @@ use Rattle.sim_scope.specs.Source.{Source, block_of, denoted, found_at, level_of
 use Rattle.sim_tree.specs.declared.expr.Membership.{Membership}
 use Rattle.sim_values.specs.Plain.{Nothing, Object}
 use Rattle.sim_code.specs.Instances.{at_level}
-use Rattle.sim_meaning.specs.Attributes.{attribute, cell_of_connection, connected_object, connection_at, declared_attribute, fitting, generation, if_any, is_connection, kept_if, membership_term, parameter_qualification, place_of_attribute, qua_term, this_instance, this_term, with_arrays_kept}
+use Rattle.sim_code.specs.Transfers.{Calling, Detaching, Transfer}
+use Rattle.sim_meaning.specs.Attributes.{attribute, cell_of_connection, connected_object, connection_at, declared_attribute, detach_term, fitting, generation, if_any, is_connection, kept_if, membership_term, parameter_qualification, place_of_attribute, qua_term, this_instance, this_term, transfer_at, transfer_term, with_arrays_kept}
 use Rattle.sim_meaning.specs.Closing.{Joining, Lazily, Negated, Plainly, Sort, actual_term, array_place, array_term, behind_dot, class_parameters, close, close_actuals, close_all, close_place, constant_term, declared_place, declared_term, dot_term, formal_place, formal_term, home_of, home_of_class, image_place, in_instance, is_attribute, is_attribute_denoted, is_image_behind, is_text, is_text_type, is_variable, is_variable_denoted, is_variable_entry, literal_term, name_term, named_place, named_term, object_term, signed_term, sort_of, standard_term, stream_denoted, stream_of, sysout, two_term, variable_place, variable_term}
 use Rattle.sim_meaning.specs.Constants.{text_constant}
 use Rattle.sim_meaning.specs.Entries.{formal_before, formals_from, formals_of, is_array_by_value}
@@ -45,9 +46,10 @@ use Rattle.sim_meaning.specs.Pending.{Cell, CallOf, CopyOf, Declared, ElementOf,
 use Rattle.sim_meaning.specs.Texts.{constant_of, is_class_free, text}
 use Rattle.sim_sound.specs.Held.{Among, ArrayOf, Fits, Holds, In, InBound, IsFixed, Place, Refers, Sees, SeesConnected, Simply, StandsAround, declared_holds, entry_holds, formal_holds, held_by, reference_to}
 use Rattle.sim_sound.specs.Expressions.{ActualFits, ActualsFit, AreIntegers, AreOf, ArrayNames, BehindGives, CallGives, ConstantNames, DeclaredGives, DotGives, ExprIs, HeldNames, IsReference, KnownAt, LiteralIs, NameGives, NamedGives, NewIs, ObjectHas, OfText, SortKinds, StandardGives, ThisFound, ThisIs, VariableNames, passed}
-use Rattle.sim_sound.specs.Statements.{LeftHeld}
+use Rattle.sim_sound.specs.Statements.{LeftHeld, TransferIs}
 use Rattle.sim_sound.specs.Typed.{Typed}
 use Rattle.sim_sound.proofs.Attributes.{entry_fine, entry_lies, entry_there, gives_result, held_plain, known_of, left_known, left_variable_is, leveled, names_variable, no_left_variable, procedure_in, text_left}
+use Rattle.sim_sound.proofs.Calls.{dot_transfers_not, named_transfers_not}
 use Rattle.sim_sound.proofs.Constants.{constant_no_reference, text_no_reference, value_fine}
 use Rattle.sim_sound.proofs.Fitting.{level_itself, level_self, plain_fits}
 use Rattle.sim_sound.proofs.Cells.{own_level}
@@ -240,6 +242,15 @@ target_of s ok m i d h x e =
 pub whole_of : (s : Source) (m : Instances) (i : ℕ) (d : DeclNo) → (x : Reached s m i d) → (IsFixed (entry_of s.tables d) → ⊥) → Whole s m x.instance (block_of s d)
 whole_of s m i d x free = subst (λ z. Present s m x.instance (block_of s d) z) (x.whole free) x.here
 
+-- a transfer of control that stands somewhere
+abbrev pub TransferFrom : Source → Place → Transfer → (found : Option ℕ) → Expressions → Type 0
+TransferFrom s from Detaching found es = ThisFound s from found (Simply kind.Reference)
+TransferFrom s from Calling found es = AreOf s from es (kind.Reference ∷ [])
+
+pub transfer_in : (s : Source) (u : ℕ) (c : Transfer) (found : Option ℕ) (es : Expressions) → TransferIs s u c found es → TransferFrom s (In u) c found es
+transfer_in s u Detaching found es a = a.0
+transfer_in s u Calling found es a = a
+
 module _ (s : Source) (ok : Typed s) (o : AllArrays) (m : Instances) (store : StoreFine s o m) (i t : ℕ) (todo : List DeclNo) (from : Place) (reach : Reaches s m i from) (around : ReachesText s m i from) where
   stream_is : (a : Expression) → StreamIs (stream_of s a)
   unfolding stream_of
@@ -368,6 +379,11 @@ module _ (s : Source) (ok : Typed s) (o : AllArrays) (m : Instances) (store : St
   this_found : (x : Option ℕ) (h : Holds) → ThisFound s from x h → Fine (this_term s m i x) (Some (Value h))
   this_found None h a = absurd a
   this_found (Some k) h a = this_fine k h (is_connection (text s k)) (has_levels (text s k)) refl refl a
+
+  -- a call that transfers nothing
+  other_call : (x : Option Transfer) (f : Transfer → Term) (a : Term) (g : Option Kinds) → x ≡ None → Fine a g → Fine (if_any x f a) g
+  other_call None f a g e fine = fine
+  other_call (Some c) f a g e fine = absurd (cc)
 
   -- ---- identifiers
 
@@ -608,6 +624,22 @@ module _ (s : Source) (ok : Typed s) (o : AllArrays) (m : Instances) (store : St
         actuals = acts (class_parameters s (Some n.class)) n.actuals;
       }))
 
+  -- ---- calls
+
+  abbrev named_transfer : Identifier → Expressions → Transfer → Term
+  named_transfer name es c = transfer_term c (line_at s name.token.0) (this_term s m i (found_at s name.token.0)) (close_all s m i es)
+
+  abbrev named_other : Identifier → Expressions → Term
+  named_other name es =
+      if_any (connection_at s name.token.0) (λ k. if_any (declared_attribute (denoted s name.token.0)) (attribute s (line_at s name.token.0) (connected_object s m i k) es (close_all s m i es) (λ d. close_actuals s m i (line_at s name.token.0) es (closing.formals_at s d))) Unbuilt)
+      (named_term s m i (line_at s name.token.0) (denoted s name.token.0) es (close_all s m i es) (λ fs. close_actuals s m i (line_at s name.token.0) es fs))
+
+  named_keeps : (name : Identifier) (es : Expressions) (h : Option Holds) → NamedGives s from (connection_at s name.token.0) (denoted s name.token.0) es (AreIntegers s from es) (λ ks. AreOf s from es ks) (λ fs. ActualsFit s from es fs) h → transfer_at s name.token.0 ≡ None
+  named_keeps name es h x = named_transfers_not s from (connection_at s name.token.0) name.token.0 es (AreIntegers s from es) (λ ks. AreOf s from es ks) (λ fs. ActualsFit s from es fs) h x
+
+  dot_keeps : (a : Expression) (name : Identifier) (es : Expressions) (h : Option Holds) → DotGives s (denoted s name.token.0) (stream_of s a) (ExprIs s from a (Simply kind.Text)) (λ c. ExprIs s from a (Refers c)) es (AreIntegers s from es) (λ ks. AreOf s from es ks) (λ fs. ActualsFit s from es fs) h → transfer_at s name.token.0 ≡ None
+  dot_keeps a name es h x = dot_transfers_not s name.token.0 (stream_of s a) (ExprIs s from a (Simply kind.Text)) (λ c. ExprIs s from a (Refers c)) es (AreIntegers s from es) (λ ks. AreOf s from es ks) (λ fs. ActualsFit s from es fs) h x
+
   mutual
     pub expr_fine : (e : Expression) (h : Holds) → ExprIs s from e h → Fine (close s m i e) (Some (Value h))
     expr_fine (syntax.If token c a b) h x = (Value h, refl, expr_fine c (Simply kind.Boolean) x.0, expr_fine a h x.1, expr_fine b h x.2)
@@ -619,9 +651,11 @@ module _ (s : Source) (ok : Typed s) (o : AllArrays) (m : Instances) (store : St
     expr_fine (syntax.Qua token a class) h x = let c = x.0 in qua_fine (class_at s class.token.0) c.class (line_at s token) (close s m i a) h c.is x.1 (expr_fine a (Simply kind.Reference) x.2)
     expr_fine (syntax.Constant literal token) h x = literal_fine token literal h x
     expr_fine (syntax.Dot token a name es) h x =
-        dot_denoted (line_at s name.token.0) a es (Some h) (λ h y. expr_fine a h y) (λ v y. place_fine a v y) (λ y. integers_fine es y) (λ ks y. of_fine es ks y) (λ fs y. actuals_fine (line_at s name.token.0) es fs y) (denoted s name.token.0) x
+        other_call (transfer_at s name.token.0) (λ c. detach_term (line_at s name.token.0) (close s m i a)) (dotted_term (line_at s name.token.0) a es (denoted s name.token.0)) (Some (Value h)) (dot_keeps a name es (Some h) x)
+        (dot_denoted (line_at s name.token.0) a es (Some h) (λ h y. expr_fine a h y) (λ v y. place_fine a v y) (λ y. integers_fine es y) (λ ks y. of_fine es ks y) (λ fs y. actuals_fine (line_at s name.token.0) es fs y) (denoted s name.token.0) x)
     expr_fine (syntax.Named name es) h x =
-        named_fine (line_at s name.token.0) es (close_all s m i es) (λ fs. close_actuals s m i (line_at s name.token.0) es fs) (AreIntegers s from es) (λ ks. AreOf s from es ks) (λ fs. ActualsFit s from es fs) (λ a. integers_fine es a) (λ ks a. of_fine es ks a) (λ fs a. actuals_fine (line_at s name.token.0) es fs a) (connection_at s name.token.0) (denoted s name.token.0) (Some h) x
+        other_call (transfer_at s name.token.0) (named_transfer name es) (named_other name es) (Some (Value h)) (named_keeps name es (Some h) x)
+        (named_fine (line_at s name.token.0) es (close_all s m i es) (λ fs. close_actuals s m i (line_at s name.token.0) es fs) (AreIntegers s from es) (λ ks. AreOf s from es ks) (λ fs. ActualsFit s from es fs) (λ a. integers_fine es a) (λ ks a. of_fine es ks a) (λ fs a. actuals_fine (line_at s name.token.0) es fs a) (connection_at s name.token.0) (denoted s name.token.0) (Some h) x)
     expr_fine (syntax.This token class) h x = this_found (found_at s token) h x
     expr_fine (syntax.New token class es) h x = new_fine class.token.0 (line_at s class.token.0) (line_at s token) es h (λ fs a. class_fine (line_at s class.token.0) es fs a) x
     expr_fine (syntax.Parentheses token a) h x = expr_fine a h x
@@ -670,9 +704,26 @@ module _ (s : Source) (ok : Typed s) (o : AllArrays) (m : Instances) (store : St
 
   -- a call that stands as a statement
   pub given_fine : (name : Identifier) (es : Expressions) (h : Option Holds) → NamedGives s from (connection_at s name.token.0) (denoted s name.token.0) es (AreIntegers s from es) (λ ks. AreOf s from es ks) (λ fs. ActualsFit s from es fs) h → Fine (close s m i (syntax.Named name es)) (held_kinds h)
-  given_fine name es h x =
-      named_fine (line_at s name.token.0) es (close_all s m i es) (λ fs. close_actuals s m i (line_at s name.token.0) es fs) (AreIntegers s from es) (λ ks. AreOf s from es ks) (λ fs. ActualsFit s from es fs) (λ a. integers_fine es a) (λ ks a. of_fine es ks a) (λ fs a. actuals_fine (line_at s name.token.0) es fs a) (connection_at s name.token.0) (denoted s name.token.0) h x
+  given_fine name es h x = other_call (transfer_at s name.token.0) (named_transfer name es) (named_other name es) (held_kinds h) (named_keeps name es h x)
+      (named_fine (line_at s name.token.0) es (close_all s m i es) (λ fs. close_actuals s m i (line_at s name.token.0) es fs) (AreIntegers s from es) (λ ks. AreOf s from es ks) (λ fs. ActualsFit s from es fs) (λ a. integers_fine es a) (λ ks a. of_fine es ks a) (λ fs a. actuals_fine (line_at s name.token.0) es fs a) (connection_at s name.token.0) (denoted s name.token.0) h x)
 
   pub dot_fine : (token : ℕ) (a : Expression) (name : Identifier) (es : Expressions) (h : Option Holds) → DotGives s (denoted s name.token.0) (stream_of s a) (ExprIs s from a (Simply kind.Text)) (λ c. ExprIs s from a (Refers c)) es (AreIntegers s from es) (λ ks. AreOf s from es ks) (λ fs. ActualsFit s from es fs) h → Fine (close s m i (syntax.Dot token a name es)) (held_kinds h)
   dot_fine token a name es h x =
-      dot_denoted (line_at s name.token.0) a es h (λ h y. expr_fine a h y) (λ v y. place_fine a v y) (λ y. integers_fine es y) (λ ks y. of_fine es ks y) (λ fs y. actuals_fine (line_at s name.token.0) es fs y) (denoted s name.token.0) x
+      other_call (transfer_at s name.token.0) (λ c. detach_term (line_at s name.token.0) (close s m i a)) (dotted_term (line_at s name.token.0) a es (denoted s name.token.0)) (held_kinds h) (dot_keeps a name es h x)
+      (dot_denoted (line_at s name.token.0) a es h (λ h y. expr_fine a h y) (λ v y. place_fine a v y) (λ y. integers_fine es y) (λ ks y. of_fine es ks y) (λ fs y. actuals_fine (line_at s name.token.0) es fs y) (denoted s name.token.0) x)
+
+  -- and one that transfers control
+  some_transfer : (x : Option Transfer) (c : Transfer) (f : Transfer → Term) (a : Term) → x ≡ Some c → Fine (f c) None → Fine (if_any x f a) None
+  some_transfer x c f a e fine = subst (λ z. Fine (if_any z f a) None) (sym e) fine
+
+  transfer_is : (c : Transfer) (line : ℕ) (found : Option ℕ) (es : Expressions) → TransferFrom s from c found es → Fine (transfer_term c line (this_term s m i found) (close_all s m i es)) None
+  transfer_is Detaching line found es a = (refl, (refl, this_found found (Simply kind.Reference) a))
+  transfer_is Calling line found NoMore a = absurd a
+  transfer_is Calling line found (Then e NoMore) a = (refl, expr_fine e (Simply kind.Reference) a.0)
+  transfer_is Calling line found (Then e (Then d es)) a = absurd a.1
+
+  pub transfer_fine : (name : Identifier) (es : Expressions) (c : Transfer) → transfer_at s name.token.0 ≡ Some c → TransferFrom s from c (found_at s name.token.0) es → Fine (close s m i (syntax.Named name es)) None
+  transfer_fine name es c e a = some_transfer (transfer_at s name.token.0) c (named_transfer name es) (named_other name es) e (transfer_is c (line_at s name.token.0) (found_at s name.token.0) es a)
+
+  pub detach_fine : (token : ℕ) (a : Expression) (name : Identifier) (es : Expressions) (c : Transfer) → transfer_at s name.token.0 ≡ Some c → ExprIs s from a (Simply kind.Reference) → Fine (close s m i (syntax.Dot token a name es)) None
+  detach_fine token a name es c e x = some_transfer (transfer_at s name.token.0) c (λ c. detach_term (line_at s name.token.0) (close s m i a)) (dotted_term (line_at s name.token.0) a es (denoted s name.token.0)) e (refl, (refl, expr_fine a (Simply kind.Reference) x))

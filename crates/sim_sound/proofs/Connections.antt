@@ -30,7 +30,7 @@ use Rattle.sim_sound.proofs.Moves.{later_cells, same_cells, set_lives, store_cel
 use Rattle.sim_sound.proofs.Ops.{later_hands, later_work, same_copies}
 use Rattle.sim_sound.proofs.Prefixes.{same_is}
 use Rattle.sim_sound.proofs.References.{reference_popped}
-use Rattle.sim_sound.proofs.Sound.{AllArrays, Begun, CellFine, CellsFine, HandsFine, KeyAmong, Kinds, Operates, PlainFine, ReferenceFine, Sight, Site, StandsFor, ValFine, Value, connected as through, first_key, key_of, later_key, own_text, see}
+use Rattle.sim_sound.proofs.Sound.{AllArrays, Begun, CellFine, CellsFine, HandsFine, KeyAmong, Kinds, Marks, Operates, PlainFine, ReferenceFine, Site, StandsFor, ValFine, Value, connected as through, first_key, key_of, later_key, own_text, see}
 
 -- ---- a cell that is there from now on
 
@@ -98,7 +98,7 @@ stands_more : (s : Source) (x : Instance (List Held)) (cells : List Held) → ((
 stands_more s x cells keys t (own_text is) = own_text is
 stands_more s x cells keys t (through {u = u} is around there a) = through is around (keys _ there) (stands_more s x cells keys u a)
 
-module _ (s : Source) (ok : Typed s) (l : Limits) (o : World) (g : List Sight) (long : length g ≡ length o.arrays) (m : Instances) (i t : ℕ) (rest : List Activation) (top : Operates m i rest) (w : List Item) (ks : List Kinds) (b : Begun s (see g o) m i t []) (work : Work s o g long m i t rest top w [] ks) where
+module _ (s : Source) (ok : Typed s) (l : Limits) (o : World) (g : Marks) (long : length g.sights ≡ length o.arrays) (m : Instances) (i t : ℕ) (rest : List Activation) (top : Operates g.beneath m i rest) (w : List Item) (ks : List Kinds) (b : Begun s (see g o) m i t []) (work : Work s o g long m i t rest top w [] ks) where
   -- a reference of the class that is connected
   reference_val : (x : Option ℕ) (p : Plain) → PlainFine s m (reference_to x) p → ValFine s (see g o) m i (reference_to x) (Of p)
   reference_val None p a = a
@@ -124,12 +124,12 @@ module _ (s : Source) (ok : Typed s) (l : Limits) (o : World) (g : List Sight) (
       let stands : StandsFor s (record x { cells = cells }) c.number = through (ap is_connection c.is) c.stands_in at_key (stands_more s x cells keys u (subst (λ z. StandsFor s z u) same_instance site.stands)) in
       let there : Site s n i c.number = record { now = record x { cells = cells }; lives = set_lives s (see g o) m i x p.lives cells keys stays; stands = stands } in
       had (IsFine s) (cell_made m i key v) n o (λ m. go o m i (Do (Exec a) ∷ Do PastOp ∷ w) vals rest) made
-      (goes_on s o g long n i t rest (Rattle.sim_sound.proofs.Moves.operates_on m n i rest same top) (Do (Exec a) ∷ Do PastOp ∷ w) vals [] ks (record {
+      (goes_on s o g long n i t rest (Rattle.sim_sound.proofs.Moves.operates_on g.beneath m n i rest same top) (Do (Exec a) ∷ Do PastOp ∷ w) vals [] ks (record {
         store = store;
         here = record { now = record x { cells = cells }; lives = set_lives s (see g o) m i x p.lives cells keys stays; stands = own_text (same_is s x.text t b.own); words = p.words; has_text = p.has_text; made = λ y at d k holds among none. p.made y at d k holds among (stays (Declared d.0) none) };
         own = b.own;
-      }) (later_hands s ok l o g long m i t rest top g o long n e (same_copies s ok l o g long m i t rest top) same store ks vals h)
-      ([], ks, (refl, refl, refl, (c.number, there, is)), ([], ks, (refl, refl), later_work s ok l o g long m i t rest top g o long n e (same_copies s ok l o g long m i t rest top) same store w [] ks work)))
+      }) (later_hands s ok l o g long m i t rest top g o long refl n e (same_copies s ok l o g long m i t rest top) same store ks vals h)
+      ([], ks, (refl, refl, refl, (c.number, there, is)), ([], ks, (refl, refl), later_work s ok l o g long m i t rest top g o long refl n e (same_copies s ok l o g long m i t rest top) same store w [] ks work)))
     where
       same_live : (y x : Instance (List Held)) → live m i ≡ Some y → live m i ≡ Some x → y ≡ x
       same_live y x e f = cc

@@ -1,5 +1,5 @@
 -- An instance ends, and the one below goes on.
-use Rattle.std.proofs.Common.{◌≡◌, ◌≢◌, ◌<◌, ℕ, Bool, true, false, List, [], ◌∷◌, length, Option, Some, None, inl, inr, refl, sym, ap, ◌∙◌, subst, arith}
+use Rattle.std.proofs.Common.{◌≡◌, ◌≢◌, ℕ, Bool, true, false, List, [], ◌∷◌, length, Option, Some, None, refl, sym, ap, ◌∙◌, subst}
 use Rattle.std.specs.Prelude.{◌&&◌, not}
 use Rattle.sim_base.specs.declared.limits.Limits.{Limits}
 use Rattle.sim_base.specs.declared.numbering.DeclNo.{DeclNo}
@@ -12,27 +12,52 @@ use Rattle.sim_code.specs.Outcome.{World}
 use Rattle.sim_meaning.specs.Levels.{has_levels}
 use Rattle.sim_meaning.specs.Meaning.{do_item, has_result, instances_left, leaving, with_any, world_left}
 use Rattle.sim_meaning.specs.Pending.{Activation, EndObject, EndProcedure, Instances, Item, Of, Result, Val, cell}
+use Rattle.sim_meaning.specs.Sane.{AllOf, Other}
 use Rattle.sim_meaning.specs.Texts.{ProcedureText, is_class_free, text}
 use Rattle.sim_values.specs.Plain.{Object}
 use Rattle.sim_sound.specs.Held.{ArrayOf, Fits, FitsIn, Holds, Refers, Simply, result_holds, result_type}
 use Rattle.sim_sound.specs.Typed.{ResultWritten, Typed}
 use Rattle.sim_sound.proofs.Cells.{fine_at, given_no_array, own_cell}
-use Rattle.sim_sound.proofs.Chains.{chain_less}
+use Rattle.sim_sound.proofs.Chains.{is_attached, others_on}
 use Rattle.sim_sound.proofs.Evals.{IsFine}
 use Rattle.sim_sound.proofs.Fitting.{fits_plain, plain_fits, plain_val, val_fits}
-use Rattle.sim_sound.proofs.Later.{All, AllApart, Later, all_apart, chain_later, object_later, plain_later}
+use Rattle.sim_sound.proofs.Later.{All, Later, all_apart, chain_later, live_less, object_later, plain_later}
 use Rattle.sim_sound.proofs.Lifts.{Goes, had, ran, ticked}
-use Rattle.sim_sound.proofs.Moves.{all_terminated, is_attached, later_terminated, left_by, parked_terminated, store_terminated, terminated}
+use Rattle.sim_sound.proofs.Moves.{later_terminated, left_by, operates_first, placed_as, placed_terminated, store_terminated, terminated}
 use Rattle.sim_sound.proofs.Prefixes.{same_is}
 use Rattle.sim_sound.proofs.Reach.{has_itself, key_of_result}
-use Rattle.sim_sound.proofs.Sound.{AllArrays, Begun, ChainFine, GivesResult, HandsFine, IsPlain, Kinds, Made, ObjectOf, ObjectStands, OnChain, Operates, Sight, Takes, Generated, ValFine, Value, given, held_kinds, runs, see}
+use Rattle.sim_sound.proofs.Sound.{AllArrays, Begun, ChainFine, Generated, GivesResult, HandsFine, IsPlain, IsRelease, Kinds, Made, Marks, ObjectOf, ObjectStands, Operates, StoreFine, Takes, ValFine, Value, Waits, given, held_kinds, runs, see}
 
--- those below have other numbers
-pub all_less_apart : (i : ℕ) (P : Type 0) (chain : List Activation) → ((j : ℕ) → OnChain j chain → j < i) → AllApart (λ j. P → j ≢ i) chain
-all_less_apart i P [] f = tt
-all_less_apart i P (a ∷ rest) f = (λ p same. (let w = f a.instance (inl refl) in omega (arith, w, same)), all_less_apart i P rest (λ j on. f j (inr on)))
+-- those below are others
+pub others_apart : (i : ℕ) (P : Type 0) (chain : List Activation) → AllOf (Other i) chain → AllOf (λ j. P → j ≢ i) chain
+others_apart i P [] f = tt
+others_apart i P (a ∷ rest) f = ((λ p. f.0), others_apart i P rest f.1)
 
-module _ (s : Source) (ok : Typed s) (l : Limits) (o : World) (g : List Sight) (long : length g ≡ length o.arrays) (m : Instances) (i t : ℕ) (todo : List DeclNo) (b : Begun s (see g o) m i t todo) (own : ((b.here).now).text ≡ t) where
+-- the reference to an object that was generated, or the object that was called, comes to be in hand as any other
+pub released : (s : Source) → Typed s → (o : AllArrays) (m : Instances) → StoreFine s o m → (chain : List Activation) (v : Waits) (i t : ℕ) → IsRelease i t v → ObjectOf s m i t → ChainFine s o m chain v → ChainFine s o m chain (Takes None)
+released s ok o m store [] v i t release object c = absurd c
+released s ok o m store (a ∷ rest) (Takes None) i t release object c = c
+released s ok o m store (a ∷ rest) (Takes (Some k)) i t release object c = absurd release
+released s ok o m store (a ∷ rest) (Generated j u) i t release object c =
+    let x = c.expects in
+    let fine : ObjectOf s m j u = subst (λ z. ObjectOf s m j z) (sym release.1) (subst (λ z. ObjectOf s m z t) (sym release.0) object) in
+    let value : ValFine s o m a.instance x.0 (Of (Object j)) = plain_val s o m a.instance x.0 (Object j) (plain_fits s ok o m store (Refers u) x.0 (Object j) x.1 fine) in
+    record {
+      of_text = c.of_text;
+      todo = c.todo;
+      here = c.here;
+      own = c.own;
+      on = c.on;
+      vals = a.values;
+      shown = refl;
+      kinds = Value x.0 ∷ c.kinds;
+      hands = subst (HandsFine s o m a.instance (Value x.0 ∷ c.kinds)) (sym c.shown) (value, c.hands);
+      expected = c.expected;
+      expects = x.2;
+      goes = c.goes;
+    }
+
+module _ (s : Source) (ok : Typed s) (l : Limits) (o : World) (g : Marks) (long : length g.sights ≡ length o.arrays) (m : Instances) (i t : ℕ) (todo : List DeclNo) (b : Begun s (see g o) m i t todo) (own : ((b.here).now).text ≡ t) where
   -- the value that is left, if there is one
   abbrev Leaves : Option Kinds → Option Val → Type 0
   Leaves None None = Unit {0}
@@ -46,23 +71,23 @@ module _ (s : Source) (ok : Typed s) (l : Limits) (o : World) (g : List Sight) (
   plain_later_val o' m' Apart e j (Refers c) _ is a = absurd a
   plain_later_val o' m' Apart e j (ArrayOf h) v is a = absurd is
 
-  pub leaves : (rest : List Activation) → Operates m i rest → (waits : Option Kinds) (v : Option Val) → Leaves waits v → ChainFine s (see g o) m i rest (Takes waits) → Goes (IsFine s) (leaving s rest v i o m)
+  pub leaves : (rest : List Activation) → Operates g.beneath m i rest → (waits : Option Kinds) (v : Option Val) → Leaves waits v → ChainFine s (see g o) m rest (Takes waits) → Goes (IsFine s) (leaving s rest v i o m)
   unfolding leaving
   leaves [] top waits v f c = absurd c
   leaves (a ∷ rest) top waits v f c =
-      let less = chain_less s (see g o) m i (a ∷ rest) (Takes waits) c in
-      let y = left_by s g o m i (a ∷ rest) top less in
+      let y = left_by s g o m i (a ∷ rest) b.store top (Takes waits) c in
       let o' = see g (world_left s i o m) in
       let m' = instances_left i m in
-      let n = chain_later s (see g o) m o' m' (λ j. is_given_at_end m i ≡ true → j ≢ i) y.later i (λ j d lt. y.copies j d (λ same. omega (arith, lt, same))) (a ∷ rest) (all_less_apart i (is_given_at_end m i ≡ true) (a ∷ rest) less) (Takes waits) c in (
+      let apart = others_on g.beneath m i (a ∷ rest) top in
+      let n = chain_later s (see g o) m o' m' (λ j. is_given_at_end m i ≡ true → j ≢ i) y.later (Other i) y.copies (λ v. ⊥) (λ rest. rest ≡ []) (a ∷ rest) (others_apart i (is_given_at_end m i ≡ true) (a ∷ rest) apart) apart (Takes waits) c in (
         g,
         long ∙ sym y.long,
-        runs (y.store b.store) y.all y.parked (record {
-          before = (let under = n.before in let same = y.count in let up = top.before in omega (arith, under, same, up));
+        runs y.store (placed_as m' a.instance a.work (with_any v a.values) rest (operates_first g.beneath m' a rest (live_less m' a.instance (n.here).now (n.here).lives) n.on y.placed).placed) (record {
           of_text = n.of_text;
           todo = n.todo;
           here = n.here;
           own = n.own;
+          on = n.on;
           vals = with_any v n.vals;
           shown = ap (with_any v) n.shown;
           kinds = given waits n.kinds;
@@ -84,6 +109,7 @@ module _ (s : Source) (ok : Typed s) (l : Limits) (o : World) (g : List Sight) (
       more o' m' Apart e (Some Rattle.sim_sound.proofs.Sound.ImageAddress) v f ks vs h = absurd f
       more o' m' Apart e (Some (Rattle.sim_sound.proofs.Sound.Copied k)) v f ks vs h = absurd f
       more o' m' Apart e (Some (Rattle.sim_sound.proofs.Sound.Lasting k)) v f ks vs h = absurd f
+      more o' m' Apart e (Some Rattle.sim_sound.proofs.Sound.Component) v f ks vs h = absurd f
 
   -- what a procedure gives is no array
   result_plain : (h : Holds) → result_holds s t ≡ Some h → IsPlain h
@@ -101,7 +127,7 @@ module _ (s : Source) (ok : Typed s) (l : Limits) (o : World) (g : List Sight) (
   no_result None (Some h) w e = absurd w
   no_result (Some z) r w e = absurd (cc)
 
-  pub procedure_ends : (leaves' : Bool) (w : List Item) (vals : List Val) (rest : List Activation) → Operates m i rest → (result : Option TypeName) (heading : Heading) (body : Statement) → text s t ≡ Some (ProcedureText result heading body) → has_result result ≡ leaves' → (waits : Option Kinds) → GivesResult s t waits → ChainFine s (see g o) m i rest (Takes waits) → Goes (IsFine s) (do_item s l o m i w vals rest (EndProcedure leaves'))
+  pub procedure_ends : (leaves' : Bool) (w : List Item) (vals : List Val) (rest : List Activation) → Operates g.beneath m i rest → (result : Option TypeName) (heading : Heading) (body : Statement) → text s t ≡ Some (ProcedureText result heading body) → has_result result ≡ leaves' → (waits : Option Kinds) → GivesResult s t waits → ChainFine s (see g o) m rest (Takes waits) → Goes (IsFine s) (do_item s l o m i w vals rest (EndProcedure leaves'))
   procedure_ends false w vals rest top None heading body is e waits gives c = leaves rest top waits None (by_fits (result_holds s t) (no_result None (result_holds s t) (ok.texts t (ProcedureText None heading body) is).result refl) gives.0 gives.1 waits gives.2) c
     where
       by_fits : (r : Option Holds) → r ≡ None → (h : Option Holds) → FitsIn s r h → (waits : Option Kinds) → held_kinds h ≡ waits → Leaves waits None
@@ -156,37 +182,20 @@ module _ (s : Source) (ok : Typed s) (l : Limits) (o : World) (g : List Sight) (
         made = subst (λ z. Made s (p.now).text z (p.now).cells) made p.made;
       }
 
-  -- it is terminated, and its reference, which is in hand below, is one to an object with its arrays
-  pub object_ends : (w : List Item) (vals : List Val) (rest : List Activation) → Operates m i rest → todo ≡ [] → is_class_free s t ≡ false → has_levels (text s t) ≡ true → ObjectStands m i → ChainFine s (see g o) m i rest (Generated i t) → Goes (IsFine s) (do_item s l o m i w vals rest EndObject)
+  -- it is terminated, and its reference, where it is in hand below, is one to an object with its arrays
+  pub object_ends : (w : List Item) (vals : List Val) (rest : List Activation) → Operates g.beneath m i rest → todo ≡ [] → is_class_free s t ≡ false → has_levels (text s t) ≡ true → ObjectStands m i → (v : Waits) → IsRelease i t v → ChainFine s (see g o) m rest v → Goes (IsFine s) (do_item s l o m i w vals rest EndObject)
   unfolding object_ended
-  object_ends w vals [] top made free has stands c = absurd c
-  object_ends w vals (a ∷ rest) top made free has stands c =
-      let v = see g o in
+  object_ends w vals [] top made free has stands v release c = absurd c
+  object_ends w vals (a ∷ rest) top made free has stands v release c =
+      let x = see g o in
       let below = a ∷ rest in
-      let less = chain_less s v m i below (Generated i t) c in
-      let m' = terminated s v m i below top less stands in
-      let e = later_terminated s v m i below top less stands in
-      let store = store_terminated s v m i below top less stands b.store in
-      let n = chain_later s v m v m' All e i (λ j d lt k h z q f. f) below (all_apart below) (Generated i t) c in
-      let x = n.expects in
-      let object = object_later s v m v m' All e i t (object_here made free has) in
-      let value : ValFine s v m' a.instance x.0 (Of (Object i)) = plain_val s v m' a.instance x.0 (Object i) (plain_fits s ok v m' store (Refers t) x.0 (Object i) x.1 object) in
+      let m' = terminated s x g.beneath m i below top b.store stands in
+      let e = later_terminated s x g.beneath m i below top b.store stands in
+      let store = store_terminated s x g.beneath m i below top b.store stands in
+      let n = chain_later s x m x m' All e All (λ j d k h z q f r. r) (λ v. ⊥) (λ rest. rest ≡ []) below (all_apart below) (all_apart below) v c in
       ticked (IsFine s) l o (λ p. object_ended p m i below) (λ t' w'.
-      subst (λ z. Goes (IsFine s) (ended_as (ran o t' w') m i below z)) (sym (is_attached s v m i below top less stands)) (
+      subst (λ z. Goes (IsFine s) (ended_as (ran o t' w') m i below z)) (sym (is_attached s x g.beneath m i below b.store top stands)) (
         g,
         long,
-        runs store (all_terminated s v m i below top less stands (stays_at_end free)) (parked_terminated s v m i below top less stands) (record {
-          before = (let under = n.before in let up = top.before in omega (arith, under, up));
-          of_text = n.of_text;
-          todo = n.todo;
-          here = n.here;
-          own = n.own;
-          vals = a.values;
-          shown = refl;
-          kinds = Value x.0 ∷ n.kinds;
-          hands = subst (HandsFine s v m' a.instance (Value x.0 ∷ n.kinds)) (sym n.shown) (value, n.hands);
-          expected = n.expected;
-          expects = x.2;
-          goes = n.goes;
-        }),
+        runs store (placed_terminated s x g.beneath m i below top b.store stands (stays_at_end free)) (released s ok x m' store below v i t release (object_later s x m x m' All e i t (object_here made free has)) n),
       ))

@@ -1,10 +1,12 @@
 -- A block, a procedure or an object is entered.
-use Rattle.std.proofs.Common.{◌≡◌, ℕ, suc, ◌<◌, Bool, true, false, List, [], ◌∷◌, length, map, Option, Some, None, ⊎_elim, refl, sym, ap, ◌∙◌, subst, arith}
+use Rattle.std.proofs.Common.{Bool, List, None, Option, Some, [], ap, arith, false, length, map, refl, subst, suc, sym, true, ℕ, ◌++◌, ◌<◌, ◌∙◌, ◌∷◌, ◌≡◌}
 use Rattle.std.specs.Prelude.{◌==◌, ◌&&◌, not, if◌then◌else◌, slice_get}
 use Rattle.std.specs.List.{list_any}
 use Rattle.sim_base.specs.declared.limits.Limits.{Limits}
 use Rattle.sim_base.specs.declared.numbering.DeclNo.{DeclNo}
-use Rattle.sim_chains.specs.Components.{NoObject, Standing, TerminatedObject}
+use Rattle.sim_chains.specs.Chains.{times_on}
+use Rattle.sim_chains.specs.Components.{NoObject, Standing}
+use Rattle.sim_chains.specs.WellFormed.{over_kept}
 use Rattle.sim_scope.specs.declared.types.Formal.{Formal}
 use Rattle.sim_scope.specs.Access.{encloser}
 use Rattle.sim_scope.specs.Source.{Source, line_at}
@@ -12,7 +14,7 @@ use Rattle.sim_tree.specs.declared.stmt.TypeName.{TypeName}
 use Rattle.sim_tree.specs.Syntax.{Declarations, Heading, Statement, Statements}
 use Rattle.sim_code.specs.Arrays.{handed_over}
 use Rattle.sim_code.specs.Events.{entering, having, pop_many, popping, when}
-use Rattle.sim_code.specs.Instances.{Instance, ends_in, entered, is_live, kept_on, live}
+use Rattle.sim_code.specs.Instances.{Instance, ends_in, entered, is_given_at_end, is_live, kept_on, live}
 use Rattle.sim_code.specs.Instances as instances
 use Rattle.sim_code.specs.Outcome.{Run, World}
 use Rattle.sim_meaning.specs.Attributes.{is_connection}
@@ -20,33 +22,41 @@ use Rattle.sim_meaning.specs.Entries.{arrays_by_value, filled_behind, first_cell
 use Rattle.sim_meaning.specs.Levels.{has_levels}
 use Rattle.sim_meaning.specs.Meaning.{block_work, called, first_step, has_result, procedure_entered, program_entered, sub_block_entered}
 use Rattle.sim_meaning.specs.Pending.{Activation, Address, ArrayValue, Configuration, Declared, Do, EndBlock, EndProcedure, EndProgram, Exec, Execs, Held, Instances, Item, Key, Link, Of, PastOp, ProcedureValue, Tree, Val, instance_in, owner}
+use Rattle.sim_meaning.specs.Sane.{Other}
 use Rattle.sim_meaning.specs.Texts.{BlockText, ClassText, ConnectionText, PrefixedText, ProcedureText, Text, is_class_free, text}
 use Rattle.sim_sound.specs.Held.{ArrayOf, Holds, InBound}
 use Rattle.sim_sound.specs.Typed.{BlockTyped, ProcedureTyped, Typed, TextTyped, arrays_of_block}
 use Rattle.sim_sound.proofs.ArrayWork.{arrays_are, block_arrays}
 use Rattle.sim_sound.proofs.Attributes.{leveled}
 use Rattle.sim_sound.proofs.Cells.{key_level, keys_alone, made_alone, own_site}
-use Rattle.sim_sound.proofs.Chains.{work_less}
+use Rattle.sim_sound.proofs.Chains.{others_kept, others_on}
 use Rattle.sim_sound.proofs.Changes.{ElementsFine}
-use Rattle.sim_sound.proofs.Evals.{IsFine, Work}
+use Rattle.sim_sound.proofs.Evals.{IsFine, Work, goes_on}
 use Rattle.sim_sound.proofs.FirstCells.{ActualsAre, FilledBehind, ValsFine, all_taken, block_cells, block_key, formals_some, held_there, procedure_cells, taken}
-use Rattle.sim_sound.proofs.Handing.{Handed, formals_hand, hand_all, handed_same}
-use Rattle.sim_sound.proofs.Later.{All, Copies, Later, all_apart, chain_later, hands_later, instance_later, live_less, present_later, work_later}
+use Rattle.sim_sound.proofs.Handing.{Handed, formals_hand, hand_all, handed_same, marks_of}
+use Rattle.sim_sound.proofs.Later.{All, Copies, Later, all_apart, chain_later, hands_later, instance_later, kept_later, live_less, near_later, present_later, standing_apart, stays_later, work_later}
 use Rattle.sim_sound.proofs.Lifts.{Goes, any_popped, enters, had, ran, whens}
 use Rattle.sim_sound.proofs.Lists.{append_at, no_some, same_some}
-use Rattle.sim_sound.proofs.Moves.{ending_there, knows_itself, later_entered, operates_entered, store_entered}
+use Rattle.sim_sound.proofs.Moves.{Begins, copies_entered, ending_there, knows_near, later_entered, marked, near_new, on_top, operates_entered, placed_as, store_entered}
 use Rattle.sim_sound.proofs.Prefixes.{LevelOf, prefix_level, same_level}
-use Rattle.sim_sound.proofs.Sound.{AllArrays, AllOn, Begun, CallOpFine, CellsFine, ChainFine, Enclosed, Fine, HandFine, HandsFine, InstanceFine, KeepsNone, KeyAmong, Kinds, Knows, LinkTo, Made, NothingKept, OnChain, Operates, Present, Sight, Stays, StoreFine, Takes, Waits, Whole, WorkFine, alone, GivesResult, earlier, formal_kinds, given, holds_of, key_of, keys_in, own_text, runs, see, staying, within}
+use Rattle.sim_sound.proofs.Sound.{AllArrays, Begun, CallOpFine, CellsFine, ChainFine, Enclosed, Fine, GivesResult, HandFine, HandsFine, InstanceFine, KeyAmong, Kinds, Knows, LinkTo, Made, Marks, Near, Operates, Placed, Present, Sight, Stays, StoreFine, Takes, Waits, Whole, WorkFine, alone, at_itself, first_of, formal_kinds, given, holds_of, key_of, keys_in, near_below, near_staying, own_text, places, runs, see, within}
 
 -- ---- a new instance
 
--- An instance of a text with these cells is entered, which are fine when it is there. `now` is what all see then.
-module _ (s : Source) (ok : Typed s) (v : AllArrays) (m : Instances) (k : ℕ) (e : Option ℕ) (cells : List Held) (z : Standing Activation) (x : Text) (is : text s k ≡ Some x) (solid : is_connection (text s k) ≡ false) where
+-- how it stands
+pub stands_new : (m : Instances) (y : Instance (List Held)) (z : Standing Activation) → length m.standings ≡ length m.instances → slice_get (entered m y z).standings (length m.instances) ≡ Some z
+stands_new m y z many = ap (slice_get (m.standings ++ z ∷ [])) (sym many) ∙ append_at m.standings z
+
+-- An instance of a text with these cells is entered, on top of the instance u, if of any. `now` are the instances then.
+module _ (s : Source) (ok : Typed s) (v : AllArrays) (m : Instances) (k : ℕ) (e : Option ℕ) (cells : List Held) (z : Standing Activation) (x : Text) (is : text s k ≡ Some x) (solid : is_connection (text s k) ≡ false) (u : Option ℕ) where
   abbrev pub made_new : Instance (List Held)
   made_new = new_instance s k e cells
 
   abbrev pub now : Instances
   now = entered m made_new z
+
+  abbrev pub seen_now : AllArrays
+  seen_now = on_top v u
 
   passing_is : passes (text s k) (is_class_free s k) ≡ is_class_free s k
   passing_is = ap (λ z. passes z (is_class_free s k)) is ∙ by_text x is (ok.texts k x is)
@@ -59,35 +69,36 @@ module _ (s : Source) (ok : Typed s) (v : AllArrays) (m : Instances) (k : ℕ) (
       by_text ConnectionText e a = absurd (let z : ◌≡◌ {A = Bool} true false = sym (ap is_connection e) ∙ solid in cc)
       by_text _ e a = absurd a
 
-  pub later_new : Later s v m v now All
-  later_new = later_entered s v m made_new z
+  pub later_new : Later s v m seen_now now All
+  later_new = later_entered s v m made_new z u
 
   pub new_lives : live now (length m.instances) ≡ Some made_new
   new_lives = ap instances.unless_given (append_at m.instances made_new)
 
-  pub new_knows : Knows now (length m.instances) (length m.instances)
-  new_knows = knows_itself now (length m.instances) made_new new_lives
-
   present_new : (todo : List DeclNo) → Made s k todo cells → Present s now (length m.instances) k todo
   present_new todo made = record { now = made_new; lives = new_lives; stands = own_text same_level; words = x; has_text = is; made = made }
 
-  instance_new : ((u : ℕ) → LevelOf s k u → (key : Key) → KeyAmong key (keys_in s u (text s u)) → KeyAmong key (map key_of cells)) → CellsFine s v now (length m.instances) k cells → Enclosed s now (length m.instances) k e → InstanceFine s v now (length m.instances) made_new
+  instance_new : ((u : ℕ) → LevelOf s k u → (key : Key) → KeyAmong key (keys_in s u (text s u)) → KeyAmong key (map key_of cells)) → CellsFine s seen_now now (length m.instances) k cells → Enclosed s seen_now now (length m.instances) k e → InstanceFine s seen_now now (length m.instances) made_new
   instance_new keys fine out = record { level = refl; solid = solid; keys = keys; holds = λ u at key a. key_level s ok solid at key a; cells = fine; ends = passing_is; not_kept = refl; out = out }
 
-  pub begun_new : StoreFine s v m → ((u : ℕ) → LevelOf s k u → (key : Key) → KeyAmong key (keys_in s u (text s u)) → KeyAmong key (map key_of cells)) → CellsFine s v now (length m.instances) k cells → Enclosed s now (length m.instances) k e → (todo : List DeclNo) → Made s k todo cells → Begun s v now (length m.instances) k todo
+  pub begun_new : StoreFine s v m → Begins z → ((u : ℕ) → LevelOf s k u → (key : Key) → KeyAmong key (keys_in s u (text s u)) → KeyAmong key (map key_of cells)) → CellsFine s seen_now now (length m.instances) k cells → Enclosed s seen_now now (length m.instances) k e → (todo : List DeclNo) → Made s k todo cells → Begun s seen_now now (length m.instances) k todo
   unfolding present_new
-  begun_new store keys fine out todo made = record { store = store_entered s v m made_new z store (instance_new keys fine out); here = present_new todo made; own = refl }
+  begun_new store begins keys fine out todo made = record { store = store_entered s v m made_new z u store (instance_new keys fine out) begins; here = present_new todo made; own = refl }
 
-  -- what is not class-free does not know more than stays
-  pub knows_below : (j : ℕ) → (is_class_free s k ≡ false → Stays m j) → j < length m.instances → Knows now (length m.instances) j
-  knows_below j stays lt = by_flag (is_class_free s k) refl
+  -- what is class-free is given back at its end
+  pub new_passes : is_class_free s k ≡ true → is_given_at_end now (length m.instances) ≡ true
+  new_passes free = ap ends_in new_lives ∙ ap (λ q. q && true) (passing_is ∙ free)
+
+  pub new_noted : StoreFine s v m → slice_get seen_now.beneath (length m.instances) ≡ Some u
+  new_noted store = ap (slice_get seen_now.beneath) (sym store.noted) ∙ append_at v.beneath u
+
+  -- What is not class-free needs only what stays, and else what is near to that on which it is entered.
+  near_inside : StoreFine s v m → (j : ℕ) → (is_class_free s k ≡ false → Stays m j) → (i : ℕ) → u ≡ Some i → Near v m i j → Near seen_now now (length m.instances) j
+  near_inside store j stays i on near = by_flag (is_class_free s k) refl
     where
-      by_flag : (b : Bool) → is_class_free s k ≡ b → Knows now (length m.instances) j
-      by_flag true free = earlier (ap ends_in new_lives ∙ ap (λ q. q && true) (passing_is ∙ free)) (omega (arith, lt))
-      by_flag false free = staying (stays_there (stays free))
-        where
-          stays_there : Stays m j → Stays now j
-          stays_there a = Rattle.sim_sound.proofs.Later.stays_later s v m v now All later_new j a
+      by_flag : (b : Bool) → is_class_free s k ≡ b → Near seen_now now (length m.instances) j
+      by_flag true free = near_new s v m made_new z u i j store on (new_passes free) near
+      by_flag false free = near_staying (stays_later s v m seen_now now All later_new j (stays free))
 
   -- the text around is not class-free either, so an instance of it stays
   pub encloser_stays : (j u : ℕ) → StoreFine s v m → encloser s.tables k ≡ Some u → (p : Whole s m j u) → is_class_free s k ≡ false → Stays m j
@@ -102,36 +113,32 @@ module _ (s : Source) (ok : Typed s) (v : AllArrays) (m : Instances) (k : ℕ) (
       stands_free y t no_connection (own_text at) f = level_free no_connection at f
       stands_free y t no_connection (Rattle.sim_sound.proofs.Sound.connected {u = w} c around' key a) f = stands_free y w no_connection a (ok.not_class_free t w around' f)
 
-  pub inside_new : (out u : ℕ) → e ≡ Some out → encloser s.tables k ≡ Some u → out < length m.instances → StoreFine s v m → Whole s m out u → Enclosed s now (length m.instances) k e
-  inside_new out u is_out is_in lt store whole =
-      within is_out is_in lt (knows_below out (encloser_stays out u store is_in whole) lt) (present_later s v m v now All later_new out u [] tt whole)
+  pub inside_new : (out around i : ℕ) → e ≡ Some out → encloser s.tables k ≡ Some around → out < length m.instances → u ≡ Some i → Near v m i out → StoreFine s v m → Whole s m out around → Enclosed s seen_now now (length m.instances) k e
+  inside_new out around i is_out is_in lt on near store whole =
+      within is_out is_in lt (near_inside store out (encloser_stays out around store is_in whole) i on near) (present_later s v m seen_now now All later_new out around [] tt whole)
 
   -- below it the chain stands as before
-  pub below_new : (chain : List Activation) (w : Waits) → ChainFine s v m (length m.instances) chain w → ChainFine s v now (length m.instances) chain w
-  below_new chain w c = chain_later s v m v now All later_new (length m.instances) (λ j d lt e' kd a less f. f) chain (all_apart chain) w c
+  pub below_new : (chain : List Activation) (w : Waits) → ChainFine s v m chain w → ChainFine s seen_now now chain w
+  below_new chain w c = chain_later s v m seen_now now All later_new All (λ j d k. copies_entered s v m made_new z u j d) (λ w. ⊥) (λ rest. rest ≡ []) chain (all_apart chain) (all_apart chain) w c
 
 -- it operates
-pub enters_fine : (s : Source) (ok : Typed s) (o : World) (sights : List Sight) (long : length sights ≡ length o.arrays) (m : Instances) (k : ℕ) (e : Option ℕ) (cells : List Held) (z : Standing Activation) (todo : List DeclNo)
-    → KeepsNone z → (z ≡ TerminatedObject → ⊥) → Begun s (see sights o) (entered m (new_instance s k e cells) z) (length m.instances) k todo → (work : List Item) (rest : List Activation) → AllOn m rest → NothingKept m → ((j : ℕ) → OnChain j rest → j < length m.instances)
-    → WorkFine s (see sights o) (entered m (new_instance s k e cells) z) (λ w. ChainFine s (see sights o) (entered m (new_instance s k e cells) z) (length m.instances) rest w) (rest ≡ []) (length m.instances) k work todo []
+pub enters_fine : (s : Source) (ok : Typed s) (o : World) (marks : Marks) (long : length marks.sights ≡ length o.arrays) (m : Instances) (k : ℕ) (e : Option ℕ) (cells : List Held) (z : Standing Activation) (todo : List DeclNo)
+    → Begins z → (work : List Item) (rest : List Activation) → StoreFine s (see marks o) m → Placed m rest → Begun s (see (marked marks (first_of rest)) o) (entered m (new_instance s k e cells) z) (length m.instances) k todo
+    → WorkFine s (see (marked marks (first_of rest)) o) (entered m (new_instance s k e cells) z) (λ w. ChainFine s (see (marked marks (first_of rest)) o) (entered m (new_instance s k e cells) z) rest w) (rest ≡ []) (length m.instances) k work todo []
     → IsFine s o (record { chain = record { instance = length m.instances; work = work; values = [] } ∷ rest; memory = entered m (new_instance s k e cells) z })
-enters_fine s ok o sights long m k e cells z todo none goes b work rest all kept less w =
-    let top = operates_entered s (see sights o) m (new_instance s k e cells) z rest all kept none goes less in
-    (sights, long, runs b.store top.all top.parked (record { before = top.before; of_text = k; todo = todo; here = b.here; own = b.own; vals = []; shown = refl; kinds = []; hands = tt; expected = []; expects = refl; goes = w }))
+enters_fine s ok o marks long m k e cells z todo begins work rest store placed b w =
+    goes_on s o (marked marks (first_of rest)) long (entered m (new_instance s k e cells) z) (length m.instances) k rest (operates_entered s (see marks o) m (new_instance s k e cells) z (first_of rest) rest refl store.noted placed begins) work [] todo [] b tt w
 
 -- the arrays alone tell whether a configuration is fine
 pub same_arrays : {s : Source} (o p : World) (c : Configuration) → o.arrays ≡ p.arrays → IsFine s o c → IsFine s p c
-same_arrays {s = s} o p c e f = subst (λ z. (g : List Sight) × (length g ≡ length z) × Fine s (record { sights = g; real = z }) c) e f
+same_arrays {s = s} o p c e f = subst (λ z. (g : Marks) × (length g.sights ≡ length z) × Fine s (record { sights = g.sights; beneath = g.beneath; real = z }) c) e f
 
 -- ---- blocks
 
 block_solid : (s : Source) (k begin : ℕ) (ds : Declarations) (ss : Statements) → text s k ≡ Some (BlockText begin ds ss) → is_connection (text s k) ≡ false
 block_solid s k begin ds ss is = ap is_connection is
 
-not_terminated : (z : Standing Activation) → z ≡ NoObject None → z ≡ TerminatedObject → ⊥
-not_terminated z e f = cc
-
-module _ (s : Source) (ok : Typed s) (v : AllArrays) (m : Instances) (k : ℕ) (e : Option ℕ) (begin : ℕ) (ds : Declarations) (ss : Statements) (is : text s k ≡ Some (BlockText begin ds ss)) where
+module _ (s : Source) (ok : Typed s) (v : AllArrays) (m : Instances) (k : ℕ) (e : Option ℕ) (begin : ℕ) (ds : Declarations) (ss : Statements) (is : text s k ≡ Some (BlockText begin ds ss)) (u : Option ℕ) where
   abbrev typed : BlockTyped s k ds ss
   typed = ok.texts k (BlockText begin ds ss) is
 
@@ -141,8 +148,8 @@ module _ (s : Source) (ok : Typed s) (v : AllArrays) (m : Instances) (k : ℕ) (
   abbrev pub after : Instances
   after = entered m (new_instance s k e cells) (NoObject None)
 
-  cells_fine : CellsFine s v after (length m.instances) k cells
-  cells_fine = block_cells s v after (length m.instances) k begin ds ss is typed.no_formals
+  cells_fine : CellsFine s (on_top v u) after (length m.instances) k cells
+  cells_fine = block_cells s (on_top v u) after (length m.instances) k begin ds ss is typed.no_formals
 
   block_holds : (d : DeclNo) (kd : Holds) → Rattle.sim_sound.specs.Held.key_holds s k (Declared d.0) ≡ Some (ArrayOf kd) → Rattle.sim_sound.specs.Held.entry_holds s false (Rattle.sim_scope.specs.Scopes.entry_of s.tables d) ≡ Some (ArrayOf kd)
   block_holds d kd h = sym (ap (λ z. Rattle.sim_sound.specs.Held.entry_holds s z (Rattle.sim_scope.specs.Scopes.entry_of s.tables d)) (ap has_levels is)) ∙ h
@@ -153,42 +160,43 @@ module _ (s : Source) (ok : Typed s) (v : AllArrays) (m : Instances) (k : ℕ) (
   block_made : Made s k (arrays_of_block s ds) cells
   block_made = made_alone s ok k (arrays_of_block s ds) cells (block_solid s k begin ds ss is) has_none (λ d kd holds there none. typed.made d kd (block_key s k begin ds ss d (subst (λ z. KeyAmong (Declared d.0) (keys_in s k z)) is there)) (block_holds d kd holds))
 
-  pub block_begun : StoreFine s v m → Enclosed s after (length m.instances) k e → Begun s v after (length m.instances) k (arrays_of_block s ds)
+  pub block_begun : StoreFine s v m → Enclosed s (on_top v u) after (length m.instances) k e → Begun s (on_top v u) after (length m.instances) k (arrays_of_block s ds)
   block_begun store out =
-      begun_new s ok v m k e cells (NoObject None) (BlockText begin ds ss) is (block_solid s k begin ds ss is) store (keys_alone s ok k (map key_of cells) (block_solid s k begin ds ss is) has_none (λ key a. subst (λ z. KeyAmong key (keys_in s k z)) is a)) cells_fine out (arrays_of_block s ds) block_made
+      begun_new s ok v m k e cells (NoObject None) (BlockText begin ds ss) is (block_solid s k begin ds ss is) u store tt (keys_alone s ok k (map key_of cells) (block_solid s k begin ds ss is) has_none (λ key a. subst (λ z. KeyAmong key (keys_in s k z)) is a)) cells_fine out (arrays_of_block s ds) block_made
 
-  pub block_works : StoreFine s v m → Enclosed s after (length m.instances) k e → (Below : Waits → Type 0) (Outermost : Type 0) (end : Item) → WorkFine s v after Below Outermost (length m.instances) k (end ∷ []) [] [] → WorkFine s v after Below Outermost (length m.instances) k (block_work s after (length m.instances) ds ss end) (arrays_of_block s ds) []
+  pub block_works : StoreFine s v m → Enclosed s (on_top v u) after (length m.instances) k e → (Below : Waits → Type 0) (Outermost : Type 0) (end : Item) → WorkFine s (on_top v u) after Below Outermost (length m.instances) k (end ∷ []) [] [] → WorkFine s (on_top v u) after Below Outermost (length m.instances) k (block_work s after (length m.instances) ds ss end) (arrays_of_block s ds) []
   block_works store out Below Outermost end x =
       let b = block_begun store out in
-      block_arrays s ok v after (length m.instances) k k same_level (arrays_of_block s ds) b (BlockText begin ds ss) is (block_solid s k begin ds ss is) (λ d a. arrays_are s (InBound k) ds typed.arrays d a) Below Outermost ds (Do (Execs ss) ∷ end ∷ []) typed.arrays typed.distinct typed.own
-      ([], [], (refl, refl, refl, (k, own_site s v after (length m.instances) k (arrays_of_block s ds) b, typed.statements)), x)
+      block_arrays s ok (on_top v u) after (length m.instances) k k same_level (arrays_of_block s ds) b (BlockText begin ds ss) is (block_solid s k begin ds ss is) (λ d a. arrays_are s (InBound k) ds typed.arrays d a) Below Outermost ds (Do (Execs ss) ∷ end ∷ []) typed.arrays typed.distinct typed.own
+      ([], [], (refl, refl, refl, (k, own_site s (on_top v u) after (length m.instances) k (arrays_of_block s ds) b, typed.statements)), x)
 
 -- ---- a sub-block
 
-module _ (s : Source) (ok : Typed s) (l : Limits) (o : World) (sights : List Sight) (long : length sights ≡ length o.arrays) (m : Instances) (i t : ℕ) (rest : List Activation) (top : Operates m i rest) (w : List Item) (vals : List Val) where
+module _ (s : Source) (ok : Typed s) (l : Limits) (o : World) (marks : Marks) (long : length marks.sights ≡ length o.arrays) (m : Instances) (i t : ℕ) (rest : List Activation) (top : Operates marks.beneath m i rest) (w : List Item) (vals : List Val) where
   abbrev pub Chain : List Val → List Activation
   Chain vs = record { instance = i; work = w; values = vs } ∷ rest
 
   -- what is on the chain waits for a value or for none
-  pub waits_on : (vs : List Val) (todo : List DeclNo) (ks : List Kinds) (g : Option Kinds) → Begun s (see sights o) m i t todo → HandsFine s (see sights o) m i ks vs → Work s o sights long m i t rest top w todo (given g ks) → ChainFine s (see sights o) m (length m.instances) (Chain vs) (Takes g)
-  waits_on vs todo ks g b h work = record { before = top.before; of_text = t; todo = todo; here = b.here; own = b.own; vals = vs; shown = refl; kinds = ks; hands = h; expected = given g ks; expects = refl; goes = work }
+  pub waits_on : (vs : List Val) (todo : List DeclNo) (ks : List Kinds) (g : Option Kinds) → Begun s (see marks o) m i t todo → HandsFine s (see marks o) m i ks vs → Work s o marks long m i t rest top w todo (given g ks) → ChainFine s (see marks o) m (Chain vs) (Takes g)
+  waits_on vs todo ks g b h work = record { of_text = t; todo = todo; here = b.here; own = b.own; on = top.on; vals = vs; shown = refl; kinds = ks; hands = h; expected = given g ks; expects = refl; goes = work }
 
-  pub chain_lives : (vs : List Val) (todo : List DeclNo) (ks : List Kinds) → Work s o sights long m i t rest top w todo ks → (j : ℕ) → OnChain j (Chain vs) → j < length m.instances
-  chain_lives vs todo ks work j on = ⊎_elim (λ same. let up = top.before in omega (arith, up, same)) (λ below. let less = work_less s (see sights o) m i t rest w todo ks work j below in let up = top.before in omega (arith, less, up)) on
+  -- and stands there
+  pub chain_placed : (vs : List Val) → Placed m (Chain vs)
+  chain_placed vs = placed_as m i w vs rest top.placed
 
-  pub block_entered : (k line u begin : ℕ) (ds : Declarations) (ss : Statements) (ks : List Kinds) → text s k ≡ Some (BlockText begin ds ss) → encloser s.tables k ≡ Some u → Whole s m i u → Begun s (see sights o) m i t [] → HandsFine s (see sights o) m i ks vals → Work s o sights long m i t rest top w [] ks → Goes (IsFine s) (sub_block_entered s l o m i w vals rest k line (Some (BlockText begin ds ss)))
+  pub block_entered : (k line u begin : ℕ) (ds : Declarations) (ss : Statements) (ks : List Kinds) → text s k ≡ Some (BlockText begin ds ss) → encloser s.tables k ≡ Some u → Whole s m i u → Begun s (see marks o) m i t [] → HandsFine s (see marks o) m i ks vals → Work s o marks long m i t rest top w [] ks → Goes (IsFine s) (sub_block_entered s l o m i w vals rest k line (Some (BlockText begin ds ss)))
   block_entered k line u begin ds ss ks is stands site b h work =
-      let v = see sights o in
+      let v = see marks o in
       let x = BlockText begin ds ss in
       let hs = first_cells s k x in
       let z = NoObject None in
       let solid = block_solid s k begin ds ss is in
-      let out = inside_new s ok v m k (Some i) hs z x is solid i u refl stands top.before b.store site in
+      let out = inside_new s ok v m k (Some i) hs z x is solid (Some i) i u i refl stands top.before refl (near_below at_itself) b.store site in
       let m' = entered m (new_instance s k (Some i) hs) z in
       enters (IsFine s) l line (words_of_cells hs) o (λ p. in_instance s p m k (Some i) hs (λ now. block_work s now (length m.instances) ds ss EndBlock) (Chain vals)) (λ t' w'.
-      enters_fine s ok o sights long m k (Some i) hs z (arrays_of_block s ds) tt (not_terminated z refl) (block_begun s ok v m k (Some i) begin ds ss is b.store out) (block_work s m' (length m.instances) ds ss EndBlock) (Chain vals) top.all top.parked (chain_lives vals [] ks work)
-      (block_works s ok v m k (Some i) begin ds ss is b.store out (λ q. ChainFine s v m' (length m.instances) (Chain vals) q) (Chain vals ≡ []) EndBlock
-      (below_new s ok v m k (Some i) hs z x is solid (Chain vals) (Takes None) (waits_on vals [] ks None b h work))))
+      enters_fine s ok o marks long m k (Some i) hs z (arrays_of_block s ds) tt (block_work s m' (length m.instances) ds ss EndBlock) (Chain vals) b.store (chain_placed vals) (block_begun s ok v m k (Some i) begin ds ss is (Some i) b.store out)
+      (block_works s ok v m k (Some i) begin ds ss is (Some i) b.store out (λ q. ChainFine s (on_top v (Some i)) m' (Chain vals) q) (Chain vals ≡ []) EndBlock
+      (stands_new m (new_instance s k (Some i) hs) z (top.placed).as_many, below_new s ok v m k (Some i) hs z x is solid (Some i) (Chain vals) (Takes None) (waits_on vals [] ks None b h work))))
 
   -- ---- a procedure
 
@@ -204,7 +212,7 @@ module _ (s : Source) (ok : Typed s) (l : Limits) (o : World) (sights : List Sig
           never true = refl
           never false = refl
 
-  pub link_is : (u : ℕ) (v : Val) (f : ℕ → Run Configuration) → HandFine s (see sights o) m i (LinkTo u) v → ((j : ℕ) → Knows m i j → Whole s m j u → Goes (IsFine s) (f j)) → Goes (IsFine s) (having (instance_in v) o f)
+  pub link_is : (u : ℕ) (v : Val) (f : ℕ → Run Configuration) → HandFine s (see marks o) m i (LinkTo u) v → ((j : ℕ) → Knows m i j → Whole s m j u → Goes (IsFine s) (f j)) → Goes (IsFine s) (having (instance_in v) o f)
   link_is u (Link j) f a go = had (IsFine s) (Some j) j o f refl (go j a.0 a.1)
   link_is u (Of z) f a go = absurd a
   link_is u (Address z) f a go = absurd a
@@ -215,12 +223,20 @@ module _ (s : Source) (ok : Typed s) (l : Limits) (o : World) (sights : List Sig
   pub lives_is : (j : ℕ) (x : Instance (List Held)) → live m j ≡ Some x → is_live m j ≡ true
   lives_is j x e = ap instances.is_live_in e
 
-  -- the store in which copies have gone over, and a new instance is entered then
-  module _ (p : World) (g' : List Sight) (e : Later s (see sights o) m (see g' p) m All) (fine : StoreFine s (see sights o) m) (elements : ElementsFine s (see sights o) m → ElementsFine s (see g' p) m) where
-    pub store_handed : StoreFine s (see g' p) m
-    store_handed = record { instances = λ j x lives. instance_later s (see sights o) m (see g' p) m All e j x tt (fine.instances j x lives); elements = elements fine.elements }
+  -- the store in which copies of the instance have gone over, and a new instance is entered then
+  module _ (p : World) (g' : List Sight) (e : Later s (see marks o) m (see (marks_of marks.beneath g') p) m All) (copies : (j d : ℕ) → Other i j → Copies (see marks o) (see (marks_of marks.beneath g') p) j d) (fine : StoreFine s (see marks o) m) (elements : ElementsFine s (see marks o) m → ElementsFine s (see (marks_of marks.beneath g') p) m) where
+    pub store_handed : StoreFine s (see (marks_of marks.beneath g') p) m
+    store_handed = record {
+      instances = λ j x lives. instance_later s (see marks o) m (see (marks_of marks.beneath g') p) m All e j x tt (fine.instances j x lives);
+      elements = elements fine.elements;
+      kept = kept_later s (see marks o) m (see (marks_of marks.beneath g') p) m All e (Other i) copies refl (λ j x is. standing_apart x) (others_kept marks.beneath m i rest top) fine.kept;
+      noted = fine.noted;
+    }
 
-  module _ (k line : ℕ) (result : Option TypeName) (h : Heading) (a : Statement) (vs vs' : List Val) (d j u : ℕ) (todo : List DeclNo) (left : List Kinds) (g : Option Kinds) (is : text s k ≡ Some (ProcedureText result h a)) (stands : encloser s.tables k ≡ Some u) (whole : Whole s m j u) (acts : ActualsAre s (see sights o) m i d (formal_kinds s (formals_of s k)) vs) (less : length vs' < d) (gives : GivesResult s k g) (b : Begun s (see sights o) m i t todo) (hands : HandsFine s (see sights o) m i left vs') (work : Work s o sights long m i t rest top w todo (given g left)) where
+    pub below_handed : (v : Waits) → ChainFine s (see marks o) m rest v → ChainFine s (see (marks_of marks.beneath g') p) m rest v
+    below_handed v c = chain_later s (see marks o) m (see (marks_of marks.beneath g') p) m All e (Other i) copies (λ v. ⊥) (λ rest. rest ≡ []) rest (all_apart rest) (others_on marks.beneath m i rest top) v c
+
+  module _ (k line : ℕ) (result : Option TypeName) (h : Heading) (a : Statement) (vs vs' : List Val) (d j u : ℕ) (todo : List DeclNo) (left : List Kinds) (g : Option Kinds) (is : text s k ≡ Some (ProcedureText result h a)) (stands : encloser s.tables k ≡ Some u) (knows : Knows m i j) (whole : Whole s m j u) (acts : ActualsAre s (see marks o) m i d (formal_kinds s (formals_of s k)) vs) (less : length vs' < d) (gives : GivesResult s k g) (b : Begun s (see marks o) m i t todo) (hands : HandsFine s (see marks o) m i left vs') (work : Work s o marks long m i t rest top w todo (given g left)) where
     abbrev X : Text
     X = ProcedureText result h a
 
@@ -249,25 +265,37 @@ module _ (s : Source) (ok : Typed s) (l : Limits) (o : World) (sights : List Sig
     abbrev After : List Held → Instances
     After c = entered m (new_instance s k (Some j) c) Nobody
 
-    knows_caller : (c : List Held) → list_any is_held fs ≡ true → Knows (After c) N i
-    knows_caller c held = knows_below s ok (see sights o) m k (Some j) c Nobody X is solid i (λ free. absurd (let none : list_any is_held fs ≡ false = ok.keeps_none k result h a is free in cc)) top.before
+    abbrev noted : List (Option ℕ)
+    noted = marks.beneath ++ Some i ∷ []
 
-    handed : (c : List Held) → Handed s m (After c) i N top.before (λ q. later_new s ok q m k (Some j) c Nobody X is solid) (new_knows s ok (see sights o) m k (Some j) c Nobody X is solid) o sights d P (λ z. (kk : ℕ) → ValsFine s z (After c) N kk (holds_of s fs) vs)
-    handed c =
-        hand_all s m (After c) i N top.before (λ q. later_new s ok q m k (Some j) c Nobody X is solid) (new_knows s ok (see sights o) m k (Some j) c Nobody X is solid) fs (formal_kinds s fs)
-        (formals_hand s (Knows (After c) N i) (numbers_of s k) fs typed_procedure.formals (knows_caller c)) vs o sights long d acts
+    later_with : (c : List Held) (z : List Sight) (q : World) → Later s (see (marks_of marks.beneath z) q) m (see (marks_of noted z) q) (After c) All
+    later_with c z q = later_new s ok (see (marks_of marks.beneath z) q) m k (Some j) c Nobody X is solid (Some i)
 
-    filled : (c : List Held) → FilledBehind s (see (handed c).sights P) (After c) N k result vs first
-    filled c = procedure_cells s (see (handed c).sights P) (After c) N k result h a fs vs typed_procedure.result typed_procedure.formals ((handed c).values k)
+    -- one that takes arrays by reference is class-free
+    passing : (c : List Held) → list_any is_held fs ≡ true → (is_given_at_end (After c) N ≡ true) × (slice_get noted N ≡ Some (Some i))
+    passing c held = (by_flag (is_class_free s k) refl, new_noted s ok (see marks o) m k (Some j) c Nobody X is solid (Some i) b.store)
+      where
+        by_flag : (f : Bool) → is_class_free s k ≡ f → is_given_at_end (After c) N ≡ true
+        by_flag true free = new_passes s ok (see marks o) m k (Some j) c Nobody X is solid (Some i) free
+        by_flag false free = absurd (let none : list_any is_held fs ≡ false = ok.keeps_none k result h a is free in cc)
+
+    handed : (c : List Held) → Handed s m (After c) i N top.before marks.beneath noted (later_with c) o marks.sights d P (λ z. (kk : ℕ) → ValsFine s z (After c) N kk (holds_of s fs) vs)
+    handed c = hand_all s m (After c) i N top.before marks.beneath noted (later_with c) fs (formal_kinds s fs) (formals_hand s ((is_given_at_end (After c) N ≡ true) × (slice_get noted N ≡ Some (Some i))) (numbers_of s k) fs typed_procedure.formals (passing c)) vs o marks.sights long d acts
+
+    filled : (c : List Held) → FilledBehind s (see (marks_of noted (handed c).sights) P) (After c) N k result vs first
+    filled c = procedure_cells s (see (marks_of noted (handed c).sights) P) (After c) N k result h a fs vs typed_procedure.result typed_procedure.formals ((handed c).values k)
 
     abbrev Cells : List Held
     Cells = (filled first).cells
 
-    abbrev G : List Sight
-    G = (handed Cells).sights
+    abbrev G : Marks
+    G = marks_of marks.beneath (handed Cells).sights
 
     abbrev V : AllArrays
     V = see G P
+
+    abbrev V' : AllArrays
+    V' = on_top V (Some i)
 
     abbrev M : Instances
     M = After Cells
@@ -275,8 +303,8 @@ module _ (s : Source) (ok : Typed s) (l : Limits) (o : World) (sights : List Sig
     same_cells : (filled Cells).cells ≡ Cells
     same_cells = same_some (filled_behind result vs first) (filled Cells).cells Cells (filled Cells).filled_is (filled first).filled_is
 
-    fine : CellsFine s V M N k Cells
-    fine = subst (CellsFine s V M N k) same_cells (filled Cells).fine
+    fine : CellsFine s V' M N k Cells
+    fine = subst (CellsFine s V' M N k) same_cells (filled Cells).fine
 
     keys : (key : Key) → KeyAmong key (keys_in s k (text s k)) → KeyAmong key (map key_of Cells)
     keys key z = subst (KeyAmong key) (sym (filled first).same_keys) (subst (λ q. KeyAmong key (keys_in s k q)) is z)
@@ -285,34 +313,36 @@ module _ (s : Source) (ok : Typed s) (l : Limits) (o : World) (sights : List Sig
     plain = ap has_levels is
 
     made : Made s k [] Cells
-    made = made_alone s ok k [] Cells solid plain (λ c kd holds there none. absurd (held_there s (see (handed first).sights P) (After first) N k (Declared c.0) Cells (filled first).held_all (keys (Declared c.0) there) none))
+    made = made_alone s ok k [] Cells solid plain (λ c kd holds there none. absurd (held_there s (see (marks_of noted (handed first).sights) P) (After first) N k (Declared c.0) Cells (filled first).held_all (keys (Declared c.0) there) none))
 
-    e : Later s (see sights o) m V m All
-    e = (handed Cells).later m
+    e : Later s (see marks o) m V m All
+    e = (handed Cells).later marks.beneath m
+
+    copies : (n y : ℕ) → Other i n → Copies (see marks o) V n y
+    copies n y other q kd c' small copy = (handed Cells).copies n q kd c' (λ same. absurd (other same)) copy
 
     store : StoreFine s V m
-    store = store_handed P G e b.store (handed Cells).elements
+    store = store_handed P (handed Cells).sights e copies b.store (handed Cells).elements
 
-    begun : Begun s V M N k []
-    begun = begun_new s ok V m k (Some j) Cells Nobody X is solid store (keys_alone s ok k (map key_of Cells) solid plain keys) fine (inside_new s ok V m k (Some j) Cells Nobody X is solid j u refl stands (live_less m j whole.now whole.lives) store whole) [] made
+    begun : Begun s V' M N k []
+    begun =
+        begun_new s ok V m k (Some j) Cells Nobody X is solid (Some i) store tt (keys_alone s ok k (map key_of Cells) solid plain keys) fine
+        (inside_new s ok V m k (Some j) Cells Nobody X is solid (Some i) j u i refl stands (live_less m j whole.now whole.lives) refl (knows_near s V m store i j knows) store whole) [] made
 
-    copies : (z y : ℕ) → z < i → Copies (see sights o) V z y
-    copies z y deep q kd c' small copy = (handed Cells).copies z q kd c' (λ same. absurd (let w : ⊥ = omega (arith, same, deep) in w)) copy
-
-    chain : ChainFine s V m N (Chain vs') (Takes g)
+    chain : ChainFine s V m (Chain vs') (Takes g)
     chain = record {
-      before = top.before;
       of_text = t;
       todo = todo;
       here = b.here;
       own = b.own;
+      on = top.on;
       vals = vs';
       shown = refl;
       kinds = left;
-      hands = hands_later s (see sights o) m V m All e i tt left vs' (λ z kd c deep copy. (handed Cells).copies i z kd c (λ q. omega (arith, deep, less)) copy) hands;
+      hands = hands_later s (see marks o) m V m All e i tt left vs' (λ z kd c deep copy. (handed Cells).copies i z kd c (λ q. omega (arith, deep, less)) copy) hands;
       expected = given g left;
       expects = refl;
-      goes = work_later s (see sights o) m V m All e i t tt (rest ≡ []) (λ q. ChainFine s (see sights o) m i rest q) (λ q. ChainFine s V m i rest q) (λ q c. chain_later s (see sights o) m V m All e i copies rest (all_apart rest) q c) w todo (given g left) work;
+      goes = work_later s (see marks o) m V m All e i t tt (rest ≡ []) (λ q. ChainFine s (see marks o) m rest q) (λ q. ChainFine s V m rest q) (below_handed P (handed Cells).sights e copies b.store (handed Cells).elements) w todo (given g left) work;
     }
 
     pub procedure_goes : Goes (IsFine s) (procedure_entered s l o m i w vs' rest k line vs j (Some X))
@@ -322,23 +352,23 @@ module _ (s : Source) (ok : Typed s) (l : Limits) (o : World) (sights : List Sig
         (enters (IsFine s) l line (words_of_cells first) o (λ q. in_instance s (handed_over N ns q) (instances_kept s k (Chain vs') m) k (Some j) Cells (λ now. Do (Exec a) ∷ EndProcedure (has_result result) ∷ []) (Chain vs')) (λ t' w'.
         subst (λ z. Goes (IsFine s) (in_instance s (handed_over N ns (ran o t' w')) z k (Some j) Cells (λ now. Do (Exec a) ∷ EndProcedure (has_result result) ∷ []) (Chain vs'))) (sym (not_kept k result h a is (Chain vs')))
         (same_arrays P (handed_over N ns (ran o t' w')) _ (handed_same N ns o (ran o t' w') refl)
-        (enters_fine s ok P G (handed Cells).long m k (Some j) Cells Nobody [] tt (not_terminated Nobody refl) begun (Do (Exec a) ∷ EndProcedure (has_result result) ∷ []) (Chain vs') top.all top.parked (chain_lives vs' todo (given g left) work)
-        ([], [], (refl, refl, refl, (k, own_site s V M N k [] begun, typed_procedure.body)), (result, h, a, is, refl, g, gives, below_new s ok V m k (Some j) Cells Nobody X is solid (Chain vs') (Takes g) chain))))))
+        (enters_fine s ok P G (handed Cells).long m k (Some j) Cells Nobody [] tt (Do (Exec a) ∷ EndProcedure (has_result result) ∷ []) (Chain vs') store (chain_placed vs') begun
+        ([], [], (refl, refl, refl, (k, own_site s V' M N k [] begun, typed_procedure.body)), (result, h, a, is, refl, g, gives, stands_new m (new_instance s k (Some j) Cells) Nobody (top.placed).as_many, below_new s ok V m k (Some j) Cells Nobody X is solid (Some i) (Chain vs') (Takes g) chain))))))
 
-  pub called_goes : (k n line : ℕ) (todo : List DeclNo) (before behind : List Kinds) → CallOpFine s k n before behind → Begun s (see sights o) m i t todo → HandsFine s (see sights o) m i before vals → Work s o sights long m i t rest top w todo behind → Goes (IsFine s) (called s l o m i w vals rest k n line)
+  pub called_goes : (k n line : ℕ) (todo : List DeclNo) (before behind : List Kinds) → CallOpFine s k n before behind → Begun s (see marks o) m i t todo → HandsFine s (see marks o) m i before vals → Work s o marks long m i t rest top w todo behind → Goes (IsFine s) (called s l o m i w vals rest k n line)
   called_goes k n line todo before behind c b h work =
       let q = c.procedure in
       let typed : ProcedureTyped s k q.result q.body = ok.texts k (ProcedureText q.result q.heading q.body) q.is in
-      let r = taken s (see sights o) m i (formal_kinds s (formals_of s k)) (LinkTo c.around ∷ c.left) vals (formals_some s (numbers_of s k) (formals_of s k) typed.formals) (subst (λ z. HandsFine s (see sights o) m i z vals) (c.«in») h) in
+      let r = taken s (see marks o) m i (formal_kinds s (formals_of s k)) (LinkTo c.around ∷ c.left) vals (formals_some s (numbers_of s k) (formals_of s k) typed.formals) (subst (λ z. HandsFine s (see marks o) m i z vals) (c.«in») h) in
       let many : n ≡ length r.values = c.count ∙ sym (formals_many (formals_of s k)) ∙ sym r.count in
       subst (λ z. Goes (IsFine s) (pop_many z [] vals o next)) (sym many)
       (subst (λ z. Goes (IsFine s) (pop_many (length r.values) [] z o next)) (sym r.are)
       (subst (Goes (IsFine s)) (sym (all_taken r.values r.rest o next))
-      (any_popped (IsFine s) s (see sights o) m i (LinkTo c.around) c.left r.rest o (λ v vs. having (instance_in v) o (λ j. when (is_live m j) o (procedure_entered s l o m i w vs rest k line r.values j (text s k)))) r.more (λ v vs same here more.
+      (any_popped (IsFine s) s (see marks o) m i (LinkTo c.around) c.left r.rest o (λ v vs. having (instance_in v) o (λ j. when (is_live m j) o (procedure_entered s l o m i w vs rest k line r.values j (text s k)))) r.more (λ v vs same here more.
       link_is c.around v (λ j. when (is_live m j) o (procedure_entered s l o m i w vs rest k line r.values j (text s k))) here (λ j near whole.
       whens (IsFine s) (is_live m j) o (procedure_entered s l o m i w vs rest k line r.values j (text s k)) (lives_is j whole.now whole.lives)
       (subst (λ z. Goes (IsFine s) (procedure_entered s l o m i w vs rest k line r.values j z)) (sym q.is)
-      (procedure_goes k line q.result q.heading q.body r.values vs (length r.rest) j c.around todo c.left c.gives q.is q.stands_in whole r.fine (below_top r.rest v vs same) c.result b more (subst (λ z. Work s o sights long m i t rest top w todo z) c.out work))))))))
+      (procedure_goes k line q.result q.heading q.body r.values vs (length r.rest) j c.around todo c.left c.gives q.is q.stands_in near whole r.fine (below_top r.rest v vs same) c.result b more (subst (λ z. Work s o marks long m i t rest top w todo z) c.out work))))))))
     where
       next : List Val → List Val → Run Configuration
       next values vals = popping vals o (λ v vals. having (instance_in v) o (λ j. when (is_live m j) o (procedure_entered s l o m i w vals rest k line values j (text s k))))
@@ -352,26 +382,43 @@ module _ (s : Source) (ok : Typed s) (l : Limits) (o : World) (sights : List Sig
 
 -- ---- the program
 
-pub first_goes : (s : Source) (ok : Typed s) (l : Limits) (o : World) (sights : List Sight) (long : length sights ≡ length o.arrays) (m : Instances) → m.instances ≡ [] → sights ≡ [] → NothingKept m → Goes (IsFine s) (first_step s l o m)
-first_goes s ok l o sights long m none unseen kept =
+pub first_goes : (s : Source) (ok : Typed s) (l : Limits) (o : World) (marks : Marks) (long : length marks.sights ≡ length o.arrays) (m : Instances) → m.instances ≡ [] → m.standings ≡ [] → marks.sights ≡ [] → marks.beneath ≡ [] → Goes (IsFine s) (first_step s l o m)
+first_goes s ok l o marks long m none nobody unseen unnoted =
     let zero_long : (length m.instances == 0) ≡ true = ap (λ z. length z == 0) none in
     whens (IsFine s) (length m.instances == 0) o (program_entered s l o m (text s 0)) zero_long
     (subst (λ z. Goes (IsFine s) (program_entered s l o m z)) (sym ok.starts)
     (enters (IsFine s) l (line_at s ok.begin) (words_of_cells hs) o (λ p. in_instance s p m 0 None hs (λ now. Do PastOp ∷ block_work s now (length m.instances) ok.declarations ok.statements EndProgram) []) (λ t' w'.
-    enters_fine s ok o sights long m 0 None hs (NoObject None) (arrays_of_block s ok.declarations) tt (not_terminated (NoObject None) refl) (block_begun s ok (see sights o) m 0 None ok.begin ok.declarations ok.statements ok.starts store out) (Do PastOp ∷ block_work s after_first (length m.instances) ok.declarations ok.statements EndProgram) [] all kept (λ j on. absurd on)
-    (arrays_of_block s ok.declarations, [], (refl, refl), block_works s ok (see sights o) m 0 None ok.begin ok.declarations ok.statements ok.starts store out (λ q. ChainFine s (see sights o) after_first (length m.instances) [] q) ([] ≡ []) EndProgram refl))))
+    enters_fine s ok o marks long m 0 None hs (NoObject None) (arrays_of_block s ok.declarations) tt (Do PastOp ∷ block_work s after_first (length m.instances) ok.declarations ok.statements EndProgram) [] store placed (block_begun s ok (see marks o) m 0 None ok.begin ok.declarations ok.statements ok.starts None store out)
+    (arrays_of_block s ok.declarations, [], (refl, refl), block_works s ok (see marks o) m 0 None ok.begin ok.declarations ok.statements ok.starts None store out (λ q. ChainFine s (on_top (see marks o) None) after_first [] q) ([] ≡ []) EndProgram (stands_new m (new_instance s 0 None hs) (NoObject None) placed.as_many, refl)))))
   where
     nothing_seen : (a : ℕ) (x : Sight) → slice_get [] a ≡ Some x → ⊥
     nothing_seen a x e = cc
 
+    nothing_kept : (j : ℕ) (x : Standing Activation) → slice_get [] j ≡ Some x → ⊥
+    nothing_kept j x e = cc
+
     no_instance : (j : ℕ) (y : Instance (List Held)) → live m j ≡ Some y → ⊥
     no_instance j y e = no_some (live m j) y (ap (λ z. instances.unless_given (slice_get z j)) none) e
 
-    store : StoreFine s (see sights o) m
-    store = record { instances = λ j y e. absurd (no_instance j y e); elements = λ a i it x p l is at. absurd (nothing_seen a x (sym (ap (λ z. slice_get z a) unseen) ∙ is)) }
+    store : StoreFine s (see marks o) m
+    store = record {
+      instances = λ j y e. absurd (no_instance j y e);
+      elements = λ a i it x p l is at. absurd (nothing_seen a x (sym (ap (λ z. slice_get z a) unseen) ∙ is));
+      kept = λ j x is. absurd (nothing_kept j x (sym (ap (λ z. slice_get z j) nobody) ∙ is));
+      noted = ap length unnoted ∙ sym (ap length none);
+    }
 
-    all : AllOn m []
-    all = (λ j e. (let y = ending_there m j e in no_instance j y.0 y.1), λ j on e. on)
+    nowhere : (j : ℕ) → places m [] j ≡ 0
+    nowhere j = let none = ap (over_kept (times_on owner j)) nobody in omega (arith, none)
+
+    placed : Placed m []
+    placed = record {
+      once = λ j. (let gone = nowhere j in omega (arith, gone));
+      made = λ j less. nowhere j;
+      ended = λ j is. nowhere j;
+      all = λ j is. (let y = ending_there m j is in absurd (no_instance j y.0 y.1));
+      as_many = ap length nobody ∙ sym (ap length none);
+    }
 
     hs : List Held
     hs = first_cells s 0 (BlockText ok.begin ok.declarations ok.statements)
@@ -379,5 +426,5 @@ first_goes s ok l o sights long m none unseen kept =
     after_first : Instances
     after_first = entered m (new_instance s 0 None (first_cells s 0 (BlockText ok.begin ok.declarations ok.statements))) (NoObject None)
 
-    out : Enclosed s (entered m (new_instance s 0 None (first_cells s 0 (BlockText ok.begin ok.declarations ok.statements))) (NoObject None)) (length m.instances) 0 None
+    out : Enclosed s (on_top (see marks o) None) (entered m (new_instance s 0 None (first_cells s 0 (BlockText ok.begin ok.declarations ok.statements))) (NoObject None)) (length m.instances) 0 None
     out = alone refl ok.outermost

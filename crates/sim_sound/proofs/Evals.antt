@@ -9,7 +9,7 @@ use Rattle.sim_code.specs.Instances.{CellPlace, ImagePlace}
 use Rattle.sim_code.specs.Outcome.{World}
 use Rattle.sim_meaning.specs.Entries.{formals_of}
 use Rattle.sim_meaning.specs.Closing.{class_parameters}
-use Rattle.sim_meaning.specs.Pending.{Activation, Address, AttributeOf, AttributeOp, CallOf, CallOp, Cell, Configuration, CopyOf, CopyOp, Do, Either, ElementOf, ElementOp, Eval, FetchOp, FitsOf, FitsOp, Further, Given, IfOp, ImageOf, Instances, Item, JoinOp, Joined, KeepOp, KeptOf, Link, MemberOf, MemberOp, NewOf, NewOp, NoTerm, ObjectOp, Of, One, OneOp, PlaceOf, PrefixedOp, QuaOf, QuaOp, QualifiedElementOf, QualifiedElementOp, QualifiedPlaceOf, RemoteCallOf, StandardOf, StandardOp, Term, Terms, Two, TwoOp, Unbuilt, Val, ValueAt, cell}
+use Rattle.sim_meaning.specs.Pending.{Activation, Address, AttributeOf, AttributeOp, CallOf, CallOp, Cell, cell, Configuration, CopyOf, CopyOp, Do, Either, ElementOf, ElementOp, Eval, FetchOp, FitsOf, FitsOp, Further, Given, IfOp, ImageOf, Instances, Item, Joined, JoinOp, KeepOp, KeptOf, Link, MemberOf, MemberOp, NewOf, NewOp, NoTerm, NotNoneOf, NotNoneOp, ObjectOp, Of, One, OneOp, PlaceOf, PrefixedOp, QualifiedElementOf, QualifiedElementOp, QualifiedPlaceOf, QuaOf, QuaOp, RemoteCallOf, StandardOf, StandardOp, Term, Terms, TransferOf, TransferOp, Two, TwoOp, Unbuilt, Val, ValueAt}
 use Rattle.sim_meaning.specs.Levels.{has_levels}
 use Rattle.sim_meaning.specs.Steps.{count, each, eval, go}
 use Rattle.sim_meaning.specs.Texts.{text}
@@ -18,15 +18,16 @@ use Rattle.sim_sound.specs.Typed.{Typed}
 use Rattle.sim_sound.proofs.Cells.{cell_found}
 use Rattle.sim_sound.proofs.Lifts.{Goes, had}
 use Rattle.sim_sound.proofs.Fitting.{plain_val, val_fits}
-use Rattle.sim_sound.proofs.Sound.{AddressOf, Begun, ChainFine, Copied, Fine, GivesResult, HandsFine, ImageAddress, IntegersFine, Kinds, Lasting, LinkTo, OperandsFine, Operates, ProcedureIn, ReferenceAddress, Sight, Site, TermFine, TermsFine, Value, Waits, WorkFine, class_kinds, formal_kinds, given, integers, onto, pushed, runs, see, simple}
+use Rattle.sim_sound.proofs.Moves.{placed_as}
+use Rattle.sim_sound.proofs.Sound.{AddressOf, Begun, ChainFine, Component, Copied, Fine, GivesResult, HandsFine, ImageAddress, IntegersFine, Kinds, Lasting, LinkTo, Marks, OperandsFine, Operates, ProcedureIn, ReferenceAddress, Site, TermFine, TermsFine, Value, Waits, WorkFine, class_kinds, component_kind, formal_kinds, given, integers, onto, pushed, runs, see, simple}
 
 -- the configurations that are fine
 abbrev pub IsFine : Source → World → Configuration → Type 0
-IsFine s o c = (g : List Sight) × (length g ≡ length o.arrays) × Fine s (see g o) c
+IsFine s o c = (g : Marks) × (length g.sights ≡ length o.arrays) × Fine s (see g o) c
 
-module _ (s : Source) (o : World) (g : List Sight) (long : length g ≡ length o.arrays) (m : Instances) (i t : ℕ) (rest : List Activation) (top : Operates m i rest) where
+module _ (s : Source) (o : World) (g : Marks) (long : length g.sights ≡ length o.arrays) (m : Instances) (i t : ℕ) (rest : List Activation) (top : Operates g.beneath m i rest) where
   abbrev pub Rest : Waits → Type 0
-  Rest v = ChainFine s (see g o) m i rest v
+  Rest v = ChainFine s (see g o) m rest v
 
   abbrev pub Work : List Item → List DeclNo → List Kinds → Type 0
   Work w todo ks = WorkFine s (see g o) m Rest (rest ≡ []) i t w todo ks
@@ -37,7 +38,7 @@ module _ (s : Source) (o : World) (g : List Sight) (long : length g ≡ length o
   -- the instance goes on
   pub goes_on : (w : List Item) (vals : List Val) (todo : List DeclNo) (ks : List Kinds) → Begun s (see g o) m i t todo → Hands ks vals → Work w todo ks → IsFine s o (record { chain = record { instance = i; work = w; values = vals } ∷ rest; memory = m })
   goes_on w vals todo ks b h work =
-      (g, long, runs b.store top.all top.parked (record { before = top.before; of_text = t; todo = todo; here = b.here; own = b.own; vals = vals; shown = refl; kinds = ks; hands = h; expected = ks; expects = refl; goes = work }))
+      (g, long, runs b.store (placed_as m i w vals rest top.placed) (record { of_text = t; todo = todo; here = b.here; own = b.own; on = top.on; vals = vals; shown = refl; kinds = ks; hands = h; expected = ks; expects = refl; goes = work }))
 
   -- operands one after the other
   integers_more : (n : ℕ) (ks : List Kinds) → integers n (Value (Simply kind.Integer) ∷ ks) ≡ Value (Simply kind.Integer) ∷ integers n ks
@@ -274,4 +275,14 @@ module _ (s : Source) (o : World) (g : List Sight) (long : length g ≡ length o
         (Some (Value (ArrayOf a.0)), a.2, refl, refl),
         (todo, Lasting a.0 ∷ ks, (a.0, ks, refl, refl, refl), subst (λ z. Work w todo (given z ks)) (sym a.1) work),
       )
+  eval_goes ok (NotNoneOf line x) r w vals todo ks b h a work =
+      goes_on (Do (Eval x) ∷ Do (NotNoneOp line) ∷ w) vals todo ks b h (
+        todo,
+        Value (Simply kind.Reference) ∷ ks,
+        (simple kind.Reference, a.1, refl, refl),
+        (todo, Component ∷ ks, (ks, refl, refl, refl), subst (λ z. Work w todo (given z ks)) (sym a.0) work),
+      )
+  eval_goes ok (TransferOf x line a) r w vals todo ks b h f work =
+      goes_on (Do (Eval a) ∷ Do (TransferOp x line) ∷ w) vals todo ks b h
+      (todo, component_kind x ∷ ks, (Some (component_kind x), f.1, refl, refl), (todo, ks, (refl, refl), subst (λ z. Work w todo (given z ks)) (sym f.0) work))
   eval_goes ok Unbuilt r w vals todo ks b h a work = absurd a

@@ -12,6 +12,7 @@ use Rattle.sim_scope.specs.declared.types.SimType.{SimType}
 use Rattle.sim_scope.specs.declared.types.SimType.TheVariants as t
 use Rattle.sim_scope.specs.Source.{Source}
 use Rattle.sim_code.specs.Arrays.{handed_over, owned_by}
+use Rattle.sim_code.specs.Instances.{is_given_at_end}
 use Rattle.sim_code.specs.Outcome.{ArrayOf as OneArray, World}
 use Rattle.sim_meaning.specs.Entries.{arrays_among, arrays_by_value, is_array_by_value, is_held, with_array_of}
 use Rattle.sim_meaning.specs.Levels.{qualification}
@@ -19,10 +20,10 @@ use Rattle.sim_meaning.specs.Pending.{Address, ArrayValue, Instances, Link, Of, 
 use Rattle.sim_sound.specs.Held.{ArrayOf, Holds, Refers, Simply, formal_holds, held_by, reference_to}
 use Rattle.sim_sound.specs.Typed.{FormalsAre}
 use Rattle.sim_sound.proofs.Cells.{plain_anywhere, val_up}
-use Rattle.sim_sound.proofs.Changes.{ElementsFine, given_copy, given_elements, given_is, given_later, given_long, given_world, handed_copy, handed_elements, handed_is, handed_later, handed_long, handed_over_array, handed_sights, handed_world}
+use Rattle.sim_sound.proofs.Changes.{ElementsFine, given_copy, given_elements, given_is, given_later, given_long, given_world, handed_copy, handed_elements, handed_is, handed_later, handed_long, handed_over_array, handed_world}
 use Rattle.sim_sound.proofs.FirstCells.{ActualsAre, SomeDeep, SomeFine, ValsFine}
 use Rattle.sim_sound.proofs.Later.{All, Later, hand_later, later_none, later_then, val_later}
-use Rattle.sim_sound.proofs.Sound.{AddressOf, AllArrays, Copied, CopyFine, DeepFine, ImageAddress, IsPlain, KeptFine, Kinds, Knows, Lasting, LinkTo, ReferenceAddress, Sight, ValFine, Value, class_kinds, formal_kinds, holds_of, in_hand, kept_kinds, see}
+use Rattle.sim_sound.proofs.Sound.{AddressOf, AllArrays, Component, Copied, CopyFine, DeepFine, ImageAddress, IsPlain, KeptFine, Kinds, Lasting, LinkTo, Marks, Open, ReferenceAddress, Sight, ValFine, Value, at_itself, class_kinds, formal_kinds, holds_of, in_hand, kept_kinds, near_below, one_lower, see}
 
 -- what is handed over is arrays alone
 owned_same : (n a : ℕ) (x : Option OneArray) (o p : World) → o.arrays ≡ p.arrays → (owned_by n x o a).arrays ≡ (owned_by n x p a).arrays
@@ -115,37 +116,52 @@ classes_hand s Known (d ∷ ds) (f ∷ fs) a = (class_hands s Known f.mode f.kin
 
 -- ---- they are handed over, from the instance i to the new one n among the instances then
 
-module _ (s : Source) (m m' : Instances) (i n : ℕ) (lt : i < n) (enter : (o : AllArrays) → Later s o m o m' All) (itself : Knows m' n n) where
+abbrev pub marks_of : (beneath : List (Option ℕ)) → List Sight → Marks
+marks_of b g = record { sights = g; beneath = b }
+
+-- what is noted of the instances before it is entered, and behind
+module _ (s : Source) (m m' : Instances) (i n : ℕ) (lt : i < n) (noted noted' : List (Option ℕ)) (enter : (g : List Sight) (o : World) → Later s (see (marks_of noted g) o) m (see (marks_of noted' g) o) m' All) where
+  abbrev pub Before : List Sight → World → AllArrays
+  Before g o = see (marks_of noted g) o
+
+  abbrev pub Behind : List Sight → World → AllArrays
+  Behind g o = see (marks_of noted' g) o
+
+  -- the new instance was entered on top of the other one, and is given back at its end
+  abbrev pub Passing : Type 0
+  Passing = (is_given_at_end m' n ≡ true) × (slice_get noted' n ≡ Some (Some i))
+
   -- what is left after that: the values are those of the new instance, and the copies that have fewer values below them stay
   pub record Handed (o : World) (g : List Sight) (d : ℕ) (o' : World) (Values : AllArrays → Type 0) : Type 0 where
     pub sights : List Sight
     pub long : length sights ≡ length o'.arrays
-    pub later : (mm : Instances) → Later s (see g o) mm (see sights o') mm All
-    pub copies : (j e : ℕ) (h : Holds) (a : ℕ) → (j ≡ i → e < d) → CopyFine (see g o) j e h a → CopyFine (see sights o') j e h a
-    pub elements : ElementsFine s (see g o) m → ElementsFine s (see sights o') m
-    pub values : Values (see sights o')
+    pub later : (b : List (Option ℕ)) (mm : Instances) → Later s (see (marks_of b g) o) mm (see (marks_of b sights) o') mm All
+    pub copies : (j e : ℕ) (h : Holds) (a : ℕ) → (j ≡ i → e < d) → CopyFine (Before g o) j e h a → CopyFine (Before sights o') j e h a
+    pub elements : ElementsFine s (Before g o) m → ElementsFine s (Before sights o') m
+    pub values : Values (Behind sights o')
 
   -- one array is handed over, and the actuals above it stay
-  module _ (o : World) (g : List Sight) (d : ℕ) (Now : AllArrays) (e0 : Later s (see g o) m Now m All) (copies : (e : ℕ) (k : Holds) (a : ℕ) → d < e → CopyFine (see g o) i e k a → CopyFine Now i e k a) where
-    deep_moved : (e : ℕ) → d < e → (x : Kinds) (v : Val) → DeepFine s (see g o) m i e x v → DeepFine s Now m i e x v
+  module _ (o : World) (g : List Sight) (d : ℕ) (Now : AllArrays) (e0 : Later s (Before g o) m Now m All) (copies : (e : ℕ) (k : Holds) (a : ℕ) → d < e → CopyFine (Before g o) i e k a → CopyFine Now i e k a) where
+    deep_moved : (e : ℕ) → d < e → (x : Kinds) (v : Val) → DeepFine s (Before g o) m i e x v → DeepFine s Now m i e x v
     deep_moved e less (Copied k) (ArrayValue a) f = copies e k a less f
     deep_moved e less (Copied k) (Of p) f = absurd f
     deep_moved e less (Copied k) (Link z) f = absurd f
     deep_moved e less (Copied k) (Address z) f = absurd f
     deep_moved e less (Copied k) (ProcedureValue z y) f = absurd f
     deep_moved e less (Copied k) (Tree z) f = absurd f
-    deep_moved e less (Value h) v f = val_later s (see g o) m Now m All e0 i tt h v f
-    deep_moved e less (AddressOf k) v f = hand_later s (see g o) m Now m All e0 i tt (AddressOf k) v f
-    deep_moved e less (ReferenceAddress k) v f = hand_later s (see g o) m Now m All e0 i tt (ReferenceAddress k) v f
-    deep_moved e less ImageAddress v f = hand_later s (see g o) m Now m All e0 i tt ImageAddress v f
-    deep_moved e less (LinkTo u) v f = hand_later s (see g o) m Now m All e0 i tt (LinkTo u) v f
-    deep_moved e less (Lasting h) v f = hand_later s (see g o) m Now m All e0 i tt (Lasting h) v f
+    deep_moved e less (Value h) v f = val_later s (Before g o) m Now m All e0 i tt h v f
+    deep_moved e less (AddressOf k) v f = hand_later s (Before g o) m Now m All e0 i tt (AddressOf k) v f
+    deep_moved e less (ReferenceAddress k) v f = hand_later s (Before g o) m Now m All e0 i tt (ReferenceAddress k) v f
+    deep_moved e less ImageAddress v f = hand_later s (Before g o) m Now m All e0 i tt ImageAddress v f
+    deep_moved e less (LinkTo u) v f = hand_later s (Before g o) m Now m All e0 i tt (LinkTo u) v f
+    deep_moved e less (Lasting h) v f = hand_later s (Before g o) m Now m All e0 i tt (Lasting h) v f
+    deep_moved e less Component v f = hand_later s (Before g o) m Now m All e0 i tt Component v f
 
-    some_moved : (e : ℕ) → d < e → (x : Option Kinds) (v : Val) → SomeDeep s (see g o) m i e x v → SomeDeep s Now m i e x v
+    some_moved : (e : ℕ) → d < e → (x : Option Kinds) (v : Val) → SomeDeep s (Before g o) m i e x v → SomeDeep s Now m i e x v
     some_moved e less None v f = f
     some_moved e less (Some x) v f = deep_moved e less x v f
 
-    actuals_moved : (e : ℕ) → d < e → (xs : List (Option Kinds)) (vs : List Val) → ActualsAre s (see g o) m i e xs vs → ActualsAre s Now m i e xs vs
+    actuals_moved : (e : ℕ) → d < e → (xs : List (Option Kinds)) (vs : List Val) → ActualsAre s (Before g o) m i e xs vs → ActualsAre s Now m i e xs vs
     actuals_moved e less [] [] a = a
     actuals_moved e less [] (v ∷ vs) a = absurd a
     actuals_moved e less (x ∷ xs) [] a = absurd a
@@ -160,38 +176,42 @@ module _ (s : Source) (m m' : Instances) (i n : ℕ) (lt : i < n) (enter : (o : 
     Whole h v ns = Handed o g d (handed_over n ns o) (λ z. (kk : ℕ) → SomeFine s z m' n kk h v × ValsFine s z m' n kk (holds_of s fs) vs)
 
     -- a value that is no copy
-    other_value : (h : Holds) (v : Val) → ((z : AllArrays) → Later s (see g o) m z m All → ValFine s z m' n h v) → Rest o g → Whole (Some h) v ns
+    other_value : (h : Holds) (v : Val) → ((z : List Sight) (p : World) → Later s (Before g o) m (Before z p) m All → ValFine s (Behind z p) m' n h v) → Rest o g → Whole (Some h) v ns
     other_value h v up r = record {
       sights = r.sights;
       long = r.long;
       later = r.later;
       copies = λ j e k a less c. r.copies j e k a (λ q. let x = less q in omega (arith, x)) c;
       elements = r.elements;
-      values = λ kk. (up (see r.sights (handed_over n ns o)) (r.later m), r.values kk);
+      values = λ kk. (up r.sights (handed_over n ns o) (r.later noted m), r.values kk);
     }
 
-    copy_handed : (h : Holds) (a0 : ℕ) (copy : CopyFine (see g o) i d h a0) → Rest (handed_world o g m i d h a0 copy n) (handed_sights o g m i d h a0 copy n) → Whole (Some (ArrayOf h)) (ArrayValue a0) (a0 ∷ ns)
+    -- the sights in which a copy is open
+    abbrev opened : ℕ → Holds → List Sight
+    opened a0 h = slice_set g a0 (Open h)
+
+    copy_handed : (h : Holds) (a0 : ℕ) (copy : CopyFine (Before g o) i d h a0) → Rest (handed_world o (marks_of noted g) m i d h a0 copy n) (opened a0 h) → Whole (Some (ArrayOf h)) (ArrayValue a0) (a0 ∷ ns)
     unfolding handed_over
     copy_handed h a0 copy r =
-        let now = handed_world o g m i d h a0 copy n in
-        let seen = handed_sights o g m i d h a0 copy n in
+        let now = handed_world o (marks_of noted g) m i d h a0 copy n in
         let end = handed_over n ns now in
-        subst (λ w. Handed o g d (handed_over n ns w) (λ z. (kk : ℕ) → SomeFine s z m' n kk (Some (ArrayOf h)) (ArrayValue a0) × ValsFine s z m' n kk (holds_of s fs) vs)) (sym (handed_is o g m i d h a0 copy n)) (record {
+        let of : (b : List (Option ℕ)) → CopyFine (see (marks_of b g) o) i d h a0 = λ b. record { it = copy.it; lives = copy.lives; hidden = copy.hidden; owned = copy.owned; count = copy.count } in
+        subst (λ w. Handed o g d (handed_over n ns w) (λ z. (kk : ℕ) → SomeFine s z m' n kk (Some (ArrayOf h)) (ArrayValue a0) × ValsFine s z m' n kk (holds_of s fs) vs)) (sym (handed_is o (marks_of noted g) m i d h a0 copy n)) (record {
           sights = r.sights;
           long = r.long;
-          later = λ mm. later_then s (see g o) mm (see seen now) mm (see r.sights end) mm (handed_later o g mm i d h a0 copy n s) (r.later mm);
-          copies = λ j e kd a less c. r.copies j e kd a (λ q. let x = less q in omega (arith, x)) (handed_copy o g m i d h a0 copy n j e kd a (λ q same. let x = less q in omega (arith, x, same)) c);
-          elements = λ all. r.elements (handed_elements o g m i d h a0 copy n s all);
-          values = λ kk. ((r.later m').arrays n h a0 tt (handed_over_array o g m i d h a0 copy n m' itself), r.values kk);
+          later = λ b mm. later_then s (see (marks_of b g) o) mm (see (marks_of b (opened a0 h)) now) mm (see (marks_of b r.sights) end) mm (handed_later o (marks_of b g) mm i d h a0 (of b) n s) (r.later b mm);
+          copies = λ j e kd a less c. r.copies j e kd a (λ q. let x = less q in omega (arith, x)) (handed_copy o (marks_of noted g) m i d h a0 copy n j e kd a (λ q same. let x = less q in omega (arith, x, same)) c);
+          elements = λ all. r.elements (handed_elements o (marks_of noted g) m i d h a0 copy n s all);
+          values = λ kk. ((r.later noted' m').arrays n h a0 tt (handed_over_array o (marks_of noted' g) m i d h a0 (of noted') n m'), r.values kk);
         })
 
-    by_kind : Rest o g → ((h : Holds) (a0 : ℕ) (copy : CopyFine (see g o) i d h a0) → Rest (handed_world o g m i d h a0 copy n) (handed_sights o g m i d h a0 copy n))
-        → (b : Bool) (x : Option Kinds) (h : Option Holds) (v : Val) → HandsTo (Knows m' n i) b x h → SomeDeep s (see g o) m i d x v
+    by_kind : Rest o g → ((h : Holds) (a0 : ℕ) (copy : CopyFine (Before g o) i d h a0) → Rest (handed_world o (marks_of noted g) m i d h a0 copy n) (opened a0 h))
+        → (b : Bool) (x : Option Kinds) (h : Option Holds) (v : Val) → HandsTo Passing b x h → SomeDeep s (Before g o) m i d x v
         → Whole h v (if b then with_array_of v ns else ns)
     by_kind r copied false _ _ v (as_value {h = h} plain) f =
-        other_value h v (λ z e. plain_anywhere s z m' i n h v plain (val_later s z m z m' All (enter z) i tt h v (val_later s (see g o) m z m All e i tt h v f))) r
-    by_kind r copied false _ _ v (as_array {h = h} knows) f =
-        other_value (ArrayOf h) v (λ z e. val_up s z m' n i knows (ArrayOf h) v (val_later s z m z m' All (enter z) i tt (ArrayOf h) v (val_later s (see g o) m z m All e i tt (ArrayOf h) v f))) r
+        other_value h v (λ z p e. plain_anywhere s (Behind z p) m' i n h v plain (val_later s (Before z p) m (Behind z p) m' All (enter z p) i tt h v (val_later s (Before g o) m (Before z p) m All e i tt h v f))) r
+    by_kind r copied false _ _ v (as_array {h = h} passing) f =
+        other_value (ArrayOf h) v (λ z p e. val_up s (Behind z p) m' n i (near_below (one_lower passing.0 passing.1 at_itself)) (ArrayOf h) v (val_later s (Before z p) m (Behind z p) m' All (enter z p) i tt (ArrayOf h) v (val_later s (Before g o) m (Before z p) m All e i tt (ArrayOf h) v f))) r
     by_kind r copied true _ _ (ArrayValue a0) (as_copy {h = h}) f = copy_handed h a0 f (copied h a0 f)
     by_kind r copied true _ _ (Of p) as_copy f = absurd f
     by_kind r copied true _ _ (Link z) as_copy f = absurd f
@@ -199,28 +219,29 @@ module _ (s : Source) (m m' : Instances) (i n : ℕ) (lt : i < n) (enter : (o : 
     by_kind r copied true _ _ (ProcedureValue z y) as_copy f = absurd f
     by_kind r copied true _ _ (Tree z) as_copy f = absurd f
     by_kind r copied false _ _ (ArrayValue a0) (as_kept {h = h}) f =
-        other_value (ArrayOf h) (ArrayValue a0) (λ z e. let k = e.kept h a0 f in record { it = k.it; lives = k.lives; known = k.known; owned = inl k.keeps; count = k.count }) r
+        other_value (ArrayOf h) (ArrayValue a0) (λ z p e. let k = e.kept h a0 f in record { it = k.it; lives = k.lives; known = k.known; owned = inl k.keeps; count = k.count }) r
     by_kind r copied false _ _ (Of p) as_kept f = absurd f
     by_kind r copied false _ _ (Link z) as_kept f = absurd f
     by_kind r copied false _ _ (Address z) as_kept f = absurd f
     by_kind r copied false _ _ (ProcedureValue z y) as_kept f = absurd f
     by_kind r copied false _ _ (Tree z) as_kept f = absurd f
 
-    kept_handed : (h : Holds) (a0 : ℕ) (kept : KeptFine (see g o) h a0) → Rest (given_world o g m h a0 kept n) g → Whole (Some (ArrayOf h)) (ArrayValue a0) (a0 ∷ ns)
+    kept_handed : (h : Holds) (a0 : ℕ) (kept : KeptFine (Before g o) h a0) → Rest (given_world o (marks_of noted g) m h a0 kept n) g → Whole (Some (ArrayOf h)) (ArrayValue a0) (a0 ∷ ns)
     unfolding handed_over
     kept_handed h a0 kept r =
-        let now = given_world o g m h a0 kept n in
+        let now = given_world o (marks_of noted g) m h a0 kept n in
         let end = handed_over n ns now in
-        subst (λ w. Handed o g d (handed_over n ns w) (λ z. (kk : ℕ) → SomeFine s z m' n kk (Some (ArrayOf h)) (ArrayValue a0) × ValsFine s z m' n kk (holds_of s fs) vs)) (sym (given_is o g m h a0 kept n)) (record {
+        let of : (b : List (Option ℕ)) → KeptFine (see (marks_of b g) o) h a0 = λ b. record { it = kept.it; lives = kept.lives; known = kept.known; keeps = kept.keeps; count = kept.count } in
+        subst (λ w. Handed o g d (handed_over n ns w) (λ z. (kk : ℕ) → SomeFine s z m' n kk (Some (ArrayOf h)) (ArrayValue a0) × ValsFine s z m' n kk (holds_of s fs) vs)) (sym (given_is o (marks_of noted g) m h a0 kept n)) (record {
           sights = r.sights;
           long = r.long;
-          later = λ mm. later_then s (see g o) mm (see g now) mm (see r.sights end) mm (given_later o g mm h a0 kept n s) (r.later mm);
-          copies = λ j e kd a less c. r.copies j e kd a (λ q. let x = less q in omega (arith, x)) (given_copy o g m h a0 kept n j e kd a c);
-          elements = λ all. r.elements (given_elements o g m h a0 kept n s all);
-          values = λ kk. (let k = (r.later m).kept h a0 ((given_later o g m h a0 kept n s).kept h a0 kept) in record { it = k.it; lives = k.lives; known = k.known; owned = inl k.keeps; count = k.count }, r.values kk);
+          later = λ b mm. later_then s (see (marks_of b g) o) mm (see (marks_of b g) now) mm (see (marks_of b r.sights) end) mm (given_later o (marks_of b g) mm h a0 (of b) n s) (r.later b mm);
+          copies = λ j e kd a less c. r.copies j e kd a (λ q. let x = less q in omega (arith, x)) (given_copy o (marks_of noted g) m h a0 kept n j e kd a c);
+          elements = λ all. r.elements (given_elements o (marks_of noted g) m h a0 kept n s all);
+          values = λ kk. (let k = (r.later noted m).kept h a0 ((given_later o (marks_of noted g) m h a0 kept n s).kept h a0 kept) in record { it = k.it; lives = k.lives; known = k.known; owned = inl k.keeps; count = k.count }, r.values kk);
         })
 
-    no_array : (h : Holds) (v : Val) → IsPlain h → ValFine s (see g o) m i h v → with_array_of v ns ≡ ns
+    no_array : (h : Holds) (v : Val) → IsPlain h → ValFine s (Before g o) m i h v → with_array_of v ns ≡ ns
     no_array (Simply k) (Of p) is f = refl
     no_array (Refers c) (Of p) is f = refl
     no_array (Simply k) _ is f = absurd f
@@ -228,11 +249,11 @@ module _ (s : Source) (m m' : Instances) (i n : ℕ) (lt : i < n) (enter : (o : 
     no_array (ArrayOf k) v is f = absurd is
 
     -- all arrays among the actuals of a class go over
-    by_class : Rest o g → ((h : Holds) (a0 : ℕ) (copy : CopyFine (see g o) i d h a0) → Rest (handed_world o g m i d h a0 copy n) (handed_sights o g m i d h a0 copy n))
-        → ((h : Holds) (a0 : ℕ) (kept : KeptFine (see g o) h a0) → Rest (given_world o g m h a0 kept n) g) → (b : Bool) (x : Option Kinds) (h : Option Holds) (v : Val) → HandsTo ⊥ b x h → SomeDeep s (see g o) m i d x v
+    by_class : Rest o g → ((h : Holds) (a0 : ℕ) (copy : CopyFine (Before g o) i d h a0) → Rest (handed_world o (marks_of noted g) m i d h a0 copy n) (opened a0 h))
+        → ((h : Holds) (a0 : ℕ) (kept : KeptFine (Before g o) h a0) → Rest (given_world o (marks_of noted g) m h a0 kept n) g) → (b : Bool) (x : Option Kinds) (h : Option Holds) (v : Val) → HandsTo ⊥ b x h → SomeDeep s (Before g o) m i d x v
         → Whole h v (with_array_of v ns)
     by_class r copied kept false _ _ v (as_value {h = h} plain) f =
-        subst (λ z. Whole (Some h) v z) (sym (no_array h v plain f)) (other_value h v (λ z e. plain_anywhere s z m' i n h v plain (val_later s z m z m' All (enter z) i tt h v (val_later s (see g o) m z m All e i tt h v f))) r)
+        subst (λ z. Whole (Some h) v z) (sym (no_array h v plain f)) (other_value h v (λ z p e. plain_anywhere s (Behind z p) m' i n h v plain (val_later s (Before z p) m (Behind z p) m' All (enter z p) i tt h v (val_later s (Before g o) m (Before z p) m All e i tt h v f))) r)
     by_class r copied kept false _ _ v (as_array knows) f = absurd knows
     by_class r copied kept true _ _ (ArrayValue a0) (as_copy {h = h}) f = copy_handed h a0 f (copied h a0 f)
     by_class r copied kept true _ _ (Of p) as_copy f = absurd f
@@ -248,32 +269,32 @@ module _ (s : Source) (m m' : Instances) (i n : ℕ) (lt : i < n) (enter : (o : 
     by_class r copied kept false _ _ (Tree z) as_kept f = absurd f
 
   -- of the actuals above a copy that is handed over
-  past_copy : (o : World) (g : List Sight) (d : ℕ) (h : Holds) (a0 : ℕ) (copy : CopyFine (see g o) i d h a0) (xs : List (Option Kinds)) (vs : List Val) → ActualsAre s (see g o) m i (suc d) xs vs
-      → ActualsAre s (see (handed_sights o g m i d h a0 copy n) (handed_world o g m i d h a0 copy n)) m i (suc d) xs vs
+  past_copy : (o : World) (g : List Sight) (d : ℕ) (h : Holds) (a0 : ℕ) (copy : CopyFine (Before g o) i d h a0) (xs : List (Option Kinds)) (vs : List Val) → ActualsAre s (Before g o) m i (suc d) xs vs
+      → ActualsAre s (Before (slice_set g a0 (Open h)) (handed_world o (marks_of noted g) m i d h a0 copy n)) m i (suc d) xs vs
   past_copy o g d h a0 copy xs vs a =
-      actuals_moved o g d (see (handed_sights o g m i d h a0 copy n) (handed_world o g m i d h a0 copy n)) (handed_later o g m i d h a0 copy n s) (λ e k b less f. handed_copy o g m i d h a0 copy n i e k b (λ q same. omega (arith, same, less)) f) (suc d) (omega arith) xs vs a
+      actuals_moved o g d (Before (slice_set g a0 (Open h)) (handed_world o (marks_of noted g) m i d h a0 copy n)) (handed_later o (marks_of noted g) m i d h a0 copy n s) (λ e k b less f. handed_copy o (marks_of noted g) m i d h a0 copy n i e k b (λ q same. omega (arith, same, less)) f) (suc d) (omega arith) xs vs a
 
-  pub hand_all : (fs : List Formal) (xs : List (Option Kinds)) → AllHandTo s (Knows m' n i) fs xs → (vs : List Val) (o : World) (g : List Sight) → length g ≡ length o.arrays → (d : ℕ) → ActualsAre s (see g o) m i d xs vs → Handed o g d (handed_over n (arrays_by_value fs vs) o) (λ z. (kk : ℕ) → ValsFine s z m' n kk (holds_of s fs) vs)
+  pub hand_all : (fs : List Formal) (xs : List (Option Kinds)) → AllHandTo s Passing fs xs → (vs : List Val) (o : World) (g : List Sight) → length g ≡ length o.arrays → (d : ℕ) → ActualsAre s (Before g o) m i d xs vs → Handed o g d (handed_over n (arrays_by_value fs vs) o) (λ z. (kk : ℕ) → ValsFine s z m' n kk (holds_of s fs) vs)
   unfolding handed_over
-  hand_all [] [] b [] o g long d a = record { sights = g; long = long; later = λ mm. later_none s (see g o) mm; copies = λ j e k a less c. c; elements = λ all. all; values = λ kk. tt }
+  hand_all [] [] b [] o g long d a = record { sights = g; long = long; later = λ b mm. later_none s (see (marks_of b g) o) mm; copies = λ j e k a less c. c; elements = λ all. all; values = λ kk. tt }
   hand_all [] [] b (v ∷ vs) o g long d a = absurd a
   hand_all [] (x ∷ xs) b vs o g long d a = absurd b
   hand_all (f ∷ fs) [] b vs o g long d a = absurd b
   hand_all (f ∷ fs) (x ∷ xs) b [] o g long d a = absurd a
   hand_all (f ∷ fs) (x ∷ xs) b (v ∷ vs) o g long d a =
       by_kind fs vs (arrays_by_value fs vs) o g d (hand_all fs xs b.1 vs o g long (suc d) a.1)
-      (λ h a0 copy. hand_all fs xs b.1 vs (handed_world o g m i d h a0 copy n) (handed_sights o g m i d h a0 copy n) (handed_long o g m i d h a0 copy n long) (suc d) (past_copy o g d h a0 copy xs vs a.1))
+      (λ h a0 copy. hand_all fs xs b.1 vs (handed_world o (marks_of noted g) m i d h a0 copy n) (slice_set g a0 (Open h)) (handed_long o (marks_of noted g) m i d h a0 copy n long) (suc d) (past_copy o g d h a0 copy xs vs a.1))
       (is_array_by_value f.mode f.kind) x (formal_holds s f.mode f.kind f.ty) v b.0 a.0
 
-  pub hand_every : (fs : List Formal) (xs : List (Option Kinds)) → AllHandTo s ⊥ fs xs → (vs : List Val) (o : World) (g : List Sight) → length g ≡ length o.arrays → (d : ℕ) → ActualsAre s (see g o) m i d xs vs → Handed o g d (handed_over n (arrays_among vs) o) (λ z. (kk : ℕ) → ValsFine s z m' n kk (holds_of s fs) vs)
+  pub hand_every : (fs : List Formal) (xs : List (Option Kinds)) → AllHandTo s ⊥ fs xs → (vs : List Val) (o : World) (g : List Sight) → length g ≡ length o.arrays → (d : ℕ) → ActualsAre s (Before g o) m i d xs vs → Handed o g d (handed_over n (arrays_among vs) o) (λ z. (kk : ℕ) → ValsFine s z m' n kk (holds_of s fs) vs)
   unfolding handed_over
-  hand_every [] [] b [] o g long d a = record { sights = g; long = long; later = λ mm. later_none s (see g o) mm; copies = λ j e k a less c. c; elements = λ all. all; values = λ kk. tt }
+  hand_every [] [] b [] o g long d a = record { sights = g; long = long; later = λ b mm. later_none s (see (marks_of b g) o) mm; copies = λ j e k a less c. c; elements = λ all. all; values = λ kk. tt }
   hand_every [] [] b (v ∷ vs) o g long d a = absurd a
   hand_every [] (x ∷ xs) b vs o g long d a = absurd b
   hand_every (f ∷ fs) [] b vs o g long d a = absurd b
   hand_every (f ∷ fs) (x ∷ xs) b [] o g long d a = absurd a
   hand_every (f ∷ fs) (x ∷ xs) b (v ∷ vs) o g long d a =
       by_class fs vs (arrays_among vs) o g d (hand_every fs xs b.1 vs o g long (suc d) a.1)
-      (λ h a0 copy. hand_every fs xs b.1 vs (handed_world o g m i d h a0 copy n) (handed_sights o g m i d h a0 copy n) (handed_long o g m i d h a0 copy n long) (suc d) (past_copy o g d h a0 copy xs vs a.1))
-      (λ h a0 kept. hand_every fs xs b.1 vs (given_world o g m h a0 kept n) g (given_long o g m h a0 kept n long) (suc d) (actuals_moved o g d (see g (given_world o g m h a0 kept n)) (given_later o g m h a0 kept n s) (λ e k y less f. given_copy o g m h a0 kept n i e k y f) (suc d) (omega arith) xs vs a.1))
+      (λ h a0 copy. hand_every fs xs b.1 vs (handed_world o (marks_of noted g) m i d h a0 copy n) (slice_set g a0 (Open h)) (handed_long o (marks_of noted g) m i d h a0 copy n long) (suc d) (past_copy o g d h a0 copy xs vs a.1))
+      (λ h a0 kept. hand_every fs xs b.1 vs (given_world o (marks_of noted g) m h a0 kept n) g (given_long o (marks_of noted g) m h a0 kept n long) (suc d) (actuals_moved o g d (Before g (given_world o (marks_of noted g) m h a0 kept n)) (given_later o (marks_of noted g) m h a0 kept n s) (λ e k y less f. given_copy o (marks_of noted g) m h a0 kept n i e k y f) (suc d) (omega arith) xs vs a.1))
       (is_array_by_value f.mode f.kind) x (formal_holds s f.mode f.kind f.ty) v b.0 a.0

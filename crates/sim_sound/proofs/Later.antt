@@ -1,19 +1,21 @@
 -- What is fine stays so in later stores.
-use Rattle.std.proofs.Common.{◌≡◌, ◌<◌, ◌≤◌, ℕ, suc, true, false, List, [], ◌∷◌, length, map, Option, Some, None, refl, sym, ap, ◌∙◌, subst, arith}
+use Rattle.std.proofs.Common.{◌≡◌, ◌<◌, ℕ, suc, true, false, List, [], ◌∷◌, length, map, Option, Some, None, refl, sym, ap, ◌∙◌, subst, arith}
 use Rattle.std.specs.Prelude.{slice_get, ◌&&◌, not}
 use Rattle.sim_base.specs.declared.numbering.DeclNo.{DeclNo}
+use Rattle.sim_chains.specs.Components.{AttachedObject, DetachedObject, NoObject, ResumedObject, Standing, TerminatedObject}
 use Rattle.sim_scope.specs.Levels.{has_level}
 use Rattle.sim_scope.specs.Source.{Source}
 use Rattle.sim_values.specs.declared.kind.Kind.{Kind}
-use Rattle.sim_values.specs.Plain.{Nothing, Object, Plain}
+use Rattle.sim_values.specs.Plain.{Character, Integer, Nothing, Object, Plain, Text, Truth}
 use Rattle.sim_code.specs.Instances.{CellPlace, ElementPlace, ImagePlace, Instance, ends_in, is_given_at_end, live, unless_given}
-use Rattle.sim_meaning.specs.Pending.{Activation, Address, ArrayValue, AttributeOf, BackOp, BranchOp, CallOf, Cell, ChooseOp, ConnectOp, CopyOf, Declared, Do, Either, ElementOf, ElementsOp, EndBlock, EndLevel, EndObject, EndPrefixed, EndProcedure, EndProgram, EnterOp, Eval, Exec, Execs, FitsOf, Further, Given, GiveOp, Held, IfOp, ImageOf, InnerOp, Instances, Item, Joined, KeptOf, Key, Level, Link, MemberOf, NewOf, NoTerm, Of, One, Op, PlaceOf, PrefixedOp, ProcedureValue, QuaOf, QualifiedElementOf, QualifiedPlaceOf, RaiseOp, RemoteCallOf, ShareOp, StandardOf, StepTestOp, StoreOp, Target, Term, Terms, TestOp, ToAddress, ToCell, ToPlace, ToReference, ToReferenceAt, ToText, ToTextAt, ToTextOf, Tree, Two, Unbuilt, Val, ValueAt, WhenOp, WhileElementOp, held}
+use Rattle.sim_meaning.specs.Pending.{Activation, Address, ArrayValue, AttributeOf, BackOp, BranchOp, CallOf, Cell, ChooseOp, ConnectOp, CopyOf, Declared, Do, Either, ElementOf, ElementsOp, EndBlock, EndLevel, EndObject, EndPrefixed, EndProcedure, EndProgram, EnterOp, Eval, Exec, Execs, FitsOf, Further, Given, GiveOp, Held, IfOp, ImageOf, InnerOp, Instances, Item, Joined, KeptOf, Key, Level, Link, MemberOf, NewOf, NoTerm, NotNoneOf, Of, One, Op, PlaceOf, PrefixedOp, ProcedureValue, QuaOf, QualifiedElementOf, QualifiedPlaceOf, RaiseOp, RemoteCallOf, ShareOp, StandardOf, StepTestOp, StoreOp, Target, Term, Terms, TestOp, ToAddress, ToCell, ToPlace, ToReference, ToReferenceAt, ToText, ToTextAt, ToTextOf, TransferOf, Tree, Two, Unbuilt, Val, ValueAt, WhenOp, WhileElementOp, held}
 use Rattle.sim_meaning.specs.Levels.{has_levels}
+use Rattle.sim_meaning.specs.Sane.{AllKept, AllOf, KeptOf as OnKept}
 use Rattle.sim_meaning.specs.Texts.{text}
 use Rattle.sim_sound.specs.Held.{ArrayOf, Holds, Refers, Simply, key_holds}
 use Rattle.sim_sound.proofs.Lists.{there_is}
 use Rattle.sim_sound.proofs.Prefixes.{LevelOf}
-use Rattle.sim_sound.proofs.Sound.{AddressOf, AllArrays, ArrayFine, CellFine, CellIs, CellTarget, CellsFine, ChainFine, Copied, CopyFine, DeepFine, ElementFine, Enclosed, HandFine, HandsFine, ImageAddress, InstanceFine, IntegersFine, KeptFine, KeyAmong, Kinds, Knows, Lasting, LevelsFine, LinkTo, NamesObject, ObjectOf, ObjectStands, OpFine, OperandsFine, PlainFine, Present, ReferenceAddress, ReferenceFine, Site, Sited, StandsFor, Stays, StoreOpFine, TargetFine, TargetsFine, TermFine, TermsFine, ValFine, Value, VariableFine, Waits, WorkFine, alone, array_stored, connected, earlier, in_connection, in_instance, key_of, own_made, own_text, staying, value_stored, within}
+use Rattle.sim_sound.proofs.Sound.{AddressOf, AllArrays, ArrayFine, Beneath, CellFine, CellIs, CellTarget, CellsFine, ChainOn, Component, Copied, CopyFine, DeepFine, ElementFine, Enclosed, HandFine, HandsFine, ImageAddress, InstanceFine, IntegersFine, KeptFine, KeyAmong, Kinds, Knows, Lasting, LevelsFine, LinkTo, NamesObject, Near, NoObjectStands, ObjectOf, ObjectStands, OpFine, OperandsFine, Outward, PlainFine, Present, ReferenceAddress, ReferenceFine, Site, Sited, StandsFine, StandsFor, StandsOn, Stays, StoreOpFine, Takes, TargetFine, TargetsFine, TermFine, TermsFine, ValFine, Value, VariableFine, Waits, WorkFine, alone, array_stored, at_itself, connected, first_of, in_connection, in_instance, key_of, near_below, near_staying, no_further, one_lower, one_out, outward, own_made, own_text, staying, value_stored, within}
 
 -- an instance that is as it was, but for values of cells, and cells of connections that are new
 pub record Grown (x y : Instance (List Held)) : Type 0 where
@@ -41,7 +43,10 @@ pub record Later (s : Source) (o : AllArrays) (m : Instances) (o' : AllArrays) (
   pub there : (j : ℕ) (x : Instance (List Held)) → Apart j → live m j ≡ Some x → StillThere m' j x
   pub stays : (j : ℕ) → Stays m j → Apart j
   pub apart : (j e : ℕ) → Apart j → Knows m j e → Apart e
+  pub near : (j e : ℕ) → Apart j → Near o m j e → Apart e
+  pub beneath : (j : ℕ) (x : Option ℕ) → slice_get o.beneath j ≡ Some x → slice_get o'.beneath j ≡ Some x
   pub objects : (j : ℕ) → ObjectStands m j → ObjectStands m' j
+  pub nobody : (j : ℕ) → NoObjectStands m j → NoObjectStands m' j
 
 -- the copies in hand of an instance that have fewer values below them than d
 abbrev pub Copies : AllArrays → AllArrays → (j d : ℕ) → Type 0
@@ -70,9 +75,29 @@ module _ (s : Source) (o : AllArrays) (m : Instances) (o' : AllArrays) (m' : Ins
           let were : (x.passing && not x.kept) ≡ true = sym (ap ends_in is) ∙ f in
           ap ends_in y.lives ∙ flags_grown x y.now y.grown ∙ were
 
+  outward_later : (j k : ℕ) → Apart j → Outward m j k → Outward m' j k
+  outward_later j _ ok no_further = no_further
+  outward_later j k ok (one_out {f = f} {x = x} lives is path) =
+      let y = e.there j x ok lives in
+      one_out y.lives ((y.grown).encloser ∙ is) (outward_later f k (e.apart j f ok (outward (one_out lives is no_further))) path)
+
   pub knows_later : (j k : ℕ) → Apart j → Knows m j k → Knows m' j k
   knows_later j k ok (staying a) = staying (stays_later k a)
-  knows_later j k ok (earlier a le) = earlier (ends_later j ok a) le
+  knows_later j k ok (outward a) = outward (outward_later j k ok a)
+
+  pub beneath_later : (j k : ℕ) → Apart j → Beneath o m j k → Beneath o' m' j k
+  beneath_later j _ ok at_itself = at_itself
+  beneath_later j k ok (one_lower {k = i} passing is path) =
+      one_lower (ends_later j ok passing) (e.beneath j (Some i) is) (beneath_later i k (e.near j i ok (near_below (one_lower passing is at_itself))) path)
+
+  pub near_later : (j k : ℕ) → Apart j → Near o m j k → Near o' m' j k
+  near_later j k ok (near_staying a) = near_staying (stays_later k a)
+  near_later j k ok (near_below a) = near_below (beneath_later j k ok a)
+
+  pub stands_on_later : (j : ℕ) (x : Instance (List Held)) (under : Option ℕ) → Apart j → live m j ≡ Some x → StandsOn o.beneath m j under → StandsOn o'.beneath m' j under
+  stands_on_later j x under ok lives on passing =
+      let y = e.there j x ok lives in
+      e.beneath j under (on (ap ends_in lives ∙ sym (flags_grown x y.now y.grown) ∙ sym (ap ends_in y.lives) ∙ passing))
 
   pub present_later : (j t : ℕ) (todo : List DeclNo) → Apart j → Present s m j t todo → Present s m' j t todo
   present_later j t todo ok p =
@@ -141,9 +166,9 @@ module _ (s : Source) (o : AllArrays) (m : Instances) (o' : AllArrays) (m' : Ins
 
   -- ---- an instance that is not changed
 
-  pub enclosed_later : (j t : ℕ) (out : Option ℕ) → Apart j → Enclosed s m j t out → Enclosed s m' j t out
+  pub enclosed_later : (j t : ℕ) (out : Option ℕ) → Apart j → Enclosed s o m j t out → Enclosed s o' m' j t out
   enclosed_later j t out ok (alone is around) = alone is around
-  enclosed_later j t out ok (within {e = n} {u = u} is around less knows whole) = within is around less (knows_later j n ok knows) (present_later n u [] (e.apart j n ok knows) whole)
+  enclosed_later j t out ok (within {e = n} {u = u} is around less near whole) = within is around less (near_later j n ok near) (present_later n u [] (e.near j n ok near) whole)
 
   pub instance_later : (j : ℕ) (x : Instance (List Held)) → Apart j → InstanceFine s o m j x → InstanceFine s o' m' j x
   instance_later j x ok f = record { level = f.level; solid = f.solid; keys = f.keys; holds = f.holds; cells = cells_later j x.text ok x.cells f.cells; ends = f.ends; not_kept = f.not_kept; out = enclosed_later j x.text x.encloser ok f.out }
@@ -176,6 +201,13 @@ module _ (s : Source) (o : AllArrays) (m : Instances) (o' : AllArrays) (m' : Ins
   hand_later j ok (Lasting h) (ArrayValue n) a = e.kept h n a
   hand_later j ok (Lasting h) _ a = absurd a
   hand_later j ok (Copied k) v a = absurd a
+  hand_later j ok Component (Of (Object n)) a = (a.0, object_later n a.0 a.1)
+  hand_later j ok Component (Of Nothing) a = absurd a
+  hand_later j ok Component (Of (Integer z)) a = absurd a
+  hand_later j ok Component (Of (Truth z)) a = absurd a
+  hand_later j ok Component (Of (Character z)) a = absurd a
+  hand_later j ok Component (Of (Text z)) a = absurd a
+  hand_later j ok Component _ a = absurd a
 
   pub deep_later : (j : ℕ) → Apart j → (d : ℕ) → Copies o o' j (suc d) → (k : Kinds) (v : Val) → DeepFine s o m j d k v → DeepFine s o' m' j d k v
   deep_later j ok d c (Copied k) (ArrayValue a) f = c d k a (omega arith) f
@@ -190,6 +222,7 @@ module _ (s : Source) (o : AllArrays) (m : Instances) (o' : AllArrays) (m' : Ins
   deep_later j ok d c ImageAddress v f = hand_later j ok ImageAddress v f
   deep_later j ok d c (LinkTo u) v f = hand_later j ok (LinkTo u) v f
   deep_later j ok d c (Lasting h) v f = hand_later j ok (Lasting h) v f
+  deep_later j ok d c Component v f = hand_later j ok Component v f
 
   pub hands_later : (j : ℕ) → Apart j → (ks : List Kinds) (vs : List Val) → Copies o o' j (length vs) → HandsFine s o m j ks vs → HandsFine s o' m' j ks vs
   hands_later j ok [] [] c a = a
@@ -243,6 +276,8 @@ module _ (s : Source) (o : AllArrays) (m : Instances) (o' : AllArrays) (m' : Ins
       term_later todo (QuaOf c line x) g a = (a.0, term_later todo x _ a.1)
       term_later todo (FitsOf c line x) g a = (a.0, term_later todo x _ a.1)
       term_later todo (KeptOf x) g a = (a.0, a.1, term_later todo x _ a.2)
+      term_later todo (NotNoneOf line x) g a = (a.0, term_later todo x _ a.1)
+      term_later todo (TransferOf z line x) g a = (a.0, term_later todo x _ a.1)
       term_later todo Unbuilt g a = absurd a
 
       pub integers_later : (todo : List DeclNo) (ts : Terms) → IntegersFine s m j t todo ts → IntegersFine s m' j t todo ts
@@ -321,38 +356,55 @@ module _ (s : Source) (o : AllArrays) (m : Instances) (o' : AllArrays) (m' : Ins
     pub work_later : (Outermost : Type 0) (Below Below' : Waits → Type 0) → ((v : Waits) → Below v → Below' v) → (w : List Item) (todo : List DeclNo) (before : List Kinds) → WorkFine s o m Below Outermost j t w todo before → WorkFine s o' m' Below' Outermost j t w todo before
     work_later Outermost Below Below' f [] todo before a = a
     work_later Outermost Below Below' f (Do op ∷ w) todo before a = (a.0, a.1, op_later op todo a.0 before a.1 a.2, work_later Outermost Below Below' f w a.0 a.1 a.3)
-    work_later Outermost Below Below' f (EndBlock ∷ w) todo before a = f _ a
-    work_later Outermost Below Below' f (EndProcedure leaves ∷ w) todo before a = (a.0, a.1, a.2, a.3, a.4, a.5, a.6, f _ a.7)
+    work_later Outermost Below Below' f (EndBlock ∷ w) todo before a = (e.nobody j a.0, f _ a.1)
+    work_later Outermost Below Below' f (EndProcedure leaves ∷ w) todo before a = (a.0, a.1, a.2, a.3, a.4, a.5, a.6, e.nobody j a.7, f _ a.8)
     work_later Outermost Below Below' f (EndLevel k ∷ w) todo before a = work_later Outermost Below Below' f w todo before a
-    work_later Outermost Below Below' f (EndObject ∷ w) todo before a = (a.0, a.1, a.2, e.objects j a.3, f _ a.4)
-    work_later Outermost Below Below' f (EndPrefixed ∷ w) todo before a = f _ a
-    work_later Outermost Below Below' f (EndProgram ∷ w) todo before a = a
+    work_later Outermost Below Below' f (EndObject ∷ w) todo before a = (a.0, a.1, a.2, e.objects j a.3, a.4, a.5, f a.4 a.6)
+    work_later Outermost Below Below' f (EndPrefixed ∷ w) todo before a = (e.nobody j a.0, f _ a.1)
+    work_later Outermost Below Below' f (EndProgram ∷ w) todo before a = (e.nobody j a.0, a.1)
 
--- the instances on a chain are others than the one that is given back
-abbrev pub AllApart : (Apart : ℕ → Type 0) → List Activation → Type 0
-AllApart Apart [] = Unit {0}
-AllApart Apart (a ∷ rest) = Apart a.instance × AllApart Apart rest
-
-pub chain_later : (s : Source) (o : AllArrays) (m : Instances) (o' : AllArrays) (m' : Instances) (Apart : ℕ → Type 0) → Later s o m o' m' Apart → (bound : ℕ) → ((j d : ℕ) → j < bound → Copies o o' j d) → (chain : List Activation) → AllApart Apart chain → (v : Waits) → ChainFine s o m bound chain v → ChainFine s o' m' bound chain v
+-- the instances on a chain are others than the one that is given back, and keep the copies that they have in hand
+pub chain_later : (s : Source) (o : AllArrays) (m : Instances) (o' : AllArrays) (m' : Instances) (Apart : ℕ → Type 0) → Later s o m o' m' Apart → (Keeps : ℕ → Type 0) → ((j d : ℕ) → Keeps j → Copies o o' j d) → (Ground : Waits → Type 0) (Outermost : List Activation → Type 0) (chain : List Activation) → AllOf Apart chain → AllOf Keeps chain → (v : Waits) → ChainOn s o m Ground Outermost chain v → ChainOn s o' m' Ground Outermost chain v
 unfolding present_later
-chain_later s o m o' m' Apart e bound all [] apart v c = c
-chain_later s o m o' m' Apart e bound all (a ∷ rest) apart v c =
-    let le : a.instance ≤ bound = omega (arith, c.before) in
+chain_later s o m o' m' Apart e Keeps all Ground Outermost [] apart keeps v c = c
+chain_later s o m o' m' Apart e Keeps all Ground Outermost (a ∷ rest) apart keeps v c =
     let y = e.there a.instance (c.here).now apart.0 (c.here).lives in
     record {
-      before = c.before;
       of_text = c.of_text;
       todo = c.todo;
       here = present_later s o m o' m' Apart e a.instance c.of_text c.todo apart.0 c.here;
       own = (y.grown).text ∙ c.own;
+      on = stands_on_later s o m o' m' Apart e a.instance (c.here).now (first_of rest) apart.0 (c.here).lives c.on;
       vals = c.vals;
       shown = c.shown;
       kinds = c.kinds;
-      hands = hands_later s o m o' m' Apart e a.instance apart.0 c.kinds c.vals (all a.instance (length c.vals) c.before) c.hands;
+      hands = hands_later s o m o' m' Apart e a.instance apart.0 c.kinds c.vals (all a.instance (length c.vals) keeps.0) c.hands;
       expected = c.expected;
       expects = c.expects;
-      goes = work_later s o m o' m' Apart e a.instance c.of_text apart.0 (rest ≡ []) (λ w. ChainFine s o m a.instance rest w) (λ w. ChainFine s o' m' a.instance rest w) (λ w b. chain_later s o m o' m' Apart e a.instance (λ j d less. all j d (omega (arith, less, le))) rest apart.1 w b) a.work c.todo c.expected c.goes;
+      goes = work_later s o m o' m' Apart e a.instance c.of_text apart.0 (Outermost rest) (λ w. ChainOn s o m Ground Outermost rest w) (λ w. ChainOn s o' m' Ground Outermost rest w) (λ w b. chain_later s o m o' m' Apart e Keeps all Ground Outermost rest apart.1 keeps.1 w b) a.work c.todo c.expected c.goes;
     }
+
+-- how each instance stands
+abbrev pub AllStand : Source → AllArrays → Instances → Type 0
+AllStand s o m = (j : ℕ) (x : Standing Activation) → slice_get m.standings j ≡ Some x → StandsFine s o m j x
+
+module _ (s : Source) (o : AllArrays) (m : Instances) (o' : AllArrays) (m' : Instances) (Apart : ℕ → Type 0) (e : Later s o m o' m' Apart) (Keeps : ℕ → Type 0) (all : (j d : ℕ) → Keeps j → Copies o o' j d) where
+  pub standing_later : (j : ℕ) (x : Standing Activation) → OnKept Apart x → OnKept Keeps x → StandsFine s o m j x → StandsFine s o' m' j x
+  standing_later j (NoObject None) apart keeps a = tt
+  standing_later j (NoObject (Some chain)) apart keeps a = absurd a
+  standing_later j AttachedObject apart keeps a = tt
+  standing_later j (DetachedObject chain) apart keeps a = record {
+    stays = stays_later s o m o' m' Apart e j a.stays;
+    last = a.last;
+    fine = chain_later s o m o' m' Apart e Keeps all (λ v. v ≡ Takes None) (λ rest. ⊥) chain apart keeps (Takes None) a.fine;
+  }
+  standing_later j ResumedObject apart keeps a = absurd a
+  standing_later j TerminatedObject apart keeps a = tt
+
+  pub kept_later : m'.standings ≡ m.standings → AllKept Apart m → AllKept Keeps m → AllStand s o m → AllStand s o' m'
+  kept_later same apart keeps f j x is =
+      let was : slice_get m.standings j ≡ Some x = ap (λ z. slice_get z j) (sym same) ∙ is in
+      standing_later j x (apart j x was) (keeps j x was) (f j x was)
 
 -- ---- a step that gives nothing back
 
@@ -360,9 +412,21 @@ chain_later s o m o' m' Apart e bound all (a ∷ rest) apart v c =
 abbrev pub All : ℕ → Type 0
 All j = Unit {0}
 
-pub all_apart : (chain : List Activation) → AllApart All chain
+pub all_apart : (chain : List Activation) → AllOf All chain
 all_apart [] = tt
 all_apart (a ∷ rest) = (tt, all_apart rest)
+
+pub standing_apart : (x : Standing Activation) → OnKept All x
+standing_apart (NoObject None) = tt
+standing_apart (NoObject (Some chain)) = all_apart chain
+standing_apart AttachedObject = tt
+standing_apart (DetachedObject chain) = all_apart chain
+standing_apart ResumedObject = tt
+standing_apart TerminatedObject = tt
+
+-- where no copy in hand is changed
+pub kept_all : (s : Source) (o : AllArrays) (m : Instances) (o' : AllArrays) (m' : Instances) → Later s o m o' m' All → m'.standings ≡ m.standings → ((j d : ℕ) → Copies o o' j d) → AllStand s o m → AllStand s o' m'
+kept_all s o m o' m' e same copies f = kept_later s o m o' m' All e All (λ j d k. copies j d) same (λ j x is. standing_apart x) (λ j x is. standing_apart x) f
 
 -- one after the other
 pub later_then : (s : Source) (o : AllArrays) (m : Instances) (o' : AllArrays) (m' : Instances) (o'' : AllArrays) (m'' : Instances) → Later s o m o' m' All → Later s o' m' o'' m'' All → Later s o m o'' m'' All
@@ -373,7 +437,10 @@ later_then s o m o' m' o'' m'' e f = record {
   there = λ j x ok lives. (let y = e.there j x tt lives in let z = f.there j y.now tt y.lives in record { now = z.now; lives = z.lives; grown = grown_then x y.now z.now y.grown z.grown });
   stays = λ j a. tt;
   apart = λ j k a b. tt;
+  near = λ j k a b. tt;
+  beneath = λ j x is. f.beneath j x (e.beneath j x is);
   objects = λ j a. f.objects j (e.objects j a);
+  nobody = λ j a. f.nobody j (e.nobody j a);
 }
   where
     grown_then : (x y z : Instance (List Held)) → Grown x y → Grown y z → Grown x z
@@ -395,7 +462,10 @@ later_none s o m = record {
   there = λ j x ok lives. record { now = x; lives = lives; grown = as_it_was x };
   stays = λ j a. tt;
   apart = λ j k a b. tt;
+  near = λ j k a b. tt;
+  beneath = λ j x is. is;
   objects = λ j a. a;
+  nobody = λ j a. a;
 }
 
 -- ---- what lives has a number

@@ -14,6 +14,7 @@ pub mod References
 pub mod Constants
 pub mod Attributes
 pub mod Reach
+pub mod Calls
 pub mod Closing
 pub mod Lefts
 pub mod Cells
@@ -24,6 +25,7 @@ pub mod Operators
 pub mod Statements
 pub mod Connections
 pub mod Ends
+pub mod Transfers
 pub mod FirstCells
 pub mod ClassCells
 pub mod Handing

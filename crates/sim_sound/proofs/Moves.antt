@@ -1,20 +1,24 @@
 -- Cells that are set, instances that are entered and given back: what is fine stays so, and the store is fine again.
-use Rattle.std.proofs.Common.{◌≡◌, ◌≢◌, ◌<◌, ℕ, zero, suc, Bool, true, false, List, [], ◌∷◌, ◌++◌, length, map, Option, Some, None, ◌⊎◌, inl, inr, ⊎_elim, refl, sym, ap, ◌∙◌, subst, arith}
+use Rattle.std.proofs.Common.{◌≡◌, ◌≢◌, ◌<◌, ◌≤◌, ◌+◌, ℕ, zero, suc, Bool, true, false, List, [], ◌∷◌, ◌++◌, length, map, Option, Some, None, ◌⊎◌, inl, inr, ⊎_elim, refl, sym, ap, ◌∙◌, subst, arith}
 use Rattle.std.proofs.lemmas.Bool.{cases_eq}
 use Rattle.std.specs.Prelude.{◌==◌, ◌&&◌, not, if◌then◌else◌, slice_get, slice_set}
-use Rattle.sim_chains.specs.Components.{AttachedObject, Standing, TerminatedObject}
+use Rattle.sim_chains.specs.Chains.{once_if, times_on}
+use Rattle.sim_chains.specs.Components.{AttachedObject, DetachedObject, NoObject, ResumedObject, Standing, TerminatedObject}
+use Rattle.sim_chains.specs.WellFormed.{chain_in, over_kept}
 use Rattle.sim_scope.specs.Source.{Source}
 use Rattle.sim_code.specs.Outcome.{ArrayOf as OneArray, World}
 use Rattle.sim_code.specs.Arrays.{given_with, giving_back, goes_with, unless_given}
 use Rattle.sim_code.specs.Instances.{Instance, ends_in, entered, given, given_in, is_given_at_end, live, with_instance}
 use Rattle.sim_code.specs.Instances as instances
-use Rattle.sim_meaning.specs.Pending.{Activation, Held, Instances, Key, Val, held, held_set}
+use Rattle.sim_meaning.specs.Pending.{Activation, Held, Instances, Item, Key, Val, held, held_set, owner}
 use Rattle.sim_meaning.specs.Meaning.{instances_left, text_of, words_of_text, world_left}
+use Rattle.sim_meaning.specs.Sane.{AllKept, Other}
 use Rattle.sim_meaning.specs.Texts.{text}
 use Rattle.sim_sound.specs.Held.{Holds, key_holds}
-use Rattle.sim_sound.proofs.Sound.{AllArrays, AllOn, ArrayFine, CellsFine, InstanceFine, IsObject, KeepsNone, KeyAmong, Knows, NothingKept, ObjectStands, OnChain, Operates, Sight, Stays, StoreFine, ValFine, earlier, elements_of, key_of, see, staying}
+use Rattle.sim_sound.proofs.Chains.{elsewhere_none, free, here_once, is_attached, others_kept}
+use Rattle.sim_sound.proofs.Sound.{AllArrays, ArrayFine, Beneath, CellsFine, ChainFine, Enclosed, InstanceFine, KeyAmong, Knows, Marks, Near, NoObjectStands, ObjectStands, Operates, Outward, Placed, Sight, StandsFine, StandsOn, Stays, StoreFine, ValFine, Waits, alone, at_itself, elements_of, first_of, key_of, near_below, near_staying, no_further, one_lower, one_out, outward, places, see, staying, within}
 use Rattle.sim_sound.proofs.Changes.{array_there, cells_set, held_stays, keys_set}
-use Rattle.sim_sound.proofs.Later.{All, Copies, Grown, Later, StillThere, as_it_was, cells_later, enclosed_later, flags_grown, instance_later, live_less, plain_later}
+use Rattle.sim_sound.proofs.Later.{All, Copies, Grown, Later, StillThere, as_it_was, cells_later, enclosed_later, flags_grown, instance_later, kept_all, kept_later, live_less, near_later, plain_later, standing_apart, standing_later}
 use Rattle.sim_sound.proofs.Lists.{append_at, append_before, if_false, no_some, other_numbers, same_some, set_len, set_other, set_same, there_is}
 
 pub one_longer : {A : Type 0} (xs : List A) (x : A) → length (xs ++ x ∷ []) ≡ suc (length xs)
@@ -51,24 +55,59 @@ stays_not m i j ends p same =
 
 -- ---- what an instance knows
 
+-- what is there for as long as what is there for as long as another
+beneath_then : (o : AllArrays) (m : Instances) (i e w : ℕ) → Beneath o m i e → Beneath o m e w → Beneath o m i w
+beneath_then o m _ e w at_itself b = b
+beneath_then o m i e w (one_lower {k = k} ends on a) b = one_lower ends on (beneath_then o m k e w a b)
+
+staying_beneath : (o : AllArrays) (m : Instances) (e w : ℕ) → Stays m e → Beneath o m e w → Stays m w
+staying_beneath o m e _ a at_itself = a
+staying_beneath o m e w a (one_lower ends on b) = absurd (stays_not m e e ends a refl)
+
+pub near_stays : (o : AllArrays) (m : Instances) (e w : ℕ) → Stays m e → Near o m e w → Stays m w
+near_stays o m e w a (near_staying x) = x
+near_stays o m e w a (near_below b) = staying_beneath o m e w a b
+
+pub near_then : (o : AllArrays) (m : Instances) (i e w : ℕ) → Near o m i e → Near o m e w → Near o m i w
+near_then o m i e w a (near_staying x) = near_staying x
+near_then o m i e w (near_staying x) (near_below b) = near_staying (staying_beneath o m e w x b)
+near_then o m i e w (near_below a) (near_below b) = near_below (beneath_then o m i e w a b)
+
+outward_then : (m : Instances) (i e w : ℕ) → Outward m i e → Outward m e w → Outward m i w
+outward_then m _ e w no_further b = b
+outward_then m i e w (one_out {f = f} lives is a) b = one_out lives is (outward_then m f e w a b)
+
+-- the encloser is there for as long as the instance
+pub encloser_near : (s : Source) (o : AllArrays) (m : Instances) (j t f : ℕ) (out : Option ℕ) → Enclosed s o m j t out → out ≡ Some f → Near o m j f
+encloser_near s o m j t f out (alone is around) e = absurd (no_some out f is e)
+encloser_near s o m j t f out (within {e = k} is around less near whole) e = subst (Near o m j) (same_some out k f is e) near
+
+outward_near : (s : Source) (o : AllArrays) (m : Instances) → StoreFine s o m → (j e : ℕ) → Outward m j e → Near o m j e
+outward_near s o m store j _ no_further = near_below at_itself
+outward_near s o m store j e (one_out {f = f} {x = x} lives is a) = near_then o m j f e (encloser_near s o m j x.text f x.encloser (store.instances j x lives).out is) (outward_near s o m store f e a)
+
+-- and so is what it knows
+pub knows_near : (s : Source) (o : AllArrays) (m : Instances) → StoreFine s o m → (j e : ℕ) → Knows m j e → Near o m j e
+knows_near s o m store j e (staying a) = near_staying a
+knows_near s o m store j e (outward a) = outward_near s o m store j e a
+
 -- what is known to what is known
-pub knows_then : (m : Instances) (i e w : ℕ) → Knows m i e → Knows m e w → Knows m i w
-knows_then m i e w a (staying x) = staying x
-knows_then m i e w (staying x) (earlier ends le) = absurd (stays_not m e e ends x refl)
-knows_then m i e w (earlier ends le) (earlier ends' le') = earlier ends (omega (arith, le, le'))
+pub knows_then : (s : Source) (o : AllArrays) (m : Instances) → StoreFine s o m → (i e w : ℕ) → Knows m i e → Knows m e w → Knows m i w
+knows_then s o m store i e w a (staying x) = staying x
+knows_then s o m store i e w (staying x) (outward b) = staying (near_stays o m e w x (outward_near s o m store e w b))
+knows_then s o m store i e w (outward a) (outward b) = outward (outward_then m i e w a b)
 
 -- itself
 pub knows_itself : (m : Instances) (j : ℕ) (x : Instance (List Held)) → live m j ≡ Some x → Knows m j j
-knows_itself m j x lives = by_flag (x.passing && not x.kept) refl
-  where
-    by_flag : (b : Bool) → (x.passing && not x.kept) ≡ b → Knows m j j
-    by_flag true e = earlier (ap ends_in lives ∙ e) (omega arith)
-    by_flag false e = staying (record { now = x; lives = lives; stays = e })
+knows_itself m j x lives = outward no_further
 
--- what knows of itself no more than what stays
-pub knows_staying : (m : Instances) (j e : ℕ) → Stays m j → Knows m j e → Stays m e
-knows_staying m j e a (staying x) = x
-knows_staying m j e a (earlier ends le) = absurd (stays_not m j j ends a refl)
+-- its encloser
+pub knows_encloser : (m : Instances) (j f : ℕ) (x : Instance (List Held)) → live m j ≡ Some x → x.encloser ≡ Some f → Knows m j f
+knows_encloser m j f x lives is = outward (one_out lives is no_further)
+
+-- what stays knows of no more than what stays
+pub knows_staying : (s : Source) (o : AllArrays) (m : Instances) → StoreFine s o m → (j e : ℕ) → Stays m j → Knows m j e → Stays m e
+knows_staying s o m store j e a k = near_stays o m j e a (knows_near s o m store j e k)
 
 -- ---- a step that leaves all instances where they stand
 
@@ -80,20 +119,32 @@ pub record SameOnes (m n : Instances) : Type 0 where
 pub same_ones : (m : Instances) → SameOnes m m
 same_ones m = record { count = refl; ended = λ j e. e; standings = refl }
 
-pub operates_on : (m n : Instances) (i : ℕ) (rest : List Activation) → SameOnes m n → Operates m i rest → Operates n i rest
-operates_on m n i rest same top = record {
-  before = subst (λ z. i < z) (sym same.count) top.before;
-  all = (λ j e. (top.all).0 j (same.ended j e), λ j on e. (top.all).1 j on (ap (λ z. slice_get z j) (sym same.standings) ∙ e));
-  parked = record {
-    none = λ j x e. (top.parked).none j x (ap (λ z. slice_get z j) (sym same.standings) ∙ e);
-    as_many = ap length same.standings ∙ (top.parked).as_many ∙ sym same.count;
-  };
-}
+pub placed_on : (m n : Instances) (chain : List Activation) → SameOnes m n → Placed m chain → Placed n chain
+placed_on m n chain same a =
+    let counted : (j : ℕ) → places n chain j ≡ places m chain j = λ j. ap (λ z. times_on owner j chain + over_kept (times_on owner j) z) same.standings in
+    record {
+      once = λ j. (let is = counted j in let less = a.once j in omega (arith, is, less));
+      made = λ j less. counted j ∙ a.made j (subst (λ z. z ≤ j) same.count less);
+      ended = λ j e. counted j ∙ a.ended j (ap (λ z. slice_get z j) (sym same.standings) ∙ e);
+      all = λ j e. (let is = counted j in let there = a.all j (same.ended j e) in omega (arith, is, there));
+      as_many = ap length same.standings ∙ a.as_many ∙ sym same.count;
+    }
+
+-- where it stands does not hang on its work and its values in hand
+pub placed_as : (m : Instances) (i : ℕ) (w : List Item) (vals : List Val) (rest : List Activation) → Placed m (record { instance = i; work = []; values = [] } ∷ rest) → Placed m (record { instance = i; work = w; values = vals } ∷ rest)
+placed_as m i w vals rest a = record { once = a.once; made = a.made; ended = a.ended; all = a.all; as_many = a.as_many }
+
+-- what is on top operates
+pub operates_first : (b : List (Option ℕ)) (m : Instances) (a : Activation) (rest : List Activation) → a.instance < length m.instances → StandsOn b m a.instance (first_of rest) → Placed m (a ∷ rest) → Operates b m a.instance rest
+operates_first b m a rest before on p = record { before = before; on = on; placed = record { once = p.once; made = p.made; ended = p.ended; all = p.all; as_many = p.as_many } }
+
+pub operates_on : (b : List (Option ℕ)) (m n : Instances) (i : ℕ) (rest : List Activation) → SameOnes m n → Operates b m i rest → Operates b n i rest
+operates_on b m n i rest same top = record { before = subst (λ z. i < z) (sym same.count) top.before; on = λ ends. top.on (same.ended i ends); placed = placed_on m n _ same top.placed }
 
 -- ---- instances alone
 
--- all are still there
-module _ (s : Source) (o : AllArrays) (m n : Instances) (there : (j : ℕ) (x : Instance (List Held)) → live m j ≡ Some x → StillThere n j x) where
+-- all are still there, with the same arrays, and what was noted
+module _ (s : Source) (o o' : AllArrays) (m n : Instances) (real : o'.real ≡ o.real) (sights : o'.sights ≡ o.sights) (noted : (j : ℕ) (x : Option ℕ) → slice_get o.beneath j ≡ Some x → slice_get o'.beneath j ≡ Some x) (there : (j : ℕ) (x : Instance (List Held)) → live m j ≡ Some x → StillThere n j x) where
   still_stays : (j : ℕ) → Stays m j → Stays n j
   still_stays j a = let y = there j a.now a.lives in record { now = y.now; lives = y.lives; stays = flags_grown a.now y.now y.grown ∙ a.stays }
 
@@ -103,23 +154,39 @@ module _ (s : Source) (o : AllArrays) (m n : Instances) (there : (j : ℕ) (x : 
       let y = there j x.0 x.1 in
       ap ends_in y.lives ∙ flags_grown x.0 y.now y.grown ∙ sym (ap ends_in x.1) ∙ e
 
-  still_knows : (j e : ℕ) → Knows m j e → Knows n j e
-  still_knows j e (staying a) = staying (still_stays e a)
-  still_knows j e (earlier a le) = earlier (still_ends j a) le
+  still_beneath : (j e : ℕ) → Beneath o m j e → Beneath o' n j e
+  still_beneath j _ at_itself = at_itself
+  still_beneath j e (one_lower {k = k} ends on a) = one_lower (still_ends j ends) (noted j (Some k) on) (still_beneath k e a)
 
-  still_array : (j : ℕ) (h : Holds) (a : ℕ) → ArrayFine o m j h a → ArrayFine o n j h a
-  still_array j h a f = record { it = f.it; lives = f.lives; known = f.known; owned = ⊎_elim (λ k. inl k) (λ k. inr (still_knows j (f.it).owner k)) f.owned; count = f.count }
+  still_near : (j e : ℕ) → Near o m j e → Near o' n j e
+  still_near j e (near_staying a) = near_staying (still_stays e a)
+  still_near j e (near_below a) = near_below (still_beneath j e a)
 
-  pub later_instances : ((j : ℕ) → ObjectStands m j → ObjectStands n j) → Later s o m o n All
+  still_lives : (a : ℕ) (it : OneArray) → unless_given (slice_get o.real a) ≡ Some it → unless_given (slice_get o'.real a) ≡ Some it
+  still_lives a it e = ap (λ z. unless_given (slice_get z a)) real ∙ e
+
+  still_known : (a : ℕ) (x : Sight) → slice_get o.sights a ≡ Some x → slice_get o'.sights a ≡ Some x
+  still_known a x e = ap (λ z. slice_get z a) sights ∙ e
+
+  still_array : (j : ℕ) (h : Holds) (a : ℕ) → ArrayFine o m j h a → ArrayFine o' n j h a
+  still_array j h a f = record { it = f.it; lives = still_lives a f.it f.lives; known = still_known a _ f.known; owned = ⊎_elim (λ k. inl k) (λ k. inr (still_near j (f.it).owner k)) f.owned; count = f.count }
+
+  pub still_copies : (j d : ℕ) → Copies o o' j d
+  still_copies j d e h a less f = record { it = f.it; lives = still_lives a f.it f.lives; hidden = still_known a _ f.hidden; owned = f.owned; count = f.count }
+
+  pub later_instances : ((j : ℕ) → ObjectStands m j → ObjectStands n j) → ((j : ℕ) → NoObjectStands m j → NoObjectStands n j) → Later s o m o' n All
   unfolding still_array
-  later_instances objects = record {
+  later_instances objects nobody = record {
     arrays = λ j h a ok f. still_array j h a f;
     elements = λ j h a i ok f. record { array = still_array j h a f.array; there = f.there };
-    kept = λ h a f. f;
+    kept = λ h a f. record { it = f.it; lives = still_lives a f.it f.lives; known = still_known a _ f.known; keeps = f.keeps; count = f.count };
     there = λ j x ok lives. there j x lives;
     stays = λ j a. tt;
     apart = λ j e a b. tt;
+    near = λ j e a b. tt;
+    beneath = noted;
     objects = objects;
+    nobody = nobody;
   }
 
 -- ---- cells that are changed
@@ -155,7 +222,7 @@ module _ (s : Source) (o : AllArrays) (m : Instances) (e : ℕ) (y : Instance (L
       there differ = record { now = x; lives = elsewhere j differ ∙ now; grown = as_it_was x }
 
   pub later_cells : Later s o m o set_in All
-  later_cells = later_instances s o m set_in still (λ j a. a)
+  later_cells = later_instances s o o m set_in refl refl (λ j x e. e) still (λ j a. a) (λ j a. a)
 
   fine_set : InstanceFine s o m e y → CellsFine s o m e y.text cells → InstanceFine s o set_in e other
   fine_set f fine = record {
@@ -170,7 +237,12 @@ module _ (s : Source) (o : AllArrays) (m : Instances) (e : ℕ) (y : Instance (L
   }
 
   pub store_cells : CellsFine s o m e y.text cells → StoreFine s o m → StoreFine s o set_in
-  store_cells fine store = record { instances = each; elements = λ a i it x p l k at. plain_later s o m o set_in All later_cells (elements_of x) p (store.elements a i it x p l k at) }
+  store_cells fine store = record {
+    instances = each;
+    elements = λ a i it x p l k at. plain_later s o m o set_in All later_cells (elements_of x) p (store.elements a i it x p l k at);
+    kept = kept_all s o m o set_in later_cells refl (λ j d e h a less f. f) store.kept;
+    noted = store.noted ∙ sym (set_len m.instances e other);
+  }
     where
       each : (j : ℕ) (x : Instance (List Held)) → live set_in j ≡ Some x → InstanceFine s o set_in j x
       each j x now = ⊎_elim here there (cases_eq j e)
@@ -208,19 +280,53 @@ module _ (s : Source) (o : AllArrays) (m : Instances) (e : ℕ) (y : Instance (L
 
 -- ---- one instance more
 
-kept_more : (xs : List (Standing Activation)) (z : Standing Activation) → KeepsNone z → ((j : ℕ) (x : Standing Activation) → slice_get xs j ≡ Some x → KeepsNone x) → (j : ℕ) (x : Standing Activation) → slice_get (xs ++ z ∷ []) j ≡ Some x → KeepsNone x
-kept_more [] z k f zero x e = subst KeepsNone (cc) k
-kept_more [] z k f (suc j) x e = absurd (cc)
-kept_more (y ∷ xs) z k f zero x e = f zero x e
-kept_more (y ∷ xs) z k f (suc j) x e = kept_more xs z k (λ i. f (suc i)) j x e
-
-old_or_new : (xs : List (Instance (List Held))) (y : Instance (List Held)) (j : ℕ) (x : Instance (List Held)) → slice_get (xs ++ y ∷ []) j ≡ Some x → (slice_get xs j ≡ Some x) ⊎ ((j ≡ length xs) × (y ≡ x))
-old_or_new [] y zero x e = inr (refl, (cc))
+old_or_new : {A : Type 0} (xs : List A) (y : A) (j : ℕ) (x : A) → slice_get (xs ++ y ∷ []) j ≡ Some x → (slice_get xs j ≡ Some x) ⊎ ((j ≡ length xs) × (y ≡ x))
+old_or_new [] y zero x e = inr (refl, same_some (Some y) y x refl e)
 old_or_new [] y (suc j) x e = absurd (cc)
 old_or_new (z ∷ xs) y zero x e = inl e
 old_or_new (z ∷ xs) y (suc j) x e = ⊎_elim (λ old. inl old) (λ new. inr (ap suc new.0, new.1)) (old_or_new xs y j x e)
 
-module _ (s : Source) (o : AllArrays) (m : Instances) (y : Instance (List Held)) (z : Standing Activation) where
+-- how an instance begins: as an attached object, or as none
+abbrev pub Begins : Standing Activation → Type 0
+Begins (NoObject None) = Unit {0}
+Begins AttachedObject = Unit {0}
+Begins _ = ⊥
+
+pub begins_fine : (s : Source) (o : AllArrays) (m : Instances) (j : ℕ) (z : Standing Activation) → Begins z → StandsFine s o m j z
+begins_fine s o m j (NoObject None) a = tt
+begins_fine s o m j (NoObject (Some chain)) a = absurd a
+begins_fine s o m j AttachedObject a = tt
+begins_fine s o m j (DetachedObject chain) a = absurd a
+begins_fine s o m j ResumedObject a = absurd a
+begins_fine s o m j TerminatedObject a = absurd a
+
+begins_empty : (j : ℕ) (z : Standing Activation) → Begins z → times_on owner j (chain_in z) ≡ 0
+begins_empty j (NoObject None) a = refl
+begins_empty j (NoObject (Some chain)) a = absurd a
+begins_empty j AttachedObject a = refl
+begins_empty j (DetachedObject chain) a = absurd a
+begins_empty j ResumedObject a = absurd a
+begins_empty j TerminatedObject a = absurd a
+
+begins_living : (z : Standing Activation) → Begins z → z ≡ TerminatedObject → ⊥
+begins_living z a e = subst Begins e a
+
+kept_more : (f : List Activation → ℕ) (xs : List (Standing Activation)) (z : Standing Activation) → f (chain_in z) ≡ 0 → over_kept f (xs ++ z ∷ []) ≡ over_kept f xs
+kept_more f [] z none = omega (arith, none)
+kept_more f (x ∷ xs) z none = let more = kept_more f xs z none in omega (arith, more)
+
+once_at_most : (b : Bool) → once_if b ≤ 1
+once_at_most true = omega arith
+once_at_most false = omega arith
+
+-- on top of which instance it was entered
+abbrev pub on_top : AllArrays → Option ℕ → AllArrays
+on_top o u = record o { beneath = o.beneath ++ u ∷ [] }
+
+abbrev pub marked : Marks → Option ℕ → Marks
+marked g u = record g { beneath = g.beneath ++ u ∷ [] }
+
+module _ (s : Source) (o : AllArrays) (m : Instances) (y : Instance (List Held)) (z : Standing Activation) (u : Option ℕ) where
   abbrev after : Instances
   after = entered m y z
 
@@ -229,38 +335,78 @@ module _ (s : Source) (o : AllArrays) (m : Instances) (y : Instance (List Held))
       let w = instance_there (slice_get after.instances j) x e in
       ⊎_elim (λ old. inl (instance_lives (slice_get m.instances j) x old w.1)) (λ new. inr new) (old_or_new m.instances y j x w.0)
 
-  pub later_entered : Later s o m o after All
-  later_entered =
-      later_instances s o m after
-      (λ j x lives. record { now = x; lives = ap instances.unless_given (append_before m.instances y j (live_less m j x lives)) ∙ lives; grown = as_it_was x })
-      (λ j a. (a.0, append_before m.standings z j (there_is m.standings j a.0 a.1) ∙ a.1, a.2))
+  still_noted : (j : ℕ) (x : Option ℕ) → slice_get o.beneath j ≡ Some x → slice_get (on_top o u).beneath j ≡ Some x
+  still_noted j x e = append_before o.beneath u j (there_is o.beneath j x e) ∙ e
 
-  pub store_entered : StoreFine s o m → InstanceFine s o after (length m.instances) y → StoreFine s o after
-  store_entered store f = record {
+  still_there : (j : ℕ) (x : Instance (List Held)) → live m j ≡ Some x → StillThere after j x
+  still_there j x lives = record { now = x; lives = ap instances.unless_given (append_before m.instances y j (live_less m j x lives)) ∙ lives; grown = as_it_was x }
+
+  pub later_entered : Later s o m (on_top o u) after All
+  later_entered =
+      later_instances s o (on_top o u) m after refl refl still_noted still_there
+      (λ j a. (a.0, append_before m.standings z j (there_is m.standings j a.0 a.1) ∙ a.1, a.2))
+      (λ j a. append_before m.standings z j (there_is m.standings j (NoObject None) a) ∙ a)
+
+  pub copies_entered : (j d : ℕ) → Copies o (on_top o u) j d
+  copies_entered = still_copies s o (on_top o u) m after refl refl still_noted still_there
+
+  pub store_entered : StoreFine s o m → InstanceFine s (on_top o u) after (length m.instances) y → Begins z → StoreFine s (on_top o u) after
+  store_entered store f begins = record {
     instances = λ j x e.
         ⊎_elim
-        (λ old. instance_later s o m o after All later_entered j x tt (store.instances j x old))
-        (λ new. subst (λ z. InstanceFine s o after z x) (sym new.0) (subst (λ z. InstanceFine s o after (length m.instances) z) new.1 f))
+        (λ old. instance_later s o m (on_top o u) after All later_entered j x tt (store.instances j x old))
+        (λ new. subst (λ z. InstanceFine s (on_top o u) after z x) (sym new.0) (subst (λ z. InstanceFine s (on_top o u) after (length m.instances) z) new.1 f))
         (was_or_is j x e);
-    elements = λ a i it x p l k at. plain_later s o m o after All later_entered (elements_of x) p (store.elements a i it x p l k at);
+    elements = λ a i it x p l k at. plain_later s o m (on_top o u) after All later_entered (elements_of x) p (store.elements a i it x p l k at);
+    kept = λ j x e.
+        ⊎_elim
+        (λ old. standing_later s o m (on_top o u) after All later_entered All (λ i d k. copies_entered i d) j x (standing_apart x) (standing_apart x) (store.kept j x old))
+        (λ new. subst (StandsFine s (on_top o u) after j) new.1 (begins_fine s (on_top o u) after j z begins))
+        (old_or_new m.standings z j x e);
+    noted = one_longer o.beneath u ∙ ap suc store.noted ∙ sym (one_longer m.instances y);
   }
 
-  pub new_standing : (j : ℕ) → j ≡ length m.instances → NothingKept m → slice_get after.standings j ≡ Some z
-  new_standing j same kept = ap (slice_get after.standings) (same ∙ sym kept.as_many) ∙ append_at m.standings z
+  pub new_standing : (j : ℕ) → j ≡ length m.instances → length m.standings ≡ length m.instances → slice_get after.standings j ≡ Some z
+  new_standing j same many = ap (slice_get after.standings) (same ∙ sym many) ∙ append_at m.standings z
 
-  pub operates_entered : (chain : List Activation) → AllOn m chain → NothingKept m → KeepsNone z → (z ≡ TerminatedObject → ⊥) → ((j : ℕ) → OnChain j chain → j < length m.instances) → Operates after (length m.instances) chain
-  operates_entered chain all kept none goes less = record {
-    before = (let n = one_longer m.instances y in omega (arith, n));
-    all = (
-      λ j e. (let x = ending_there after j e in ⊎_elim (λ old. inr (all.0 j (ap ends_in old ∙ sym (ap ends_in x.1) ∙ e))) (λ new. inl new.0) (was_or_is j x.0 x.1)),
-      λ j on e.
-          ⊎_elim
-          (λ new. goes (same_some (slice_get after.standings j) z TerminatedObject (new_standing j new kept) e))
-          (λ old. all.1 j old (sym (append_before m.standings z j (let w = less j old in let n = kept.as_many in omega (arith, w, n))) ∙ e))
-          on,
-    );
-    parked = record { none = kept_more m.standings z none kept.none; as_many = one_longer m.standings z ∙ ap suc kept.as_many ∙ sym (one_longer m.instances y) };
-  }
+  -- the new one knows what the one below it has near
+  pub near_new : (i e : ℕ) → StoreFine s o m → u ≡ Some i → is_given_at_end after (length m.instances) ≡ true → Near o m i e → Near (on_top o u) after (length m.instances) e
+  near_new i e store is ends near = near_then (on_top o u) after (length m.instances) i e (near_below (one_lower ends (noted_new ∙ ap Some is) at_itself)) (near_later s o m (on_top o u) after All later_entered i e tt near)
+    where
+      noted_new : slice_get (on_top o u).beneath (length m.instances) ≡ Some u
+      noted_new = ap (slice_get (on_top o u).beneath) (sym store.noted) ∙ append_at o.beneath u
+
+  pub operates_entered : (chain : List Activation) → u ≡ first_of chain → length o.beneath ≡ length m.instances → Placed m chain → Begins z → Operates (on_top o u).beneath after (length m.instances) chain
+  operates_entered chain is noted a begins =
+      let n = one_longer m.instances y in
+      let counted : (j : ℕ) → places after (record { instance = length m.instances; work = []; values = [] } ∷ chain) j ≡ once_if (length m.instances == j) + places m chain j =
+      λ j. (let more = kept_more (times_on owner j) m.standings z (begins_empty j z begins) in omega (arith, more)) in
+      record {
+        before = omega (arith, n);
+        on = λ ends. ap (slice_get (on_top o u).beneath) (sym noted) ∙ append_at o.beneath u ∙ ap Some is;
+        placed = record {
+          once = λ j.
+              (let c = counted j in
+              ⊎_elim
+              (λ same. let none = a.made j (omega (arith, same)) in let one = once_at_most (length m.instances == j) in omega (arith, c, none, one))
+              (λ differ. let none = elsewhere_none (length m.instances) j differ in let once = a.once j in omega (arith, c, none, once))
+              (cases_eq (length m.instances) j));
+          made = λ j less. (let c = counted j in let none = elsewhere_none (length m.instances) j (λ same. omega (arith, same, less, n)) in let unmade = a.made j (omega (arith, less, n)) in omega (arith, c, none, unmade));
+          ended = λ j e.
+              ⊎_elim
+              (λ old. let c = counted j in let lt = there_is m.standings j TerminatedObject old in let many = a.as_many in let none = elsewhere_none (length m.instances) j (λ same. omega (arith, same, lt, many)) in let gone = a.ended j old in omega (arith, c, none, gone))
+              (λ new. absurd (begins_living z begins new.1))
+              (old_or_new m.standings z j TerminatedObject e);
+          all = λ j e.
+              (let c = counted j in
+              let x = ending_there after j e in
+              ⊎_elim
+              (λ old. let there = a.all j (ap ends_in old ∙ sym (ap ends_in x.1) ∙ e) in omega (arith, c, there))
+              (λ new. let one = here_once (length m.instances) j (sym new.0) in omega (arith, c, one))
+              (was_or_is j x.0 x.1));
+          as_many = one_longer m.standings z ∙ ap suc a.as_many ∙ sym (one_longer m.instances y);
+        };
+      }
 
 -- ---- an instance that ends
 
@@ -314,14 +460,18 @@ given_gone : (m : Instances) (i : ℕ) (y : Option (Instance (List Held))) → s
 given_gone m i None e = ap instances.unless_given e
 given_gone m i (Some y) e = ap instances.unless_given (set_same m.instances i y (record y { given_back = true }) e)
 
--- An instance is given back, and all others that are at their end are older.
-module _ (s : Source) (o : AllArrays) (m : Instances) (i : ℕ) (ends : is_given_at_end m i ≡ true) (older : (j : ℕ) → is_given_at_end m j ≡ true → j ≢ i → j < i) where
+-- An instance is given back, on which none was entered that is not at its end.
+module _ (s : Source) (o : AllArrays) (m : Instances) (i : ℕ) (store : StoreFine s o m) (ends : is_given_at_end m i ≡ true) (alone_there : (j : ℕ) → is_given_at_end m j ≡ true → slice_get o.beneath j ≡ Some (Some i) → j ≢ i → ⊥) where
   abbrev Apart : ℕ → Type 0
   Apart j = j ≢ i
 
-  knows_apart : (j e : ℕ) → Apart j → Knows m j e → Apart e
-  knows_apart j e ok (staying a) = stays_not m i e ends a
-  knows_apart j e ok (earlier a le) = λ same. let less = older j a ok in omega (arith, less, le, same)
+  beneath_apart : (j e : ℕ) → Apart j → Beneath o m j e → Apart e
+  beneath_apart j _ ok at_itself = ok
+  beneath_apart j e ok (one_lower {k = k} passing on a) = beneath_apart k e (λ same. alone_there j passing (on ∙ ap (λ z. Some (Some z)) same) ok) a
+
+  near_apart : (j e : ℕ) → Apart j → Near o m j e → Apart e
+  near_apart j e ok (near_staying a) = stays_not m i e ends a
+  near_apart j e ok (near_below a) = beneath_apart j e ok a
 
   given_live : (j : ℕ) → j ≢ i → live (given m i) j ≡ live m j
   given_live j differ = ap instances.unless_given (given_other m i j (slice_get m.instances i) differ)
@@ -329,19 +479,23 @@ module _ (s : Source) (o : AllArrays) (m : Instances) (i : ℕ) (ends : is_given
   given_stays : (j : ℕ) → Stays m j → Stays (given m i) j
   given_stays j a = record { now = a.now; lives = given_live j (stays_not m i j ends a) ∙ a.lives; stays = a.stays }
 
-  given_knows : (j e : ℕ) → Apart j → Knows m j e → Knows (given m i) j e
-  given_knows j e ok (staying a) = staying (given_stays e a)
-  given_knows j e ok (earlier a le) = earlier (ap ends_in (given_live j ok) ∙ a) le
+  given_beneath : (j e : ℕ) → Apart j → Beneath o m j e → Beneath (given_view i o) (given m i) j e
+  given_beneath j _ ok at_itself = at_itself
+  given_beneath j e ok (one_lower {k = k} passing on a) = one_lower (ap ends_in (given_live j ok) ∙ passing) on (given_beneath k e (beneath_apart j k ok (one_lower passing on at_itself)) a)
 
-  stays_real : (j : ℕ) (it : OneArray) → Apart j → (it.kept ≡ true) ⊎ Knows m j it.owner → goes_with i it ≡ false
-  stays_real j it ok w = ⊎_elim (λ k. goes_kept i it k) (λ k. goes_not i it (knows_apart j it.owner ok k)) w
+  given_near : (j e : ℕ) → Apart j → Near o m j e → Near (given_view i o) (given m i) j e
+  given_near j e ok (near_staying a) = near_staying (given_stays e a)
+  given_near j e ok (near_below a) = near_below (given_beneath j e ok a)
+
+  stays_real : (j : ℕ) (it : OneArray) → Apart j → (it.kept ≡ true) ⊎ Near o m j it.owner → goes_with i it ≡ false
+  stays_real j it ok w = ⊎_elim (λ k. goes_kept i it k) (λ k. goes_not i it (near_apart j it.owner ok k)) w
 
   array_given : (j : ℕ) (h : Holds) (a : ℕ) → Apart j → ArrayFine o m j h a → ArrayFine (given_view i o) (given m i) j h a
   array_given j h a ok f = record {
     it = f.it;
     lives = given_lives o.real i a f.it f.lives (stays_real j f.it ok f.owned);
     known = f.known;
-    owned = ⊎_elim (λ k. inl k) (λ k. inr (given_knows j (f.it).owner ok k)) f.owned;
+    owned = ⊎_elim (λ k. inl k) (λ k. inr (given_near j (f.it).owner ok k)) f.owned;
     count = f.count;
   }
 
@@ -353,8 +507,11 @@ module _ (s : Source) (o : AllArrays) (m : Instances) (i : ℕ) (ends : is_given
     kept = λ h a f. record { it = f.it; lives = given_lives o.real i a f.it f.lives (goes_kept i f.it f.keeps); known = f.known; keeps = f.keeps; count = f.count };
     there = λ j x ok lives. record { now = x; lives = given_live j ok ∙ lives; grown = as_it_was x };
     stays = λ j a. stays_not m i j ends a;
-    apart = knows_apart;
+    apart = λ j e ok k. near_apart j e ok (knows_near s o m store j e k);
+    near = near_apart;
+    beneath = λ j x e. e;
     objects = λ j a. (a.0, ap (λ z. slice_get z j) (kept_given m i (slice_get m.instances i)) ∙ a.1, a.2);
+    nobody = λ j a. ap (λ z. slice_get z j) (kept_given m i (slice_get m.instances i)) ∙ a;
   }
 
   -- a copy in hand of another instance is not given back
@@ -366,35 +523,42 @@ module _ (s : Source) (o : AllArrays) (m : Instances) (i : ℕ) (ends : is_given
       let differ : j ≢ i = λ same. no_some (live (given m i) i) x (given_gone m i (slice_get m.instances i) refl) (ap (live (given m i)) (sym same) ∙ e) in
       (differ, sym (given_live j differ) ∙ e)
 
-  pub store_given : StoreFine s o m → StoreFine s (given_view i o) (given m i)
-  store_given store = record {
+  -- no chain that is kept has it on
+  pub store_given : AllKept (Other i) m → StoreFine s (given_view i o) (given m i)
+  store_given others = record {
     instances = λ j x e. (let was = live_given j x e in instance_later s o m (given_view i o) (given m i) Apart later_given j x was.0 (store.instances j x was.1));
     elements = λ a k it x p l is at. plain_later s o m (given_view i o) (given m i) Apart later_given (elements_of x) p (store.elements a k it x p (given_lived o.real i a it l) is at);
+    kept = kept_later s o m (given_view i o) (given m i) Apart later_given Apart copies_given (kept_given m i (slice_get m.instances i)) others others store.kept;
+    noted = store.noted ∙ sym (given_len m i (slice_get m.instances i));
   }
 
-  pub all_given : (rest : List Activation) → Operates m i rest → AllOn (given m i) rest
-  all_given rest top = (
-    λ j e.
-        (let x = ending_there (given m i) j e in
-        let was = live_given j x.0 x.1 in
-        ⊎_elim (λ same. absurd (was.0 same)) (λ on. on) ((top.all).0 j (ap ends_in was.1 ∙ sym (ap ends_in x.1) ∙ e))),
-    λ j on e. (top.all).1 j (inr on) (ap (λ z. slice_get z j) (sym (kept_given m i (slice_get m.instances i))) ∙ e),
-  )
-
-pub parked_given : (m : Instances) (i : ℕ) → NothingKept m → NothingKept (given m i)
-parked_given m i a = record {
-  none = λ j x e. a.none j x (ap (λ z. slice_get z j) (sym (kept_given m i (slice_get m.instances i))) ∙ e);
-  as_many = ap length (kept_given m i (slice_get m.instances i)) ∙ a.as_many ∙ sym (given_len m i (slice_get m.instances i));
-}
+  pub placed_given : (b : List (Option ℕ)) (rest : List Activation) → Operates b m i rest → Placed (given m i) rest
+  placed_given b rest top =
+      let a = top.placed in
+      let same = kept_given m i (slice_get m.instances i) in
+      let many = given_len m i (slice_get m.instances i) in
+      let counted : (j : ℕ) → places (given m i) rest j ≡ places m rest j = λ j. ap (λ z. times_on owner j rest + over_kept (times_on owner j) z) same in
+      record {
+        once = λ j. (let c = counted j in let once = a.once j in omega (arith, c, once));
+        made = λ j less. (let c = counted j in let none = a.made j (omega (arith, many, less)) in omega (arith, c, none));
+        ended = λ j e. (let c = counted j in let none = a.ended j (ap (λ z. slice_get z j) (sym same) ∙ e) in omega (arith, c, none));
+        all = λ j e.
+            (let x = ending_there (given m i) j e in
+            let was = live_given j x.0 x.1 in
+            let c = counted j in
+            let none = elsewhere_none i j (λ is. was.0 (sym is)) in
+            let there = a.all j (ap ends_in was.1 ∙ sym (ap ends_in x.1) ∙ e) in
+            omega (arith, c, none, there));
+        as_many = ap length same ∙ a.as_many ∙ sym many;
+      }
 
 -- ---- the store that an instance leaves, whether it is given back or not
 
-pub record Left (s : Source) (g : List Sight) (o : World) (m : Instances) (i : ℕ) (rest : List Activation) (o' : World) (m' : Instances) : Type 0 where
+pub record Left (s : Source) (g : Marks) (o : World) (m : Instances) (i : ℕ) (rest : List Activation) (o' : World) (m' : Instances) : Type 0 where
   pub later : Later s (see g o) m (see g o') m' (λ j. is_given_at_end m i ≡ true → j ≢ i)
   pub copies : (j d : ℕ) → j ≢ i → Copies (see g o) (see g o') j d
-  pub store : StoreFine s (see g o) m → StoreFine s (see g o') m'
-  pub all : AllOn m' rest
-  pub parked : NothingKept m'
+  pub store : StoreFine s (see g o') m'
+  pub placed : Placed m' rest
   pub long : length o'.arrays ≡ length o.arrays
   pub count : length m'.instances ≡ length m.instances
 
@@ -407,7 +571,10 @@ later_sure s o m o' m' P A p e = record {
   there = λ j x ok lives. e.there j x (ok p) lives;
   stays = λ j a q. e.stays j a;
   apart = λ j k ok a q. e.apart j k (ok p) a;
+  near = λ j k ok a q. e.near j k (ok p) a;
+  beneath = e.beneath;
   objects = e.objects;
+  nobody = e.nobody;
 }
 
 -- and where nothing is given back
@@ -419,82 +586,104 @@ later_never s o m P A never = record {
   there = λ j x ok lives. record { now = x; lives = lives; grown = as_it_was x };
   stays = λ j a q. absurd (never q);
   apart = λ j k ok a q. absurd (never q);
+  near = λ j k ok a q. absurd (never q);
+  beneath = λ j x a. a;
   objects = λ j a. a;
+  nobody = λ j a. a;
 }
 
-pub left_by : (s : Source) (g : List Sight) (o : World) (m : Instances) (i : ℕ) (rest : List Activation) → Operates m i rest → ((j : ℕ) → OnChain j rest → j < i) → Left s g o m i rest (world_left s i o m) (instances_left i m)
+-- what stays where it is leaves the rest on the chain
+placed_left : (b : List (Option ℕ)) (m : Instances) (i : ℕ) (rest : List Activation) → is_given_at_end m i ≡ false → Operates b m i rest → Placed m rest
+placed_left b m i rest stays top =
+    let a = top.placed in
+    record {
+      once = λ j. (let once = a.once j in omega (arith, once));
+      made = λ j less. (let none = a.made j less in omega (arith, none));
+      ended = λ j e. (let none = a.ended j e in omega (arith, none));
+      all = λ j e. (let none = elsewhere_none i j (λ same. let no : is_given_at_end m j ≡ false = ap (is_given_at_end m) (sym same) ∙ stays in cc) in let there = a.all j e in omega (arith, none, there));
+      as_many = a.as_many;
+    }
+
+pub left_by : (s : Source) (g : Marks) (o : World) (m : Instances) (i : ℕ) (rest : List Activation) → StoreFine s (see g o) m → Operates g.beneath m i rest → (v : Waits) → ChainFine s (see g o) m rest v → Left s g o m i rest (world_left s i o m) (instances_left i m)
 unfolding giving_back
-left_by s g o m i rest top less = by_flag (is_given_at_end m i) refl
+left_by s g o m i rest store top v c = by_flag (is_given_at_end m i) refl
   where
-    older : (j : ℕ) → is_given_at_end m j ≡ true → j ≢ i → j < i
-    older j e differ = ⊎_elim (λ same. absurd (differ same)) (λ on. less j on) ((top.all).0 j e)
+    alone_there : (j : ℕ) → is_given_at_end m j ≡ true → slice_get g.beneath j ≡ Some (Some i) → j ≢ i → ⊥
+    alone_there j e on differ = free s (see g o) m i j e on rest store top v c differ
 
     back : World
     back = giving_back o i (words_of_text s (text_of m i) (text s (text_of m i)))
 
     by_flag : (b : Bool) → is_given_at_end m i ≡ b → Left s g o m i rest (if b then back else o) (if b then given m i else m)
     by_flag true e = record {
-      later = later_sure s (see g o) m (see g back) (given m i) (is_given_at_end m i ≡ true) (λ j. j ≢ i) e (later_given s (see g o) m i e older);
-      copies = λ j d differ. copies_given s (see g o) m i e older j d differ;
-      store = store_given s (see g o) m i e older;
-      all = all_given s (see g o) m i e older rest top;
-      parked = parked_given m i top.parked;
+      later = later_sure s (see g o) m (see g back) (given m i) (is_given_at_end m i ≡ true) (λ j. j ≢ i) e (later_given s (see g o) m i store e alone_there);
+      copies = λ j d differ. copies_given s (see g o) m i store e alone_there j d differ;
+      store = store_given s (see g o) m i store e alone_there (others_kept g.beneath m i rest top);
+      placed = placed_given s (see g o) m i store e alone_there g.beneath rest top;
       long = with_len i o.arrays;
       count = given_len m i (slice_get m.instances i);
     }
     by_flag false e = record {
       later = later_never s (see g o) m (is_given_at_end m i ≡ true) (λ j. j ≢ i) (λ yes. cc);
       copies = λ j d differ k h a lt f. f;
-      store = λ x. x;
-      all = (λ j yes. ⊎_elim (λ same. absurd (let no : is_given_at_end m j ≡ false = ap (is_given_at_end m) same ∙ e in cc)) (λ on. on) ((top.all).0 j yes), λ j on z. (top.all).1 j (inr on) z);
-      parked = top.parked;
+      store = store;
+      placed = placed_left g.beneath m i rest e top;
       long = refl;
       count = refl;
     }
 
 -- ---- an object that ends
 
-module _ (s : Source) (o : AllArrays) (m : Instances) (i : ℕ) (rest : List Activation) (top : Operates m i rest) (less : (j : ℕ) → OnChain j rest → j < i) (stands : ObjectStands m i) where
-  -- it operates, so it is not terminated
-  pub is_attached : slice_get m.standings i ≡ Some AttachedObject
-  is_attached = by_standing stands.0 stands.1 stands.2
-    where
-      by_standing : (x : Standing Activation) → slice_get m.standings i ≡ Some x → IsObject x → slice_get m.standings i ≡ Some AttachedObject
-      by_standing AttachedObject e a = e
-      by_standing TerminatedObject e a = absurd ((top.all).1 i (inl refl) e)
-      by_standing (Rattle.sim_chains.specs.Components.NoObject z) e a = absurd a
-      by_standing (Rattle.sim_chains.specs.Components.DetachedObject z) e a = absurd a
-      by_standing Rattle.sim_chains.specs.Components.ResumedObject e a = absurd a
+-- one instance stands otherwise
+pub kept_set : (f : List Activation → ℕ) (xs : List (Standing Activation)) (i : ℕ) (x z : Standing Activation) → slice_get xs i ≡ Some x → over_kept f (slice_set xs i z) + f (chain_in x) ≡ over_kept f xs + f (chain_in z)
+kept_set f [] i x z e = absurd (cc)
+kept_set f (y ∷ xs) zero x z e = let same : f (chain_in y) ≡ f (chain_in x) = ap (λ q. f (chain_in q)) (same_some (Some y) y x refl e) in omega (arith, same)
+kept_set f (y ∷ xs) (suc i) x z e = let more = kept_set f xs i x z e in omega (arith, more)
+
+module _ (s : Source) (o : AllArrays) (b : List (Option ℕ)) (m : Instances) (i : ℕ) (rest : List Activation) (top : Operates b m i rest) (store : StoreFine s o m) (stands : ObjectStands m i) where
+  attached : slice_get m.standings i ≡ Some AttachedObject
+  attached = is_attached s o b m i rest store top stands
 
   abbrev pub terminated : Instances
   terminated = record m { standings = slice_set m.standings i TerminatedObject }
 
   now_terminated : (j : ℕ) → j ≡ i → slice_get terminated.standings j ≡ Some TerminatedObject
-  now_terminated j same = ap (slice_get terminated.standings) same ∙ set_same m.standings i AttachedObject TerminatedObject is_attached
+  now_terminated j same = ap (slice_get terminated.standings) same ∙ set_same m.standings i AttachedObject TerminatedObject attached
 
   others_stand : (j : ℕ) → j ≢ i → slice_get terminated.standings j ≡ slice_get m.standings j
   others_stand j differ = set_other m.standings i j TerminatedObject differ
 
   pub later_terminated : Later s o m o terminated All
   later_terminated =
-      later_instances s o m terminated (λ j x lives. record { now = x; lives = lives; grown = as_it_was x })
+      later_instances s o o m terminated refl refl (λ j x e. e) (λ j x lives. record { now = x; lives = lives; grown = as_it_was x })
       (λ j a. ⊎_elim (λ same. (TerminatedObject, now_terminated j same, tt)) (λ differ. (a.0, others_stand j differ ∙ a.1, a.2)) (cases_eq j i))
+      (λ j a. ⊎_elim (λ same. absurd (let e : slice_get m.standings j ≡ Some AttachedObject = ap (slice_get m.standings) same ∙ attached in cc)) (λ differ. others_stand j differ ∙ a) (cases_eq j i))
 
-  pub store_terminated : StoreFine s o m → StoreFine s o terminated
-  store_terminated store = record {
+  pub store_terminated : StoreFine s o terminated
+  store_terminated = record {
     instances = λ j x e. instance_later s o m o terminated All later_terminated j x tt (store.instances j x e);
     elements = λ a k it x p l is at. plain_later s o m o terminated All later_terminated (elements_of x) p (store.elements a k it x p l is at);
+    kept = λ j x e.
+        ⊎_elim
+        (λ same. subst (StandsFine s o terminated j) (same_some (slice_get terminated.standings j) TerminatedObject x (now_terminated j same) e) tt)
+        (λ differ. standing_later s o m o terminated All later_terminated All (λ k d a q h n less f. f) j x (standing_apart x) (standing_apart x) (store.kept j x (sym (others_stand j differ) ∙ e)))
+        (cases_eq j i);
+    noted = store.noted;
   }
 
   -- what is not given back at its end leaves the rest on the chain
-  pub all_terminated : is_given_at_end m i ≡ false → AllOn terminated rest
-  all_terminated stays = (
-    λ j e. ⊎_elim (λ same. absurd (let no : is_given_at_end m j ≡ false = ap (is_given_at_end m) same ∙ stays in let yes : is_given_at_end m j ≡ true = e in cc)) (λ on. on) ((top.all).0 j e),
-    λ j on e. (top.all).1 j (inr on) (sym (others_stand j (λ same. let w = less j on in omega (arith, w, same))) ∙ e),
-  )
-
-  pub parked_terminated : NothingKept terminated
-  parked_terminated = record {
-    none = λ j x e. ⊎_elim (λ same. subst KeepsNone (same_some (slice_get terminated.standings j) TerminatedObject x (now_terminated j same) e) tt) (λ differ. (top.parked).none j x (sym (others_stand j differ) ∙ e)) (cases_eq j i);
-    as_many = set_len m.standings i TerminatedObject ∙ (top.parked).as_many;
-  }
+  pub placed_terminated : is_given_at_end m i ≡ false → Placed terminated rest
+  placed_terminated stays =
+      let a = placed_left b m i rest stays top in
+      let counted : (j : ℕ) → places terminated rest j ≡ places m rest j = λ j. (let set = kept_set (times_on owner j) m.standings i AttachedObject TerminatedObject attached in omega (arith, set)) in
+      record {
+        once = λ j. (let c = counted j in let once = a.once j in omega (arith, c, once));
+        made = λ j less. counted j ∙ a.made j less;
+        ended = λ j e.
+            ⊎_elim
+            (λ same. let c = counted j in let one = here_once i j (sym same) in let once = (top.placed).once j in omega (arith, c, one, once))
+            (λ differ. counted j ∙ a.ended j (sym (others_stand j differ) ∙ e))
+            (cases_eq j i);
+        all = λ j e. (let c = counted j in let there = a.all j e in omega (arith, c, there));
+        as_many = set_len m.standings i TerminatedObject ∙ a.as_many;
+      }

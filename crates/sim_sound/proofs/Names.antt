@@ -25,9 +25,10 @@ use Rattle.sim_sound.specs.Held.{ArrayOf, Holds, Refers, Simply}
 use Rattle.sim_sound.specs.Expressions.{standard_kind}
 use Rattle.sim_sound.proofs.Cells.{target_cell, val_up}
 use Rattle.sim_sound.proofs.Constants.{NoReference}
-use Rattle.sim_sound.proofs.Sound.{AddressOf, Copied, DeepFine, ElementFine, HandFine, HandsFine, ImageAddress, IsImage, Kinds, Lasting, LinkTo, Open, OperandIs, OperandsAre, PlainFine, ReferenceAddress, Sight, StoreFine, ValFine, Value, pushed, see}
+use Rattle.sim_sound.proofs.Sound.{AddressOf, Component, Copied, DeepFine, ElementFine, HandFine, HandsFine, ImageAddress, IsImage, Kinds, Lasting, LinkTo, Marks, Open, OperandIs, OperandsAre, PlainFine, ReferenceAddress, StoreFine, ValFine, Value, pushed, see}
 use Rattle.sim_sound.proofs.Lifts.{Goes, Shape, a_char, a_text, an_int, any_popped, computed, had, ran, shape, took}
 use Rattle.sim_sound.proofs.Lists.{equal_numbers, there_get}
+use Rattle.sim_sound.proofs.Moves.{knows_near}
 
 -- ---- answers
 
@@ -178,7 +179,7 @@ row_is _ e = absurd (cc)
 -- ---- operands
 
 -- an element that an address in hand leads to
-pub element_there : (s : Source) (g : List Sight) (o : World) (m : Instances) (i a n : ℕ) (h : Holds) → StoreFine s (see g o) m → ElementFine (see g o) m i h a n → (p : Plain) × (element o a n ≡ Some p) × PlainFine s m h p
+pub element_there : (s : Source) (g : Marks) (o : World) (m : Instances) (i a n : ℕ) (h : Holds) → StoreFine s (see g o) m → ElementFine (see g o) m i h a n → (p : Plain) × (element o a n ≡ Some p) × PlainFine s m h p
 element_there s g o m i a n h store f =
     let w = there_get (f.array.it).elements n f.there in
     (w.0, ap (λ z. element_in z n) (f.array).lives ∙ w.1, store.elements a n (f.array).it (Open h) w.0 (f.array).lives (f.array).known w.1)
@@ -195,7 +196,7 @@ image_same s s' (suc zero) e = ap Some e.1
 image_same s s' (suc (suc n)) e = refl
 
 -- a plain value of a kind
-pub plain_of : (s : Source) (g : List Sight) (o : World) (m : Instances) (j : ℕ) (k : Kind) (v : Val) → ValFine s (see g o) m j (Simply k) v → (p : Plain) × (v ≡ Of p) × (kind_of p ≡ k)
+pub plain_of : (s : Source) (g : Marks) (o : World) (m : Instances) (j : ℕ) (k : Kind) (v : Val) → ValFine s (see g o) m j (Simply k) v → (p : Plain) × (v ≡ Of p) × (kind_of p ≡ k)
 plain_of s g o m j k (Of p) a = (p, refl, a.0)
 plain_of s g o m j k (Link z) a = absurd a
 plain_of s g o m j k (Address z) a = absurd a
@@ -203,7 +204,7 @@ plain_of s g o m j k (ArrayValue z) a = absurd a
 plain_of s g o m j k (ProcedureValue z y) a = absurd a
 plain_of s g o m j k (Tree z) a = absurd a
 
-module _ {S : Type 0} (P : World → S → Type 0) (s : Source) (o : World) (g : List Sight) (m : Instances) (j : ℕ) where
+module _ {S : Type 0} (P : World → S → Type 0) (s : Source) (o : World) (g : Marks) (m : Instances) (j : ℕ) where
   -- an operand that lies in an image is its text
   abbrev ReadAt : Val → Plain → Type 0
   ReadAt v p = (n : ℕ) → v ≡ Address (ImagePlace n) → (t : TextVal) × (p ≡ Text t) × (image_at o.store n ≡ Some t)
@@ -231,7 +232,7 @@ module _ {S : Type 0} (P : World → S → Type 0) (s : Source) (o : World) (g :
       place_read k (Address (ElementPlace a n None)) (plain_in (of_plain (element o a n))) q.0 is.0 (ap (λ z. plain_in (of_plain z)) q.1) fine.0 refl (λ i g. cc)
   operand_read store k (AddressOf k') (Address (CellPlace e key None)) is c =
       let q = target_cell s (see g o) m j e key k' store c in
-      let p = plain_of s g o m j kind.Text q.0 (subst (λ z. ValFine s (see g o) m j z q.0) is.1 (val_up s (see g o) m j e c.near k' q.0 q.2)) in
+      let p = plain_of s g o m j kind.Text q.0 (subst (λ z. ValFine s (see g o) m j z q.0) is.1 (val_up s (see g o) m j e (knows_near s (see g o) m store j e c.near) k' q.0 q.2)) in
       place_read k (Address (CellPlace e key None)) (plain_in (cell m e key)) p.0 is.0 (ap plain_in q.1 ∙ ap (λ z. plain_in (Some z)) p.1) p.2 refl (λ i g. cc)
   operand_read store k (AddressOf k') (Address (ElementPlace a n (Some c))) is f = absurd f
   operand_read store k (AddressOf k') (Address (CellPlace a n (Some c))) is f = absurd f
@@ -255,6 +256,7 @@ module _ {S : Type 0} (P : World → S → Type 0) (s : Source) (o : World) (g :
   operand_read store k (Copied t) v is f = absurd is
   operand_read store k (ReferenceAddress t) v is f = absurd is
   operand_read store k (Lasting t) v is f = absurd is
+  operand_read store k Component v is f = absurd is
 
   -- an operand is no copy of an array
   at_hand : (k : Kind) (x : Kinds) (d : ℕ) (v : Val) → OperandIs k x → DeepFine s (see g o) m j d x v → HandFine s (see g o) m j x v
@@ -265,6 +267,7 @@ module _ {S : Type 0} (P : World → S → Type 0) (s : Source) (o : World) (g :
   at_hand k (Copied z) d v is f = absurd is
   at_hand k (ReferenceAddress z) d v is f = absurd is
   at_hand k (Lasting z) d v is f = absurd is
+  at_hand k Component d v is f = absurd is
 
   -- a text operand that is put back: the place that it came from, which if it is an image is still the same text
   pub record Back (store : Store) (v : Val) (t : TextVal) : Type 0 where
@@ -384,7 +387,7 @@ module _ {S : Type 0} (P : World → S → Type 0) (s : Source) (o : World) (g :
     took_all (of_text_and_integers f) (x ∷ y ∷ []) vals all a h = absurd (a.1).1
     took_all (of_text_and_integers f) (x ∷ y ∷ z ∷ w ∷ xs) vals all a h = absurd ((a.1).1).1
 
-module _ (P : World → Configuration → Type 0) (s : Source) (o : World) (g : List Sight) (m : Instances) (j : ℕ) (fine : StoreFine s (see g o) m) where
+module _ (P : World → Configuration → Type 0) (s : Source) (o : World) (g : Marks) (m : Instances) (j : ℕ) (fine : StoreFine s (see g o) m) where
   pub performed : (l : Limits) (line : ℕ) (n : Standard) (left xs : List Kinds) (vals : List Val) (f : World → Instances → Option Plain → List Val → Run Configuration) → name_runs n ≡ true → OperandsAre (operands_of (row_of n).function) xs → HandsFine s (see g o) m j (pushed xs left) vals
       → ((t w : ℕ) (store : Store) (first : Option Val) (moved : Option TextVal) (v : Option Plain) (rest : List Val) → AllBack P s o g m j store first moved → ValueIs (standard_kind (row_of n).result) v → HandsFine s (see g o) m j left rest → Goes P (putting_back put_back first moved (record (ran o t w) { store = store }) m (λ p m. f p m v rest)))
       → Goes P (performing operand put_back l line n vals o m f)

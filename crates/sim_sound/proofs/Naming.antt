@@ -6,7 +6,7 @@ use Rattle.sim_meaning.specs.Pending.{Activation, Address, ArrayValue, Configura
 use Rattle.sim_meaning.specs.Sane.{IsObject, LastNames, Names, NamesOn}
 use Rattle.sim_sound.specs.Held.{ArrayOf, Refers, Simply}
 use Rattle.sim_sound.specs.Typed.{Typed}
-use Rattle.sim_sound.proofs.Sound.{AddressOf, AllArrays, ChainFine, Copied, DeepFine, Fine, HandsFine, ImageAddress, Kinds, Lasting, LinkTo, ObjectOf, ReferenceAddress, Takes, Value, opens, runs}
+use Rattle.sim_sound.proofs.Sound.{AddressOf, AllArrays, ChainFine, Component, Copied, DeepFine, Fine, HandsFine, ImageAddress, Kinds, Lasting, LinkTo, ObjectOf, opens, ReferenceAddress, runs, Takes, Value}
 
 module _ (s : Source) (ok : Typed s) (o : AllArrays) (m : Instances) where
   object_is : (j c : ℕ) → ObjectOf s m j c → IsObject s m j
@@ -22,6 +22,7 @@ module _ (s : Source) (ok : Typed s) (o : AllArrays) (m : Instances) where
   deep_names i d (LinkTo u) j a = absurd a
   deep_names i d (Copied h) j a = absurd a
   deep_names i d (Lasting h) j a = absurd a
+  deep_names i d Component j a = object_is j a.0 a.1
 
   value_names : (i d : ℕ) (k : Kinds) (v : Val) → DeepFine s o m i d k v → Names s m v
   value_names i d k (Of (Object j)) a = deep_names i d k j a
@@ -41,10 +42,10 @@ module _ (s : Source) (ok : Typed s) (o : AllArrays) (m : Instances) where
   hands_name i [] (v ∷ vals) a = absurd a
   hands_name i (k ∷ ks) (v ∷ vals) a = value_names i _ k v a.0
 
-  chain_names : (bound : ℕ) (chain : List Activation) → ChainFine s o m bound chain (Takes None) → NamesOn s m chain
-  chain_names bound [] c = tt
-  chain_names bound (a ∷ rest) c = hands_name a.instance c.kinds a.values (subst (λ z. HandsFine s o m a.instance c.kinds z) (sym c.shown) c.hands)
+  chain_names : (chain : List Activation) → ChainFine s o m chain (Takes None) → NamesOn s m chain
+  chain_names [] c = tt
+  chain_names (a ∷ rest) c = hands_name a.instance c.kinds a.values (subst (λ z. HandsFine s o m a.instance c.kinds z) (sym c.shown) c.hands)
 
 pub fine_names : (s : Source) → Typed s → (o : AllArrays) (c : Configuration) → Fine s o c → NamesOn s c.memory c.chain
-fine_names s ok o c (opens none empty unseen kept) = subst (NamesOn s c.memory) (sym none) tt
-fine_names s ok o c (runs store all kept f) = chain_names s ok o c.memory _ c.chain f
+fine_names s ok o c (opens none empty nobody unseen unnoted) = subst (NamesOn s c.memory) (sym none) tt
+fine_names s ok o c (runs store placed f) = chain_names s ok o c.memory c.chain f

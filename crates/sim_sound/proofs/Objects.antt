@@ -2,7 +2,7 @@
 use Rattle.std.proofs.Common.{◌≡◌, ◌<◌, ◌≤◌, ℕ, suc, Bool, true, false, List, [], ◌∷◌, ◌++◌, length, map, Option, Some, None, refl, sym, ap, ◌∙◌, subst, arith}
 use Rattle.sim_base.specs.declared.limits.Limits.{Limits}
 use Rattle.sim_base.specs.declared.numbering.DeclNo.{DeclNo}
-use Rattle.sim_chains.specs.Components.{AttachedObject, NoObject, Standing, TerminatedObject}
+use Rattle.sim_chains.specs.Components.{AttachedObject, NoObject, Standing}
 use Rattle.sim_scope.specs.declared.types.Entry.{Entry}
 use Rattle.sim_scope.specs.declared.types.Entry.TheVariants as entry
 use Rattle.sim_scope.specs.declared.types.Formal.{Formal}
@@ -27,6 +27,7 @@ use Rattle.sim_meaning.specs.Levels.{has_levels, levels}
 use Rattle.sim_meaning.specs.Meaning.{do_op}
 use Rattle.sim_meaning.specs.Objects.{arrays_given, attributes_from, cells_of_levels, declared, filled_in, generated, inner_done, levels_work, object_entered, prefix_done, prefixed_entered}
 use Rattle.sim_meaning.specs.Pending.{Activation, Configuration, Declared, DeclareOp, EndLevel, EndObject, EndPrefixed, Held, Instances, Item, Key, Level, LevelOp, Of, Val, held, instance_in}
+use Rattle.sim_meaning.specs.Sane.{Other}
 use Rattle.sim_meaning.specs.Texts.{Text, is_class_free, text}
 use Rattle.sim_sound.specs.Held.{Among, ArrayOf, Holds, IsFormal, Refers, Simply, entry_holds, first, held_by, key_holds, later}
 use Rattle.sim_sound.specs.Typed.{ClassTyped, ConstantHas, Distinct, FormalsAre, Typed, arrays_of_block}
@@ -35,17 +36,17 @@ use Rattle.sim_sound.proofs.Attributes.{Leveled, leveled}
 use Rattle.sim_sound.proofs.Cells.{fine_at, held_no_array, site_whole}
 use Rattle.sim_sound.proofs.ClassCells.{FilledIn, attributes_among, attributes_distinct, attributes_first, fill, none_waits}
 use Rattle.sim_sound.proofs.ClassLevels.{AllLevels, LevelIn, LevelIs, LevelsAre, all_levels_of, arrays_in, arrays_of_levels, cells_are, distinct_right, formals_among, level_among, level_arrays_are, level_arrays_distinct, level_formal, level_key, levels_are, levels_fine, number_from, number_in, numbers_of_levels}
-use Rattle.sim_sound.proofs.Entering.{begun_new, below_new, chain_lives, enters_fine, inside_new, later_new, link_is, lives_is, new_knows, same_arrays, store_handed}
+use Rattle.sim_sound.proofs.Entering.{begun_new, below_handed, below_new, enters_fine, inside_new, later_new, link_is, lives_is, same_arrays, stands_new, store_handed}
 use Rattle.sim_sound.proofs.Evals.{IsFine, Work, goes_on}
 use Rattle.sim_sound.proofs.FirstCells.{ActualsAre, AllSome, ValsFine, all_taken, taken}
-use Rattle.sim_sound.proofs.Handing.{Handed, classes_hand, hand_every, handed_same}
-use Rattle.sim_sound.proofs.Later.{All, Copies, Later, all_apart, chain_later, hands_later, live_less, work_later}
+use Rattle.sim_sound.proofs.Handing.{Handed, classes_hand, hand_every, handed_same, marks_of}
+use Rattle.sim_sound.proofs.Later.{All, Copies, Later, hands_later, live_less, work_later}
 use Rattle.sim_sound.proofs.Lifts.{Goes, any_popped, enters, had, ran, whens}
 use Rattle.sim_sound.proofs.Lists.{same_some}
-use Rattle.sim_sound.proofs.Moves.{new_standing}
+use Rattle.sim_sound.proofs.Moves.{Begins, knows_near, on_top, placed_as}
 use Rattle.sim_sound.proofs.Prefixes.{LevelOf, level_words, levels_solid}
 use Rattle.sim_sound.proofs.Reach.{attribute_key}
-use Rattle.sim_sound.proofs.Sound.{AllArrays, Begun, CellsFine, ChainFine, DeclareFine, Expected, Generated, HandsFine, KeepsNone, KeyAmong, Kinds, LevelsFine, LinkTo, Made, NewOpFine, Operates, PrefixedOpFine, Shown, Sight, StoreFine, Takes, Value, Waits, Whole, WorkFine, class_kinds, holds_of, in_hand, kept_kinds, key_of, keys_in, see}
+use Rattle.sim_sound.proofs.Sound.{AllArrays, Begun, CellsFine, ChainFine, DeclareFine, Expected, Generated, HandsFine, KeyAmong, Kinds, Knows, LevelsFine, LinkTo, Made, Marks, NewOpFine, Operates, PrefixedOpFine, Shown, Sight, StoreFine, Takes, Value, Waits, Whole, WorkFine, class_kinds, holds_of, in_hand, kept_kinds, key_of, keys_in, no_further, outward, see}
 
 -- ---- actual parameters of a class
 
@@ -87,16 +88,13 @@ formal_at s c (x ∷ ds) [] a d b = absurd a
 formal_at s c (x ∷ ds) (f ∷ fs) a _ first = (a.0, ap (entry_holds s c) a.1 ∙ a.2)
 formal_at s c (x ∷ ds) (f ∷ fs) a d (later b) = formal_at s c ds fs a.3 d b
 
-attached_goes_on : (z : Standing Activation) → z ≡ AttachedObject → z ≡ TerminatedObject → ⊥
-attached_goes_on z e f = cc
-
-module _ (s : Source) (ok : Typed s) (l : Limits) (o : World) (sights : List Sight) (long : length sights ≡ length o.arrays) (m : Instances) (i t : ℕ) (rest : List Activation) (top : Operates m i rest) (w : List Item) where
+module _ (s : Source) (ok : Typed s) (l : Limits) (o : World) (marks : Marks) (long : length marks.sights ≡ length o.arrays) (m : Instances) (i t : ℕ) (rest : List Activation) (top : Operates marks.beneath m i rest) (w : List Item) where
   -- ---- a text with levels, with the actual parameters of its class in hand
 
   -- What enters it has these values in hand then, and waits. `z` says how the new instance stands, and its work ends with `end`.
-  module _ (k line : ℕ) (has : has_levels (text s k) ≡ true) (vs vs' : List Val) (d j u : ℕ) (todo : List DeclNo) (left : List Kinds) (stands : encloser s.tables k ≡ Some u) (whole : Whole s m j u) (acts : ActualsAre s (see sights o) m i d (class_kinds s (class_parameters s (Some k))) vs) (less : length vs' ≤ d) (b : Begun s (see sights o) m i t todo) (hands : HandsFine s (see sights o) m i left vs')
-      (waits : Waits) (hold : List Val) (shown : Shown waits hold vs') (expected : List Kinds) (expects : Expected s waits left expected) (work : Work s o sights long m i t rest top w todo expected) (z : Standing Activation) (kept : KeepsNone z) (living : z ≡ TerminatedObject → ⊥) (end : Item)
-      (ends : (v : AllArrays) (c : List Held) → ChainFine s v (entered m (new_instance s k (Some j) c) z) (length m.instances) (record { instance = i; work = w; values = hold } ∷ rest) waits → WorkFine s v (entered m (new_instance s k (Some j) c) z) (λ q. ChainFine s v (entered m (new_instance s k (Some j) c) z) (length m.instances) (record { instance = i; work = w; values = hold } ∷ rest) q) ((record { instance = i; work = w; values = hold } ∷ rest) ≡ []) (length m.instances) k (end ∷ []) [] []) where
+  module _ (k line : ℕ) (has : has_levels (text s k) ≡ true) (vs vs' : List Val) (d j u : ℕ) (todo : List DeclNo) (left : List Kinds) (stands : encloser s.tables k ≡ Some u) (knows : Knows m i j) (whole : Whole s m j u) (acts : ActualsAre s (see marks o) m i d (class_kinds s (class_parameters s (Some k))) vs) (less : length vs' ≤ d) (b : Begun s (see marks o) m i t todo) (hands : HandsFine s (see marks o) m i left vs')
+      (waits : Waits) (hold : List Val) (shown : Shown waits hold vs') (expected : List Kinds) (expects : Expected s waits left expected) (work : Work s o marks long m i t rest top w todo expected) (z : Standing Activation) (begins : Begins z) (end : Item)
+      (ends : (v : AllArrays) (c : List Held) → ChainFine s v (entered m (new_instance s k (Some j) c) z) (record { instance = i; work = w; values = hold } ∷ rest) waits → WorkFine s v (entered m (new_instance s k (Some j) c) z) (λ q. ChainFine s v (entered m (new_instance s k (Some j) c) z) (record { instance = i; work = w; values = hold } ∷ rest) q) ((record { instance = i; work = w; values = hold } ∷ rest) ≡ []) (length m.instances) k (end ∷ []) [] []) where
     abbrev own : Leveled s ok k
     own = leveled s ok k has
 
@@ -141,10 +139,14 @@ module _ (s : Source) (ok : Typed s) (l : Limits) (o : World) (sights : List Sig
     abbrev After : List Held → Instances
     After c = entered m (new_instance s k (Some j) c) z
 
-    handed : (c : List Held) → Handed s m (After c) i N top.before (λ q. later_new s ok q m k (Some j) c z X is solid) (new_knows s ok (see sights o) m k (Some j) c z X is solid) o sights d P (λ v. (kk : ℕ) → ValsFine s v (After c) N kk (holds_of s fs) vs)
-    handed c =
-        hand_every s m (After c) i N top.before (λ q. later_new s ok q m k (Some j) c z X is solid) (new_knows s ok (see sights o) m k (Some j) c z X is solid) fs (class_kinds s fs)
-        (classes_hand s ⊥ formals fs typed.formals) vs o sights long d acts
+    abbrev noted : List (Option ℕ)
+    noted = marks.beneath ++ Some i ∷ []
+
+    later_with : (c : List Held) (q : List Sight) (p : World) → Later s (see (marks_of marks.beneath q) p) m (see (marks_of noted q) p) (After c) All
+    later_with c q p = later_new s ok (see (marks_of marks.beneath q) p) m k (Some j) c z X is solid (Some i)
+
+    handed : (c : List Held) → Handed s m (After c) i N top.before marks.beneath noted (later_with c) o marks.sights d P (λ v. (kk : ℕ) → ValsFine s v (After c) N kk (holds_of s fs) vs)
+    handed c = hand_every s m (After c) i N top.before marks.beneath noted (later_with c) fs (class_kinds s fs) (classes_hand s ⊥ formals fs typed.formals) vs o marks.sights long d acts
 
     -- the formal parameters and constants of all levels
     parameters : (e : DeclNo) → Among e numbers → IsFormal (entry_of s.tables e) → Among e formals
@@ -158,9 +160,9 @@ module _ (s : Source) (ok : Typed s) (l : Limits) (o : World) (sights : List Sig
         let y = number_from s e xs a in
         ((level_among s k y.0 xs all.are y.1).typed).constants e ty y.2 f
 
-    filled : (c : List Held) → FilledIn s (see (handed c).sights P) (After c) N k vs first_ones formals
+    filled : (c : List Held) → FilledIn s (see (marks_of noted (handed c).sights) P) (After c) N k vs first_ones formals
     filled c =
-        let v = see (handed c).sights P in
+        let v = see (marks_of noted (handed c).sights) P in
         fill s v (After c) N k formals fs vs first_ones typed.formals ((handed c).values k)
         (λ e a. let f = formal_at s true formals fs typed.formals e a in attribute_key s numbers e true f.0 (formals_among s ok k has e a) f.1)
         (attributes_distinct s numbers all.distinct)
@@ -169,11 +171,14 @@ module _ (s : Source) (ok : Typed s) (l : Limits) (o : World) (sights : List Sig
     abbrev Cells : List Held
     Cells = (filled first_ones).cells
 
-    abbrev G : List Sight
-    G = (handed Cells).sights
+    abbrev G : Marks
+    G = marks_of marks.beneath (handed Cells).sights
 
     abbrev V : AllArrays
     V = see G P
+
+    abbrev V' : AllArrays
+    V' = on_top V (Some i)
 
     abbrev M : Instances
     M = After Cells
@@ -181,8 +186,8 @@ module _ (s : Source) (ok : Typed s) (l : Limits) (o : World) (sights : List Sig
     same_cells : (filled Cells).cells ≡ Cells
     same_cells = same_some (filled_in vs (Some first_ones) formals) (filled Cells).cells Cells (filled Cells).filled_is (filled first_ones).filled_is
 
-    fine : CellsFine s V M N k Cells
-    fine = subst (CellsFine s V M N k) same_cells (none_waits s V M N k (filled Cells).cells (filled Cells).waits)
+    fine : CellsFine s V' M N k Cells
+    fine = subst (CellsFine s V' M N k) same_cells (none_waits s V' M N k (filled Cells).cells (filled Cells).waits)
 
     -- it has the cells of each level
     of_level : (u : ℕ) (y : Level) → y.text ≡ u → LevelIs s k y → (key : Key) → KeyAmong key (keys_in s u (text s u)) → KeyAmong key (map key_of (attributes_from s (numbers_of s y.text)))
@@ -214,43 +219,45 @@ module _ (s : Source) (ok : Typed s) (l : Limits) (o : World) (sights : List Sig
         let q = level_among s k y.0 xs all.are y.2 in
         made_level y.0 q y.2 c h (subst (λ x. key_holds s x (Declared c.0) ≡ Some (ArrayOf h)) (sym y.1) is_array) (attributes_among s c (numbers_of s (y.0).text) (of_level u y.0 y.1 q (Declared c.0) there)) none
 
-    e : Later s (see sights o) m V m All
-    e = (handed Cells).later m
+    e : Later s (see marks o) m V m All
+    e = (handed Cells).later marks.beneath m
+
+    copies : (n y : ℕ) → Other i n → Copies (see marks o) V n y
+    copies n y other q kd c' small copy = (handed Cells).copies n q kd c' (λ same. absurd (other same)) copy
 
     store : StoreFine s V m
-    store = store_handed s ok l o sights long m i t rest top w vs' P G e b.store (handed Cells).elements
+    store = store_handed s ok l o marks long m i t rest top w vs' P (handed Cells).sights e copies b.store (handed Cells).elements
 
-    begun : Begun s V M N k (arrays_of_levels s xs)
-    begun = begun_new s ok V m k (Some j) Cells z X is solid store keys fine (inside_new s ok V m k (Some j) Cells z X is solid j u refl stands (live_less m j whole.now whole.lives) store whole) (arrays_of_levels s xs) made
-
-    copies : (n y : ℕ) → n < i → Copies (see sights o) V n y
-    copies n y deep q kd c' small copy = (handed Cells).copies n q kd c' (λ same. absurd (let never : ⊥ = omega (arith, same, deep) in never)) copy
+    begun : Begun s V' M N k (arrays_of_levels s xs)
+    begun =
+        begun_new s ok V m k (Some j) Cells z X is solid (Some i) store begins keys fine
+        (inside_new s ok V m k (Some j) Cells z X is solid (Some i) j u i refl stands (live_less m j whole.now whole.lives) refl (knows_near s V m store i j knows) store whole) (arrays_of_levels s xs) made
 
     abbrev Below : List Activation
     Below = record { instance = i; work = w; values = hold } ∷ rest
 
     -- what enters it waits
-    chain : ChainFine s V m N Below waits
+    chain : ChainFine s V m Below waits
     chain = record {
-      before = top.before;
       of_text = t;
       todo = todo;
       here = b.here;
       own = b.own;
+      on = top.on;
       vals = vs';
       shown = shown;
       kinds = left;
-      hands = hands_later s (see sights o) m V m All e i tt left vs' (λ n kd c deep copy. (handed Cells).copies i n kd c (λ q. omega (arith, deep, less)) copy) hands;
+      hands = hands_later s (see marks o) m V m All e i tt left vs' (λ n kd c deep copy. (handed Cells).copies i n kd c (λ q. omega (arith, deep, less)) copy) hands;
       expected = expected;
       expects = expects;
-      goes = work_later s (see sights o) m V m All e i t tt (rest ≡ []) (λ q. ChainFine s (see sights o) m i rest q) (λ q. ChainFine s V m i rest q) (λ q c. chain_later s (see sights o) m V m All e i copies rest (all_apart rest) q c) w todo expected work;
+      goes = work_later s (see marks o) m V m All e i t tt (rest ≡ []) (λ q. ChainFine s (see marks o) m rest q) (λ q. ChainFine s V m rest q) (below_handed s ok l o marks long m i t rest top w vs' P (handed Cells).sights e copies b.store (handed Cells).elements) w todo expected work;
     }
 
     abbrev Wk : List Item → List DeclNo → List Kinds → Type 0
-    Wk w todo ks = WorkFine s V M (λ q. ChainFine s V M N Below q) (Below ≡ []) N k w todo ks
+    Wk w todo ks = WorkFine s V' M (λ q. ChainFine s V' M Below q) (Below ≡ []) N k w todo ks
 
     at_end : Wk (end ∷ []) [] []
-    at_end = ends V Cells (below_new s ok V m k (Some j) Cells z X is solid Below waits chain)
+    at_end = ends V' Cells (below_new s ok V m k (Some j) Cells z X is solid (Some i) Below waits chain)
 
     -- each of its levels, with those inside
     inside : (ys : List Level) → LevelsAre s k ys → LevelsFine s M N ys
@@ -293,33 +300,33 @@ module _ (s : Source) (ok : Typed s) (l : Limits) (o : World) (sights : List Sig
         had (IsFine s) (filled_in vs (Some (cells_of_levels s xs)) formals) Cells o (λ c. entering l line (words_of_cells (cells_of_levels s xs)) o (λ p. Entered (arrays_given N vs p) c)) filled_same
         (enters (IsFine s) l line (words_of_cells (cells_of_levels s xs)) o (λ p. Entered (arrays_given N vs p) Cells) (λ t' w'.
         same_arrays P (arrays_given N vs (ran o t' w')) _ (handed_same N (arrays_among vs) o (ran o t' w') refl)
-        (enters_fine s ok P G (handed Cells).long m k (Some j) Cells z (arrays_of_levels s xs) kept living begun (levels_work xs end) Below top.all top.parked (chain_lives s ok l o sights long m i t rest top w hold hold todo expected work) works)))
+        (enters_fine s ok P G (handed Cells).long m k (Some j) Cells z (arrays_of_levels s xs) begins (levels_work xs end) Below store (placed_as m i w hold rest top.placed) begun works)))
 
   module _ (vals : List Val) where
     class_many : (fs : List Formal) → length (class_kinds s fs) ≡ length fs
     class_many [] = refl
     class_many (f ∷ fs) = ap suc (class_many fs)
 
-    pub new_goes : (k n line : ℕ) (todo : List DeclNo) (before behind : List Kinds) → NewOpFine s k n before behind → Begun s (see sights o) m i t todo → HandsFine s (see sights o) m i before vals → Work s o sights long m i t rest top w todo behind → Goes (IsFine s) (generated s l o m i w vals rest k n line)
+    pub new_goes : (k n line : ℕ) (todo : List DeclNo) (before behind : List Kinds) → NewOpFine s k n before behind → Begun s (see marks o) m i t todo → HandsFine s (see marks o) m i before vals → Work s o marks long m i t rest top w todo behind → Goes (IsFine s) (generated s l o m i w vals rest k n line)
     new_goes k n line todo before behind c b h work =
         let q = c.class in
         let has : has_levels (text s k) ≡ true = ap has_levels q.is in
         let own = leveled s ok k has in
         let xs = (all_levels_of s ok k has).list in
-        let r = taken s (see sights o) m i (class_kinds s (class_parameters s (Some k))) (LinkTo c.around ∷ c.left) vals (classes_some s (class_formals s.tables k) (class_parameters s (Some k)) (own.typed).formals) (subst (λ z. HandsFine s (see sights o) m i z vals) (c.«in») h) in
+        let r = taken s (see marks o) m i (class_kinds s (class_parameters s (Some k))) (LinkTo c.around ∷ c.left) vals (classes_some s (class_formals s.tables k) (class_parameters s (Some k)) (own.typed).formals) (subst (λ z. HandsFine s (see marks o) m i z vals) (c.«in») h) in
         let many : n ≡ length r.values = c.count ∙ sym (class_many (class_parameters s (Some k))) ∙ sym r.count in
         subst (λ z. Goes (IsFine s) (pop_many z [] vals o next)) (sym many)
         (subst (λ z. Goes (IsFine s) (pop_many (length r.values) [] z o next)) (sym r.are)
         (subst (Goes (IsFine s)) (sym (all_taken r.values r.rest o next))
-        (any_popped (IsFine s) s (see sights o) m i (LinkTo c.around) c.left r.rest o (λ v vs. having (instance_in v) o (λ j. when (is_live m j) o (having (levels s k) o (λ xs. object_entered s l o m i w vs rest k line r.values j xs)))) r.more (λ v vs same here more.
-        link_is s ok l o sights long m i t rest top w vals c.around v (λ j. when (is_live m j) o (having (levels s k) o (λ xs. object_entered s l o m i w vs rest k line r.values j xs))) here (λ j near whole.
-        whens (IsFine s) (is_live m j) o (having (levels s k) o (λ xs. object_entered s l o m i w vs rest k line r.values j xs)) (lives_is s ok l o sights long m i t rest top w vals j whole.now whole.lives)
+        (any_popped (IsFine s) s (see marks o) m i (LinkTo c.around) c.left r.rest o (λ v vs. having (instance_in v) o (λ j. when (is_live m j) o (having (levels s k) o (λ xs. object_entered s l o m i w vs rest k line r.values j xs)))) r.more (λ v vs same here more.
+        link_is s ok l o marks long m i t rest top w vals c.around v (λ j. when (is_live m j) o (having (levels s k) o (λ xs. object_entered s l o m i w vs rest k line r.values j xs))) here (λ j near whole.
+        whens (IsFine s) (is_live m j) o (having (levels s k) o (λ xs. object_entered s l o m i w vs rest k line r.values j xs)) (lives_is s ok l o marks long m i t rest top w vals j whole.now whole.lives)
         (had (IsFine s) (levels s k) xs o (λ xs. object_entered s l o m i w vs rest k line r.values j xs) (levels_are s ok k has)
-        (entered_goes k line has r.values vs (length r.rest) j c.around todo c.left q.stands_in whole r.fine (below_top r.rest v vs same) b more (Generated (length m.instances) k) (Of (Object (length m.instances)) ∷ vs) refl (Value c.holds ∷ c.left) (c.holds, c.fits, refl) (subst (λ z. Work s o sights long m i t rest top w todo z) c.out work) AttachedObject tt (attached_goes_on AttachedObject refl) EndObject (λ v hs x. object_at_end v hs (own.typed).stays has j (record { instance = i; work = w; values = Of (Object (length m.instances)) ∷ vs } ∷ rest) x))))))))
+        (entered_goes k line has r.values vs (length r.rest) j c.around todo c.left q.stands_in near whole r.fine (below_top r.rest v vs same) b more (Generated (length m.instances) k) (Of (Object (length m.instances)) ∷ vs) refl (Value c.holds ∷ c.left) (c.holds, c.fits, refl) (subst (λ z. Work s o marks long m i t rest top w todo z) c.out work) AttachedObject tt EndObject (λ v hs x. object_at_end v hs (own.typed).stays has j (record { instance = i; work = w; values = Of (Object (length m.instances)) ∷ vs } ∷ rest) x))))))))
       where
         -- it is an object, which ends as one
-        object_at_end : (v : AllArrays) (hs : List Held) → is_class_free s k ≡ false → has_levels (text s k) ≡ true → (j : ℕ) → (below : List Activation) → ChainFine s v (entered m (new_instance s k (Some j) hs) AttachedObject) (length m.instances) below (Generated (length m.instances) k) → WorkFine s v (entered m (new_instance s k (Some j) hs) AttachedObject) (λ q. ChainFine s v (entered m (new_instance s k (Some j) hs) AttachedObject) (length m.instances) below q) (below ≡ []) (length m.instances) k (EndObject ∷ []) [] []
-        object_at_end v hs free has j below c = (refl, free, has, (AttachedObject, new_standing s v m (new_instance s k (Some j) hs) AttachedObject (length m.instances) refl top.parked, tt), c)
+        object_at_end : (v : AllArrays) (hs : List Held) → is_class_free s k ≡ false → has_levels (text s k) ≡ true → (j : ℕ) → (below : List Activation) → ChainFine s v (entered m (new_instance s k (Some j) hs) AttachedObject) below (Generated (length m.instances) k) → WorkFine s v (entered m (new_instance s k (Some j) hs) AttachedObject) (λ q. ChainFine s v (entered m (new_instance s k (Some j) hs) AttachedObject) below q) (below ≡ []) (length m.instances) k (EndObject ∷ []) [] []
+        object_at_end v hs free has j below c = (refl, free, has, (AttachedObject, stands_new m (new_instance s k (Some j) hs) AttachedObject (top.placed).as_many, tt), Generated (length m.instances) k, (refl, refl), c)
 
         next : List Val → List Val → Run Configuration
         next values vals = popping vals o (λ v vals. having (instance_in v) o (λ j. when (is_live m j) o (having (levels s k) o (λ xs. object_entered s l o m i w vals rest k line values j xs))))
@@ -328,17 +335,17 @@ module _ (s : Source) (ok : Typed s) (l : Limits) (o : World) (sights : List Sig
         below_top rest v vs e = let f : length rest ≡ suc (length vs) = ap length e in omega (arith, f)
 
     -- a prefixed block is entered
-    pub prefixed_goes : (k n line : ℕ) (before behind : List Kinds) → PrefixedOpFine s m i k n before behind → Begun s (see sights o) m i t [] → HandsFine s (see sights o) m i before vals → Work s o sights long m i t rest top w [] behind → Goes (IsFine s) (prefix_done s l o m i w vals rest k n line)
+    pub prefixed_goes : (k n line : ℕ) (before behind : List Kinds) → PrefixedOpFine s m i k n before behind → Begun s (see marks o) m i t [] → HandsFine s (see marks o) m i before vals → Work s o marks long m i t rest top w [] behind → Goes (IsFine s) (prefix_done s l o m i w vals rest k n line)
     prefixed_goes k n line before behind c b h work =
         let own = leveled s ok k c.has in
         let xs = (all_levels_of s ok k c.has).list in
-        let r = taken s (see sights o) m i (class_kinds s (class_parameters s (Some k))) behind vals (classes_some s (class_formals s.tables k) (class_parameters s (Some k)) (own.typed).formals) (subst (λ z. HandsFine s (see sights o) m i z vals) (c.«in») h) in
+        let r = taken s (see marks o) m i (class_kinds s (class_parameters s (Some k))) behind vals (classes_some s (class_formals s.tables k) (class_parameters s (Some k)) (own.typed).formals) (subst (λ z. HandsFine s (see marks o) m i z vals) (c.«in») h) in
         let many : n ≡ length r.values = c.count ∙ sym (class_many (class_parameters s (Some k))) ∙ sym r.count in
         subst (λ z. Goes (IsFine s) (pop_many z [] vals o next)) (sym many)
         (subst (λ z. Goes (IsFine s) (pop_many (length r.values) [] z o next)) (sym r.are)
         (subst (Goes (IsFine s)) (sym (all_taken r.values r.rest o next))
         (had (IsFine s) (levels s k) xs o (λ xs. prefixed_entered s l o m (record { instance = i; work = w; values = r.rest } ∷ rest) k line r.values (Some i) EndPrefixed xs) (levels_are s ok k c.has)
-        (entered_goes k line c.has r.values r.rest (length r.rest) i c.around [] behind c.stands_in (site_whole s (see sights o) m i t c.around b c.site) r.fine (omega arith) b r.more (Takes None) r.rest refl behind refl work (NoObject None) tt (λ e. absurd (cc)) EndPrefixed (λ v hs x. x)))))
+        (entered_goes k line c.has r.values r.rest (length r.rest) i c.around [] behind c.stands_in (outward no_further) (site_whole s (see marks o) m i t c.around b c.site) r.fine (omega arith) b r.more (Takes None) r.rest refl behind refl work (NoObject None) tt EndPrefixed (λ v hs x. (stands_new m (new_instance s k (Some i) hs) (NoObject None) (top.placed).as_many, x))))))
       where
         next : List Val → List Val → Run Configuration
         next values vals = having (levels s k) o (λ xs. prefixed_entered s l o m (record { instance = i; work = w; values = vals } ∷ rest) k line values (Some i) EndPrefixed xs)
@@ -346,27 +353,27 @@ module _ (s : Source) (ok : Typed s) (l : Limits) (o : World) (sights : List Sig
     -- ---- what is pending in an object or a prefixed block
 
     -- the arrays of a level are made, before those of the levels inside
-    pub declare_goes : (ds : Declarations) (todo todo' : List DeclNo) (before behind : List Kinds) → DeclareFine s t ds todo todo' → before ≡ [] → behind ≡ [] → Begun s (see sights o) m i t todo → HandsFine s (see sights o) m i before vals → Work s o sights long m i t rest top w todo' behind → Goes (IsFine s) (do_op s l o m i w vals rest (DeclareOp ds))
+    pub declare_goes : (ds : Declarations) (todo todo' : List DeclNo) (before behind : List Kinds) → DeclareFine s t ds todo todo' → before ≡ [] → behind ≡ [] → Begun s (see marks o) m i t todo → HandsFine s (see marks o) m i before vals → Work s o marks long m i t rest top w todo' behind → Goes (IsFine s) (do_op s l o m i w vals rest (DeclareOp ds))
     declare_goes ds todo todo' before behind d f g b h work =
         let p = b.here in
-        let solid : is_connection (text s t) ≡ false = sym (ap (λ z. is_connection (text s z)) b.own) ∙ (fine_at s (see sights o) m i t todo b.store p).solid in
+        let solid : is_connection (text s t) ≡ false = sym (ap (λ z. is_connection (text s z)) b.own) ∙ (fine_at s (see marks o) m i t todo b.store p).solid in
         let words = level_words s ok solid d.of_level p.words (sym (ap (text s) b.own) ∙ p.has_text) in
         let waits = arrays_of_block s ds ++ todo' in
-        let begun : Begun s (see sights o) m i t waits = subst (Begun s (see sights o) m i t) d.waits b in
-        goes_on s o sights long m i t rest top (Rattle.sim_meaning.specs.Entries.arrays_declared s m i ds w) vals waits [] begun (subst (λ z. HandsFine s (see sights o) m i z vals) f h)
-        (level_arrays s ok (see sights o) m i t d.level d.of_level waits begun words.0 words.1 solid d.all_arrays (λ q. ChainFine s (see sights o) m i rest q) (rest ≡ []) ds todo' w d.arrays d.distinct d.own (subst (λ z. Work s o sights long m i t rest top w todo' z) g work))
+        let begun : Begun s (see marks o) m i t waits = subst (Begun s (see marks o) m i t) d.waits b in
+        goes_on s o marks long m i t rest top (Rattle.sim_meaning.specs.Entries.arrays_declared s m i ds w) vals waits [] begun (subst (λ z. HandsFine s (see marks o) m i z vals) f h)
+        (level_arrays s ok (see marks o) m i t d.level d.of_level waits begun words.0 words.1 solid d.all_arrays (λ q. ChainFine s (see marks o) m rest q) (rest ≡ []) ds todo' w d.arrays d.distinct d.own (subst (λ z. Work s o marks long m i t rest top w todo' z) g work))
 
     -- a level's declarations are made, which does nothing
-    pub level_goes : (k : ℕ) (todo todo' : List DeclNo) (before behind : List Kinds) → behind ≡ before → todo' ≡ todo → Begun s (see sights o) m i t todo → HandsFine s (see sights o) m i before vals → Work s o sights long m i t rest top w todo' behind → Goes (IsFine s) (do_op s l o m i w vals rest (LevelOp k))
+    pub level_goes : (k : ℕ) (todo todo' : List DeclNo) (before behind : List Kinds) → behind ≡ before → todo' ≡ todo → Begun s (see marks o) m i t todo → HandsFine s (see marks o) m i before vals → Work s o marks long m i t rest top w todo' behind → Goes (IsFine s) (do_op s l o m i w vals rest (LevelOp k))
     level_goes k todo todo' before behind e f b h work =
-        goes_on s o sights long m i t rest top w vals todo before b h (subst (λ z. Work s o sights long m i t rest top w z before) f (subst (λ z. Work s o sights long m i t rest top w todo' z) e work))
+        goes_on s o marks long m i t rest top w vals todo before b h (subst (λ z. Work s o marks long m i t rest top w z before) f (subst (λ z. Work s o marks long m i t rest top w todo' z) e work))
 
     -- the statements of the levels inside
-    pub inner_goes : (xs : List Level) (ks : List Kinds) → LevelsFine s m i xs → Begun s (see sights o) m i t [] → HandsFine s (see sights o) m i ks vals → Work s o sights long m i t rest top w [] ks → Goes (IsFine s) (inner_done o m i w vals rest xs)
-    inner_goes [] ks a b h work = goes_on s o sights long m i t rest top w vals [] ks b h work
+    pub inner_goes : (xs : List Level) (ks : List Kinds) → LevelsFine s m i xs → Begun s (see marks o) m i t [] → HandsFine s (see marks o) m i ks vals → Work s o marks long m i t rest top w [] ks → Goes (IsFine s) (inner_done o m i w vals rest xs)
+    inner_goes [] ks a b h work = goes_on s o marks long m i t rest top w vals [] ks b h work
     inner_goes (x ∷ xs) ks a b h work =
-        goes_on s o sights long m i t rest top (Rattle.sim_meaning.specs.Objects.level_work x xs (EndLevel x.text ∷ w)) vals [] ks b h ([], ks, (refl, refl, refl, (x.text, a.0, a.1)), inside x.inner_last)
+        goes_on s o marks long m i t rest top (Rattle.sim_meaning.specs.Objects.level_work x xs (EndLevel x.text ∷ w)) vals [] ks b h ([], ks, (refl, refl, refl, (x.text, a.0, a.1)), inside x.inner_last)
       where
-        inside : (last : Bool) → Work s o sights long m i t rest top (Rattle.sim_meaning.specs.Objects.with_inner last xs (EndLevel x.text ∷ w)) [] ks
+        inside : (last : Bool) → Work s o marks long m i t rest top (Rattle.sim_meaning.specs.Objects.with_inner last xs (EndLevel x.text ∷ w)) [] ks
         inside true = ([], ks, (refl, refl, refl, a.2), work)
         inside false = work

@@ -22,12 +22,12 @@ use Rattle.sim_code.specs.Events.{choosing, having, popping, qualifying, when}
 use Rattle.sim_code.specs.Instances.{CellPlace, ElementPlace}
 use Rattle.sim_meaning.specs.Levels.{belongs, has_procedure, has_levels, is_in, is_in_any}
 use Rattle.sim_meaning.specs.Objects.{is_member, putting_reference}
-use Rattle.sim_meaning.specs.Pending.{Activation, Address, AgainOp, ArrayOp, ArrayValue, AttributeOp, Configuration, CopyOp, Declared, Do, DropOp, ElementOp, Eval, FetchOp, FitsOp, GiveOp, IfOp, Instances, Item, JoinOp, KeepOp, Key, Link, MemberOp, ObjectOp, Of, OneOp, Op, PastOp, QuaOp, QualifiedElementOp, ReferOp, ShareOp, StandardOp, StepOp, StoreOp, SwapOp, Target, Term, ToAddress, ToCell, ToPlace, ToReference, ToReferenceAt, ToText, ToTextAt, ToTextOf, TwoOp, Val, array_in, cell_set, place_in, variable_in}
+use Rattle.sim_meaning.specs.Pending.{Activation, Address, AgainOp, array_in, ArrayOp, ArrayValue, AttributeOp, cell_set, Configuration, CopyOp, Declared, Do, DropOp, ElementOp, Eval, FetchOp, FitsOp, GiveOp, IfOp, Instances, Item, JoinOp, KeepOp, Key, Link, MemberOp, NotNoneOp, ObjectOp, Of, OneOp, Op, PastOp, place_in, QualifiedElementOp, QuaOp, ReferOp, ShareOp, StandardOp, StepOp, StoreOp, SwapOp, Target, Term, ToAddress, ToCell, ToPlace, ToReference, ToReferenceAt, ToText, ToTextAt, ToTextOf, TwoOp, Val, variable_in}
 use Rattle.sim_meaning.specs.Texts.{text}
 use Rattle.sim_sound.specs.Held.{ArrayOf, Holds, Refers, Simply}
 use Rattle.sim_sound.specs.Expressions.{TwoKinds, some_holds, standard_kind}
 use Rattle.sim_sound.specs.Typed.{Typed}
-use Rattle.sim_sound.proofs.ArrayEvents.{NewArray, added_fine, array_is, copied_array, copied_fine, found_element, knows_own, made_array}
+use Rattle.sim_sound.proofs.ArrayEvents.{NewArray, added_fine, array_is, copied_array, copied_fine, found_element, made_array}
 use Rattle.sim_sound.proofs.Cells.{none_among}
 use Rattle.sim_sound.proofs.Changes.{copies_array, copies_replaced, elements_array, elements_replaced, later_array, later_replaced, more, new_lives, replaced}
 use Rattle.sim_sound.proofs.Constants.{names_none}
@@ -40,7 +40,7 @@ use Rattle.sim_sound.proofs.Moves.{same_ones}
 use Rattle.sim_sound.proofs.Names.{ValueIs, performed}
 use Rattle.sim_sound.proofs.Ops.{back_goes, fetched_goes, later_hands, later_with, putting_goes, putting_reference_goes, set_goes, store_with, stored_array}
 use Rattle.sim_sound.proofs.References.{any_object_popped, held_reference_goes, object_popped}
-use Rattle.sim_sound.proofs.Sound.{AddressOf, Addressed, Begun, CellTarget, Copied, CopyFine, DeepFine, HandFine, HandsFine, Hidden, ImageAddress, IsAddress, IsCopy, Kinds, Lasting, Leads, LinkTo, ObjectOf, OneKinds, OpFine, Open, Operates, ReferenceAddress, Sight, TermFine, ValFine, Value, array_stored, elements_of, given, held_kinds, see, value_stored}
+use Rattle.sim_sound.proofs.Sound.{AddressOf, Addressed, Begun, CellTarget, Component, Copied, CopyFine, DeepFine, HandFine, HandsFine, Hidden, ImageAddress, IsAddress, IsCopy, Kinds, Lasting, Leads, LinkTo, Marks, ObjectOf, OneKinds, OpFine, Open, Operates, ReferenceAddress, Sight, TermFine, ValFine, Value, array_stored, elements_of, given, held_kinds, see, value_stored}
 
 one_longer : (g : List Sight) (o : List OneArray) (z : Sight) (x : OneArray) → length (g ++ z ∷ []) ≡ suc (length g)
 one_longer [] o z x = refl
@@ -63,7 +63,7 @@ two_no_reference (dyadic.Connect c) k v a e = let z = a.1 in cc
 two_no_reference dyadic.SameObject k v a e = let z = a.1 in cc
 two_no_reference dyadic.SameText k v a e = let z = a.1 in cc
 
-module _ (s : Source) (ok : Typed s) (l : Limits) (o : World) (g : List Sight) (long : length g ≡ length o.arrays) (m : Instances) (i t : ℕ) (rest : List Activation) (top : Operates m i rest) (w : List Item) (vals : List Val) (todo todo' : List DeclNo) (before behind : List Kinds) (b : Begun s (see g o) m i t todo) (h : HandsFine s (see g o) m i before vals) (work : Work s o g long m i t rest top w todo' behind) where
+module _ (s : Source) (ok : Typed s) (l : Limits) (o : World) (g : Marks) (long : length g.sights ≡ length o.arrays) (m : Instances) (i t : ℕ) (rest : List Activation) (top : Operates g.beneath m i rest) (w : List Item) (vals : List Val) (todo todo' : List DeclNo) (before behind : List Kinds) (b : Begun s (see g o) m i t todo) (h : HandsFine s (see g o) m i before vals) (work : Work s o g long m i t rest top w todo' behind) where
   abbrev P : World → Configuration → Type 0
   P = IsFine s
 
@@ -112,6 +112,7 @@ module _ (s : Source) (ok : Typed s) (l : Limits) (o : World) (g : List Sight) (
       leading (Copied z) k d v is f = absurd is
       leading (ReferenceAddress z) k d v is f = absurd is
       leading (Lasting z) k d v is f = absurd is
+      leading Component k d v is f = absurd is
 
   pub join_op : (line : ℕ) → OpFine s (see g o) m i t (JoinOp line) todo todo' before behind → Stepped (JoinOp line)
   join_op line a = joining_goes P s (see g o) m i l line a.0 vals o (λ z p vs. go p m i w (Of z ∷ vs) rest) (hand _ a.1) (λ z t' w' frames vs more. goes (Of (Text z) ∷ vs) (Value (Simply kind.Text) ∷ a.0) ((refl, tt), more) (works _ a.2 a.3))
@@ -120,11 +121,12 @@ module _ (s : Source) (ok : Typed s) (l : Limits) (o : World) (g : List Sight) (
   array_goes : (z : Sight) (c : Kinds) (vs : List Val) (left : List Kinds) → HandsFine s (see g o) m i left vs → (t' w' : ℕ) (x : OneArray) → NewArray s m i (elements_of z) x → DeepFine s (more (see g o) z x) m i (length vs) c (ArrayValue (length o.arrays)) → Work s o g long m i t rest top w todo (c ∷ left) → IsFine s (added (ran o t' w') x) (record { chain = record { instance = i; work = w; values = ArrayValue (length o.arrays) ∷ vs } ∷ rest; memory = m })
   array_goes z c vs left hands t' w' x new f y =
       let e = later_array s (see g o) m z x in
-      let longer : length (g ++ z ∷ []) ≡ length (o.arrays ++ x ∷ []) = one_longer g o.arrays z x ∙ ap suc long ∙ sym (one_longer' o.arrays x) in
-      let copies : (j d : ℕ) → j < length m.instances → Copies (see g o) (more (see g o) z x) j d = λ j d less. copies_array (see g o) z x j d in
-      let store = store_with s (see g o) (more (see g o) z x) m e (elements_array s (see g o) m z x long new.elements b.store.elements) b.store in
-      later_with s ok l o g long m i t rest top (g ++ z ∷ []) (added (ran o t' w') x) longer m e copies (same_ones m) store w (ArrayValue (length o.arrays) ∷ vs) todo (c ∷ left) (present_later s (see g o) m (more (see g o) z x) m All e i t todo tt b.here) (own_later s (see g o) m (more (see g o) z x) m All e i t todo tt b.here ∙ b.own)
-      (f, later_hands s ok l o g long m i t rest top (g ++ z ∷ []) (added (ran o t' w') x) longer m e copies (same_ones m) store left vs hands) y
+      let seen : Marks = record g { sights = g.sights ++ z ∷ [] } in
+      let longer : length seen.sights ≡ length (o.arrays ++ x ∷ []) = one_longer g.sights o.arrays z x ∙ ap suc long ∙ sym (one_longer' o.arrays x) in
+      let copies : (j d : ℕ) → Copies (see g o) (more (see g o) z x) j d = λ j d. copies_array (see g o) z x j d in
+      let store = store_with s (see g o) (more (see g o) z x) m e refl copies (elements_array s (see g o) m z x long new.elements b.store.elements) b.store in
+      later_with s ok l o g long m i t rest top seen (added (ran o t' w') x) longer refl m e copies (same_ones m) store w (ArrayValue (length o.arrays) ∷ vs) todo (c ∷ left) (present_later s (see g o) m (more (see g o) z x) m All e i t todo tt b.here) (own_later s (see g o) m (more (see g o) z x) m All e i t todo tt b.here ∙ b.own)
+      (f, later_hands s ok l o g long m i t rest top seen (added (ran o t' w') x) longer refl m e copies (same_ones m) store left vs hands) y
 
   pub copy_op : (line : ℕ) → OpFine s (see g o) m i t (CopyOp line) todo todo' before behind → Stepped (CopyOp line)
   copy_op line a =
@@ -133,18 +135,19 @@ module _ (s : Source) (ok : Typed s) (l : Limits) (o : World) (g : List Sight) (
       copied_array P l line i a.0 n o g (λ copy p. go p m i w (ArrayValue copy ∷ vs) rest) s m b.store f (λ t' w' x new. by_copy a.2 a.3 vs hands t' w' x new (works _ a.5 a.6))))
     where
       by_copy : (c : Kinds) → IsCopy a.0 c → (vs : List Val) → HandsFine s (see g o) m i a.1 vs → (t' w' : ℕ) (x : OneArray) → NewArray s m i a.0 x → Work s o g long m i t rest top w todo (c ∷ a.1) → IsFine s (added (ran o t' w') x) (record { chain = record { instance = i; work = w; values = ArrayValue (length o.arrays) ∷ vs } ∷ rest; memory = m })
-      by_copy (Value h) is vs hands t' w' x new y = array_goes (Open a.0) (Value h) vs a.1 hands t' w' x new (subst (λ z. ValFine s (more (see g o) (Open a.0) x) m i z (ArrayValue (length o.arrays))) (sym is) (added_fine s (see g o) m i a.0 x long (knows_own s m i t todo b.here) new)) y
+      by_copy (Value h) is vs hands t' w' x new y = array_goes (Open a.0) (Value h) vs a.1 hands t' w' x new (subst (λ z. ValFine s (more (see g o) (Open a.0) x) m i z (ArrayValue (length o.arrays))) (sym is) (added_fine s (see g o) m i a.0 x long new)) y
       by_copy (Copied k) is vs hands t' w' x new y = array_goes (Hidden a.0 i (length vs)) (Copied k) vs a.1 hands t' w' x new (subst (λ z. CopyFine (more (see g o) (Hidden a.0 i (length vs)) x) i (length vs) z (length o.arrays)) (sym is) (copied_fine s (see g o) m i (length vs) a.0 x long new)) y
       by_copy (AddressOf k) is vs hands t' w' x new y = absurd is
       by_copy (ReferenceAddress k) is vs hands t' w' x new y = absurd is
       by_copy (Lasting k) is vs hands t' w' x new y = absurd is
+      by_copy Component is vs hands t' w' x new y = absurd is
       by_copy ImageAddress is vs hands t' w' x new y = absurd is
       by_copy (LinkTo k) is vs hands t' w' x new y = absurd is
 
   pub array_op : (k : Kind) (n line : ℕ) → OpFine s (see g o) m i t (ArrayOp k n line) todo todo' before behind → Stepped (ArrayOp k n line)
   array_op k n line a =
       integers_popped P s (see g o) m i (2 * n) a.1 [] vals o (λ bounds vs. making_array l line i k (pairs bounds) o (λ array p. go p m i w (ArrayValue array ∷ vs) rest)) (hand _ a.3) (λ zs vs hands.
-      made_array P l line i k (pairs zs) o (λ array p. go p m i w (ArrayValue array ∷ vs) rest) s m a.0 a.2 (λ t' w' x new. array_goes (Open a.0) (Value (ArrayOf a.0)) vs a.1 hands t' w' x new (added_fine s (see g o) m i a.0 x long (knows_own s m i t todo b.here) new) (works _ a.4 a.5)))
+      made_array P l line i k (pairs zs) o (λ array p. go p m i w (ArrayValue array ∷ vs) rest) s m a.0 a.2 (λ t' w' x new. array_goes (Open a.0) (Value (ArrayOf a.0)) vs a.1 hands t' w' x new (added_fine s (see g o) m i a.0 x long new) (works _ a.4 a.5)))
 
   valued : (k : Option Kind) (v : Option Plain) (vs : List Val) (left : List Kinds) → ValueIs k v → HandsFine s (see g o) m i left vs → HandsFine s (see g o) m i (given (held_kinds (some_holds k)) left) (with_value v vs)
   valued None None vs left e more = more
@@ -256,6 +259,7 @@ module _ (s : Source) (ok : Typed s) (l : Limits) (o : World) (g : List Sight) (
   swap_goes (LinkTo z) v u k d e is f = absurd is
   swap_goes (Copied z) v u k d e is f = absurd is
   swap_goes (Lasting z) v u k d e is f = absurd is
+  swap_goes Component v u k d e is f = absurd is
 
   pub swap_op : OpFine s (see g o) m i t SwapOp todo todo' before behind → Stepped SwapOp
   swap_op a =
@@ -294,6 +298,10 @@ module _ (s : Source) (ok : Typed s) (l : Limits) (o : World) (g : List Sight) (
       found_element P s m i (Refers c) n line a.0 vals o g (λ array index vs. go o m i w (Address (ElementPlace array index (Some c)) ∷ vs) rest) (hand _ a.1) (λ array index vs e more.
       goes (Address (ElementPlace array index (Some c)) ∷ vs) (ReferenceAddress c ∷ a.0) ((refl, e), more) (works _ a.2 a.3))
 
+  -- the object in hand; none ends the run
+  pub not_none_op : (line : ℕ) → OpFine s (see g o) m i t (NotNoneOp line) todo todo' before behind → Stepped (NotNoneOp line)
+  not_none_op line a = any_object_popped P s (see g o) m i line a.0 vals o (λ j vs. go o m i w (Of (Object j) ∷ vs) rest) (hand _ a.1) (λ j vs c p more. goes (Of (Object j) ∷ vs) (Component ∷ a.0) ((c, p), more) (works _ a.2 a.3))
+
   pub member_op : (member : Membership) (c : ℕ) → OpFine s (see g o) m i t (MemberOp member c) todo todo' before behind → Stepped (MemberOp member c)
   member_op member c a =
       plain_popped P s (see g o) m i kind.Reference a.0 vals o (λ p vs. having (is_member s m member c p) o (λ b. go o m i w (Of (Truth b) ∷ vs) rest)) (hand _ a.1) (λ p vs e more.
@@ -330,10 +338,10 @@ module _ (s : Source) (ok : Typed s) (l : Limits) (o : World) (g : List Sight) (
       let now : OneArray = record f.it { kept = true } in
       let next = replaced (see g o) n f.it now f.lives refl (inr refl) (λ k. refl) refl refl in
       let e = later_replaced (see g o) n f.it now f.lives refl (inr refl) (λ k. refl) refl refl s m in
-      let copies : (j d : ℕ) → j < length m.instances → Copies (see g o) next j d = λ j d less. copies_replaced (see g o) n f.it now f.lives refl (inr refl) (λ k. refl) refl refl a.0 f.known j d in
-      let store = store_with s (see g o) next m e (elements_replaced (see g o) n f.it now f.lives refl (inr refl) (λ k. refl) refl refl s m (Open a.0) f.known (λ q p at. b.store.elements n q f.it (Open a.0) p f.lives f.known at) b.store.elements) b.store in
-      later_with s ok l o g long m i t rest top g (with_array o n now) (long ∙ sym (set_len o.arrays n now)) m e copies (same_ones m) store w (ArrayValue n ∷ vs) todo (Lasting a.0 ∷ a.1) (present_later s (see g o) m next m All e i t todo tt b.here) (own_later s (see g o) m next m All e i t todo tt b.here ∙ b.own)
-      (record { it = now; lives = new_lives (see g o) n f.it now f.lives refl (inr refl) (λ k. refl) refl refl n refl; known = f.known; keeps = refl; count = f.count }, later_hands s ok l o g long m i t rest top g (with_array o n now) (long ∙ sym (set_len o.arrays n now)) m e copies (same_ones m) store a.1 vs hands) (works _ a.3 a.4))))
+      let copies : (j d : ℕ) → Copies (see g o) next j d = λ j d. copies_replaced (see g o) n f.it now f.lives refl (inr refl) (λ k. refl) refl refl a.0 f.known j d in
+      let store = store_with s (see g o) next m e refl copies (elements_replaced (see g o) n f.it now f.lives refl (inr refl) (λ k. refl) refl refl s m (Open a.0) f.known (λ q p at. b.store.elements n q f.it (Open a.0) p f.lives f.known at) b.store.elements) b.store in
+      later_with s ok l o g long m i t rest top g (with_array o n now) (long ∙ sym (set_len o.arrays n now)) refl m e copies (same_ones m) store w (ArrayValue n ∷ vs) todo (Lasting a.0 ∷ a.1) (present_later s (see g o) m next m All e i t todo tt b.here) (own_later s (see g o) m next m All e i t todo tt b.here ∙ b.own)
+      (record { it = now; lives = new_lives (see g o) n f.it now f.lives refl (inr refl) (λ k. refl) refl refl n refl; known = f.known; keeps = refl; count = f.count }, later_hands s ok l o g long m i t rest top g (with_array o n now) (long ∙ sym (set_len o.arrays n now)) refl m e copies (same_ones m) store a.1 vs hands) (works _ a.3 a.4))))
 
   pub refer_op : (line : ℕ) → OpFine s (see g o) m i t (ReferOp line) todo todo' before behind → Stepped (ReferOp line)
   refer_op line a =

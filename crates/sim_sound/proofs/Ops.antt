@@ -22,14 +22,14 @@ use Rattle.sim_sound.proofs.Cells.{cell_found, cell_put, own_key, plain_anywhere
 use Rattle.sim_sound.proofs.Changes.{ElementsFine, changed, copies_element, elements_changed, held_now, held_stays, keys_set, later_element, new}
 use Rattle.sim_sound.proofs.Evals.{IsFine, Work, goes_on}
 use Rattle.sim_sound.proofs.Fitting.{plain_val, val_fits}
-use Rattle.sim_sound.proofs.Later.{All, Copies, Later, all_apart, chain_later, hands_later, instance_later, own_later, present_later, work_later}
+use Rattle.sim_sound.proofs.Later.{All, Copies, Later, all_apart, chain_later, hands_later, instance_later, kept_all, own_later, present_later, work_later}
 use Rattle.sim_sound.proofs.Lifts.{Goes, had, ran}
 use Rattle.sim_sound.proofs.Names.{AllBack, element_there, image_there}
 use Rattle.sim_sound.proofs.Lists.{if_true, no_some, set_len}
 use Rattle.sim_sound.proofs.Moves.{SameOnes, later_cell, operates_on, same_cell, same_ones, set_lives, store_cell}
 use Rattle.sim_sound.proofs.Prefixes.{LevelOf, same_is}
 use Rattle.sim_sound.proofs.References.{held_reference_goes}
-use Rattle.sim_sound.proofs.Sound.{AddressOf, AllArrays, Begun, CellTarget, ChainFine, Copied, ElementFine, HandFine, HandsFine, ImageAddress, IsPlain, KeyAmong, Kinds, Lasting, Leads, LinkTo, Made, OperandIs, Operates, PlainFine, Present, ReferenceAddress, Sight, StoreFine, ValFine, Value, Waits, WorkFine, in_instance as at_cell, key_of, keys_in, own_text, see}
+use Rattle.sim_sound.proofs.Sound.{AddressOf, AllArrays, Begun, CellTarget, ChainFine, Component, Copied, ElementFine, HandFine, HandsFine, ImageAddress, IsPlain, KeyAmong, Kinds, Lasting, Leads, LinkTo, Made, Marks, OperandIs, Operates, PlainFine, Present, ReferenceAddress, StoreFine, ValFine, Value, Waits, WorkFine, in_instance as at_cell, key_of, keys_in, own_text, see}
 
 among_cases : (e : DeclNo) (xs : List DeclNo) → Among e xs → (d : DeclNo) (ds : List DeclNo) → xs ≡ d ∷ ds → (e ≡ d) ⊎ Among e ds
 among_cases e xs (first {ds = es}) d ds f = inl (cc)
@@ -39,10 +39,15 @@ abbrev pub with_arrays : World → List OneArray → World
 with_arrays o a = record o { arrays = a }
 
 -- a store with other arrays
-pub store_with : (s : Source) (o o' : AllArrays) (m : Instances) → Later s o m o' m All → ElementsFine s o' m → StoreFine s o m → StoreFine s o' m
-store_with s o o' m e fine store = record { instances = λ j x lives. instance_later s o m o' m All e j x tt (store.instances j x lives); elements = fine }
+pub store_with : (s : Source) (o o' : AllArrays) (m : Instances) → Later s o m o' m All → o'.beneath ≡ o.beneath → ((j d : ℕ) → Copies o o' j d) → ElementsFine s o' m → StoreFine s o m → StoreFine s o' m
+store_with s o o' m e same copies fine store = record {
+  instances = λ j x lives. instance_later s o m o' m All e j x tt (store.instances j x lives);
+  elements = fine;
+  kept = kept_all s o m o' m e refl copies store.kept;
+  noted = ap length same ∙ store.noted;
+}
 
-module _ (s : Source) (ok : Typed s) (l : Limits) (o : World) (g : List Sight) (long : length g ≡ length o.arrays) (m : Instances) (i t : ℕ) (rest : List Activation) (top : Operates m i rest) where
+module _ (s : Source) (ok : Typed s) (l : Limits) (o : World) (g : Marks) (long : length g.sights ≡ length o.arrays) (m : Instances) (i t : ℕ) (rest : List Activation) (top : Operates g.beneath m i rest) where
   abbrev Wk : List Item → List DeclNo → List Kinds → Type 0
   Wk w todo ks = Work s o g long m i t rest top w todo ks
 
@@ -56,25 +61,25 @@ module _ (s : Source) (ok : Typed s) (l : Limits) (o : World) (g : List Sight) (
   Bg todo = Begun s (see g o) m i t todo
 
   -- where a store is later, with all else as it was
-  module _ (g' : List Sight) (o' : World) (longer : length g' ≡ length o'.arrays) (n : Instances) (e : Later s (see g o) m (see g' o') n All) (copies : (j d : ℕ) → j < length m.instances → Copies (see g o) (see g' o') j d) (same : SameOnes m n) (store : StoreFine s (see g' o') n) where
-    below_later : (v : Waits) → ChainFine s (see g o) m i rest v → ChainFine s (see g' o') n i rest v
-    below_later v c = chain_later s (see g o) m (see g' o') n All e i (λ j d less. copies j d (let up = top.before in omega (arith, less, up))) rest (all_apart rest) v c
+  module _ (g' : Marks) (o' : World) (longer : length g'.sights ≡ length o'.arrays) (under : g'.beneath ≡ g.beneath) (n : Instances) (e : Later s (see g o) m (see g' o') n All) (copies : (j d : ℕ) → Copies (see g o) (see g' o') j d) (same : SameOnes m n) (store : StoreFine s (see g' o') n) where
+    below_later : (v : Waits) → ChainFine s (see g o) m rest v → ChainFine s (see g' o') n rest v
+    below_later v c = chain_later s (see g o) m (see g' o') n All e All (λ j d k. copies j d) (λ v. ⊥) (λ rest. rest ≡ []) rest (all_apart rest) (all_apart rest) v c
 
-    pub later_work : (w : List Item) (todo : List DeclNo) (ks : List Kinds) → Wk w todo ks → WorkFine s (see g' o') n (λ v. ChainFine s (see g' o') n i rest v) (rest ≡ []) i t w todo ks
-    later_work w todo ks a = work_later s (see g o) m (see g' o') n All e i t tt (rest ≡ []) (λ v. ChainFine s (see g o) m i rest v) (λ v. ChainFine s (see g' o') n i rest v) below_later w todo ks a
+    pub later_work : (w : List Item) (todo : List DeclNo) (ks : List Kinds) → Wk w todo ks → WorkFine s (see g' o') n (λ v. ChainFine s (see g' o') n rest v) (rest ≡ []) i t w todo ks
+    later_work w todo ks a = work_later s (see g o) m (see g' o') n All e i t tt (rest ≡ []) (λ v. ChainFine s (see g o) m rest v) (λ v. ChainFine s (see g' o') n rest v) below_later w todo ks a
 
     pub later_hands : (ks : List Kinds) (vals : List Val) → Hd ks vals → HandsFine s (see g' o') n i ks vals
-    later_hands ks vals h = hands_later s (see g o) m (see g' o') n All e i tt ks vals (copies i (length vals) top.before) h
+    later_hands ks vals h = hands_later s (see g o) m (see g' o') n All e i tt ks vals (copies i (length vals)) h
 
     pub later_with : (w : List Item) (vals : List Val) (todo' : List DeclNo) (ks : List Kinds) → (p : Present s n i t todo') → (p.now).text ≡ t → HandsFine s (see g' o') n i ks vals → Wk w todo' ks → IsFine s o' (record { chain = record { instance = i; work = w; values = vals } ∷ rest; memory = n })
-    later_with w vals todo' ks p own h work = goes_on s o' g' longer n i t rest (operates_on m n i rest same top) w vals todo' ks (record { store = store; here = p; own = own }) h (later_work w todo' ks work)
+    later_with w vals todo' ks p own h work = goes_on s o' g' longer n i t rest (subst (λ z. Operates z n i rest) (sym under) (operates_on g.beneath m n i rest same top)) w vals todo' ks (record { store = store; here = p; own = own }) h (later_work w todo' ks work)
 
     pub later_goes : (w : List Item) (vals : List Val) (todo : List DeclNo) (ks : List Kinds) → Bg todo → Hd ks vals → Wk w todo ks → IsFine s o' (record { chain = record { instance = i; work = w; values = vals } ∷ rest; memory = n })
     later_goes w vals todo ks b h work = later_with w vals todo ks (present_later s (see g o) m (see g' o') n All e i t todo tt b.here) (own_later s (see g o) m (see g' o') n All e i t todo tt b.here ∙ b.own) (later_hands ks vals h) work
 
   -- arrays stay as they are
-  pub same_copies : (j d : ℕ) → j < length m.instances → Copies (see g o) (see g o) j d
-  same_copies j d lt e k a less f = f
+  pub same_copies : (j d : ℕ) → Copies (see g o) (see g o) j d
+  same_copies j d e k a less f = f
 
   -- ---- a cell is set
 
@@ -87,7 +92,7 @@ module _ (s : Source) (ok : Typed s) (l : Limits) (o : World) (g : List Sight) (
       let holds : key_holds s x.text key ≡ Some q = f.holds c.around at key c.there ∙ c.holds in
       let r = cell_put s m j x key v p.lives (f.keys c.around at key c.there) in
       had (IsFine s) (cell_set m j key v) (with_instance m j (record x { cells = r.0 })) o (λ m. go o m i w vals rest) r.2
-      (later_goes g o long (with_instance m j (record x { cells = r.0 })) (later_cell s (see g o) m j x p.lives key v r.0 r.1) same_copies (same_cell s (see g o) m j x p.lives key v r.0 r.1)
+      (later_goes g o long refl (with_instance m j (record x { cells = r.0 })) (later_cell s (see g o) m j x p.lives key v r.0 r.1) same_copies (same_cell s (see g o) m j x p.lives key v r.0 r.1)
       (store_cell s (see g o) m j x p.lives key v r.0 r.1 q holds (plain_anywhere s (see g o) m i j q v flat fine) b.store) w vals todo ks b h work)
 
   made_now : (t : ℕ) (todo todo' : List DeclNo) (d : DeclNo) (v : Val) (hs cells : List Held) → held_set (Declared d.0) v hs ≡ Some cells → todo ≡ d ∷ todo' → Made s t todo hs → Made s t todo' cells
@@ -111,14 +116,14 @@ module _ (s : Source) (ok : Typed s) (l : Limits) (o : World) (g : List Sight) (
       let keys : (key : Key) → KeyAmong key (map key_of x.cells) → KeyAmong key (map key_of r.0) = λ key a. subst (KeyAmong key) (sym (keys_set (Declared d.0) v x.cells r.0 r.1)) a in
       let stays : (key : Key) → held key r.0 ≡ None → held key x.cells ≡ None = λ key a. held_stays (Declared d.0) v key x.cells r.0 r.1 a in
       had (IsFine s) (cell_set m i (Declared d.0) v) n o (λ m. go o m i w vals rest) r.2
-      (later_with g o long n e same_copies same store w vals todo' ks (record {
+      (later_with g o long refl n e same_copies same store w vals todo' ks (record {
         now = record x { cells = r.0 };
         lives = set_lives s (see g o) m i x p.lives r.0 keys stays;
         stands = own_text (same_is s x.text t b.own);
         words = p.words;
         has_text = p.has_text;
         made = made_now x.text todo todo' d v x.cells r.0 r.1 is p.made;
-      }) b.own (later_hands g o long n e same_copies same store ks vals h) work)
+      }) b.own (later_hands g o long refl n e same_copies same store ks vals h) work)
 
   -- ---- an element is set
 
@@ -129,8 +134,8 @@ module _ (s : Source) (ok : Typed s) (l : Limits) (o : World) (g : List Sight) (
       let e = later_element (see g o) m i h0 a n p f s in
       let set : element_set o a n p ≡ Some (with_arrays o now.real) = ap (λ z. element_set_in o a n p z (element o a n)) (f.array).lives ∙ ap (λ z. element_set_in o a n p (Some (f.array).it) z) q.1 in
       had (IsFine s) (element_set o a n p) (with_arrays o now.real) o (λ o. go o m i w vals rest) set
-      (later_goes g (with_arrays o now.real) (long ∙ sym (set_len o.arrays a (new (see g o) m i h0 a n p f))) m e (λ j d less. copies_element (see g o) m i h0 a n p f j d) (same_ones m)
-      (store_with s (see g o) now m e (elements_changed (see g o) m i h0 a n p f s is b.store.elements) b.store) w vals todo ks b h work)
+      (later_goes g (with_arrays o now.real) (long ∙ sym (set_len o.arrays a (new (see g o) m i h0 a n p f))) refl m e (λ j d. copies_element (see g o) m i h0 a n p f j d) (same_ones m)
+      (store_with s (see g o) now m e refl (λ j d. copies_element (see g o) m i h0 a n p f j d) (elements_changed (see g o) m i h0 a n p f s is b.store.elements) b.store) w vals todo ks b h work)
 
   pub putting_goes : (q : Holds) (p v : Val) (w : List Item) (vals : List Val) (todo : List DeclNo) (ks : List Kinds) → IsPlain q → HandFine s (see g o) m i (AddressOf q) p → ValFine s (see g o) m i q v → Bg todo → Hd ks vals → Wk w todo ks → Go (having (variable_in p) o (λ p. putting p v o m (λ o m. go o m i w vals rest)))
   unfolding putting
@@ -208,11 +213,12 @@ module _ (s : Source) (ok : Typed s) (l : Limits) (o : World) (g : List Sight) (
   fetched_goes q (Copied z) v w vals todo ks is f b h work = absurd is
   fetched_goes q (LinkTo z) v w vals todo ks is f b h work = absurd is
   fetched_goes q (Lasting z) v w vals todo ks is f b h work = absurd is
+  fetched_goes q Component v w vals todo ks is f b h work = absurd is
   fetched_goes q (ReferenceAddress z) v w vals todo ks is f b h work = absurd is
 
 -- ---- a text that is put back to where it came from
 
-module _ (s : Source) (ok : Typed s) (l : Limits) (o : World) (g : List Sight) (long : length g ≡ length o.arrays) (m : Instances) (i t : ℕ) (rest : List Activation) (top : Operates m i rest) (ticks words : ℕ) (store : Store) (w : List Item) (vals : List Val) (todo : List DeclNo) (ks : List Kinds) (b : Begun s (see g o) m i t todo) (h : HandsFine s (see g o) m i ks vals) (work : Work s o g long m i t rest top w todo ks) where
+module _ (s : Source) (ok : Typed s) (l : Limits) (o : World) (g : Marks) (long : length g.sights ≡ length o.arrays) (m : Instances) (i t : ℕ) (rest : List Activation) (top : Operates g.beneath m i rest) (ticks words : ℕ) (store : Store) (w : List Item) (vals : List Val) (todo : List DeclNo) (ks : List Kinds) (b : Begun s (see g o) m i t todo) (h : HandsFine s (see g o) m i ks vals) (work : Work s o g long m i t rest top w todo ks) where
   -- the world then
   abbrev Then : World
   Then = record (ran o ticks words) { store = store }
@@ -250,6 +256,7 @@ module _ (s : Source) (ok : Typed s) (l : Limits) (o : World) (g : List Sight) (
   put_text (Address p) x (Copied u) is a image = absurd is
   put_text (Address p) x (ReferenceAddress u) is a image = absurd is
   put_text (Address p) x (Lasting u) is a image = absurd is
+  put_text (Address p) x Component is a image = absurd is
 
   pub back_goes : (first : Option Val) (moved : Option TextVal) → AllBack (IsFine s) s o g m i store first moved → Goes (IsFine s) (putting_back put_back first moved Then m (λ p m. go p m i w vals rest))
   unfolding putting_back

@@ -20,7 +20,7 @@ use Rattle.sim_meaning.specs.Pending.{Declared, Held, Instances, Key, Result}
 use Rattle.sim_meaning.specs.Texts.{BlockText, ClassText, ConnectionText, PrefixedText, ProcedureText, Text, text}
 use Rattle.sim_sound.specs.Held.{Among, Around, Holds, In, InBound, IsFixed, Place, Seen, Sees, StandsAround, entry_holds, first, from_around, further, itself, later, own_fixed}
 use Rattle.sim_sound.specs.Typed.{Home, TextTyped, Typed, connected as past, stands}
-use Rattle.sim_sound.proofs.Sound.{AllArrays, Enclosed, InstanceFine, KeyAmong, Knows, Present, StandsFor, StoreFine, Whole, alone, connected, first_key, key_of, keys_in, later_key, own_cells, own_text, within}
+use Rattle.sim_sound.proofs.Sound.{AllArrays, Enclosed, InstanceFine, KeyAmong, Knows, Present, StandsFor, StoreFine, Whole, alone, connected, first_key, key_of, keys_in, later_key, no_further, one_out, outward as knows_outward, own_cells, own_text, within}
 use Rattle.sim_sound.proofs.Cells.{fine_at, none_among, own_level, stands_level_of}
 use Rattle.sim_sound.proofs.Lists.{equal_numbers, if_false, if_true, no_some, other_numbers, same_some}
 use Rattle.sim_sound.proofs.Moves.{knows_itself, knows_then}
@@ -129,12 +129,12 @@ module _ (s : Source) (ok : Typed s) (o : AllArrays) (m : Instances) where
             let d = level_number s ok f.solid at in
             omega (arith, a, b, c, d, e)
 
-        by_out : Enclosed s m i x.text x.encloser → Found (suc n) i u
+        by_out : Enclosed s o m i x.text x.encloser → Found (suc n) i u
         by_out (alone is none) = absurd (no_some (encloser s.tables x.text) near.0 none near.1)
-        by_out (within {e = e} {u = w} is around' less knows whole) =
+        by_out (within {e = e} {u = w} is around' less around_it whole) =
             let same : w ≡ near.0 = same_some (encloser s.tables x.text) w near.0 around' near.1 in
             let r = go e less (whole_level e x.text near.0 v near.1 near.2 (subst (Whole s m e) same whole)) in
-            record { instance = r.instance; found = further_found n (level_of s u) i e x lives differs is ∙ r.found; near = knows_then m i e r.instance knows r.near; whole = r.whole }
+            record { instance = r.instance; found = further_found n (level_of s u) i e x lives differs is ∙ r.found; near = knows_then s o m store i e r.instance (knows_outward (one_out lives is no_further)) r.near; whole = r.whole }
 
     walk : {t u : ℕ} → Around s.tables t u → (n i : ℕ) → i < n → Whole s m i t → Found n i u
     walk itself zero i lt whole = absurd (omega (arith, lt))

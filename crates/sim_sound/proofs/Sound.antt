@@ -1,8 +1,10 @@
 -- Which configurations have a rule for what is pending.
 use Rattle.std.proofs.Common.{◌≡◌, ◌<◌, ◌≤◌, ℕ, zero, suc, Bool, true, false, List, [], ◌∷◌, ◌++◌, length, map, Option, Some, None, ◌⊎◌}
-use Rattle.std.specs.Prelude.{slice_get, ◌*◌, ◌&&◌, not}
+use Rattle.std.specs.Prelude.{slice_get, ◌+◌, ◌*◌, ◌&&◌, not}
 use Rattle.sim_base.specs.declared.numbering.DeclNo.{DeclNo}
-use Rattle.sim_chains.specs.Components.{AttachedObject, DetachedObject, NoObject, Standing, TerminatedObject}
+use Rattle.sim_chains.specs.Chains.{outermost, times_on}
+use Rattle.sim_chains.specs.Components.{AttachedObject, DetachedObject, NoObject, ResumedObject, Standing, TerminatedObject}
+use Rattle.sim_chains.specs.WellFormed.{over_kept}
 use Rattle.sim_scope.specs.declared.types.Formal.{Formal}
 use Rattle.sim_scope.specs.declared.types.FormalKind.{FormalKind}
 use Rattle.sim_scope.specs.declared.types.FormalKind.TheVariants as shape
@@ -28,13 +30,14 @@ use Rattle.sim_code.specs.Outcome.{ArrayOf as OneArray, World}
 use Rattle.sim_code.specs.Arrays.{unless_given}
 use Rattle.sim_code.specs.Instances.{CellPlace, ElementPlace, ImagePlace, Instance, is_given_at_end, live}
 use Rattle.sim_code.specs.Running.{name_runs}
+use Rattle.sim_code.specs.Transfers.{Calling, Detaching, Transfer}
 use Rattle.sim_meaning.specs.Attributes.{cell_of_connection, is_connection}
 use Rattle.sim_meaning.specs.Closing.{class_parameters}
 use Rattle.sim_meaning.specs.Entries.{first_cells, formals_of, is_array_by_value, numbers_of}
 use Rattle.sim_meaning.specs.Levels.{has_levels}
 use Rattle.sim_meaning.specs.Meaning.{has_result}
 use Rattle.sim_meaning.specs.Objects.{attributes_from}
-use Rattle.sim_meaning.specs.Pending.{Activation, Address, AgainOp, ArrayOp, ArrayValue, AttributeOf, AttributeOp, BackOp, BranchOp, CallOf, CallOp, Cell, ChooseOp, Configuration, ConnectOp, CopyOf, CopyOp, Declared, DeclareOp, Do, DropOp, Either, ElementOf, ElementOp, ElementsOp, EndBlock, EndLevel, EndObject, EndPrefixed, EndProcedure, EndProgram, EnterOp, Eval, Exec, Execs, FetchOp, FitsOf, FitsOp, Further, Given, GiveOp, Held, IfOp, ImageOf, InnerOp, Instances, Item, JoinOp, Joined, KeepOp, KeptOf, Key, Level, LevelOp, Link, MemberOf, MemberOp, NewOf, NewOp, NoTerm, ObjectOp, Of, One, OneOp, Op, PastOp, PlaceOf, PrefixedOp, QuaOf, QuaOp, QualifiedElementOf, QualifiedElementOp, QualifiedPlaceOf, RaiseOp, ReferOp, RemoteCallOf, ShareOp, StandardOf, StandardOp, StepOp, StepTestOp, StoreOp, SwapOp, Target, Term, Terms, TestOp, ToAddress, ToCell, ToPlace, ToReference, ToReferenceAt, ToText, ToTextAt, ToTextOf, Two, TwoOp, Unbuilt, Val, ValueAt, WhenOp, WhileElementOp, held}
+use Rattle.sim_meaning.specs.Pending.{Activation, Address, AgainOp, ArrayOp, ArrayValue, AttributeOf, AttributeOp, BackOp, BranchOp, CallOf, CallOp, Cell, ChooseOp, Configuration, ConnectOp, CopyOf, CopyOp, Declared, DeclareOp, Do, DropOp, Either, ElementOf, ElementOp, ElementsOp, EndBlock, EndLevel, EndObject, EndPrefixed, EndProcedure, EndProgram, EnterOp, Eval, Exec, Execs, FetchOp, FitsOf, FitsOp, Further, Given, GiveOp, Held, IfOp, ImageOf, InnerOp, Instances, Item, JoinOp, Joined, KeepOp, KeptOf, Key, Level, LevelOp, Link, MemberOf, MemberOp, NewOf, NewOp, NoTerm, NotNoneOf, NotNoneOp, ObjectOp, Of, One, OneOp, Op, PastOp, PlaceOf, PrefixedOp, QuaOf, QuaOp, QualifiedElementOf, QualifiedElementOp, QualifiedPlaceOf, RaiseOp, ReferOp, RemoteCallOf, ShareOp, StandardOf, StandardOp, StepOp, StepTestOp, StoreOp, SwapOp, Target, Term, Terms, TestOp, ToAddress, ToCell, ToPlace, ToReference, ToReferenceAt, ToText, ToTextAt, ToTextOf, TransferOf, TransferOp, Two, TwoOp, Unbuilt, Val, ValueAt, WhenOp, WhileElementOp, held, owner}
 use Rattle.sim_meaning.specs.Texts.{BlockText, ClassText, PrefixedText, ProcedureText, Text, is_class_free, text}
 use Rattle.sim_sound.specs.Expressions.{ExprIs, TwoKinds, some_holds, standard_kind}
 use Rattle.sim_sound.specs.Held.{Among, ArrayOf, Fits, FitsIn, Holds, In, InBound, IsOfKind, Refers, Simply, formal_holds, key_holds, reference_to, result_holds}
@@ -50,10 +53,15 @@ pub record Stays (m : Instances) (j : ℕ) : Type 0 where
   pub lives : live m j ≡ Some now
   pub stays : (now.passing && not now.kept) ≡ false
 
--- What an instance may know: what stays; and one that is given back at its end knows of all that was there before it.
+-- the way outward, from encloser to encloser
+pub data Outward (m : Instances) : (j e : ℕ) → Type 0 where
+  no_further : {j : ℕ} → Outward m j j
+  one_out : {j f e : ℕ} {x : Instance (List Held)} → live m j ≡ Some x → x.encloser ≡ Some f → Outward m f e → Outward m j e
+
+-- What an instance may know: what stays, and its enclosers.
 pub data Knows (m : Instances) (j e : ℕ) : Type 0 where
   staying : Stays m e → Knows m j e
-  earlier : is_given_at_end m j ≡ true → e ≤ j → Knows m j e
+  outward : Outward m j e → Knows m j e
 
 -- ---- arrays
 
@@ -67,20 +75,36 @@ abbrev pub elements_of : Sight → Holds
 elements_of (Open h) = h
 elements_of (Hidden h home depth) = h
 
--- the arrays of a run, and who may know them
+-- what is noted beside a run: who may know its arrays, and on top of which instance each instance was entered, if of any
+pub record Marks : Type 0 where
+  pub sights : List Sight
+  pub beneath : List (Option ℕ)
+
+-- the arrays of a run, with what is noted
 pub record AllArrays : Type 0 where
   pub sights : List Sight
+  pub beneath : List (Option ℕ)
   pub real : List OneArray
 
-abbrev pub see : List Sight → World → AllArrays
-see g o = record { sights = g; real = o.arrays }
+abbrev pub see : Marks → World → AllArrays
+see g o = record { sights = g.sights; beneath = g.beneath; real = o.arrays }
+
+-- what is below an instance on its chain, through those that are given back at their end: it stays there until they end
+pub data Beneath (o : AllArrays) (m : Instances) : (j e : ℕ) → Type 0 where
+  at_itself : {j : ℕ} → Beneath o m j j
+  one_lower : {j k e : ℕ} → is_given_at_end m j ≡ true → slice_get o.beneath j ≡ Some (Some k) → Beneath o m k e → Beneath o m j e
+
+-- What is there for as long as an instance is: what stays, and what is below it.
+pub data Near (o : AllArrays) (m : Instances) (j e : ℕ) : Type 0 where
+  near_staying : Stays m e → Near o m j e
+  near_below : Beneath o m j e → Near o m j e
 
 -- an array that stays for as long as an instance, as many elements as it has bounds for
 pub record ArrayFine (o : AllArrays) (m : Instances) (j : ℕ) (h : Holds) (a : ℕ) : Type 0 where
   pub it : OneArray
   pub lives : unless_given (slice_get o.real a) ≡ Some it
   pub known : slice_get o.sights a ≡ Some (Open h)
-  pub owned : (it.kept ≡ true) ⊎ Knows m j it.owner
+  pub owned : (it.kept ≡ true) ⊎ Near o m j it.owner
   pub count : length it.elements ≡ element_count it.bounds
 
 -- an array that is kept
@@ -194,10 +218,10 @@ CellsFine s o m j t (h ∷ hs) = CellFine s o m j (key_holds s t h.key) h.value 
 
 -- ---- the store
 
--- The encloser of an instance of a text is older, is known to it, and is a whole one of the text around.
-pub data Enclosed (s : Source) (m : Instances) (j t : ℕ) (out : Option ℕ) : Type 0 where
-  alone : out ≡ None → encloser s.tables t ≡ None → Enclosed s m j t out
-  within : {e u : ℕ} → out ≡ Some e → encloser s.tables t ≡ Some u → e < j → Knows m j e → Whole s m e u → Enclosed s m j t out
+-- The encloser of an instance of a text is older, is there for as long as it is, and is a whole one of the text around.
+pub data Enclosed (s : Source) (o : AllArrays) (m : Instances) (j t : ℕ) (out : Option ℕ) : Type 0 where
+  alone : out ≡ None → encloser s.tables t ≡ None → Enclosed s o m j t out
+  within : {e u : ℕ} → out ≡ Some e → encloser s.tables t ≡ Some u → e < j → Near o m j e → Whole s m e u → Enclosed s o m j t out
 
 -- An instance is as its text says: it has the cells of all its levels, each holds what it should, and it is given back at its end if the text is class-free.
 pub record InstanceFine (s : Source) (o : AllArrays) (m : Instances) (j : ℕ) (x : Instance (List Held)) : Type 0 where
@@ -208,23 +232,12 @@ pub record InstanceFine (s : Source) (o : AllArrays) (m : Instances) (j : ℕ) (
   pub cells : CellsFine s o m j x.text x.cells
   pub ends : x.passing ≡ is_class_free s x.text
   pub not_kept : x.kept ≡ false
-  pub out : Enclosed s m j x.text x.encloser
-
--- Each instance that was not given back is as its text says, wherever it stands, and each element of an array holds what the array's do.
-pub record StoreFine (s : Source) (o : AllArrays) (m : Instances) : Type 0 where
-  pub instances : (j : ℕ) (x : Instance (List Held)) → live m j ≡ Some x → InstanceFine s o m j x
-  pub elements : (a i : ℕ) (it : OneArray) (x : Sight) (p : Plain) → unless_given (slice_get o.real a) ≡ Some it → slice_get o.sights a ≡ Some x → slice_get it.elements i ≡ Some p → PlainFine s m (elements_of x) p
-
--- an instance whose arrays are made but for these, in such a store
-pub record Begun (s : Source) (o : AllArrays) (m : Instances) (j t : ℕ) (todo : List DeclNo) : Type 0 where
-  pub store : StoreFine s o m
-  pub here : Present s m j t todo
-  pub own : (here.now).text ≡ t
+  pub out : Enclosed s o m j x.text x.encloser
 
 -- ---- values in hand
 
 -- a value; where a variable or an element lies; where a reference lies, with its qualification; where an image lies; an instance of a text; a
--- copy for a parameter by value; an array that is kept
+-- copy for a parameter by value; an array that is kept; an object
 pub data Kinds : Type 0 where
   Value : Holds → Kinds
   AddressOf : Holds → Kinds
@@ -233,6 +246,7 @@ pub data Kinds : Type 0 where
   LinkTo : (text : ℕ) → Kinds
   Copied : Holds → Kinds
   Lasting : Holds → Kinds
+  Component : Kinds
 
 pub record ElementFine (o : AllArrays) (m : Instances) (j : ℕ) (h : Holds) (a n : ℕ) : Type 0 where
   pub array : ArrayFine o m j h a
@@ -262,6 +276,7 @@ HandFine s o m j (ReferenceAddress c) (Address (CellPlace e key (Some k))) = (k 
 HandFine s o m j ImageAddress (Address (ImagePlace n)) = IsImage n
 HandFine s o m j (LinkTo u) (Link e) = Knows m j e × Whole s m e u
 HandFine s o m j (Lasting h) (ArrayValue a) = KeptFine o h a
+HandFine s o m j Component (Of (Object i)) = (c : ℕ) × ObjectOf s m i c
 HandFine s o m j _ _ = ⊥
 
 -- with so many values below
@@ -274,6 +289,7 @@ DeepFine s o m j d (ReferenceAddress c) v = HandFine s o m j (ReferenceAddress c
 DeepFine s o m j d ImageAddress v = HandFine s o m j ImageAddress v
 DeepFine s o m j d (LinkTo u) v = HandFine s o m j (LinkTo u) v
 DeepFine s o m j d (Lasting h) v = HandFine s o m j (Lasting h) v
+DeepFine s o m j d Component v = HandFine s o m j Component v
 
 abbrev pub HandsFine : Source → AllArrays → Instances → ℕ → List Kinds → List Val → Type 0
 HandsFine s o m j [] [] = Unit {0}
@@ -401,6 +417,11 @@ OperandsAre (k ∷ ks) (x ∷ xs) = OperandIs k x × OperandsAre ks xs
 abbrev pub Comes : Source → Holds → Option Kinds → Type 0
 Comes s h g = (h' : Holds) × Fits s h h' × (Some (Value h') ≡ g)
 
+-- what `detach` and `call` take: an object, and any reference
+abbrev pub component_kind : Transfer → Kinds
+component_kind Detaching = Component
+component_kind Calling = Value (Simply kind.Reference)
+
 abbrev mutual
   -- in an instance j of the text t
   pub TermFine : Source → Instances → (j t : ℕ) → List DeclNo → Term → Option Kinds → Type 0
@@ -427,6 +448,8 @@ abbrev mutual
   TermFine s m j t todo (QuaOf c line a) g = Comes s (Refers c) g × TermFine s m j t todo a (simple kind.Reference)
   TermFine s m j t todo (FitsOf c line a) g = Comes s (Refers c) g × TermFine s m j t todo a (simple kind.Reference)
   TermFine s m j t todo (KeptOf a) g = (h : Holds) × (Some (Lasting h) ≡ g) × TermFine s m j t todo a (Some (Value (ArrayOf h)))
+  TermFine s m j t todo (NotNoneOf line a) g = (Some Component ≡ g) × TermFine s m j t todo a (simple kind.Reference)
+  TermFine s m j t todo (TransferOf x line a) g = (None ≡ g) × TermFine s m j t todo a (Some (component_kind x))
   TermFine s m j t todo Unbuilt g = ⊥
 
   pub IntegersFine : Source → Instances → (j t : ℕ) → List DeclNo → Terms → Type 0
@@ -596,6 +619,8 @@ OpFine s o m j t (QualifiedElementOp n line c) todo todo' before behind = (left 
 OpFine s o m j t (MemberOp member c) todo todo' before behind = (left : List Kinds) × (before ≡ Value (Simply kind.Reference) ∷ left) × (behind ≡ Value (Simply kind.Boolean) ∷ left) × (todo' ≡ todo)
 OpFine s o m j t (QuaOp c line) todo todo' before behind = (h : Holds) × (left : List Kinds) × Fits s (Refers c) h × (before ≡ Value (Simply kind.Reference) ∷ left) × (behind ≡ Value h ∷ left) × (todo' ≡ todo)
 OpFine s o m j t (FitsOp c line) todo todo' before behind = (h : Holds) × (left : List Kinds) × Fits s (Refers c) h × (before ≡ Value (Simply kind.Reference) ∷ left) × (behind ≡ Value h ∷ left) × (todo' ≡ todo)
+OpFine s o m j t (NotNoneOp line) todo todo' before behind = (left : List Kinds) × (before ≡ Value (Simply kind.Reference) ∷ left) × (behind ≡ Component ∷ left) × (todo' ≡ todo)
+OpFine s o m j t (TransferOp x line) todo todo' before behind = (before ≡ component_kind x ∷ behind) × (todo' ≡ todo)
 OpFine s o m j t KeepOp todo todo' before behind = (h : Holds) × (left : List Kinds) × (before ≡ Value (ArrayOf h) ∷ left) × (behind ≡ Lasting h ∷ left) × (todo' ≡ todo)
 -- values in hand, and assignments
 OpFine s o m j t DropOp todo todo' before behind = (k : Kinds) × (before ≡ k ∷ behind) × (todo' ≡ todo)
@@ -637,11 +662,16 @@ OpFine s o m j t (PrefixedOp k n line) todo todo' before behind = (todo ≡ []) 
 -- an instance that is an object's
 abbrev pub IsObject : Standing Activation → Type 0
 IsObject AttachedObject = Unit {0}
+IsObject (DetachedObject chain) = Unit {0}
 IsObject TerminatedObject = Unit {0}
 IsObject _ = ⊥
 
 abbrev pub ObjectStands : Instances → ℕ → Type 0
 ObjectStands m j = (x : Standing Activation) × (slice_get m.standings j ≡ Some x) × IsObject x
+
+-- and one that is none
+abbrev pub NoObjectStands : Instances → ℕ → Type 0
+NoObjectStands m j = slice_get m.standings j ≡ Some (NoObject None)
 
 -- What an activation waits for: a value or none, which is put in its hand; or that the object ends, or lets go, that it generated, whose
 -- reference it has in hand already.
@@ -649,50 +679,27 @@ pub data Waits : Type 0 where
   Takes : Option Kinds → Waits
   Generated : (object class : ℕ) → Waits
 
+-- what waits when an object of a text ends, or detaches itself: what generated it; or what called it, which has no reference in hand for it
+abbrev pub IsRelease : (object class : ℕ) → Waits → Type 0
+IsRelease j t (Takes None) = Unit {0}
+IsRelease j t (Takes (Some k)) = ⊥
+IsRelease j t (Generated i u) = (i ≡ j) × (u ≡ t)
+
 -- The pending work of an instance. `Below` tells what is below on the chain where it waits for this; `Outermost` that nothing is.
 abbrev pub WorkFine : Source → AllArrays → Instances → (Below : Waits → Type 0) → (Outermost : Type 0) → (j t : ℕ) → List Item → (todo : List DeclNo) → (before : List Kinds) → Type 0
 WorkFine s o m Below Outermost j t [] todo before = ⊥
 WorkFine s o m Below Outermost j t (Do op ∷ w) todo before = (todo' : List DeclNo) × (behind : List Kinds) × OpFine s o m j t op todo todo' before behind × WorkFine s o m Below Outermost j t w todo' behind
-WorkFine s o m Below Outermost j t (EndBlock ∷ w) todo before = Below (Takes None)
+WorkFine s o m Below Outermost j t (EndBlock ∷ w) todo before = NoObjectStands m j × Below (Takes None)
 WorkFine s o m Below Outermost j t (EndProcedure leaves ∷ w) todo before =
-    (result : Option TypeName) × (heading : Heading) × (body : Statement) × (text s t ≡ Some (ProcedureText result heading body)) × (has_result result ≡ leaves) × (g : Option Kinds) × GivesResult s t g × Below (Takes g)
+    (result : Option TypeName) × (heading : Heading) × (body : Statement) × (text s t ≡ Some (ProcedureText result heading body)) × (has_result result ≡ leaves) × (g : Option Kinds) × GivesResult s t g × NoObjectStands m j × Below (Takes g)
 WorkFine s o m Below Outermost j t (EndLevel k ∷ w) todo before = WorkFine s o m Below Outermost j t w todo before
--- an object that is attached, with its arrays
+-- an object, with its arrays
 WorkFine s o m Below Outermost j t (EndObject ∷ w) todo before =
-    (todo ≡ []) × (is_class_free s t ≡ false) × (has_levels (text s t) ≡ true) × ObjectStands m j × Below (Generated j t)
-WorkFine s o m Below Outermost j t (EndPrefixed ∷ w) todo before = Below (Takes None)
-WorkFine s o m Below Outermost j t (EndProgram ∷ w) todo before = Outermost
+    (todo ≡ []) × (is_class_free s t ≡ false) × (has_levels (text s t) ≡ true) × ObjectStands m j × (v : Waits) × IsRelease j t v × Below v
+WorkFine s o m Below Outermost j t (EndPrefixed ∷ w) todo before = NoObjectStands m j × Below (Takes None)
+WorkFine s o m Below Outermost j t (EndProgram ∷ w) todo before = NoObjectStands m j × Outermost
 
 -- ---- chains
-
--- no chain is kept: no system head waits, no object is detached
-abbrev pub KeepsNone : Standing Activation → Type 0
-KeepsNone (NoObject (Some chain)) = ⊥
-KeepsNone (DetachedObject chain) = ⊥
-KeepsNone _ = Unit {0}
-
--- and each instance stands in some way
-pub record NothingKept (m : Instances) : Type 0 where
-  pub none : (j : ℕ) (x : Standing Activation) → slice_get m.standings j ≡ Some x → KeepsNone x
-  pub as_many : length m.standings ≡ length m.instances
-
--- where an instance stands on a chain
-abbrev pub OnChain : ℕ → List Activation → Type 0
-OnChain j [] = ⊥
-OnChain j (a ∷ rest) = (j ≡ a.instance) ⊎ OnChain j rest
-
--- each instance that is given back at its end, and was not, is on a chain; no object on it is terminated
-abbrev pub AllWhere : Instances → (On : ℕ → Type 0) → Type 0
-AllWhere m On = ((j : ℕ) → is_given_at_end m j ≡ true → On j) × ((j : ℕ) → On j → slice_get m.standings j ≡ Some TerminatedObject → ⊥)
-
-abbrev pub AllOn : Instances → List Activation → Type 0
-AllOn m chain = AllWhere m (λ j. OnChain j chain)
-
--- The instance i operates, on top of the rest of the chain: no instance that is given back at its end is on neither, and there is no other chain.
-pub record Operates (m : Instances) (i : ℕ) (rest : List Activation) : Type 0 where
-  pub before : i < length m.instances
-  pub all : AllWhere m (λ j. (j ≡ i) ⊎ OnChain j rest)
-  pub parked : NothingKept m
 
 -- the values in hand but for the reference to an object that was generated
 abbrev pub Shown : Waits → (all vals : List Val) → Type 0
@@ -704,12 +711,21 @@ abbrev pub Expected : Source → Waits → (kinds then : List Kinds) → Type 0
 Expected s (Takes g) ks xs = given g ks ≡ xs
 Expected s (Generated j class) ks xs = (h : Holds) × Fits s (Refers class) h × (Value h ∷ ks ≡ xs)
 
-pub record ActFine (s : Source) (o : AllArrays) (m : Instances) (bound : ℕ) (a : Activation) (waits : Waits) (Below : Waits → Type 0) (Outermost : Type 0) : Type 0 where
-  pub before : a.instance < bound
+-- the instance that stands first on a chain
+abbrev pub first_of : List Activation → Option ℕ
+first_of [] = None
+first_of (a ∷ rest) = Some a.instance
+
+-- what is given back at its end stands on that on which it was entered
+abbrev pub StandsOn : (beneath : List (Option ℕ)) → Instances → (j : ℕ) → Option ℕ → Type 0
+StandsOn beneath m j under = is_given_at_end m j ≡ true → slice_get beneath j ≡ Some under
+
+pub record ActFine (s : Source) (o : AllArrays) (m : Instances) (a : Activation) (under : Option ℕ) (waits : Waits) (Below : Waits → Type 0) (Outermost : Type 0) : Type 0 where
   pub of_text : ℕ
   pub todo : List DeclNo
   pub here : Present s m a.instance of_text todo
   pub own : (here.now).text ≡ of_text
+  pub on : StandsOn o.beneath m a.instance under
   pub vals : List Val
   pub shown : Shown waits a.values vals
   pub kinds : List Kinds
@@ -718,12 +734,68 @@ pub record ActFine (s : Source) (o : AllArrays) (m : Instances) (bound : ℕ) (a
   pub expects : Expected s waits kinds expected
   pub goes : WorkFine s o m Below Outermost a.instance of_text a.work todo expected
 
--- the numbers of the instances on a chain fall; something is there
-abbrev pub ChainFine : Source → AllArrays → Instances → (bound : ℕ) → List Activation → (waits : Waits) → Type 0
-ChainFine s o m bound [] waits = ⊥
-ChainFine s o m bound (a ∷ rest) waits = ActFine s o m bound a waits (λ v. ChainFine s o m a.instance rest v) (rest ≡ [])
+-- The instances on a chain. `Ground` tells what its last one may wait for, and `Outermost` where the program may end: above what rest.
+abbrev pub ChainOn : Source → AllArrays → Instances → (Ground : Waits → Type 0) → (Outermost : List Activation → Type 0) → List Activation → (waits : Waits) → Type 0
+ChainOn s o m Ground Outermost [] waits = Ground waits
+ChainOn s o m Ground Outermost (a ∷ rest) waits = ActFine s o m a (first_of rest) waits (λ v. ChainOn s o m Ground Outermost rest v) (Outermost rest)
+
+-- the operating chain: nothing is below it
+abbrev pub ChainFine : Source → AllArrays → Instances → List Activation → (waits : Waits) → Type 0
+ChainFine s o m chain waits = ChainOn s o m (λ v. ⊥) (λ rest. rest ≡ []) chain waits
+
+-- the chain that a detached object keeps, which is the last one on it: when it ends, what called it goes on
+pub record KeptChain (s : Source) (o : AllArrays) (m : Instances) (j : ℕ) (chain : List Activation) : Type 0 where
+  pub stays : Stays m j
+  pub last : outermost owner chain ≡ Some j
+  pub fine : ChainOn s o m (λ v. v ≡ Takes None) (λ rest. ⊥) chain (Takes None)
+
+-- how an instance stands: no system head keeps a chain, and no object is resumed
+abbrev pub StandsFine : Source → AllArrays → Instances → ℕ → Standing Activation → Type 0
+StandsFine s o m j (NoObject None) = Unit {0}
+StandsFine s o m j (NoObject (Some chain)) = ⊥
+StandsFine s o m j AttachedObject = Unit {0}
+StandsFine s o m j (DetachedObject chain) = KeptChain s o m j chain
+StandsFine s o m j ResumedObject = ⊥
+StandsFine s o m j TerminatedObject = Unit {0}
+
+-- ---- the store
+
+-- Each instance that was not given back is as its text says, wherever it stands; each element of an array holds what the array's do; and so is
+-- all that stands on the chains that are kept.
+pub record StoreFine (s : Source) (o : AllArrays) (m : Instances) : Type 0 where
+  pub instances : (j : ℕ) (x : Instance (List Held)) → live m j ≡ Some x → InstanceFine s o m j x
+  pub elements : (a i : ℕ) (it : OneArray) (x : Sight) (p : Plain) → unless_given (slice_get o.real a) ≡ Some it → slice_get o.sights a ≡ Some x → slice_get it.elements i ≡ Some p → PlainFine s m (elements_of x) p
+  pub kept : (j : ℕ) (x : Standing Activation) → slice_get m.standings j ≡ Some x → StandsFine s o m j x
+  pub noted : length o.beneath ≡ length m.instances
+
+-- an instance whose arrays are made but for these, in such a store
+pub record Begun (s : Source) (o : AllArrays) (m : Instances) (j t : ℕ) (todo : List DeclNo) : Type 0 where
+  pub store : StoreFine s o m
+  pub here : Present s m j t todo
+  pub own : (here.now).text ≡ t
+
+-- ---- where instances stand
+
+-- on how many places of the operating chain and of those that are kept an instance stands
+abbrev pub places : Instances → List Activation → ℕ → ℕ
+places m chain j = times_on owner j chain + over_kept (times_on owner j) m.standings
+
+-- Each instance stands on one place at most, and does so where it is given back at its end and was not; an object that is terminated stands
+-- nowhere.
+pub record Placed (m : Instances) (chain : List Activation) : Type 0 where
+  pub once : (j : ℕ) → places m chain j ≤ 1
+  pub made : (j : ℕ) → length m.instances ≤ j → places m chain j ≡ 0
+  pub ended : (j : ℕ) → slice_get m.standings j ≡ Some TerminatedObject → places m chain j ≡ 0
+  pub all : (j : ℕ) → is_given_at_end m j ≡ true → 0 < places m chain j
+  pub as_many : length m.standings ≡ length m.instances
+
+-- The instance i operates, on top of the rest of the chain.
+pub record Operates (beneath : List (Option ℕ)) (m : Instances) (i : ℕ) (rest : List Activation) : Type 0 where
+  pub before : i < length m.instances
+  pub on : StandsOn beneath m i (first_of rest)
+  pub placed : Placed m (record { instance = i; work = []; values = [] } ∷ rest)
 
 -- before the first step there is nothing
 pub data Fine (s : Source) (o : AllArrays) (c : Configuration) : Type 0 where
-  opens : c.chain ≡ [] → (c.memory).instances ≡ [] → o.sights ≡ [] → NothingKept c.memory → Fine s o c
-  runs : StoreFine s o c.memory → AllOn c.memory c.chain → NothingKept c.memory → ChainFine s o c.memory (length (c.memory).instances) c.chain (Takes None) → Fine s o c
+  opens : c.chain ≡ [] → (c.memory).instances ≡ [] → (c.memory).standings ≡ [] → o.sights ≡ [] → o.beneath ≡ [] → Fine s o c
+  runs : StoreFine s o c.memory → Placed c.memory c.chain → ChainFine s o c.memory c.chain (Takes None) → Fine s o c

@@ -26,29 +26,31 @@ use Rattle.sim_code.specs.Outcome.{World}
 use Rattle.sim_meaning.specs.Meaning.{do_op}
 use Rattle.sim_meaning.specs.Steps.{count, each, go}
 use Rattle.sim_scope.specs.Levels.{base}
-use Rattle.sim_scope.specs.Source.{Source, block_around, denoted, level_of, line_at}
+use Rattle.sim_scope.specs.Source.{Source, block_around, denoted, found_at, level_of, line_at}
 use Rattle.sim_code.specs.Instances.{at_level}
-use Rattle.sim_meaning.specs.Attributes.{connection_at}
-use Rattle.sim_meaning.specs.Closing.{Left, LeftAddress, LeftCell, LeftReference, LeftText, LeftUnbuilt, class_parameters, close, close_parameters, close_place, declared_left, formal_left, home_of, is_text, left_found, left_in, left_variable, named_left, reference_place}
+use Rattle.sim_code.specs.Transfers.{Transfer}
+use Rattle.sim_meaning.specs.Attributes.{connection_at, transfer_at}
+use Rattle.sim_meaning.specs.Closing.{Left, LeftAddress, LeftCell, LeftReference, LeftText, LeftUnbuilt, class_parameters, close, close_parameters, close_place, declared_left, formal_left, home_of, is_text, left_found, left_in, left_variable, named_left, reference_place, stream_of}
 use Rattle.sim_meaning.specs.Levels.{has_levels, levels_inside, text_at}
 use Rattle.sim_meaning.specs.Pending.{Activation, AgainOp, BackOp, BranchOp, ChooseOp, Configuration, ConnectOp, Do, DropOp, ElementsOp, EnterOp, Eval, Exec, Execs, InnerOp, Instances, Item, Key, Op, PrefixedOp, RaiseOp, StepOp, StepTestOp, StoreOp, Target, Term, TestOp, ToAddress, ToCell, ToPlace, ToReference, ToReferenceAt, ToText, ToTextAt, ToTextOf, TwoOp, Val, WhenOp, WhileElementOp}
 use Rattle.sim_meaning.specs.Statements.{assigned, assigning, begin_of, compound, controlled, controlled_left, dropping, elements, entered_at, exec, execs, finding, first_branch, inner_begun, leaves, lefts, levels_of_instance, looping, prefix_begun, raised, reading, step_tested, while_element}
 use Rattle.sim_meaning.specs.Texts.{text}
-use Rattle.sim_sound.specs.Held.{Holds, In, Simply, reference_to}
-use Rattle.sim_sound.specs.Expressions.{ActualsFit, ExprIs}
-use Rattle.sim_sound.specs.Statements.{CallIs, CompoundIs, ControlIs, ElementsAre, InnerIs, PrefixedIs, StatementIs, StatementsAre, is_given}
+use Rattle.sim_sound.specs.Held.{Holds, In, Refers, Simply, reference_to}
+use Rattle.sim_sound.specs.Expressions.{ActualsFit, AreIntegers, AreOf, DotGives, ExprIs, NamedGives}
+use Rattle.sim_sound.specs.Statements.{CallIs, CompoundIs, ControlIs, ElementsAre, InnerIs, OrTransferIs, PrefixedIs, StatementIs, StatementsAre, TransferIs, is_given}
 use Rattle.sim_sound.specs.Typed.{Typed}
 use Rattle.sim_sound.proofs.Assigns.{Found, assigning_fine, lefts_found}
 use Rattle.sim_sound.proofs.Cells.{own_level, site_whole}
 use Rattle.sim_sound.proofs.ClassLevels.{all_levels_of, inside_are, levels_are, levels_fine}
-use Rattle.sim_sound.proofs.Closing.{class_fine, dot_fine, expr_fine, given_fine}
+use Rattle.sim_sound.proofs.Calls.{transfer_leaves_none}
+use Rattle.sim_sound.proofs.Closing.{class_fine, detach_fine, dot_fine, expr_fine, given_fine, transfer_fine, transfer_in}
 use Rattle.sim_sound.proofs.Evals.{IsFine, Rest, Work, goes_on, prefix_work}
 use Rattle.sim_sound.proofs.Fitting.{text_there}
 use Rattle.sim_sound.proofs.Lefts.{LeftFine, reference_is, variable_fine}
 use Rattle.sim_sound.proofs.Lifts.{Goes, chosen, had, ran, ticked, truth_popped}
 use Rattle.sim_sound.proofs.Prefixes.{LevelOf, class_has, class_solid, level_of_levels}
 use Rattle.sim_sound.proofs.Reach.{Reaches, ReachesText, reaches_in, text_in}
-use Rattle.sim_sound.proofs.Sound.{AddressOf, Begun, HandsFine, Kinds, LevelsFine, OpFine, Operates, Sight, Site, TermFine, TermsFine, Value, VariableFine, Whole, class_kinds, given, held_kinds, in_instance as at_cell, see, simple, value_stored}
+use Rattle.sim_sound.proofs.Sound.{AddressOf, Begun, HandsFine, Kinds, LevelsFine, Marks, OpFine, Operates, Site, TermFine, TermsFine, Value, VariableFine, Whole, class_kinds, given, held_kinds, in_instance as at_cell, see, simple, value_stored}
 
 -- ---- a variable as a left side is a cell, or is found by a tree
 
@@ -85,30 +87,38 @@ found_cell : (c : Option ℕ) (place : Term) (other : Left) → IsCell other →
 found_cell None place other a = a
 found_cell (Some k) place other a = tt
 
-module _ (s : Source) (ok : Typed s) (l : Limits) (o : World) (sights : List Sight) (long : length sights ≡ length o.arrays) (m : Instances) (i t : ℕ) (rest : List Activation) (top : Operates m i rest) (w : List Item) (vals : List Val) (ks : List Kinds) (b : Begun s (see sights o) m i t []) (h : HandsFine s (see sights o) m i ks vals) (work : Work s o sights long m i t rest top w [] ks) (u : ℕ) (site : Site s m i u) where
+module _ (s : Source) (ok : Typed s) (l : Limits) (o : World) (marks : Marks) (long : length marks.sights ≡ length o.arrays) (m : Instances) (i t : ℕ) (rest : List Activation) (top : Operates marks.beneath m i rest) (w : List Item) (vals : List Val) (ks : List Kinds) (b : Begun s (see marks o) m i t []) (h : HandsFine s (see marks o) m i ks vals) (work : Work s o marks long m i t rest top w [] ks) (u : ℕ) (site : Site s m i u) where
   abbrev P : World → Configuration → Type 0
   P = IsFine s
 
   abbrev Wk : List Item → List Kinds → Type 0
-  Wk w ks = Work s o sights long m i t rest top w [] ks
+  Wk w ks = Work s o marks long m i t rest top w [] ks
 
   here : Whole s m i u
-  here = site_whole s (see sights o) m i t u b site
+  here = site_whole s (see marks o) m i t u b site
 
   reach : Reaches s m i (In u)
-  reach = reaches_in s ok (see sights o) m b.store i u here
+  reach = reaches_in s ok (see marks o) m b.store i u here
 
   around : ReachesText s m i (In u)
-  around = text_in s ok (see sights o) m b.store i u here
+  around = text_in s ok (see marks o) m b.store i u here
 
   goes : (w : List Item) → Wk w ks → IsFine s o (record { chain = record { instance = i; work = w; values = vals } ∷ rest; memory = m })
-  goes w x = goes_on s o sights long m i t rest top w vals [] ks b h x
+  goes w x = goes_on s o marks long m i t rest top w vals [] ks b h x
 
   closed : (e : Expression) (g : Holds) → ExprIs s (In u) e g → TermFine s m i t [] (close s m i e) (Some (Value g))
-  closed e g a = expr_fine s ok (see sights o) m b.store i t [] (In u) reach around e g a
+  closed e g a = expr_fine s ok (see marks o) m b.store i t [] (In u) reach around e g a
 
   evals : (e : Expression) (g : Holds) (w : List Item) (ks : List Kinds) → ExprIs s (In u) e g → Wk w (Value g ∷ ks) → Wk (Do (Eval (close s m i e)) ∷ w) ks
   evals e g w ks a x = ([], Value g ∷ ks, (Some (Value g), closed e g a, refl, refl), x)
+
+  -- ---- calls
+
+  abbrev NamedIs : Identifier → Expressions → Type 0
+  NamedIs name es = (h : Option Holds) × NamedGives s (In u) (connection_at s name.token.0) (denoted s name.token.0) es (AreIntegers s (In u) es) (λ ks. AreOf s (In u) es ks) (λ fs. ActualsFit s (In u) es fs) h × (leaves s (syntax.Named name es) ≡ is_given h)
+
+  abbrev DotIs : Expression → Identifier → Expressions → Bool → Type 0
+  DotIs x name es left = (h : Option Holds) × DotGives s (denoted s name.token.0) (stream_of s x) (ExprIs s (In u) x (Simply kind.Text)) (λ c. ExprIs s (In u) x (Refers c)) es (AreIntegers s (In u) es) (λ ks. AreOf s (In u) es ks) (λ fs. ActualsFit s (In u) es fs) h × (left ≡ is_given h)
 
   -- ---- statements
 
@@ -123,29 +133,43 @@ module _ (s : Source) (ok : Typed s) (l : Limits) (o : World) (sights : List Sig
   dropped (Some g) true e = ([], ks, (Value g, refl, refl), work)
   dropped (Some g) false e = absurd (cc)
 
+  -- a transfer of control leaves no value
+  transferred : (e : Expression) → TermFine s m i t [] (close s m i e) None → leaves s e ≡ false → Wk (Do (Eval (close s m i e)) ∷ dropping (leaves s e) w) ks
+  transferred e fine none = ([], ks, (None, fine, refl, refl), dropped None (leaves s e) none)
+
+  named_goes : (name : Identifier) (es : Expressions) (x : Option Transfer) → transfer_at s name.token.0 ≡ x → OrTransferIs x (λ c. TransferIs s u c (found_at s name.token.0) es) (NamedIs name es) → Wk (Do (Eval (close s m i (syntax.Named name es))) ∷ dropping (leaves s (syntax.Named name es)) w) ks
+  named_goes name es None e a =
+      ([], given (held_kinds a.0) ks, (held_kinds a.0, given_fine s ok (see marks o) m b.store i t [] (In u) reach around name es a.0 a.1, refl, refl), dropped a.0 (leaves s (syntax.Named name es)) a.2)
+  named_goes name es (Some c) e a =
+      transferred (syntax.Named name es) (transfer_fine s ok (see marks o) m b.store i t [] (In u) reach around name es c e (transfer_in s u c (found_at s name.token.0) es a)) (transfer_leaves_none s name.token.0 c e)
+
+  dot_goes : (token : ℕ) (x : Expression) (name : Identifier) (es : Expressions) (y : Option Transfer) → transfer_at s name.token.0 ≡ y → OrTransferIs y (λ c. ExprIs s (In u) x (Simply kind.Reference) × AreOf s (In u) es []) (DotIs x name es (leaves s (syntax.Dot token x name es))) → Wk (Do (Eval (close s m i (syntax.Dot token x name es))) ∷ dropping (leaves s (syntax.Dot token x name es)) w) ks
+  dot_goes token x name es None e a =
+      ([], given (held_kinds a.0) ks, (held_kinds a.0, dot_fine s ok (see marks o) m b.store i t [] (In u) reach around token x name es a.0 a.1, refl, refl), dropped a.0 (leaves s (syntax.Dot token x name es)) a.2)
+  dot_goes token x name es (Some c) e a =
+      transferred (syntax.Dot token x name es) (detach_fine s ok (see marks o) m b.store i t [] (In u) reach around token x name es c e a.0) (transfer_leaves_none s name.token.0 c e)
+
   call_goes : (e : Expression) → CallIs s u e → Wk (Do (Eval (close s m i e)) ∷ dropping (leaves s e) w) ks
-  call_goes (syntax.Named name es) a =
-      ([], given (held_kinds a.0) ks, (held_kinds a.0, given_fine s ok (see sights o) m b.store i t [] (In u) reach around name es a.0 a.1, refl, refl), dropped a.0 (leaves s (syntax.Named name es)) a.2)
-  call_goes (syntax.Dot token x name es) a =
-      ([], given (held_kinds a.0) ks, (held_kinds a.0, dot_fine s ok (see sights o) m b.store i t [] (In u) reach around token x name es a.0 a.1, refl, refl), dropped a.0 (leaves s (syntax.Dot token x name es)) a.2)
+  call_goes (syntax.Named name es) a = named_goes name es (transfer_at s name.token.0) refl a
+  call_goes (syntax.Dot token x name es) a = dot_goes token x name es (transfer_at s name.token.0) refl a
   call_goes (syntax.New token class es) a = evals (syntax.New token class es) (Simply kind.Reference) (Do DropOp ∷ w) ks a ([], ks, (Value (Simply kind.Reference), refl, refl), work)
   call_goes _ a = absurd a
 
-  assign_goes : (es : List LeftSide) (e : Expression) (k : Kind) → Found s ok (see sights o) m b.store i t u here (Rest s o sights long m i t rest top) (rest ≡ []) k es → ExprIs s (In u) e (Simply k) → (t' w' : ℕ) → Goes P (assigned s (ran o t' w') m i w vals rest (lefts s m i es) e)
+  assign_goes : (es : List LeftSide) (e : Expression) (k : Kind) → Found s ok (see marks o) m b.store i t u here (Rest s o marks long m i t rest top) (rest ≡ []) k es → ExprIs s (In u) e (Simply k) → (t' w' : ℕ) → Goes P (assigned s (ran o t' w') m i w vals rest (lefts s m i es) e)
   assign_goes es e k f a t' w' =
       let ts = (f.is).targets in
       subst (λ z. Goes P (assigned s (ran o t' w') m i w vals rest z e)) (sym f.found)
       (goes ((f.is).work ++ Do (Eval (close s m i e)) ∷ Do (assigning ts) ∷ w)
       (f.works (Do (Eval (close s m i e)) ∷ Do (assigning ts) ∷ w) ks
       (evals e (Simply k) (Do (assigning ts) ∷ w) (f.kinds ks) a
-      ([], ks, assigning_fine s ok (see sights o) m b.store i t u here (Rest s o sights long m i t rest top) (rest ≡ []) k ts (f.kinds ks) ks (f.shared ks), work))))
+      ([], ks, assigning_fine s ok (see marks o) m b.store i t u here (Rest s o marks long m i t rest top) (rest ≡ []) k ts (f.kinds ks) ks (f.shared ks), work))))
 
   -- ---- the variable of a loop
 
   loops : (x : Target) (k : Kind) (es : List Element) (a : Statement) → VariableFine s m i t x k → ElementsAre s u k es → StatementIs s u a → Wk (Do (ElementsOp x es a) ∷ w) ks
   loops x k es a v y z = ([], ks, (refl, refl, refl, (u, site, (k, v, y, z))), work)
 
-  loop_goes : (text : Bool) (sign : Assignment) (line : ℕ) (x : Left) (k : Kind) (es : List Element) (a : Statement) → (text ≡ true → sign ≡ assignment.Value → k ≡ kind.Text) → (text ≡ false → sign ≡ assignment.Reference → ⊥) → IsCell x → LeftFine s ok (see sights o) m b.store i t u here x k → ElementsAre s u k es → StatementIs s u a → (t' w' : ℕ) → Goes P (looping (ran o t' w') m i w vals rest (controlled text sign line x) es a)
+  loop_goes : (text : Bool) (sign : Assignment) (line : ℕ) (x : Left) (k : Kind) (es : List Element) (a : Statement) → (text ≡ true → sign ≡ assignment.Value → k ≡ kind.Text) → (text ≡ false → sign ≡ assignment.Reference → ⊥) → IsCell x → LeftFine s ok (see marks o) m b.store i t u here x k → ElementsAre s u k es → StatementIs s u a → (t' w' : ℕ) → Goes P (looping (ran o t' w') m i w vals rest (controlled text sign line x) es a)
   loop_goes true assignment.Value line (LeftCell j key) k es a v n c x y z t' w' = goes (Do (ElementsOp (ToTextOf j key line) es a) ∷ w) (loops (ToTextOf j key line) k es a (x, v refl refl) y z)
   loop_goes true assignment.Reference line (LeftCell j key) k es a v n c x y z t' w' = goes (Do (ElementsOp (ToCell j key) es a) ∷ w) (loops (ToCell j key) k es a x y z)
   loop_goes false assignment.Value line (LeftCell j key) k es a v n c x y z t' w' = goes (Do (ElementsOp (ToCell j key) es a) ∷ w) (loops (ToCell j key) k es a x y z)
@@ -169,13 +193,13 @@ module _ (s : Source) (ok : Typed s) (l : Limits) (o : World) (sights : List Sig
   loop_left : (text : Bool) (sign : Assignment) (line : ℕ) (x : Identifier) (k : Kind) (es : List Element) (a : Statement) → ControlIs text sign s u (syntax.Named x NoMore) k → IsCell (left_variable s m i (syntax.Named x NoMore)) → ElementsAre s u k es → StatementIs s u a → (t' w' : ℕ)
       → Goes P (looping (ran o t' w') m i w vals rest (controlled text sign line (controlled_left text sign s m i (syntax.Named x NoMore))) es a)
   loop_left true assignment.Value line x k es a v c y z t' w' =
-      loop_goes true assignment.Value line (left_variable s m i (syntax.Named x NoMore)) k es a (λ e f. v.0) (λ e f. text_apart e) c (variable_fine s ok (see sights o) m b.store i t u here (syntax.Named x NoMore) k v.1) y z t' w'
+      loop_goes true assignment.Value line (left_variable s m i (syntax.Named x NoMore)) k es a (λ e f. v.0) (λ e f. text_apart e) c (variable_fine s ok (see marks o) m b.store i t u here (syntax.Named x NoMore) k v.1) y z t' w'
   loop_left true assignment.Reference line x k es a v c y z t' w' =
-      loop_goes true assignment.Reference line (left_variable s m i (syntax.Named x NoMore)) k es a (λ e f. absurd (sign_apart f)) (λ e f. text_apart e) c (variable_fine s ok (see sights o) m b.store i t u here (syntax.Named x NoMore) k v) y z t' w'
+      loop_goes true assignment.Reference line (left_variable s m i (syntax.Named x NoMore)) k es a (λ e f. absurd (sign_apart f)) (λ e f. text_apart e) c (variable_fine s ok (see marks o) m b.store i t u here (syntax.Named x NoMore) k v) y z t' w'
   loop_left false assignment.Value line x k es a v c y z t' w' =
-      loop_goes false assignment.Value line (left_variable s m i (syntax.Named x NoMore)) k es a (λ e f. absurd (text_apart (sym e))) (λ e f. other_apart f) c (variable_fine s ok (see sights o) m b.store i t u here (syntax.Named x NoMore) k v) y z t' w'
+      loop_goes false assignment.Value line (left_variable s m i (syntax.Named x NoMore)) k es a (λ e f. absurd (text_apart (sym e))) (λ e f. other_apart f) c (variable_fine s ok (see marks o) m b.store i t u here (syntax.Named x NoMore) k v) y z t' w'
   loop_left false assignment.Reference line x k es a v c y z t' w' =
-      let r = reference_is s ok (see sights o) m b.store i t u here (syntax.Named x NoMore) v.1 in
+      let r = reference_is s ok (see marks o) m b.store i t u here (syntax.Named x NoMore) v.1 in
       goes (Do (ElementsOp (ToReferenceAt (reference_place s m i (syntax.Named x NoMore)) line) es a) ∷ w) (loops (ToReferenceAt (reference_place s m i (syntax.Named x NoMore)) line) k es a (v.0, r.0, r.1) y z)
 
   single_cell : (x : Identifier) → IsCell (left_variable s m i (syntax.Named x NoMore))
@@ -204,9 +228,9 @@ module _ (s : Source) (ok : Typed s) (l : Limits) (o : World) (sights : List Sig
       let line = line_at s class.token.0 in
       let fs = class_parameters s (Some a.number) in
       let terms = close_parameters s m i line es fs in
-      let fine : TermsFine s m i t [] terms (class_kinds s fs) = class_fine s ok (see sights o) m b.store i t [] (In u) reach around line es fs a.actuals in
+      let fine : TermsFine s m i t [] terms (class_kinds s fs) = class_fine s ok (see marks o) m b.store i t [] (In u) reach around line es fs a.actuals in
       subst (λ z. Goes P (prefix_begun s (ran o t' w') m i w vals rest class es z)) (sym a.around)
-      (goes (each terms (Do (PrefixedOp a.number (count terms) line) ∷ w)) (prefix_work s o sights long m i t rest top a.number terms line u w ks site a.stands_in (ap has_levels a.is) fine work))
+      (goes (each terms (Do (PrefixedOp a.number (count terms) line) ∷ w)) (prefix_work s o marks long m i t rest top a.number terms line u w ks site a.stands_in (ap has_levels a.is) fine work))
 
   pub exec_goes : (a : Statement) → StatementIs s u a → Goes P (exec s l o m i w vals rest a)
   exec_goes (syntax.Empty token) x = goes w work
@@ -218,7 +242,7 @@ module _ (s : Source) (ok : Typed s) (l : Limits) (o : World) (sights : List Sig
   exec_goes (syntax.Call e) x = ticked P l o (λ p. go p m i (Do (Eval (close s m i e)) ∷ dropping (leaves s e) w) vals rest) (λ t' w'. goes (Do (Eval (close s m i e)) ∷ dropping (leaves s e) w) (call_goes e x))
   exec_goes (syntax.Assign left rs) x =
       ticked P l o (λ p. assigned s p m i w vals rest (lefts s m i (left_sides left rs)) (last_value left rs)) (λ t' w'.
-      assign_goes (left_sides left rs) (last_value left rs) x.0 (lefts_found s ok (see sights o) m b.store i t u here (Rest s o sights long m i t rest top) (rest ≡ []) x.0 (left_sides left rs) x.1) x.2 t' w')
+      assign_goes (left_sides left rs) (last_value left rs) x.0 (lefts_found s ok (see marks o) m b.store i t u here (Rest s o marks long m i t rest top) (rest ≡ []) x.0 (left_sides left rs) x.1) x.2 t' w')
   exec_goes (syntax.Choose token c a other) x =
       ticked P l o (λ p. go p m i (Do (Eval (close s m i c)) ∷ Do (ChooseOp a other) ∷ w) vals rest) (λ t' w'.
       goes (Do (Eval (close s m i c)) ∷ Do (ChooseOp a other) ∷ w) (evals c (Simply kind.Boolean) (Do (ChooseOp a other) ∷ w) ks x.0 ([], ks, (refl, refl, refl, (u, site, (x.1, x.2))), work)))
@@ -242,7 +266,7 @@ module _ (s : Source) (ok : Typed s) (l : Limits) (o : World) (sights : List Sig
 
   -- ---- loops
 
-  test_fine : (c : Expression) (a : Statement) → ExprIs s (In u) c (Simply kind.Boolean) → StatementIs s u a → OpFine s (see sights o) m i t (TestOp c a) [] [] ks ks
+  test_fine : (c : Expression) (a : Statement) → ExprIs s (In u) c (Simply kind.Boolean) → StatementIs s u a → OpFine s (see marks o) m i t (TestOp c a) [] [] ks ks
   test_fine c a x y = (refl, refl, refl, (u, site, (x, y)))
 
   pub test_goes : (c : Expression) (a : Statement) → ExprIs s (In u) c (Simply kind.Boolean) → StatementIs s u a → Goes P (do_op s l o m i w vals rest (TestOp c a))
@@ -366,17 +390,17 @@ module _ (s : Source) (ok : Typed s) (l : Limits) (o : World) (sights : List Sig
   first_works (Also a more) = ([], ks, (refl, refl), work)
 
 -- what waits for a truth value
-module _ (s : Source) (ok : Typed s) (l : Limits) (o : World) (sights : List Sight) (long : length sights ≡ length o.arrays) (m : Instances) (i t : ℕ) (rest : List Activation) (top : Operates m i rest) (w : List Item) (vals : List Val) (ks : List Kinds) (b : Begun s (see sights o) m i t []) (h : HandsFine s (see sights o) m i (Value (Simply kind.Boolean) ∷ ks) vals) (work : Work s o sights long m i t rest top w [] ks) (u : ℕ) (site : Site s m i u) where
+module _ (s : Source) (ok : Typed s) (l : Limits) (o : World) (marks : Marks) (long : length marks.sights ≡ length o.arrays) (m : Instances) (i t : ℕ) (rest : List Activation) (top : Operates marks.beneath m i rest) (w : List Item) (vals : List Val) (ks : List Kinds) (b : Begun s (see marks o) m i t []) (h : HandsFine s (see marks o) m i (Value (Simply kind.Boolean) ∷ ks) vals) (work : Work s o marks long m i t rest top w [] ks) (u : ℕ) (site : Site s m i u) where
   pub choose_goes : (a : Statement) (other : Statements) → StatementIs s u a → StatementsAre s u other → Goes (IsFine s) (do_op s l o m i w vals rest (ChooseOp a other))
   choose_goes a other x y =
-      truth_popped (IsFine s) s (see sights o) m i ks vals o (λ c vs. choosing c (go o m i (Do (Exec a) ∷ first_branch other w) vs rest) (go o m i (Do (Execs other) ∷ w) vs rest)) h (λ c vs more.
+      truth_popped (IsFine s) s (see marks o) m i ks vals o (λ c vs. choosing c (go o m i (Do (Exec a) ∷ first_branch other w) vs rest) (go o m i (Do (Execs other) ∷ w) vs rest)) h (λ c vs more.
       chosen (IsFine s) c (go o m i (Do (Exec a) ∷ first_branch other w) vs rest) (go o m i (Do (Execs other) ∷ w) vs rest)
-      (goes_on s o sights long m i t rest top (Do (Exec a) ∷ first_branch other w) vs [] ks b more ([], ks, (refl, refl, refl, (u, site, x)), first_works s ok l o sights long m i t rest top w vs ks b more work u site other))
-      (goes_on s o sights long m i t rest top (Do (Execs other) ∷ w) vs [] ks b more ([], ks, (refl, refl, refl, (u, site, y)), work)))
+      (goes_on s o marks long m i t rest top (Do (Exec a) ∷ first_branch other w) vs [] ks b more ([], ks, (refl, refl, refl, (u, site, x)), first_works s ok l o marks long m i t rest top w vs ks b more work u site other))
+      (goes_on s o marks long m i t rest top (Do (Execs other) ∷ w) vs [] ks b more ([], ks, (refl, refl, refl, (u, site, y)), work)))
 
-  pub branch_goes : (a : Statement) (again : Op) → StatementIs s u a → OpFine s (see sights o) m i t again [] [] ks ks → Goes (IsFine s) (do_op s l o m i w vals rest (BranchOp a again))
+  pub branch_goes : (a : Statement) (again : Op) → StatementIs s u a → OpFine s (see marks o) m i t again [] [] ks ks → Goes (IsFine s) (do_op s l o m i w vals rest (BranchOp a again))
   branch_goes a again x y =
-      truth_popped (IsFine s) s (see sights o) m i ks vals o (λ c vs. choosing c (go o m i (Do (Exec a) ∷ Do again ∷ w) vs rest) (go o m i w vs rest)) h (λ c vs more.
+      truth_popped (IsFine s) s (see marks o) m i ks vals o (λ c vs. choosing c (go o m i (Do (Exec a) ∷ Do again ∷ w) vs rest) (go o m i w vs rest)) h (λ c vs more.
       chosen (IsFine s) c (go o m i (Do (Exec a) ∷ Do again ∷ w) vs rest) (go o m i w vs rest)
-      (goes_on s o sights long m i t rest top (Do (Exec a) ∷ Do again ∷ w) vs [] ks b more ([], ks, (refl, refl, refl, (u, site, x)), ([], ks, y, work)))
-      (goes_on s o sights long m i t rest top w vs [] ks b more work))
+      (goes_on s o marks long m i t rest top (Do (Exec a) ∷ Do again ∷ w) vs [] ks b more ([], ks, (refl, refl, refl, (u, site, x)), ([], ks, y, work)))
+      (goes_on s o marks long m i t rest top w vs [] ks b more work))

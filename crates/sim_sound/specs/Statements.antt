@@ -9,7 +9,7 @@ use Rattle.sim_scope.specs.Access.{encloser}
 use Rattle.sim_scope.specs.Assignments.{LeftSide, last_value, left_sides}
 use Rattle.sim_scope.specs.Levels.{base}
 use Rattle.sim_scope.specs.Scopes.{entry_of}
-use Rattle.sim_scope.specs.Source.{Source, block_around, denoted, type_at}
+use Rattle.sim_scope.specs.Source.{Source, block_around, denoted, found_at, type_at}
 use Rattle.sim_tree.specs.declared.expr.Identifier.{Identifier}
 use Rattle.sim_tree.specs.declared.stmt.Assignment.{Assignment}
 use Rattle.sim_tree.specs.declared.stmt.Assignment.TheVariants as assignment
@@ -17,13 +17,14 @@ use Rattle.sim_tree.specs.Syntax.{Also, Arms, Begin, Block, Declarations, Elemen
 use Rattle.sim_tree.specs.Syntax as syntax
 use Rattle.sim_values.specs.declared.kind.Kind.{Kind}
 use Rattle.sim_values.specs.declared.kind.Kind.TheVariants as kind
-use Rattle.sim_meaning.specs.Attributes.{connection_at, first_in}
+use Rattle.sim_code.specs.Transfers.{Calling, Detaching, Transfer}
+use Rattle.sim_meaning.specs.Attributes.{connection_at, first_in, transfer_at}
 use Rattle.sim_meaning.specs.Closing.{class_parameters, is_text, result_meant, stream_of, typed_token}
 use Rattle.sim_meaning.specs.Levels.{class_at, is_class, qualification}
 use Rattle.sim_meaning.specs.Statements.{begin_of, leaves}
 use Rattle.sim_meaning.specs.Texts.{BlockText, ConnectionText, PrefixedText, text}
 use Rattle.sim_sound.specs.Held.{Around, ArrayOf, Holds, In, Refers, Simply, entry_holds, held_by, reference_to, result_holds}
-use Rattle.sim_sound.specs.Expressions.{ActualsFit, AreIntegers, AreOf, DotGives, ExprIs, KnownAt, NamedGives, ObjectHas}
+use Rattle.sim_sound.specs.Expressions.{ActualsFit, AreIntegers, AreOf, DotGives, ExprIs, KnownAt, NamedGives, ObjectHas, ThisFound}
 
 -- ---- left sides
 
@@ -133,12 +134,23 @@ abbrev pub is_given : Option Holds → Bool
 is_given None = false
 is_given (Some h) = true
 
--- a call that stands as a statement, whatever it gives
+-- a transfer of control: `detach` of what is found around, without an actual parameter; `call` of a reference
+abbrev pub TransferIs : Source → ℕ → Transfer → (found : Option ℕ) → Expressions → Type 0
+TransferIs s t Detaching found es = ThisFound s (In t) found (Simply kind.Reference) × AreOf s (In t) es []
+TransferIs s t Calling found es = AreOf s (In t) es (kind.Reference ∷ [])
+
+abbrev pub OrTransferIs : Option Transfer → (Transfers : Transfer → Type 0) → (Other : Type 0) → Type 0
+OrTransferIs None Transfers Other = Other
+OrTransferIs (Some c) Transfers Other = Transfers c
+
+-- a call that stands as a statement, whatever it gives; behind a dot a transfer is `detach`
 abbrev pub CallIs : Source → ℕ → Expression → Type 0
 CallIs s t (syntax.Named name es) =
-    (h : Option Holds) × NamedGives s (In t) (connection_at s name.token.0) (denoted s name.token.0) es (AreIntegers s (In t) es) (λ ks. AreOf s (In t) es ks) (λ fs. ActualsFit s (In t) es fs) h × (leaves s (syntax.Named name es) ≡ is_given h)
+    OrTransferIs (transfer_at s name.token.0) (λ c. TransferIs s t c (found_at s name.token.0) es)
+    ((h : Option Holds) × NamedGives s (In t) (connection_at s name.token.0) (denoted s name.token.0) es (AreIntegers s (In t) es) (λ ks. AreOf s (In t) es ks) (λ fs. ActualsFit s (In t) es fs) h × (leaves s (syntax.Named name es) ≡ is_given h))
 CallIs s t (syntax.Dot token a name es) =
-    (h : Option Holds) × DotGives s (denoted s name.token.0) (stream_of s a) (ExprIs s (In t) a (Simply kind.Text)) (λ c. ExprIs s (In t) a (Refers c)) es (AreIntegers s (In t) es) (λ ks. AreOf s (In t) es ks) (λ fs. ActualsFit s (In t) es fs) h × (leaves s (syntax.Dot token a name es) ≡ is_given h)
+    OrTransferIs (transfer_at s name.token.0) (λ c. ExprIs s (In t) a (Simply kind.Reference) × AreOf s (In t) es [])
+    ((h : Option Holds) × DotGives s (denoted s name.token.0) (stream_of s a) (ExprIs s (In t) a (Simply kind.Text)) (λ c. ExprIs s (In t) a (Refers c)) es (AreIntegers s (In t) es) (λ ks. AreOf s (In t) es ks) (λ fs. ActualsFit s (In t) es fs) h × (leaves s (syntax.Dot token a name es) ≡ is_given h))
 CallIs s t (syntax.New token class es) = ExprIs s (In t) (syntax.New token class es) (Simply kind.Reference)
 CallIs s t _ = ⊥
 

@@ -1,19 +1,27 @@
--- Which sources have a standard name that is not built, by their tokens: one of coroutines, of sets or of simulation. As long as these are not
--- built, `run` refuses such a source before any rule on names and types.
-use Rattle.std.specs.Prelude.{◌≡◌, ℕ, Bool, true, false, ◌||◌, List, [], ◌∷◌, drop}
+-- Which sources have a standard name that is not built, by their tokens: `resume`, or one of sets or of simulation. As long as these are not built,
+-- `run` refuses such a source before any rule on names and types.
+use Rattle.std.specs.Prelude.{◌≡◌, ℕ, Bool, true, false, ◌||◌, ◌&&◌, not, List, [], ◌∷◌, codes, drop}
+use Rattle.std.specs.List.{list_any}
+use Rattle.std.specs.Str.{bytes_eq}
 use Rattle.sim_base.specs.declared.token.Token.{Token}
 use Rattle.sim_base.specs.declared.token.TokenKind.{TokenKind}
 use Rattle.sim_base.specs.declared.token.TokenKind.TheVariants as k
 use Rattle.sim_base.specs.declared.token.TokenValue.{TokenValue}
 use Rattle.sim_base.specs.Lexeme.{bytes_of}
 use Rattle.sim_scope.specs.ClassNames.{is_name_of_classes}
-use Rattle.sim_scope.specs.Scopes.{is_detach}
 
--- Behind a dot stands an attribute of a text or of an object. `detach` is one of each object. The others are attributes of the standard classes
--- alone, or of texts: `t.main` is the text of which t is a part.
+-- `detach` and `call` are built
+abbrev pub names_built : List (List ℕ)
+names_built = codes "detach" ∷ codes "call" ∷ []
+
+unfoldable pub is_unbuilt_name : List ℕ → Bool
+is_unbuilt_name name = is_name_of_classes name && not (list_any (bytes_eq name) names_built)
+
+-- Behind a dot stands an attribute of a text or of an object. Those of the standard classes come only where such a class is named, and `t.main` is
+-- the text of which t is a part.
 abbrev pub is_unbuilt : (dotted : Bool) → List ℕ → Bool
-is_unbuilt true name = is_detach name
-is_unbuilt false name = is_name_of_classes name
+is_unbuilt true name = false
+is_unbuilt false name = is_unbuilt_name name
 
 -- an identifier that is spelt so
 abbrev pub spells : (dotted : Bool) → TokenKind → TokenValue → Bool

@@ -3,10 +3,9 @@ ghost use Rattle.std.specs.Prelude.{◌≡◌, ◌||◌};
 ghost use Rattle.std.specs.List.{list_any};
 ghost use Rattle.std.specs.Str.{bytes_eq};
 ghost use Rattle.sim_scope.specs.ClassNames.{is_name_of_classes, names_of_classes, names_of_simulation};
-ghost use Rattle.sim_static.specs.UnbuiltNames.{HasUnbuiltName, is_dot, is_unbuilt, spells, spells_here};
+ghost use Rattle.sim_static.specs.UnbuiltNames.{HasUnbuiltName, is_dot, is_unbuilt, is_unbuilt_name, names_built, spells, spells_here};
 
 use sim_base::{Token, TokenKind, TokenValue};
-use sim_scope::is_detach;
 
 /// The standard names of classes and of sets.
 static NAMES_OF_CLASSES: [&str; 19] = [
@@ -30,6 +29,9 @@ static NAMES_OF_SIMULATION: [&str; 13] = [
     "wait",
     "cancel",
 ];
+
+/// Those of them that are built.
+static NAMES_BUILT: [&str; 2] = ["detach", "call"];
 
 fn contains(names: &[&str], name: &[u8]) -> bool
     ensures { result ≡ list_any (λ word. bytes_eq name.now word.now) names.now }
@@ -56,15 +58,24 @@ fn is_name_of_classes(name: &[u8]) -> bool
     is_of_classes(name) || is_of_simulation(name)
 }
 
-/// Whether an identifier, which stands behind a dot or not, is spelt as such a name.
+fn is_built(name: &[u8]) -> bool
+    ensures { result ≡ list_any (bytes_eq name.now) names_built }
+{
+    contains(&NAMES_BUILT, name)
+}
+
+#[tactic(auto, unfolding(crate::specs::UnbuiltNames::is_unbuilt_name))]
+fn is_unbuilt_name(name: &[u8]) -> bool
+    ensures { result ≡ is_unbuilt_name name.now }
+{
+    is_name_of_classes(name) && !is_built(name)
+}
+
+/// Whether an identifier, which stands behind a dot or not, is spelt as a name that is not built.
 fn is_unbuilt(dotted: bool, name: &[u8]) -> bool
     ensures { result ≡ is_unbuilt dotted name.now }
 {
-    if dotted {
-        is_detach(name)
-    } else {
-        is_name_of_classes(name)
-    }
+    !dotted && is_unbuilt_name(name)
 }
 
 fn spells(dotted: bool, kind: TokenKind, value: &TokenValue) -> bool
@@ -92,8 +103,8 @@ fn spells_here(dotted: bool, token: &Token) -> bool
     spells(dotted, token.lexeme.kind, &token.lexeme.value)
 }
 
-/// Whether the tokens of a source have an identifier that is spelt as a standard name of coroutines, of sets or of simulation. Behind a dot
-/// `detach` is the only one: an object of a class without a prefix has no other of them.
+/// Whether the tokens of a source have an identifier that is spelt as a standard name that is not built: `resume`, or one of sets or of
+/// simulation. Behind a dot none is: these are attributes of the standard classes alone, which are named where they are used.
 #[tactic(auto, using(crate::proofs::Names::named))]
 pub fn has_unbuilt_name(tokens: &[Token]) -> bool
     ensures { HasUnbuiltName tokens.now result }

@@ -1,10 +1,11 @@
-use Rattle.std.proofs.Common.{refl}
+use Rattle.std.proofs.Common.{sym, refl, ap, ◌∙◌}
+use Rattle.frame_arena.proofs.Changes.{detached_set, frame_same}
 use Rattle.frame_arena.proofs.Entries.{enters, here_entered, leads_entered}
 use Rattle.frame_arena.proofs.Rooms.{rooms_kept}
 use Rattle.frame_arena.proofs.frames.enter.Goals as goal
 
 pub returns-clause-holds : goal.returns-clause-holds
-returns-clause-holds c cells m h numbered parent = enters c.args.frames.now cells m c.args.place _ h c.requires.there c.requires.free numbered refl refl parent
+returns-clause-holds c cells m h numbered parent = enters c.args.frames.now cells m c.args.place _ _ c.first_component-frame.ensures.standing h c.requires.there c.requires.free numbered refl refl parent
 
 pub returns-clause-stacks : goal.returns-clause-stacks
 returns-clause-stacks c = rooms_kept c.args.frames.now c.args.place _ c.requires.there refl refl
@@ -14,3 +15,6 @@ returns-clause-leads c m x standing r leads = leads_entered c.args.frames.now m 
 
 pub returns-clause-here : goal.returns-clause-here
 returns-clause-here c = here_entered c.args.frames.now c.args.place _ c.requires.there refl
+
+pub returns-clause-detached : goal.returns-clause-detached
+returns-clause-detached c = detached_set c.args.frames.now c.args.place _ (λ n h. absurd (c.first_component-frame.ensures.other (sym (ap (λ g. g.component) (frame_same c.args.frames.now c.args.place _ c.requires.there)) ∙ h.1)))

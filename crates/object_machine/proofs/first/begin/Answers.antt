@@ -4,7 +4,6 @@ use Rattle.sim_values.specs.Words.{instance_words}
 use Rattle.sim_code.specs.Machine.{words_of_block}
 use Rattle.sim_code.specs.Rows.{first_stage}
 use Rattle.frame_arena.specs.Frames.{empty_memory}
-use Rattle.frame_arena.specs.declared.frames.Component.TheVariants as component
 use Rattle.object_machine.specs.declared.machine.Flow.TheVariants as flow
 use Rattle.object_machine.specs.Entering.{Opens, Pays, paid}
 use Rattle.object_machine.specs.Running.{Begins, IsFit, IsUnread}
@@ -96,7 +95,7 @@ returns-in-Ok-clause-row c code before now o e e2 s =
     let pays : Pays flow.On l x.line.0 (words_of_block b) c.pay-flow.new.storage before now o empty_memory = subst (λ n. Pays flow.On l x.line.0 n c.pay-flow.new.storage before now o empty_memory) w (c.in-On.ensures.row x.line.0 before now o empty_memory s) in
     let p = paid o (words_of_block b) in
     let opens0 = c.in-Ok.ensures.row l before now p empty_memory pays.1 (λ r is. absurd (none_some r is)) in
-    let opens : Opens l c.pay-flow.new.storage c.open.new.storage 0 b (record { start = b.entry; stage = t; component = component.NoObject }) None c.in-Ok.activation before now p empty_memory =
-    subst (λ n. Opens l c.pay-flow.new.storage c.open.new.storage 0 b (record { start = n; stage = t; component = component.NoObject }) None c.in-Ok.activation before now p empty_memory) (sym at) opens0 in
+    let opens : Opens l c.pay-flow.new.storage c.open.new.storage 0 b (record { start = b.entry; stage = t; object = false }) None c.in-Ok.activation before now p empty_memory =
+    subst (λ n. Opens l c.pay-flow.new.storage c.open.new.storage 0 b (record { start = n; stage = t; object = false }) None c.in-Ok.activation before now p empty_memory) (sym at) opens0 in
     subst (λ q. Leaves flow.On l 0 c.open.new.storage c.in-Ok.activation.registers c.in-Ok.activation.stack.items [] before now q) (sym (eq ∙ pays.0 _))
     (enters_alone l 0 c.pay-flow.new.storage c.open.new.storage b t c.in-Ok.activation before now p opens)

@@ -1,17 +1,18 @@
 use Rattle.std.proofs.Common.{rules, ◌≡◌, ◌+◌, ℕ, [], sym, subst, refl, ap, ◌∙◌, arith, set}
-use Rattle.std.specs.Prelude.{Some, slice_get}
+use Rattle.std.specs.Prelude.{Some, length, slice_get}
 use Rattle.std.specs.Vec.{with_items}
 use Rattle.std.proofs.lemmas.List.{with_items_is, places}
 use Rattle.sim_values.specs.declared.value.FrameRef.{FrameRef}
 use Rattle.sim_chains.specs.Components.{AttachedObject, TerminatedObject}
 use Rattle.sim_code.specs.Outcome.{World}
-use Rattle.frame_arena.specs.Frames.{Holds, Leads, frame_at}
+use Rattle.frame_arena.specs.Frames.{Holds, IsDetached, Leads, frame_at}
 use Rattle.object_machine.specs.declared.machine.Storage.{Storage}
 use Rattle.object_machine.specs.declared.machine.Flow.TheVariants as flow
 use Rattle.object_machine.specs.Standing.{below_of}
 use Rattle.object_machine.proofs.Departures.{last_fits, popped_none, rest_fit}
 use Rattle.object_machine.proofs.Going.{no_rule_in, stands_tick, tick_off, tick_on}
 use Rattle.object_machine.proofs.ObjectEnds.{no_rule_popped, none_below_object, not_attached, object_left}
+use Rattle.object_machine.proofs.Parks.{rooms_count}
 use Rattle.object_machine.proofs.leaving.end_object.Goals as goal
 
 pub returns-then-storage-limits-clause-row : goal.returns-then-storage-limits-clause-row
@@ -80,4 +81,6 @@ returns-clause-row c line before now o m s =
     let leads : (x : FrameRef) → Leads p.frames.items m x → Leads c.terminate.new.frames (record m { standings = set m.standings j TerminatedObject }) x =
     λ x led. c.terminate.ensures.leads m (set m.standings j TerminatedObject) x (subst (λ f. Leads f m x) (sym c.deref_mut.ensures.value) led) in
     tick_on l line p below before now flow.On p2 next.registers next.stack.items rest o _ s.stores.world (omega (arith, c.if-storage-limits.false))
-    (object_left l line p1 t.registers t.stack.items below rest before now o1 m s1 p2 next c.terminate.new.frames j c.in-Some.ensures.items attached (with_items_is p.frames c.terminate.new.frames (search (rules, places))) holds leads refl refl refl refl refl refl refl)
+    (object_left l line p1 t.registers t.stack.items below rest before now o1 m s1 p2 next c.terminate.new.frames j c.in-Some.ensures.items attached (with_items_is p.frames c.terminate.new.frames (search (rules, places))) holds leads refl refl refl refl refl refl refl refl
+    (λ at number d. subst (λ f. IsDetached f at number) c.deref_mut.ensures.value (c.terminate.ensures.detached at number d))
+    (ap (λ f. length f) (sym c.deref_mut.ensures.value) ∙ rooms_count c.deref_mut.result.now c.terminate.new.frames c.terminate.ensures.stacks))

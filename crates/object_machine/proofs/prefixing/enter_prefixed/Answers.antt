@@ -1,7 +1,6 @@
 use Rattle.std.proofs.Common.{rules, to_z, of_z, w64, ◌≡◌, ◌∙◌, length, ap, sym, subst, refl}
 use Rattle.std.specs.Prelude.{Some, slice_get, false}
 use Rattle.sim_values.specs.Words.{instance_words}
-use Rattle.frame_arena.specs.declared.frames.Component.TheVariants as component
 use Rattle.sim_code.specs.Arrays.{handed_over}
 use Rattle.sim_code.specs.Levels.{entering_prefixed, filled_by, parameter_cell}
 use Rattle.sim_code.specs.Machine.{arrays_among, first_cells, words_of_block}
@@ -94,7 +93,7 @@ returns-clause-row c code line now eb ei ec before o m s =
     let world = paid o (words_of_block b) in
     let p1 = c.pay-flow.new.storage in
     let p3 = c.set_up.new.storage in
-    let g : Beginning = with_levels x component.NoObject in
+    let g : Beginning = with_levels x false in
     let same = c.in-On.ensures.same refl in
     let works : AtWork p1 world m t.registers stack = subst (λ v. AtWork v world m t.registers stack) (sym same) s.top in
     let others : AllAtWork p1 world m c.args.below.now.items = subst (λ v. AllAtWork v world m c.args.below.now.items) (sym same) s.others in

@@ -4,6 +4,7 @@ use Rattle.object_machine.specs.Standing.{Ports, ports_of}
 use Rattle.sim_values.specs.Store.{constant_frames, image_frame}
 use Rattle.sim_values.specs.Texts.{Frame}
 use Rattle.frame_arena.specs.Frames.{empty_memory}
+use Rattle.object_machine.proofs.Parks.{parks_empty}
 use Rattle.object_machine.proofs.Starting.{constants_count, count_behind, elements_empty, holds_empty, images_behind, leads_empty}
 use Rattle.object_machine.proofs.Written.{append_nothing}
 use Rattle.object_machine.proofs.start.start.Goals as goal
@@ -26,6 +27,7 @@ returns-clause-row c before input =
     } in
     let none : c.new-3.result.items ≡ [] = search rules in
     let none2 : c.new-4.result.items ≡ [] = search rules in
+    let none3 : c.new-6.result.items ≡ [] = search rules in
     record {
       world = record {
         ticks = refl;
@@ -39,7 +41,8 @@ returns-clause-row c before input =
       budget = omega arith;
       frames = holds_empty c.new-3.result.items c.new-4.result.items none none2;
       entered = refl;
-      arrays = c.new-6.ensures.holds;
-      cells = leads_empty c.new-6.result.regions [] c.new-4.result.items none2;
-      elements = elements_empty c.new-3.result.items empty_memory c.new-6.result c.new-6.ensures.none;
+      arrays = c.new-7.ensures.holds;
+      cells = leads_empty c.new-7.result.regions [] c.new-4.result.items none2;
+      elements = elements_empty c.new-3.result.items empty_memory c.new-7.result c.new-7.ensures.none;
+      parks = parks_empty c.new-3.result.items c.new-6.result.items empty_memory c.new-7.result.regions [] none none3;
     }

@@ -111,6 +111,42 @@ returns-in-Return-clause-row g c s e = (
   ),
 )
 
+pub returns-in-Detach-clause-ends : goal.returns-in-Detach-clause-ends
+returns-in-Detach-clause-ends g c = flow_still g.O.Sink.written g.O.Sink.faults c.args.out.now _ c.without_ports-in-Detach.ensures.other
+
+pub returns-in-Detach-clause-read : goal.returns-in-Detach-clause-read
+returns-in-Detach-clause-read g c = input_still (g.I.Source.faults c.args.input.now) _ c.without_ports-in-Detach.ensures.read
+
+pub returns-in-Detach-clause-row : goal.returns-in-Detach-clause-row
+returns-in-Detach-clause-row g c s e = (
+  s,
+  e,
+  (
+    still_same c.without_ports-in-Detach.result (g.O.Sink.written c.args.out.now),
+    λ code line e1 e2 e3 e4.
+        c.without_ports-in-Detach.ensures.row _ _ _ _ _ _ _ _ _ _ _ _ _
+        (for_instr_in _ code c.args.limits.now line _ _ _ _ _ _ _ _ _ _ c.args.instr i.Detach c.in-Detach.is (c.detach-flow.ensures.row c.args.limits.now line (outside (g.O.Sink.written c.args.out.now) s))),
+  ),
+)
+
+pub returns-in-Attach-clause-ends : goal.returns-in-Attach-clause-ends
+returns-in-Attach-clause-ends g c = flow_still g.O.Sink.written g.O.Sink.faults c.args.out.now _ c.without_ports-in-Attach.ensures.other
+
+pub returns-in-Attach-clause-read : goal.returns-in-Attach-clause-read
+returns-in-Attach-clause-read g c = input_still (g.I.Source.faults c.args.input.now) _ c.without_ports-in-Attach.ensures.read
+
+pub returns-in-Attach-clause-row : goal.returns-in-Attach-clause-row
+returns-in-Attach-clause-row g c s e = (
+  s,
+  e,
+  (
+    still_same c.without_ports-in-Attach.result (g.O.Sink.written c.args.out.now),
+    λ code line e1 e2 e3 e4.
+        c.without_ports-in-Attach.ensures.row _ _ _ _ _ _ _ _ _ _ _ _ _
+        (for_instr_in _ code c.args.limits.now line _ _ _ _ _ _ _ _ _ _ c.args.instr i.Attach c.in-Attach.is (c.attach-flow.ensures.row c.args.limits.now line (outside (g.O.Sink.written c.args.out.now) s))),
+  ),
+)
+
 pub returns-in_default : goal.returns-in_default
 returns-in_default g c =
     let l = c.args.limits.now in

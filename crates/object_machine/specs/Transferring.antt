@@ -1,0 +1,39 @@
+-- Activations that move between the operating chain and a park.
+use Rattle.std.specs.Prelude.{◌≡◌, ℕ, ◌≤◌, false, List, [], ◌∷◌, ◌++◌, length, reverse, Option, Some}
+use Rattle.sim_base.specs.declared.run_error.RunError.TheVariants.{ObjectNotOperating}
+use Rattle.sim_chains.specs.Chains.{stands_on}
+use Rattle.object_machine.specs.declared.machine.Activation as working
+use Rattle.object_machine.specs.declared.machine.Flow.{Flow}
+use Rattle.object_machine.specs.declared.machine.Flow.TheVariants as flow
+
+-- the operating chain, the innermost first
+abbrev pub operating : (top : working.Activation) → (below : List working.Activation) → List working.Activation
+operating top below = top ∷ reverse below
+
+-- the frame whose activation it is
+abbrev pub frame_of : working.Activation → Option ℕ
+frame_of t = Some t.registers.home.stamp
+
+-- a chain that ends with the first activation of an object
+pub record EndsAt (object : ℕ) (chain : List working.Activation) : Type 0 where
+  pub above : List working.Activation
+  pub here : working.Activation
+  pub is : chain ≡ above ++ here ∷ []
+  pub own : here.registers.home.stamp ≡ object
+  pub first : stands_on frame_of object above ≡ false
+
+-- An object leaves a chain: what it keeps, and what operates then. Where nothing is below it there is no rule; and where it does not stand on
+-- the chain it is an error.
+abbrev pub LeavesChain : Flow → (object : ℕ) → (chain kept rest : List working.Activation) → Type 0
+LeavesChain flow.On object chain kept rest = EndsAt object kept × (chain ≡ kept ++ rest)
+LeavesChain flow.NoRule object chain kept rest = EndsAt object chain
+LeavesChain (flow.Fault e) object chain kept rest = (e ≡ ObjectNotOperating) × (stands_on frame_of object chain ≡ false)
+LeavesChain flow.Memory object chain kept rest = Unit {0}
+LeavesChain _ object chain kept rest = ⊥
+
+-- A kept chain goes on top of a chain. There is no rule where one of its activations has more values than room, to which no run comes.
+abbrev pub JoinsChain : Flow → (kept chain : List working.Activation) → (left joined : List working.Activation) → Type 0
+JoinsChain flow.On kept chain left joined = (left ≡ []) × (joined ≡ kept ++ chain)
+JoinsChain flow.NoRule kept chain left joined = (front : List working.Activation) × (t : working.Activation) × (back : List working.Activation) × (kept ≡ front ++ t ∷ back) × (t.registers.depth ≤ length t.stack.items → ⊥)
+JoinsChain flow.Memory kept chain left joined = Unit {0}
+JoinsChain _ kept chain left joined = ⊥

@@ -1,0 +1,80 @@
+-- Which calls transfer control: none that is typed as another one, and none of these leaves a value.
+use Rattle.std.proofs.Common.{◌≡◌, ℕ, Bool, true, false, List, Option, Some, None, refl}
+use Rattle.sim_scope.specs.declared.scopes.Denotation.{Denotation}
+use Rattle.sim_scope.specs.declared.scopes.Denotation.TheVariants as denotation
+use Rattle.sim_scope.specs.declared.types.Formal.{Formal}
+use Rattle.sim_scope.specs.Source.{Source, denoted}
+use Rattle.sim_tree.specs.declared.expr.Identifier.{Identifier}
+use Rattle.sim_tree.specs.Syntax.{Expression, Expressions}
+use Rattle.sim_tree.specs.Syntax as syntax
+use Rattle.sim_values.specs.declared.kind.Kind.{Kind}
+use Rattle.sim_values.specs.declared.standard.Standard.{Standard}
+use Rattle.sim_values.specs.declared.standard.Standard.TheVariants as name_of
+use Rattle.sim_values.specs.Standard.{row_of}
+use Rattle.sim_code.specs.Running.{name_runs}
+use Rattle.sim_code.specs.Transfers.{Transfer}
+use Rattle.sim_meaning.specs.Attributes.{transfer_at, transfer_denoted, transfer_named, transfer_of}
+use Rattle.sim_meaning.specs.Names.{procedure_named}
+use Rattle.sim_meaning.specs.Statements.{denoted_leaves, leaves, standard_leaves}
+use Rattle.sim_sound.specs.Held.{Holds, Place}
+use Rattle.sim_sound.specs.Expressions.{BehindGives, DotGives, NamedGives, StandardGives}
+
+-- ---- a name that is done transfers nothing
+
+run_keeps_control : (n : Standard) → name_runs n ≡ true → transfer_of n ≡ None
+run_keeps_control name_of.Detach e = absurd (cc)
+run_keeps_control name_of.Call e = absurd (cc)
+run_keeps_control _ e = refl
+
+standard_keeps_control : (n : Option Standard) (Operands : List Kind → Type 0) (h : Option Holds) → StandardGives n Operands h → transfer_named n ≡ None
+standard_keeps_control None Operands h a = absurd a
+standard_keeps_control (Some name_of.Detach) Operands h a = run_keeps_control name_of.Detach (a.0).0
+standard_keeps_control (Some name_of.Call) Operands h a = run_keeps_control name_of.Call (a.0).0
+standard_keeps_control (Some _) Operands h a = refl
+
+behind_keeps_control : (stream : Option ℕ) (n : Option Standard) (Front : Type 0) (Operands : List Kind → Type 0) (h : Option Holds) → BehindGives stream n Front Operands h → transfer_named n ≡ None
+behind_keeps_control (Some image) n Front Operands h a = standard_keeps_control n Operands h a
+behind_keeps_control None None Front Operands h a = absurd a
+behind_keeps_control None (Some n) Front Operands h a = run_keeps_control n ((a.1).0).0
+
+-- ---- typed calls
+
+named_keeps_control : (s : Source) (from : Place) (c : Option ℕ) (x : Option Denotation) (es : Expressions) (Indices : Type 0) (Operands : List Kind → Type 0) (Actuals : List Formal → Type 0) (h : Option Holds) → NamedGives s from c x es Indices Operands Actuals h → transfer_denoted x ≡ None
+named_keeps_control s from c (Some (denotation.Declared d)) es Indices Operands Actuals h a = refl
+named_keeps_control s from None (Some (denotation.Standard n)) es Indices Operands Actuals h a = standard_keeps_control (procedure_named n) Operands h a
+named_keeps_control s from (Some k) (Some (denotation.Standard n)) es Indices Operands Actuals h a = absurd a
+named_keeps_control s from c None es Indices Operands Actuals h a = refl
+
+dot_keeps_control : (s : Source) (x : Option Denotation) (stream : Option ℕ) (Front : Type 0) (Object : ℕ → Type 0) (es : Expressions) (Indices : Type 0) (Operands : List Kind → Type 0) (Actuals : List Formal → Type 0) (h : Option Holds) → DotGives s x stream Front Object es Indices Operands Actuals h → transfer_denoted x ≡ None
+dot_keeps_control s (Some (denotation.Declared d)) stream Front Object es Indices Operands Actuals h a = refl
+dot_keeps_control s (Some (denotation.Standard n)) stream Front Object es Indices Operands Actuals h a = behind_keeps_control stream (procedure_named n) Front Operands h a
+dot_keeps_control s None stream Front Object es Indices Operands Actuals h a = refl
+
+pub named_transfers_not : (s : Source) (from : Place) (c : Option ℕ) (token : ℕ) (es : Expressions) (Indices : Type 0) (Operands : List Kind → Type 0) (Actuals : List Formal → Type 0) (h : Option Holds) → NamedGives s from c (denoted s token) es Indices Operands Actuals h → transfer_at s token ≡ None
+unfolding transfer_at
+named_transfers_not s from c token es Indices Operands Actuals h a = named_keeps_control s from c (denoted s token) es Indices Operands Actuals h a
+
+pub dot_transfers_not : (s : Source) (token : ℕ) (stream : Option ℕ) (Front : Type 0) (Object : ℕ → Type 0) (es : Expressions) (Indices : Type 0) (Operands : List Kind → Type 0) (Actuals : List Formal → Type 0) (h : Option Holds) → DotGives s (denoted s token) stream Front Object es Indices Operands Actuals h → transfer_at s token ≡ None
+unfolding transfer_at
+dot_transfers_not s token stream Front Object es Indices Operands Actuals h a = dot_keeps_control s (denoted s token) stream Front Object es Indices Operands Actuals h a
+
+-- ---- a transfer leaves no value
+
+transfer_gives_none : (n : Standard) (c : Transfer) → transfer_of n ≡ Some c → standard_leaves (Some n) ≡ false
+unfolding row_of
+transfer_gives_none name_of.Detach c e = refl
+transfer_gives_none name_of.Call c e = refl
+transfer_gives_none _ c e = absurd (cc)
+
+named_gives_none : (n : Option Standard) (c : Transfer) → transfer_named n ≡ Some c → standard_leaves n ≡ false
+named_gives_none None c e = refl
+named_gives_none (Some n) c e = transfer_gives_none n c e
+
+denoted_gives_none : (s : Source) (x : Option Denotation) (c : Transfer) → transfer_denoted x ≡ Some c → denoted_leaves s x ≡ false
+denoted_gives_none s None c e = refl
+denoted_gives_none s (Some (denotation.Declared d)) c e = absurd (cc)
+denoted_gives_none s (Some (denotation.Standard n)) c e = named_gives_none (procedure_named n) c e
+
+pub transfer_leaves_none : (s : Source) (token : ℕ) (c : Transfer) → transfer_at s token ≡ Some c → denoted_leaves s (denoted s token) ≡ false
+unfolding transfer_at
+transfer_leaves_none s token c e = denoted_gives_none s (denoted s token) c e
