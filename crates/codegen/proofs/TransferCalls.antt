@@ -16,7 +16,7 @@ use Rattle.sim_values.specs.declared.standard.Standard.TheVariants as name_of
 use Rattle.sim_values.specs.Standard.{moves_position, row_of}
 use Rattle.sim_code.specs.declared.instr.Instr.TheVariants as i
 use Rattle.sim_code.specs.Code.{CodeOf}
-use Rattle.sim_code.specs.Transfers.{Calling, Detaching, Transfer}
+use Rattle.sim_code.specs.Transfers.{Calling, Detaching, Resuming, Transfer}
 use Rattle.sim_meaning.specs.Attributes.{connection_at, transfer_at, transfer_denoted, transfer_of}
 use Rattle.sim_meaning.specs.Closing.{is_attribute, is_variable, stream_of}
 use Rattle.sim_meaning.specs.Statements.{denoted_leaves, has_value, leaves}
@@ -34,7 +34,7 @@ use Rattle.codegen_expr.proofs.Taken.{before_gives_up, streamless}
 use Rattle.codegen.specs.declared.transfers.Transfer.{Transfer as Word}
 use Rattle.codegen.specs.declared.transfers.Transfer.TheVariants as word
 use Rattle.codegen.specs.BuiltProgram.{OrTransferBuilt, TransferBuilt}
-use Rattle.codegen.specs.CodeStm.{DetachAt, DropsAt, OrTransferAt, TransferAt}
+use Rattle.codegen.specs.CodeStm.{DropsAt, OrTransferAt, TransferAt}
 use Rattle.codegen.specs.Emit.{WritesCalled, WritesCalledBehind}
 use Rattle.codegen.specs.EmitTransfers.{FindsTransfer, WritesDetach, WritesDetachBehind, WritesTransfer, meant}
 
@@ -76,11 +76,12 @@ at_some : (s : Source) (token : ℕ) (u : Option Denotation) (r : Option Word) (
 unfolding FindsTransfer transfer_at
 at_some s token u r t eu f some = ap transfer_denoted (sym eu) ∙ sym f ∙ ap (option_map meant) some
 
--- neither name has a value, and neither moves the position of a text
+-- none of these names has a value, and none moves the position of a text
 of_name : (name : Standard) (t : Transfer) → transfer_of name ≡ Some t → (has_value (row_of name).result ≡ false) × (moves_position name ≡ false)
 unfolding row_of
 of_name name_of.Detach t is = (refl, refl)
 of_name name_of.Call t is = (refl, refl)
+of_name name_of.Resume t is = (refl, refl)
 of_name _ t is = absurd (cc)
 
 of_denoted : (s : Source) (u : Option Denotation) (t : Transfer) → transfer_denoted u ≡ Some t → (denoted_leaves s u ≡ false) × (moves_denoted u ≡ false)
@@ -110,6 +111,11 @@ called_with [] P Q many h = h
 called_with (y ∷ []) P Q many h = many refl
 called_with (y ∷ z ∷ zs) P Q many h = h
 
+resumed_with : (ys : List Expr) (P Q : Type 0) → length ys ≢ 1 → TransferBuilt Resuming (expressions (map syntax_of ys)) P Q → ⊥
+resumed_with [] P Q many h = h
+resumed_with (y ∷ []) P Q many h = many refl
+resumed_with (y ∷ z ∷ zs) P Q many h = h
+
 abbrev Detaches : (line : ℕ) → Part
 Detaches line final site p q = (x : ℕ) × At final i.NotNone line p x × At final i.Detach line x q
 
@@ -130,6 +136,16 @@ called w s P A a c d line (y ∷ []) one f g =
     emits_as w _ _ _ _ a d (λ h. (h, tt)) (λ h. h.0) (λ final site p q _ _ h. h)
     (emits_then w _ ⊤ (λ final site p q. ExprsAt s final site 0 (expressions (map syntax_of (y ∷ []))) p q) (λ final site p q. At final i.Attach line p q) a c d f g)
 called w s P A a c d line (y ∷ z ∷ zs) one f g = absurd (omega (arith, one))
+
+-- an actual parameter, and `resume` of it
+resumed : (w : Spot) (s : Source) (P : Type 0) (A : Part) (a c d : DraftOf) (line : ℕ) (ys : List Expr) → length ys ≡ 1
+    → Emits w a c (AreBuilt s w.text (expressions (map syntax_of ys))) (λ final site p q. ExprsAt s final site 0 (expressions (map syntax_of ys)) p q) → Emits w c d ⊤ (λ final site p q. At final i.Resume line p q)
+    → Emits w a d (TransferBuilt Resuming (expressions (map syntax_of ys)) P (AreBuilt s w.text (expressions (map syntax_of ys)))) (λ final site p q. TransferAt final line Resuming (expressions (map syntax_of ys)) (A final site) (ExprsAt s final site 0 (expressions (map syntax_of ys))) p q)
+resumed w s P A a c d line [] one f g = absurd (omega (arith, one))
+resumed w s P A a c d line (y ∷ []) one f g =
+    emits_as w _ _ _ _ a d (λ h. (h, tt)) (λ h. h.0) (λ final site p q _ _ h. h)
+    (emits_then w _ ⊤ (λ final site p q. ExprsAt s final site 0 (expressions (map syntax_of (y ∷ []))) p q) (λ final site p q. At final i.Resume line p q) a c d f g)
+resumed w s P A a c d line (y ∷ z ∷ zs) one f g = absurd (omega (arith, one))
 
 module _ (b : Bound) (w : Spot) where
   -- ---- what is written of it
@@ -173,6 +189,18 @@ module _ (b : Bound) (w : Spot) where
 
   pub transfer_call_with : (a c : DraftOf) (t : Word) (x : Identifier) (ys : List Expr) → t ≡ word.Calling → length ys ≢ 1 → c ≡ given_up a → WritesTransfer b w a c t x ys
   transfer_call_with a c t x ys is many ec = moves_as a c t word.Calling x ys is (emits_nothing w a c _ _ (called_with ys _ _ many) ec)
+
+  pub transfer_resume : (a c d : DraftOf) (t : Word) (x : Identifier) (ys : List Expr) (k : ℕ) → t ≡ word.Resuming → length ys ≡ 1 → WritesList b w 0 a c ys → k ≡ line_at (source_of b) x.token.0 → d ≡ with_instr c i.Resume k → WritesTransfer b w a d t x ys
+  unfolding WritesList
+  transfer_resume a c d t x ys k is one f ek ed =
+      let s = source_of b in
+      let line = line_at s x.token.0 in
+      moves_as a d t word.Resuming x ys is
+      (resumed w s (ThisFoundBuilt s w.text (found_at s x.token.0)) (λ final site p q. ThisFoundAt s final site 0 (found_at s x.token.0) p q) a c d line ys one f
+      (emits_at w c d i.Resume line (ed ∙ ap (λ z. with_instr c i.Resume z) ek) (λ z. cc) refl))
+
+  pub transfer_resume_with : (a c : DraftOf) (t : Word) (x : Identifier) (ys : List Expr) → t ≡ word.Resuming → length ys ≢ 1 → c ≡ given_up a → WritesTransfer b w a c t x ys
+  transfer_resume_with a c t x ys is many ec = moves_as a c t word.Resuming x ys is (emits_nothing w a c _ _ (resumed_with ys _ _ many) ec)
 
   -- ---- behind an object
 
@@ -223,4 +251,4 @@ module _ (b : Bound) (w : Spot) where
       subst (DotCall s w start c e token x es) (sym is)
       (emits_as w _ _ _ _ start c (λ h. h) (λ h. h) (λ final site p q _ _ h. (q, h, subst (λ z. DropsAt final z q q) (sym neither.0) refl)) (g start e (subst (λ z. PutsBefore s w 0 start a z o e) neither.1 before)))
 
-pub ruleset transfers = (detach_put, transfer_detach, transfer_detach_with, transfer_call, transfer_call_with, behind_value, behind_stream, behind_place, behind_with, call_transferred, behind_transferred)
+pub ruleset transfers = (detach_put, transfer_detach, transfer_detach_with, transfer_call, transfer_call_with, transfer_resume, transfer_resume_with, behind_value, behind_stream, behind_place, behind_with, call_transferred, behind_transferred)

@@ -7,7 +7,7 @@ use Rattle.sim_scope.specs.Source.{Source, block_around, block_of, denoted, foun
 use Rattle.sim_tree.specs.declared.expr.Identifier.{Identifier}
 use Rattle.sim_tree.specs.Syntax.{Also, Arms, Arrayed, Arrays, Begin, Block, BoundPair, Declarations, DeclareClass, DeclareProcedure, Element, Expression, Expressions, NoArm, NoDeclaration, NoMore, NoStatement, Statement, Statements, Then, Variables, When, With}
 use Rattle.sim_tree.specs.Syntax as syntax
-use Rattle.sim_code.specs.Transfers.{Calling, Detaching, Transfer}
+use Rattle.sim_code.specs.Transfers.{Calling, Detaching, Resuming, Transfer}
 use Rattle.sim_meaning.specs.Attributes.{cell_of_connection, connection_at, transfer_at}
 use Rattle.sim_meaning.specs.Closing.{class_parameters, is_attribute, is_text, is_variable, stream_of}
 use Rattle.sim_meaning.specs.Levels.{class_at, writes_inner}
@@ -91,10 +91,11 @@ PrefixBuilt s text es None = ⊥
 PrefixBuilt s text es (Some zero) = ⊥
 PrefixBuilt s text es (Some (suc k)) = (stands_behind s (suc k) ≡ true) × (encloser s.tables (suc k) ≡ Some text) × ActualsBuilt s text es (class_parameters s (Some (suc k)))
 
--- a transfer of control: `detach` has no actual parameter and stands where it is found, `call` has one
+-- a transfer of control: `detach` has no actual parameter and stands where it is found, `call` and `resume` have one
 abbrev pub TransferBuilt : Transfer → Expressions → (Around Operands : Type 0) → Type 0
 TransferBuilt Detaching NoMore Around Operands = Around
 TransferBuilt Calling (Then e NoMore) Around Operands = Operands
+TransferBuilt Resuming (Then e NoMore) Around Operands = Operands
 TransferBuilt t es Around Operands = ⊥
 
 abbrev pub OrTransferBuilt : Option Transfer → (Transfers : Transfer → Type 0) → (Other : Type 0) → Type 0

@@ -7,7 +7,7 @@ use Rattle.sim_tree.specs.Syntax.{Also, Arms, Begin, Block, Expression, Expressi
 use Rattle.sim_tree.specs.Syntax as syntax
 use Rattle.sim_code.specs.declared.instr.Instr.TheVariants as i
 use Rattle.sim_code.specs.Code.{CodeOf}
-use Rattle.sim_code.specs.Transfers.{Calling, Detaching, Transfer}
+use Rattle.sim_code.specs.Transfers.{Calling, Detaching, Resuming, Transfer}
 use Rattle.sim_meaning.specs.Attributes.{cell_of_connection, connection_at, transfer_at}
 use Rattle.sim_meaning.specs.Closing.{class_parameters, is_attribute, is_text, is_variable, stream_of}
 use Rattle.sim_meaning.specs.Levels.{class_at}
@@ -47,7 +47,7 @@ PrefixedAt s code site n line es None p q = ⊥
 PrefixedAt s code site n line es (Some zero) p q = ⊥
 PrefixedAt s code site n line es (Some (suc k)) p q = PrefixAt s code site n line (suc k) es p q
 
--- `detach` of what a tree gives, which is an object; `call` of an actual parameter
+-- `detach` of what a tree gives, which is an object; `call` and `resume` of an actual parameter
 pub record DetachAt (code : CodeOf) (line : ℕ) (Object : ℕ → ℕ → Type 0) (p q : ℕ) : Type 0 where
   pub x : ℕ
   pub y : ℕ
@@ -58,6 +58,7 @@ pub record DetachAt (code : CodeOf) (line : ℕ) (Object : ℕ → ℕ → Type 
 abbrev pub TransferAt : CodeOf → (line : ℕ) → Transfer → Expressions → (Around Operands : ℕ → ℕ → Type 0) → ℕ → ℕ → Type 0
 TransferAt code line Detaching NoMore Around Operands p q = DetachAt code line Around p q
 TransferAt code line Calling (Then e NoMore) Around Operands p q = (x : ℕ) × Operands p x × At code i.Attach line x q
+TransferAt code line Resuming (Then e NoMore) Around Operands p q = (x : ℕ) × Operands p x × At code i.Resume line x q
 TransferAt code line t es Around Operands p q = ⊥
 
 -- a transfer of control, or another call

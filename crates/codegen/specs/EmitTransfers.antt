@@ -9,7 +9,7 @@ use Rattle.sim_tree.specs.declared.expr.Identifier.{Identifier}
 use Rattle.sim_tree.specs.Syntax.{Expression, expressions}
 use Rattle.sim_tree.specs.SyntaxOf.{syntax_of}
 use Rattle.sim_code.specs.declared.instr.Instr.TheVariants as i
-use Rattle.sim_code.specs.Transfers.{Calling, Detaching, Transfer}
+use Rattle.sim_code.specs.Transfers.{Calling, Detaching, Resuming, Transfer}
 use Rattle.sim_meaning.specs.Attributes.{transfer_denoted}
 use Rattle.codegen_expr.specs.declared.operators.Object.{Object}
 use Rattle.codegen_expr.specs.declared.spot.Spot.{Spot}
@@ -26,8 +26,9 @@ use Rattle.codegen.specs.CodeStm.{TransferAt}
 abbrev pub meant : Word → Transfer
 meant word.Detaching = Detaching
 meant word.Calling = Calling
+meant word.Resuming = Resuming
 
--- `detach` or `call`, where what is denoted is one of these
+-- `detach`, `call` or `resume`, where what is denoted is one of these
 unfoldable pub FindsTransfer : Option Word → Option Denotation → Type 0
 FindsTransfer x d = option_map meant x ≡ transfer_denoted d
 
@@ -36,7 +37,7 @@ unfoldable pub WritesDetach : Bound → Spot → (old new : DraftOf) → TokenNo
 WritesDetach b w old new token =
     Emits w old new ⊤ (λ final site p q. (x : ℕ) × At final i.NotNone (line_at (source_of b) token.0) p x × At final i.Detach (line_at (source_of b) token.0) x q)
 
--- `detach` of what is found around, or `call`
+-- `detach` of what is found around, or `call` or `resume`
 unfoldable pub WritesTransfer : Bound → Spot → (old new : DraftOf) → Word → Identifier → List Expr → Type 0
 WritesTransfer b w old new t x ys =
     let s = source_of b in

@@ -1,4 +1,4 @@
-//! Transfers of control: `detach` and `call`.
+//! Transfers of control: `detach`, `call` and `resume`.
 ghost use Rattle.std.specs.Prelude.{OnOk};
 ghost use Rattle.codegen_expr.specs.Known.{Known};
 ghost use Rattle.codegen.specs.EmitTransfers.{FindsTransfer, WritesDetach, WritesDetachBehind, WritesTransfer};
@@ -18,6 +18,8 @@ pub(crate) enum Transfer {
     Detaching,
     /// By `call`, whose actual parameter is the object.
     Calling,
+    /// By `resume`, whose actual parameter is the object.
+    Resuming,
 }
 
 /// By which word control is transferred, where what is denoted is one of these.
@@ -31,6 +33,9 @@ pub(crate) fn transfer_denoted(denotation: Option<Denotation>) -> Option<Transfe
         }
         Some(Denotation::Standard(StandardName::Procedure(Standard::Call))) => {
             Some(Transfer::Calling)
+        }
+        Some(Denotation::Standard(StandardName::Procedure(Standard::Resume))) => {
+            Some(Transfer::Resuming)
         }
         _ => None,
     }
@@ -51,7 +56,7 @@ fn emit_detach(
     Ok(())
 }
 
-/// `detach` of the object or the prefixed block around, or of the connected object; or `call`.
+/// `detach` of the object or the prefixed block around, or of the connected object; or `call` or `resume`.
 #[tactic(auto, using(crate::proofs::TransferCalls::transfers))]
 pub(crate) fn emit_transfer(
     bound: &Bound,
@@ -82,6 +87,15 @@ pub(crate) fn emit_transfer(
             }
             emit_list(bound, cells, spot, draft, 0, arguments)?;
             draft.put(Instr::Attach, line_at(bound, name.token))?;
+            Ok(())
+        }
+        Transfer::Resuming => {
+            if arguments.len() != 1 {
+                draft.give_up();
+                return Ok(());
+            }
+            emit_list(bound, cells, spot, draft, 0, arguments)?;
+            draft.put(Instr::Resume, line_at(bound, name.token))?;
             Ok(())
         }
     }

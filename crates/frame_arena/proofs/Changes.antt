@@ -6,8 +6,9 @@ use Rattle.sim_values.specs.declared.value.FrameRef.{FrameRef}
 use Rattle.sim_code.specs.Instances.{Instance, given, given_in, is_live, is_live_in, live, unless_given, with_instance}
 use Rattle.sim_code.specs.Machine.{Cells, Frames}
 use Rattle.frame_arena.specs.declared.slot.Slot.{Slot}
+use Rattle.frame_arena.specs.declared.frames.Component.{Component}
 use Rattle.frame_arena.specs.declared.frames.Frame.{Frame}
-use Rattle.frame_arena.specs.Frames.{Apart, Has, Holds, Leads, DetachedBefore, IsDetached, StandsAs, frame_at, instance_of, no_frame}
+use Rattle.frame_arena.specs.Frames.{Apart, Has, Holds, Leads, KeptBefore, IsKeeping, StandsAs, frame_at, instance_of, no_frame}
 
 -- ---- lists and numbers
 
@@ -66,12 +67,12 @@ module _ (fs : List Frame) (place : ℕ) (f : Frame) where
         | inr n ↦ ap (λ g. g.cells) (frame_other q n)
       ]
 
-  -- where the frame that is changed is not detached, or was so before
-  pub detached_set : ((n : ℕ) → IsDetached (set fs place f) place n → IsDetached fs place n) → DetachedBefore fs (set fs place f)
-  detached_set here q n h =
+  -- where the frame that is changed keeps no chain, or did so before
+  pub kept_set : ((n : ℕ) (c : Component) → IsKeeping (set fs place f) place n c → IsKeeping fs place n c) → KeptBefore fs (set fs place f)
+  kept_set here q n c h =
       elim (same_or_not q place) [
-        | inl e ↦ subst (λ z. IsDetached fs z n) (sym e) (here n (subst (λ z. IsDetached (set fs place f) z n) e h))
-        | inr ne ↦ (has_from q n ne h.0, sym (ap (λ g. g.component) (frame_other q ne)) ∙ h.1)
+        | inl e ↦ subst (λ z. IsKeeping fs z n c) (sym e) (here n c (subst (λ z. IsKeeping (set fs place f) z n c) e h))
+        | inr ne ↦ (has_from q n ne h.0, sym (ap (λ g. g.component) (frame_other q ne)) ∙ h.1, h.2)
       ]
 
 -- regions stay apart
@@ -133,5 +134,5 @@ gives fs cells m place f h there on free b0 c0 =
     subst (λ m2. Holds (set fs place f) cells m2) (sym (given_is m (frame_at fs place).number _ e))
     (gives_in fs cells m place (frame_at fs place).number f _ h has e free b0 c0)
 
-pub detached_given : (fs : List Frame) (place : ℕ) (f : Frame) → place < length fs → f.live ≡ false → DetachedBefore fs (set fs place f)
-detached_given fs place f there free = detached_set fs place f (λ n h. absurd (off (sym free ∙ sym (ap (λ g. g.live) (frame_same fs place f there)) ∙ h.0.1)))
+pub kept_given : (fs : List Frame) (place : ℕ) (f : Frame) → place < length fs → f.live ≡ false → KeptBefore fs (set fs place f)
+kept_given fs place f there free = kept_set fs place f (λ n c h. absurd (off (sym free ∙ sym (ap (λ g. g.live) (frame_same fs place f there)) ∙ h.0.1)))

@@ -10,9 +10,9 @@ use Rattle.frame_arena.specs.declared.slot.Slot.{Slot}
 use Rattle.frame_arena.specs.declared.frames.Frame.{Frame}
 use Rattle.frame_arena.specs.Slots.{cell_value, empty_slot, value_of}
 use Rattle.frame_arena.specs.Stacks.{slot_at}
-use Rattle.frame_arena.specs.Frames.{Apart, DetachedBefore, Has, Holds, HoldsAfter, Leads, SlotLeads, cells_at, StandsAs, empty_memory, frame_at, instance_of}
+use Rattle.frame_arena.specs.Frames.{Apart, KeptBefore, Has, Holds, HoldsAfter, Leads, SlotLeads, cells_at, StandsAs, empty_memory, frame_at, instance_of}
 use Rattle.frame_arena.proofs.Reading.{cell_count, live_of}
-use Rattle.frame_arena.proofs.Changes.{apart_kept, base_kept, cells_kept, detached_set, frame_other, frame_same, get_set_other, get_set_same, has_from, has_to, live_other, off, same_or_not}
+use Rattle.frame_arena.proofs.Changes.{apart_kept, base_kept, cells_kept, frame_other, frame_same, get_set_other, get_set_same, has_from, has_to, kept_set, live_other, off, same_or_not}
 
 -- ---- an entry
 
@@ -315,11 +315,11 @@ keeps fs cells m place h there on =
           (h.apart p q (subst (λ l. p < l) (length-set fs place f) hp) (subst (λ l. q < l) (length-set fs place f) hq) d);
     }
 
-pub detached_kept : (fs : List Frame) (place : ℕ) → place < length fs → DetachedBefore fs (set fs place (record (frame_at fs place) { kept = true }))
-detached_kept fs place there =
+pub chains_kept : (fs : List Frame) (place : ℕ) → place < length fs → KeptBefore fs (set fs place (record (frame_at fs place) { kept = true }))
+chains_kept fs place there =
     let f : Frame = record (frame_at fs place) { kept = true } in
     let same = frame_same fs place f there in
-    detached_set fs place f (λ n h. ((there, sym (ap (λ g. g.live) same) ∙ h.0.1, sym (ap (λ g. g.number) same) ∙ h.0.2), sym (ap (λ g. g.component) same) ∙ h.1))
+    kept_set fs place f (λ n c h. ((there, sym (ap (λ g. g.live) same) ∙ h.0.1, sym (ap (λ g. g.number) same) ∙ h.0.2), sym (ap (λ g. g.component) same) ∙ h.1, h.2))
 
 -- ---- the beginning
 

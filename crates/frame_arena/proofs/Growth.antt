@@ -9,7 +9,7 @@ use Rattle.frame_arena.specs.Slots.{cell_value, empty_slot}
 use Rattle.frame_arena.specs.Stacks.{slot_at}
 use Rattle.sim_code.specs.Outcome.{ArrayOf}
 use Rattle.frame_arena.specs.Arrays.{AllLeadArrays, RegionOf, SlotLeadsArray}
-use Rattle.frame_arena.specs.Frames.{Apart, Has, Holds, Leads, SlotLeads, cells_at, DetachedBefore, StandsAs, frame_at, instance_of}
+use Rattle.frame_arena.specs.Frames.{Apart, Has, Holds, Leads, SlotLeads, cells_at, KeptBefore, StandsAs, frame_at, instance_of}
 use Rattle.frame_arena.proofs.Changes.{off, same_or_not}
 
 grown_at : (cells : List Slot) (q : ℕ) → slot_at (cells ++ empty_slot ∷ []) q ≡ slot_at cells q
@@ -68,10 +68,10 @@ module _ (fs : List Frame) (f : Frame) (free : f.live ≡ false) where
   pub leads_more : (m : Frames) (r : FrameRef) → Leads fs m r → Leads (fs ++ f ∷ []) m r
   leads_more m r leads = (leads.0, λ on. has_more r.frame r.stamp (leads.1 on))
 
-  pub detached_more : DetachedBefore fs (fs ++ f ∷ [])
-  detached_more q n h =
+  pub kept_more : KeptBefore fs (fs ++ f ∷ [])
+  kept_more q n c h =
       let was = has_old q n h.0 in
-      (was, sym (ap (λ g. g.component) (frame_before fs f q was.0)) ∙ h.1)
+      (was, sym (ap (λ g. g.component) (frame_before fs f q was.0)) ∙ h.1, h.2)
 
 turned : (f g : Frame) → Apart f g → Apart g f
 turned f g h = elim h [ inl a ↦ inr a | inr a ↦ inl a ]

@@ -1,4 +1,5 @@
 pub mod Standings
+pub mod Enclosers
 pub mod Tops
 pub mod Reading
 pub mod Changes

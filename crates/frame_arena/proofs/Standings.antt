@@ -1,37 +1,16 @@
 -- A frame that stands otherwise as a component.
 use Rattle.std.proofs.Common.{◌≡◌, ℕ, ◌<◌, inl, inr, List, length, set, sym, subst, refl, length-set, ap, ◌∙◌, arith}
 use Rattle.std.proofs.lemmas.Option.{slice_get_within}
-use Rattle.std.specs.Prelude.{true, Option, Some, None, slice_get}
+use Rattle.std.specs.Prelude.{true, Some, slice_get}
 use Rattle.sim_values.specs.declared.value.FrameRef.{FrameRef}
-use Rattle.sim_chains.specs.Components.{AttachedObject, DetachedObject, NoObject, Standing, TerminatedObject}
+use Rattle.sim_chains.specs.Components.{Standing}
 use Rattle.sim_code.specs.Machine.{Activation, Frames}
 use Rattle.frame_arena.specs.declared.slot.Slot.{Slot}
 use Rattle.frame_arena.specs.declared.frames.Component.{Component}
-use Rattle.frame_arena.specs.declared.frames.Component.TheVariants as component
 use Rattle.frame_arena.specs.declared.frames.Frame.{Frame}
-use Rattle.frame_arena.specs.Frames.{DetachedBefore, Has, Holds, IsDetached, Leads, StandsAs, frame_at, instance_of}
-use Rattle.frame_arena.proofs.Changes.{apart_kept, base_kept, cells_kept, detached_set, frame_other, frame_same, get_set_other, get_set_same, same_or_not}
+use Rattle.frame_arena.specs.Frames.{Has, Holds, IsKeeping, Leads, StandsAs, frame_at, instance_of}
+use Rattle.frame_arena.proofs.Changes.{apart_kept, base_kept, cells_kept, frame_other, frame_same, get_set_other, get_set_same, same_or_not}
 use Rattle.frame_arena.proofs.Entries.{kept_by}
-
--- an attached object is neither none nor detached nor terminated
-pub none_attached : ◌≡◌ {A = Option (Standing Activation)} (Some (NoObject None)) (Some AttachedObject) → ⊥
-none_attached e = cc
-
-pub detached_attached : (chain : List Activation) → ◌≡◌ {A = Option (Standing Activation)} (Some (DetachedObject chain)) (Some AttachedObject) → ⊥
-detached_attached chain e = cc
-
-pub terminated_attached : ◌≡◌ {A = Option (Standing Activation)} (Some TerminatedObject) (Some AttachedObject) → ⊥
-terminated_attached e = cc
-
--- a detached one is nothing else
-pub no_object_detached : component.NoObject ≡ component.Detached → ⊥
-no_object_detached e = cc
-
-pub attached_detached : component.Attached ≡ component.Detached → ⊥
-attached_detached e = cc
-
-pub terminated_detached : component.Terminated ≡ component.Detached → ⊥
-terminated_detached e = cc
 
 module _ (fs : List Frame) (place : ℕ) (there : place < length fs) (c : Component) where
   changed : Frame
@@ -41,27 +20,22 @@ module _ (fs : List Frame) (place : ℕ) (there : place < length fs) (c : Compon
   unfolding changed
   was q n hq = (subst (λ l. q < l) (length-set fs place changed) hq.0, sym (kept_by (λ g. g.live) fs place changed q there refl) ∙ hq.1, sym (kept_by (λ g. g.number) fs place changed q there refl) ∙ hq.2)
 
-  will : (q n : ℕ) → Has fs q n → Has (set fs place changed) q n
+  pub has_kept : (q n : ℕ) → Has fs q n → Has (set fs place (record (frame_at fs place) { component = c })) q n
   unfolding changed
-  will q n hq = (subst (λ l. q < l) (sym (length-set fs place changed)) hq.0, kept_by (λ g. g.live) fs place changed q there refl ∙ hq.1, kept_by (λ g. g.number) fs place changed q there refl ∙ hq.2)
+  has_kept q n hq = (subst (λ l. q < l) (sym (length-set fs place changed)) hq.0, kept_by (λ g. g.live) fs place changed q there refl ∙ hq.1, kept_by (λ g. g.number) fs place changed q there refl ∙ hq.2)
 
   pub component_leads : (m : Frames) (standings : List (Standing Activation)) (r : FrameRef) → Leads fs m r → Leads (set fs place (record (frame_at fs place) { component = c })) (record m { standings = standings }) r
   unfolding changed
-  component_leads m standings r leads = (leads.0, λ on. will r.frame r.stamp (leads.1 on))
-
-  -- in the region there is no detached object
-  pub no_more_detached : (c ≡ component.Detached → ⊥) → (n : ℕ) → IsDetached (set fs place (record (frame_at fs place) { component = c })) place n → ⊥
-  unfolding changed
-  no_more_detached other n h = other (sym (ap (λ g. g.component) (frame_same fs place changed there)) ∙ h.1)
-
-  pub fewer_detached : (c ≡ component.Detached → ⊥) → DetachedBefore fs (set fs place (record (frame_at fs place) { component = c }))
-  unfolding changed
-  fewer_detached other = detached_set fs place changed (λ n h. absurd (no_more_detached other n h))
+  component_leads m standings r leads = (leads.0, λ on. has_kept r.frame r.stamp (leads.1 on))
 
   -- at other places nothing is changed
-  pub detached_elsewhere : (q n : ℕ) → (q ≡ place → ⊥) → IsDetached (set fs place (record (frame_at fs place) { component = c })) q n → IsDetached fs q n
+  pub kept_elsewhere : (q n : ℕ) (d : Component) → (q ≡ place → ⊥) → IsKeeping (set fs place (record (frame_at fs place) { component = c })) q n d → IsKeeping fs q n d
   unfolding changed
-  detached_elsewhere q n ne h = (was q n h.0, sym (ap (λ g. g.component) (frame_other fs place changed q ne)) ∙ h.1)
+  kept_elsewhere q n d ne h = (was q n h.0, sym (ap (λ g. g.component) (frame_other fs place changed q ne)) ∙ h.1, h.2)
+
+  pub stands_there : (frame_at (set fs place (record (frame_at fs place) { component = c })) place).component ≡ c
+  unfolding changed
+  stands_there = ap (λ g. g.component) (frame_same fs place changed there)
 
   pub stands_anew : (s : Standing Activation) → StandsAs c (Some s) → (cells : List Slot) (m : Frames) → Holds fs cells m → (frame_at fs place).live ≡ true →
       Holds (set fs place (record (frame_at fs place) { component = c })) cells (record m { standings = set m.standings (frame_at fs place).number s })

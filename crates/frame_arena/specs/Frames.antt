@@ -2,7 +2,7 @@
 -- number is used again, so that what was given back leaves no trace but in the machine's memory.
 use Rattle.std.specs.Prelude.{◌≡◌, ℕ, zero, suc, ◌+◌, ◌<◌, ◌≤◌, ◌⊎◌, Bool, true, false, List, [], ◌∷◌, length, get_or, slice_get, Option, Some, None}
 use Rattle.sim_values.specs.declared.value.FrameRef.{FrameRef}
-use Rattle.sim_chains.specs.Components.{AttachedObject, DetachedObject, NoObject, Standing, TerminatedObject}
+use Rattle.sim_chains.specs.Components.{AttachedObject, DetachedObject, NoObject, ResumedObject, Standing, TerminatedObject}
 use Rattle.sim_code.specs.Instances.{Instance, is_live, no_instances}
 use Rattle.sim_code.specs.Machine.{Activation, Cells, Frames, Value}
 use Rattle.frame_arena.specs.declared.slot.Slot.{Slot}
@@ -82,11 +82,13 @@ AllLead frames m slots = (at : ℕ) → SlotLeads frames m (slot_at slots at)
 abbrev pub Apart : Frame → Frame → Type 0
 Apart f g = (f.base + f.cells ≤ g.base) ⊎ (g.base + g.cells ≤ f.base)
 
--- how a frame stands among the components; that of a detached object keeps some chain
+-- how a frame stands among the components; where it keeps a chain, that is some chain
 abbrev pub StandsAs : Component → Option (Standing Activation) → Type 0
 StandsAs component.NoObject s = s ≡ Some (NoObject None)
+StandsAs component.Waiting s = (main : List Activation) × (s ≡ Some (NoObject (Some main)))
 StandsAs component.Attached s = s ≡ Some AttachedObject
 StandsAs component.Detached s = (chain : List Activation) × (s ≡ Some (DetachedObject chain))
+StandsAs component.Resumed s = s ≡ Some ResumedObject
 StandsAs component.Terminated s = s ≡ Some TerminatedObject
 
 -- how a frame stands at its entry, which is that of an object or is not
@@ -94,13 +96,30 @@ abbrev pub stands_first : (object : Bool) → Standing Activation
 stands_first true = AttachedObject
 stands_first false = NoObject None
 
--- the frame of a number lies at a place, and is that of a detached object
-abbrev pub IsDetached : List Frame → (place number : ℕ) → Type 0
-IsDetached frames place number = Has frames place number × ((frame_at frames place).component ≡ component.Detached)
+-- whether a frame that stands so is that of an object
+abbrev pub is_object_as : Component → Bool
+is_object_as component.NoObject = false
+is_object_as component.Waiting = false
+is_object_as _ = true
 
--- no other frame is that of a detached object than before
-abbrev pub DetachedBefore : (old new : List Frame) → Type 0
-DetachedBefore old new = (place number : ℕ) → IsDetached new place number → IsDetached old place number
+-- whether a frame that stands so keeps a chain
+abbrev pub keeps_chain : Component → Bool
+keeps_chain component.Waiting = true
+keeps_chain component.Detached = true
+keeps_chain _ = false
+
+-- how it stands with that chain
+abbrev pub keeping : Component → List Activation → Standing Activation
+keeping component.Detached chain = DetachedObject chain
+keeping _ chain = NoObject (Some chain)
+
+-- the frame of a number lies at a place, and stands as one that keeps a chain
+abbrev pub IsKeeping : List Frame → (place number : ℕ) → Component → Type 0
+IsKeeping frames place number c = Has frames place number × ((frame_at frames place).component ≡ c) × (keeps_chain c ≡ true)
+
+-- no frame keeps a chain that did not stand so before
+abbrev pub KeptBefore : (old new : List Frame) → Type 0
+KeptBefore old new = (place number : ℕ) (c : Component) → IsKeeping new place number c → IsKeeping old place number c
 
 -- The frames in the regions are the instances that are not given back.
 pub record Holds (frames : List Frame) (cells : List Slot) (m : Frames) : Type 0 where

@@ -2,11 +2,11 @@
 //! in the order of entry is never used again. A reference to a frame has its region and, as its stamp, its number.
 ghost use Rattle.std.specs.Prelude.{◌≡◌, ℕ, ◌<◌, List, IfSome, Some, None, length, slice_get, slice_set, nat_lt, true, false};
 ghost use Rattle.sim_values.specs.declared.value.FrameRef.{FrameRef};
-ghost use Rattle.sim_chains.specs.Components.{AttachedObject, DetachedObject, Standing, TerminatedObject};
+ghost use Rattle.sim_chains.specs.Components.{Standing};
 ghost use Rattle.sim_code.specs.Instances.{Instance, at_level as frame_of_level, entered, given, is_given_at_end as ends_for_good, is_live, with_instance};
 ghost use Rattle.sim_code.specs.Machine.{Activation, Cells, Frames, Value, joined, cell as cell_of_frame, cell_set};
 ghost use Rattle.frame_arena.specs.declared.slot.Slot.{Slot};
-ghost use Rattle.frame_arena.specs.Frames.{DetachedBefore, Has, Holds, HoldsAfter, IsDetached, IsSpan, Leads, LeadsAfter, SlotLeads, StandsAs, cells_at, found_value, frame_at, instance_of, number_in, number_there, rooms, span_number, stands_first};
+ghost use Rattle.frame_arena.specs.Frames.{Has, Holds, HoldsAfter, IsKeeping, IsSpan, KeptBefore, Leads, LeadsAfter, SlotLeads, StandsAs, cells_at, found_value, frame_at, instance_of, keeps_chain, number_in, number_there, rooms, span_number, stands_first};
 ghost use Rattle.frame_arena.specs.Slots.{cell_value, value_of};
 ghost use Rattle.frame_arena.specs.Stacks.{slot_at};
 ghost use Rattle.sim_code.specs.Outcome.{ArrayOf};
@@ -18,12 +18,16 @@ use sim_values::FrameRef;
 /// How a frame stands as a component.
 #[derive(Clone, Copy, Debug, PartialEq, Eq)]
 pub enum Component {
-    /// It is that of no object.
+    /// It is that of no object, and keeps no chain.
     NoObject,
+    /// It is that of a system head whose main component waits while a resumed object operates.
+    Waiting,
     /// It is that of an attached object.
     Attached,
     /// It is that of a detached object.
     Detached,
+    /// It is that of a resumed object.
+    Resumed,
     /// It is that of a terminated object.
     Terminated,
 }
@@ -248,7 +252,7 @@ pub fn give_back(frames: &mut [Frame], heads: &mut [u32], place: u32)
     ensures first { let block = (frame_at frames.old place).block in
         block < length heads.old → slice_get heads.new block ≡ Some place }
     ensures leads { (cells : List Slot) (m : Frames) (r : FrameRef) → Holds frames.old cells m → Leads frames.old m r → Leads frames.new (given m (frame_at frames.old place).number) r }
-    ensures detached { DetachedBefore frames.old frames.new }
+    ensures chains { KeptBefore frames.old frames.new }
 {
     let frame = &mut frames[place as usize];
     frame.live = false;
@@ -280,7 +284,7 @@ pub struct Entry {
 #[inline(always)]
 fn first_component(object: bool) -> Component
     ensures standing { StandsAs result (Some (stands_first object)) }
-    ensures other { result ≡ Component.Detached → ⊥ }
+    ensures other { keeps_chain result ≡ false }
 {
     if object {
         Component::Attached
@@ -300,7 +304,7 @@ pub fn enter(frames: &mut [Frame], place: usize, entry: Entry)
     ensures holds { (cells : List Slot) (m : Frames) → Holds frames.old cells m → entry.number ≡ length m.instances → ((r : FrameRef) → entry.parent ≡ Some r → Leads frames.old m r) →
         let region = frame_at frames.old place in
         Holds frames.new cells (entered m (record { text = entry.block; level = entry.level; encloser = number_in entry.parent; cells = cells_at cells region.base region.cells; passing = entry.passing; kept = false; given_back = false }) (stands_first entry.object)) }
-    ensures detached { DetachedBefore frames.old frames.new }
+    ensures chains { KeptBefore frames.old frames.new }
 {
     let frame = &mut frames[place];
     frame.live = true;
@@ -370,25 +374,9 @@ pub fn keep(frames: &mut [Frame], place: usize)
     ensures leads { (cells : List Slot) (m : Frames) (r : FrameRef) → Holds frames.old cells m → Leads frames.old m r →
         let frame = frame_at frames.old place in
         Leads frames.new (with_instance m frame.number (record (instance_of cells frame) { kept = true })) r }
-    ensures detached { DetachedBefore frames.old frames.new }
+    ensures chains { KeptBefore frames.old frames.new }
 {
     frames[place].kept = true;
-}
-
-/// Whether the frame in a region is that of an attached object.
-#[inline(always)]
-pub fn is_attached(frames: &[Frame], place: usize) -> bool
-    requires there { place < length frames.now }
-    requires live { (frame_at frames.now place).live ≡ true }
-    ensures yes { result ≡ true → (cells : List Slot) (m : Frames) → Holds frames.now cells m → slice_get m.standings (frame_at frames.now place).number ≡ Some AttachedObject }
-    ensures no { result ≡ false → (cells : List Slot) (m : Frames) → Holds frames.now cells m → slice_get m.standings (frame_at frames.now place).number ≡ Some AttachedObject → ⊥ }
-{
-    match frames[place].component {
-        Component::Attached => true,
-        Component::NoObject => false,
-        Component::Detached => false,
-        Component::Terminated => false,
-    }
 }
 
 /// How the frame in a region stands as a component.
@@ -400,46 +388,18 @@ pub fn component_at(frames: &[Frame], place: usize) -> Component
     frames[place].component
 }
 
-/// The object whose frame is in a region is terminated.
+/// The frame in a region stands so from now on. What chain it keeps, where it keeps one, is for the caller to say.
 #[inline(always)]
-pub fn terminate(frames: &mut [Frame], place: usize)
+pub fn stand(frames: &mut [Frame], place: usize, component: Component)
     requires there { place < length frames.old }
     requires live { (frame_at frames.old place).live ≡ true }
     ensures stacks { rooms frames.new ≡ rooms frames.old }
-    ensures holds { (cells : List Slot) (m : Frames) → Holds frames.old cells m →
-        Holds frames.new cells (record m { standings = slice_set m.standings (frame_at frames.old place).number TerminatedObject }) }
+    ensures holds { (cells : List Slot) (m : Frames) (standing : Standing Activation) → StandsAs component (Some standing) → Holds frames.old cells m →
+        Holds frames.new cells (record m { standings = slice_set m.standings (frame_at frames.old place).number standing }) }
     ensures leads { (m : Frames) (standings : List (Standing Activation)) (r : FrameRef) → Leads frames.old m r → Leads frames.new (record m { standings = standings }) r }
-    ensures detached { DetachedBefore frames.old frames.new }
-    ensures other { (number : ℕ) → IsDetached frames.new place number → ⊥ }
+    ensures has { (at number : ℕ) → Has frames.old at number → Has frames.new at number }
+    ensures chains { (at number : ℕ) (c : Component) → (at ≡ place → ⊥) → IsKeeping frames.new at number c → IsKeeping frames.old at number c }
+    ensures stands { (frame_at frames.new place).component ≡ component }
 {
-    frames[place].component = Component::Terminated;
-}
-
-/// The object whose frame is in a region is attached.
-#[inline(always)]
-pub fn attach(frames: &mut [Frame], place: usize)
-    requires there { place < length frames.old }
-    requires live { (frame_at frames.old place).live ≡ true }
-    ensures stacks { rooms frames.new ≡ rooms frames.old }
-    ensures holds { (cells : List Slot) (m : Frames) → Holds frames.old cells m →
-        Holds frames.new cells (record m { standings = slice_set m.standings (frame_at frames.old place).number AttachedObject }) }
-    ensures leads { (m : Frames) (standings : List (Standing Activation)) (r : FrameRef) → Leads frames.old m r → Leads frames.new (record m { standings = standings }) r }
-    ensures detached { DetachedBefore frames.old frames.new }
-    ensures other { (number : ℕ) → IsDetached frames.new place number → ⊥ }
-{
-    frames[place].component = Component::Attached;
-}
-
-/// The object whose frame is in a region is detached. What chain it keeps is for the caller to say.
-#[inline(always)]
-pub fn detach(frames: &mut [Frame], place: usize)
-    requires there { place < length frames.old }
-    requires live { (frame_at frames.old place).live ≡ true }
-    ensures stacks { rooms frames.new ≡ rooms frames.old }
-    ensures holds { (cells : List Slot) (m : Frames) (chain : List Activation) → Holds frames.old cells m →
-        Holds frames.new cells (record m { standings = slice_set m.standings (frame_at frames.old place).number (DetachedObject chain) }) }
-    ensures leads { (m : Frames) (standings : List (Standing Activation)) (r : FrameRef) → Leads frames.old m r → Leads frames.new (record m { standings = standings }) r }
-    ensures detached { (at number : ℕ) → (at ≡ place → ⊥) → IsDetached frames.new at number → IsDetached frames.old at number }
-{
-    frames[place].component = Component::Detached;
+    frames[place].component = component;
 }

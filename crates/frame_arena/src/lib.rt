@@ -5,6 +5,7 @@ mod arena;
 pub mod arrays;
 mod contents;
 pub mod frames;
+pub mod heads;
 pub mod operators;
 mod region;
 pub mod regions;

@@ -4,7 +4,7 @@ ghost use Rattle.sim_code.specs.Machine.{Frames};
 ghost use Rattle.frame_arena.specs.declared.frames.Frame.{Frame};
 ghost use Rattle.sim_code.specs.Outcome.{ArrayOf};
 ghost use Rattle.frame_arena.specs.Arrays.{AllLeadArrays, RegionOf};
-ghost use Rattle.frame_arena.specs.Frames.{DetachedBefore, Holds, frame_at, HasShape, Laid, Leads, rooms};
+ghost use Rattle.frame_arena.specs.Frames.{Holds, frame_at, HasShape, KeptBefore, Laid, Leads, rooms};
 ghost use Rattle.sim_values.specs.declared.value.FrameRef.{FrameRef};
 
 use crate::frames::{Component, Frame};
@@ -40,7 +40,7 @@ pub fn add_region(
     ensures operands { IfOk result (λ place. (frame_at frames.new.items place).floor + room ≡ length stacks.new.items) }
     ensures holds { IfOk result (λ place. (m : Frames) → Holds frames.old.items cells.old.items m → Holds frames.new.items cells.new.items m) }
     ensures leads { IfOk result (λ place. (m : Frames) (r : FrameRef) → Leads frames.old.items m r → Leads frames.new.items m r) }
-    ensures detached { IfOk result (λ place. DetachedBefore frames.old.items frames.new.items) }
+    ensures chains { IfOk result (λ place. KeptBefore frames.old.items frames.new.items) }
     ensures arrays { IfOk result (λ place. (regions : List RegionOf) (arrays : List ArrayOf) → AllLeadArrays regions arrays cells.old.items → AllLeadArrays regions arrays cells.new.items) }
     ensures stacks { IfOk result (λ place. Laid 0 (rooms frames.old.items) (length stacks.old.items) → Laid 0 (rooms frames.new.items) (length stacks.new.items)) }
 {

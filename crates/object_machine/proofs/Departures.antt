@@ -1,11 +1,10 @@
 -- What the end of a frame leaves.
-use Rattle.std.proofs.Common.{◌≡◌, ℕ, zero, suc, ◌+◌, ◌-◌, ◌≤◌, List, [], ◌∷◌, ◌++◌, length, length-set, map, take, sym, subst, refl, ap, ◌∙◌, arith}
+use Rattle.std.proofs.Common.{◌≡◌, ℕ, ◌+◌, ◌-◌, ◌≤◌, List, [], ◌∷◌, ◌++◌, length, length-set, map, take, sym, subst, refl, ap, ◌∙◌, arith}
 use Rattle.std.proofs.lemmas.List.{reverse-append}
 use Rattle.std.proofs.Math.Nat.{sub-add-eq}
 use Rattle.std.specs.Prelude.{Bool, true, false, if◌then◌else◌, Option, IfSome, Some, None, slice_get}
 use Rattle.sim_base.specs.declared.limits.Limits.{Limits}
 use Rattle.sim_values.specs.declared.value.FrameRef.{FrameRef}
-use Rattle.sim_chains.specs.Components.{DetachedObject}
 use Rattle.sim_code.specs.Code.{BlockOf, CodeOf}
 use Rattle.sim_code.specs.declared.code.BlockKind.{BlockKind}
 use Rattle.sim_code.specs.Arrays.{given_with, giving_back, words_with}
@@ -16,7 +15,7 @@ use Rattle.sim_code.specs.Outcome.{ArrayOf, Run, World}
 use Rattle.frame_arena.specs.declared.frames.Frame.{Frame}
 use Rattle.frame_arena.specs.declared.slot.Slot.{Slot}
 use Rattle.frame_arena.specs.Arrays.{AllLeadArrays, ElementsLead, HoldsArrays, KeepLeading, RegionOf}
-use Rattle.frame_arena.specs.Frames.{AllLead, DetachedBefore, Has, Holds, Leads, frame_at, instance_of}
+use Rattle.frame_arena.specs.Frames.{AllLead, Has, Holds, KeptBefore, Leads, frame_at, instance_of, keeping}
 use Rattle.frame_arena.specs.Stacks.{slot_at, values_of}
 use Rattle.object_machine.specs.declared.machine.Storage.{Storage}
 use Rattle.object_machine.specs.declared.machine.Registers.{Registers}
@@ -132,10 +131,10 @@ module _ (l : Limits) (p p2 : Storage) (b : BlockOf) (j : ℕ) (before : Option 
 
     given_stores : (words : ℕ) → words ≡ words_of_block b → p2.words ≡ p.words - words - words_with j o.arrays →
         p2.texts ≡ p.texts → p2.image ≡ p.image → p2.ticks ≡ p.ticks → p2.entered ≡ p.entered → p2.cells ≡ p.cells →
-        Holds p2.frames.items p.cells.items (given m j) → HoldsArrays p2.arrays (given_with j o.arrays) → ElementsLead p.frames.items m p2.arrays.regions → DetachedBefore p.frames.items p2.frames.items → length p.frames.items ≡ length p2.frames.items → p2.parks ≡ p.parks →
+        Holds p2.frames.items p.cells.items (given m j) → HoldsArrays p2.arrays (given_with j o.arrays) → ElementsLead p.frames.items m p2.arrays.regions → KeptBefore p.frames.items p2.frames.items → length p.frames.items ≡ length p2.frames.items → p2.parks ≡ p.parks →
         Stores l p before now o m → Stores l p2 before now (giving_back o j (words_of_block b)) (given m j)
     unfolding giving_back
-    given_stores words w used texts image ticks count same holds owned elements detached long parks s = record {
+    given_stores words w used texts image ticks count same holds owned elements before_kept long parks s = record {
       world = record {
         ticks = s.world.ticks ∙ sym ticks;
         words = ap (λ n. n - (words_of_block b + words_with j o.arrays)) s.world.words ∙ ap (λ n. p.words - (n + words_with j o.arrays)) (sym w) ∙ sub-add-eq p.words words (words_with j o.arrays) ∙ sym used;
@@ -150,16 +149,16 @@ module _ (l : Limits) (p p2 : Storage) (b : BlockOf) (j : ℕ) (before : Option 
       cells = subst (λ x. AllLeadArrays p2.arrays.regions (given_with j o.arrays) x.items) (sym same) (λ at names. arrays _ (s.cells at names));
       elements = λ place at names. leads _ (elements place at names);
       parks = parks_kept p.frames.items p2.frames.items p.parks.items p2.parks.items m (given m j) p.arrays.regions p2.arrays.regions o.arrays (given_with j o.arrays)
-          (ap (λ v. length v.items) parks ∙ s.parks.each ∙ long) (λ at. ap (λ v. parked v.items at) parks) detached
-          (λ place n chain d e. subst (λ w. slice_get w n ≡ Some (DetachedObject chain)) (sym (given_standings_in m j (slice_get m.instances j))) e) given_works s.parks;
+          (ap (λ v. length v.items) parks ∙ s.parks.each ∙ long) (λ at. ap (λ v. parked v.items at) parks) before_kept
+          (λ place n c chain d e. subst (λ w. slice_get w n ≡ Some (keeping c chain)) (sym (given_standings_in m j (slice_get m.instances j))) e) given_works s.parks;
     }
 
     pub ends_given : (words : ℕ) → is_given_at_end m j ≡ true → words ≡ words_of_block b → p2.words ≡ p.words - words - words_with j o.arrays →
         p2.texts ≡ p.texts → p2.image ≡ p.image → p2.ticks ≡ p.ticks → p2.entered ≡ p.entered → p2.cells ≡ p.cells →
-        Holds p2.frames.items p.cells.items (given m j) → HoldsArrays p2.arrays (given_with j o.arrays) → ElementsLead p.frames.items m p2.arrays.regions → DetachedBefore p.frames.items p2.frames.items → length p.frames.items ≡ length p2.frames.items → p2.parks ≡ p.parks →
+        Holds p2.frames.items p.cells.items (given m j) → HoldsArrays p2.arrays (given_with j o.arrays) → ElementsLead p.frames.items m p2.arrays.regions → KeptBefore p.frames.items p2.frames.items → length p.frames.items ≡ length p2.frames.items → p2.parks ≡ p.parks →
         Stores l p before now o m → Ends l p p2 b j before now o m
-    ends_given words e w used texts image ticks count same holds owned elements detached long parks s = record {
-      stores = subst (λ c. Stores l p2 before now (if c then giving_back o j (words_of_block b) else o) (if c then given m j else m)) (sym e) (given_stores words w used texts image ticks count same holds owned elements detached long parks s);
+    ends_given words e w used texts image ticks count same holds owned elements before_kept long parks s = record {
+      stores = subst (λ c. Stores l p2 before now (if c then giving_back o j (words_of_block b) else o) (if c then given m j else m)) (sym e) (given_stores words w used texts image ticks count same holds owned elements before_kept long parks s);
       others = λ r stack h. subst (λ c. AtWork p2 (if c then giving_back o j (words_of_block b) else o) (if c then given m j else m) r stack) (sym e) (given_works r stack h);
     }
 

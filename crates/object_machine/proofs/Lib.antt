@@ -3,6 +3,8 @@ pub mod Jumps
 pub mod Scalars
 pub mod Parks
 pub mod Transferring
+pub mod Anew
+pub mod Cutting
 pub mod Moving
 pub mod Places
 pub mod BlockFacts

@@ -3,7 +3,6 @@ use Rattle.std.proofs.Common.{◌≡◌, ℕ, zero, suc, ◌+◌, ◌≤◌, Lis
 use Rattle.std.specs.Prelude.{false, Option}
 use Rattle.sim_base.specs.declared.limits.Limits.{Limits}
 use Rattle.sim_values.specs.declared.value.FrameRef.{FrameRef}
-use Rattle.sim_chains.specs.Components.{DetachedObject}
 use Rattle.sim_code.specs.declared.stage.Stage.{Stage}
 use Rattle.sim_code.specs.Code.{BlockOf}
 use Rattle.sim_code.specs.Machine.{Frames, first_cells, passes}
@@ -11,7 +10,7 @@ use Rattle.sim_code.specs.Outcome.{ArrayOf, World}
 use Rattle.frame_arena.specs.declared.frames.Frame.{Frame}
 use Rattle.frame_arena.specs.declared.slot.Slot.{Slot}
 use Rattle.frame_arena.specs.Arrays.{AllLeadArrays, ElementsLead, HoldsArrays, RegionOf, names_array}
-use Rattle.frame_arena.specs.Frames.{AllLead, DetachedBefore, Holds, Leads, names_frame, number_in}
+use Rattle.frame_arena.specs.Frames.{AllLead, Holds, KeptBefore, Leads, keeping, names_frame, number_in}
 use Rattle.frame_arena.specs.Slots.{empty_slot}
 use Rattle.frame_arena.specs.Stacks.{slot_at, values_of}
 use Rattle.object_machine.specs.declared.openings.Beginning.{Beginning}
@@ -54,12 +53,12 @@ first_activation number count region entry room stage stack e s =
 
 module _ (l : Limits) (p p2 : Storage) (k : ℕ) (b : BlockOf) (g : Beginning) (parent : Option FrameRef) (t : working.Activation) (before : Option (List ℕ)) (now : Outside) (o : World) (m : Frames) (s : Stores l p before now o m) where
   pub opens : p2.arrays ≡ p.arrays → p2.texts ≡ p.texts → p2.image ≡ p.image → p2.ticks ≡ p.ticks → p2.words ≡ p.words → p2.entered ≡ p.entered + 1 →
-      length p2.parks.items ≡ length p2.frames.items → ((at : ℕ) → parked p2.parks.items at ≡ parked p.parks.items at) → DetachedBefore p.frames.items p2.frames.items →
+      length p2.parks.items ≡ length p2.frames.items → ((at : ℕ) → parked p2.parks.items at ≡ parked p.parks.items at) → KeptBefore p.frames.items p2.frames.items →
       Holds p2.frames.items p2.cells.items (opened m k b g parent) → ((r : FrameRef) → Leads p.frames.items m r → Leads p2.frames.items (opened m k b g parent) r) →
       AllLeadArrays p.arrays.regions o.arrays p2.cells.items →
       Leads p2.frames.items (opened m k b g parent) t.registers.home → AllLead p2.frames.items (opened m k b g parent) t.stack.items → AllLeadArrays p.arrays.regions o.arrays t.stack.items →
       activation_of t ≡ record { thunk = false; home = length m.instances; pc = g.start; stack = []; room = b.room; stage = g.stage } → Opens l p p2 k b g parent t before now o m
-  opens ea et ei ek ew en each same detached h leads cells home slots arrays top =
+  opens ea et ei ek ew en each same before_kept h leads cells home slots arrays top =
       let works : (r : Registers) (stack : List Slot) → Works p.frames.items m p.arrays.regions o.arrays r stack → Works p2.frames.items (opened m k b g parent) p2.arrays.regions o.arrays r stack = λ r stack w.
       subst (λ a. Works p2.frames.items (opened m k b g parent) a.regions o.arrays r stack) (sym ea)
       (record { home = leads r.home w.home; slots = lead_later p.frames.items p2.frames.items m (opened m k b g parent) leads stack w.slots; arrays_lead = w.arrays_lead }) in
@@ -73,8 +72,8 @@ module _ (l : Limits) (p p2 : Storage) (k : ℕ) (b : BlockOf) (g : Beginning) (
           arrays = subst (λ a. HoldsArrays a o.arrays) (sym ea) s.arrays;
           cells = subst (λ a. AllLeadArrays a.regions o.arrays p2.cells.items) (sym ea) cells;
           elements = subst (λ a. ElementsLead p2.frames.items (opened m k b g parent) a.regions) (sym ea) (λ place at names. leads _ (s.elements place at names));
-          parks = parks_kept p.frames.items p2.frames.items p.parks.items p2.parks.items m (opened m k b g parent) p.arrays.regions p2.arrays.regions o.arrays o.arrays each same detached
-              (λ place n chain d e. get_front m.standings (_ ∷ []) n (DetachedObject chain) e) works s.parks;
+          parks = parks_kept p.frames.items p2.frames.items p.parks.items p2.parks.items m (opened m k b g parent) p.arrays.regions p2.arrays.regions o.arrays o.arrays each same before_kept
+              (λ place n c chain d e. get_front m.standings (_ ∷ []) n (keeping c chain) e) works s.parks;
         };
         top = top;
         works = subst (λ a. Works p2.frames.items (opened m k b g parent) a.regions o.arrays t.registers t.stack.items) (sym ea) (record { home = home; slots = slots; arrays_lead = arrays });
@@ -87,11 +86,11 @@ module _ (l : Limits) (p p2 : Storage) (k : ℕ) (b : BlockOf) (g : Beginning) (
       Holds fs cs (opened m k b g parent) → ((r : FrameRef) → Leads p.frames.items m r → Leads fs (opened m k b g parent) r) →
       AllLeadArrays p.arrays.regions o.arrays cs →
       Leads fs (opened m k b g parent) t.registers.home → AllLead fs (opened m k b g parent) t.stack.items → AllLeadArrays p.arrays.regions o.arrays t.stack.items →
-      length p2.parks.items ≡ length fs → ((at : ℕ) → parked p2.parks.items at ≡ parked p.parks.items at) → DetachedBefore p.frames.items fs →
+      length p2.parks.items ≡ length fs → ((at : ℕ) → parked p2.parks.items at ≡ parked p.parks.items at) → KeptBefore p.frames.items fs →
       activation_of t ≡ record { thunk = false; home = length m.instances; pc = g.start; stack = []; room = b.room; stage = g.stage } → Opens l p p2 k b g parent t before now o m
-  opens_from fs cs ef ec ea et ei ek ew en h leads cells home slots arrays each same detached top =
+  opens_from fs cs ef ec ea et ei ek ew en h leads cells home slots arrays each same before_kept top =
       opens ea et ei ek ew en
-      (each ∙ ap (λ f. length f) (sym ef)) same (subst (λ f. DetachedBefore p.frames.items f) (sym ef) detached)
+      (each ∙ ap (λ f. length f) (sym ef)) same (subst (λ f. KeptBefore p.frames.items f) (sym ef) before_kept)
       (subst (λ f. Holds f p2.cells.items (opened m k b g parent)) (sym ef) (subst (λ x. Holds fs x (opened m k b g parent)) (sym ec) h))
       (λ r q. subst (λ f. Leads f (opened m k b g parent) r) (sym ef) (leads r q))
       (subst (λ x. AllLeadArrays p.arrays.regions o.arrays x) (sym ec) cells)

@@ -1,15 +1,15 @@
--- The chains that detached objects keep, where other things change.
-use Rattle.std.proofs.Common.{◌≡◌, ℕ, zero, suc, ◌<◌, List, [], ◌∷◌, ◌++◌, length, length-append, map, set, sym, subst, refl, ap, ◌∙◌, arith}
-use Rattle.std.specs.Prelude.{Option, Some, slice_get, slice_index_or}
+-- The chains that are kept, where other things change.
+use Rattle.std.proofs.Common.{◌≡◌, ℕ, zero, suc, ◌<◌, List, [], ◌∷◌, ◌++◌, length, map, set, sym, subst, refl, ap, ◌∙◌, arith}
+use Rattle.std.specs.Prelude.{Some, slice_get, slice_index_or}
 use Rattle.std.specs.declared.alloc.Global.{Global}
 use Rattle.std.specs.declared.vec.Vec.{Vec}
-use Rattle.sim_chains.specs.Components.{AttachedObject, DetachedObject, Standing}
 use Rattle.sim_code.specs.Machine.{Activation, Frames}
+use Rattle.frame_arena.specs.declared.frames.Component.{Component}
 use Rattle.sim_code.specs.Outcome.{ArrayOf}
 use Rattle.frame_arena.specs.declared.frames.Frame.{Frame}
 use Rattle.frame_arena.specs.declared.slot.Slot.{Slot}
 use Rattle.frame_arena.specs.Arrays.{RegionOf}
-use Rattle.frame_arena.specs.Frames.{DetachedBefore, IsDetached, rooms}
+use Rattle.frame_arena.specs.Frames.{IsKeeping, KeptBefore, keeping, rooms}
 use Rattle.object_machine.specs.declared.machine.Registers.{Registers}
 use Rattle.object_machine.specs.declared.machine.Activation as working
 use Rattle.object_machine.specs.Standing.{AllFit, Parks, Works, activation_of, parked}
@@ -25,9 +25,6 @@ standings_other (y ∷ ys) zero zero x h = absurd (h refl)
 standings_other (y ∷ ys) zero (suc j) x h = refl
 standings_other (y ∷ ys) (suc i) zero x h = refl
 standings_other (y ∷ ys) (suc i) (suc j) x h = standings_other ys i j x (λ e. h (ap suc e))
-
-pub detached_attached : (chain : List Activation) → ◌≡◌ {A = Option (Standing Activation)} (Some (DetachedObject chain)) (Some AttachedObject) → ⊥
-detached_attached chain e = cc
 
 -- as many regions have as many rooms
 rooms_length : (fs : List Frame) → length (rooms fs) ≡ length fs
@@ -61,14 +58,14 @@ parked_index [] place d h = absurd (omega (arith, h))
 parked_index (x ∷ xs) zero d h = refl
 parked_index (x ∷ xs) (suc place) d h = parked_index xs place d (omega (arith, h))
 
--- Where the parks are the same, no other object is detached, and what each of them keeps stays.
+-- Where the parks are the same, no other frame keeps a chain, and what each of them keeps stays.
 pub parks_kept : (fs fs2 : List Frame) (parks parks2 : List (Vec working.Activation Global)) (m m2 : Frames) (regions regions2 : List RegionOf) (arrays arrays2 : List ArrayOf) →
-    length parks2 ≡ length fs2 → ((at : ℕ) → parked parks2 at ≡ parked parks at) → DetachedBefore fs fs2 →
-    ((place n : ℕ) (chain : List Activation) → IsDetached fs2 place n → slice_get m.standings n ≡ Some (DetachedObject chain) → slice_get m2.standings n ≡ Some (DetachedObject chain)) →
+    length parks2 ≡ length fs2 → ((at : ℕ) → parked parks2 at ≡ parked parks at) → KeptBefore fs fs2 →
+    ((place n : ℕ) (c : Component) (chain : List Activation) → IsKeeping fs2 place n c → slice_get m.standings n ≡ Some (keeping c chain) → slice_get m2.standings n ≡ Some (keeping c chain)) →
     ((r : Registers) (stack : List Slot) → Works fs m regions arrays r stack → Works fs2 m2 regions2 arrays2 r stack) → Parks fs parks m regions arrays → Parks fs2 parks2 m2 regions2 arrays2
-parks_kept fs fs2 parks parks2 m m2 regions regions2 arrays arrays2 each same detached standings works h = record {
+parks_kept fs fs2 parks parks2 m m2 regions regions2 arrays arrays2 each same before standings works h = record {
   each = each;
-  chains = λ place n d. standings place n _ d (h.chains place n (detached place n d)) ∙ ap (λ l. Some (DetachedObject (map activation_of l))) (sym (same place));
+  chains = λ place n c d. standings place n c _ d (h.chains place n c (before place n c d)) ∙ ap (λ l. Some (keeping c (map activation_of l))) (sym (same place));
   work = λ place k t there. works t.registers t.stack.items (h.work place k t (subst (λ l. slice_get l k ≡ Some t) (same place) there));
   fit = λ place. subst (λ l. AllFit l) (sym (same place)) (h.fit place);
 }
@@ -77,15 +74,15 @@ parks_kept fs fs2 parks parks2 m m2 regions regions2 arrays arrays2 each same de
 pub parks_later : (fs : List Frame) (parks : List (Vec working.Activation Global)) (m m2 : Frames) (regions regions2 : List RegionOf) (arrays arrays2 : List ArrayOf) → m2.standings ≡ m.standings →
     ((r : Registers) (stack : List Slot) → Works fs m regions arrays r stack → Works fs m2 regions2 arrays2 r stack) → Parks fs parks m regions arrays → Parks fs parks m2 regions2 arrays2
 parks_later fs parks m m2 regions regions2 arrays arrays2 standings works h =
-    parks_kept fs fs parks parks m m2 regions regions2 arrays arrays2 h.each (λ at. refl) (λ place n d. d) (λ place n chain d e. subst (λ w. slice_get w n ≡ Some (DetachedObject chain)) (sym standings) e) works h
+    parks_kept fs fs parks parks m m2 regions regions2 arrays arrays2 h.each (λ at. refl) (λ place n c d. d) (λ place n c chain d e. subst (λ w. slice_get w n ≡ Some (keeping c chain)) (sym standings) e) works h
 
-none_parked : (k : ℕ) (t : working.Activation) → slice_get [] k ≡ Some t → ⊥
+pub none_parked : (k : ℕ) (t : working.Activation) → slice_get [] k ≡ Some t → ⊥
 none_parked k t e = cc
 
 nothing_parked : (m : Frames) (regions : List RegionOf) (arrays : List ArrayOf) → Parks [] [] m regions arrays
 nothing_parked m regions arrays = record {
   each = refl;
-  chains = λ place n d. absurd (omega (arith, d.0.0));
+  chains = λ place n c d. absurd (omega (arith, d.0.0));
   work = λ place k t there. absurd (none_parked k t there);
   fit = λ place k t there. absurd (none_parked k t there);
 }

@@ -1,84 +1,149 @@
 -- Transfers of control: what the rows do.
-use Rattle.std.proofs.Common.{◌≡◌, ℕ, zero, suc, List, [], ◌∷◌, ◌++◌, map, set, sym, subst, refl, ap, ◌∙◌, eq-eqb}
-use Rattle.std.specs.Prelude.{Bool, true, false, ◌==◌, ◌||◌, if◌then◌else◌, Option, Some, None, slice_get, slice_index_or}
+use Rattle.std.proofs.Common.{◌≡◌, ℕ, List, [], ◌∷◌, ◌++◌, map, set, sym, refl, ap, ◌∙◌, eq-eqb}
+use Rattle.std.specs.Prelude.{Bool, true, false, ◌==◌, ◌||◌, if◌then◌else◌, Option, Some, None, slice_get}
 use Rattle.std.specs.Option.{option_map}
-use Rattle.sim_base.specs.declared.run_error.RunError.TheVariants.{ComponentIsAttached, ComponentIsTerminated, NoneIsNoComponent, ObjectNotOperating}
+use Rattle.sim_base.specs.declared.run_error.RunError.TheVariants.{ComponentIsAttached, ComponentIsResumed, ComponentIsTerminated, NoneIsNoComponent, ObjectNotOperating, ResumedIsAttached, SystemNotOperating}
 use Rattle.sim_values.specs.Plain.{Plain, Integer, Truth, Character, Text, Object, Nothing}
-use Rattle.sim_chains.specs.Chains.{Cut, cut_at, stands_on, under, upper}
-use Rattle.sim_chains.specs.Components.{AttachedObject, Components, DetachedObject, NoObject, Standing, TerminatedObject, call_by, leave_at}
+use Rattle.sim_chains.specs.Chains.{Cut, cut_at, outermost, stands_on, under, upper}
+use Rattle.sim_chains.specs.Components.{AttachedObject, Components, DetachedObject, NoObject, ResumedObject, Standing, TerminatedObject, call_by, detach_by, give_up_at, kept, kept_as, kept_by, leave_at, main_at, main_by, resume_at, resume_by}
 use Rattle.sim_code.specs.Events.{computing, having, no_rule, pop_plain, popping, stopping}
-use Rattle.sim_code.specs.Instances.{going_below}
-use Rattle.sim_code.specs.Machine.{Activation, Frames, Machine, Of, Value, owner, plain}
+use Rattle.sim_code.specs.Instances.{going_below, system_head}
+use Rattle.sim_code.specs.Machine.{Activation, Frames, Machine, Value, owner, plain}
 use Rattle.sim_code.specs.Outcome.{Run, RunFault, World}
-use Rattle.sim_code.specs.Transfers.{Calling, Detaching, Transfer, detached_by, transferring}
+use Rattle.sim_code.specs.Transfers.{Calling, Detaching, Resuming, Transfer, transferring}
+use Rattle.frame_arena.specs.declared.frames.Component.{Component}
+use Rattle.frame_arena.specs.declared.frames.Component.TheVariants as component
+use Rattle.frame_arena.specs.Frames.{StandsAs}
+use Rattle.frame_arena.proofs.Enclosers.{index_there}
 use Rattle.object_machine.specs.declared.machine.Activation as working
 use Rattle.object_machine.specs.Classing.{IsNoReference}
 use Rattle.object_machine.specs.Standing.{activation_of}
 use Rattle.object_machine.specs.Transferring.{frame_of}
 
-pub index_there : {X : Type 0} (xs : List X) (i : ℕ) (x d : X) → slice_get xs i ≡ Some x → slice_index_or xs i d ≡ x
-index_there [] i x d e = absurd (cc)
-index_there {X} (y ∷ ys) zero x d e = ap or_else e
-  where
-    or_else : Option X → X
-    or_else None = d
-    or_else (Some z) = z
-index_there (y ∷ ys) (suc i) x d e = index_there ys i x d e
-
 -- ---- what a transfer does, by how the instance stands
 
 module _ (line : ℕ) (o : World) (chain : List Activation) (m : Frames) (j : ℕ) where
-  abbrev Board : Components Activation
+  abbrev pub Board : Components Activation
   Board = record { operating = chain; standings = m.standings }
 
   abbrev Go : Components Activation → Run Machine
   Go c = going_below o c.operating (record m { standings = c.standings })
 
-  detach_as : (s : Standing Activation) → slice_get m.standings j ≡ Some s → transferring owner Detaching line o chain m (Object j) ≡ having (detached_by owner s Board j) o (λ r. computing line r o Go)
+  detach_as : (s : Standing Activation) → slice_get m.standings j ≡ Some s → transferring owner Detaching line o chain m (Object j) ≡ computing line (detach_by owner s Board (system_head m j) j) o Go
   unfolding transferring having
-  detach_as s e = ap (λ s. having (detached_by owner s Board j) o (λ r. computing line r o Go)) (index_there m.standings j s (NoObject None) e)
+  detach_as s e = ap (λ s. computing line (detach_by owner s Board (system_head m j) j) o Go) (index_there m.standings j s (NoObject None) e)
 
-  pub stays : slice_get m.standings j ≡ Some (NoObject None) → transferring owner Detaching line o chain m (Object j) ≡ going_below o chain m
-  unfolding having computing
-  stays e = detach_as (NoObject None) e
+  pub stays : (main : Option (List Activation)) → slice_get m.standings j ≡ Some (NoObject main) → transferring owner Detaching line o chain m (Object j) ≡ going_below o chain m
+  unfolding computing
+  stays main e = detach_as (NoObject main) e
 
-  pub detach_detached : (kept : List Activation) → slice_get m.standings j ≡ Some (DetachedObject kept) → transferring owner Detaching line o chain m (Object j) ≡ stopping (RunFault ObjectNotOperating line) o
-  unfolding having computing
-  detach_detached kept e = detach_as (DetachedObject kept) e
+  pub detach_detached : (chain0 : List Activation) → slice_get m.standings j ≡ Some (DetachedObject chain0) → transferring owner Detaching line o chain m (Object j) ≡ stopping (RunFault ObjectNotOperating line) o
+  unfolding computing
+  detach_detached chain0 e = detach_as (DetachedObject chain0) e
 
   pub detach_terminated : slice_get m.standings j ≡ Some TerminatedObject → transferring owner Detaching line o chain m (Object j) ≡ stopping (RunFault ObjectNotOperating line) o
-  unfolding having computing
+  unfolding computing
   detach_terminated e = detach_as TerminatedObject e
 
   pub leaves : (k : Cut Activation) → slice_get m.standings j ≡ Some AttachedObject → cut_at owner j chain ≡ Some k →
       transferring owner Detaching line o chain m (Object j) ≡ going_below o k.below (record m { standings = set m.standings j (DetachedObject (upper k)) })
-  unfolding having computing
+  unfolding computing
   leaves k e h = detach_as AttachedObject e ∙ ap (λ q. computing line (leave_at owner q Board j) o Go) h
 
   pub leaves_none : slice_get m.standings j ≡ Some AttachedObject → cut_at owner j chain ≡ None → transferring owner Detaching line o chain m (Object j) ≡ stopping (RunFault ObjectNotOperating line) o
-  unfolding having computing
+  unfolding computing
   leaves_none e h = detach_as AttachedObject e ∙ ap (λ q. computing line (leave_at owner q Board j) o Go) h
+
+  pub gives_none : slice_get m.standings j ≡ Some ResumedObject → cut_at owner j chain ≡ None → transferring owner Detaching line o chain m (Object j) ≡ stopping (RunFault ObjectNotOperating line) o
+  unfolding computing
+  gives_none e h = detach_as ResumedObject e ∙ ap (λ q. computing line (give_up_at owner q Board (system_head m j)) o Go) h
+
+  -- of a resumed object that operates, where the head S stands so
+  module _ (k : Cut Activation) (e : slice_get m.standings j ≡ Some ResumedObject) (h : cut_at owner j chain ≡ Some k) (s : ℕ) (is : s ≡ system_head m j) where
+    gives_as : (q : Standing Activation) → slice_get m.standings s ≡ Some q → transferring owner Detaching line o chain m (Object j) ≡ computing line (main_by owner q Board s) o Go
+    unfolding computing
+    gives_as q there =
+        detach_as ResumedObject e ∙ ap (λ q. computing line (give_up_at owner q Board (system_head m j)) o Go) h
+        ∙ sym (ap (λ s. computing line (give_up_at owner (Some k) Board s) o Go) is)
+        ∙ ap (λ q. computing line (main_by owner q Board s) o Go) (index_there m.standings s q (NoObject None) there)
+
+    pub main_stays : (c : Component) → (c ≡ component.Waiting → ⊥) → StandsAs c (slice_get m.standings s) → transferring owner Detaching line o chain m (Object j) ≡ going_below o chain m
+    unfolding computing
+    main_stays component.NoObject ne there = gives_as (NoObject None) there
+    main_stays component.Waiting ne there = absurd (ne refl)
+    main_stays component.Attached ne there = gives_as AttachedObject there
+    main_stays component.Detached ne there = gives_as (DetachedObject there.0) there.1
+    main_stays component.Resumed ne there = gives_as ResumedObject there
+    main_stays component.Terminated ne there = gives_as TerminatedObject there
+
+    pub main_none : (main : List Activation) → slice_get m.standings s ≡ Some (NoObject (Some main)) → cut_at owner s chain ≡ None → transferring owner Detaching line o chain m (Object j) ≡ stopping (RunFault SystemNotOperating line) o
+    unfolding computing
+    main_none main there away = gives_as (NoObject (Some main)) there ∙ ap (λ q. computing line (main_at owner q main Board s) o Go) away
+
+    pub main_goes : (main : List Activation) (d : Cut Activation) → slice_get m.standings s ≡ Some (NoObject (Some main)) → cut_at owner s chain ≡ Some d →
+        transferring owner Detaching line o chain m (Object j) ≡ going_below o (main ++ d.here ∷ d.below) (record m { standings = set (kept_as owner (outermost owner d.above) d.above Board).standings s (NoObject None) })
+    unfolding computing
+    main_goes main d there at =
+        gives_as (NoObject (Some main)) there ∙ ap (λ q. computing line (main_at owner q main Board s) o Go) at
+        ∙ ap (λ q. going_below o (main ++ d.here ∷ d.below) (record m { standings = set (kept_by owner q s d.above Board).standings s (NoObject None) })) (index_there m.standings s (NoObject (Some main)) (NoObject None) there)
 
   call_as : (s : Standing Activation) → slice_get m.standings j ≡ Some s → transferring owner Calling line o chain m (Object j) ≡ computing line (call_by s Board j) o Go
   unfolding transferring having
   call_as s e = ap (λ s. computing line (call_by s Board j) o Go) (index_there m.standings j s (NoObject None) e)
 
-  pub call_no_object : slice_get m.standings j ≡ Some (NoObject None) → transferring owner Calling line o chain m (Object j) ≡ stopping (RunFault ComponentIsAttached line) o
+  pub call_no_object : (main : Option (List Activation)) → slice_get m.standings j ≡ Some (NoObject main) → transferring owner Calling line o chain m (Object j) ≡ stopping (RunFault ComponentIsAttached line) o
   unfolding computing
-  call_no_object e = call_as (NoObject None) e
+  call_no_object main e = call_as (NoObject main) e
 
   pub call_attached : slice_get m.standings j ≡ Some AttachedObject → transferring owner Calling line o chain m (Object j) ≡ stopping (RunFault ComponentIsAttached line) o
   unfolding computing
   call_attached e = call_as AttachedObject e
 
+  pub call_resumed : slice_get m.standings j ≡ Some ResumedObject → transferring owner Calling line o chain m (Object j) ≡ stopping (RunFault ComponentIsResumed line) o
+  unfolding computing
+  call_resumed e = call_as ResumedObject e
+
   pub call_terminated : slice_get m.standings j ≡ Some TerminatedObject → transferring owner Calling line o chain m (Object j) ≡ stopping (RunFault ComponentIsTerminated line) o
   unfolding computing
   call_terminated e = call_as TerminatedObject e
 
-  pub joins : (kept : List Activation) → slice_get m.standings j ≡ Some (DetachedObject kept) →
-      transferring owner Calling line o chain m (Object j) ≡ going_below o (kept ++ chain) (record m { standings = set m.standings j AttachedObject })
+  pub joins : (chain0 : List Activation) → slice_get m.standings j ≡ Some (DetachedObject chain0) →
+      transferring owner Calling line o chain m (Object j) ≡ going_below o (chain0 ++ chain) (record m { standings = set m.standings j AttachedObject })
   unfolding computing
-  joins kept e = call_as (DetachedObject kept) e
+  joins chain0 e = call_as (DetachedObject chain0) e
+
+  resume_as : (s : Standing Activation) → slice_get m.standings j ≡ Some s → transferring owner Resuming line o chain m (Object j) ≡ computing line (resume_by owner s Board (system_head m j) j) o Go
+  unfolding transferring having
+  resume_as s e = ap (λ s. computing line (resume_by owner s Board (system_head m j) j) o Go) (index_there m.standings j s (NoObject None) e)
+
+  pub resume_no_object : (main : Option (List Activation)) → slice_get m.standings j ≡ Some (NoObject main) → transferring owner Resuming line o chain m (Object j) ≡ stopping (RunFault ResumedIsAttached line) o
+  unfolding computing
+  resume_no_object main e = resume_as (NoObject main) e
+
+  pub resume_attached : slice_get m.standings j ≡ Some AttachedObject → transferring owner Resuming line o chain m (Object j) ≡ stopping (RunFault ResumedIsAttached line) o
+  unfolding computing
+  resume_attached e = resume_as AttachedObject e
+
+  pub resume_terminated : slice_get m.standings j ≡ Some TerminatedObject → transferring owner Resuming line o chain m (Object j) ≡ stopping (RunFault ComponentIsTerminated line) o
+  unfolding computing
+  resume_terminated e = resume_as TerminatedObject e
+
+  pub resumed_stays : slice_get m.standings j ≡ Some ResumedObject → transferring owner Resuming line o chain m (Object j) ≡ going_below o chain m
+  unfolding computing
+  resumed_stays e = resume_as ResumedObject e
+
+  module _ (chain0 : List Activation) (e : slice_get m.standings j ≡ Some (DetachedObject chain0)) (s : ℕ) (is : s ≡ system_head m j) where
+    at_head : transferring owner Resuming line o chain m (Object j) ≡ computing line (resume_at owner (cut_at owner s chain) chain0 Board s j) o Go
+    at_head = resume_as (DetachedObject chain0) e ∙ sym (ap (λ s. computing line (resume_at owner (cut_at owner s chain) chain0 Board s j) o Go) is)
+
+    pub resumes_none : cut_at owner s chain ≡ None → transferring owner Resuming line o chain m (Object j) ≡ stopping (RunFault SystemNotOperating line) o
+    unfolding computing
+    resumes_none away = at_head ∙ ap (λ q. computing line (resume_at owner q chain0 Board s j) o Go) away
+
+    pub resumes : (d : Cut Activation) → cut_at owner s chain ≡ Some d →
+        transferring owner Resuming line o chain m (Object j) ≡ going_below o (chain0 ++ d.here ∷ d.below) (record m { standings = set (kept owner s d.above Board).standings j ResumedObject })
+    unfolding computing
+    resumes d at = at_head ∙ ap (λ q. computing line (resume_at owner q chain0 Board s j) o Go) at
 
 -- ---- what is no object
 
@@ -90,6 +155,10 @@ module _ (line : ℕ) (o : World) (chain : List Activation) (m : Frames) where
   pub call_none : transferring owner Calling line o chain m Nothing ≡ stopping (RunFault NoneIsNoComponent line) o
   unfolding transferring having computing
   call_none = refl
+
+  pub resume_none : transferring owner Resuming line o chain m Nothing ≡ stopping (RunFault NoneIsNoComponent line) o
+  unfolding transferring having computing
+  resume_none = refl
 
   pub no_component : (t : Transfer) (v : Option Plain) → IsNoReference v → having v o (λ v. transferring owner t line o chain m v) ≡ no_rule o
   unfolding transferring having
@@ -127,3 +196,15 @@ cut_here j [] here rest own e = ap (λ b. Cut_if here rest (cut_at owner j (map 
 cut_here j (t ∷ ts) here rest own e =
     let n = neither (t.registers.home.stamp == j) (stands_on frame_of j ts) e in
     ap (λ b. Cut_if t (ts ++ here ∷ rest) (cut_at owner j (map activation_of (ts ++ here ∷ rest))) b) n.0 ∙ ap (λ q. option_map (under (activation_of t)) q) (cut_here j ts here rest own n.1)
+
+-- an instance that stands on a chain cuts it somewhere
+stands_cut : (j : ℕ) (t : working.Activation) (ts : List working.Activation) (b : Bool) (rest : (stands_on frame_of j ts ≡ true) → (k : Cut Activation) × (cut_at owner j (map activation_of ts) ≡ Some k)) → (t.registers.home.stamp == j) ≡ b → (b || stands_on frame_of j ts) ≡ true →
+    (k : Cut Activation) × (cut_at owner j (map activation_of (t ∷ ts)) ≡ Some k)
+stands_cut j t ts true rest e h = (record { above = []; here = activation_of t; below = map activation_of ts }, ap (λ b. Cut_if t ts (cut_at owner j (map activation_of ts)) b) e)
+stands_cut j t ts false rest e h =
+    let k = rest h in
+    (under (activation_of t) k.0, ap (λ b. Cut_if t ts (cut_at owner j (map activation_of ts)) b) e ∙ ap (λ q. option_map (under (activation_of t)) q) k.1)
+
+pub some_cut : (j : ℕ) (ts : List working.Activation) → stands_on frame_of j ts ≡ true → (k : Cut Activation) × (cut_at owner j (map activation_of ts) ≡ Some k)
+some_cut j [] h = absurd (cc)
+some_cut j (t ∷ ts) h = stands_cut j t ts (t.registers.home.stamp == j) (λ e. some_cut j ts e) refl h

@@ -1,10 +1,17 @@
 -- Activations that move between the operating chain and a park.
 use Rattle.std.specs.Prelude.{◌≡◌, ℕ, ◌≤◌, false, List, [], ◌∷◌, ◌++◌, length, reverse, Option, Some}
-use Rattle.sim_base.specs.declared.run_error.RunError.TheVariants.{ObjectNotOperating}
+use Rattle.sim_base.specs.declared.limits.Limits.{Limits}
 use Rattle.sim_chains.specs.Chains.{stands_on}
+use Rattle.sim_chains.specs.Components.{Standing}
+use Rattle.sim_code.specs.Machine.{Activation, Frames}
+use Rattle.sim_code.specs.Outcome.{World}
+use Rattle.frame_arena.specs.declared.slot.Slot.{Slot}
 use Rattle.object_machine.specs.declared.machine.Activation as working
 use Rattle.object_machine.specs.declared.machine.Flow.{Flow}
 use Rattle.object_machine.specs.declared.machine.Flow.TheVariants as flow
+use Rattle.object_machine.specs.declared.machine.Registers.{Registers}
+use Rattle.object_machine.specs.declared.machine.Storage.{Storage}
+use Rattle.object_machine.specs.Standing.{AtWork, Outside, Stores}
 
 -- the operating chain, the innermost first
 abbrev pub operating : (top : working.Activation) → (below : List working.Activation) → List working.Activation
@@ -14,6 +21,12 @@ operating top below = top ∷ reverse below
 abbrev pub frame_of : working.Activation → Option ℕ
 frame_of t = Some t.registers.home.stamp
 
+-- A chain is cut above the first activation of an instance, which is the top of what is left.
+pub record CutsAt (instance : ℕ) (chain above : List working.Activation) (top : working.Activation) (below : List working.Activation) : Type 0 where
+  pub whole : chain ≡ above ++ operating top below
+  pub own : top.registers.home.stamp ≡ instance
+  pub first : stands_on frame_of instance above ≡ false
+
 -- a chain that ends with the first activation of an object
 pub record EndsAt (object : ℕ) (chain : List working.Activation) : Type 0 where
   pub above : List working.Activation
@@ -22,12 +35,10 @@ pub record EndsAt (object : ℕ) (chain : List working.Activation) : Type 0 wher
   pub own : here.registers.home.stamp ≡ object
   pub first : stands_on frame_of object above ≡ false
 
--- An object leaves a chain: what it keeps, and what operates then. Where nothing is below it there is no rule; and where it does not stand on
--- the chain it is an error.
+-- An object leaves a chain: what it keeps, and what operates then. Where nothing is below it there is no rule.
 abbrev pub LeavesChain : Flow → (object : ℕ) → (chain kept rest : List working.Activation) → Type 0
 LeavesChain flow.On object chain kept rest = EndsAt object kept × (chain ≡ kept ++ rest)
 LeavesChain flow.NoRule object chain kept rest = EndsAt object chain
-LeavesChain (flow.Fault e) object chain kept rest = (e ≡ ObjectNotOperating) × (stands_on frame_of object chain ≡ false)
 LeavesChain flow.Memory object chain kept rest = Unit {0}
 LeavesChain _ object chain kept rest = ⊥
 
@@ -37,3 +48,8 @@ JoinsChain flow.On kept chain left joined = (left ≡ []) × (joined ≡ kept ++
 JoinsChain flow.NoRule kept chain left joined = (front : List working.Activation) × (t : working.Activation) × (back : List working.Activation) × (kept ≡ front ++ t ∷ back) × (t.registers.depth ≤ length t.stack.items → ⊥)
 JoinsChain flow.Memory kept chain left joined = Unit {0}
 JoinsChain _ kept chain left joined = ⊥
+
+-- The parts stand for what they did, but that instances stand otherwise as components.
+pub record Anew (l : Limits) (p p2 : Storage) (before : Option (List ℕ)) (now : Outside) (o : World) (m : Frames) (standings : List (Standing Activation)) : Type 0 where
+  pub stores : Stores l p2 before now o (record m { standings = standings })
+  pub works : (r : Registers) (stack : List Slot) → AtWork p o m r stack → AtWork p2 o (record m { standings = standings }) r stack

@@ -7,7 +7,7 @@ ghost use Rattle.sim_code.specs.Instances.{object_ended};
 ghost use Rattle.sim_code.specs.Levels.{outermost_ended};
 ghost use Rattle.sim_code.specs.Rows.{row};
 ghost use Rattle.sim_code.specs.declared.instr.Instr.{Instr};
-ghost use Rattle.sim_code.specs.Machine.{Frames, Machine, Value, is_nothing as is_nothing_of, leaving, own_block as own_block_of, pushing_any, with_result};
+ghost use Rattle.sim_code.specs.Machine.{Frames, Machine, Value, is_nothing as is_nothing_of, leaving, own_block as own_block_of, owner, pushing_any, with_result};
 ghost use Rattle.sim_code.specs.Outcome.{ArrayOf, Run, World};
 ghost use Rattle.frame_arena.specs.Arrays.{AllLeadArrays, RegionOf};
 ghost use Rattle.frame_arena.specs.Frames.{AllLead, Has, Holds, Leads, found_value, frame_at};
@@ -17,10 +17,11 @@ ghost use Rattle.object_machine.specs.Standing.{AllFit, Leaves, Obeys, Outside, 
 
 use crate::blocks::same_kind;
 use crate::constants::index;
+use crate::finishing::{end_attached, end_resumed};
 use crate::levels::Part;
 use crate::machine::{Activation, Flow, Registers, Storage};
 use crate::stages::{end_inner_level, reached};
-use frame_arena::frames::{self, Frame};
+use frame_arena::frames::{self, Component, Frame};
 use frame_arena::{Slot, stack};
 use sim_base::Limits;
 use sim_code::{BlockKind, BlockRecord, ClassRecord, CodeType, Lined};
@@ -234,7 +235,7 @@ pub fn give_result(
     finish(storage, top, below, own.cells, value)
 }
 
-// An object ends: it takes a tick, is terminated, and the frame below it becomes the top.
+// An object ends: it takes a tick, and is terminated.
 fn end_object(
     limits: &Limits,
     storage: &mut Storage,
@@ -250,21 +251,18 @@ fn end_object(
     ensures texts { storage.new.texts ≡ storage.old.texts }
     ensures image { storage.new.image ≡ storage.old.image }
     ensures row { (line : ℕ) (before : Option (List ℕ)) (now : Outside) (o : World) (m : Frames) → Stands limits.now storage.old top.old.registers top.old.stack.items below.old.items before now o m →
-        Leaves result limits.now line storage.new top.new.registers top.new.stack.items below.new.items before now (ticking limits.now o (λ p. object_ended p m top.old.registers.home.stamp (below_of below.old.items))) }
+        Leaves result limits.now line storage.new top.new.registers top.new.stack.items below.new.items before now (ticking limits.now o (λ p. object_ended owner p m top.old.registers.home.stamp (below_of below.old.items))) }
 {
     if storage.ticks >= limits.ticks {
         return Flow::TickLimit;
     }
     storage.ticks += 1;
-    if !frames::is_attached(&storage.frames, place) {
-        return Flow::NoRule;
+    let object = top.registers.home.stamp;
+    match frames::component_at(&storage.frames, place) {
+        Component::Attached => end_attached(storage, place, object, top, below),
+        Component::Resumed => end_resumed(storage, place, object, top, below),
+        _ => Flow::NoRule,
     }
-    let Some(next) = below.pop() else {
-        return Flow::NoRule;
-    };
-    frames::terminate(&mut storage.frames, place);
-    *top = next;
-    Flow::On
 }
 
 // The end of the outermost level of the frame in a region: of an object, or of a prefixed block, which ends as a sub-block does.

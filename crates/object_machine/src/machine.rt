@@ -48,7 +48,7 @@ pub struct Storage {
     pub cells: Vec<Slot>,
     /// For each region the operand stack of the frame that was there last. The next one takes it, where it has the room.
     pub spares: Vec<Vec<Slot>>,
-    /// For each region the chain that a detached object keeps whose frame is there, the innermost activation first.
+    /// For each region the chain that the detached object or the system head there keeps, the innermost activation first.
     pub parks: Vec<Vec<Activation>>,
     /// For each block the region that was given back last.
     pub heads: Vec<u32>,

@@ -5,7 +5,7 @@ ghost use Rattle.sim_code.specs.Outcome.{ArrayOf, World};
 ghost use Rattle.sim_values.specs.declared.value.FrameRef.{FrameRef as Reference};
 ghost use Rattle.sim_base.specs.declared.limits.Limits.{Limits};
 ghost use Rattle.frame_arena.specs.Arrays.{AllLeadArrays, RegionOf, names_array};
-ghost use Rattle.frame_arena.specs.Frames.{DetachedBefore, Holds, Leads, cells_at, frame_at, names_frame};
+ghost use Rattle.frame_arena.specs.Frames.{Holds, KeptBefore, Leads, cells_at, frame_at, names_frame};
 ghost use Rattle.frame_arena.specs.Slots.{cell_value, empty_slot};
 ghost use Rattle.object_machine.specs.Entering.{Opens, as_frame as as_frame_of};
 ghost use Rattle.object_machine.specs.Standing.{Outside, Stores, parked};
@@ -67,7 +67,7 @@ fn reserve(
     ensures holds { IfOk result (λ place. (m : Frames) → Holds frames.old.items cells.old.items m → Holds frames.new.items cells.new.items m) }
     ensures leads { IfOk result (λ place. (m : Frames) (r : Reference) → Leads frames.old.items m r → Leads frames.new.items m r) }
     ensures arrays { IfOk result (λ place. (regions : List RegionOf) (arrays : List ArrayOf) → AllLeadArrays regions arrays cells.old.items → AllLeadArrays regions arrays cells.new.items) }
-    ensures detached { IfOk result (λ place. DetachedBefore frames.old.items frames.new.items) }
+    ensures chains { IfOk result (λ place. KeptBefore frames.old.items frames.new.items) }
     ensures each { IfOk result (λ place. length parks.old.items ≡ length frames.old.items → length parks.new.items ≡ length frames.new.items) }
     ensures parked { IfOk result (λ place. (at : ℕ) → parked parks.new.items at ≡ parked parks.old.items at) }
 {

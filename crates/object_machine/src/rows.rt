@@ -197,7 +197,6 @@ pub fn obey_other(
         Instr::NameAddr { .. } => no_rule(),
         Instr::EndThunk => no_rule(),
         Instr::Act(_) => no_rule(),
-        Instr::Resume => no_rule(),
         Instr::NotNone => not_none(stack, regs),
         _ => not_built(),
     }

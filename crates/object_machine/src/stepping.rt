@@ -21,7 +21,7 @@ use crate::prefixing::enter_prefixed;
 use crate::rows::obey_other;
 use crate::stages::{inner, next_declarations};
 use crate::texts::constant;
-use crate::transfers::{attach, detach};
+use crate::transfers::{attach, detach, resume};
 use sim_base::{ByteString, Limits};
 use sim_code::{BlockRecord, ClassRecord, Instr, Lined};
 use sim_ports::{Sink, Source};
@@ -153,6 +153,10 @@ pub fn step<I: Source, O: Sink>(
         }
         Instr::Attach => {
             let flow = attach(storage, top, below);
+            without_ports(flow)
+        }
+        Instr::Resume => {
+            let flow = resume(storage, top, below);
             without_ports(flow)
         }
         _ => {

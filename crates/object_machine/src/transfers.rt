@@ -1,120 +1,29 @@
-//! Rows that transfer control from component to component: `detach`, and `call` of an object.
-ghost use Rattle.std.specs.Prelude.{◌≡◌, ℕ, ◌+◌, ◌<◌, ◌≤◌, ◌∷◌, ◌^◌, [], List, Option, Some, length, slice_get};
+//! Rows that transfer control from component to component: `detach`, `call` and `resume` of an object.
+ghost use Rattle.std.specs.Prelude.{◌≡◌, ℕ, ◌+◌, ◌<◌, ◌≤◌, ◌∷◌, ◌^◌, List, Option, Some, length, slice_get, true, false};
 ghost use Rattle.sim_base.specs.declared.limits.Limits.{Limits as LimitsOf};
-ghost use Rattle.sim_chains.specs.Components.{AttachedObject};
+ghost use Rattle.sim_chains.specs.Chains.{stands_on as stands_on_chain};
+ghost use Rattle.sim_chains.specs.Components.{AttachedObject, ResumedObject};
 ghost use Rattle.sim_values.specs.Plain.{Object};
 ghost use Rattle.sim_code.specs.Events.{pop_plain};
+ghost use Rattle.sim_code.specs.Instances.{system_head as system_head_of};
 ghost use Rattle.sim_code.specs.Machine.{Frames, owner, plain, waiting};
 ghost use Rattle.sim_code.specs.Outcome.{World};
-ghost use Rattle.sim_code.specs.Transfers.{Calling, Detaching, transferring};
-ghost use Rattle.frame_arena.specs.Frames.{Has, IsDetached, Leads};
+ghost use Rattle.sim_code.specs.Transfers.{Calling, Detaching, Resuming, transferring};
+ghost use Rattle.frame_arena.specs.declared.frames.Component.{Component as ComponentOf};
+ghost use Rattle.frame_arena.specs.Frames.{Has, IsKeeping, Leads, frame_at, is_object_as};
 ghost use Rattle.frame_arena.specs.Stacks.{values_of};
-ghost use Rattle.object_machine.specs.Standing.{AllFit, Leaves, Obeys, Outside, Stands, activation_at, below_of, parked};
-ghost use Rattle.object_machine.specs.Transferring.{JoinsChain, LeavesChain, operating};
+ghost use Rattle.object_machine.specs.Standing.{AllFit, Leaves, Obeys, Outside, Stands, activation_at, below_of};
+ghost use Rattle.object_machine.specs.Transferring.{frame_of, operating};
 
+use crate::chains::{cut_above, join_chain, leave_chain, stands_on};
 use crate::classes::{Reference, reference_in};
+use crate::kept_chains::{keep_above, keep_by_object, keep_chain, stand, take_chain};
 use crate::machine::{Activation, Flow, Storage};
 use frame_arena::frames::{self, Component};
+use frame_arena::heads::system_head;
 use frame_arena::stack;
 use sim_base::RunError;
 use sim_values::FrameRef;
-use std::mem;
-
-// The activations from the top down to the first one of an object go to a park, and the one below becomes the top.
-fn leave_chain(
-    object: u64,
-    top: &mut Activation,
-    below: &mut Vec<Activation>,
-    park: &mut Vec<Activation>,
-) -> Flow
-    requires empty { park.old.items ≡ [] }
-    requires fits { top.old.registers.depth ≤ length top.old.stack.items }
-    requires others { AllFit below.old.items }
-    ensures fits { top.new.registers.depth ≤ length top.new.stack.items }
-    ensures others { AllFit below.new.items }
-    ensures leaves { LeavesChain result object (operating top.old below.old.items) park.new.items (operating top.new below.new.items) }
-{
-    while let Some(next) = below.pop() {
-        let left = mem::replace(top, next);
-        let found = left.registers.home.stamp == object;
-        let Ok(()) = park.push(left) else {
-            return Flow::Memory;
-        };
-        if found {
-            return Flow::On;
-        }
-    }
-    if top.registers.home.stamp == object {
-        Flow::NoRule
-    } else {
-        Flow::Fault(RunError::ObjectNotOperating)
-    }
-}
-
-// What is parked goes on top of the chain, and its innermost activation becomes the top.
-fn join_chain(park: &mut Vec<Activation>, top: &mut Activation, below: &mut Vec<Activation>) -> Flow
-    requires fits { top.old.registers.depth ≤ length top.old.stack.items }
-    requires others { AllFit below.old.items }
-    ensures fits { top.new.registers.depth ≤ length top.new.stack.items }
-    ensures others { AllFit below.new.items }
-    ensures joins { JoinsChain result park.old.items (operating top.old below.old.items) park.new.items (operating top.new below.new.items) }
-{
-    while let Some(next) = park.pop() {
-        if next.registers.depth > next.stack.len() {
-            return Flow::NoRule;
-        }
-        let under = mem::replace(top, next);
-        let Ok(()) = below.push(under) else {
-            return Flow::Memory;
-        };
-    }
-    Flow::On
-}
-
-// An object leaves the chain for the park of its region. There is a park for each region, so that no run comes to one without.
-fn park_chain(
-    parks: &mut [Vec<Activation>],
-    place: usize,
-    object: u64,
-    top: &mut Activation,
-    below: &mut Vec<Activation>,
-) -> Flow
-    requires fits { top.old.registers.depth ≤ length top.old.stack.items }
-    requires others { AllFit below.old.items }
-    ensures fits { top.new.registers.depth ≤ length top.new.stack.items }
-    ensures others { AllFit below.new.items }
-    ensures each { length parks.new ≡ length parks.old }
-    ensures elsewhere { (at : ℕ) → (at ≡ place → ⊥) → parked parks.new at ≡ parked parks.old at }
-    ensures leaves { place < length parks.old → LeavesChain result object (operating top.old below.old.items) (parked parks.new place) (operating top.new below.new.items) }
-{
-    if place >= parks.len() {
-        return Flow::NoRule;
-    }
-    let park = &mut parks[place];
-    park.clear();
-    leave_chain(object, top, below, park)
-}
-
-// What is parked in a region goes on top of the chain. There is a park for each region, so that no run comes to one without.
-fn unpark_chain(
-    parks: &mut [Vec<Activation>],
-    place: usize,
-    top: &mut Activation,
-    below: &mut Vec<Activation>,
-) -> Flow
-    requires fits { top.old.registers.depth ≤ length top.old.stack.items }
-    requires others { AllFit below.old.items }
-    ensures fits { top.new.registers.depth ≤ length top.new.stack.items }
-    ensures others { AllFit below.new.items }
-    ensures each { length parks.new ≡ length parks.old }
-    ensures elsewhere { (at : ℕ) → (at ≡ place → ⊥) → parked parks.new at ≡ parked parks.old at }
-    ensures joins { place < length parks.old → JoinsChain result (parked parks.old place) (operating top.old below.old.items) (parked parks.new place) (operating top.new below.new.items) }
-{
-    if place >= parks.len() {
-        return Flow::NoRule;
-    }
-    join_chain(&mut parks[place], top, below)
-}
 
 // An attached object leaves the operating chain, and keeps what stood on it down to the object.
 fn leave_object(
@@ -134,13 +43,46 @@ fn leave_object(
     ensures row { (l : LimitsOf) (line : ℕ) (before : Option (List ℕ)) (now : Outside) (o : World) (m : Frames) → Stands l storage.old top.old.registers top.old.stack.items below.old.items before now o m → slice_get m.standings object ≡ Some AttachedObject →
         Leaves result l line storage.new top.new.registers top.new.stack.items below.new.items before now (transferring owner Detaching line o (activation_at top.old.registers top.old.stack.items ∷ below_of below.old.items) m (Object object)) }
 {
-    let flow = park_chain(&mut storage.parks, place, object, top, below);
+    let alloc = *storage.frames.allocator();
+    let mut kept = Vec::new(alloc);
+    let flow = leave_chain(object, top, below, &mut kept);
     match flow {
         Flow::On => {}
         _ => return flow,
     }
-    frames::detach(&mut storage.frames, place);
+    keep_chain(storage, place, Component::Detached, kept);
     Flow::On
+}
+
+// A resumed object gives control to the main component of its system, whose chain the head keeps. What stood above the head is kept by
+// the object.
+fn give_to_main(
+    storage: &mut Storage,
+    object: u64,
+    head: FrameRef,
+    top: &mut Activation,
+    below: &mut Vec<Activation>,
+) -> Flow
+    requires main { IsKeeping storage.old.frames.items head.frame head.stamp ComponentOf.Waiting }
+    requires fits { top.old.registers.depth ≤ length top.old.stack.items }
+    requires others { AllFit below.old.items }
+    ensures fits { top.new.registers.depth ≤ length top.new.stack.items }
+    ensures others { AllFit below.new.items }
+    ensures texts { storage.new.texts ≡ storage.old.texts }
+    ensures image { storage.new.image ≡ storage.old.image }
+    ensures row { (l : LimitsOf) (line : ℕ) (before : Option (List ℕ)) (now : Outside) (o : World) (m : Frames) → Stands l storage.old top.old.registers top.old.stack.items below.old.items before now o m → slice_get m.standings object ≡ Some ResumedObject → head.stamp ≡ system_head_of m object → stands_on_chain frame_of object (operating top.old below.old.items) ≡ true →
+        Leaves result l line storage.new top.new.registers top.new.stack.items below.new.items before now (transferring owner Detaching line o (activation_at top.old.registers top.old.stack.items ∷ below_of below.old.items) m (Object object)) }
+{
+    let alloc = *storage.frames.allocator();
+    let mut above = Vec::new(alloc);
+    if !cut_above(head.stamp, top, below, &mut above) {
+        return Flow::Memory;
+    }
+    let mut main = take_chain(storage, head.frame as usize, Component::NoObject);
+    if !keep_by_object(storage, above) {
+        return Flow::Memory;
+    }
+    join_chain(&mut main, top, below)
 }
 
 // The chain that a detached object keeps goes on top of the operating chain, and the object is attached.
@@ -151,7 +93,7 @@ fn join_object(
     top: &mut Activation,
     below: &mut Vec<Activation>,
 ) -> Flow
-    requires detached { IsDetached storage.old.frames.items place object }
+    requires detached { IsKeeping storage.old.frames.items place object ComponentOf.Detached }
     requires fits { top.old.registers.depth ≤ length top.old.stack.items }
     requires others { AllFit below.old.items }
     ensures fits { top.new.registers.depth ≤ length top.new.stack.items }
@@ -161,13 +103,43 @@ fn join_object(
     ensures row { (l : LimitsOf) (line : ℕ) (before : Option (List ℕ)) (now : Outside) (o : World) (m : Frames) → Stands l storage.old top.old.registers top.old.stack.items below.old.items before now o m →
         Leaves result l line storage.new top.new.registers top.new.stack.items below.new.items before now (transferring owner Calling line o (activation_at top.old.registers top.old.stack.items ∷ below_of below.old.items) m (Object object)) }
 {
-    let flow = unpark_chain(&mut storage.parks, place, top, below);
-    match flow {
-        Flow::On => {}
-        _ => return flow,
+    let mut kept = take_chain(storage, place, Component::Attached);
+    join_chain(&mut kept, top, below)
+}
+
+// A detached object is resumed: what stands above its system head is kept by the component that operates there, and the chain of the
+// object goes on top of the head. While the chains are moved the object is attached.
+fn take_turn(
+    storage: &mut Storage,
+    place: usize,
+    object: u64,
+    head: FrameRef,
+    top: &mut Activation,
+    below: &mut Vec<Activation>,
+) -> Flow
+    requires detached { IsKeeping storage.old.frames.items place object ComponentOf.Detached }
+    requires head { Has storage.old.frames.items head.frame head.stamp }
+    requires apart { is_object_as (frame_at storage.old.frames.items head.frame).component ≡ false }
+    requires fits { top.old.registers.depth ≤ length top.old.stack.items }
+    requires others { AllFit below.old.items }
+    ensures fits { top.new.registers.depth ≤ length top.new.stack.items }
+    ensures others { AllFit below.new.items }
+    ensures texts { storage.new.texts ≡ storage.old.texts }
+    ensures image { storage.new.image ≡ storage.old.image }
+    ensures row { (l : LimitsOf) (line : ℕ) (before : Option (List ℕ)) (now : Outside) (o : World) (m : Frames) → Stands l storage.old top.old.registers top.old.stack.items below.old.items before now o m → head.stamp ≡ system_head_of m object →
+        Leaves result l line storage.new top.new.registers top.new.stack.items below.new.items before now (transferring owner Resuming line o (activation_at top.old.registers top.old.stack.items ∷ below_of below.old.items) m (Object object)) }
+{
+    let alloc = *storage.frames.allocator();
+    let mut above = Vec::new(alloc);
+    if !cut_above(head.stamp, top, below, &mut above) {
+        return Flow::Memory;
     }
-    frames::attach(&mut storage.frames, place);
-    Flow::On
+    let mut kept = take_chain(storage, place, Component::Attached);
+    if !keep_above(storage, head.frame as usize, above) {
+        return Flow::Memory;
+    }
+    stand(storage, place, Component::Resumed);
+    join_chain(&mut kept, top, below)
 }
 
 // The top goes on behind its instruction, with so many values, once it is the top again.
@@ -180,6 +152,78 @@ fn wait(top: &mut Activation, depth: usize)
     top.registers.depth = depth;
 }
 
+// `detach` of a resumed object. It answers want of memory where its system head was given back already, to which no run comes.
+fn detach_resumed(
+    storage: &mut Storage,
+    place: usize,
+    object: u64,
+    depth: usize,
+    top: &mut Activation,
+    below: &mut Vec<Activation>,
+) -> Flow
+    requires there { Has storage.old.frames.items place object }
+    requires short { top.old.registers.pc + 1 < 2 ^ 64 }
+    requires less { depth ≤ length top.old.stack.items }
+    requires fits { top.old.registers.depth ≤ length top.old.stack.items }
+    requires others { AllFit below.old.items }
+    ensures fits { top.new.registers.depth ≤ length top.new.stack.items }
+    ensures others { AllFit below.new.items }
+    ensures texts { storage.new.texts ≡ storage.old.texts }
+    ensures image { storage.new.image ≡ storage.old.image }
+    ensures row { (l : LimitsOf) (line : ℕ) (before : Option (List ℕ)) (now : Outside) (o : World) (m : Frames) → Stands l storage.old top.old.registers top.old.stack.items below.old.items before now o m → slice_get m.standings object ≡ Some ResumedObject →
+        Leaves result l line storage.new top.new.registers top.new.stack.items below.new.items before now (transferring owner Detaching line o (waiting (activation_at top.old.registers top.old.stack.items) (values_of depth top.old.stack.items) ∷ below_of below.old.items) m (Object object)) }
+{
+    if !stands_on(object, top, below) {
+        return Flow::Fault(RunError::ObjectNotOperating);
+    }
+    let Some(head) = system_head(&storage.frames, place) else {
+        return Flow::Memory;
+    };
+    match frames::component_at(&storage.frames, head.frame as usize) {
+        Component::Waiting => {}
+        _ => {
+            wait(top, depth);
+            return Flow::On;
+        }
+    }
+    if !stands_on(head.stamp, top, below) {
+        return Flow::Fault(RunError::SystemNotOperating);
+    }
+    wait(top, depth);
+    give_to_main(storage, object, head, top, below)
+}
+
+// `resume` of a detached object. It answers want of memory where its system head was given back already, to which no run comes.
+fn resume_detached(
+    storage: &mut Storage,
+    place: usize,
+    object: u64,
+    depth: usize,
+    top: &mut Activation,
+    below: &mut Vec<Activation>,
+) -> Flow
+    requires detached { IsKeeping storage.old.frames.items place object ComponentOf.Detached }
+    requires short { top.old.registers.pc + 1 < 2 ^ 64 }
+    requires less { depth ≤ length top.old.stack.items }
+    requires fits { top.old.registers.depth ≤ length top.old.stack.items }
+    requires others { AllFit below.old.items }
+    ensures fits { top.new.registers.depth ≤ length top.new.stack.items }
+    ensures others { AllFit below.new.items }
+    ensures texts { storage.new.texts ≡ storage.old.texts }
+    ensures image { storage.new.image ≡ storage.old.image }
+    ensures row { (l : LimitsOf) (line : ℕ) (before : Option (List ℕ)) (now : Outside) (o : World) (m : Frames) → Stands l storage.old top.old.registers top.old.stack.items below.old.items before now o m →
+        Leaves result l line storage.new top.new.registers top.new.stack.items below.new.items before now (transferring owner Resuming line o (waiting (activation_at top.old.registers top.old.stack.items) (values_of depth top.old.stack.items) ∷ below_of below.old.items) m (Object object)) }
+{
+    let Some(head) = system_head(&storage.frames, place) else {
+        return Flow::Memory;
+    };
+    if !stands_on(head.stamp, top, below) {
+        return Flow::Fault(RunError::SystemNotOperating);
+    }
+    wait(top, depth);
+    take_turn(storage, place, object, head, top, below)
+}
+
 // `detach` of an instance. It answers want of memory where its frame was given back already, to which no run comes.
 fn detach_instance(
     storage: &mut Storage,
@@ -189,8 +233,8 @@ fn detach_instance(
     below: &mut Vec<Activation>,
 ) -> Flow
     requires short { top.old.registers.pc + 1 < 2 ^ 64 }
-    requires fits { top.old.registers.depth ≤ length top.old.stack.items }
     requires less { depth ≤ length top.old.stack.items }
+    requires fits { top.old.registers.depth ≤ length top.old.stack.items }
     requires others { AllFit below.old.items }
     ensures fits { top.new.registers.depth ≤ length top.new.stack.items }
     ensures others { AllFit below.new.items }
@@ -207,10 +251,18 @@ fn detach_instance(
             wait(top, depth);
             Flow::On
         }
+        Component::Waiting => {
+            wait(top, depth);
+            Flow::On
+        }
         Component::Attached => {
+            if !stands_on(object.stamp, top, below) {
+                return Flow::Fault(RunError::ObjectNotOperating);
+            }
             wait(top, depth);
             leave_object(storage, place, object.stamp, top, below)
         }
+        Component::Resumed => detach_resumed(storage, place, object.stamp, depth, top, below),
         Component::Detached => Flow::Fault(RunError::ObjectNotOperating),
         Component::Terminated => Flow::Fault(RunError::ObjectNotOperating),
     }
@@ -225,8 +277,8 @@ fn call_instance(
     below: &mut Vec<Activation>,
 ) -> Flow
     requires short { top.old.registers.pc + 1 < 2 ^ 64 }
-    requires fits { top.old.registers.depth ≤ length top.old.stack.items }
     requires less { depth ≤ length top.old.stack.items }
+    requires fits { top.old.registers.depth ≤ length top.old.stack.items }
     requires others { AllFit below.old.items }
     ensures fits { top.new.registers.depth ≤ length top.new.stack.items }
     ensures others { AllFit below.new.items }
@@ -240,18 +292,56 @@ fn call_instance(
     };
     match frames::component_at(&storage.frames, place) {
         Component::NoObject => Flow::Fault(RunError::ComponentIsAttached),
+        Component::Waiting => Flow::Fault(RunError::ComponentIsAttached),
         Component::Attached => Flow::Fault(RunError::ComponentIsAttached),
         Component::Detached => {
             wait(top, depth);
             join_object(storage, place, object.stamp, top, below)
         }
+        Component::Resumed => Flow::Fault(RunError::ComponentIsResumed),
         Component::Terminated => Flow::Fault(RunError::ComponentIsTerminated),
     }
 }
 
-/// `detach`: the object that the reference on top names leaves the operating chain with what stands above it, and keeps both. Where it
-/// is no object, nothing is done; and where it is one that does not operate, it is `E44`. It answers want of memory where the frame was
-/// given back already, to which no run comes.
+// `resume` of an instance. It answers want of memory where its frame was given back already, to which no run comes.
+fn resume_instance(
+    storage: &mut Storage,
+    object: FrameRef,
+    depth: usize,
+    top: &mut Activation,
+    below: &mut Vec<Activation>,
+) -> Flow
+    requires short { top.old.registers.pc + 1 < 2 ^ 64 }
+    requires less { depth ≤ length top.old.stack.items }
+    requires fits { top.old.registers.depth ≤ length top.old.stack.items }
+    requires others { AllFit below.old.items }
+    ensures fits { top.new.registers.depth ≤ length top.new.stack.items }
+    ensures others { AllFit below.new.items }
+    ensures texts { storage.new.texts ≡ storage.old.texts }
+    ensures image { storage.new.image ≡ storage.old.image }
+    ensures row { (l : LimitsOf) (line : ℕ) (before : Option (List ℕ)) (now : Outside) (o : World) (m : Frames) → Stands l storage.old top.old.registers top.old.stack.items below.old.items before now o m → Leads storage.old.frames.items m object →
+        Leaves result l line storage.new top.new.registers top.new.stack.items below.new.items before now (transferring owner Resuming line o (waiting (activation_at top.old.registers top.old.stack.items) (values_of depth top.old.stack.items) ∷ below_of below.old.items) m (Object object.stamp)) }
+{
+    let Some(place) = frames::find(&storage.frames, object) else {
+        return Flow::Memory;
+    };
+    match frames::component_at(&storage.frames, place) {
+        Component::NoObject => Flow::Fault(RunError::ResumedIsAttached),
+        Component::Waiting => Flow::Fault(RunError::ResumedIsAttached),
+        Component::Attached => Flow::Fault(RunError::ResumedIsAttached),
+        Component::Detached => resume_detached(storage, place, object.stamp, depth, top, below),
+        Component::Resumed => {
+            wait(top, depth);
+            Flow::On
+        }
+        Component::Terminated => Flow::Fault(RunError::ComponentIsTerminated),
+    }
+}
+
+/// `detach` of the object that the reference on top names. An attached one leaves the operating chain with what stands above it, and
+/// keeps both; a resumed one gives control to the main component of its system. Where it is no object, nothing is done. It is `E44`
+/// where the object does not operate, and `E45` where its system head does not. It answers want of memory where a frame was given back
+/// already, to which no run comes.
 pub fn detach(storage: &mut Storage, top: &mut Activation, below: &mut Vec<Activation>) -> Flow
     requires short { top.old.registers.pc + 1 < 2 ^ 64 }
     requires fits { top.old.registers.depth ≤ length top.old.stack.items }
@@ -274,8 +364,8 @@ pub fn detach(storage: &mut Storage, top: &mut Activation, below: &mut Vec<Activ
 }
 
 /// `call` of the object that the reference on top names: the chain that it keeps goes on top of the operating chain. It is `E40` for
-/// `none`, `E41` where it is attached or no object, and `E42` where it is terminated. It answers want of memory where the frame was
-/// given back already, to which no run comes.
+/// `none`, `E41` where it is attached or no object, `E42` where it is terminated, and `E43` where it is resumed. It answers want of
+/// memory where the frame was given back already, to which no run comes.
 pub fn attach(storage: &mut Storage, top: &mut Activation, below: &mut Vec<Activation>) -> Flow
     requires short { top.old.registers.pc + 1 < 2 ^ 64 }
     requires fits { top.old.registers.depth ≤ length top.old.stack.items }
@@ -292,6 +382,31 @@ pub fn attach(storage: &mut Storage, top: &mut Activation, below: &mut Vec<Activ
     };
     match reference_in(top.stack[at]) {
         Reference::Object(object) => call_instance(storage, object, at, top, below),
+        Reference::IsNone => Flow::Fault(RunError::NoneIsNoComponent),
+        Reference::Other => Flow::NoRule,
+    }
+}
+
+/// `resume` of the object that the reference on top names: what stands above its system head is kept by the component that operates
+/// there, and the chain of the object takes its place. Where it is resumed already, nothing is done. It is `E40` for `none`, `E46`
+/// where it is attached or no object, `E42` where it is terminated, and `E45` where its system head does not operate. It answers want
+/// of memory where a frame was given back already, to which no run comes.
+pub fn resume(storage: &mut Storage, top: &mut Activation, below: &mut Vec<Activation>) -> Flow
+    requires short { top.old.registers.pc + 1 < 2 ^ 64 }
+    requires fits { top.old.registers.depth ≤ length top.old.stack.items }
+    requires others { AllFit below.old.items }
+    ensures fits { top.new.registers.depth ≤ length top.new.stack.items }
+    ensures others { AllFit below.new.items }
+    ensures texts { storage.new.texts ≡ storage.old.texts }
+    ensures image { storage.new.image ≡ storage.old.image }
+    ensures row { (l : LimitsOf) (line : ℕ) (now : Outside) →
+        Obeys result l line (λ o m a b. pop_plain plain a.stack o (λ v st. transferring owner Resuming line o (waiting a st ∷ b) m v)) storage.old storage.new top.old.registers top.new.registers top.old.stack.items top.new.stack.items below.old.items below.new.items now now }
+{
+    let Some(at) = stack::pop(&top.stack, top.registers.depth) else {
+        return Flow::NoRule;
+    };
+    match reference_in(top.stack[at]) {
+        Reference::Object(object) => resume_instance(storage, object, at, top, below),
         Reference::IsNone => Flow::Fault(RunError::NoneIsNoComponent),
         Reference::Other => Flow::NoRule,
     }

@@ -22,7 +22,7 @@ use Rattle.sim_values.specs.declared.standard.Standard.TheVariants as name
 use Rattle.sim_values.specs.declared.standard.StandardType.{StandardType}
 use Rattle.sim_values.specs.declared.standard.TheConstants.{STANDARD_NAMES}
 use Rattle.sim_values.specs.Standard.{row_of}
-use Rattle.sim_code.specs.Transfers.{Calling, Detaching}
+use Rattle.sim_code.specs.Transfers.{Calling, Detaching, Resuming}
 use Rattle.sim_meaning.specs.Attributes.{transfer_named, transfer_of}
 use Rattle.sim_meaning.specs.Names.{procedure_named}
 use Rattle.sim_meaning.specs.Statements.{has_value, standard_leaves}
@@ -191,7 +191,7 @@ row_gives name.More p Operands a = ((refl, refl), [], refl, a)
 row_gives name.Length p Operands a = ((refl, refl), [], refl, a)
 row_gives name.Detach p Operands a = absurd (let f : Some Detaching ≡ None = p.1 in cc)
 row_gives name.Call p Operands a = absurd (let f : Some Calling ≡ None = p.1 in cc)
-row_gives name.Resume p Operands a = absurd (false≢true (sym p.0.1))
+row_gives name.Resume p Operands a = absurd (let f : Some Resuming ≡ None = p.1 in cc)
 row_gives _ p Operands a = absurd (false≢true p.0.0)
 
 pub standard_gives : (k : StandardName) → IsProcedure k → (Operands : List Kind → Type 0) → Operands (kinds_of (signature k)) → StandardGives (procedure_named k) Operands (given_by (signature k).result)
@@ -286,12 +286,13 @@ attribute_no_class _ p = absurd p
 
 -- ---- transfers of control
 
--- a name is `detach`, or `call`, or no transfer of control
-pub which_transfer : (k : StandardName) → (k ≡ found.Procedure name.Detach) ⊎ ((k ≡ found.Procedure name.Call) ⊎ (transfer_named (procedure_named k) ≡ None))
+-- a name is `detach`, `call` or `resume`, or no transfer of control
+pub which_transfer : (k : StandardName) → (k ≡ found.Procedure name.Detach) ⊎ ((k ≡ found.Procedure name.Call) ⊎ ((k ≡ found.Procedure name.Resume) ⊎ (transfer_named (procedure_named k) ≡ None)))
 which_transfer (found.Procedure name.Detach) = inl refl
 which_transfer (found.Procedure name.Call) = inr (inl refl)
-which_transfer (found.Procedure x) = inr (inr refl)
-which_transfer _ = inr (inr refl)
+which_transfer (found.Procedure name.Resume) = inr (inr (inl refl))
+which_transfer (found.Procedure x) = inr (inr (inr refl))
+which_transfer _ = inr (inr (inr refl))
 
 -- a procedure and an attribute of texts are none
 pub procedure_transfers_none : (k : StandardName) → IsProcedure k → transfer_named (procedure_named k) ≡ None
@@ -302,13 +303,14 @@ row_transfers_none : (x : Standard) → is_seen place.Text (row_of x).owner ≡ 
 unfolding row_of
 row_transfers_none name.Detach seen = absurd (false≢true seen)
 row_transfers_none name.Call seen = absurd (false≢true seen)
+row_transfers_none name.Resume seen = absurd (false≢true seen)
 row_transfers_none _ seen = refl
 
 pub attribute_transfers_none : (k : StandardName) → OfTexts k → transfer_named (procedure_named k) ≡ None
 attribute_transfers_none (found.Procedure x) p = row_transfers_none x p
 attribute_transfers_none _ p = absurd p
 
--- `detach` has no parameter, `call` has a reference; neither gives anything
+-- `detach` has no parameter, `call` and `resume` have a reference; none of them gives anything
 pub detach_kinds : kinds_of (signature (found.Procedure name.Detach)) ≡ []
 unfolding signature row_of
 detach_kinds = refl
@@ -324,6 +326,14 @@ call_kinds = refl
 pub call_result : (signature (found.Procedure name.Call)).result ≡ None
 unfolding signature row_of
 call_result = refl
+
+pub resume_kinds : kinds_of (signature (found.Procedure name.Resume)) ≡ kind.Reference ∷ []
+unfolding signature row_of
+resume_kinds = refl
+
+pub resume_result : (signature (found.Procedure name.Resume)).result ≡ None
+unfolding signature row_of
+resume_result = refl
 
 pub detach_alone : NoAttribute (found.Procedure name.Detach)
 unfolding row_of is_unbuilt_name is_name_of_classes

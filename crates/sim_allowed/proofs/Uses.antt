@@ -31,7 +31,7 @@ use Rattle.sim_tree.specs.Syntax.{Expression, Expressions, NoMore, Then}
 use Rattle.sim_tree.specs.Syntax as syntax
 use Rattle.sim_values.specs.declared.kind.Kind.TheVariants as kind
 use Rattle.sim_values.specs.declared.standard.Standard.TheVariants as name_of
-use Rattle.sim_code.specs.Transfers.{Calling, Detaching, Transfer}
+use Rattle.sim_code.specs.Transfers.{Calling, Detaching, Resuming, Transfer}
 use Rattle.sim_meaning.specs.Attributes.{connection_at, transfer_at, transfer_denoted, transfer_named}
 use Rattle.sim_meaning.specs.Closing.{is_text, is_text_type, own_block, own_block_denoted, own_result, result_meant, stream_denoted, stream_of, typed_token, unless_connected}
 use Rattle.sim_meaning.specs.Names.{procedure_named, stream_named}
@@ -46,7 +46,7 @@ use Rattle.sim_allowed.proofs.Calls.{call_means}
 use Rattle.sim_allowed.proofs.Classes.{plain_proper, plain_same}
 use Rattle.sim_allowed.proofs.Declared.{GivenFor, NoResult, UseIs}
 use Rattle.sim_allowed.proofs.Meant.{CallGiven, CallsFor, DotAs, GivesNone, InText, Means, NamedAs, TypeThere, Varies}
-use Rattle.sim_allowed.proofs.Names.{IsProcedure, NoAttribute, alone_name, call_kinds, call_result, detach_kinds, detach_result, given_by, kinds_of, parameter_kinds, standard_gives, standard_left, which_transfer}
+use Rattle.sim_allowed.proofs.Names.{IsProcedure, NoAttribute, alone_name, call_kinds, call_result, detach_kinds, detach_result, given_by, kinds_of, parameter_kinds, resume_kinds, resume_result, standard_gives, standard_left, which_transfer}
 use Rattle.sim_allowed.proofs.Nowhere.{is_nowhere}
 use Rattle.sim_allowed.proofs.Said.{AllSay, both_say}
 
@@ -235,6 +235,10 @@ standard_call s from x es name says unconnected around alone other proper are = 
     calls (In t) are = are
     calls (InBound t) are = tt
 
+    resumes : (f : Place) → AreOf s f es (kind.Reference ∷ []) → InText f (λ t. TransferIs s t Resuming (found_at s x.token.0) es)
+    resumes (In t) are = are
+    resumes (InBound t) are = tt
+
     done : transfer_named (procedure_named name) ≡ None → CallsFor s from (syntax.Named x es) (signature name).result
     done none =
         named_calls s from x es (signature name).result (plain_given s (CallGiven s from (syntax.Named x es)) (signature name).result proper (
@@ -245,14 +249,17 @@ standard_call s from x es name says unconnected around alone other proper are = 
         (ap (denoted_leaves s) says ∙ sym (standard_left name))
         ))
 
-    go : (name ≡ found.Procedure name_of.Detach) ⊎ ((name ≡ found.Procedure name_of.Call) ⊎ (transfer_named (procedure_named name) ≡ None)) → CallsFor s from (syntax.Named x es) (signature name).result
+    go : (name ≡ found.Procedure name_of.Detach) ⊎ ((name ≡ found.Procedure name_of.Call) ⊎ ((name ≡ found.Procedure name_of.Resume) ⊎ (transfer_named (procedure_named name) ≡ None))) → CallsFor s from (syntax.Named x es) (signature name).result
     go (inl is) =
         let k = found.Procedure name_of.Detach in
         back k is detach_result (named_transfers s from x es Detaching (transfers k is) (detaches from (around is) (subst (λ ks. AreOf s from es ks) detach_kinds (are_of k is))))
     go (inr (inl is)) =
         let k = found.Procedure name_of.Call in
         back k is call_result (named_transfers s from x es Calling (transfers k is) (calls from (subst (λ ks. AreOf s from es ks) call_kinds (are_of k is))))
-    go (inr (inr none)) = done none
+    go (inr (inr (inl is))) =
+        let k = found.Procedure name_of.Resume in
+        back k is resume_result (named_transfers s from x es Resuming (transfers k is) (resumes from (subst (λ ks. AreOf s from es ks) resume_kinds (are_of k is))))
+    go (inr (inr (inr none))) = done none
 
 -- ---- identifiers and attributes that are declared
 

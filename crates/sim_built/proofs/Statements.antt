@@ -10,7 +10,7 @@ use Rattle.sim_tree.specs.Syntax.{Also, Arms, Begin, Element, Expression, Expres
 use Rattle.sim_tree.specs.Syntax as syntax
 use Rattle.sim_values.specs.declared.kind.Kind.{Kind}
 use Rattle.sim_values.specs.declared.kind.Kind.TheVariants as kind
-use Rattle.sim_code.specs.Transfers.{Calling, Detaching, Transfer}
+use Rattle.sim_code.specs.Transfers.{Calling, Detaching, Resuming, Transfer}
 use Rattle.sim_meaning.specs.Attributes.{cell_of_connection, connection_at, is_connection, transfer_at}
 use Rattle.sim_meaning.specs.Closing.{class_parameters, is_attribute, is_text, is_variable, stream_of}
 use Rattle.sim_meaning.specs.Levels.{is_class}
@@ -82,6 +82,9 @@ module _ (s : Source) (ok : Typed s) (laid : Laid s) (t : ℕ) (x : Text) (there
   transfer_built Calling found NoMore a = absurd a
   transfer_built Calling found (Then e NoMore) a = are_built s ok laid t (In t) standing (Then e NoMore) (kind.Reference ∷ []) a
   transfer_built Calling found (Then e (Then f es)) a = absurd a.1
+  transfer_built Resuming found NoMore a = absurd a
+  transfer_built Resuming found (Then e NoMore) a = are_built s ok laid t (In t) standing (Then e NoMore) (kind.Reference ∷ []) a
+  transfer_built Resuming found (Then e (Then f es)) a = absurd a.1
 
   detach_built : (b : Expression) (es : Expressions) → ExprIs s (In t) b (Simply kind.Reference) × AreOf s (In t) es [] → TransferBuilt Detaching es (IsBuilt s t b) (AreBuilt s t es)
   detach_built b NoMore a = value b (Simply kind.Reference) a.0

@@ -1,5 +1,5 @@
 -- Each row of the machine's table leaves what is written.
-use Rattle.std.proofs.Common.{◌≡◌, ℕ, zero, suc, List, [], ◌∷◌, length, Option, Some, None, Bool, true, false, refl, sym, subst, ap, ◌∙◌}
+use Rattle.std.proofs.Common.{◌≡◌, ℕ, zero, suc, List, [], ◌∷◌, ◌++◌, length, Option, Some, None, Bool, true, false, refl, sym, subst, ap, ◌∙◌}
 use Rattle.std.specs.Prelude.{◌==◌, ◌*◌, ℤ, pos, negsuc, slice_get, slice_set, if◌then◌else◌, Result}
 use Rattle.sim_base.specs.declared.limits.Limits.{Limits}
 use Rattle.sim_base.specs.declared.run_error.RunError.{RunError}
@@ -12,6 +12,7 @@ use Rattle.sim_values.specs.declared.value.TextVal.{TextVal}
 use Rattle.sim_values.specs.Plain.{Plain, Text}
 use Rattle.sim_values.specs.Store.{Store, image_at, with_image}
 use Rattle.sim_values.specs.Texts.{same_text}
+use Rattle.sim_chains.specs.Chains.{Cut, cut_at}
 use Rattle.sim_chains.specs.Components.{AttachedObject, Components, DetachedObject, NoObject, ResumedObject, Standing, TerminatedObject}
 use Rattle.sim_code.specs.declared.code.BlockKind.{BlockKind}
 use Rattle.sim_code.specs.declared.code.BlockKind.TheVariants as block
@@ -23,8 +24,8 @@ use Rattle.sim_code.specs.Code.{BlockOf, ClassOf, CodeOf}
 use Rattle.sim_code.specs.Outcome.{ArrayOf, Going, Run, World}
 use Rattle.sim_code.specs.Events.{image_moved, image_set, no_rule, text_val}
 use Rattle.sim_code.specs.Arrays.{element, element_set, element_set_in, giving_back, handed_over, live_array, owned_by, with_array}
-use Rattle.sim_code.specs.Instances.{CellPlace, ElementPlace, ImagePlace, Place, at_level, ended_as, going_below, is_given_at_end, is_live, object_ended}
-use Rattle.sim_code.specs.Transfers.{Calling, Detaching, Transfer, component_in, transferred, transferring}
+use Rattle.sim_code.specs.Instances.{CellPlace, ElementPlace, ImagePlace, Place, at_level, ended_as, going_below, is_given_at_end, is_live, main_goes_on, object_ended, system_head}
+use Rattle.sim_code.specs.Transfers.{Calling, Detaching, Resuming, Transfer, component_in, transferred, transferring}
 use Rattle.sim_code.specs.Machine.{Activation, Address, ArrayValue, Cells, Frames, Link, Machine, Of, ProcedureValue, ThunkValue, Value, arrays_among, arrays_by_value, variable_in, words_of_block, array_in, block_at, cell, cell_at, cell_set, frame_in, index, jumping, leaving, level, link_in, number, operand, own_block, owner, place_in, plain, pushing, pushing_any, same_kind, value_at, with_result}
 use Rattle.sim_code.specs.Classes.{admitting, class_named, in_class, is_in, is_of, may_stand, qualifying}
 use Rattle.sim_code.specs.Levels.{after_declarations, at_inner, at_stage, class_at_level, declarations_done, ended_by_kind, entering_prefixed, generating, inner_reached, leading, level_ended, levelled, objects_of, outermost_ended, own_levels}
@@ -230,22 +231,32 @@ below_grows : (o : World) (below : List Activation) (m : Frames) → Here o (goi
 below_grows o [] m = record { more = grown_same o.store.written }
 below_grows o (a ∷ below) m = going o _
 
-ended_grows : (o : World) (m : Frames) (j : ℕ) (below : List Activation) → Here o (object_ended o m j below)
+ended_grows : (o : World) (m : Frames) (j : ℕ) (below : List Activation) → Here o (object_ended owner o m j below)
 unfolding object_ended
 ended_grows o m j below = by_standing (slice_get m.standings j)
   where
-    by_standing : (s : Option (Standing Activation)) → Here o (ended_as o m j below s)
+    by_main : (s : ℕ) (k : Option (Cut Activation)) (x : Option (Standing Activation)) → Here o (main_goes_on owner o m j s k x)
+    by_main s None x = record { more = grown_same o.store.written }
+    by_main s (Some k) None = record { more = grown_same o.store.written }
+    by_main s (Some k) (Some (NoObject None)) = record { more = grown_same o.store.written }
+    by_main s (Some k) (Some (NoObject (Some main))) = below_grows o (main ++ k.here ∷ k.below) _
+    by_main s (Some k) (Some AttachedObject) = record { more = grown_same o.store.written }
+    by_main s (Some k) (Some (DetachedObject chain)) = record { more = grown_same o.store.written }
+    by_main s (Some k) (Some ResumedObject) = record { more = grown_same o.store.written }
+    by_main s (Some k) (Some TerminatedObject) = record { more = grown_same o.store.written }
+
+    by_standing : (s : Option (Standing Activation)) → Here o (ended_as owner o m j below s)
     by_standing None = record { more = grown_same o.store.written }
     by_standing (Some (NoObject main)) = record { more = grown_same o.store.written }
     by_standing (Some AttachedObject) = below_grows o below _
     by_standing (Some (DetachedObject chain)) = record { more = grown_same o.store.written }
-    by_standing (Some ResumedObject) = record { more = grown_same o.store.written }
+    by_standing (Some ResumedObject) = by_main (system_head m j) (cut_at owner (system_head m j) below) (slice_get m.standings (system_head m j))
     by_standing (Some TerminatedObject) = record { more = grown_same o.store.written }
 
 transfer_grows : (t : Transfer) (line : ℕ) (o : World) (chain : List Activation) (m : Frames) (v : Plain) → Here o (transferring owner t line o chain m v)
 unfolding transferring
 transfer_grows t line o chain m v =
-    grows_having Machine (Option ℕ) (component_in v) o _ (λ y _. grows_having Machine (Result (Components Activation) RunError) (transferred owner t _ y) o _ (λ r _.
+    grows_having Machine (Option ℕ) (component_in v) o _ (λ y _. grows_having Machine (Result (Components Activation) RunError) (transferred owner t (system_head m) _ y) o _ (λ r _.
     grows_computing Machine (Components Activation) line r o _ (λ c. below_grows o c.operating _)))
 
 outermost_grows : (code : CodeOf) (l : Limits) (o : World) (m : Frames) (a : Activation) (below : List Activation) (j k : ℕ) → Here o (outermost_ended code l o m a below j k)
@@ -331,7 +342,7 @@ row_grows code l o m a below line (i.Std z) = grows_having Machine Standard (sta
 row_grows code l o m a below line (i.Act z) = none o
 row_grows code l o m a below line i.Detach = grows_plain Machine Value plain a.stack o _ (λ v stack. transfer_grows Detaching line o _ m v)
 row_grows code l o m a below line i.Attach = grows_plain Machine Value plain a.stack o _ (λ v stack. transfer_grows Calling line o _ m v)
-row_grows code l o m a below line i.Resume = none o
+row_grows code l o m a below line i.Resume = grows_plain Machine Value plain a.stack o _ (λ v stack. transfer_grows Resuming line o _ m v)
 row_grows code l o m a below line i.NotNone = grows_object Machine Value plain line a.stack o _ (λ j stack. going o _)
 
 -- ---- runs

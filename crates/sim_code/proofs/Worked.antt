@@ -3,7 +3,7 @@ use Rattle.std.proofs.Common.{refl}
 use Rattle.std.specs.Fmt.{digits}
 use Rattle.sim_code.specs.Arrays.{element_place, making_array, copying_array, keeping_array, finding_element, giving_back, handed_over}
 use Rattle.sim_code.specs.Events.{stopping, no_rule, ticking, taking, entering, having, when, computing, choosing, popping, pop_many, pop_plain, pop_truth, pop_integers, pop_operands, pop_text, answering, applying_one, applying_two, testing_step, performing, putting_back, assigning, making_text, joining}
-use Rattle.sim_code.specs.Instances.{at_level, kept_on, object_ended}
+use Rattle.sim_code.specs.Instances.{at_level, kept_on, object_ended, system_head}
 use Rattle.sim_code.specs.Machine.{pushing, index, level as level_of_machine, cell_at, jumping, block_at, own_block, leaving, with_result}
 use Rattle.sim_code.specs.Rows.{put_back, putting}
 use Rattle.sim_values.specs.Operators.{calculate, compare, compare_as_texts, connect, same_objects, same_texts, two_of, one_of, step_test}
@@ -78,7 +78,7 @@ worked_classes = record {
 }
 
 pub worked_coroutines : WorkedCoroutines
-unfolding digits element_place making_array copying_array keeping_array finding_element giving_back handed_over stopping no_rule ticking taking entering having when computing choosing popping pop_many pop_plain pop_truth pop_integers pop_operands pop_text answering applying_one applying_two testing_step performing putting_back assigning making_text joining at_level kept_on pushing index level_of_machine cell_at jumping block_at own_block leaving with_result putting put_back calculate compare compare_as_texts connect same_objects same_texts two_of one_of step_test take_integer take_character take_text take_nothing row_of standard_effect levels pop_object referring parameter_cell leading levelled objects_of own_levels object_ended transferring
+unfolding digits element_place making_array copying_array keeping_array finding_element giving_back handed_over stopping no_rule ticking taking entering having when computing choosing popping pop_many pop_plain pop_truth pop_integers pop_operands pop_text answering applying_one applying_two testing_step performing putting_back assigning making_text joining at_level kept_on pushing index level_of_machine cell_at jumping block_at own_block leaving with_result putting put_back calculate compare compare_as_texts connect same_objects same_texts two_of one_of step_test take_integer take_character take_text take_nothing row_of standard_effect levels pop_object referring parameter_cell leading levelled objects_of own_levels object_ended transferring system_head
 worked_coroutines = record {
   both_end = refl;
   terminated = refl;
@@ -91,4 +91,11 @@ worked_coroutines = record {
   through_none = refl;
   none_untested = refl;
   calls_itself = refl;
+  ends_resumed = refl;
+  resumed_too_late = refl;
+  no_object_resumed = refl;
+  none_not_resumed = refl;
+  in_turn = refl;
+  resumed_calls_itself = refl;
+  system_away = refl;
 }

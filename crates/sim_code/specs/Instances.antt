@@ -1,7 +1,10 @@
 -- Instances, numbered from 0 in the order of their entry, for the meaning and the machine: only the cells C and the activations A differ.
 -- No number is used again, so that a number means one instance for the whole run.
-use Rattle.std.specs.Prelude.{◌≡◌, ℕ, zero, suc, Bool, true, false, not, ◌&&◌, ◌==◌, if◌then◌else◌, List, [], ◌∷◌, ◌++◌, slice_get, slice_set, Option, Some, None}
-use Rattle.sim_chains.specs.Components.{AttachedObject, Components, Standing, TerminatedObject, finish}
+use Rattle.std.specs.Prelude.{ℕ, zero, suc, Bool, true, false, not, ◌&&◌, ◌==◌, if◌then◌else◌, List, [], ◌∷◌, ◌++◌, slice_get, slice_index_or, slice_set, Option, Some, None}
+use Rattle.sim_chains.specs.Chains.{Cut, cut_at}
+use Rattle.sim_chains.specs.Components.{AttachedObject, Components, NoObject, ResumedObject, Standing, TerminatedObject}
+use Rattle.sim_chains.specs.Heads.{head_of}
+use Rattle.sim_chains.specs.WellFormed.{is_object}
 use Rattle.sim_code.specs.Outcome.{Ended, Going, NoRule, Run, World}
 
 -- An instance: its text, which the code has as a block; the level of that; its textual encloser, which the program's block lacks; its
@@ -118,28 +121,51 @@ module _ {C A : Type 0} where
   kept_on owner [] m = m
   kept_on owner (a ∷ chain) m = kept_at (kept_on owner chain) m (owner a)
 
--- ---- the end of an object
+-- ---- system heads
+
+abbrev pub encloser_in : {C : Type 0} → Option (Instance C) → Option ℕ
+encloser_in None = None
+encloser_in (Some x) = x.encloser
+
+abbrev pub or_first : Option ℕ → ℕ
+or_first None = 0
+or_first (Some j) = j
 
 module _ {C A : Type 0} where
-  -- control goes to what is below, if anything is
-  abbrev pub going_below : World → List A → Memory C A → Run (State C A)
-  going_below o [] m = Ended o NoRule
-  going_below o (a ∷ below) m = Going o (record { chain = a ∷ below; memory = m })
+  abbrev pub encloser_of : Memory C A → ℕ → Option ℕ
+  encloser_of m j = encloser_in (slice_get m.instances j)
 
-  -- an attached object is terminated
+  abbrev pub is_object_at : Memory C A → ℕ → Bool
+  is_object_at m j = is_object (slice_index_or m.standings j (NoObject None))
+
+  -- The system head of an object: the nearest instance outward along its textual enclosers that is no object. The first instance is none, so
+  -- each object has one.
+  unfoldable pub system_head : Memory C A → (object : ℕ) → ℕ
+  system_head m x = or_first (head_of (encloser_of m) (is_object_at m) x)
+
+-- ---- the end of an object
+
+-- control goes to what is below, if anything is
+abbrev pub going_below : {C A : Type 0} → World → List A → Memory C A → Run (State C A)
+going_below o [] m = Ended o NoRule
+going_below o (a ∷ below) m = Going o (record { chain = a ∷ below; memory = m })
+
+module _ {C A : Type 0} (owner : A → Option ℕ) where
+  -- The main component of the system goes on, for which its head S kept the chain: what stood above S is dropped.
+  abbrev pub main_goes_on : World → Memory C A → (object head : ℕ) → Option (Cut A) → Option (Standing A) → Run (State C A)
+  main_goes_on o m j s (Some k) (Some (NoObject (Some main))) =
+      going_below o (main ++ k.here ∷ k.below) (record m { standings = slice_set (slice_set m.standings s (NoObject None)) j TerminatedObject })
+  main_goes_on o m j s _ _ = Ended o NoRule
+
+  -- An object that ends is terminated. Below an attached one control goes to what is below, and of a resumed one to the main component.
   abbrev pub ended_as : World → Memory C A → (object : ℕ) → List A → Option (Standing A) → Run (State C A)
   ended_as o m j below (Some AttachedObject) = going_below o below (record m { standings = slice_set m.standings j TerminatedObject })
+  ended_as o m j below (Some ResumedObject) = main_goes_on o m j (system_head m j) (cut_at owner (system_head m j) below) (slice_get m.standings (system_head m j))
   ended_as o m j below _ = Ended o NoRule
 
+  -- the end of the object whose activation is on top of the rest of the operating chain
   unfoldable pub object_ended : World → Memory C A → (object : ℕ) → List A → Run (State C A)
   object_ended o m j below = ended_as o m j below (slice_get m.standings j)
-
-  -- The end of an attached object, whose activation is on top, is that of the transfers of control: the run goes on so, and the components
-  -- are those that are left when the object has finished.
-  pub record EndsAsComponent (owner : A → Option ℕ) (head : ℕ → ℕ) (o : World) (m : Memory C A) (object : ℕ) (top next : A) (below : List A) : Type 0 where
-    pub left : State C A
-    pub goes : object_ended o m object (next ∷ below) ≡ Going o left
-    pub same : components left ≡ finish owner head (components (record { chain = top ∷ next ∷ below; memory = m })) object
 
 -- where a variable lies: a cell of an instance, named by K; an element of an array; an image. Q names the class of a reference there
 pub data Place (K Q : Type 0) : Type 0 where

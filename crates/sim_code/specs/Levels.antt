@@ -148,7 +148,7 @@ inner_reached code o m a below n = own_levels code m a (stage.Stating n) o (λ c
 
 -- The outermost level ends: an object takes the tick of its end and is terminated, a prefixed block ends as a sub-block does.
 abbrev pub ended_by_kind : Limits → World → Frames → List Activation → (frame : ℕ) → BlockOf → BlockKind → Run Machine
-ended_by_kind l o m below j b block.Object = ticking l o (λ p. object_ended p m j below)
+ended_by_kind l o m below j b block.Object = ticking l o (λ p. object_ended owner p m j below)
 ended_by_kind l o m below j b block.Prefixed = leaving b below None j o m
 ended_by_kind l o m below j b block.SubBlock = no_rule o
 ended_by_kind l o m below j b block.Procedure = no_rule o

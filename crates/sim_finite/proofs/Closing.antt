@@ -24,7 +24,7 @@ use Rattle.sim_values.specs.Standard.{is_image, moves_position, on_image}
 use Rattle.sim_meaning.specs.Closing.{actual_term, array_place, array_term, attribute_term, behind_dot, class_parameters, close, close_actuals, close_all, close_place, constant_term, declared_place, declared_term, dot_term, formal_place, formal_term, formals_at, given_term, home_of, home_of_class, image_place, in_instance, is_attribute, is_text, is_text_type, is_variable, Joining, Lazily, literal_term, name_term, named_place, named_term, Negated, object_term, Plainly, signed_term, Sort, sort_of, standard_term, stream_of, sysout, two_term, variable_place, variable_term}
 use Rattle.sim_code.specs.Instances.{at_level}
 use Rattle.sim_meaning.specs.Attributes.{array_attribute, attribute, attribute_place, connected_object, connection_at, connection_in, declared_attribute, element_at, entry_at, entry_attribute, fitting, generation, if_any, kept_if, membership_term, parameter_at, parameter_attribute, parameter_qualification, place_of_attribute, qua_term, this_instance, this_term, transfer_at, transfer_term, variable_at, variable_attribute, with_arrays_kept}
-use Rattle.sim_code.specs.Transfers.{Calling, Detaching, Transfer}
+use Rattle.sim_code.specs.Transfers.{Calling, Detaching, Resuming, Transfer}
 use Rattle.sim_meaning.specs.Constants.{text_constant}
 use Rattle.sim_meaning.specs.Levels.{class_at}
 use Rattle.sim_meaning.specs.Names.{procedure_named}
@@ -265,6 +265,9 @@ transfer_small Detaching line around terms = omega arith
 transfer_small Calling line around NoTerm = omega arith
 transfer_small Calling line around (Further a NoTerm) = omega arith
 transfer_small Calling line around (Further a (Further b terms)) = omega arith
+transfer_small Resuming line around NoTerm = omega arith
+transfer_small Resuming line around (Further a NoTerm) = omega arith
+transfer_small Resuming line around (Further a (Further b terms)) = omega arith
 
 fitting_small : (class : Option ℕ) (line : ℕ) (a : Term) → term_weight (fitting class line a) ≤ 2 + term_weight a
 fitting_small None line a = omega arith

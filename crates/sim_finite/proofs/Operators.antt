@@ -4,6 +4,7 @@ use Rattle.std.specs.Prelude.{◌*◌, slice_get, if◌then◌else◌, Result, O
 use Rattle.sim_base.specs.declared.limits.Limits.{Limits}
 use Rattle.sim_base.specs.declared.numbering.DeclNo.{DeclNo}
 use Rattle.sim_base.specs.declared.run_error.RunError.{RunError}
+use Rattle.sim_chains.specs.Chains.{Cut, cut_at}
 use Rattle.sim_chains.specs.Components.{AttachedObject, Components, DetachedObject, NoObject, ResumedObject, Standing, TerminatedObject}
 use Rattle.sim_scope.specs.Scopes.{class_formals}
 use Rattle.sim_scope.specs.Source.{Source, block_around, line_at}
@@ -20,7 +21,7 @@ use Rattle.sim_values.specs.Texts.{same_text}
 use Rattle.sim_code.specs.Outcome.{ArrayOf, Run, World}
 use Rattle.sim_code.specs.Events.{computing, having, image_moved, text_val, ticking}
 use Rattle.sim_code.specs.Arrays.{element, element_set_in, giving_back, handed_over, live_array, owned_by, pairs}
-use Rattle.sim_code.specs.Instances.{CellPlace, ElementPlace, ImagePlace, Instance, Place, cells_of, cells_put, ended_as, given, given_in, going_below, is_given_at_end, is_live, live, object_ended, with_instance}
+use Rattle.sim_code.specs.Instances.{CellPlace, ElementPlace, ImagePlace, Instance, Place, cells_of, cells_put, ended_as, given, given_in, going_below, is_given_at_end, is_live, live, main_goes_on, object_ended, system_head, with_instance}
 use Rattle.sim_code.specs.Transfers.{Transfer, component_in, transferred, transferring}
 use Rattle.sim_meaning.specs.Connections.{arm_tried, arms_tried, connected, object_connected}
 use Rattle.sim_meaning.specs.Levels.{class_at, has_procedure, is_in, levels, text_at}
@@ -363,7 +364,7 @@ module _ (s : Source) (l : Limits) (o : World) (m : Instances) (i : ℕ) (w : Li
   transfer_falls : (vals : List Val) (t : Transfer) (line : ℕ) (p : Plain) → Falls 1 (transferring owner t line o (record { instance = i; work = w; values = vals } ∷ rest) m p)
   unfolding transferring
   transfer_falls vals t line p =
-      having_goes (From 1) (component_in p) o _ (λ y. having_knows (From 1) (transferred owner t _ y) o _ (λ r is. moved_falls line r (subst (NotMoreIn (work_weight w + chain_weight rest + kept_weight m)) is (transfer_small t _ y))))
+      having_goes (From 1) (component_in p) o _ (λ y. having_knows (From 1) (transferred owner t (system_head m) _ y) o _ (λ r is. moved_falls line r (subst (NotMoreIn (work_weight w + chain_weight rest + kept_weight m)) is (transfer_small t (system_head m) _ y))))
 
   inner_falls : (xs : List Level) → Falls (levels_weight xs) (inner_done o m i w vals rest xs)
   inner_falls [] = lighter refl (omega arith)
@@ -442,15 +443,26 @@ leaving_falls s l o m i n [] v = none (Lower l o.ticks (1 + n + 0 + kept_weight 
 leaving_falls s l o m i n (a ∷ rest) v = lighter (back_ticks (is_given_at_end m i) o i _) (omega (arith, left_kept (is_given_at_end m i) m i))
 
 -- an object ends, and what is below goes on
-pub object_ended_falls : (s : Source) (l : Limits) (o : World) (m : Instances) (i n : ℕ) (rest : List Activation) → Goes (Lower l o.ticks (1 + n + chain_weight rest + kept_weight m)) (ticking l o (λ p. object_ended p m i rest))
+pub object_ended_falls : (s : Source) (l : Limits) (o : World) (m : Instances) (i n : ℕ) (rest : List Activation) → Goes (Lower l o.ticks (1 + n + chain_weight rest + kept_weight m)) (ticking l o (λ p. object_ended owner p m i rest))
 unfolding object_ended
 object_ended_falls s l o m i n rest = ticking_goes (Lower l o.ticks (1 + n + chain_weight rest + kept_weight m)) l o _ (λ p more most. by_standing p (omega (arith, more)) most (slice_get m.standings i) rest)
   where
-    by_standing : (p : World) → o.ticks < p.ticks → p.ticks ≤ l.ticks → (x : Option (Standing Activation)) (below : List Activation) → Goes (Lower l o.ticks (1 + n + chain_weight rest + kept_weight m)) (ended_as p m i below x)
+    by_main : (p : World) → o.ticks < p.ticks → p.ticks ≤ l.ticks → (s : ℕ) (k : Option (Cut Activation)) (x : Option (Standing Activation)) → Goes (Lower l o.ticks (1 + n + chain_weight rest + kept_weight m)) (main_goes_on owner p m i s k x)
+    by_main p lt le s None x = tt
+    by_main p lt le s (Some k) None = tt
+    by_main p lt le s (Some k) (Some (NoObject None)) = tt
+    by_main p lt le s (Some k) (Some (NoObject (Some []))) = ticked lt le
+    by_main p lt le s (Some k) (Some (NoObject (Some (a ∷ main)))) = ticked lt le
+    by_main p lt le s (Some k) (Some AttachedObject) = tt
+    by_main p lt le s (Some k) (Some (DetachedObject chain)) = tt
+    by_main p lt le s (Some k) (Some ResumedObject) = tt
+    by_main p lt le s (Some k) (Some TerminatedObject) = tt
+
+    by_standing : (p : World) → o.ticks < p.ticks → p.ticks ≤ l.ticks → (x : Option (Standing Activation)) (below : List Activation) → Goes (Lower l o.ticks (1 + n + chain_weight rest + kept_weight m)) (ended_as owner p m i below x)
     by_standing p lt le (Some AttachedObject) [] = tt
     by_standing p lt le (Some AttachedObject) (a ∷ below) = ticked lt le
     by_standing p lt le None below = tt
     by_standing p lt le (Some (NoObject main)) below = tt
     by_standing p lt le (Some (DetachedObject chain)) below = tt
-    by_standing p lt le (Some ResumedObject) below = tt
+    by_standing p lt le (Some ResumedObject) below = by_main p lt le (system_head m i) (cut_at owner (system_head m i) below) (slice_get m.standings (system_head m i))
     by_standing p lt le (Some TerminatedObject) below = tt

@@ -21,7 +21,7 @@ use Rattle.sim_values.specs.declared.standard.Standard.{Standard}
 use Rattle.sim_values.specs.declared.standard.Standard.TheVariants as name_of
 use Rattle.sim_values.specs.Plain.{Object}
 use Rattle.sim_code.specs.Instances.{at_level}
-use Rattle.sim_code.specs.Transfers.{Calling, Detaching, Transfer}
+use Rattle.sim_code.specs.Transfers.{Calling, Detaching, Resuming, Transfer}
 use Rattle.sim_meaning.specs.Names.{procedure_named}
 use Rattle.sim_meaning.specs.Levels.{qualification}
 use Rattle.sim_meaning.specs.Texts.{ConnectionText, Text, text}
@@ -142,10 +142,11 @@ this_term s m i (Some k) = if_any (connection_in s (Some k)) (λ c. connected_ob
 
 -- ---- transfers of control
 
--- `detach` and `call`, where an identifier denotes one of these
+-- `detach`, `call` and `resume`, where an identifier denotes one of these
 abbrev pub transfer_of : Standard → Option Transfer
 transfer_of name_of.Detach = Some Detaching
 transfer_of name_of.Call = Some Calling
+transfer_of name_of.Resume = Some Resuming
 transfer_of _ = None
 
 abbrev pub transfer_named : Option Standard → Option Transfer
@@ -163,11 +164,12 @@ transfer_at s token = transfer_denoted (denoted s token)
 abbrev pub detach_term : (line : ℕ) → (object : Term) → Term
 detach_term line object = TransferOf Detaching line (NotNoneOf line object)
 
--- `detach` is that of the object or prefixed block around, or of the connected object; `call` has the component as its actual parameter
+-- `detach` is that of the object or prefixed block around, or of the connected object; `call` and `resume` have the component as their actual
+-- parameter
 abbrev pub transfer_term : Transfer → (line : ℕ) → (around : Term) → Terms → Term
 transfer_term Detaching line around terms = detach_term line around
-transfer_term Calling line around (Further a NoTerm) = TransferOf Calling line a
-transfer_term Calling line around _ = Unbuilt
+transfer_term t line around (Further a NoTerm) = TransferOf t line a
+transfer_term t line around _ = Unbuilt
 
 -- ---- references
 

@@ -8,7 +8,7 @@ use Rattle.sim_code.specs.Outcome.{Going, Normal, Run, World, after, first_world
 use Rattle.sim_code.specs.Events.{applying_one, applying_two, choosing, entering, having, joining, no_rule, performing, pop_integers, pop_many, pop_truth, popping, stopping, testing_step, ticking, when}
 use Rattle.sim_code.specs.Arrays.{giving_back, handed_over, making_array, pairs}
 use Rattle.sim_code.specs.Instances.{Instance, given, is_given_at_end, is_live, no_instances, object_ended}
-use Rattle.sim_meaning.specs.Pending.{Activation, AgainOp, ArrayOp, ArrayValue, AttributeOp, BackOp, BranchOp, CallOp, ChooseOp, Configuration, ConnectOp, CopyOp, DeclareOp, Do, DropOp, ElementOp, ElementsOp, EndBlock, EndLevel, EndObject, EndPrefixed, EndProcedure, EndProgram, EnterOp, Eval, Exec, Execs, FetchOp, FitsOp, GiveOp, Held, IfOp, InnerOp, Instances, Item, JoinOp, KeepOp, LevelOp, MemberOp, NewOp, NotNoneOp, ObjectOp, Of, OneOp, Op, PastOp, PrefixedOp, QuaOp, QualifiedElementOp, RaiseOp, ReferOp, Result, ShareOp, StandardOp, StepOp, StepTestOp, StoreOp, SwapOp, TestOp, TransferOp, TwoOp, Val, WhenOp, WhileElementOp, cell, instance_in, plain}
+use Rattle.sim_meaning.specs.Pending.{Activation, AgainOp, ArrayOp, ArrayValue, AttributeOp, BackOp, BranchOp, CallOp, ChooseOp, Configuration, ConnectOp, CopyOp, DeclareOp, Do, DropOp, ElementOp, ElementsOp, EndBlock, EndLevel, EndObject, EndPrefixed, EndProcedure, EndProgram, EnterOp, Eval, Exec, Execs, FetchOp, FitsOp, GiveOp, Held, IfOp, InnerOp, Instances, Item, JoinOp, KeepOp, LevelOp, MemberOp, NewOp, NotNoneOp, ObjectOp, Of, OneOp, Op, PastOp, PrefixedOp, QuaOp, QualifiedElementOp, RaiseOp, ReferOp, Result, ShareOp, StandardOp, StepOp, StepTestOp, StoreOp, SwapOp, TestOp, TransferOp, TwoOp, Val, WhenOp, WhileElementOp, cell, instance_in, owner, plain}
 use Rattle.sim_meaning.specs.Constants.{constants_of}
 use Rattle.sim_meaning.specs.Texts.{BlockText, PrefixedText, ProcedureText, Text, text}
 use Rattle.sim_meaning.specs.Levels.{levels}
@@ -143,7 +143,7 @@ do_item s l o m i w vals rest (EndProcedure true) = having (cell m i Result) o (
 do_item s l o m i w vals rest (EndProcedure false) = leaving s rest None i o m
 do_item s l o m i w vals rest (EndLevel k) = go o m i w vals rest
 -- each object that ends takes its tick
-do_item s l o m i w vals rest EndObject = ticking l o (λ p. object_ended p m i rest)
+do_item s l o m i w vals rest EndObject = ticking l o (λ p. object_ended owner p m i rest)
 do_item s l o m i w vals rest EndPrefixed = leaving s rest None i o m
 do_item s l o m i w vals rest EndProgram = stopping Normal o
 

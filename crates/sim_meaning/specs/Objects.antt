@@ -77,7 +77,7 @@ referred s o m i w vals rest line =
 abbrev pub not_none : World → Instances → ℕ → List Item → List Val → List Activation → (line : ℕ) → Run Configuration
 not_none o m i w vals rest line = pop_object plain line vals o (λ j vals. go o m i w (Of (Object j) ∷ vals) rest)
 
--- `detach` or `call` of the object in hand; the instance that does it goes on when control returns to it
+-- `detach`, `call` or `resume` of the object in hand; the instance that does it goes on when control returns to it
 abbrev pub transfer_done : World → Instances → ℕ → List Item → List Val → List Activation → Transfer → (line : ℕ) → Run Configuration
 transfer_done o m i w vals rest t line = pop_plain plain vals o (λ p vals. transferring owner t line o (record { instance = i; work = w; values = vals } ∷ rest) m p)
 

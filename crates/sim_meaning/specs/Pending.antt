@@ -52,7 +52,7 @@ mutual
     FitsOf : (class line : ℕ) → (actual : Term) → Term
     -- an array that is kept
     KeptOf : Term → Term
-    -- a reference that is not none; `detach` and `call` of the object that a reference names
+    -- a reference that is not none; `detach`, `call` and `resume` of the object that a reference names
     NotNoneOf : (line : ℕ) → (object : Term) → Term
     TransferOf : Transfer → (line : ℕ) → (object : Term) → Term
     -- a form that is not built

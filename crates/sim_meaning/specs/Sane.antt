@@ -1,12 +1,13 @@
 -- What the code of a program may count on at each moment of the program's run: the instance that operates lives with its enclosers, and
--- stands at no other place of the chains.
+-- stands at no other place of the chains; and the components are as transfers of control leave them.
 use Rattle.std.specs.Prelude.{◌≡◌, ⊤, ℕ, true, List, [], ◌∷◌, slice_get, Some, None}
 use Rattle.sim_base.specs.declared.limits.Limits.{Limits}
 use Rattle.sim_chains.specs.Components.{DetachedObject, NoObject, Standing}
+use Rattle.sim_chains.specs.WellFormed.{IsWellFormed}
 use Rattle.sim_scope.specs.Source.{Source}
 use Rattle.sim_values.specs.Plain.{Object}
 use Rattle.sim_code.specs.Outcome.{Ended, Going, NoRule, World}
-use Rattle.sim_code.specs.Instances.{Instance, Memory, live}
+use Rattle.sim_code.specs.Instances.{Instance, Memory, components, live, system_head}
 use Rattle.sim_meaning.specs.Levels.{has_levels}
 use Rattle.sim_meaning.specs.Meaning.{run}
 use Rattle.sim_meaning.specs.Pending.{Activation, Configuration, Held, Instances, Val}
@@ -38,7 +39,7 @@ Other instance j = j ≡ instance → ⊥
 
 abbrev pub SaneOn : Instances → List Activation → Type 0
 SaneOn m [] = ⊤
-SaneOn m (a ∷ rest) = Lives m a.instance × AllOf (Other a.instance) rest × AllKept (Other a.instance) m
+SaneOn m (a ∷ rest) = Lives m a.instance × AllOf (Other a.instance) rest × AllKept (Other a.instance) m × IsWellFormed pending.owner (system_head m) (components (record { chain = a ∷ rest; memory = m }))
 
 abbrev pub Sane : Configuration → Type 0
 Sane c = SaneOn c.memory c.chain

@@ -5,7 +5,7 @@ use Rattle.sim_tree.specs.declared.expr.Identifier.{Identifier}
 use Rattle.sim_tree.specs.Syntax.{Expression, Expressions, NoMore, Then}
 use Rattle.sim_tree.specs.Syntax as syntax
 use Rattle.sim_code.specs.Code.{CodeOf}
-use Rattle.sim_code.specs.Transfers.{Calling, Detaching, Transfer}
+use Rattle.sim_code.specs.Transfers.{Calling, Detaching, Resuming, Transfer}
 use Rattle.sim_meaning.specs.Attributes.{detach_term, if_any, this_term, transfer_at, transfer_term}
 use Rattle.sim_meaning.specs.Closing.{close, close_all}
 use Rattle.sim_meaning.specs.Pending.{Instances, Term}
@@ -26,14 +26,21 @@ module _ (s : Source) (code : CodeOf) (m : Instances) (inst : ℕ) (site : Site)
 
   -- ---- transfers of control
 
+  -- the actual parameter
+  component : (e : Expression) (n p q : ℕ) → ExprsAt s code site n (Then e NoMore) p q → OperandAt s code m inst site n (close s m inst e) p q
+  component e n p q a =
+      let x = close_all_at s code m inst site agrees reach (Then e NoMore) n p q a in
+      subst (λ z. OperandAt s code m inst site n (close s m inst e) p z) (sym x.2) x.1
+
   named_transfer : (way : Transfer) (line : ℕ) (found : Option ℕ) (es : Expressions) (n p q : ℕ) → TransferAt code line way es (ThisFoundAt s code site n found) (ExprsAt s code site n es) p q → Is n false (transfer_term way line (this_term s m inst found) (close_all s m inst es)) p q
   named_transfer Detaching line found NoMore n p q a = ((a.y, ((a.x, this_at s code m inst site agrees reach found n p a.x a.object, a.there), refl), a.detaches), refl)
   named_transfer Detaching line found (Then e es) n p q a = absurd a
   named_transfer Calling line found NoMore n p q a = absurd a
-  named_transfer Calling line found (Then e NoMore) n p q a =
-      let x = close_all_at s code m inst site agrees reach (Then e NoMore) n p a.0 a.1 in
-      ((a.0, subst (λ z. OperandAt s code m inst site n (close s m inst e) p z) (sym x.2) x.1, a.2), refl)
+  named_transfer Calling line found (Then e NoMore) n p q a = ((a.0, component e n p a.0 a.1, a.2), refl)
   named_transfer Calling line found (Then e (Then e' es)) n p q a = absurd a
+  named_transfer Resuming line found NoMore n p q a = absurd a
+  named_transfer Resuming line found (Then e NoMore) n p q a = ((a.0, component e n p a.0 a.1, a.2), refl)
+  named_transfer Resuming line found (Then e (Then e' es)) n p q a = absurd a
 
   dot_transfer : (line : ℕ) (x : Expression) (es : Expressions) (n p q : ℕ) → TransferAt code line Detaching es (ExprAt s code site n x) (ExprsAt s code site n es) p q → Is n false (detach_term line (close s m inst x)) p q
   dot_transfer line x NoMore n p q a = ((a.y, ((a.x, close_at s code m inst site agrees reach x n p a.x a.object, a.there), refl), a.detaches), refl)

@@ -15,6 +15,7 @@ use Rattle.codegen_expr.specs.Sites.{Site, class_number, frame_text, own_end}
 use Rattle.codegen.specs.CodeFor.{OfCell, OfPlace, OfReference, Variable}
 use Rattle.sim_relate.proofs.Known.{Any, Every, FixedOf, HandAt, Keeps, Kind, Later, LinkTo, Located, OwnerOf, Reaches, Refers, RefersAt, Runs, Spot, StackAt, Stands, more_at, none_at, placed, refers_cell, refers_element, site_at}
 use Rattle.sim_relate.proofs.Trees.{CellPlaceIs, GivenIs, OperandAt, ReadsAt, TermAt, TermsAt}
+use Rattle.sim_relate.proofs.Waiting.{GetsIs, demand, suspended, suspended_in}
 use Rattle.sim_relate.proofs.Relation.{AtLevel, Bottom, ChainAt, ChainOn, Changed, ComesTo, DeclaredTo, EndAt, GivesIs, InStage, LevelEnds, ObjectIs, OpAt, PlaceStoreIs, StandingAt, StandingsAt, StoreIs, TargetAt, VariableIs, WorkAt, at_level, declares, inner_here, inner_last, over, returning, stays, there, to_first, to_next, with_inner}
 
 end_later : (s : Source) (code : CodeOf) (Below Below' : Bool → Type 0) → ((v : Bool) → Below v → Below' v) → (t : ℕ) (b : Runs) (x : Item) (p : ℕ) (ks : List Kind) → EndAt s code Below t b x p ks → EndAt s code Below' t b x p ks
@@ -303,31 +304,39 @@ module _ (s : Source) (code : CodeOf) (m m' : Instances) (e : Later s m m') (ins
   pub work_later : (t : ℕ) → Stands s m inst t → (b : Runs) (used : ℕ) → TempsKept s code fs fs' inst t b used → (w : List Item) (p : ℕ) (ks : List Kind) → WorkAt s code m fs Below inst t b used w p ks → WorkAt s code m' fs' Below' inst t b used w p ks
   work_later t st b used keeps w p ks a = rest_later t st t b used keeps w p ks a
 
-module _ (s : Source) (code : CodeOf) (m m' : Instances) (fs fs' : Frames) (e : Later s m m') (Of : ℕ → Type 0) (k : Keeps s code m fs fs' Of) where
-  chain_on_later : (Ground Ground' : Bool → List machine.Activation → Type 0) → ((v : Bool) (below : List machine.Activation) → Ground v below → Ground' v below) → (chain : List Activation) → AllOf Of chain → (v : Bool) (below : List machine.Activation) → ChainOn s code Ground m fs chain v below → ChainOn s code Ground' m' fs' chain v below
+-- an instance on a chain, which may get what it did not get before
+pub top_later : (s : Source) (code : CodeOf) (m m' : Instances) (fs fs' : Frames) (e : Later s m m') (Ground Ground' : Bool → List machine.Activation → Type 0) (a : Activation) (rest : List Activation) (v v' : Bool) (x : machine.Activation) (below : List machine.Activation) (c : ChainOn s code Ground m fs (a ∷ rest) v (x ∷ below)) → TempsKept s code fs fs' a.instance c.text c.block c.used
+    → GetsIs (suspended m' a.instance) v' c.gets → ((w : Bool) → ChainOn s code Ground m fs rest w below → ChainOn s code Ground' m' fs' rest w below) → ChainOn s code Ground' m' fs' (a ∷ rest) v' (x ∷ below)
+top_later s code m m' fs fs' e Ground Ground' a rest v v' x below c kept gets f = record {
+  base = c.base;
+  home = c.home;
+  text = c.text;
+  block = c.block;
+  found = c.found;
+  stands = e.stands a.instance c.text c.stands;
+  own = e.texts a.instance c.block.own c.own;
+  roomy = c.roomy;
+  room = c.room;
+  stage = c.stage;
+  kinds = c.kinds;
+  values = stack_later s code m m' e c.kinds a.values x.stack c.values;
+  gets = c.gets;
+  gets_is = gets;
+  fits = c.fits;
+  used = c.used;
+  goes = work_later s code m m' e a.instance fs fs' (λ w. ChainOn s code Ground m fs rest w below) (λ w. ChainOn s code Ground' m' fs' rest w below) f c.text c.stands c.block c.used kept a.work x.pc _ c.goes;
+}
+
+module _ (s : Source) (code : CodeOf) (m m' : Instances) (fs fs' : Frames) (e : Later s m m') (Of : ℕ → Type 0) (k : Keeps s code m fs fs' Of) (same : (j : ℕ) → Of j → suspended m' j ≡ suspended m j) where
+  pub chain_on_later : (Ground Ground' : Bool → List machine.Activation → Type 0) → ((v : Bool) (below : List machine.Activation) → Ground v below → Ground' v below) → (chain : List Activation) → AllOf Of chain → (v : Bool) (below : List machine.Activation) → ChainOn s code Ground m fs chain v below → ChainOn s code Ground' m' fs' chain v below
   chain_on_later Ground Ground' g [] all v below c = g v below c
   chain_on_later Ground Ground' g (a ∷ rest) all v [] c = absurd c
-  chain_on_later Ground Ground' g (a ∷ rest) all v (x ∷ below) c = record {
-    base = c.base;
-    home = c.home;
-    text = c.text;
-    block = c.block;
-    found = c.found;
-    stands = e.stands a.instance c.text c.stands;
-    own = e.texts a.instance c.block.own c.own;
-    roomy = c.roomy;
-    room = c.room;
-    stage = c.stage;
-    kinds = c.kinds;
-    values = stack_later s code m m' e c.kinds a.values x.stack c.values;
-    fits = c.fits;
-    used = c.used;
-    goes = work_later s code m m' e a.instance fs fs' (λ w. ChainOn s code Ground m fs rest w below) (λ w. ChainOn s code Ground' m' fs' rest w below)
-        (λ w b. chain_on_later Ground Ground' g rest all.1 w below b) c.text c.stands c.block c.used (λ n behind within lt. k.temps a.instance c.text n c.block.block all.0 c.stands c.found (record { behind = behind; within = within })) a.work x.pc _ c.goes;
-  }
+  chain_on_later Ground Ground' g (a ∷ rest) all v (x ∷ below) c =
+      top_later s code m m' fs fs' e Ground Ground' a rest v v x below c (λ n behind within lt. k.temps a.instance c.text n c.block.block all.0 c.stands c.found (record { behind = behind; within = within }))
+      (subst (λ z. GetsIs z v c.gets) (sym (same a.instance all.0)) c.gets_is) (λ w b. chain_on_later Ground Ground' g rest all.1 w below b)
 
   pub chain_later : (chain : List Activation) → AllOf Of chain → (v : Bool) (below : List machine.Activation) → ChainAt s code m fs chain v below → ChainAt s code m' fs' chain v below
-  chain_later chain all v below c = chain_on_later (Bottom s code) (Bottom s code) (λ w b g. g) chain all v below c
+  chain_later chain all v below c = chain_on_later (Bottom s code false) (Bottom s code false) (λ w b g. g) chain all v below c
 
   object_later : (j : ℕ) → ObjectIs s code m j → ObjectIs s code m' j
   object_later j x = record { own = x.own; is = e.texts j x.own x.is; class = x.class }
@@ -335,10 +344,10 @@ module _ (s : Source) (code : CodeOf) (m m' : Instances) (fs fs' : Frames) (e : 
   -- the chains that are kept
   standing_later : (j : ℕ) (x : Standing Activation) (y : Standing machine.Activation) → KeptChains Of x → StandingAt s code m fs j x y → StandingAt s code m' fs' j x y
   standing_later j (NoObject None) (NoObject None) all a = a
-  standing_later j (NoObject (Some chain)) (NoObject (Some below)) all a = chain_later chain all false below a
+  standing_later j (NoObject (Some chain)) (NoObject (Some below)) all a = chain_on_later (Bottom s code (demand false chain)) (Bottom s code (demand false chain)) (λ w b g. g) chain all false below a
   standing_later j AttachedObject AttachedObject all a = object_later j a
   standing_later j (DetachedObject chain) (DetachedObject below) all a = (object_later j a.0, chain_later chain all false below a.1)
-  standing_later j ResumedObject ResumedObject all a = a
+  standing_later j ResumedObject ResumedObject all a = object_later j a
   standing_later j TerminatedObject TerminatedObject all a = a
   standing_later j _ _ all a = absurd a
 
@@ -350,15 +359,18 @@ module _ (s : Source) (code : CodeOf) (m m' : Instances) (fs fs' : Frames) (e : 
 
 -- the chains behind a step that makes no instance
 module _ (s : Source) (code : CodeOf) {Of : ℕ → Type 0} {m m' : Instances} {fs fs' : Frames} (x : Changed s code Of m fs m' fs') where
+  pub suspended_same : (j : ℕ) → suspended m' j ≡ suspended m j
+  suspended_same j = ap (λ z. suspended_in z j) x.standings
+
   pub chain_changed : (chain : List Activation) → AllOf Of chain → (v : Bool) (below : List machine.Activation) → ChainAt s code m fs chain v below → ChainAt s code m' fs' chain v below
-  chain_changed chain all v below c = chain_later s code m m' fs fs' x.later Of x.keeps chain all v below c
+  chain_changed chain all v below c = chain_later s code m m' fs fs' x.later Of x.keeps (λ j of. suspended_same j) chain all v below c
 
   pub parked_changed : AllKept Of m → StandingsAt s code m fs → StandingsAt s code m' fs'
   parked_changed all a = record {
     each = λ j.
         subst (λ z. Both (StandingAt s code m' fs' j) (slice_get z j) (slice_get fs'.standings j)) (sym x.standings)
         (subst (λ z. Both (StandingAt s code m' fs' j) (slice_get m.standings j) (slice_get z j)) (sym x.frame_standings)
-        (both_later s code m m' fs fs' x.later Of x.keeps j (slice_get m.standings j) (slice_get fs.standings j) (λ z is. all j z is) (a.each j)));
+        (both_later s code m m' fs fs' x.later Of x.keeps (λ j of. suspended_same j) j (slice_get m.standings j) (slice_get fs.standings j) (λ z is. all j z is) (a.each j)));
     counted = ap length x.standings ∙ a.counted ∙ sym x.as_many;
   }
 

@@ -1,8 +1,8 @@
 -- Chains that are cut and joined, on both sides at the same place.
-use Rattle.std.proofs.Common.{◌≡◌, ℕ, Bool, true, false, List, [], ◌∷◌, ◌++◌, Option, Some, None, refl, sym, ap, ◌∙◌, subst, arith}
+use Rattle.std.proofs.Common.{◌≡◌, ℕ, Bool, true, false, List, [], ◌∷◌, ◌++◌, Option, Some, None, refl, sym, ap, ◌∙◌, subst}
 use Rattle.std.specs.Option.{option_map}
 use Rattle.std.specs.Prelude.{◌==◌, if◌then◌else◌}
-use Rattle.sim_chains.specs.Chains.{Cut, cut_at, is_instance, under, upper}
+use Rattle.sim_chains.specs.Chains.{Cut, cut_at, is_instance, outermost, under, upper}
 use Rattle.sim_scope.specs.Source.{Source}
 use Rattle.sim_code.specs.Code.{CodeOf}
 use Rattle.sim_code.specs.Machine.{Frames}
@@ -14,13 +14,14 @@ use Rattle.sim_meaning.specs.Pending as meaning
 use Rattle.sim_meaning.specs.Texts.{text}
 use Rattle.codegen_expr.specs.Sites.{frame_text}
 use Rattle.codegen.specs.Compiled.{Compiled}
-use Rattle.sim_relate.proofs.Carried.{work_later}
 use Rattle.sim_relate.proofs.ClassLevels.{class_levels, level_levels}
-use Rattle.sim_relate.proofs.Entering.{work_below}
-use Rattle.sim_relate.proofs.Heads.{later_itself}
 use Rattle.sim_relate.proofs.Known.{Kind, Runs, Spot, Stands, site_at}
-use Rattle.sim_relate.proofs.Relation.{AtLevel, ChainAt, DeclaredTo, EndAt, InStage, LevelEnds, ObjectIs, OpAt, StoreAt, WorkAt, declares, inner_here, inner_last, stays, to_first, to_next, with_inner}
+use Rattle.sim_relate.proofs.Relation.{AtLevel, Bottom, ChainAt, ChainOn, DeclaredTo, InStage, LevelEnds, ObjectIs, OpAt, StoreAt, WorkAt, declares, inner_here, inner_last, stays, to_first, to_next, with_inner}
 use Rattle.sim_relate.proofs.Stores.{own_levels}
+use Rattle.sim_relate.proofs.Waiting.{demand, gives_value}
+
+owner_is : (y : machine.Activation) (inst : ℕ) → y.thunk ≡ false → y.home ≡ inst → machine.owner y ≡ Some inst
+owner_is y inst base home = ap (λ z. if z then None else Some y.home) base ∙ ap Some home
 
 module _ (s : Source) (code : CodeOf) where
   -- ---- texts in the frames of a text with levels
@@ -49,105 +50,133 @@ module _ (s : Source) (code : CodeOf) where
   stage_level Stays v b u op c p q ks ks' (inner_here token e a) h = inner_level v b u c a.place q ks ks' a.at h
   stage_level Stays v b u op c p q ks ks' (with_inner ss e a) h = inner_level v b u c a.place a.after ks ks' a.at h
 
-  -- ---- work that stands on something else
-
-  -- the end of such a text gives no value
-  levels_end : (Below Below' : Bool → Type 0) → (Below false → Below' false) → (t : ℕ) → has_levels (text s t) ≡ true → (b : Runs) (x : Item) (p : ℕ) (ks : List Kind) → EndAt s code Below t b x p ks → Below false × EndAt s code Below' t b x p ks
-  levels_end Below Below' f t h b (Do op) p ks a = absurd a
-  levels_end Below Below' f t h b EndBlock p ks a = let none = ap has_levels (a.0).is in absurd (cc (none, h))
-  levels_end Below Below' f t h b (EndProcedure v) p ks a = let none = ap has_levels a.is in absurd (cc (none, h))
-  levels_end Below Below' f t h b EndProgram p ks a = let x = a.1 in (x.below, (a.0, record { last = x.last; at = x.at; heads = x.heads; none = x.none; below = f x.below }))
-  levels_end Below Below' f t h b EndObject p ks a =
-      let x = a.ends in
-      (x.below, record { levels = a.levels; not_first = a.not_first; was = a.was; block = a.block; found = a.found; ends = record { last = x.last; at = x.at; heads = x.heads; none = x.none; below = f x.below } })
-  levels_end Below Below' f t h b EndPrefixed p ks a =
-      let x = a.ends in
-      (x.below, record { levels = a.levels; not_first = a.not_first; was = a.was; block = a.block; found = a.found; ends = record { last = x.last; at = x.at; heads = x.heads; none = x.none; below = f x.below } })
-  levels_end Below Below' f t h b (EndLevel k) p ks a = absurd a
+  -- the end of a text with levels gives no value
+  levels_give : (m : Instances) (fs : Frames) (Below : Bool → Type 0) (inst t : ℕ) → Levelled t → (b : Runs) (used : ℕ) (w : List Item) (p : ℕ) (ks : List Kind) → WorkAt s code m fs Below inst t b used w p ks → gives_value w ≡ false
+  levels_give m fs Below inst t h b used [] p ks a = absurd a
+  levels_give m fs Below inst t h b used (Do op ∷ w) p ks a =
+      let c = a.5 in
+      let frame = a.6 in
+      let here : Levelled a.4 = ap (λ z. has_levels (text s z)) frame.frame ∙ h in
+      levels_give m fs Below inst c.text (stage_level (OpAt s code m fs inst (site_at a.4 b a.1)) a.4 b a.1 op c a.0 a.2 ks a.3 a.10 here) c.runs c.used w a.2 a.3 a.11
+  levels_give m fs Below inst t h b used (EndProcedure v ∷ w) p ks a = let none = ap has_levels (a.2).is in absurd (cc (none, h))
+  levels_give m fs Below inst t h b used (EndLevel k ∷ w) p ks a = let c = a.2 in levels_give m fs Below inst c.text (ended_level b c a.0 a.1 ks a.4) c.runs c.used w a.1 [] a.5
+  levels_give m fs Below inst t h b used (EndBlock ∷ w) p ks a = refl
+  levels_give m fs Below inst t h b used (EndProgram ∷ w) p ks a = refl
+  levels_give m fs Below inst t h b used (EndObject ∷ w) p ks a = refl
+  levels_give m fs Below inst t h b used (EndPrefixed ∷ w) p ks a = refl
 
   module _ (m : Instances) (fs : Frames) where
-    -- nor does the work of an instance with levels
-    levels_work : (Below Below' : Bool → Type 0) → (Below false → Below' false) → (inst t : ℕ) → Levelled t → (b : Runs) (used : ℕ) (w : List Item) (p : ℕ) (ks : List Kind) → WorkAt s code m fs Below inst t b used w p ks → Below false × WorkAt s code m fs Below' inst t b used w p ks
-    levels_work Below Below' f inst t h b used [] p ks a = absurd a
-    levels_work Below Below' f inst t h b used (Do op ∷ w) p ks a =
-        let c = a.5 in
-        let frame = a.6 in
-        let here : Levelled a.4 = ap (λ z. has_levels (text s z)) frame.frame ∙ h in
-        let r = levels_work Below Below' f inst c.text (stage_level (OpAt s code m fs inst (site_at a.4 b a.1)) a.4 b a.1 op c a.0 a.2 ks a.3 a.10 here) c.runs c.used w a.2 a.3 a.11 in
-        (r.0, (a.0, a.1, a.2, a.3, a.4, a.5, a.6, a.7, a.8, a.9, a.10, r.1))
-    levels_work Below Below' f inst t h b used (EndBlock ∷ w) p ks a = let r = levels_end Below Below' f (frame_text s t) h b EndBlock a.0 ks a.2 in (r.0, (a.0, a.1, r.1))
-    levels_work Below Below' f inst t h b used (EndProcedure v ∷ w) p ks a = let r = levels_end Below Below' f (frame_text s t) h b (EndProcedure v) a.0 ks a.2 in (r.0, (a.0, a.1, r.1))
-    levels_work Below Below' f inst t h b used (EndProgram ∷ w) p ks a = let r = levels_end Below Below' f (frame_text s t) h b EndProgram a.0 ks a.2 in (r.0, (a.0, a.1, r.1))
-    levels_work Below Below' f inst t h b used (EndObject ∷ w) p ks a = let r = levels_end Below Below' f (frame_text s t) h b EndObject a.0 ks a.2 in (r.0, (a.0, a.1, r.1))
-    levels_work Below Below' f inst t h b used (EndPrefixed ∷ w) p ks a = let r = levels_end Below Below' f (frame_text s t) h b EndPrefixed a.0 ks a.2 in (r.0, (a.0, a.1, r.1))
-    levels_work Below Below' f inst t h b used (EndLevel k ∷ w) p ks a =
-        let c = a.2 in
-        let r = levels_work Below Below' f inst c.text (ended_level b c a.0 a.1 ks a.4) c.runs c.used w a.1 [] a.5 in
-        (r.0, (a.0, a.1, a.2, a.3, a.4, r.1))
+    -- ---- what is below on a chain
 
-    -- the work of any instance stands on what its own end can come to
-    work_on : (Below Below' : Bool → Type 0) → ((v : Bool) → Below v → Below' v) → (inst t : ℕ) → Stands s m inst t → (b : Runs) (used : ℕ) (w : List Item) (p : ℕ) (ks : List Kind) → WorkAt s code m fs Below inst t b used w p ks → WorkAt s code m fs Below' inst t b used w p ks
-    work_on Below Below' f inst t st b used w p ks a = work_later s code m m (later_itself s m) inst fs fs Below Below' f t st b used (λ c behind within lt. refl) w p ks a
+    pub work_below : (Below : Bool → Type 0) (inst t : ℕ) (b : Runs) (used : ℕ) (w : List Item) (p : ℕ) (ks : List Kind) → WorkAt s code m fs Below inst t b used w p ks → Below (gives_value w)
+    work_below Below inst t b used [] p ks a = absurd a
+    work_below Below inst t b used (Do op ∷ w) p ks a = work_below Below inst (a.5).text (a.5).runs (a.5).used w a.2 a.3 a.11
+    work_below Below inst t b used (EndBlock ∷ w) p ks a = ((a.2).1).below
+    work_below Below inst t b used (EndProcedure leaves ∷ w) p ks a = ((a.2).ends).below
+    work_below Below inst t b used (EndProgram ∷ w) p ks a = ((a.2).1).below
+    work_below Below inst t b used (EndObject ∷ w) p ks a = ((a.2).ends).below
+    work_below Below inst t b used (EndPrefixed ∷ w) p ks a = ((a.2).ends).below
+    work_below Below inst t b used (EndLevel k ∷ w) p ks a = work_below Below inst (a.2).text (a.2).runs (a.2).used w a.1 [] a.5
+
+    -- the same work on something else
+    work_on : (Below Below' : Bool → Type 0) (inst t : ℕ) (b : Runs) (used : ℕ) (w : List Item) (p : ℕ) (ks : List Kind) → Below' (gives_value w) → WorkAt s code m fs Below inst t b used w p ks → WorkAt s code m fs Below' inst t b used w p ks
+    work_on Below Below' inst t b used [] p ks f a = absurd a
+    work_on Below Below' inst t b used (Do op ∷ w) p ks f a = (a.0, a.1, a.2, a.3, a.4, a.5, a.6, a.7, a.8, a.9, a.10, work_on Below Below' inst (a.5).text (a.5).runs (a.5).used w a.2 a.3 f a.11)
+    work_on Below Below' inst t b used (EndBlock ∷ w) p ks f a = let e = a.2 in let x = e.1 in (a.0, a.1, (e.0, record { last = x.last; at = x.at; heads = x.heads; none = x.none; below = f }))
+    work_on Below Below' inst t b used (EndProcedure leaves ∷ w) p ks f a =
+        let e = a.2 in
+        let x = e.ends in
+        (a.0, a.1, record { result = e.result; heading = e.heading; body = e.body; is = e.is; same = e.same; ends = record { last = x.last; at = x.at; heads = x.heads; none = x.none; below = f } })
+    work_on Below Below' inst t b used (EndProgram ∷ w) p ks f a = let e = a.2 in let x = e.1 in (a.0, a.1, (e.0, record { last = x.last; at = x.at; heads = x.heads; none = x.none; below = f }))
+    work_on Below Below' inst t b used (EndObject ∷ w) p ks f a =
+        let e = a.2 in
+        let x = e.ends in
+        (a.0, a.1, record { levels = e.levels; not_first = e.not_first; was = e.was; block = e.block; found = e.found; ends = record { last = x.last; at = x.at; heads = x.heads; none = x.none; below = f } })
+    work_on Below Below' inst t b used (EndPrefixed ∷ w) p ks f a =
+        let e = a.2 in
+        let x = e.ends in
+        (a.0, a.1, record { levels = e.levels; not_first = e.not_first; was = e.was; block = e.block; found = e.found; ends = record { last = x.last; at = x.at; heads = x.heads; none = x.none; below = f } })
+    work_on Below Below' inst t b used (EndLevel k ∷ w) p ks f a = (a.0, a.1, a.2, a.3, a.4, work_on Below Below' inst (a.2).text (a.2).runs (a.2).used w a.1 [] f a.5)
+
+    -- an instance on a chain, with something else below
+    abbrev Below : (Ground : Bool → List machine.Activation → Type 0) → List Activation → List machine.Activation → Bool → Type 0
+    Below Ground rest below v = ChainOn s code Ground m fs rest v below
+
+    pub below_top : (Ground : Bool → List machine.Activation → Type 0) (a : Activation) (rest : List Activation) (v : Bool) (x : machine.Activation) (below : List machine.Activation) → ChainOn s code Ground m fs (a ∷ rest) v (x ∷ below) → ChainOn s code Ground m fs rest (gives_value a.work) below
+    below_top Ground a rest v x below c = work_below (Below Ground rest below) a.instance c.text c.block c.used a.work x.pc _ c.goes
+
+    top_on : (Ground Ground' : Bool → List machine.Activation → Type 0) (a : Activation) (rest rest' : List Activation) (v : Bool) (x : machine.Activation) (below below' : List machine.Activation) → ChainOn s code Ground m fs (a ∷ rest) v (x ∷ below) → ChainOn s code Ground' m fs rest' (gives_value a.work) below' → ChainOn s code Ground' m fs (a ∷ rest') v (x ∷ below')
+    top_on Ground Ground' a rest rest' v x below below' c d = record {
+      base = c.base;
+      home = c.home;
+      text = c.text;
+      block = c.block;
+      found = c.found;
+      stands = c.stands;
+      own = c.own;
+      roomy = c.roomy;
+      room = c.room;
+      stage = c.stage;
+      kinds = c.kinds;
+      values = c.values;
+      gets = c.gets;
+      gets_is = c.gets_is;
+      fits = c.fits;
+      used = c.used;
+      goes = work_on (Below Ground rest below) (Below Ground' rest' below') a.instance c.text c.block c.used a.work x.pc _ d c.goes;
+    }
 
     -- ---- chains that are joined
 
-    -- a chain that stood on nothing stands on another one, which waits for no value
-    pub chain_join : (op : List Activation) (ops : List machine.Activation) → ChainAt s code m fs op false ops → (chain : List Activation) (v : Bool) (below : List machine.Activation) → ChainAt s code m fs chain v below → ChainAt s code m fs (chain ++ op) v (below ++ ops)
-    chain_join op ops c [] v below a = subst (λ z. ChainAt s code m fs op z (below ++ ops)) (sym a.still) (subst (λ z. ChainAt s code m fs op false (z ++ ops)) (sym a.is) c)
-    chain_join op ops c (x ∷ rest) v [] a = absurd a
-    chain_join op ops c (x ∷ rest) v (y ∷ below) a = record {
-      base = a.base;
-      home = a.home;
-      text = a.text;
-      block = a.block;
-      found = a.found;
-      stands = a.stands;
-      own = a.own;
-      roomy = a.roomy;
-      room = a.room;
-      stage = a.stage;
-      kinds = a.kinds;
-      values = a.values;
-      fits = a.fits;
-      used = a.used;
-      goes = work_on (λ w. ChainAt s code m fs rest w below) (λ w. ChainAt s code m fs (rest ++ op) w (below ++ ops)) (λ w b. chain_join op ops c rest w below b) x.instance a.text a.stands a.block a.used x.work y.pc _ a.goes;
-    }
+    -- a chain that stands on nothing, whose end gives what the other one is given
+    pub on_ground : (d : Bool) (op : List Activation) (ops : List machine.Activation) → ChainAt s code m fs op d ops → (w : Bool) (b : List machine.Activation) → Bottom s code d w b → ChainAt s code m fs op w (b ++ ops)
+    on_ground d op ops c w b g = subst (λ z. ChainAt s code m fs op z (b ++ ops)) (sym g.still) (subst (λ z. ChainAt s code m fs op d (z ++ ops)) (sym g.is) c)
+
+    pub chain_join : (d : Bool) (op : List Activation) (ops : List machine.Activation) → ChainAt s code m fs op d ops → (chain : List Activation) (v : Bool) (below : List machine.Activation) → ChainOn s code (Bottom s code d) m fs chain v below → ChainAt s code m fs (chain ++ op) v (below ++ ops)
+    chain_join d op ops c [] v below a = on_ground d op ops c v below a
+    chain_join d op ops c (x ∷ rest) v [] a = absurd a
+    chain_join d op ops c (x ∷ rest) v (y ∷ below) a =
+        top_on (Bottom s code d) (Bottom s code false) x rest (rest ++ op) v y below (below ++ ops) a (chain_join d op ops c rest (gives_value x.work) below (below_top (Bottom s code d) x rest v y below a))
 
     -- ---- chains that are cut
 
-    -- Both are cut at the same place: the part above it and itself stands on nothing, and what is below waits for no value.
+    -- Both are cut at the same place. The part above stands on nothing, and its end gives what the other part is given.
     abbrev pub CutIs : Bool → Cut Activation → Cut machine.Activation → Type 0
-    CutIs v k k' = ChainAt s code m fs (upper k) v (upper k') × ChainAt s code m fs k.below false k'.below
+    CutIs v k k' = ChainOn s code (Bottom s code (demand v k.above)) m fs k.above v k'.above × ChainAt s code m fs (k.here ∷ k.below) (demand v k.above) (k'.here ∷ k'.below)
 
     -- with one activation more above the cut
-    one_more : (a : Activation) (rest : List Activation) (y : machine.Activation) (below : List machine.Activation) (v : Bool) → ChainAt s code m fs (a ∷ rest) v (y ∷ below) → (k : Option (Cut Activation)) (k' : Option (Cut machine.Activation)) → ((w : Bool) → ChainAt s code m fs rest w below → Both (CutIs w) k k')
-        → Both (CutIs v) (option_map (under a) k) (option_map (under y) k')
-    one_more a rest y below v c None None f = tt
-    one_more a rest y below v c None (Some k') f =
-        let z = work_below s code m fs (λ w. ChainAt s code m fs rest w below) a.instance c.text c.block c.used a.work y.pc _ c.goes in absurd (f z.0 z.1)
-    one_more a rest y below v c (Some k) None f =
-        let z = work_below s code m fs (λ w. ChainAt s code m fs rest w below) a.instance c.text c.block c.used a.work y.pc _ c.goes in absurd (f z.0 z.1)
-    one_more a rest y below v c (Some k) (Some k') f =
-        let z = work_below s code m fs (λ w. ChainAt s code m fs rest w below) a.instance c.text c.block c.used a.work y.pc _ c.goes in (
-          record {
-            base = c.base;
-            home = c.home;
-            text = c.text;
-            block = c.block;
-            found = c.found;
-            stands = c.stands;
-            own = c.own;
-            roomy = c.roomy;
-            room = c.room;
-            stage = c.stage;
-            kinds = c.kinds;
-            values = c.values;
-            fits = c.fits;
-            used = c.used;
-            goes = work_on (λ w. ChainAt s code m fs rest w below) (λ w. ChainAt s code m fs (upper k) w (upper k')) (λ w b. (f w b).0) a.instance c.text c.stands c.block c.used a.work y.pc _ c.goes;
-          },
-          (f z.0 z.1).1,
-        )
+    one_more : (a : Activation) (rest : List Activation) (y : machine.Activation) (below : List machine.Activation) (v : Bool) → ChainAt s code m fs (a ∷ rest) v (y ∷ below) → (k : Option (Cut Activation)) (k' : Option (Cut machine.Activation)) → Both (CutIs (gives_value a.work)) k k' → Both (CutIs v) (option_map (under a) k) (option_map (under y) k')
+    one_more a rest y below v c None None r = tt
+    one_more a rest y below v c None (Some k') r = absurd r
+    one_more a rest y below v c (Some k) None r = absurd r
+    one_more a rest y below v c (Some k) (Some k') r =
+        (top_on (Bottom s code false) (Bottom s code (demand (gives_value a.work) k.above)) a rest k.above v y below k'.above c r.0, r.1)
+
+    module _ (x : ℕ) where
+      cut_by : (a : Activation) (rest : List Activation) (y : machine.Activation) (below : List machine.Activation) (v : Bool) → ChainAt s code m fs (a ∷ rest) v (y ∷ below) → Both (CutIs (gives_value a.work)) (cut_at meaning.owner x rest) (cut_at machine.owner x below) → (g : Bool)
+          → Both (CutIs v) (if g then Some (record { above = []; here = a; below = rest }) else option_map (under a) (cut_at meaning.owner x rest)) (if g then Some (record { above = []; here = y; below = below }) else option_map (under y) (cut_at machine.owner x below))
+      cut_by a rest y below v c r true = (record { still = refl; is = refl }, c)
+      cut_by a rest y below v c r false = one_more a rest y below v c (cut_at meaning.owner x rest) (cut_at machine.owner x below) r
+
+      pub chain_cut : (chain : List Activation) (v : Bool) (below : List machine.Activation) → ChainAt s code m fs chain v below → Both (CutIs v) (cut_at meaning.owner x chain) (cut_at machine.owner x below)
+      chain_cut [] v [] c = tt
+      chain_cut [] v (y ∷ below) c = absurd (cc (c.is))
+      chain_cut (a ∷ rest) v [] c = absurd c
+      chain_cut (a ∷ rest) v (y ∷ below) c =
+          subst (λ z. Both (CutIs v) (cut_at meaning.owner x (a ∷ rest)) (if is_instance x z then Some (record { above = []; here = y; below = below }) else option_map (under y) (cut_at machine.owner x below))) (sym (owner_is y a.instance c.base c.home))
+          (cut_by a rest y below v c (chain_cut rest (gives_value a.work) below (below_top (Bottom s code false) a rest v y below c)) (a.instance == x))
+
+    -- the outermost activations of a chain that stands on nothing are of the same instance
+    pub outermost_same : (d : Bool) (chain : List Activation) (v : Bool) (below : List machine.Activation) → ChainOn s code (Bottom s code d) m fs chain v below → outermost machine.owner below ≡ outermost meaning.owner chain
+    outermost_same d [] v [] c = refl
+    outermost_same d [] v (x ∷ below) c = absurd (cc (c.is))
+    outermost_same d (a ∷ rest) v [] c = absurd c
+    outermost_same d (a ∷ []) v (x ∷ []) c = owner_is x a.instance c.base c.home
+    outermost_same d (a ∷ []) v (x ∷ y ∷ below) c = let r = below_top (Bottom s code d) a [] v x (y ∷ below) c in absurd (cc (r.is))
+    outermost_same d (a ∷ b ∷ rest) v (x ∷ []) c = absurd (below_top (Bottom s code d) a (b ∷ rest) v x [] c)
+    outermost_same d (a ∷ b ∷ rest) v (x ∷ y ∷ below) c = outermost_same d (b ∷ rest) (gives_value a.work) (y ∷ below) (below_top (Bottom s code d) a (b ∷ rest) v x (y ∷ below) c)
+
+  -- ---- chains that are cut at objects
 
   module _ (compiled : Compiled s code) (m : Instances) (fs : Frames) (store : StoreAt s code m fs) (x : ℕ) (object : ObjectIs s code m x) where
     -- the text in which the object goes on has levels
@@ -159,45 +188,10 @@ module _ (s : Source) (code : CodeOf) where
         level_levels s code compiled own (frame_text s t) (own_levels s code m fs store inst own t is st)
         (ap (λ z. has_levels (text s z)) (sym texts) ∙ class_levels s code compiled object.own object.class)
 
-    number_is : (a b : ℕ) → (a == b) ≡ true → a ≡ b
-    number_is a b e = grind (arith, e)
-
-    cut_here : (a : Activation) (rest : List Activation) (y : machine.Activation) (below : List machine.Activation) (v : Bool) → ChainAt s code m fs (a ∷ rest) v (y ∷ below) → a.instance ≡ x → CutIs m fs v (record { above = []; here = a; below = rest }) (record { above = []; here = y; below = below })
-    cut_here a rest y below v c e =
-        let r = levels_work m fs (λ w. ChainAt s code m fs rest w below) (λ w. ChainAt s code m fs [] w []) (λ b. record { still = refl; is = refl }) a.instance c.text (object_levels a.instance c.text c.block.own c.own c.stands e) c.block c.used a.work y.pc _ c.goes in (
-          record {
-            base = c.base;
-            home = c.home;
-            text = c.text;
-            block = c.block;
-            found = c.found;
-            stands = c.stands;
-            own = c.own;
-            roomy = c.roomy;
-            room = c.room;
-            stage = c.stage;
-            kinds = c.kinds;
-            values = c.values;
-            fits = c.fits;
-            used = c.used;
-            goes = r.1;
-          },
-          r.0,
-        )
-
-    cut_by : (a : Activation) (rest : List Activation) (y : machine.Activation) (below : List machine.Activation) (v : Bool) → ChainAt s code m fs (a ∷ rest) v (y ∷ below) → ((w : Bool) → ChainAt s code m fs rest w below → Both (CutIs m fs w) (cut_at meaning.owner x rest) (cut_at machine.owner x below)) → (g : Bool) → (a.instance == x) ≡ g
-        → Both (CutIs m fs v) (if g then Some (record { above = []; here = a; below = rest }) else option_map (under a) (cut_at meaning.owner x rest)) (if g then Some (record { above = []; here = y; below = below }) else option_map (under y) (cut_at machine.owner x below))
-    cut_by a rest y below v c f true e = cut_here a rest y below v c (number_is a.instance x e)
-    cut_by a rest y below v c f false e = one_more m fs a rest y below v c (cut_at meaning.owner x rest) (cut_at machine.owner x below) f
-
-    owner_is : (y : machine.Activation) (inst : ℕ) → y.thunk ≡ false → y.home ≡ inst → machine.owner y ≡ Some inst
-    owner_is y inst base home = ap (λ z. if z then None else Some y.home) base ∙ ap Some home
-
-    -- a chain is cut at an object
-    pub chain_cut : (chain : List Activation) (v : Bool) (below : List machine.Activation) → ChainAt s code m fs chain v below → Both (CutIs m fs v) (cut_at meaning.owner x chain) (cut_at machine.owner x below)
-    chain_cut [] v [] c = tt
-    chain_cut [] v (y ∷ below) c = absurd (cc (c.is))
-    chain_cut (a ∷ rest) v [] c = absurd c
-    chain_cut (a ∷ rest) v (y ∷ below) c =
-        subst (λ z. Both (CutIs m fs v) (cut_at meaning.owner x (a ∷ rest)) (if is_instance x z then Some (record { above = []; here = y; below = below }) else option_map (under y) (cut_at machine.owner x below))) (sym (owner_is y a.instance c.base c.home))
-        (cut_by a rest y below v c (λ w b. chain_cut rest w below b) (a.instance == x) refl)
+    -- The object leaves with what is above it: both stand on nothing then, and what is below is given no value.
+    pub object_leaves : (v : Bool) (k : Cut Activation) (k' : Cut machine.Activation) → CutIs m fs v k k' → k.here.instance ≡ x → ChainAt s code m fs (upper k) v (upper k') × ChainAt s code m fs k.below false k'.below
+    object_leaves v k k' r e =
+        let c = r.1 in
+        let none : gives_value k.here.work ≡ false = levels_give m fs (Below m fs (Bottom s code false) k.below k'.below) k.here.instance c.text (object_levels k.here.instance c.text c.block.own c.own c.stands e) c.block c.used k.here.work k'.here.pc _ c.goes in
+        let alone = top_on m fs (Bottom s code false) (Bottom s code false) k.here k.below [] (demand v k.above) k'.here k'.below [] c (record { still = none; is = refl }) in
+        (chain_join m fs (demand v k.above) (k.here ∷ []) (k'.here ∷ []) alone k.above v k'.above r.0, subst (λ z. ChainAt s code m fs k.below z k'.below) none (below_top m fs (Bottom s code false) k.here k.below (demand v k.above) k'.here k'.below c))

@@ -1,6 +1,6 @@
 -- The ends of blocks, of procedures, of objects and of the program.
 use Rattle.std.proofs.Common.{◌≡◌, ◌<◌, ◌+◌, ◌++◌, ℕ, Bool, true, false, List, [], ◌∷◌, length, Option, Some, None, refl, sym, ap, ◌∙◌, subst, arith}
-use Rattle.std.specs.Prelude.{◌==◌, if◌then◌else◌, nat_lt, pos, slice_get, slice_set}
+use Rattle.std.specs.Prelude.{◌==◌, if◌then◌else◌, nat_lt, pos, slice_get}
 use Rattle.sim_base.specs.declared.limits.Limits.{Limits}
 use Rattle.sim_scope.specs.Source.{Source}
 use Rattle.sim_tree.specs.declared.stmt.TypeName.{TypeName}
@@ -17,7 +17,7 @@ use Rattle.sim_code.specs.declared.stage.Stage.TheVariants as stage
 use Rattle.sim_code.specs.Levels.{ended_by_kind, level_ended, outermost_ended, same_stage}
 use Rattle.sim_code.specs.Events.{choosing, having, no_rule, stopping, when}
 use Rattle.sim_code.specs.Arrays.{giving_back}
-use Rattle.sim_code.specs.Instances.{Instance, ended_as, given, going_below, is_given_at_end, object_ended}
+use Rattle.sim_code.specs.Instances.{Instance, ended_as, given, is_given_at_end, object_ended}
 use Rattle.sim_code.specs.Machine.{Frames, Machine, Value, frames_left, is_nothing, own_block, pushing, same_kind, text_in, with_result, words_of_block}
 use Rattle.sim_code.specs.Machine as machine
 use Rattle.sim_code.specs.Rows.{on_top}
@@ -27,6 +27,7 @@ use Rattle.sim_meaning.specs.Meaning.{do_item, has_result, instances_left, leavi
 use Rattle.sim_meaning.specs.Levels.{has_levels, is_class, text_at}
 use Rattle.sim_meaning.specs.Levels as meaning_levels
 use Rattle.sim_meaning.specs.Pending.{Activation, Configuration, EndBlock, EndObject, EndPrefixed, EndProcedure, EndProgram, Held, Instances, Item, Result, Val, cell}
+use Rattle.sim_meaning.specs.Pending as meaning
 use Rattle.sim_meaning.specs.Texts.{BlockText, ClassText, ConnectionText, PrefixedText, ProcedureText, StandardText, Text, is_class_free, text}
 use Rattle.sim_meaning.specs.Entries.{first_cells, passes}
 use Rattle.codegen_expr.specs.Sites.{HasCell, block_in_front, block_number, block_of_text, cells_in, cells_of_block, frame_text, hidden_in, own_cells, own_part, place_of, prefix_of, slot_of, types_in}
@@ -40,9 +41,10 @@ use Rattle.sim_relate.proofs.Here.{Here, act, at_row}
 use Rattle.sim_relate.proofs.ClassLevels.{class_levels}
 use Rattle.sim_relate.proofs.ClassTexts.{class_has}
 use Rattle.sim_relate.proofs.Reach.{alone, other_numbers}
-use Rattle.sim_relate.proofs.Known.{Any, Every, Kind, Runs, Stands, ValAt, more_at}
-use Rattle.sim_relate.proofs.Relation.{ChainAt, Changed, EndAt, EndIs, OutermostEnds, StandingAt, StandingsAt, StateAt, StoreAt}
-use Rattle.sim_relate.proofs.Standings.{goes_below, stands_now}
+use Rattle.sim_relate.proofs.Known.{Any, Every, Kind, Runs, Stands, ValAt, given as given_kinds, more_at}
+use Rattle.sim_relate.proofs.Relation.{ChainAt, Changed, EndAt, EndIs, OutermostEnds, StandingAt, StandingsAt, StateAt, StoreAt, WorkAt}
+use Rattle.sim_relate.proofs.Components.{attached_ends, resumed_ends}
+use Rattle.sim_relate.proofs.Waiting.{GetsIs, gets_given, suspended}
 use Rattle.sim_relate.proofs.Stores.{cell_read, frame_number, given_at_end_same, given_long, keeps_given, later_given, never_given, own_levels, store_given, unchanged}
 
 pub chosen : {A : Type 0} (P : A → Type 0) (b : Bool) (x y : A) → b ≡ true → P x → P (if b then x else y)
@@ -168,10 +170,12 @@ module _ (s : Source) (code : CodeOf) where
     leave_value v z w (y ∷ rest) [] c = absurd c
     leave_value v z w (y ∷ rest) (x ∷ below) c =
         let n = stack_length c.kinds y.values x.stack c.values in
-        let fits = c.fits refl in
+        let got = gets_given (suspended m y.instance) c.gets c.gets_is in
+        let fits = c.fits got.0 in
         let room = c.room in
         let less : nat_lt (length x.stack) x.room ≡ true = grind (arith, n, fits, room) in
         let k = chain_left (y ∷ rest) true (x ∷ below) c in
+        let now = gets_given (suspended (instances_left j m) y.instance) k.gets k.gets_is in
         chosen (λ q. Alike R (Going (world_left s j o m) (record { chain = record { instance = y.instance; work = y.work; values = v ∷ y.values } ∷ rest; memory = instances_left j m })) q) (nat_lt (length x.stack) x.room) _ (no_rule o) less
         (in_world _ _ (record {
           chain = record {
@@ -187,9 +191,11 @@ module _ (s : Source) (code : CodeOf) where
             stage = k.stage;
             kinds = Any ∷ k.kinds;
             values = more_at w k.values;
+            gets = false;
+            gets_is = subst (λ z. GetsIs z false false) (sym now.1) refl;
             fits = λ no. absurd (cc);
             used = k.used;
-            goes = k.goes;
+            goes = subst (λ g. WorkAt s code (instances_left j m) (frames_left j fs) (λ v. ChainAt s code (instances_left j m) (frames_left j fs) rest v below) y.instance k.text k.block k.used y.work x.pc (given_kinds g k.kinds)) now.0 k.goes;
           };
           store = (stores_left m fs a j).store;
           parked = parked_left;
@@ -298,20 +304,17 @@ module _ (s : Source) (code : CodeOf) (compiled : Compiled s code) (l : Limits) 
   -- ---- the end of an object
 
   module _ (p : World) where
-    terminated : ChainAt s code m fs rest false below → Alike Related (going_below p rest (record m { standings = slice_set m.standings inst TerminatedObject })) (going_below p below (record fs { standings = slice_set fs.standings inst TerminatedObject }))
-    terminated c = goes_below s code m fs here.store _ _ p rest below (stands_now s code m fs here.store inst TerminatedObject TerminatedObject here.parked tt) c
-
-    ended_alike : (x : Option (Standing Activation)) (y : Option (Standing machine.Activation)) → Both (StandingAt s code m fs inst) x y → ChainAt s code m fs rest false below → Alike Related (ended_as p m inst rest x) (ended_as p fs inst below y)
-    ended_alike None None b c = ended
-    ended_alike None (Some y) b c = absurd b
-    ended_alike (Some x) None b c = absurd b
-    ended_alike (Some AttachedObject) (Some AttachedObject) b c = terminated c
-    ended_alike (Some (NoObject None)) (Some (NoObject None)) b c = ended
-    ended_alike (Some (NoObject (Some x))) (Some (NoObject (Some y))) b c = ended
-    ended_alike (Some (DetachedObject x)) (Some (DetachedObject y)) b c = ended
-    ended_alike (Some ResumedObject) (Some ResumedObject) b c = ended
-    ended_alike (Some TerminatedObject) (Some TerminatedObject) b c = ended
-    ended_alike (Some _) (Some _) b c = absurd b
+    ended_alike : (x : Option (Standing Activation)) (y : Option (Standing machine.Activation)) → slice_get m.standings inst ≡ x → Both (StandingAt s code m fs inst) x y → ChainAt s code m fs rest false below → Alike Related (ended_as meaning.owner p m inst rest x) (ended_as machine.owner p fs inst below y)
+    ended_alike None None e b c = ended
+    ended_alike None (Some y) e b c = absurd b
+    ended_alike (Some x) None e b c = absurd b
+    ended_alike (Some AttachedObject) (Some AttachedObject) e b c = attached_ends s code compiled p m fs here.store here.parked inst rest below c e
+    ended_alike (Some ResumedObject) (Some ResumedObject) e b c = resumed_ends s code compiled p m fs here.store here.parked inst rest below c w vals (here.formed w vals) e
+    ended_alike (Some (NoObject None)) (Some (NoObject None)) e b c = ended
+    ended_alike (Some (NoObject (Some x))) (Some (NoObject (Some y))) e b c = ended
+    ended_alike (Some (DetachedObject x)) (Some (DetachedObject y)) e b c = ended
+    ended_alike (Some TerminatedObject) (Some TerminatedObject) e b c = ended
+    ended_alike (Some _) (Some _) e b c = absurd b
 
   outermost_alike : (kind : BlockKind) (r : Run Configuration) (a : OutermostEnds s code kind b pc ks (ChainAt s code m fs rest false below)) → Alike Related r (ended_by_kind l o fs below inst a.block kind) → Alike Related r (on_top code l o fs top below)
   unfolding choosing when
@@ -325,7 +328,7 @@ module _ (s : Source) (code : CodeOf) (compiled : Compiled s code) (l : Limits) 
 
   pub end_object : EndFollows EndObject
   unfolding object_ended
-  end_object a = outermost_alike block_kind.Object _ a (alike_ticking Configuration Machine Related l o _ _ (λ p. ended_alike p (slice_get m.standings inst) (slice_get fs.standings inst) (here.parked.each inst) a.ends.below))
+  end_object a = outermost_alike block_kind.Object _ a (alike_ticking Configuration Machine Related l o _ _ (λ p. ended_alike p (slice_get m.standings inst) (slice_get fs.standings inst) refl (here.parked.each inst) a.ends.below))
 
   -- A prefixed block is never given back, and neither are its words.
   pub end_prefixed : EndFollows EndPrefixed

@@ -9,6 +9,7 @@ use Rattle.sim_scope.specs.Source.{Source}
 use Rattle.sim_scope.specs.Tables.{BlockOf as ScopeOf}
 use Rattle.sim_tree.specs.Syntax.{Begin, Block, Prefix}
 use Rattle.sim_chains.specs.Components.{Standing}
+use Rattle.sim_chains.proofs.Counts.{past}
 use Rattle.sim_code.specs.declared.code.BlockKind.{BlockKind}
 use Rattle.sim_code.specs.declared.code.CodeType.{CodeType}
 use Rattle.sim_code.specs.declared.instr.Lined.{Lined}
@@ -25,15 +26,17 @@ use Rattle.sim_code.proofs.Lifts.{alike_found, alike_no_rule}
 use Rattle.sim_code.proofs.Simulation.{Alike}
 use Rattle.sim_meaning.specs.Entries.{new_instance, passes}
 use Rattle.sim_meaning.specs.Levels.{has_levels, text_in}
-use Rattle.sim_meaning.specs.Pending.{Activation, Configuration, Do, EndBlock, EndLevel, EndObject, EndPrefixed, EndProcedure, EndProgram, Held, Instances, Item, Key, held}
+use Rattle.sim_meaning.specs.Pending.{Activation, Configuration, Held, Instances, Item, Key, held}
 use Rattle.sim_meaning.specs.Texts.{BlockText, ConnectionText, PrefixedText, Text, is_class_free, program_texts, text}
 use Rattle.codegen_expr.specs.Sites.{HasCell, LevelOf, block_in_front, block_number, block_of_text, cells_in, frame_text, hidden_in, innermost, outer, own_part, place_of, prefix_of, slot_of, start_of, types_in}
 use Rattle.codegen.specs.Agrees.{Agrees}
 use Rattle.codegen.specs.Compiled.{CodeHas, Compiled, RecordOf, TextCode, type_of_cell}
 use Rattle.sim_relate.proofs.Carried.{all_every, both_later, chain_later, kept_every}
+use Rattle.sim_relate.proofs.Chains.{work_below}
 use Rattle.sim_relate.proofs.Ends.{chosen, left_out}
-use Rattle.sim_relate.proofs.Known.{Every, Kind, Runs, SlotAt, Stands, is_fixed, none_at}
+use Rattle.sim_relate.proofs.Known.{Every, Runs, SlotAt, Stands, is_fixed, none_at}
 use Rattle.sim_relate.proofs.Relation.{ChainAt, InstanceAt, Laid, StandingAt, StandingsAt, StateAt, StoreAt, WorkAt}
+use Rattle.sim_relate.proofs.Waiting.{GetsIs, gives_value, suspended, suspended_entered, suspends}
 use Rattle.sim_relate.proofs.Slots.{HeldAt, Typed, empty_behind, key_of, types_split}
 use Rattle.sim_relate.proofs.Frames.{frame_self}
 use Rattle.sim_relate.proofs.Layouts.{cells_by_key, declared_there, hidden_empty}
@@ -86,23 +89,13 @@ frame_there s a k x e own = frame_self s a k (a.connected k ∙ ap is_connection
 -- ---- what is below on a chain
 
 module _ (s : Source) (code : CodeOf) where
-  pub work_below : (m : Instances) (fs : Frames) (Below : Bool → Type 0) (inst t : ℕ) (b : Runs) (used : ℕ) (w : List Item) (p : ℕ) (ks : List Kind) → WorkAt s code m fs Below inst t b used w p ks → (v : Bool) × Below v
-  work_below m fs Below inst t b used [] p ks a = absurd a
-  work_below m fs Below inst t b used (Do op ∷ w) p ks a = work_below m fs Below inst (a.5).text (a.5).runs (a.5).used w a.2 a.3 a.11
-  work_below m fs Below inst t b used (EndBlock ∷ w) p ks a = (false, ((a.2).1).below)
-  work_below m fs Below inst t b used (EndProcedure leaves ∷ w) p ks a = (leaves, ((a.2).ends).below)
-  work_below m fs Below inst t b used (EndProgram ∷ w) p ks a = (false, ((a.2).1).below)
-  work_below m fs Below inst t b used (EndObject ∷ w) p ks a = (false, ((a.2).ends).below)
-  work_below m fs Below inst t b used (EndPrefixed ∷ w) p ks a = (false, ((a.2).ends).below)
-  work_below m fs Below inst t b used (EndLevel k ∷ w) p ks a = work_below m fs Below inst (a.2).text (a.2).runs (a.2).used w a.1 [] a.5
-
   pub chain_owners : (m : Instances) (fs : Frames) (chain : List Activation) (v : Bool) (below : List machine.Activation) → ChainAt s code m fs chain v below → SameOwners s code chain below
   chain_owners m fs [] v [] c = tt
   chain_owners m fs [] v (x ∷ below) c = absurd (cc (c.is))
   chain_owners m fs (a ∷ rest) v [] c = absurd c
   chain_owners m fs (a ∷ rest) v (x ∷ below) c =
-      let k = work_below m fs (λ w. ChainAt s code m fs rest w below) a.instance c.text c.block c.used a.work x.pc _ c.goes in
-      (ap (λ z. if z then None else Some x.home) c.base ∙ ap Some c.home, chain_owners m fs rest k.0 below k.1)
+      let k = work_below s code m fs (λ w. ChainAt s code m fs rest w below) a.instance c.text c.block c.used a.work x.pc _ c.goes in
+      (ap (λ z. if z then None else Some x.home) c.base ∙ ap Some c.home, chain_owners m fs rest (gives_value a.work) below k)
 
   -- ---- blocks that are entered
 
@@ -209,7 +202,7 @@ module _ (s : Source) (code : CodeOf) where
 
   -- ---- a new instance on top
 
-  module _ (m : Instances) (fs : Frames) (a : StoreAt s code m fs) (x : Instance (List Held)) (y : Instance Cells) (p : Standing Activation) (r : Standing machine.Activation) where
+  module _ (m : Instances) (fs : Frames) (a : StoreAt s code m fs) (x : Instance (List Held)) (y : Instance Cells) (p : Standing Activation) (r : Standing machine.Activation) (free : suspends p ≡ None) where
     abbrev pub later_m : Instances
     later_m = entered m x p
 
@@ -217,13 +210,13 @@ module _ (s : Source) (code : CodeOf) where
     later_fs = entered fs y r
 
     pub chain_entered : (chain : List Activation) (v : Bool) (below : List machine.Activation) → ChainAt s code m fs chain v below → ChainAt s code later_m later_fs chain v below
-    chain_entered chain v below c = chain_later s code m later_m fs later_fs (later_entered s m x p) Every (keeps_entered s code m fs a.as_many y r) chain (all_every chain) v below c
+    chain_entered chain v below c = chain_later s code m later_m fs later_fs (later_entered s m x p) Every (keeps_entered s code m fs a.as_many y r) (λ j of. suspended_entered m x p free j) chain (all_every chain) v below c
 
     pub parked_entered : StandingAt s code later_m later_fs (length m.instances) p r → StandingsAt s code m fs → StandingsAt s code later_m later_fs
     parked_entered new old = record {
       each =
           append_both (StandingAt s code later_m later_fs) m.standings fs.standings p r
-          (λ j. both_later s code m later_m fs later_fs (later_entered s m x p) Every (keeps_entered s code m fs a.as_many y r) j (slice_get m.standings j) (slice_get fs.standings j) (λ z is. kept_every m j z is) (old.each j))
+          (λ j. both_later s code m later_m fs later_fs (later_entered s m x p) Every (keeps_entered s code m fs a.as_many y r) (λ j of. suspended_entered m x p free j) j (slice_get m.standings j) (slice_get fs.standings j) (λ z is. kept_every m j z is) (old.each j))
           (subst (λ n. StandingAt s code later_m later_fs n p r) (sym old.counted) new);
       counted = length-append m.standings (p ∷ []) ∙ ap (λ n. n + 1) old.counted ∙ sym (length-append m.instances (x ∷ []));
     }
@@ -245,6 +238,8 @@ module _ (s : Source) (code : CodeOf) where
         stage = refl;
         kinds = [];
         values = none_at;
+        gets = false;
+        gets_is = subst (λ z. GetsIs z false false) (sym none_waits) refl;
         fits = λ no. absurd (cc);
         used = used;
         goes = work;
@@ -252,3 +247,11 @@ module _ (s : Source) (code : CodeOf) where
       store = store_entered s code m fs a x y p r pair own;
       parked = parked;
     }
+      where
+        -- a new instance waits for no main component
+        none_waits : suspended later_m (length m.instances) ≡ None
+        none_waits =
+            let one = length-append m.standings (p ∷ []) in
+            let other = length-append m.instances (x ∷ []) in
+            let counted = parked.counted in
+            suspended_entered m x p free (length m.instances) ∙ ap suspends (past m.standings (length m.instances) (omega (arith, one, other, counted)))

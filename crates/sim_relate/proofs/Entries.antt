@@ -54,6 +54,7 @@ use Rattle.sim_relate.proofs.Laying.{laid}
 use Rattle.sim_relate.proofs.Living.{new_lives, new_lives_inside}
 use Rattle.sim_relate.proofs.Pending.{ends_at, pends}
 use Rattle.sim_relate.proofs.Known.{Any, Every, FixedOf, HandAt, IsLink, Kind, LinkTo, Located, OwnerOf, Refers, Runs, StackAt, Stands, ValAt, anys, array_at, element_at, given, image_at, link_at, more_at, plain_at, site_at}
+use Rattle.sim_relate.proofs.Waiting.{GetsIs}
 use Rattle.sim_relate.proofs.Relation.{CallOpIs, ChainAt, Changed, EndAt, OpAt, StandingsAt, StateAt, StoreAt, WorkAt, straight}
 use Rattle.sim_relate.proofs.Slots.{HeldAt, Typed, VaryFirst, Written, cells_at, cells_filled_behind, cells_fit, key_of, machine_fills, put_behind, put_from, put_length, result_at, results}
 use Rattle.sim_relate.proofs.Stores.{is_live_same, new_inside, new_outermost}
@@ -124,8 +125,8 @@ module _ (s : Source) (code : CodeOf) (compiled : Compiled s code) (l : Limits) 
       alike_entering Configuration Machine R l (line_at s begin) x.line.0 (words_of_cells cells) (words_of_block b) o _ _ (same_line x ex (h.enter).at) (words_same s code agrees 0 (BlockText begin ds ss) b is refl refl heads.cells) (λ p.
       let new = new_instance s 0 None cells in
       let frame = new_frame s code 0 b None (machine.first_cells b) in
-      let m' = later_m s code m fs a new frame (NoObject None) (NoObject None) in
-      let fs' = later_fs s code m fs a new frame (NoObject None) (NoObject None) in
+      let m' = later_m s code m fs a new frame (NoObject None) (NoObject None) refl in
+      let fs' = later_fs s code m fs a new frame (NoObject None) (NoObject None) refl in
       let stands : Stands s m' (length m.instances) 0 = new_outermost s m 0 new (NoObject None) refl refl refl agrees.outermost in
       let lives : Lives m' (length m.instances) = lives_alone (new_lives m new (NoObject None) refl) refl in
       let Below : Bool → Type 0 = λ v. ChainAt s code m' fs' [] v [] in
@@ -138,7 +139,7 @@ module _ (s : Source) (code : CodeOf) (compiled : Compiled s code) (l : Limits) 
       let work = block_pends s code compiled m' fs' Below (length m.instances) 0 b stands refl lives ds ss EndProgram h.start (body.body).0 body.stop (body.body).1 (body.body).2
       (ends_at s code m' fs' Below (length m.instances) 0 (plainly 0 b) (own_end s code 0) EndProgram [] body.stop [] (refl, record { last = body.last; at = body.ends; heads = heads; none = refl; below = record { still = refl; is = refl } })) in
       let pair = instance_at s code agrees 0 single block_kind.SubBlock type.Nothing b heads found (ap (λ z. passes z (is_class_free s 0)) is) refl (laid s code compiled 0 (BlockText begin ds ss) is refl) None cells (machine.first_cells b) (block_first s code agrees 0 begin ds ss block_kind.SubBlock type.Nothing b is heads) (ap (λ z. map key_of (cells_in s 0 z)) (sym is)) (first_size s code agrees 0 single block_kind.SubBlock type.Nothing b heads) (first_none s code agrees 0 single block_kind.SubBlock type.Nothing b heads) in
-      going (enters s code m fs a new frame (NoObject None) (NoObject None) (parked_entered s code m fs a new frame (NoObject None) (NoObject None) tt parked) [] [] 0 (plainly 0 b) pair
+      going (enters s code m fs a new frame (NoObject None) (NoObject None) refl (parked_entered s code m fs a new frame (NoObject None) (NoObject None) refl tt parked) [] [] 0 (plainly 0 b) pair
       found stands stands refl room (Do PastOp ∷ block_work s m' (length m.instances) ds ss EndProgram) (own_end s code 0) b.entry
       (pends s code m' fs' Below (length m.instances) 0 (plainly 0 b) (own_end s code 0) low (block_work s m' (length m.instances) ds ss EndProgram) PastOp b.entry h.start [] []
       (h.start, record { line = line_at s begin; is = h.enter }, record { forward = ahead; there = start }, refl) work))))
@@ -193,6 +194,8 @@ module _ (s : Source) (code : CodeOf) (compiled : Compiled s code) (l : Limits) 
     stage = refl;
     kinds = left;
     values = h;
+    gets = v;
+    gets_is = subst (λ z. GetsIs z v v) (sym here.free) refl;
     fits = λ yes. (let less = fits yes in omega (arith, less, roomy));
     used = u;
     goes = subst (λ z. WorkAt s code m fs (λ v. ChainAt s code m fs rest v below) inst t b u w (suc pc) z) e (subst (λ z. WorkAt s code m fs (λ v. ChainAt s code m fs rest v below) inst t b u w z ks') place work);
@@ -217,16 +220,16 @@ module _ (s : Source) (code : CodeOf) (compiled : Compiled s code) (l : Limits) 
       alike_entering Configuration Machine Related l line line (words_of_cells cells) (words_of_block new_block) o _ _ refl (words_same s code agrees (suc k) (BlockText begin ds ss) new_block is refl refl heads.cells) (λ p.
       let new = new_instance s (suc k) (Some inst) cells in
       let frame = new_frame s code (block_number s (suc k)) new_block (Some inst) (machine.first_cells new_block) in
-      let m' = later_m s code m fs here.store new frame (NoObject None) (NoObject None) in
-      let fs' = later_fs s code m fs here.store new frame (NoObject None) (NoObject None) in
+      let m' = later_m s code m fs here.store new frame (NoObject None) (NoObject None) refl in
+      let fs' = later_fs s code m fs here.store new frame (NoObject None) (NoObject None) refl in
       let chain : List Activation = record { instance = inst; work = w; values = vals } ∷ rest in
       let under : List machine.Activation = waiting top stack ∷ below in
       let Below : Bool → Type 0 = λ v. ChainAt s code m' fs' chain v under in
       let stands : Stands s m' (length m.instances) (suc k) = new_inside s m (suc k) inst t new (NoObject None) (sym own) refl refl (ap (encloser s.tables) own ∙ around) here.stands in
       let lives : Lives m' (length m.instances) = new_lives_inside m new (NoObject None) refl inst refl here.lives in
-      let waiting_chain = chain_entered s code m fs here.store new frame (NoObject None) (NoObject None) chain false under (waits false ks vals stack here.values (λ no. absurd (cc)) e at.on) in
+      let waiting_chain = chain_entered s code m fs here.store new frame (NoObject None) (NoObject None) refl chain false under (waits false ks vals stack here.values (λ no. absurd (cc)) e at.on) in
       let pair = instance_at s code agrees (suc k) single block_kind.SubBlock type.Nothing new_block heads c.found (ap (λ z. passes z (is_class_free s (suc k))) is) own (laid s code compiled (suc k) (BlockText begin ds ss) is refl) (Some inst) cells (machine.first_cells new_block) (block_first s code agrees (suc k) begin ds ss block_kind.SubBlock type.Nothing new_block is heads) (ap (λ z. map key_of (cells_in s (suc k) z)) (sym is)) (first_size s code agrees (suc k) single block_kind.SubBlock type.Nothing new_block heads) (first_none s code agrees (suc k) single block_kind.SubBlock type.Nothing new_block heads) in
-      going (enters s code m fs here.store new frame (NoObject None) (NoObject None) (parked_entered s code m fs here.store new frame (NoObject None) (NoObject None) tt here.parked) chain under (suc k) (plainly (suc k) new_block) pair
+      going (enters s code m fs here.store new frame (NoObject None) (NoObject None) refl (parked_entered s code m fs here.store new frame (NoObject None) (NoObject None) refl tt here.parked) chain under (suc k) (plainly (suc k) new_block) pair
       (ap (λ z. slice_get code.blocks (block_number s z)) own ∙ c.found) stands stands refl room (block_work s m' (length m.instances) ds ss EndBlock) (own_end s code (suc k)) new_block.entry
       (block_pends s code compiled m' fs' Below (length m.instances) (suc k) new_block stands own lives ds ss EndBlock new_block.entry (body.body).0 body.stop (body.body).1 (body.body).2
       (ends_at s code m' fs' Below (length m.instances) (suc k) (plainly (suc k) new_block) (own_end s code (suc k)) EndBlock [] body.stop []
@@ -312,20 +315,20 @@ module _ (s : Source) (code : CodeOf) (compiled : Compiled s code) (l : Limits) 
     abbrev frame : Instance Cells
     frame = new_frame s code (block_number s k) new_block (Some j) cells'
 
-    state_entered : Related (record { chain = record { instance = length kept_m.instances; work = Do (Exec body) ∷ EndProcedure (has_result result) ∷ []; values = [] } ∷ chain; memory = later_m s code kept_m kept_fs kept.store new frame (NoObject None) (NoObject None) }) (record { chain = record { thunk = false; home = length kept_fs.instances; pc = new_block.entry; stack = []; room = new_block.room; stage = stage.NoStage } ∷ under; memory = later_fs s code kept_m kept_fs kept.store new frame (NoObject None) (NoObject None) })
+    state_entered : Related (record { chain = record { instance = length kept_m.instances; work = Do (Exec body) ∷ EndProcedure (has_result result) ∷ []; values = [] } ∷ chain; memory = later_m s code kept_m kept_fs kept.store new frame (NoObject None) (NoObject None) refl }) (record { chain = record { thunk = false; home = length kept_fs.instances; pc = new_block.entry; stack = []; room = new_block.room; stage = stage.NoStage } ∷ under; memory = later_fs s code kept_m kept_fs kept.store new frame (NoObject None) (NoObject None) refl })
     state_entered =
         let heads = h.heads in
         let single : has_levels (text s k) ≡ false = ap has_levels is in
         let room : new_block.room ≤ new_block.room = omega arith in
         let code_body = h.body in
-        let m' = later_m s code kept_m kept_fs kept.store new frame (NoObject None) (NoObject None) in
-        let fs' = later_fs s code kept_m kept_fs kept.store new frame (NoObject None) (NoObject None) in
+        let m' = later_m s code kept_m kept_fs kept.store new frame (NoObject None) (NoObject None) refl in
+        let fs' = later_fs s code kept_m kept_fs kept.store new frame (NoObject None) (NoObject None) refl in
         let Below : Bool → Type 0 = λ v. ChainAt s code m' fs' chain v under in
         let out = (kept.later).stands j around link in
         let stands : Stands s m' (length kept_m.instances) k = new_inside s kept_m k j around new (NoObject None) (sym own) refl refl (ap (encloser s.tables) own ∙ in_text) out in
         let chain_kept = chain_changed s code kept chain (all_every chain) (has_result result) under waiting_here in
         let parked_kept = parked_changed s code kept (kept_every m) here.parked in
-        let chain_there = chain_entered s code kept_m kept_fs kept.store new frame (NoObject None) (NoObject None) chain (has_result result) under chain_kept in
+        let chain_there = chain_entered s code kept_m kept_fs kept.store new frame (NoObject None) (NoObject None) refl chain (has_result result) under chain_kept in
         let size : length cells' ≡ length new_block.types = put_length (results result) values' (machine.first_cells new_block) ∙ first_size s code agrees k single block_kind.Procedure (type_of_name result) new_block heads in
         let n = each_length values values' each in
         let fit = formals_fit s k result heading body in
@@ -336,7 +339,7 @@ module _ (s : Source) (code : CodeOf) (compiled : Compiled s code) (l : Limits) 
         let pair = instance_at s code agrees k single block_kind.Procedure (type_of_name result) new_block heads found (ap (λ z. passes z (is_class_free s k)) is) own (laid s code compiled k (ProcedureText result heading body) is refl) (Some j) cells_written.now cells' cells_written.at (cells_written.keys ∙ ap (λ z. map key_of (cells_in s k z)) (sym is)) size none in
         let low' = used_low s code agrees k own in
         let used = own_end s code k in
-        enters s code kept_m kept_fs kept.store new frame (NoObject None) (NoObject None) (parked_entered s code kept_m kept_fs kept.store new frame (NoObject None) (NoObject None) tt parked_kept) chain under k (plainly k new_block) pair (ap (λ z. slice_get code.blocks (block_number s z)) own ∙ found) stands stands refl room (Do (Exec body) ∷ EndProcedure (has_result result) ∷ []) used new_block.entry
+        enters s code kept_m kept_fs kept.store new frame (NoObject None) (NoObject None) refl (parked_entered s code kept_m kept_fs kept.store new frame (NoObject None) (NoObject None) refl tt parked_kept) chain under k (plainly k new_block) pair (ap (λ z. slice_get code.blocks (block_number s z)) own ∙ found) stands stands refl room (Do (Exec body) ∷ EndProcedure (has_result result) ∷ []) used new_block.entry
         (pends s code m' fs' Below (length kept_m.instances) k (plainly k new_block) used low' (EndProcedure (has_result result) ∷ []) (Exec body) new_block.entry code_body.stop [] [] (straight code_body.body, refl)
         (ends_at s code m' fs' Below (length kept_m.instances) k (plainly k new_block) used (EndProcedure (has_result result)) [] code_body.stop []
         (subst (λ z. EndAt s code Below z (plainly k new_block) (EndProcedure (has_result result)) code_body.stop []) (sym own) (record { result = result; heading = heading; body = body; is = is; same = refl; ends = record { last = code_body.last; at = code_body.ends; heads = heads; none = refl; below = chain_there } }))))

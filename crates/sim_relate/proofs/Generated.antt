@@ -116,7 +116,7 @@ module _ (s : Source) (code : CodeOf) (compiled : Compiled s code) (l : Limits) 
     new_alike : Alike Related (having (levels s g) o (λ xs. object_entered s l o m inst w vals2 rest g line values j xs)) (objects_of code (pos (class_number s code g)) o NewGoes)
     new_alike =
         objects_alike _
-        (entry_alike s code compiled l o m fs here.store here.parked g line x values values' each j a.text a.stands_in link EndObject AttachedObject AttachedObject chain under (λ m' fs' number is. record { own = g; is = is; class = a.class }) under_there
+        (entry_alike s code compiled l o m fs here.store here.parked g line x values values' each j a.text a.stands_in link EndObject AttachedObject AttachedObject refl chain under (λ m' fs' number is. record { own = g; is = is; class = a.class }) under_there
         (λ m' fs' there block t' p last at. record {
           levels = x.levels;
           not_first = not_first s code compiled g x.block x.found (ap of_levels x.has.heads.is_kind ∙ x.levelled);

@@ -1,11 +1,13 @@
 -- Related states, put together.
-use Rattle.std.proofs.Common.{◌≡◌, ◌≤◌, ℕ, List, ◌∷◌, false, Some, refl, ap, ◌∙◌, subst}
+use Rattle.std.proofs.Common.{◌≡◌, ◌≤◌, ℕ, List, ◌∷◌, false, Some, None, refl, sym, ap, ◌∙◌, subst}
 use Rattle.std.specs.Prelude.{slice_get}
 use Rattle.sim_base.specs.declared.limits.Limits.{Limits}
 use Rattle.sim_scope.specs.Source.{Source}
 use Rattle.sim_code.specs.declared.instr.Instr.{Instr}
 use Rattle.sim_code.specs.declared.instr.Lined.{Lined}
 use Rattle.sim_code.specs.Code.{CodeOf}
+use Rattle.sim_chains.specs.WellFormed.{IsWellFormed}
+use Rattle.sim_code.specs.Instances.{system_head}
 use Rattle.sim_code.specs.Outcome.{Going, Run, World}
 use Rattle.sim_code.specs.Machine.{Frames, Machine, Value}
 use Rattle.sim_code.specs.Machine as machine
@@ -14,11 +16,13 @@ use Rattle.sim_code.proofs.Lifts.{alike_found}
 use Rattle.sim_code.proofs.Simulation.{Alike, going}
 use Rattle.sim_meaning.specs.Levels.{text_at}
 use Rattle.sim_meaning.specs.Pending.{Activation, Configuration, Instances, Item, Val}
+use Rattle.sim_meaning.specs.Pending as meaning
 use Rattle.sim_meaning.specs.Steps.{go}
 use Rattle.sim_meaning.specs.Sane.{AllKept, AllOf, LastNames, Lives, Other}
 use Rattle.codegen_expr.specs.Sites.{At, block_number, lined, frame_text}
 use Rattle.sim_relate.proofs.Known.{HandAt, Kind, StackAt, Stands, Runs, SameFrame}
 use Rattle.sim_relate.proofs.Frames.{stands_same}
+use Rattle.sim_relate.proofs.Waiting.{GetsIs, suspended}
 use Rattle.sim_relate.proofs.Relation.{ChainAt, StandingsAt, StateAt, StoreAt, WorkAt}
 
 -- the activation of an instance
@@ -34,20 +38,24 @@ pub record There (s : Source) (code : CodeOf) (m : Instances) (fs : Frames) (ins
   pub roomy : b.block.room ≤ b.room
   pub found : slice_get code.blocks (block_number s (frame_text s t)) ≡ Some b.block
   pub values : StackAt (HandAt s code m) ks vals stack
+  pub free : suspended m inst ≡ None
 
--- The same of the instance that operates: it lives with its enclosers, and stands at no other place of the chains.
+-- The same of the instance that operates: it lives with its enclosers, and stands at no other place of the chains; and the components are well
+-- formed.
 pub record Here (s : Source) (code : CodeOf) (m : Instances) (fs : Frames) (inst : ℕ) (rest : List Activation) (t : ℕ) (b : Runs) (ks : List Kind) (vals : List Val) (stack : List Value) : Type 0 where
   pub store : StoreAt s code m fs
   pub parked : StandingsAt s code m fs
   pub lives : Lives m inst
   pub alone : AllOf (Other inst) rest
   pub kept_alone : AllKept (Other inst) m
+  pub formed : (w : List Item) (vals : List Val) → IsWellFormed meaning.owner (system_head m) (record { operating = record { instance = inst; work = w; values = vals } ∷ rest; standings = m.standings })
   pub names : LastNames s m vals
   pub stands : Stands s m inst t
   pub own : text_at m inst ≡ Some b.own
   pub roomy : b.block.room ≤ b.room
   pub found : slice_get code.blocks (block_number s (frame_text s t)) ≡ Some b.block
   pub values : StackAt (HandAt s code m) ks vals stack
+  pub free : suspended m inst ≡ None
 
 module _ (s : Source) (code : CodeOf) where
   pub state_at : {m : Instances} {fs : Frames} {inst t : ℕ} {b : Runs} {ks : List Kind} {vals : List Val} {stack : List Value} {w : List Item} {rest : List Activation} {pc : ℕ} {below : List machine.Activation} (used p : ℕ) → There s code m fs inst t b ks vals stack → WorkAt s code m fs (λ v. ChainAt s code m fs rest v below) inst t b used w p ks → p ≡ pc
@@ -66,6 +74,8 @@ module _ (s : Source) (code : CodeOf) where
       stage = refl;
       kinds = ks;
       values = here.values;
+      gets = false;
+      gets_is = subst (λ z. GetsIs z false false) (sym here.free) refl;
       fits = λ no. absurd (cc);
       used = used;
       goes = subst (λ x. WorkAt s code m fs (λ v. ChainAt s code m fs rest v below) inst t b used w x ks) e work;
@@ -83,11 +93,11 @@ module _ (s : Source) (code : CodeOf) where
   at_row l o fs a below r x line q is like = alike_found Configuration Machine (StateAt s code) Lined (slice_get code.instrs a.pc) (lined x line) o r (λ y. row code l o fs a below y.line.0 y.instr) is.at like
 
   pub there_of : {m : Instances} {fs : Frames} {inst : ℕ} {rest : List Activation} {t : ℕ} {b : Runs} {ks : List Kind} {vals : List Val} {stack : List Value} → Here s code m fs inst rest t b ks vals stack → There s code m fs inst t b ks vals stack
-  there_of here = record { store = here.store; parked = here.parked; stands = here.stands; own = here.own; roomy = here.roomy; found = here.found; values = here.values }
+  there_of here = record { store = here.store; parked = here.parked; stands = here.stands; own = here.own; roomy = here.roomy; found = here.found; values = here.values; free = here.free }
 
   -- the same place with other values
   pub with_values : {m : Instances} {fs : Frames} {inst : ℕ} {rest : List Activation} {t : ℕ} {b : Runs} {ks ks' : List Kind} {vals vals' : List Val} {stack stack' : List Value} → Here s code m fs inst rest t b ks vals stack → StackAt (HandAt s code m) ks' vals' stack' → There s code m fs inst t b ks' vals' stack'
-  with_values here h = record { store = here.store; parked = here.parked; stands = here.stands; own = here.own; roomy = here.roomy; found = here.found; values = h }
+  with_values here h = record { store = here.store; parked = here.parked; stands = here.stands; own = here.own; roomy = here.roomy; found = here.found; values = h; free = here.free }
 
   pub kinds_as : {m : Instances} {ks ks' : List Kind} {vals : List Val} {stack : List Value} → ks ≡ ks' → StackAt (HandAt s code m) ks vals stack → StackAt (HandAt s code m) ks' vals stack
   kinds_as {m} {vals = vals} {stack = stack} e h = subst (λ k. StackAt (HandAt s code m) k vals stack) e h
@@ -100,10 +110,12 @@ module _ (s : Source) (code : CodeOf) where
     lives = here.lives;
     alone = here.alone;
     kept_alone = here.kept_alone;
+    formed = here.formed;
     names = here.names;
     stands = stands_same s m inst v t f here.stands;
     own = here.own;
     roomy = here.roomy;
     found = ap (λ z. slice_get code.blocks (block_number s z)) f.frame ∙ here.found;
     values = here.values;
+    free = here.free;
   }

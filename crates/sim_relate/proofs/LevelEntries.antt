@@ -53,6 +53,7 @@ use Rattle.sim_relate.proofs.ObjectWork.{levels_pend}
 use Rattle.sim_relate.proofs.Reach.{equal_numbers, if_true, levels_no_connection, stands_level}
 use Rattle.sim_relate.proofs.Relation.{ChainAt, EndAt, Laid, StandingAt, StandingsAt, StateAt, StoreAt, WorkAt}
 use Rattle.sim_relate.proofs.Stores.{new_inside}
+use Rattle.sim_relate.proofs.Waiting.{suspends}
 
 -- ---- what code says of a class or a prefixed block
 
@@ -169,7 +170,7 @@ module _ (s : Source) (code : CodeOf) (compiled : Compiled s code) (l : Limits) 
     in_world p p' c y e z = subst (λ v. Alike Related (Going p c) (Going v y)) (sym e) (going z)
 
     -- How it stands as a component, what is below on the chain, and its end.
-    module _ (end : Item) (standing : Standing Activation) (frame_standing : Standing machine.Activation) (chain : List Activation) (under : List machine.Activation)
+    module _ (end : Item) (standing : Standing Activation) (frame_standing : Standing machine.Activation) (plain : suspends standing ≡ None) (chain : List Activation) (under : List machine.Activation)
         (stands_alike : (m' : Instances) (fs' : Frames) (number : ℕ) → text_at m' number ≡ Some g → StandingAt s code m' fs' number standing frame_standing) (under_there : ChainAt s code m fs chain false under)
         (ends : (m' : Instances) (fs' : Frames) → ChainAt s code m' fs' chain false under → (block : BlockOf) (t p last : ℕ) → Is code (i.EndLevel (pos 0)) p last → EndAt s code (λ v. ChainAt s code m' fs' chain v under) t (record { own = g; room = new_block.room; block = block; stage = stage.Behind 0 }) end p []) where
       -- what the machine does when the cells are filled
@@ -210,15 +211,15 @@ module _ (s : Source) (code : CodeOf) (compiled : Compiled s code) (l : Limits) 
             frame = new_frame s code (block_number s g) new_block (Some j) r.frame
 
             abbrev new_m : Instances
-            new_m = later_m s code m fs store new frame standing frame_standing
+            new_m = later_m s code m fs store new frame standing frame_standing plain
 
             abbrev new_fs : Frames
-            new_fs = later_fs s code m fs store new frame standing frame_standing
+            new_fs = later_fs s code m fs store new frame standing frame_standing plain
 
             pending : WorkAt s code new_m new_fs (λ v. ChainAt s code new_m new_fs chain v under) (length m.instances) k0 begins (own_end s code k0) (levels_work (x0 ∷ xs) end) outermost.class.declarations []
             pending =
                 levels_pend s code compiled new_m new_fs (λ v. ChainAt s code new_m new_fs chain v under) (length m.instances) runs new_block x.found enough_room x.levels end k0 more x0 xs outermost levels_are rest_made
-                (λ block t p last at. ends new_m new_fs (chain_entered s code m fs store new frame standing frame_standing chain false under under_there) block t p last at)
+                (λ block t p last at. ends new_m new_fs (chain_entered s code m fs store new frame standing frame_standing plain chain false under under_there) block t p last at)
 
             stands_own : Stands s new_m (length m.instances) g
             stands_own = new_inside s m g j around new standing (sym own) refl refl (ap (encloser s.tables) own ∙ stands_in) link
@@ -231,7 +232,7 @@ module _ (s : Source) (code : CodeOf) (compiled : Compiled s code) (l : Limits) 
             entered_state : Related (record { chain = record { instance = length m.instances; work = levels_work (x0 ∷ xs) end; values = [] } ∷ chain; memory = new_m }) (record { chain = record { thunk = false; home = length fs.instances; pc = outermost.class.declarations; stack = []; room = new_block.room; stage = stage.Declaring 0 } ∷ under; memory = new_fs })
             entered_state =
                 let pair = instance_of s code g x.kind type.Nothing new_block heads x.found (x.passes (is_class_free s g)) own laid_here (Some j) r.now r.frame r.at (r.long ∙ first_long) in
-                enters s code m fs store new frame standing frame_standing (parked_entered s code m fs store new frame standing frame_standing (stands_alike new_m new_fs (length m.instances) (ap text_in (append_at m.instances new))) parked) chain under k0 begins pair
+                enters s code m fs store new frame standing frame_standing plain (parked_entered s code m fs store new frame standing frame_standing plain (stands_alike new_m new_fs (length m.instances) (ap text_in (append_at m.instances new))) parked) chain under k0 begins pair
                 (ap (λ z. slice_get code.blocks (block_number s z)) outermost.level.frame ∙ outermost.level.found) stands_first stands_own refl outermost.level.roomy (levels_work (x0 ∷ xs) end) (own_end s code k0) outermost.class.declarations pending
 
             supplied_is : supplied code new_block.class new_block values' ≡ Some r.frame

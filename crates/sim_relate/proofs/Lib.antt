@@ -62,6 +62,9 @@ pub mod Called
 pub mod Standings
 pub mod Chains
 pub mod Transfers
+pub mod Waiting
+pub mod Formed
+pub mod Components
 pub mod Joins
 pub mod Placed
 pub mod ExampleTables

@@ -31,6 +31,12 @@ pub append_at : {A : Type 0} (xs : List A) (y : A) → slice_get (xs ++ y ∷ []
 append_at [] y = refl
 append_at (x ∷ xs) y = append_at xs y
 
+-- what is there is read, whatever stands for nothing
+pub read_there : {A : Type 0} (xs : List A) (j : ℕ) (x d : A) → slice_get xs j ≡ Some x → slice_index_or xs j d ≡ x
+read_there [] j x d e = absurd (cc)
+read_there (y ∷ xs) zero x d e = cc (e)
+read_there (y ∷ xs) (suc j) x d e = read_there xs j x d e
+
 -- ---- two lists
 
 module _ {A B : Type 0} where

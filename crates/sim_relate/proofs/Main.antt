@@ -1,5 +1,5 @@
 -- Where control has come to what is pending, the machine follows the program: both make a step, or the program one that shows nothing.
-use Rattle.std.proofs.Common.{◌≡◌, ◌<◌, ◌≤◌, ℕ, Bool, List, [], ◌∷◌, length, refl, sym, ap, ◌∙◌, subst, arith}
+use Rattle.std.proofs.Common.{◌≡◌, ◌<◌, ◌≤◌, ℕ, Bool, false, List, [], ◌∷◌, None, length, refl, sym, ap, ◌∙◌, subst, arith}
 use Rattle.std.specs.Prelude.{pos}
 use Rattle.sim_base.specs.declared.limits.Limits.{Limits}
 use Rattle.sim_scope.specs.Source.{Source, level_of}
@@ -20,6 +20,7 @@ use Rattle.sim_meaning.specs.Steps.{count}
 use Rattle.sim_meaning.specs.Sane.{NamesOn, Sane, SaneOn}
 use Rattle.codegen_expr.specs.Sites.{frame_text, own_end}
 use Rattle.codegen.specs.Compiled.{Compiled}
+use Rattle.sim_code.specs.Instances.{system_head}
 use Rattle.sim_relate.proofs.Assigns as assigns
 use Rattle.sim_relate.proofs.Calls as calls
 use Rattle.sim_relate.proofs.Connections as connections
@@ -29,6 +30,7 @@ use Rattle.sim_relate.proofs.Here.{Here, act, at_row, goes, here_at, state_at, t
 use Rattle.sim_relate.proofs.DeclaredArrays.{arrays_at}
 use Rattle.sim_relate.proofs.Fitting as fitting
 use Rattle.sim_relate.proofs.Fixed as fixed
+use Rattle.sim_relate.proofs.Formed.{formed_as, free_top}
 use Rattle.sim_relate.proofs.Generated as generated
 use Rattle.sim_relate.proofs.Joins as joins
 use Rattle.sim_relate.proofs.Stages as stages
@@ -48,6 +50,7 @@ use Rattle.sim_relate.proofs.Transfers as transfers
 use Rattle.sim_relate.proofs.Ranked.{InEach, Meets, at_once, in_steps}
 use Rattle.sim_relate.proofs.Ranked as ranked
 use Rattle.sim_relate.proofs.Trees.{FetchesAt}
+use Rattle.sim_relate.proofs.Waiting.{gets_free, suspended}
 
 -- a step of both, or one of the program alone that leaves less to be taken apart
 pub data MovesNow (s : Source) (code : CodeOf) (l : Limits) (o : World) (c : Configuration) (x : Machine) : Type 0 where
@@ -272,9 +275,11 @@ module _ (s : Source) (code : CodeOf) (compiled : Compiled s code) (l : Limits) 
   chain_moves m [] fs (y ∷ below) store parked sane names c = absurd (cc (c.is))
   chain_moves m (a ∷ rest) fs [] store parked sane names c = absurd c
   chain_moves m (a ∷ rest) fs (y ∷ below) store parked sane names c =
-      let here : Here s code m fs a.instance rest c.text c.block c.kinds a.values y.stack = record { store = store; parked = parked; lives = sane.0; alone = sane.1; kept_alone = sane.2; names = names; stands = c.stands; own = c.own; roomy = c.roomy; found = c.found; values = c.values } in
+      let free : suspended m a.instance ≡ None = free_top m a rest sane.3 in
+      let here : Here s code m fs a.instance rest c.text c.block c.kinds a.values y.stack = record { store = store; parked = parked; lives = sane.0; alone = sane.1; kept_alone = sane.2; formed = formed_as (system_head m) m.standings rest a sane.3; names = names; stands = c.stands; own = c.own; roomy = c.roomy; found = c.found; values = c.values; free = free } in
       subst (λ z. Moves (record { chain = a ∷ rest; memory = m }) (record { chain = z ∷ below; memory = fs })) (sym (as_act s code l y a.instance c.block c.base c.home c.room c.stage))
-      (work_moves m a.instance a.work a.values rest fs c.text c.block y.pc y.stack below c.kinds c.used here c.goes)
+      (work_moves m a.instance a.work a.values rest fs c.text c.block y.pc y.stack below c.kinds c.used here
+      (subst (λ g. NowAt s code m fs (λ v. ChainAt s code m fs rest v below) a.instance c.text c.block c.used a.work y.pc (given g c.kinds)) (gets_free (suspended m a.instance) false c.gets free c.gets_is) c.goes))
 
   pub moves_now : (c : Configuration) (x : Machine) → Sane c → NamesOn s c.memory c.chain → StateNow s code c x → MovesNow s code l o c x
   moves_now c x sane names a = chain_moves c.memory c.chain x.memory x.chain a.store a.parked sane names a.chain

@@ -1,5 +1,5 @@
 -- A step that changes the stores.
-use Rattle.std.proofs.Common.{◌≡◌, ◌<◌, ◌≤◌, ℕ, Bool, List, [], ◌∷◌, length, arith}
+use Rattle.std.proofs.Common.{◌≡◌, ◌<◌, ◌≤◌, ℕ, Bool, List, [], ◌∷◌, length, ◌∙◌, arith}
 use Rattle.sim_scope.specs.Source.{Source}
 use Rattle.sim_code.specs.Code.{CodeOf}
 use Rattle.sim_code.specs.Machine.{Frames, Value}
@@ -9,7 +9,7 @@ use Rattle.sim_meaning.specs.Sane.{AllKept, AllOf}
 use Rattle.codegen_expr.specs.Sites.{frame_text, own_end}
 use Rattle.sim_relate.proofs.Known.{HandAt, Kind, StackAt, placed, Runs}
 use Rattle.sim_relate.proofs.Relation.{ChainAt, Changed, ComesTo, WorkAt, over, returning, there}
-use Rattle.sim_relate.proofs.Carried.{chain_changed, parked_changed, stack_later, work_later}
+use Rattle.sim_relate.proofs.Carried.{chain_changed, parked_changed, suspended_same, stack_later, work_later}
 use Rattle.sim_relate.proofs.Here.{Here, There}
 
 module _ (s : Source) (code : CodeOf) where
@@ -42,6 +42,7 @@ module _ (s : Source) (code : CodeOf) where
       roomy = here.roomy;
       found = here.found;
       values = stack_later s code m m' x.later ks' vals' stack' h;
+      free = suspended_same s code x inst ∙ here.free;
     }
 
     -- the pending work then

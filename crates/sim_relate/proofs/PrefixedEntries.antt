@@ -72,7 +72,7 @@ module _ (s : Source) (code : CodeOf) (compiled : Compiled s code) (l : Limits) 
     prefixed_alike : Alike Related (having (levels s g) o (λ xs. prefixed_entered s l o m chain g line values (Some inst) EndPrefixed xs)) (levelled code block_kind.Prefixed (block_number s g) o Goes)
     prefixed_alike =
         subst (λ z. Alike Related (having (levels s g) o (λ xs. prefixed_entered s l o m chain g line values (Some inst) EndPrefixed xs)) (levelled code z (block_number s g) o Goes)) (x.of_block a.no_class)
-        (entry_alike s code compiled l o m fs here.store here.parked g line x values values' each inst t a.stands_in here.stands EndPrefixed (NoObject None) (NoObject None) chain under (λ m' fs' number is. tt) under_there
+        (entry_alike s code compiled l o m fs here.store here.parked g line x values values' each inst t a.stands_in here.stands EndPrefixed (NoObject None) (NoObject None) refl chain under (λ m' fs' number is. tt) under_there
         (λ m' fs' there block t' p last at. record {
           levels = x.levels;
           not_first = not_first s code compiled g x.block x.found (ap of_levels x.has.heads.is_kind ∙ x.levelled);

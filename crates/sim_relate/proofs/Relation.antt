@@ -39,6 +39,7 @@ use Rattle.codegen.specs.CodeFor.{ElementsAt, OfCell, OfPlace, OfReference, Retu
 use Rattle.codegen.specs.CodeStm.{ArmsAt, ConnectsAt, StmAt, StmsAt, WithInnerAt}
 use Rattle.codegen.specs.Compiled.{RecordOf, type_of_name}
 use Rattle.sim_relate.proofs.Known.{AllRead, Any, HandAt, IsLink, IsRead, IsTemp, Keeps, Kind, Later, LinkTo, OwnerOf, Reaches, Refers, Runs, SameFrame, SlotAt, Spot, StackAt, Stands, ValAt, anys, at_stage, attribute_kind, given, is_declared, is_fixed, place_target, placed, reads, site_at, spot, variable_target, LeavesIs}
+use Rattle.sim_relate.proofs.Waiting.{GetsIs, demand, suspended}
 use Rattle.sim_relate.proofs.Trees.{Classed, JoinsIs, ProcedureIs, FoundIs, FetchesAt, FitsIs, TermAt, OperandAt, transfer_instr}
 
 module _ (s : Source) (code : CodeOf) where
@@ -645,7 +646,7 @@ module _ (s : Source) (code : CodeOf) where
 
   -- ---- chains
 
-  -- An instance on a chain, and the activation that stands for it; `waits` tells whether it gets a value before it goes on.
+  -- An instance on a chain, and the activation that stands for it; `waits` tells whether what is directly above it gives a value.
   pub record TopIs (m : Instances) (fs : Frames) (a : Activation) (waits : Bool) (x : machine.Activation) (Work : (t : ℕ) → Runs → (used p : ℕ) → List Kind → Type 0) : Type 0 where
     pub base : x.thunk ≡ false
     pub home : x.home ≡ a.instance
@@ -659,9 +660,11 @@ module _ (s : Source) (code : CodeOf) where
     pub stage : x.stage ≡ block.stage
     pub kinds : List Kind
     pub values : StackAt (HandAt s code m) kinds a.values x.stack
-    pub fits : waits ≡ true → length kinds < block.room
+    pub gets : Bool
+    pub gets_is : GetsIs (suspended m a.instance) waits gets
+    pub fits : gets ≡ true → length kinds < block.room
     pub used : ℕ
-    pub goes : Work text block used x.pc (given waits kinds)
+    pub goes : Work text block used x.pc (given gets kinds)
 
   -- A chain that stands on a ground.
   abbrev pub ChainOn : (Ground : Bool → List machine.Activation → Type 0) → Instances → Frames → List Activation → Bool → List machine.Activation → Type 0
@@ -670,13 +673,13 @@ module _ (s : Source) (code : CodeOf) where
   ChainOn Ground m fs (a ∷ rest) waits (x ∷ below) =
       TopIs m fs a waits x (λ t b used p ks. WorkAt m fs (λ value. ChainOn Ground m fs rest value below) a.instance t b used a.work p ks)
 
-  -- nothing is below
-  pub record Bottom (waits : Bool) (below : List machine.Activation) : Type 0 where
-    pub still : waits ≡ false
+  -- nothing is below, where the end of the chain gives a value or not
+  pub record Bottom (gives waits : Bool) (below : List machine.Activation) : Type 0 where
+    pub still : waits ≡ gives
     pub is : below ≡ []
 
   abbrev pub ChainAt : Instances → Frames → List Activation → Bool → List machine.Activation → Type 0
-  ChainAt m fs chain waits below = ChainOn Bottom m fs chain waits below
+  ChainAt m fs chain waits below = ChainOn (Bottom false) m fs chain waits below
 
   -- ---- stores
 
@@ -717,13 +720,14 @@ module _ (s : Source) (code : CodeOf) where
     pub is : text_at m j ≡ Some own
     pub class : is_class (Texts.text s own) ≡ true
 
-  -- How an instance and its frame stand as components: alike, and the chains that they keep stand for each other. Nothing is below on these.
+  -- How an instance and its frame stand as components: alike, and the chains that they keep stand for each other. Nothing is below on these,
+  -- and a main chain gives at its end what its head waits for.
   abbrev pub StandingAt : Instances → Frames → (instance : ℕ) → Standing Activation → Standing machine.Activation → Type 0
   StandingAt m fs j (NoObject None) (NoObject None) = ⊤
-  StandingAt m fs j (NoObject (Some chain)) (NoObject (Some below)) = ChainAt m fs chain false below
+  StandingAt m fs j (NoObject (Some chain)) (NoObject (Some below)) = ChainOn (Bottom (demand false chain)) m fs chain false below
   StandingAt m fs j AttachedObject AttachedObject = ObjectIs m j
   StandingAt m fs j (DetachedObject chain) (DetachedObject below) = ObjectIs m j × ChainAt m fs chain false below
-  StandingAt m fs j ResumedObject ResumedObject = ⊤
+  StandingAt m fs j ResumedObject ResumedObject = ObjectIs m j
   StandingAt m fs j TerminatedObject TerminatedObject = ⊤
   StandingAt m fs j _ _ = ⊥
 
@@ -749,7 +753,7 @@ module _ (s : Source) (code : CodeOf) where
 
   -- the same where control has come to the first part
   abbrev pub ChainNow : Instances → Frames → List Activation → List machine.Activation → Type 0
-  ChainNow m fs [] below = Bottom false below
+  ChainNow m fs [] below = Bottom false false below
   ChainNow m fs (a ∷ rest) [] = ⊥
   ChainNow m fs (a ∷ rest) (x ∷ below) =
       TopIs m fs a false x (λ t b used p ks. NowAt m fs (λ value. ChainAt m fs rest value below) a.instance t b used a.work p ks)

@@ -14,7 +14,7 @@ use Rattle.sim_code.specs.declared.instr.Instr.TheVariants as i
 use Rattle.sim_code.specs.Code.{CodeOf}
 use Rattle.sim_code.specs.Outcome.{Going, Run, World}
 use Rattle.sim_code.specs.Events.{answering, applying_two, choosing, computing, having, no_rule, pop_plain, pop_truth, popping, when}
-use Rattle.sim_code.specs.Instances.{at_level}
+use Rattle.sim_code.specs.Instances.{at_level, system_head}
 use Rattle.sim_code.specs.Machine.{Frames, Machine, Value, at, index, is_there, is_tick, jumping, level, on, pushing}
 use Rattle.sim_code.specs.Machine as machine
 use Rattle.sim_code.specs.Rows.{mstep, pushed, row}
@@ -23,7 +23,9 @@ use Rattle.sim_meaning.specs.Pending as meaning
 use Rattle.sim_meaning.specs.Sane.{NamesOn, Sane, SaneOn}
 use Rattle.codegen_expr.specs.Sites.{Ahead, At, Is, frame_text, own_end}
 use Rattle.codegen.specs.CodeFor.{ReturnsAt}
-use Rattle.sim_relate.proofs.Known.{Kind, Runs, Spot, placed, site_at, spot}
+use Rattle.sim_relate.proofs.Formed.{formed_as, free_top}
+use Rattle.sim_relate.proofs.Waiting.{GetsIs, gets_free, suspended}
+use Rattle.sim_relate.proofs.Known.{Kind, Runs, given, Spot, placed, site_at, spot}
 use Rattle.sim_relate.proofs.Relation.{ChainAt, ComesTo, NowAt, OpAt, ReturningIs, StandingsAt, StateAt, StateNow, StoreAt, TurningIs, WorkAt, over, returning, straight, there, turning, BeginsAt, InStage, declares, inner_here, inner_last, stays, with_inner}
 use Rattle.sim_relate.proofs.Hands.{stack_length}
 use Rattle.sim_relate.proofs.Here.{Here, There, act, there_of, here_at}
@@ -240,6 +242,8 @@ module _ (s : Source) (code : CodeOf) (l : Limits) where
         stage = refl;
         kinds = ks;
         values = there'.values;
+        gets = false;
+        gets_is = subst (λ z. GetsIs z false false) (sym there'.free) refl;
         fits = λ no. absurd (cc);
         used = used;
         goes = a;
@@ -334,7 +338,8 @@ module _ (s : Source) (code : CodeOf) (l : Limits) where
   settles m (x ∷ rest) fs [] a parked sane names c = absurd c
   settles m (x ∷ rest) fs (y ∷ below) a parked sane names c =
       subst (λ z. Settles (record { chain = x ∷ rest; memory = m }) (record { chain = z ∷ below; memory = fs })) (sym (as_act y x.instance c.block c.base c.home c.room c.stage))
-      (top_settles m x.instance x.values rest fs c.text c.block y.stack below c.kinds (record { store = a; parked = parked; lives = sane.0; alone = sane.1; kept_alone = sane.2; names = names; stands = c.stands; own = c.own; roomy = c.roomy; found = c.found; values = c.values }) c.used x.work y.pc c.goes)
+      (top_settles m x.instance x.values rest fs c.text c.block y.stack below c.kinds (record { store = a; parked = parked; lives = sane.0; alone = sane.1; kept_alone = sane.2; formed = formed_as (system_head m) m.standings rest x sane.3; names = names; stands = c.stands; own = c.own; roomy = c.roomy; found = c.found; values = c.values; free = free_top m x rest sane.3 }) c.used x.work y.pc
+      (subst (λ g. WorkAt s code m fs (λ v. ChainAt s code m fs rest v below) x.instance c.text c.block c.used x.work y.pc (given g c.kinds)) (gets_free (suspended m x.instance) false c.gets (free_top m x rest sane.3) c.gets_is) c.goes))
 
   -- where the machine has steps of its own, it makes them
   pub settle : (c : Configuration) (x : Machine) → Sane c → NamesOn s c.memory c.chain → StateAt s code c x → Settles c x

@@ -19,7 +19,7 @@ use Rattle.sim_values.specs.declared.standard.Standard.{Standard}
 use Rattle.sim_values.specs.Plain.{Plain}
 use Rattle.sim_values.specs.Standard.{is_image, on_image}
 use Rattle.std.specs.Prelude.{◌||◌}
-use Rattle.sim_code.specs.Transfers.{Calling, Detaching, Transfer}
+use Rattle.sim_code.specs.Transfers.{Calling, Detaching, Resuming, Transfer}
 use Rattle.sim_meaning.specs.Attributes.{array_attribute, attribute, attribute_place, connected_object, connection_at, declared_attribute, entry_attribute, generation, if_any, parameter_attribute, this_term, transfer_at, transfer_term, variable_attribute}
 use Rattle.sim_meaning.specs.Closing.{formals_at, is_attribute, array_term, behind_dot, close, close_actuals, close_all, close_place, constant_term, declared_term, dot_term, formal_term, home_of, home_of_class, in_instance, is_variable, name_term, named_term, standard_term, stream_of, sysout, variable_term}
 use Rattle.sim_meaning.specs.Levels.{class_at}
@@ -132,6 +132,9 @@ module _ (s : Source) (m : Instances) (i : ℕ) where
   transfer_leaves Calling line around NoTerm = λ ks. refl
   transfer_leaves Calling line around (Further x NoTerm) = λ ks. refl
   transfer_leaves Calling line around (Further x (Further y more)) = λ ks. refl
+  transfer_leaves Resuming line around NoTerm = λ ks. refl
+  transfer_leaves Resuming line around (Further x NoTerm) = λ ks. refl
+  transfer_leaves Resuming line around (Further x (Further y more)) = λ ks. refl
 
   -- calls
   pub named_call_leaves : (name : Identifier) (es : Expressions) → Leaves (close s m i (syntax.Named name es))

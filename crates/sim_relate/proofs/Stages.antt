@@ -108,6 +108,7 @@ module _ (s : Source) (code : CodeOf) (l : Limits) (compiled : Compiled s code) 
     roomy = a.roomy;
     found = ap (λ z. slice_get code.blocks (block_number s z)) a.frame ∙ a.found;
     values = here.values;
+    free = here.free;
   }
 
   -- control goes to a level at a stage
@@ -156,7 +157,7 @@ module _ (s : Source) (code : CodeOf) (l : Limits) (compiled : Compiled s code) 
 
     -- the same place at another stage
     restaged : (g : Stage) → There s code m fs inst t (at_stage b g) ks vals stack
-    restaged g = record { store = here.store; parked = here.parked; stands = here.stands; own = here.own; roomy = here.roomy; found = here.found; values = here.values }
+    restaged g = record { store = here.store; parked = here.parked; stands = here.stands; own = here.own; roomy = here.roomy; found = here.found; values = here.values; free = here.free }
 
     -- The statements of the next level begin, and behind its end control goes on here; where there is none it goes on at once.
     pub inner_done : (xs : List Level) (c : Spot) → InnerIs s code (site_at t b u) b c xs pc q ks ks' → WorkAt s code m fs Below inst c.text c.runs c.used w q ks' → Alike R (do_op s l o m inst w vals rest (InnerOp xs)) (on_top code l o fs top below)

@@ -17,6 +17,7 @@ unfolding row_of
 named_gives None e = refl
 named_gives (Some name_of.Detach) e = absurd (cc)
 named_gives (Some name_of.Call) e = absurd (cc)
+named_gives (Some name_of.Resume) e = absurd (cc)
 named_gives (Some _) e = refl
 
 denoted_gives : (s : Source) (u : Option Denotation) → gives s u ≡ true → transfer_denoted u ≡ None
@@ -34,6 +35,7 @@ unfolding row_of
 named_leaves None way e = absurd (cc)
 named_leaves (Some name_of.Detach) way e = refl
 named_leaves (Some name_of.Call) way e = refl
+named_leaves (Some name_of.Resume) way e = refl
 named_leaves (Some _) way e = absurd (cc)
 
 transfer_leaves : (s : Source) (u : Option Denotation) (way : Transfer) → transfer_denoted u ≡ Some way → denoted_leaves s u ≡ false

@@ -12,7 +12,7 @@ use Rattle.sim_values.specs.Texts.{notext}
 use Rattle.sim_code.specs.declared.instr.Instr.{Instr}
 use Rattle.sim_code.specs.declared.instr.Instr.TheVariants as i
 use Rattle.sim_code.specs.Code.{CodeOf}
-use Rattle.sim_code.specs.Transfers.{Calling, Detaching, Transfer}
+use Rattle.sim_code.specs.Transfers.{Calling, Detaching, Resuming, Transfer}
 use Rattle.sim_meaning.specs.Levels.{is_class}
 use Rattle.sim_meaning.specs.Pending.{AttributeOf, CallOf, Cell, CopyOf, Either, ElementOf, FitsOf, Further, Given, ImageOf, Instances, Joined, KeptOf, Key, MemberOf, NewOf, NoTerm, NotNoneOf, One, PlaceOf, QuaOf, QualifiedElementOf, QualifiedPlaceOf, RemoteCallOf, StandardOf, Term, Terms, TransferOf, Two, Unbuilt, ValueAt}
 use Rattle.sim_meaning.specs.Entries.{formals_of}
@@ -31,6 +31,7 @@ Classed s k = is_class (Texts.text s k) ≡ true
 abbrev pub transfer_instr : Transfer → Instr
 transfer_instr Detaching = i.Detach
 transfer_instr Calling = i.Attach
+transfer_instr Resuming = i.Resume
 
 module _ (s : Source) (code : CodeOf) where
   -- ---- closed trees

@@ -12,8 +12,9 @@ ghost use Rattle.sim_relate.specs.Examples.{WorkedCodes};
 /// Three premises speak of the program's meaning alone. Its run never comes to where there is no rule: some rules of the meaning test more
 /// than the instruction that stands for them. A reference that was taken last into a hand names an object: tests of its class have no
 /// instruction for anything else. At each moment the instance that operates lives with its enclosers and stands at no other place of the
-/// chains: code needs it where an instruction finds an instance by its level, outward from the one that operates, and where a temp is
-/// written that no other work may count on. Each program that breaks no rule is so, as soundness shows.
+/// chains, and the components are well formed: code needs it where an instruction finds an instance by its level, outward from the one that
+/// operates, where a temp is written that no other work may count on, and where control goes back to a main component that waits. Each
+/// program that breaks no rule is so, as soundness shows.
 #[tactic(auto, using(crate::proofs::Whole::same_runs))]
 pub fn compiled_code_runs_as_meant()
     ensures { (s : Source) (code : CodeOf) → HasRules s → NamesObjects s → StaysSane s → Compiled s code → SameRuns s code }

@@ -10,12 +10,12 @@ use Rattle.sim_values.specs.declared.kind.Kind.TheVariants as kind
 use Rattle.sim_values.specs.Plain.{Plain, initial, kind_of}
 use Rattle.sim_values.specs.Words.{array_words, count_from, element_count, extent_of}
 use Rattle.sim_code.specs.Outcome.{ArrayOf as OneArray, Run, World}
-use Rattle.sim_base.specs.declared.numbering.DeclNo.{DeclNo}
 use Rattle.sim_code.specs.Arrays.{added, are_inside, as_many, copying_array, element_place, finding_element, is_inside, live_array, making_array, place_from, unless_given, words_of_array}
 use Rattle.sim_code.specs.Events.{computing, having, popping, taking}
 use Rattle.sim_meaning.specs.Pending.{Address, ArrayValue, Instances, Link, Of, ProcedureValue, Tree, Val, array_in, plain}
 use Rattle.sim_sound.specs.Held.{ArrayOf, Holds, IsOfKind, Refers, Simply}
-use Rattle.sim_sound.proofs.Sound.{AllArrays, ArrayFine, CopyFine, ElementFine, HandsFine, Hidden, Kinds, Marks, NamesObject, Near, Open, PlainFine, Present, Sight, StoreFine, ValFine, Value, at_itself, integers, near_below, see}
+use Rattle.sim_sound.proofs.Running.{StoreFine}
+use Rattle.sim_sound.proofs.Sound.{AllArrays, ArrayFine, CopyFine, ElementFine, HandsFine, Hidden, Kinds, Marks, NamesObject, Near, Open, PlainFine, Sight, ValFine, Value, at_itself, integers, near_below, see}
 use Rattle.sim_sound.proofs.Changes.{more}
 use Rattle.sim_sound.proofs.Lifts.{Goes, any_popped, computed, had, integers_popped, ran, took}
 use Rattle.sim_sound.proofs.Lists.{append_at}

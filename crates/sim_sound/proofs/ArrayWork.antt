@@ -20,7 +20,8 @@ use Rattle.sim_sound.specs.Typed.{ArrayIs, ArraysAre, ArraysTyped, BoundsAre, Di
 use Rattle.sim_sound.proofs.Closing.{expr_fine}
 use Rattle.sim_sound.proofs.Prefixes.{LevelOf, level_solid}
 use Rattle.sim_sound.proofs.Reach.{key_there, reaches_bound, text_bound}
-use Rattle.sim_sound.proofs.Sound.{AllArrays, Begun, EntryIsArray, KeyAmong, Kinds, Value, Waits, WorkFine, array_stored, integers, keys_in, own_made, simple}
+use Rattle.sim_sound.proofs.Running.{Begun, WorkFine}
+use Rattle.sim_sound.proofs.Sound.{AllArrays, EntryIsArray, KeyAmong, Kinds, Value, Waits, array_stored, integers, keys_in, own_made, simple}
 
 -- ---- what is declared there is an array
 

@@ -13,7 +13,8 @@ use Rattle.sim_sound.specs.Held.{Simply}
 use Rattle.sim_sound.specs.Statements.{LeftsAre}
 use Rattle.sim_sound.specs.Typed.{Typed}
 use Rattle.sim_sound.proofs.Lefts.{LeftFine, left_fine}
-use Rattle.sim_sound.proofs.Sound.{AddressOf, AllArrays, Kinds, OpFine, ReferenceAddress, StoreFine, TargetFine, TargetsFine, Value, Waits, Whole, WorkFine, simple, value_stored}
+use Rattle.sim_sound.proofs.Running.{StoreFine, WorkFine}
+use Rattle.sim_sound.proofs.Sound.{AddressOf, AllArrays, Kinds, OpFine, ReferenceAddress, TargetFine, TargetsFine, Value, Waits, Whole, simple, value_stored}
 
 reverse_first : {A : Type 0} (x : A) (xs : List A) → reverse (x ∷ xs) ≡ reverse xs ++ x ∷ []
 reverse_first x xs = reverse-append (x ∷ []) xs

@@ -1,12 +1,10 @@
 -- Which calls transfer control: none that is typed as another one, and none of these leaves a value.
-use Rattle.std.proofs.Common.{◌≡◌, ℕ, Bool, true, false, List, Option, Some, None, refl}
+use Rattle.std.proofs.Common.{◌≡◌, ℕ, true, false, List, Option, Some, None, refl}
 use Rattle.sim_scope.specs.declared.scopes.Denotation.{Denotation}
 use Rattle.sim_scope.specs.declared.scopes.Denotation.TheVariants as denotation
 use Rattle.sim_scope.specs.declared.types.Formal.{Formal}
 use Rattle.sim_scope.specs.Source.{Source, denoted}
-use Rattle.sim_tree.specs.declared.expr.Identifier.{Identifier}
-use Rattle.sim_tree.specs.Syntax.{Expression, Expressions}
-use Rattle.sim_tree.specs.Syntax as syntax
+use Rattle.sim_tree.specs.Syntax.{Expressions}
 use Rattle.sim_values.specs.declared.kind.Kind.{Kind}
 use Rattle.sim_values.specs.declared.standard.Standard.{Standard}
 use Rattle.sim_values.specs.declared.standard.Standard.TheVariants as name_of
@@ -15,7 +13,7 @@ use Rattle.sim_code.specs.Running.{name_runs}
 use Rattle.sim_code.specs.Transfers.{Transfer}
 use Rattle.sim_meaning.specs.Attributes.{transfer_at, transfer_denoted, transfer_named, transfer_of}
 use Rattle.sim_meaning.specs.Names.{procedure_named}
-use Rattle.sim_meaning.specs.Statements.{denoted_leaves, leaves, standard_leaves}
+use Rattle.sim_meaning.specs.Statements.{denoted_leaves, standard_leaves}
 use Rattle.sim_sound.specs.Held.{Holds, Place}
 use Rattle.sim_sound.specs.Expressions.{BehindGives, DotGives, NamedGives, StandardGives}
 
@@ -24,12 +22,14 @@ use Rattle.sim_sound.specs.Expressions.{BehindGives, DotGives, NamedGives, Stand
 run_keeps_control : (n : Standard) → name_runs n ≡ true → transfer_of n ≡ None
 run_keeps_control name_of.Detach e = absurd (cc)
 run_keeps_control name_of.Call e = absurd (cc)
+run_keeps_control name_of.Resume e = absurd (cc)
 run_keeps_control _ e = refl
 
 standard_keeps_control : (n : Option Standard) (Operands : List Kind → Type 0) (h : Option Holds) → StandardGives n Operands h → transfer_named n ≡ None
 standard_keeps_control None Operands h a = absurd a
 standard_keeps_control (Some name_of.Detach) Operands h a = run_keeps_control name_of.Detach (a.0).0
 standard_keeps_control (Some name_of.Call) Operands h a = run_keeps_control name_of.Call (a.0).0
+standard_keeps_control (Some name_of.Resume) Operands h a = run_keeps_control name_of.Resume (a.0).0
 standard_keeps_control (Some _) Operands h a = refl
 
 behind_keeps_control : (stream : Option ℕ) (n : Option Standard) (Front : Type 0) (Operands : List Kind → Type 0) (h : Option Holds) → BehindGives stream n Front Operands h → transfer_named n ≡ None
@@ -64,6 +64,7 @@ transfer_gives_none : (n : Standard) (c : Transfer) → transfer_of n ≡ Some c
 unfolding row_of
 transfer_gives_none name_of.Detach c e = refl
 transfer_gives_none name_of.Call c e = refl
+transfer_gives_none name_of.Resume c e = refl
 transfer_gives_none _ c e = absurd (cc)
 
 named_gives_none : (n : Option Standard) (c : Transfer) → transfer_named n ≡ Some c → standard_leaves n ≡ false

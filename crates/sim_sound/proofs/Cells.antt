@@ -18,7 +18,8 @@ use Rattle.sim_meaning.specs.Pending.{ArrayValue, Connection, Declared, Held, In
 use Rattle.sim_meaning.specs.Texts.{BlockText, ClassText, ConnectionText, PrefixedText, ProcedureText, StandardText, Text, text}
 use Rattle.sim_sound.specs.Held.{Among, ArrayOf, Holds, Refers, Simply, connection_holds, entry_holds, given_by, held_by, key_holds, reference_to, result_type}
 use Rattle.sim_sound.specs.Typed.{ConnectionTyped, Typed}
-use Rattle.sim_sound.proofs.Sound.{AllArrays, Begun, CellIs, CellTarget, InstanceFine, IsPlain, KeyAmong, Made, Near, Present, Site, StandsFor, StoreFine, ValFine, Whole, connected, first_key, in_connection, in_instance, key_of, keys_in, later_key, own_made, own_text}
+use Rattle.sim_sound.proofs.Running.{Begun, StoreFine}
+use Rattle.sim_sound.proofs.Sound.{AllArrays, CellIs, CellTarget, InstanceFine, IsPlain, KeyAmong, Made, Near, Present, Site, StandsFor, ValFine, Whole, connected, first_key, in_connection, in_instance, key_of, keys_in, later_key, own_made, own_text}
 use Rattle.sim_sound.proofs.Changes.{held_fine, held_plain, set_there}
 use Rattle.sim_sound.proofs.Lists.{same_some}
 use Rattle.sim_sound.proofs.Moves.{knows_near, near_then}

@@ -36,7 +36,7 @@ use Rattle.sim_scope.specs.Source.{Source, block_of, denoted, found_at, level_of
 use Rattle.sim_tree.specs.declared.expr.Membership.{Membership}
 use Rattle.sim_values.specs.Plain.{Nothing, Object}
 use Rattle.sim_code.specs.Instances.{at_level}
-use Rattle.sim_code.specs.Transfers.{Calling, Detaching, Transfer}
+use Rattle.sim_code.specs.Transfers.{Calling, Detaching, Resuming, Transfer}
 use Rattle.sim_meaning.specs.Attributes.{attribute, cell_of_connection, connected_object, connection_at, declared_attribute, detach_term, fitting, generation, if_any, is_connection, kept_if, membership_term, parameter_qualification, place_of_attribute, qua_term, this_instance, this_term, transfer_at, transfer_term, with_arrays_kept}
 use Rattle.sim_meaning.specs.Closing.{Joining, Lazily, Negated, Plainly, Sort, actual_term, array_place, array_term, behind_dot, class_parameters, close, close_actuals, close_all, close_place, constant_term, declared_place, declared_term, dot_term, formal_place, formal_term, home_of, home_of_class, image_place, in_instance, is_attribute, is_attribute_denoted, is_image_behind, is_text, is_text_type, is_variable, is_variable_denoted, is_variable_entry, literal_term, name_term, named_place, named_term, object_term, signed_term, sort_of, standard_term, stream_denoted, stream_of, sysout, two_term, variable_place, variable_term}
 use Rattle.sim_meaning.specs.Constants.{text_constant}
@@ -56,7 +56,8 @@ use Rattle.sim_sound.proofs.Cells.{own_level}
 use Rattle.sim_sound.proofs.Lists.{if_true}
 use Rattle.sim_sound.proofs.Prefixes.{LevelOf, class_has, level_has, level_of_levels, levels_solid}
 use Rattle.sim_sound.proofs.Reach.{Reached, Reaches, ReachesText, among_block, key_there}
-use Rattle.sim_sound.proofs.Sound.{AddressOf, AllArrays, CellTarget, Copied, ImageAddress, IntegersFine, IsImage, IsPlain, Kinds, Lasting, ObjectOf, OperandIs, OperandsAre, OperandsFine, PlainFine, Present, StoreFine, TermFine, TermsFine, Value, Whole, class_kinds, formal_kinds, held_kinds, in_connection, in_hand, in_instance as at_cell, kept_kinds, simple}
+use Rattle.sim_sound.proofs.Running.{StoreFine}
+use Rattle.sim_sound.proofs.Sound.{AddressOf, AllArrays, CellTarget, Copied, ImageAddress, IntegersFine, IsImage, IsPlain, Kinds, Lasting, ObjectOf, OperandIs, OperandsAre, OperandsFine, PlainFine, Present, TermFine, TermsFine, Value, Whole, class_kinds, formal_kinds, held_kinds, in_connection, in_hand, in_instance as at_cell, kept_kinds, simple}
 
 -- ---- both words for the formal parameters
 
@@ -246,10 +247,12 @@ whole_of s m i d x free = subst (λ z. Present s m x.instance (block_of s d) z) 
 abbrev pub TransferFrom : Source → Place → Transfer → (found : Option ℕ) → Expressions → Type 0
 TransferFrom s from Detaching found es = ThisFound s from found (Simply kind.Reference)
 TransferFrom s from Calling found es = AreOf s from es (kind.Reference ∷ [])
+TransferFrom s from Resuming found es = AreOf s from es (kind.Reference ∷ [])
 
 pub transfer_in : (s : Source) (u : ℕ) (c : Transfer) (found : Option ℕ) (es : Expressions) → TransferIs s u c found es → TransferFrom s (In u) c found es
 transfer_in s u Detaching found es a = a.0
 transfer_in s u Calling found es a = a
+transfer_in s u Resuming found es a = a
 
 module _ (s : Source) (ok : Typed s) (o : AllArrays) (m : Instances) (store : StoreFine s o m) (i t : ℕ) (todo : List DeclNo) (from : Place) (reach : Reaches s m i from) (around : ReachesText s m i from) where
   stream_is : (a : Expression) → StreamIs (stream_of s a)
@@ -721,6 +724,9 @@ module _ (s : Source) (ok : Typed s) (o : AllArrays) (m : Instances) (store : St
   transfer_is Calling line found NoMore a = absurd a
   transfer_is Calling line found (Then e NoMore) a = (refl, expr_fine e (Simply kind.Reference) a.0)
   transfer_is Calling line found (Then e (Then d es)) a = absurd a.1
+  transfer_is Resuming line found NoMore a = absurd a
+  transfer_is Resuming line found (Then e NoMore) a = (refl, expr_fine e (Simply kind.Reference) a.0)
+  transfer_is Resuming line found (Then e (Then d es)) a = absurd a.1
 
   pub transfer_fine : (name : Identifier) (es : Expressions) (c : Transfer) → transfer_at s name.token.0 ≡ Some c → TransferFrom s from c (found_at s name.token.0) es → Fine (close s m i (syntax.Named name es)) None
   transfer_fine name es c e a = some_transfer (transfer_at s name.token.0) c (named_transfer name es) (named_other name es) e (transfer_is c (line_at s name.token.0) (found_at s name.token.0) es a)

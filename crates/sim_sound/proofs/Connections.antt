@@ -30,7 +30,8 @@ use Rattle.sim_sound.proofs.Moves.{later_cells, same_cells, set_lives, store_cel
 use Rattle.sim_sound.proofs.Ops.{later_hands, later_work, same_copies}
 use Rattle.sim_sound.proofs.Prefixes.{same_is}
 use Rattle.sim_sound.proofs.References.{reference_popped}
-use Rattle.sim_sound.proofs.Sound.{AllArrays, Begun, CellFine, CellsFine, HandsFine, KeyAmong, Kinds, Marks, Operates, PlainFine, ReferenceFine, Site, StandsFor, ValFine, Value, connected as through, first_key, key_of, later_key, own_text, see}
+use Rattle.sim_sound.proofs.Running.{Begun, Operates}
+use Rattle.sim_sound.proofs.Sound.{AllArrays, CellFine, CellsFine, HandsFine, KeyAmong, Kinds, Marks, PlainFine, ReferenceFine, Site, StandsFor, ValFine, Value, connected as through, first_key, key_of, later_key, own_text, see}
 
 -- ---- a cell that is there from now on
 
@@ -128,8 +129,8 @@ module _ (s : Source) (ok : Typed s) (l : Limits) (o : World) (g : Marks) (long 
         store = store;
         here = record { now = record x { cells = cells }; lives = set_lives s (see g o) m i x p.lives cells keys stays; stands = own_text (same_is s x.text t b.own); words = p.words; has_text = p.has_text; made = λ y at d k holds among none. p.made y at d k holds among (stays (Declared d.0) none) };
         own = b.own;
-      }) (later_hands s ok l o g long m i t rest top g o long refl n e (same_copies s ok l o g long m i t rest top) same store ks vals h)
-      ([], ks, (refl, refl, refl, (c.number, there, is)), ([], ks, (refl, refl), later_work s ok l o g long m i t rest top g o long refl n e (same_copies s ok l o g long m i t rest top) same store w [] ks work)))
+      }) (later_hands s ok l o g long m i t rest top g o long refl refl n e (same_copies s ok l o g long m i t rest top) same store ks vals h)
+      ([], ks, (refl, refl, refl, (c.number, there, is)), ([], ks, (refl, refl), later_work s ok l o g long m i t rest top g o long refl refl n e (same_copies s ok l o g long m i t rest top) same store w [] ks work)))
     where
       same_live : (y x : Instance (List Held)) → live m i ≡ Some y → live m i ≡ Some x → y ≡ x
       same_live y x e f = cc

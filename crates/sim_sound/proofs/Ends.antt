@@ -1,43 +1,72 @@
 -- An instance ends, and the one below goes on.
-use Rattle.std.proofs.Common.{◌≡◌, ◌≢◌, ℕ, Bool, true, false, List, [], ◌∷◌, length, Option, Some, None, refl, sym, ap, ◌∙◌, subst}
-use Rattle.std.specs.Prelude.{◌&&◌, not}
+use Rattle.std.proofs.Common.{◌≡◌, ◌≢◌, ℕ, zero, suc, Bool, true, false, List, [], ◌∷◌, ◌++◌, length, Option, Some, None, inl, inr, ⊎_elim, refl, sym, ap, ◌∙◌, subst}
+use Rattle.std.specs.Prelude.{◌&&◌, if◌then◌else◌, not, slice_get, slice_set}
+use Rattle.std.specs.Option.{option_map}
 use Rattle.sim_base.specs.declared.limits.Limits.{Limits}
 use Rattle.sim_base.specs.declared.numbering.DeclNo.{DeclNo}
+use Rattle.sim_chains.specs.Chains.{cut_at, under}
+use Rattle.sim_chains.specs.Components.{AttachedObject, NoObject, ResumedObject, Standing, TerminatedObject, dropped, finish, finish_by, returned, standing_of, with_standing}
+use Rattle.sim_chains.specs.WellFormed.{IsWellFormed}
+use Rattle.sim_chains.proofs.Keeps.{end_law}
 use Rattle.sim_scope.specs.Levels.{has_level}
 use Rattle.sim_scope.specs.Source.{Source}
 use Rattle.sim_tree.specs.declared.stmt.TypeName.{TypeName}
 use Rattle.sim_tree.specs.Syntax.{Heading, Statement}
-use Rattle.sim_code.specs.Instances.{ended_as, ends_in, is_given_at_end, object_ended}
+use Rattle.sim_code.specs.Instances.{ended_as, ends_in, going_below, is_given_at_end, main_goes_on, object_ended, system_head}
 use Rattle.sim_code.specs.Outcome.{World}
 use Rattle.sim_meaning.specs.Levels.{has_levels}
 use Rattle.sim_meaning.specs.Meaning.{do_item, has_result, instances_left, leaving, with_any, world_left}
-use Rattle.sim_meaning.specs.Pending.{Activation, EndObject, EndProcedure, Instances, Item, Of, Result, Val, cell}
+use Rattle.sim_meaning.specs.Pending.{Activation, EndObject, EndProcedure, Instances, Item, Of, Result, Val, cell, owner}
 use Rattle.sim_meaning.specs.Sane.{AllOf, Other}
 use Rattle.sim_meaning.specs.Texts.{ProcedureText, is_class_free, text}
 use Rattle.sim_values.specs.Plain.{Object}
 use Rattle.sim_sound.specs.Held.{ArrayOf, Fits, FitsIn, Holds, Refers, Simply, result_holds, result_type}
 use Rattle.sim_sound.specs.Typed.{ResultWritten, Typed}
 use Rattle.sim_sound.proofs.Cells.{fine_at, given_no_array, own_cell}
-use Rattle.sim_sound.proofs.Chains.{is_attached, others_on}
+use Rattle.sim_sound.proofs.Chains.{AboveHead, above_head, others_on, stands_on_top}
 use Rattle.sim_sound.proofs.Evals.{IsFine}
 use Rattle.sim_sound.proofs.Fitting.{fits_plain, plain_fits, plain_val, val_fits}
-use Rattle.sim_sound.proofs.Later.{All, Later, all_apart, chain_later, live_less, object_later, plain_later}
+use Rattle.sim_sound.proofs.Heads.{at_is, headed_as, headed_first, headed_then, well_formed}
+use Rattle.sim_sound.proofs.Later.{All, Later, fine_later, live_less, object_later, plain_later}
 use Rattle.sim_sound.proofs.Lifts.{Goes, had, ran, ticked}
-use Rattle.sim_sound.proofs.Moves.{later_terminated, left_by, operates_first, placed_as, placed_terminated, store_terminated, terminated}
+use Rattle.sim_sound.proofs.Lists.{equal_numbers, other_numbers, set_other}
+use Rattle.sim_sound.proofs.Moves.{left_by, operates_first, placed_as}
 use Rattle.sim_sound.proofs.Prefixes.{same_is}
 use Rattle.sim_sound.proofs.Reach.{has_itself, key_of_result}
-use Rattle.sim_sound.proofs.Sound.{AllArrays, Begun, ChainFine, Generated, GivesResult, HandsFine, IsPlain, IsRelease, Kinds, Made, Marks, ObjectOf, ObjectStands, Operates, StoreFine, Takes, ValFine, Value, Waits, given, held_kinds, runs, see}
+use Rattle.sim_sound.proofs.Running.{Begun, ChainFine, Headed, IsRelease, NoObjectStands, ObjectStands, Operates, StoreFine, is_resumed, parts, resumes, runs}
+use Rattle.sim_sound.proofs.Sound.{AllArrays, Generated, GivesResult, HandsFine, IsPlain, Kinds, Made, Marks, ObjectOf, Suspended, Takes, ValFine, Value, Waits, given, held_kinds, see}
+use Rattle.sim_sound.proofs.Standings.{AllFine, kinds_same, later_changed, main_on, object_over}
 
 -- those below are others
 pub others_apart : (i : ℕ) (P : Type 0) (chain : List Activation) → AllOf (Other i) chain → AllOf (λ j. P → j ≢ i) chain
 others_apart i P [] f = tt
 others_apart i P (a ∷ rest) f = ((λ p. f.0), others_apart i P rest f.1)
 
+-- what waits below a resumed object
+pub suspended : (i t : ℕ) (v : Waits) → IsRelease true i t v → v ≡ Suspended
+suspended i t Suspended r = refl
+suspended i t (Takes k) r = absurd r
+suspended i t (Generated j u) r = absurd r
+
+-- two standings are set in either order
+set_swap : {A : Type 0} (xs : List A) (i j : ℕ) (x y : A) → i ≢ j → slice_set (slice_set xs i x) j y ≡ slice_set (slice_set xs j y) i x
+set_swap [] i j x y apart = refl
+set_swap (z ∷ xs) zero zero x y apart = absurd (apart refl)
+set_swap (z ∷ xs) zero (suc j) x y apart = refl
+set_swap (z ∷ xs) (suc i) zero x y apart = refl
+set_swap (z ∷ xs) (suc i) (suc j) x y apart = ap (λ q. z ∷ q) (set_swap xs i j x y (λ e. apart (ap suc e)))
+
+-- control goes to what is below
+pub goes_below : (s : Source) (o : World) (g : Marks) → length g.sights ≡ length o.arrays → (chain : List Activation) (n : Instances) → AllFine s (see g o) n chain (Takes None) → Headed n chain → Goes (IsFine s) (going_below o chain n)
+goes_below s o g long [] n f h = absurd f.fine
+goes_below s o g long (a ∷ rest) n f h = (g, long, runs f.store f.placed h f.fine)
+
 -- the reference to an object that was generated, or the object that was called, comes to be in hand as any other
-pub released : (s : Source) → Typed s → (o : AllArrays) (m : Instances) → StoreFine s o m → (chain : List Activation) (v : Waits) (i t : ℕ) → IsRelease i t v → ObjectOf s m i t → ChainFine s o m chain v → ChainFine s o m chain (Takes None)
+pub released : (s : Source) → Typed s → (o : AllArrays) (m : Instances) → StoreFine s o m → (chain : List Activation) (v : Waits) (i t : ℕ) → IsRelease false i t v → ObjectOf s m i t → ChainFine s o m chain v → ChainFine s o m chain (Takes None)
 released s ok o m store [] v i t release object c = absurd c
 released s ok o m store (a ∷ rest) (Takes None) i t release object c = c
 released s ok o m store (a ∷ rest) (Takes (Some k)) i t release object c = absurd release
+released s ok o m store (a ∷ rest) Suspended i t release object c = absurd release
 released s ok o m store (a ∷ rest) (Generated j u) i t release object c =
     let x = c.expects in
     let fine : ObjectOf s m j u = subst (λ z. ObjectOf s m j z) (sym release.1) (subst (λ z. ObjectOf s m z t) (sym release.0) object) in
@@ -71,18 +100,18 @@ module _ (s : Source) (ok : Typed s) (l : Limits) (o : World) (g : Marks) (long 
   plain_later_val o' m' Apart e j (Refers c) _ is a = absurd a
   plain_later_val o' m' Apart e j (ArrayOf h) v is a = absurd is
 
-  pub leaves : (rest : List Activation) → Operates g.beneath m i rest → (waits : Option Kinds) (v : Option Val) → Leaves waits v → ChainFine s (see g o) m rest (Takes waits) → Goes (IsFine s) (leaving s rest v i o m)
+  pub leaves : (rest : List Activation) → Operates g.beneath m i rest → NoObjectStands m i → (waits : Option Kinds) (v : Option Val) → Leaves waits v → ChainFine s (see g o) m rest (Takes waits) → Goes (IsFine s) (leaving s rest v i o m)
   unfolding leaving
-  leaves [] top waits v f c = absurd c
-  leaves (a ∷ rest) top waits v f c =
-      let y = left_by s g o m i (a ∷ rest) b.store top (Takes waits) c in
+  leaves [] top nobody waits v f c = absurd c
+  leaves (a ∷ rest) top nobody waits v f c =
+      let y = left_by s g o m i (a ∷ rest) b.store top nobody (Takes waits) c in
       let o' = see g (world_left s i o m) in
       let m' = instances_left i m in
       let apart = others_on g.beneath m i (a ∷ rest) top in
-      let n = chain_later s (see g o) m o' m' (λ j. is_given_at_end m i ≡ true → j ≢ i) y.later (Other i) y.copies (λ v. ⊥) (λ rest. rest ≡ []) (a ∷ rest) (others_apart i (is_given_at_end m i ≡ true) (a ∷ rest) apart) apart (Takes waits) c in (
+      let n = fine_later s (see g o) m o' m' (λ j. is_given_at_end m i ≡ true → j ≢ i) y.later (Other i) y.copies (λ j k. y.steady j) (a ∷ rest) (others_apart i (is_given_at_end m i ≡ true) (a ∷ rest) apart) apart (Takes waits) c in (
         g,
         long ∙ sym y.long,
-        runs y.store (placed_as m' a.instance a.work (with_any v a.values) rest (operates_first g.beneath m' a rest (live_less m' a.instance (n.here).now (n.here).lives) n.on y.placed).placed) (record {
+        runs y.store (placed_as m' a.instance a.work (with_any v a.values) rest (operates_first g.beneath m' a rest (live_less m' a.instance (n.here).now (n.here).lives) n.on y.placed y.headed).placed) (headed_as m' a.instance a.work (with_any v a.values) rest (headed_first m' a rest y.headed)) (record {
           of_text = n.of_text;
           todo = n.todo;
           here = n.here;
@@ -127,24 +156,24 @@ module _ (s : Source) (ok : Typed s) (l : Limits) (o : World) (g : Marks) (long 
   no_result None (Some h) w e = absurd w
   no_result (Some z) r w e = absurd (cc)
 
-  pub procedure_ends : (leaves' : Bool) (w : List Item) (vals : List Val) (rest : List Activation) → Operates g.beneath m i rest → (result : Option TypeName) (heading : Heading) (body : Statement) → text s t ≡ Some (ProcedureText result heading body) → has_result result ≡ leaves' → (waits : Option Kinds) → GivesResult s t waits → ChainFine s (see g o) m rest (Takes waits) → Goes (IsFine s) (do_item s l o m i w vals rest (EndProcedure leaves'))
-  procedure_ends false w vals rest top None heading body is e waits gives c = leaves rest top waits None (by_fits (result_holds s t) (no_result None (result_holds s t) (ok.texts t (ProcedureText None heading body) is).result refl) gives.0 gives.1 waits gives.2) c
+  pub procedure_ends : (leaves' : Bool) (w : List Item) (vals : List Val) (rest : List Activation) → Operates g.beneath m i rest → (result : Option TypeName) (heading : Heading) (body : Statement) → text s t ≡ Some (ProcedureText result heading body) → has_result result ≡ leaves' → (waits : Option Kinds) → GivesResult s t waits → NoObjectStands m i → ChainFine s (see g o) m rest (Takes waits) → Goes (IsFine s) (do_item s l o m i w vals rest (EndProcedure leaves'))
+  procedure_ends false w vals rest top None heading body is e waits gives nobody c = leaves rest top nobody waits None (by_fits (result_holds s t) (no_result None (result_holds s t) (ok.texts t (ProcedureText None heading body) is).result refl) gives.0 gives.1 waits gives.2) c
     where
       by_fits : (r : Option Holds) → r ≡ None → (h : Option Holds) → FitsIn s r h → (waits : Option Kinds) → held_kinds h ≡ waits → Leaves waits None
       by_fits None none None f None e = tt
       by_fits None none None f (Some k) e = absurd (cc)
       by_fits None none (Some h) f waits e = absurd f
       by_fits (Some r) none h f waits e = absurd (cc)
-  procedure_ends true w vals rest top None heading body is e waits gives c = absurd (cc)
-  procedure_ends false w vals rest top (Some type) heading body is e waits gives c = absurd (cc)
-  procedure_ends true w vals rest top (Some type) heading body is e waits gives c =
+  procedure_ends true w vals rest top None heading body is e waits gives nobody c = absurd (cc)
+  procedure_ends false w vals rest top (Some type) heading body is e waits gives nobody c = absurd (cc)
+  procedure_ends true w vals rest top (Some type) heading body is e waits gives nobody c =
       let p = b.here in
       let r = some_result (Some type) (result_holds s t) (ok.texts t (ProcedureText (Some type) heading body) is).result type refl in
       let f = fine_at s (see g o) m i t todo b.store p in
       let there = f.keys t (same_is s (p.now).text t own) Result (key_of_result s t type heading body is) in
       let x = own_cell s (see g o) m i p.now Result r.0 p.lives f (λ k same none. absurd (plain_not r.0 k (result_plain r.0 r.1) same)) (ap (λ z. result_holds s z) own ∙ r.1) there in
       had (IsFine s) (cell m i Result) x.0 o (λ v. leaving s rest (Some v) i o m) x.1
-      (leaves rest top waits (Some x.0) (by_fits x.0 (result_holds s t) r.0 r.1 (result_plain r.0 r.1) x.2 gives.0 gives.1 waits gives.2) c)
+      (leaves rest top nobody waits (Some x.0) (by_fits x.0 (result_holds s t) r.0 r.1 (result_plain r.0 r.1) x.2 gives.0 gives.1 waits gives.2) c)
     where
       plain_not : (h k : Holds) → IsPlain h → h ≡ ArrayOf k → ⊥
       plain_not h k a e = subst IsPlain e a
@@ -183,19 +212,98 @@ module _ (s : Source) (ok : Typed s) (l : Limits) (o : World) (g : Marks) (long 
       }
 
   -- it is terminated, and its reference, where it is in hand below, is one to an object with its arrays
-  pub object_ends : (w : List Item) (vals : List Val) (rest : List Activation) → Operates g.beneath m i rest → todo ≡ [] → is_class_free s t ≡ false → has_levels (text s t) ≡ true → ObjectStands m i → (v : Waits) → IsRelease i t v → ChainFine s (see g o) m rest v → Goes (IsFine s) (do_item s l o m i w vals rest EndObject)
+  module _ (rest : List Activation) (top : Operates g.beneath m i rest) (made : todo ≡ []) (free : is_class_free s t ≡ false) (has : has_levels (text s t) ≡ true) (v : Waits) (c : ChainFine s (see g o) m rest v) where
+    abbrev Top : Activation
+    Top = record { instance = i; work = []; values = [] }
+
+    well : IsWellFormed owner (system_head m) (parts m (Top ∷ rest))
+    well = well_formed s (see g o) m (Top ∷ rest) b.store top.placed top.headed
+
+    module _ (is : slice_get m.standings i ≡ Some AttachedObject) (release : IsRelease false i t v) where
+      abbrev Then : Instances
+      Then = record m { standings = slice_set m.standings i TerminatedObject }
+
+      over : AllFine s (see g o) Then rest v
+      over = object_over s (see g o) m i AttachedObject is tt refl rest v b.store top.placed (stays_at_end free) c
+
+      finished : finish owner (system_head m) (parts m (Top ∷ rest)) i ≡ parts Then rest
+      finished =
+          ap (λ q. finish_by owner q (parts m (Top ∷ rest)) (system_head m i) i) (at_is m.standings i AttachedObject (NoObject None) is)
+          ∙ ap (λ q. with_standing i TerminatedObject (returned owner q (parts m (Top ∷ rest)))) (ap (λ q. if q then Some (record { above = []; here = Top; below = rest }) else option_map (under Top) (cut_at owner i rest)) (equal_numbers i i refl))
+
+      headed : Headed Then rest
+      headed =
+          headed_then m (parts Then rest) (subst (IsWellFormed owner (system_head m)) finished (end_law owner (system_head m) (parts m (Top ∷ rest)) i Top rest well refl refl (inl (at_is m.standings i AttachedObject (NoObject None) is)))) (top.headed).outer
+          (kinds_same s (see g o) (see g o) m i AttachedObject TerminatedObject is refl refl refl refl)
+
+      ended_later : Later s (see g o) m (see g o) Then All
+      ended_later = later_changed s (see g o) (see g o) m i AttachedObject TerminatedObject is refl refl refl refl
+
+      attached_ends : (t' w' : ℕ) → Goes (IsFine s) (ended_as owner (ran o t' w') m i rest (Some AttachedObject))
+      attached_ends t' w' =
+          goes_below s (ran o t' w') g long rest Then
+          (record { store = over.store; placed = over.placed; fine = released s ok (see g o) Then over.store rest v i t release (object_later s (see g o) m (see g o) Then All ended_later i t (object_here made free has)) over.fine }) headed
+
+    module _ (is : slice_get m.standings i ≡ Some ResumedObject) (release : IsRelease true i t v) where
+      on_head : AboveHead m i rest
+      on_head = above_head g.beneath m i rest top is
+
+      abbrev Head : ℕ
+      Head = system_head m i
+
+      abbrev Gone : Instances
+      Gone = record m { standings = slice_set m.standings i TerminatedObject }
+
+      abbrev Free : Instances
+      Free = record m { standings = slice_set m.standings Head (NoObject None) }
+
+      abbrev Last : List (Standing Activation)
+      Last = slice_set Free.standings i TerminatedObject
+
+      abbrev Chain : List Activation
+      Chain = on_head.main ++ on_head.head ∷ on_head.below
+
+      apart : i ≢ Head
+      apart same = let as_it = ap (slice_get m.standings) same in let keeps = on_head.keeps in cc
+
+      resumed_over : AllFine s (see g o) Gone (on_head.head ∷ on_head.below) Suspended
+      resumed_over =
+          subst (AllFine s (see g o) Gone (on_head.head ∷ on_head.below)) (suspended i t v release)
+          (subst (λ q. AllFine s (see g o) Gone q v) on_head.is (object_over s (see g o) m i ResumedObject is tt refl rest v b.store top.placed (stays_at_end free) c))
+
+      back : AllFine s (see g o) (record m { standings = slice_set Gone.standings Head (NoObject None) }) Chain (Takes None)
+      back = main_on s (see g o) Gone Head on_head.main (set_other m.standings i Head TerminatedObject (λ same. apart (sym same)) ∙ on_head.keeps) on_head.head on_head.below on_head.its_head resumed_over
+
+      cut : cut_at owner Head rest ≡ Some (record { above = []; here = on_head.head; below = on_head.below })
+      cut = ap (cut_at owner Head) on_head.is ∙ ap (λ q. if q then Some (record { above = []; here = on_head.head; below = on_head.below }) else option_map (under on_head.head) (cut_at owner Head on_head.below)) (equal_numbers (on_head.head).instance Head on_head.its_head)
+
+      went : (p : World) → ended_as owner p m i rest (Some ResumedObject) ≡ going_below p Chain (record m { standings = Last })
+      went p =
+          ap (λ k. main_goes_on owner p m i Head k (slice_get m.standings Head)) cut
+          ∙ ap (λ q. main_goes_on owner p m i Head (Some (record { above = []; here = on_head.head; below = on_head.below })) q) on_head.keeps
+
+      resumed_finished : finish owner (system_head m) (parts m (Top ∷ rest)) i ≡ record { operating = Chain; standings = Last }
+      resumed_finished =
+          ap (λ q. finish_by owner q (parts m (Top ∷ rest)) Head i) (at_is m.standings i ResumedObject (NoObject None) is)
+          ∙ ap (λ q. with_standing i TerminatedObject (dropped owner q (standing_of (parts m (Top ∷ rest)) Head) Head (parts m (Top ∷ rest))))
+          (ap (λ q. if q then Some (record { above = []; here = Top; below = rest }) else option_map (under Top) (cut_at owner Head rest)) (other_numbers i Head apart) ∙ ap (option_map (under Top)) cut)
+          ∙ ap (λ q. with_standing i TerminatedObject (dropped owner (Some (record { above = Top ∷ []; here = on_head.head; below = on_head.below })) q Head (parts m (Top ∷ rest)))) (at_is m.standings Head (NoObject (Some on_head.main)) (NoObject None) on_head.keeps)
+
+      resumed_headed : Headed (record m { standings = Last }) Chain
+      resumed_headed =
+          headed_then m (record { operating = Chain; standings = Last }) (subst (IsWellFormed owner (system_head m)) resumed_finished (end_law owner (system_head m) (parts m (Top ∷ rest)) i Top rest well refl refl (inr (at_is m.standings i ResumedObject (NoObject None) is)))) (top.headed).outer
+          (λ j. kinds_same s (see g o) (see g o) Free i ResumedObject TerminatedObject (set_other m.standings Head i (NoObject None) apart ∙ is) refl refl refl refl j ∙ kinds_same s (see g o) (see g o) m Head (NoObject (Some on_head.main)) (NoObject None) on_head.keeps refl refl refl refl j)
+
+      resumed_ends : (t' w' : ℕ) → Goes (IsFine s) (ended_as owner (ran o t' w') m i rest (Some ResumedObject))
+      resumed_ends t' w' =
+          subst (Goes (IsFine s)) (sym (went (ran o t' w')))
+          (goes_below s (ran o t' w') g long Chain (record m { standings = Last }) (subst (λ q. AllFine s (see g o) (record m { standings = q }) Chain (Takes None)) (set_swap m.standings i Head TerminatedObject (NoObject None) apart) back) resumed_headed)
+
+  pub object_ends : (w : List Item) (vals : List Val) (rest : List Activation) → Operates g.beneath m i rest → todo ≡ [] → is_class_free s t ≡ false → has_levels (text s t) ≡ true → ObjectStands m i → (v : Waits) → IsRelease (resumes m i) i t v → ChainFine s (see g o) m rest v → Goes (IsFine s) (do_item s l o m i w vals rest EndObject)
   unfolding object_ended
-  object_ends w vals [] top made free has stands v release c = absurd c
-  object_ends w vals (a ∷ rest) top made free has stands v release c =
-      let x = see g o in
-      let below = a ∷ rest in
-      let m' = terminated s x g.beneath m i below top b.store stands in
-      let e = later_terminated s x g.beneath m i below top b.store stands in
-      let store = store_terminated s x g.beneath m i below top b.store stands in
-      let n = chain_later s x m x m' All e All (λ j d k h z q f r. r) (λ v. ⊥) (λ rest. rest ≡ []) below (all_apart below) (all_apart below) v c in
-      ticked (IsFine s) l o (λ p. object_ended p m i below) (λ t' w'.
-      subst (λ z. Goes (IsFine s) (ended_as (ran o t' w') m i below z)) (sym (is_attached s x g.beneath m i below b.store top stands)) (
-        g,
-        long,
-        runs store (placed_terminated s x g.beneath m i below top b.store stands (stays_at_end free)) (released s ok x m' store below v i t release (object_later s x m x m' All e i t (object_here made free has)) n),
-      ))
+  object_ends w vals rest top made free has stands v release c =
+      ticked (IsFine s) l o (λ p. object_ended owner p m i rest) (λ t' w'.
+      ⊎_elim
+      (λ is. subst (λ z. Goes (IsFine s) (ended_as owner (ran o t' w') m i rest z)) (sym is) (attached_ends rest top made free has v c is (subst (λ q. IsRelease q i t v) (ap (λ q. is_resumed q) is) release) t' w'))
+      (λ is. subst (λ z. Goes (IsFine s) (ended_as owner (ran o t' w') m i rest z)) (sym is) (resumed_ends rest top made free has v c is (subst (λ q. IsRelease q i t v) (ap (λ q. is_resumed q) is) release) t' w'))
+      (stands_on_top s (see g o) g.beneath m i rest b.store top stands))

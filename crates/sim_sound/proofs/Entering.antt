@@ -1,12 +1,12 @@
 -- A block, a procedure or an object is entered.
-use Rattle.std.proofs.Common.{Bool, List, None, Option, Some, [], ap, arith, false, length, map, refl, subst, suc, sym, true, ℕ, ◌++◌, ◌<◌, ◌∙◌, ◌∷◌, ◌≡◌}
-use Rattle.std.specs.Prelude.{◌==◌, ◌&&◌, not, if◌then◌else◌, slice_get}
+use Rattle.std.proofs.Common.{Bool, List, None, Option, Some, [], ap, arith, false, inr, length, map, refl, subst, suc, sym, true, ℕ, ◌++◌, ◌<◌, ◌∙◌, ◌∷◌, ◌≡◌, ◌⊎◌}
+use Rattle.std.specs.Prelude.{if◌then◌else◌, not, slice_get, slice_index_or, ◌&&◌, ◌==◌}
 use Rattle.std.specs.List.{list_any}
 use Rattle.sim_base.specs.declared.limits.Limits.{Limits}
 use Rattle.sim_base.specs.declared.numbering.DeclNo.{DeclNo}
 use Rattle.sim_chains.specs.Chains.{times_on}
 use Rattle.sim_chains.specs.Components.{NoObject, Standing}
-use Rattle.sim_chains.specs.WellFormed.{over_kept}
+use Rattle.sim_chains.specs.WellFormed.{is_object, over_kept}
 use Rattle.sim_scope.specs.declared.types.Formal.{Formal}
 use Rattle.sim_scope.specs.Access.{encloser}
 use Rattle.sim_scope.specs.Source.{Source, line_at}
@@ -34,12 +34,14 @@ use Rattle.sim_sound.proofs.Changes.{ElementsFine}
 use Rattle.sim_sound.proofs.Evals.{IsFine, Work, goes_on}
 use Rattle.sim_sound.proofs.FirstCells.{ActualsAre, FilledBehind, ValsFine, all_taken, block_cells, block_key, formals_some, held_there, procedure_cells, taken}
 use Rattle.sim_sound.proofs.Handing.{Handed, formals_hand, hand_all, handed_same, marks_of}
-use Rattle.sim_sound.proofs.Later.{All, Copies, Later, all_apart, chain_later, hands_later, instance_later, kept_later, live_less, near_later, present_later, standing_apart, stays_later, work_later}
+use Rattle.sim_sound.proofs.Later.{All, Copies, Later, all_apart, fine_later, hands_later, instance_later, kept_later, live_less, present_later, standing_apart, stays_later, work_later}
 use Rattle.sim_sound.proofs.Lifts.{Goes, any_popped, enters, had, ran, whens}
 use Rattle.sim_sound.proofs.Lists.{append_at, no_some, same_some}
-use Rattle.sim_sound.proofs.Moves.{Begins, copies_entered, ending_there, knows_near, later_entered, marked, near_new, on_top, operates_entered, placed_as, store_entered}
+use Rattle.sim_sound.proofs.Moves.{Begins, copies_entered, ending_there, knows_near, later_entered, marked, near_new, on_top, operates_entered, placed_as, steady_entered, store_entered}
 use Rattle.sim_sound.proofs.Prefixes.{LevelOf, prefix_level, same_level}
-use Rattle.sim_sound.proofs.Sound.{AllArrays, Begun, CallOpFine, CellsFine, ChainFine, Enclosed, Fine, GivesResult, HandFine, HandsFine, InstanceFine, KeyAmong, Kinds, Knows, LinkTo, Made, Marks, Near, Operates, Placed, Present, Sight, Stays, StoreFine, Takes, Waits, Whole, WorkFine, alone, at_itself, first_of, formal_kinds, given, holds_of, key_of, keys_in, near_below, near_staying, own_text, places, runs, see, within}
+use Rattle.sim_sound.proofs.Running.{Begun, ChainFine, Fine, Headed, Operates, Placed, StoreFine, WorkFine, first_of, places}
+use Rattle.sim_sound.proofs.Sound.{AllArrays, CallOpFine, CellsFine, Enclosed, GivesResult, HandFine, HandsFine, InstanceFine, KeyAmong, Kinds, Knows, LinkTo, Made, Marks, Near, Present, Sight, Stays, Takes, Waits, Whole, alone, at_itself, formal_kinds, given, holds_of, key_of, keys_in, near_below, near_staying, own_text, see, within}
+use Rattle.sim_sound.proofs.Heads.{headed_as}
 
 -- ---- a new instance
 
@@ -118,20 +120,20 @@ module _ (s : Source) (ok : Typed s) (v : AllArrays) (m : Instances) (k : ℕ) (
       within is_out is_in lt (near_inside store out (encloser_stays out around store is_in whole) i on near) (present_later s v m seen_now now All later_new out around [] tt whole)
 
   -- below it the chain stands as before
-  pub below_new : (chain : List Activation) (w : Waits) → ChainFine s v m chain w → ChainFine s seen_now now chain w
-  below_new chain w c = chain_later s v m seen_now now All later_new All (λ j d k. copies_entered s v m made_new z u j d) (λ w. ⊥) (λ rest. rest ≡ []) chain (all_apart chain) (all_apart chain) w c
+  pub below_new : Begins z → (chain : List Activation) (w : Waits) → ChainFine s v m chain w → ChainFine s seen_now now chain w
+  below_new begins chain w c = fine_later s v m seen_now now All later_new All (λ j d k. copies_entered s v m made_new z u j d) (λ j k. steady_entered s v m made_new z u begins j) chain (all_apart chain) (all_apart chain) w c
 
 -- it operates
 pub enters_fine : (s : Source) (ok : Typed s) (o : World) (marks : Marks) (long : length marks.sights ≡ length o.arrays) (m : Instances) (k : ℕ) (e : Option ℕ) (cells : List Held) (z : Standing Activation) (todo : List DeclNo)
-    → Begins z → (work : List Item) (rest : List Activation) → StoreFine s (see marks o) m → Placed m rest → Begun s (see (marked marks (first_of rest)) o) (entered m (new_instance s k e cells) z) (length m.instances) k todo
+    → Begins z → (work : List Item) (rest : List Activation) → StoreFine s (see marks o) m → Placed m rest → Headed m rest → (0 < length m.standings) ⊎ (z ≡ NoObject None) → Begun s (see (marked marks (first_of rest)) o) (entered m (new_instance s k e cells) z) (length m.instances) k todo
     → WorkFine s (see (marked marks (first_of rest)) o) (entered m (new_instance s k e cells) z) (λ w. ChainFine s (see (marked marks (first_of rest)) o) (entered m (new_instance s k e cells) z) rest w) (rest ≡ []) (length m.instances) k work todo []
     → IsFine s o (record { chain = record { instance = length m.instances; work = work; values = [] } ∷ rest; memory = entered m (new_instance s k e cells) z })
-enters_fine s ok o marks long m k e cells z todo begins work rest store placed b w =
-    goes_on s o (marked marks (first_of rest)) long (entered m (new_instance s k e cells) z) (length m.instances) k rest (operates_entered s (see marks o) m (new_instance s k e cells) z (first_of rest) rest refl store.noted placed begins) work [] todo [] b tt w
+enters_fine s ok o marks long m k e cells z todo begins work rest store placed headed first b w =
+    goes_on s o (marked marks (first_of rest)) long (entered m (new_instance s k e cells) z) (length m.instances) k rest (operates_entered s (see marks o) m (new_instance s k e cells) z (first_of rest) rest refl store placed headed first begins) work [] todo [] b tt w
 
 -- the arrays alone tell whether a configuration is fine
 pub same_arrays : {s : Source} (o p : World) (c : Configuration) → o.arrays ≡ p.arrays → IsFine s o c → IsFine s p c
-same_arrays {s = s} o p c e f = subst (λ z. (g : Marks) × (length g.sights ≡ length z) × Fine s (record { sights = g.sights; beneath = g.beneath; real = z }) c) e f
+same_arrays {s = s} o p c e f = subst (λ z. (g : Marks) × (length g.sights ≡ length z) × Fine s (record { sights = g.sights; beneath = g.beneath; waiting = g.waiting; real = z }) c) e f
 
 -- ---- blocks
 
@@ -184,6 +186,9 @@ module _ (s : Source) (ok : Typed s) (l : Limits) (o : World) (marks : Marks) (l
   pub chain_placed : (vs : List Val) → Placed m (Chain vs)
   chain_placed vs = placed_as m i w vs rest top.placed
 
+  pub chain_headed : (vs : List Val) → Headed m (Chain vs)
+  chain_headed vs = headed_as m i w vs rest top.headed
+
   pub block_entered : (k line u begin : ℕ) (ds : Declarations) (ss : Statements) (ks : List Kinds) → text s k ≡ Some (BlockText begin ds ss) → encloser s.tables k ≡ Some u → Whole s m i u → Begun s (see marks o) m i t [] → HandsFine s (see marks o) m i ks vals → Work s o marks long m i t rest top w [] ks → Goes (IsFine s) (sub_block_entered s l o m i w vals rest k line (Some (BlockText begin ds ss)))
   block_entered k line u begin ds ss ks is stands site b h work =
       let v = see marks o in
@@ -194,9 +199,9 @@ module _ (s : Source) (ok : Typed s) (l : Limits) (o : World) (marks : Marks) (l
       let out = inside_new s ok v m k (Some i) hs z x is solid (Some i) i u i refl stands top.before refl (near_below at_itself) b.store site in
       let m' = entered m (new_instance s k (Some i) hs) z in
       enters (IsFine s) l line (words_of_cells hs) o (λ p. in_instance s p m k (Some i) hs (λ now. block_work s now (length m.instances) ds ss EndBlock) (Chain vals)) (λ t' w'.
-      enters_fine s ok o marks long m k (Some i) hs z (arrays_of_block s ds) tt (block_work s m' (length m.instances) ds ss EndBlock) (Chain vals) b.store (chain_placed vals) (block_begun s ok v m k (Some i) begin ds ss is (Some i) b.store out)
+      enters_fine s ok o marks long m k (Some i) hs z (arrays_of_block s ds) tt (block_work s m' (length m.instances) ds ss EndBlock) (Chain vals) b.store (chain_placed vals) (chain_headed vals) (inr refl) (block_begun s ok v m k (Some i) begin ds ss is (Some i) b.store out)
       (block_works s ok v m k (Some i) begin ds ss is (Some i) b.store out (λ q. ChainFine s (on_top v (Some i)) m' (Chain vals) q) (Chain vals ≡ []) EndBlock
-      (stands_new m (new_instance s k (Some i) hs) z (top.placed).as_many, below_new s ok v m k (Some i) hs z x is solid (Some i) (Chain vals) (Takes None) (waits_on vals [] ks None b h work))))
+      ((None, stands_new m (new_instance s k (Some i) hs) z (top.placed).as_many), below_new s ok v m k (Some i) hs z x is solid (Some i) tt (Chain vals) (Takes None) (waits_on vals [] ks None b h work))))
 
   -- ---- a procedure
 
@@ -224,17 +229,17 @@ module _ (s : Source) (ok : Typed s) (l : Limits) (o : World) (marks : Marks) (l
   lives_is j x e = ap instances.is_live_in e
 
   -- the store in which copies of the instance have gone over, and a new instance is entered then
-  module _ (p : World) (g' : List Sight) (e : Later s (see marks o) m (see (marks_of marks.beneath g') p) m All) (copies : (j d : ℕ) → Other i j → Copies (see marks o) (see (marks_of marks.beneath g') p) j d) (fine : StoreFine s (see marks o) m) (elements : ElementsFine s (see marks o) m → ElementsFine s (see (marks_of marks.beneath g') p) m) where
-    pub store_handed : StoreFine s (see (marks_of marks.beneath g') p) m
+  module _ (p : World) (g' : List Sight) (e : Later s (see marks o) m (see (marks_of marks g') p) m All) (copies : (j d : ℕ) → Other i j → Copies (see marks o) (see (marks_of marks g') p) j d) (fine : StoreFine s (see marks o) m) (elements : ElementsFine s (see marks o) m → ElementsFine s (see (marks_of marks g') p) m) where
+    pub store_handed : StoreFine s (see (marks_of marks g') p) m
     store_handed = record {
-      instances = λ j x lives. instance_later s (see marks o) m (see (marks_of marks.beneath g') p) m All e j x tt (fine.instances j x lives);
+      instances = λ j x lives. instance_later s (see marks o) m (see (marks_of marks g') p) m All e j x tt (fine.instances j x lives);
       elements = elements fine.elements;
-      kept = kept_later s (see marks o) m (see (marks_of marks.beneath g') p) m All e (Other i) copies refl (λ j x is. standing_apart x) (others_kept marks.beneath m i rest top) fine.kept;
+      kept = kept_later s (see marks o) m (see (marks_of marks g') p) m All e (Other i) copies (λ j k. (refl, refl)) refl refl (λ j x is. standing_apart x) (others_kept marks.beneath m i rest top) fine.kept;
       noted = fine.noted;
     }
 
-    pub below_handed : (v : Waits) → ChainFine s (see marks o) m rest v → ChainFine s (see (marks_of marks.beneath g') p) m rest v
-    below_handed v c = chain_later s (see marks o) m (see (marks_of marks.beneath g') p) m All e (Other i) copies (λ v. ⊥) (λ rest. rest ≡ []) rest (all_apart rest) (others_on marks.beneath m i rest top) v c
+    pub below_handed : (v : Waits) → ChainFine s (see marks o) m rest v → ChainFine s (see (marks_of marks g') p) m rest v
+    below_handed v c = fine_later s (see marks o) m (see (marks_of marks g') p) m All e (Other i) copies (λ j k. (refl, refl)) rest (all_apart rest) (others_on marks.beneath m i rest top) v c
 
   module _ (k line : ℕ) (result : Option TypeName) (h : Heading) (a : Statement) (vs vs' : List Val) (d j u : ℕ) (todo : List DeclNo) (left : List Kinds) (g : Option Kinds) (is : text s k ≡ Some (ProcedureText result h a)) (stands : encloser s.tables k ≡ Some u) (knows : Knows m i j) (whole : Whole s m j u) (acts : ActualsAre s (see marks o) m i d (formal_kinds s (formals_of s k)) vs) (less : length vs' < d) (gives : GivesResult s k g) (b : Begun s (see marks o) m i t todo) (hands : HandsFine s (see marks o) m i left vs') (work : Work s o marks long m i t rest top w todo (given g left)) where
     abbrev X : Text
@@ -265,22 +270,22 @@ module _ (s : Source) (ok : Typed s) (l : Limits) (o : World) (marks : Marks) (l
     abbrev After : List Held → Instances
     After c = entered m (new_instance s k (Some j) c) Nobody
 
-    abbrev noted : List (Option ℕ)
-    noted = marks.beneath ++ Some i ∷ []
+    abbrev noted : Marks
+    noted = marked marks (Some i)
 
-    later_with : (c : List Held) (z : List Sight) (q : World) → Later s (see (marks_of marks.beneath z) q) m (see (marks_of noted z) q) (After c) All
-    later_with c z q = later_new s ok (see (marks_of marks.beneath z) q) m k (Some j) c Nobody X is solid (Some i)
+    later_with : (c : List Held) (z : List Sight) (q : World) → Later s (see (marks_of marks z) q) m (see (marks_of noted z) q) (After c) All
+    later_with c z q = later_new s ok (see (marks_of marks z) q) m k (Some j) c Nobody X is solid (Some i)
 
     -- one that takes arrays by reference is class-free
-    passing : (c : List Held) → list_any is_held fs ≡ true → (is_given_at_end (After c) N ≡ true) × (slice_get noted N ≡ Some (Some i))
+    passing : (c : List Held) → list_any is_held fs ≡ true → (is_given_at_end (After c) N ≡ true) × (slice_get noted.beneath N ≡ Some (Some i))
     passing c held = (by_flag (is_class_free s k) refl, new_noted s ok (see marks o) m k (Some j) c Nobody X is solid (Some i) b.store)
       where
         by_flag : (f : Bool) → is_class_free s k ≡ f → is_given_at_end (After c) N ≡ true
         by_flag true free = new_passes s ok (see marks o) m k (Some j) c Nobody X is solid (Some i) free
         by_flag false free = absurd (let none : list_any is_held fs ≡ false = ok.keeps_none k result h a is free in cc)
 
-    handed : (c : List Held) → Handed s m (After c) i N top.before marks.beneath noted (later_with c) o marks.sights d P (λ z. (kk : ℕ) → ValsFine s z (After c) N kk (holds_of s fs) vs)
-    handed c = hand_all s m (After c) i N top.before marks.beneath noted (later_with c) fs (formal_kinds s fs) (formals_hand s ((is_given_at_end (After c) N ≡ true) × (slice_get noted N ≡ Some (Some i))) (numbers_of s k) fs typed_procedure.formals (passing c)) vs o marks.sights long d acts
+    handed : (c : List Held) → Handed s m (After c) i N top.before marks noted (later_with c) o marks.sights d P (λ z. (kk : ℕ) → ValsFine s z (After c) N kk (holds_of s fs) vs)
+    handed c = hand_all s m (After c) i N top.before marks noted (later_with c) fs (formal_kinds s fs) (formals_hand s ((is_given_at_end (After c) N ≡ true) × (slice_get noted.beneath N ≡ Some (Some i))) (numbers_of s k) fs typed_procedure.formals (passing c)) vs o marks.sights long d acts
 
     filled : (c : List Held) → FilledBehind s (see (marks_of noted (handed c).sights) P) (After c) N k result vs first
     filled c = procedure_cells s (see (marks_of noted (handed c).sights) P) (After c) N k result h a fs vs typed_procedure.result typed_procedure.formals ((handed c).values k)
@@ -289,7 +294,7 @@ module _ (s : Source) (ok : Typed s) (l : Limits) (o : World) (marks : Marks) (l
     Cells = (filled first).cells
 
     abbrev G : Marks
-    G = marks_of marks.beneath (handed Cells).sights
+    G = marks_of marks (handed Cells).sights
 
     abbrev V : AllArrays
     V = see G P
@@ -316,7 +321,7 @@ module _ (s : Source) (ok : Typed s) (l : Limits) (o : World) (marks : Marks) (l
     made = made_alone s ok k [] Cells solid plain (λ c kd holds there none. absurd (held_there s (see (marks_of noted (handed first).sights) P) (After first) N k (Declared c.0) Cells (filled first).held_all (keys (Declared c.0) there) none))
 
     e : Later s (see marks o) m V m All
-    e = (handed Cells).later marks.beneath m
+    e = (handed Cells).later marks m
 
     copies : (n y : ℕ) → Other i n → Copies (see marks o) V n y
     copies n y other q kd c' small copy = (handed Cells).copies n q kd c' (λ same. absurd (other same)) copy
@@ -342,7 +347,7 @@ module _ (s : Source) (ok : Typed s) (l : Limits) (o : World) (marks : Marks) (l
       hands = hands_later s (see marks o) m V m All e i tt left vs' (λ z kd c deep copy. (handed Cells).copies i z kd c (λ q. omega (arith, deep, less)) copy) hands;
       expected = given g left;
       expects = refl;
-      goes = work_later s (see marks o) m V m All e i t tt (rest ≡ []) (λ q. ChainFine s (see marks o) m rest q) (λ q. ChainFine s V m rest q) (below_handed P (handed Cells).sights e copies b.store (handed Cells).elements) w todo (given g left) work;
+      goes = work_later s (see marks o) m V m All e i t tt refl (rest ≡ []) (rest ≡ []) (λ q. q) (λ q. ChainFine s (see marks o) m rest q) (λ q. ChainFine s V m rest q) (below_handed P (handed Cells).sights e copies b.store (handed Cells).elements) w todo (given g left) work;
     }
 
     pub procedure_goes : Goes (IsFine s) (procedure_entered s l o m i w vs' rest k line vs j (Some X))
@@ -352,8 +357,8 @@ module _ (s : Source) (ok : Typed s) (l : Limits) (o : World) (marks : Marks) (l
         (enters (IsFine s) l line (words_of_cells first) o (λ q. in_instance s (handed_over N ns q) (instances_kept s k (Chain vs') m) k (Some j) Cells (λ now. Do (Exec a) ∷ EndProcedure (has_result result) ∷ []) (Chain vs')) (λ t' w'.
         subst (λ z. Goes (IsFine s) (in_instance s (handed_over N ns (ran o t' w')) z k (Some j) Cells (λ now. Do (Exec a) ∷ EndProcedure (has_result result) ∷ []) (Chain vs'))) (sym (not_kept k result h a is (Chain vs')))
         (same_arrays P (handed_over N ns (ran o t' w')) _ (handed_same N ns o (ran o t' w') refl)
-        (enters_fine s ok P G (handed Cells).long m k (Some j) Cells Nobody [] tt (Do (Exec a) ∷ EndProcedure (has_result result) ∷ []) (Chain vs') store (chain_placed vs') begun
-        ([], [], (refl, refl, refl, (k, own_site s V' M N k [] begun, typed_procedure.body)), (result, h, a, is, refl, g, gives, stands_new m (new_instance s k (Some j) Cells) Nobody (top.placed).as_many, below_new s ok V m k (Some j) Cells Nobody X is solid (Some i) (Chain vs') (Takes g) chain))))))
+        (enters_fine s ok P G (handed Cells).long m k (Some j) Cells Nobody [] tt (Do (Exec a) ∷ EndProcedure (has_result result) ∷ []) (Chain vs') store (chain_placed vs') (chain_headed vs') (inr refl) begun
+        ([], [], (refl, refl, refl, (k, own_site s V' M N k [] begun, typed_procedure.body)), (result, h, a, is, refl, g, gives, (None, stands_new m (new_instance s k (Some j) Cells) Nobody (top.placed).as_many), below_new s ok V m k (Some j) Cells Nobody X is solid (Some i) tt (Chain vs') (Takes g) chain))))))
 
   pub called_goes : (k n line : ℕ) (todo : List DeclNo) (before behind : List Kinds) → CallOpFine s k n before behind → Begun s (see marks o) m i t todo → HandsFine s (see marks o) m i before vals → Work s o marks long m i t rest top w todo behind → Goes (IsFine s) (called s l o m i w vals rest k n line)
   called_goes k n line todo before behind c b h work =
@@ -388,8 +393,8 @@ first_goes s ok l o marks long m none nobody unseen unnoted =
     whens (IsFine s) (length m.instances == 0) o (program_entered s l o m (text s 0)) zero_long
     (subst (λ z. Goes (IsFine s) (program_entered s l o m z)) (sym ok.starts)
     (enters (IsFine s) l (line_at s ok.begin) (words_of_cells hs) o (λ p. in_instance s p m 0 None hs (λ now. Do PastOp ∷ block_work s now (length m.instances) ok.declarations ok.statements EndProgram) []) (λ t' w'.
-    enters_fine s ok o marks long m 0 None hs (NoObject None) (arrays_of_block s ok.declarations) tt (Do PastOp ∷ block_work s after_first (length m.instances) ok.declarations ok.statements EndProgram) [] store placed (block_begun s ok (see marks o) m 0 None ok.begin ok.declarations ok.statements ok.starts None store out)
-    (arrays_of_block s ok.declarations, [], (refl, refl), block_works s ok (see marks o) m 0 None ok.begin ok.declarations ok.statements ok.starts None store out (λ q. ChainFine s (on_top (see marks o) None) after_first [] q) ([] ≡ []) EndProgram (stands_new m (new_instance s 0 None hs) (NoObject None) placed.as_many, refl)))))
+    enters_fine s ok o marks long m 0 None hs (NoObject None) (arrays_of_block s ok.declarations) tt (Do PastOp ∷ block_work s after_first (length m.instances) ok.declarations ok.statements EndProgram) [] store placed headed (inr refl) (block_begun s ok (see marks o) m 0 None ok.begin ok.declarations ok.statements ok.starts None store out)
+    (arrays_of_block s ok.declarations, [], (refl, refl), block_works s ok (see marks o) m 0 None ok.begin ok.declarations ok.statements ok.starts None store out (λ q. ChainFine s (on_top (see marks o) None) after_first [] q) ([] ≡ []) EndProgram ((None, stands_new m (new_instance s 0 None hs) (NoObject None) placed.as_many), refl)))))
   where
     nothing_seen : (a : ℕ) (x : Sight) → slice_get [] a ≡ Some x → ⊥
     nothing_seen a x e = cc
@@ -418,6 +423,16 @@ first_goes s ok l o marks long m none nobody unseen unnoted =
       ended = λ j is. nowhere j;
       all = λ j is. (let y = ending_there m j is in absurd (no_instance j y.0 y.1));
       as_many = ap length nobody ∙ sym (ap length none);
+    }
+
+    nobody_at : (x : ℕ) → slice_index_or m.standings x (NoObject None) ≡ NoObject None
+    nobody_at x = ap (λ z. slice_index_or z x (NoObject None)) nobody
+
+    headed : Headed m []
+    headed = record {
+      outer = ap is_object (nobody_at 0);
+      resumed = λ x e. absurd (let none = nobody_at x in cc);
+      main = λ x main e. absurd (let none = nobody_at x in cc);
     }
 
     hs : List Held

@@ -19,7 +19,9 @@ use Rattle.sim_sound.proofs.Cells.{cell_found}
 use Rattle.sim_sound.proofs.Lifts.{Goes, had}
 use Rattle.sim_sound.proofs.Fitting.{plain_val, val_fits}
 use Rattle.sim_sound.proofs.Moves.{placed_as}
-use Rattle.sim_sound.proofs.Sound.{AddressOf, Begun, ChainFine, Component, Copied, Fine, GivesResult, HandsFine, ImageAddress, IntegersFine, Kinds, Lasting, LinkTo, Marks, OperandsFine, Operates, ProcedureIn, ReferenceAddress, Site, TermFine, TermsFine, Value, Waits, WorkFine, class_kinds, component_kind, formal_kinds, given, integers, onto, pushed, runs, see, simple}
+use Rattle.sim_sound.proofs.Running.{Begun, ChainFine, Fine, Operates, WorkFine, runs}
+use Rattle.sim_sound.proofs.Sound.{AddressOf, Component, Copied, GivesResult, HandsFine, ImageAddress, IntegersFine, Kinds, Lasting, LinkTo, Marks, OperandsFine, ProcedureIn, ReferenceAddress, Site, TermFine, TermsFine, Value, Waits, class_kinds, component_kind, formal_kinds, given, integers, onto, pushed, see, simple}
+use Rattle.sim_sound.proofs.Heads.{headed_as}
 
 -- the configurations that are fine
 abbrev pub IsFine : Source → World → Configuration → Type 0
@@ -38,7 +40,7 @@ module _ (s : Source) (o : World) (g : Marks) (long : length g.sights ≡ length
   -- the instance goes on
   pub goes_on : (w : List Item) (vals : List Val) (todo : List DeclNo) (ks : List Kinds) → Begun s (see g o) m i t todo → Hands ks vals → Work w todo ks → IsFine s o (record { chain = record { instance = i; work = w; values = vals } ∷ rest; memory = m })
   goes_on w vals todo ks b h work =
-      (g, long, runs b.store (placed_as m i w vals rest top.placed) (record { of_text = t; todo = todo; here = b.here; own = b.own; on = top.on; vals = vals; shown = refl; kinds = ks; hands = h; expected = ks; expects = refl; goes = work }))
+      (g, long, runs b.store (placed_as m i w vals rest top.placed) (headed_as m i w vals rest top.headed) (record { of_text = t; todo = todo; here = b.here; own = b.own; on = top.on; vals = vals; shown = refl; kinds = ks; hands = h; expected = ks; expects = refl; goes = work }))
 
   -- operands one after the other
   integers_more : (n : ℕ) (ks : List Kinds) → integers n (Value (Simply kind.Integer) ∷ ks) ≡ Value (Simply kind.Integer) ∷ integers n ks

@@ -14,7 +14,8 @@ use Rattle.sim_meaning.specs.Texts.{has_class_in, is_class_free, text}
 use Rattle.sim_sound.specs.Held.{ArrayOf, Fits, Holds, Refers, Simply}
 use Rattle.sim_sound.specs.Typed.{Typed}
 use Rattle.sim_sound.proofs.Prefixes.{LevelOf, level_has, level_has_levels, level_is, level_then}
-use Rattle.sim_sound.proofs.Sound.{AllArrays, IsPlain, Knows, NamesObject, ObjectOf, PlainFine, ReferenceFine, StoreFine, ValFine, Whole, own_text, staying}
+use Rattle.sim_sound.proofs.Running.{StoreFine}
+use Rattle.sim_sound.proofs.Sound.{AllArrays, IsPlain, Knows, NamesObject, ObjectOf, PlainFine, ReferenceFine, ValFine, Whole, own_text, staying}
 
 -- ---- levels
 

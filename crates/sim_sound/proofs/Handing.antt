@@ -116,11 +116,11 @@ classes_hand s Known (d ∷ ds) (f ∷ fs) a = (class_hands s Known f.mode f.kin
 
 -- ---- they are handed over, from the instance i to the new one n among the instances then
 
-abbrev pub marks_of : (beneath : List (Option ℕ)) → List Sight → Marks
-marks_of b g = record { sights = g; beneath = b }
+abbrev pub marks_of : Marks → List Sight → Marks
+marks_of b g = record b { sights = g }
 
 -- what is noted of the instances before it is entered, and behind
-module _ (s : Source) (m m' : Instances) (i n : ℕ) (lt : i < n) (noted noted' : List (Option ℕ)) (enter : (g : List Sight) (o : World) → Later s (see (marks_of noted g) o) m (see (marks_of noted' g) o) m' All) where
+module _ (s : Source) (m m' : Instances) (i n : ℕ) (lt : i < n) (noted noted' : Marks) (enter : (g : List Sight) (o : World) → Later s (see (marks_of noted g) o) m (see (marks_of noted' g) o) m' All) where
   abbrev pub Before : List Sight → World → AllArrays
   Before g o = see (marks_of noted g) o
 
@@ -129,13 +129,13 @@ module _ (s : Source) (m m' : Instances) (i n : ℕ) (lt : i < n) (noted noted' 
 
   -- the new instance was entered on top of the other one, and is given back at its end
   abbrev pub Passing : Type 0
-  Passing = (is_given_at_end m' n ≡ true) × (slice_get noted' n ≡ Some (Some i))
+  Passing = (is_given_at_end m' n ≡ true) × (slice_get noted'.beneath n ≡ Some (Some i))
 
   -- what is left after that: the values are those of the new instance, and the copies that have fewer values below them stay
   pub record Handed (o : World) (g : List Sight) (d : ℕ) (o' : World) (Values : AllArrays → Type 0) : Type 0 where
     pub sights : List Sight
     pub long : length sights ≡ length o'.arrays
-    pub later : (b : List (Option ℕ)) (mm : Instances) → Later s (see (marks_of b g) o) mm (see (marks_of b sights) o') mm All
+    pub later : (b : Marks) (mm : Instances) → Later s (see (marks_of b g) o) mm (see (marks_of b sights) o') mm All
     pub copies : (j e : ℕ) (h : Holds) (a : ℕ) → (j ≡ i → e < d) → CopyFine (Before g o) j e h a → CopyFine (Before sights o') j e h a
     pub elements : ElementsFine s (Before g o) m → ElementsFine s (Before sights o') m
     pub values : Values (Behind sights o')
@@ -195,7 +195,7 @@ module _ (s : Source) (m m' : Instances) (i n : ℕ) (lt : i < n) (noted noted' 
     copy_handed h a0 copy r =
         let now = handed_world o (marks_of noted g) m i d h a0 copy n in
         let end = handed_over n ns now in
-        let of : (b : List (Option ℕ)) → CopyFine (see (marks_of b g) o) i d h a0 = λ b. record { it = copy.it; lives = copy.lives; hidden = copy.hidden; owned = copy.owned; count = copy.count } in
+        let of : (b : Marks) → CopyFine (see (marks_of b g) o) i d h a0 = λ b. record { it = copy.it; lives = copy.lives; hidden = copy.hidden; owned = copy.owned; count = copy.count } in
         subst (λ w. Handed o g d (handed_over n ns w) (λ z. (kk : ℕ) → SomeFine s z m' n kk (Some (ArrayOf h)) (ArrayValue a0) × ValsFine s z m' n kk (holds_of s fs) vs)) (sym (handed_is o (marks_of noted g) m i d h a0 copy n)) (record {
           sights = r.sights;
           long = r.long;
@@ -231,7 +231,7 @@ module _ (s : Source) (m m' : Instances) (i n : ℕ) (lt : i < n) (noted noted' 
     kept_handed h a0 kept r =
         let now = given_world o (marks_of noted g) m h a0 kept n in
         let end = handed_over n ns now in
-        let of : (b : List (Option ℕ)) → KeptFine (see (marks_of b g) o) h a0 = λ b. record { it = kept.it; lives = kept.lives; known = kept.known; keeps = kept.keeps; count = kept.count } in
+        let of : (b : Marks) → KeptFine (see (marks_of b g) o) h a0 = λ b. record { it = kept.it; lives = kept.lives; known = kept.known; keeps = kept.keeps; count = kept.count } in
         subst (λ w. Handed o g d (handed_over n ns w) (λ z. (kk : ℕ) → SomeFine s z m' n kk (Some (ArrayOf h)) (ArrayValue a0) × ValsFine s z m' n kk (holds_of s fs) vs)) (sym (given_is o (marks_of noted g) m h a0 kept n)) (record {
           sights = r.sights;
           long = r.long;

@@ -1,4 +1,5 @@
--- Each configuration with a rule is sane: the instance that operates lives with its enclosers, and stands at one place of the chains.
+-- Each configuration with a rule is sane: the instance that operates lives with its enclosers, and stands at one place of the chains; and the
+-- components are well formed.
 use Rattle.std.proofs.Common.{◌≡◌, ◌<◌, ℕ, zero, suc, List, [], ◌∷◌, length, None, arith}
 use Rattle.sim_base.specs.declared.numbering.DeclNo.{DeclNo}
 use Rattle.sim_scope.specs.Source.{Source}
@@ -6,9 +7,11 @@ use Rattle.sim_meaning.specs.Pending.{Activation, Configuration, Instances}
 use Rattle.sim_meaning.specs.Sane.{Lives, Sane, SaneOn, lives_alone, lives_inside}
 use Rattle.sim_sound.proofs.Cells.{fine_at}
 use Rattle.sim_sound.proofs.Chains.{others_kept, others_on}
+use Rattle.sim_sound.proofs.Heads.{well_formed}
 use Rattle.sim_sound.proofs.Later.{live_less}
 use Rattle.sim_sound.proofs.Moves.{operates_first}
-use Rattle.sim_sound.proofs.Sound.{AllArrays, ChainFine, Enclosed, Fine, Placed, Present, StoreFine, Takes, Whole, alone, opens, runs, within}
+use Rattle.sim_sound.proofs.Running.{ChainFine, Fine, Headed, Placed, StoreFine, opens, runs}
+use Rattle.sim_sound.proofs.Sound.{AllArrays, Enclosed, Present, Takes, Whole, alone, within}
 
 -- each encloser is older
 lives_with : (s : Source) (o : AllArrays) (m : Instances) → StoreFine s o m → (n j t : ℕ) (todo : List DeclNo) → j < n → Present s m j t todo → Lives m j
@@ -25,11 +28,11 @@ fine_sane s o c (opens none empty stand unseen unnoted) = by_none c.chain none
     by_none : (chain : List Activation) → chain ≡ [] → SaneOn c.memory chain
     by_none [] e = tt
     by_none (a ∷ rest) e = absurd (cc)
-fine_sane s o c (runs store placed a) = by_chain c.chain placed a
+fine_sane s o c (runs store placed headed a) = by_chain c.chain placed headed a
   where
-    by_chain : (chain : List Activation) → Placed c.memory chain → ChainFine s o c.memory chain (Takes None) → SaneOn c.memory chain
-    by_chain [] placed a = absurd a
-    by_chain (x ∷ rest) placed a =
+    by_chain : (chain : List Activation) → Placed c.memory chain → Headed c.memory chain → ChainFine s o c.memory chain (Takes None) → SaneOn c.memory chain
+    by_chain [] placed headed a = absurd a
+    by_chain (x ∷ rest) placed headed a =
         let before : x.instance < length (c.memory).instances = live_less c.memory x.instance (a.here).now (a.here).lives in
-        let top = operates_first o.beneath c.memory x rest before a.on placed in
-        (lives_with s o c.memory store (length (c.memory).instances) x.instance a.of_text a.todo before a.here, others_on o.beneath c.memory x.instance rest top, others_kept o.beneath c.memory x.instance rest top)
+        let top = operates_first o.beneath c.memory x rest before a.on placed headed in
+        (lives_with s o c.memory store (length (c.memory).instances) x.instance a.of_text a.todo before a.here, others_on o.beneath c.memory x.instance rest top, others_kept o.beneath c.memory x.instance rest top, well_formed s o c.memory (x ∷ rest) store placed headed)

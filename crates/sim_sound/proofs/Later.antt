@@ -15,7 +15,8 @@ use Rattle.sim_meaning.specs.Texts.{text}
 use Rattle.sim_sound.specs.Held.{ArrayOf, Holds, Refers, Simply, key_holds}
 use Rattle.sim_sound.proofs.Lists.{there_is}
 use Rattle.sim_sound.proofs.Prefixes.{LevelOf}
-use Rattle.sim_sound.proofs.Sound.{AddressOf, AllArrays, ArrayFine, Beneath, CellFine, CellIs, CellTarget, CellsFine, ChainOn, Component, Copied, CopyFine, DeepFine, ElementFine, Enclosed, HandFine, HandsFine, ImageAddress, InstanceFine, IntegersFine, KeptFine, KeyAmong, Kinds, Knows, Lasting, LevelsFine, LinkTo, NamesObject, Near, NoObjectStands, ObjectOf, ObjectStands, OpFine, OperandsFine, Outward, PlainFine, Present, ReferenceAddress, ReferenceFine, Site, Sited, StandsFine, StandsFor, StandsOn, Stays, StoreOpFine, Takes, TargetFine, TargetsFine, TermFine, TermsFine, ValFine, Value, VariableFine, Waits, WorkFine, alone, array_stored, at_itself, connected, first_of, in_connection, in_instance, key_of, near_below, near_staying, no_further, one_lower, one_out, outward, own_made, own_text, staying, value_stored, within}
+use Rattle.sim_sound.proofs.Running.{ActFine, ChainFine, ChainOn, Expected, IsRelease, NoObjectStands, ObjectStands, Shown, StandsFine, StandsOn, WorkFine, awaited, first_over, is_resumed, resumes}
+use Rattle.sim_sound.proofs.Sound.{AddressOf, AllArrays, ArrayFine, Beneath, CellFine, CellIs, CellTarget, CellsFine, Component, Copied, CopyFine, DeepFine, ElementFine, Enclosed, Generated, HandFine, HandsFine, ImageAddress, InstanceFine, IntegersFine, KeptFine, KeyAmong, Kinds, Knows, Lasting, LevelsFine, LinkTo, NamesObject, Near, ObjectOf, OpFine, OperandsFine, Outward, PlainFine, Present, ReferenceAddress, ReferenceFine, Site, Sited, StandsFor, Stays, StoreOpFine, Suspended, Takes, TargetFine, TargetsFine, TermFine, TermsFine, ValFine, Value, VariableFine, Waits, alone, array_stored, at_itself, connected, in_connection, in_instance, key_of, near_below, near_staying, no_further, one_lower, one_out, outward, own_made, own_text, staying, value_stored, within}
 
 -- an instance that is as it was, but for values of cells, and cells of connections that are new
 pub record Grown (x y : Instance (List Held)) : Type 0 where
@@ -51,6 +52,15 @@ pub record Later (s : Source) (o : AllArrays) (m : Instances) (o' : AllArrays) (
 -- the copies in hand of an instance that have fewer values below them than d
 abbrev pub Copies : AllArrays → AllArrays → (j d : ℕ) → Type 0
 Copies o o' j d = (e : ℕ) (h : Holds) (a : ℕ) → e < d → CopyFine o j e h a → CopyFine o' j e h a
+
+-- it waits for the same as a system head, and is a resumed object if it was one
+abbrev pub Steady : AllArrays → Instances → AllArrays → Instances → ℕ → Type 0
+Steady o m o' m' j = (o'.waiting j ≡ o.waiting j) × (resumes m' j ≡ resumes m j)
+
+pub awaited_same : (f g : ℕ → Waits) (j : ℕ) (v : Waits) → g j ≡ f j → awaited g j v ≡ awaited f j v
+awaited_same f g j (Takes x) e = refl
+awaited_same f g j (Generated i u) e = refl
+awaited_same f g j Suspended e = e
 
 -- ---- instances
 
@@ -353,60 +363,90 @@ module _ (s : Source) (o : AllArrays) (m : Instances) (o' : AllArrays) (m' : Ins
     op_later (PrefixedOp k n line) todo todo' before behind a = let p = a.2 in (a.0, a.1, record { around = p.around; site = site_later p.around p.site; stands_in = p.stands_in; has = p.has; «in» = p.«in»; count = p.count })
     op_later _ todo todo' before behind a = a
 
-    pub work_later : (Outermost : Type 0) (Below Below' : Waits → Type 0) → ((v : Waits) → Below v → Below' v) → (w : List Item) (todo : List DeclNo) (before : List Kinds) → WorkFine s o m Below Outermost j t w todo before → WorkFine s o' m' Below' Outermost j t w todo before
-    work_later Outermost Below Below' f [] todo before a = a
-    work_later Outermost Below Below' f (Do op ∷ w) todo before a = (a.0, a.1, op_later op todo a.0 before a.1 a.2, work_later Outermost Below Below' f w a.0 a.1 a.3)
-    work_later Outermost Below Below' f (EndBlock ∷ w) todo before a = (e.nobody j a.0, f _ a.1)
-    work_later Outermost Below Below' f (EndProcedure leaves ∷ w) todo before a = (a.0, a.1, a.2, a.3, a.4, a.5, a.6, e.nobody j a.7, f _ a.8)
-    work_later Outermost Below Below' f (EndLevel k ∷ w) todo before a = work_later Outermost Below Below' f w todo before a
-    work_later Outermost Below Below' f (EndObject ∷ w) todo before a = (a.0, a.1, a.2, e.objects j a.3, a.4, a.5, f a.4 a.6)
-    work_later Outermost Below Below' f (EndPrefixed ∷ w) todo before a = (e.nobody j a.0, f _ a.1)
-    work_later Outermost Below Below' f (EndProgram ∷ w) todo before a = (e.nobody j a.0, a.1)
+    pub work_later : resumes m' j ≡ resumes m j → (Outermost Outermost' : Type 0) → (Outermost → Outermost') → (Below Below' : Waits → Type 0) → ((v : Waits) → Below v → Below' v) → (w : List Item) (todo : List DeclNo) (before : List Kinds) → WorkFine s o m Below Outermost j t w todo before → WorkFine s o' m' Below' Outermost' j t w todo before
+    work_later same Outermost Outermost' h Below Below' f [] todo before a = a
+    work_later same Outermost Outermost' h Below Below' f (Do op ∷ w) todo before a = (a.0, a.1, op_later op todo a.0 before a.1 a.2, work_later same Outermost Outermost' h Below Below' f w a.0 a.1 a.3)
+    work_later same Outermost Outermost' h Below Below' f (EndBlock ∷ w) todo before a = (e.nobody j a.0, f _ a.1)
+    work_later same Outermost Outermost' h Below Below' f (EndProcedure leaves ∷ w) todo before a = (a.0, a.1, a.2, a.3, a.4, a.5, a.6, e.nobody j a.7, f _ a.8)
+    work_later same Outermost Outermost' h Below Below' f (EndLevel k ∷ w) todo before a = work_later same Outermost Outermost' h Below Below' f w todo before a
+    work_later same Outermost Outermost' h Below Below' f (EndObject ∷ w) todo before a = (a.0, a.1, a.2, e.objects j a.3, a.4, subst (λ b. IsRelease b j t a.4) (sym same) a.5, f a.4 a.6)
+    work_later same Outermost Outermost' h Below Below' f (EndPrefixed ∷ w) todo before a = (e.nobody j a.0, f _ a.1)
+    work_later same Outermost Outermost' h Below Below' f (EndProgram ∷ w) todo before a = (e.nobody j a.0, h a.1)
+
+-- an activation, which waits for the same, on what is below it then
+module _ (s : Source) (o : AllArrays) (m : Instances) (o' : AllArrays) (m' : Instances) (Apart : ℕ → Type 0) (e : Later s o m o' m' Apart) where
+  pub act_later : (a : Activation) → Apart a.instance → resumes m' a.instance ≡ resumes m a.instance → ((d : ℕ) → Copies o o' a.instance d) → (v v' : Waits) → v ≡ v' → (under under' : Option ℕ) → under ≡ under' → (Outermost Outermost' : Type 0) → (Outermost → Outermost') → (Below Below' : Waits → Type 0) → ((v : Waits) → Below v → Below' v) → ActFine s o m a under v Below Outermost → ActFine s o' m' a under' v' Below' Outermost'
+  unfolding present_later
+  act_later a ok steady copies v v' same under under' on Outermost Outermost' h Below Below' f c =
+      let y = e.there a.instance (c.here).now ok (c.here).lives in
+      record {
+        of_text = c.of_text;
+        todo = c.todo;
+        here = present_later s o m o' m' Apart e a.instance c.of_text c.todo ok c.here;
+        own = (y.grown).text ∙ c.own;
+        on = subst (StandsOn o'.beneath m' a.instance) on (stands_on_later s o m o' m' Apart e a.instance (c.here).now under ok (c.here).lives c.on);
+        vals = c.vals;
+        shown = subst (λ z. Shown z a.values c.vals) same c.shown;
+        kinds = c.kinds;
+        hands = hands_later s o m o' m' Apart e a.instance ok c.kinds c.vals (copies (length c.vals)) c.hands;
+        expected = c.expected;
+        expects = subst (λ z. Expected s z c.kinds c.expected) same c.expects;
+        goes = work_later s o m o' m' Apart e a.instance c.of_text ok steady Outermost Outermost' h Below Below' f a.work c.todo c.expected c.goes;
+      }
 
 -- the instances on a chain are others than the one that is given back, and keep the copies that they have in hand
-pub chain_later : (s : Source) (o : AllArrays) (m : Instances) (o' : AllArrays) (m' : Instances) (Apart : ℕ → Type 0) → Later s o m o' m' Apart → (Keeps : ℕ → Type 0) → ((j d : ℕ) → Keeps j → Copies o o' j d) → (Ground : Waits → Type 0) (Outermost : List Activation → Type 0) (chain : List Activation) → AllOf Apart chain → AllOf Keeps chain → (v : Waits) → ChainOn s o m Ground Outermost chain v → ChainOn s o' m' Ground Outermost chain v
-unfolding present_later
-chain_later s o m o' m' Apart e Keeps all Ground Outermost [] apart keeps v c = c
-chain_later s o m o' m' Apart e Keeps all Ground Outermost (a ∷ rest) apart keeps v c =
-    let y = e.there a.instance (c.here).now apart.0 (c.here).lives in
-    record {
-      of_text = c.of_text;
-      todo = c.todo;
-      here = present_later s o m o' m' Apart e a.instance c.of_text c.todo apart.0 c.here;
-      own = (y.grown).text ∙ c.own;
-      on = stands_on_later s o m o' m' Apart e a.instance (c.here).now (first_of rest) apart.0 (c.here).lives c.on;
-      vals = c.vals;
-      shown = c.shown;
-      kinds = c.kinds;
-      hands = hands_later s o m o' m' Apart e a.instance apart.0 c.kinds c.vals (all a.instance (length c.vals) keeps.0) c.hands;
-      expected = c.expected;
-      expects = c.expects;
-      goes = work_later s o m o' m' Apart e a.instance c.of_text apart.0 (Outermost rest) (λ w. ChainOn s o m Ground Outermost rest w) (λ w. ChainOn s o' m' Ground Outermost rest w) (λ w b. chain_later s o m o' m' Apart e Keeps all Ground Outermost rest apart.1 keeps.1 w b) a.work c.todo c.expected c.goes;
-    }
+pub chain_later : (s : Source) (o : AllArrays) (m : Instances) (o' : AllArrays) (m' : Instances) (Apart : ℕ → Type 0) → Later s o m o' m' Apart → (Keeps : ℕ → Type 0) → ((j d : ℕ) → Keeps j → Copies o o' j d) → ((j : ℕ) → Keeps j → Steady o m o' m' j) → (floor : Option ℕ) (Ground Ground' : Waits → Type 0) → ((v : Waits) → Ground v → Ground' v) → (Outermost : List Activation → Type 0) (chain : List Activation) → AllOf Apart chain → AllOf Keeps chain → (v : Waits) → ChainOn s o m floor Ground Outermost chain v → ChainOn s o' m' floor Ground' Outermost chain v
+chain_later s o m o' m' Apart e Keeps all steady floor Ground Ground' grounds Outermost [] apart keeps v c = grounds v c
+chain_later s o m o' m' Apart e Keeps all steady floor Ground Ground' grounds Outermost (a ∷ rest) apart keeps v c =
+    let z = steady a.instance keeps.0 in
+    act_later s o m o' m' Apart e a apart.0 z.1 (λ d. all a.instance d keeps.0) (awaited o.waiting a.instance v) (awaited o'.waiting a.instance v) (sym (awaited_same o.waiting o'.waiting a.instance v z.0)) (first_over floor rest) (first_over floor rest) refl (Outermost rest) (Outermost rest) (λ q. q) (λ w. ChainOn s o m floor Ground Outermost rest w) (λ w. ChainOn s o' m' floor Ground' Outermost rest w)
+    (λ w b. chain_later s o m o' m' Apart e Keeps all steady floor Ground Ground' grounds Outermost rest apart.1 keeps.1 w b) c
+
+-- the operating chain
+pub fine_later : (s : Source) (o : AllArrays) (m : Instances) (o' : AllArrays) (m' : Instances) (Apart : ℕ → Type 0) → Later s o m o' m' Apart → (Keeps : ℕ → Type 0) → ((j d : ℕ) → Keeps j → Copies o o' j d) → ((j : ℕ) → Keeps j → Steady o m o' m' j) → (chain : List Activation) → AllOf Apart chain → AllOf Keeps chain → (v : Waits) → ChainFine s o m chain v → ChainFine s o' m' chain v
+fine_later s o m o' m' Apart e Keeps all steady chain apart keeps v c = chain_later s o m o' m' Apart e Keeps all steady None (λ v. ⊥) (λ v. ⊥) (λ v a. a) (λ rest. rest ≡ []) chain apart keeps v c
 
 -- how each instance stands
 abbrev pub AllStand : Source → AllArrays → Instances → Type 0
 AllStand s o m = (j : ℕ) (x : Standing Activation) → slice_get m.standings j ≡ Some x → StandsFine s o m j x
 
-module _ (s : Source) (o : AllArrays) (m : Instances) (o' : AllArrays) (m' : Instances) (Apart : ℕ → Type 0) (e : Later s o m o' m' Apart) (Keeps : ℕ → Type 0) (all : (j d : ℕ) → Keeps j → Copies o o' j d) where
-  pub standing_later : (j : ℕ) (x : Standing Activation) → OnKept Apart x → OnKept Keeps x → StandsFine s o m j x → StandsFine s o' m' j x
-  standing_later j (NoObject None) apart keeps a = tt
-  standing_later j (NoObject (Some chain)) apart keeps a = absurd a
-  standing_later j AttachedObject apart keeps a = tt
-  standing_later j (DetachedObject chain) apart keeps a = record {
+module _ (s : Source) (o : AllArrays) (m : Instances) (o' : AllArrays) (m' : Instances) (Apart : ℕ → Type 0) (e : Later s o m o' m' Apart) (Keeps : ℕ → Type 0) (all : (j d : ℕ) → Keeps j → Copies o o' j d) (steady : (j : ℕ) → Keeps j → Steady o m o' m' j) where
+  -- what a system head waits for is noted as before
+  pub standing_later : (j : ℕ) (x : Standing Activation) → o'.waiting j ≡ o.waiting j → OnKept Apart x → OnKept Keeps x → StandsFine s o m j x → StandsFine s o' m' j x
+  standing_later j (NoObject None) same apart keeps a = tt
+  standing_later j (NoObject (Some chain)) same apart keeps a =
+      chain_later s o m o' m' Apart e Keeps all steady (Some j) (λ v. awaited o.waiting j v ≡ o.waiting j) (λ v. awaited o'.waiting j v ≡ o'.waiting j) (λ v is. awaited_same o.waiting o'.waiting j v same ∙ is ∙ sym same) (λ rest. ⊥) chain apart keeps (Takes None) a
+  standing_later j AttachedObject same apart keeps a = tt
+  standing_later j (DetachedObject chain) same apart keeps a = record {
     stays = stays_later s o m o' m' Apart e j a.stays;
     last = a.last;
-    fine = chain_later s o m o' m' Apart e Keeps all (λ v. v ≡ Takes None) (λ rest. ⊥) chain apart keeps (Takes None) a.fine;
+    fine = chain_later s o m o' m' Apart e Keeps all steady None (λ v. v ≡ Takes None) (λ v. v ≡ Takes None) (λ v is. is) (λ rest. ⊥) chain apart keeps (Takes None) a.fine;
   }
-  standing_later j ResumedObject apart keeps a = absurd a
-  standing_later j TerminatedObject apart keeps a = tt
+  standing_later j ResumedObject same apart keeps a = stays_later s o m o' m' Apart e j a
+  standing_later j TerminatedObject same apart keeps a = tt
 
-  pub kept_later : m'.standings ≡ m.standings → AllKept Apart m → AllKept Keeps m → AllStand s o m → AllStand s o' m'
-  kept_later same apart keeps f j x is =
+  pub kept_later : m'.standings ≡ m.standings → o'.waiting ≡ o.waiting → AllKept Apart m → AllKept Keeps m → AllStand s o m → AllStand s o' m'
+  kept_later same waits apart keeps f j x is =
       let was : slice_get m.standings j ≡ Some x = ap (λ z. slice_get z j) (sym same) ∙ is in
-      standing_later j x (apart j x was) (keeps j x was) (f j x was)
+      standing_later j x (ap (λ z. z j) waits) (apart j x was) (keeps j x was) (f j x was)
 
 -- ---- a step that gives nothing back
+
+pub all_of : (P : ℕ → Type 0) → ((j : ℕ) → P j) → (chain : List Activation) → AllOf P chain
+all_of P f [] = tt
+all_of P f (a ∷ rest) = (f a.instance, all_of P f rest)
+
+pub all_map : (P Q : ℕ → Type 0) → ((j : ℕ) → P j → Q j) → (chain : List Activation) → AllOf P chain → AllOf Q chain
+all_map P Q f [] a = tt
+all_map P Q f (x ∷ rest) a = (f x.instance a.0, all_map P Q f rest a.1)
+
+pub kept_map : (P Q : ℕ → Type 0) → ((j : ℕ) → P j → Q j) → (x : Standing Activation) → OnKept P x → OnKept Q x
+kept_map P Q f (NoObject None) a = tt
+kept_map P Q f (NoObject (Some chain)) a = all_map P Q f chain a
+kept_map P Q f AttachedObject a = tt
+kept_map P Q f (DetachedObject chain) a = all_map P Q f chain a
+kept_map P Q f ResumedObject a = tt
+kept_map P Q f TerminatedObject a = tt
 
 -- all instances are apart from none
 abbrev pub All : ℕ → Type 0
@@ -424,9 +464,13 @@ standing_apart (DetachedObject chain) = all_apart chain
 standing_apart ResumedObject = tt
 standing_apart TerminatedObject = tt
 
+-- where all stands as it did
+pub steady_same : (o : AllArrays) (m : Instances) (o' : AllArrays) (m' : Instances) → m'.standings ≡ m.standings → o'.waiting ≡ o.waiting → (j : ℕ) → Steady o m o' m' j
+steady_same o m o' m' same waits j = (ap (λ z. z j) waits, ap (λ z. is_resumed (slice_get z j)) same)
+
 -- where no copy in hand is changed
-pub kept_all : (s : Source) (o : AllArrays) (m : Instances) (o' : AllArrays) (m' : Instances) → Later s o m o' m' All → m'.standings ≡ m.standings → ((j d : ℕ) → Copies o o' j d) → AllStand s o m → AllStand s o' m'
-kept_all s o m o' m' e same copies f = kept_later s o m o' m' All e All (λ j d k. copies j d) same (λ j x is. standing_apart x) (λ j x is. standing_apart x) f
+pub kept_all : (s : Source) (o : AllArrays) (m : Instances) (o' : AllArrays) (m' : Instances) → Later s o m o' m' All → m'.standings ≡ m.standings → o'.waiting ≡ o.waiting → ((j d : ℕ) → Copies o o' j d) → AllStand s o m → AllStand s o' m'
+kept_all s o m o' m' e same waits copies f = kept_later s o m o' m' All e All (λ j d k. copies j d) (λ j k. steady_same o m o' m' same waits j) same waits (λ j x is. standing_apart x) (λ j x is. standing_apart x) f
 
 -- one after the other
 pub later_then : (s : Source) (o : AllArrays) (m : Instances) (o' : AllArrays) (m' : Instances) (o'' : AllArrays) (m'' : Instances) → Later s o m o' m' All → Later s o' m' o'' m'' All → Later s o m o'' m'' All

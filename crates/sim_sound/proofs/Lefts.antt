@@ -35,7 +35,8 @@ use Rattle.sim_sound.specs.Typed.{ResultWritten, Typed}
 use Rattle.sim_sound.proofs.Attributes.{held_plain, holds_result, left_known, left_variable_is, no_left_variable}
 use Rattle.sim_sound.proofs.Closing.{attribute_lies, expr_fine, integers_fine, lies_at, target_of, value_no_stream}
 use Rattle.sim_sound.proofs.Reach.{Reaches, ReachesText, key_of_result, reaches_in, text_in}
-use Rattle.sim_sound.proofs.Sound.{AddressOf, AllArrays, CellTarget, Component, Copied, held_kinds, in_instance as at_cell, IntegersFine, IsPlain, KeyAmong, keys_in, Kinds, Lasting, ReferenceAddress, simple, StoreFine, TermFine, Value, Whole}
+use Rattle.sim_sound.proofs.Running.{StoreFine}
+use Rattle.sim_sound.proofs.Sound.{AddressOf, AllArrays, CellTarget, Component, Copied, held_kinds, in_instance as at_cell, IntegersFine, IsPlain, KeyAmong, keys_in, Kinds, Lasting, ReferenceAddress, simple, TermFine, Value, Whole}
 
 -- ---- places are no choices
 

@@ -2,6 +2,7 @@ pub mod Prefixes
 pub mod Unprefixed
 pub mod Acyclic
 pub mod Sound
+pub mod Running
 pub mod Later
 pub mod Lists
 pub mod Changes
@@ -33,7 +34,9 @@ pub mod ArrayWork
 pub mod Entering
 pub mod ClassLevels
 pub mod Objects
+pub mod Heads
 pub mod Chains
+pub mod Standings
 pub mod Keeping
 pub mod Naming
 pub mod Main

@@ -23,7 +23,8 @@ use Rattle.sim_sound.proofs.Moves.{operates_first}
 use Rattle.sim_sound.proofs.Naming.{fine_names}
 use Rattle.sim_sound.proofs.Objects.{declare_goes, inner_goes, level_goes, new_goes, prefixed_goes}
 use Rattle.sim_sound.proofs.Operators.{again_op, array_op, attribute_op, copy_op, drop_op, element_op, eval_op, fetch_op, fits_op, give_op, if_op, join_op, keep_op, member_op, not_none_op, object_op, one_op, past_op, qua_op, qualified_element_op, refer_op, share_op, standard_op, step_op, store_op, swap_op, two_op}
-use Rattle.sim_sound.proofs.Sound.{Begun, ChainFine, Fine, HandsFine, Kinds, Marks, OpFine, Operates, Placed, StoreFine, Takes, Value, WorkFine, opens, runs, see}
+use Rattle.sim_sound.proofs.Running.{Begun, ChainFine, Fine, Headed, Operates, Placed, StoreFine, WorkFine, opens, runs}
+use Rattle.sim_sound.proofs.Sound.{HandsFine, Kinds, Marks, OpFine, Takes, Value, see}
 use Rattle.sim_sound.proofs.Transfers.{transfer_op}
 use Rattle.sim_sound.proofs.Statements.{branch_goes, choose_goes, elements_goes, exec_goes, execs_goes, raise_goes, step_goes, test_goes, while_goes}
 
@@ -142,28 +143,28 @@ module _ (s : Source) (ok : Typed s) (l : Limits) (o : World) (g : Marks) (long 
 
     item_goes : (x : Item) (todo : List DeclNo) (ks : List Kinds) → Bg todo → Hd ks → Wk (x ∷ w) todo ks → Goes (IsFine s) (do_item s l o m i w vals rest x)
     item_goes (Do op) todo ks b h a = op_goes op todo a.0 ks a.1 a.2 b h a.3
-    item_goes EndBlock todo ks b h a = leaves s ok l o g long m i t todo b b.own rest top None None tt a.1
-    item_goes (EndProcedure leaves') todo ks b h a = procedure_ends s ok l o g long m i t todo b b.own leaves' w vals rest top a.0 a.1 a.2 a.3 a.4 a.5 a.6 a.8
+    item_goes EndBlock todo ks b h a = leaves s ok l o g long m i t todo b b.own rest top a.0 None None tt a.1
+    item_goes (EndProcedure leaves') todo ks b h a = procedure_ends s ok l o g long m i t todo b b.own leaves' w vals rest top a.0 a.1 a.2 a.3 a.4 a.5 a.6 a.7 a.8
     item_goes (EndLevel k) todo ks b h a = goes_on s o g long m i t rest top w vals todo ks b h a
     item_goes EndObject todo ks b h a = object_ends s ok l o g long m i t todo b b.own w vals rest top a.0 a.1 a.2 a.3 a.4 a.5 a.6
-    item_goes EndPrefixed todo ks b h a = leaves s ok l o g long m i t todo b b.own rest top None None tt a.1
+    item_goes EndPrefixed todo ks b h a = leaves s ok l o g long m i t todo b b.own rest top a.0 None None tt a.1
     item_goes EndProgram todo ks b h a = stops (IsFine s) Normal o (λ e. cc)
 
   work_goes : (m : Instances) (i t : ℕ) (rest : List Activation) (top : Operates g.beneath m i rest) (vals : List Val) (work : List Item) (todo : List DeclNo) (ks : List Kinds) → Begun s (see g o) m i t todo → HandsFine s (see g o) m i ks vals → Work s o g long m i t rest top work todo ks → Goes (IsFine s) (do_work s l o m i vals rest work)
   work_goes m i t rest top vals [] todo ks b h a = absurd a
   work_goes m i t rest top vals (x ∷ w) todo ks b h a = item_goes m i t rest top w vals x todo ks b h a
 
-  chain_goes : (m : Instances) (chain : List Activation) → StoreFine s (see g o) m → Placed m chain → ChainFine s (see g o) m chain (Takes None) → Goes (IsFine s) (do_chain s l o m chain)
-  chain_goes m [] store placed c = absurd c
-  chain_goes m (a ∷ rest) store placed c =
+  chain_goes : (m : Instances) (chain : List Activation) → StoreFine s (see g o) m → Placed m chain → Headed m chain → ChainFine s (see g o) m chain (Takes None) → Goes (IsFine s) (do_chain s l o m chain)
+  chain_goes m [] store placed headed c = absurd c
+  chain_goes m (a ∷ rest) store placed headed c =
       let before = live_less m a.instance (c.here).now (c.here).lives in
-      work_goes m a.instance c.of_text rest (operates_first g.beneath m a rest before c.on placed) a.values a.work c.todo c.kinds (record { store = store; here = c.here; own = c.own }) (subst (λ z. HandsFine s (see g o) m a.instance c.kinds z) (sym c.shown) c.hands)
+      work_goes m a.instance c.of_text rest (operates_first g.beneath m a rest before c.on placed headed) a.values a.work c.todo c.kinds (record { store = store; here = c.here; own = c.own }) (subst (λ z. HandsFine s (see g o) m a.instance c.kinds z) (sym c.shown) c.hands)
       (subst (λ z. WorkFine s (see g o) m (λ v. ChainFine s (see g o) m rest v) (rest ≡ []) a.instance c.of_text a.work c.todo z) (sym c.expects) c.goes)
 
   -- a step from where there is a rule leads to where there is one, or to an end
   pub fine_step : (c : Configuration) → Fine s (see g o) c → Goes (IsFine s) (step s l o c)
   fine_step c (opens none empty stand unseen unnoted) = subst (λ z. Goes (IsFine s) (do_chain s l o c.memory z)) (sym none) (first_goes s ok l o g long c.memory empty stand unseen unnoted)
-  fine_step c (runs store placed f) = chain_goes c.memory c.chain store placed f
+  fine_step c (runs store placed headed f) = chain_goes c.memory c.chain store placed headed f
 
 next_goes : (s : Source) → Typed s → (l : Limits) (r : Run Configuration) → Goes (IsFine s) r → Goes (IsFine s) (next (step s l) r)
 next_goes s ok l (Going o c) f = fine_step s ok l o f.0 f.1 c f.2
@@ -178,7 +179,7 @@ pub no_end : (s : Source) (r : Run Configuration) (o : World) (e : Ending) → r
 no_end s r o e is f = subst (Goes (IsFine s)) is f
 
 opened : (s : Source) → Typed s → (l : Limits) (input : List ℕ) (n : ℕ) → Goes (IsFine s) (run s l input n)
-opened s ok l input n = after_goes s ok l n (opening s l input) (record { sights = []; beneath = [] }, refl, opens refl refl refl refl refl)
+opened s ok l input n = after_goes s ok l n (opening s l input) (record { sights = []; beneath = []; waiting = λ j. Takes None }, refl, opens refl refl refl refl refl)
 
 -- a typed program never comes to where there is no rule
 pub never_no_rule : (s : Source) → Typed s → (l : Limits) (input : List ℕ) (n : ℕ) (o : World) → run s l input n ≡ Ended o NoRule → ⊥

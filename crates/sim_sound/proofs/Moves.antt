@@ -1,24 +1,26 @@
 -- Cells that are set, instances that are entered and given back: what is fine stays so, and the store is fine again.
 use Rattle.std.proofs.Common.{◌≡◌, ◌≢◌, ◌<◌, ◌≤◌, ◌+◌, ℕ, zero, suc, Bool, true, false, List, [], ◌∷◌, ◌++◌, length, map, Option, Some, None, ◌⊎◌, inl, inr, ⊎_elim, refl, sym, ap, ◌∙◌, subst, arith}
 use Rattle.std.proofs.lemmas.Bool.{cases_eq}
-use Rattle.std.specs.Prelude.{◌==◌, ◌&&◌, not, if◌then◌else◌, slice_get, slice_set}
-use Rattle.sim_chains.specs.Chains.{once_if, times_on}
-use Rattle.sim_chains.specs.Components.{AttachedObject, DetachedObject, NoObject, ResumedObject, Standing, TerminatedObject}
-use Rattle.sim_chains.specs.WellFormed.{chain_in, over_kept}
+use Rattle.std.specs.Prelude.{◌==◌, ◌&&◌, not, if◌then◌else◌, slice_get, slice_index_or, slice_set}
+use Rattle.sim_chains.specs.Chains.{once_if, times_above, times_on}
+use Rattle.sim_chains.specs.Components.{AttachedObject, DetachedObject, NoObject, ResumedObject, Standing, TerminatedObject, standing_of}
+use Rattle.sim_chains.specs.WellFormed.{chain_in, is_object, over_kept, times_above_in}
 use Rattle.sim_scope.specs.Source.{Source}
 use Rattle.sim_code.specs.Outcome.{ArrayOf as OneArray, World}
 use Rattle.sim_code.specs.Arrays.{given_with, giving_back, goes_with, unless_given}
-use Rattle.sim_code.specs.Instances.{Instance, ends_in, entered, given, given_in, is_given_at_end, live, with_instance}
+use Rattle.sim_code.specs.Instances.{Instance, encloser_in, encloser_of, ends_in, entered, given, given_in, is_given_at_end, live, system_head, with_instance}
 use Rattle.sim_code.specs.Instances as instances
 use Rattle.sim_meaning.specs.Pending.{Activation, Held, Instances, Item, Key, Val, held, held_set, owner}
 use Rattle.sim_meaning.specs.Meaning.{instances_left, text_of, words_of_text, world_left}
 use Rattle.sim_meaning.specs.Sane.{AllKept, Other}
 use Rattle.sim_meaning.specs.Texts.{text}
 use Rattle.sim_sound.specs.Held.{Holds, key_holds}
-use Rattle.sim_sound.proofs.Chains.{elsewhere_none, free, here_once, is_attached, others_kept}
-use Rattle.sim_sound.proofs.Sound.{AllArrays, ArrayFine, Beneath, CellsFine, ChainFine, Enclosed, InstanceFine, KeyAmong, Knows, Marks, Near, NoObjectStands, ObjectStands, Operates, Outward, Placed, Sight, StandsFine, StandsOn, Stays, StoreFine, ValFine, Waits, alone, at_itself, elements_of, first_of, key_of, near_below, near_staying, no_further, one_lower, one_out, outward, places, see, staying, within}
+use Rattle.sim_sound.proofs.Chains.{elsewhere_none, free, here_once, others_kept}
+use Rattle.sim_sound.proofs.Heads.{given_encloser, headed_first, headed_left, headed_on, heads_kept, heads_same, le_same, more_at, more_first, more_new, more_old, stands_as}
+use Rattle.sim_sound.proofs.Running.{ChainFine, Headed, NoObjectStands, ObjectStands, Operates, Placed, StandsFine, StandsOn, StoreFine, first_of, is_resumed, parts, places}
+use Rattle.sim_sound.proofs.Sound.{AllArrays, ArrayFine, Beneath, CellsFine, Enclosed, InstanceFine, KeyAmong, Knows, Marks, Near, Outward, Sight, Stays, ValFine, Waits, alone, at_itself, elements_of, key_of, near_below, near_staying, no_further, one_lower, one_out, outward, see, staying, within}
 use Rattle.sim_sound.proofs.Changes.{array_there, cells_set, held_stays, keys_set}
-use Rattle.sim_sound.proofs.Later.{All, Copies, Grown, Later, StillThere, as_it_was, cells_later, enclosed_later, flags_grown, instance_later, kept_all, kept_later, live_less, near_later, plain_later, standing_apart, standing_later}
+use Rattle.sim_sound.proofs.Later.{All, Copies, Grown, Later, Steady, StillThere, as_it_was, cells_later, enclosed_later, flags_grown, instance_later, kept_all, kept_later, live_less, near_later, plain_later, standing_apart, standing_later, steady_same}
 use Rattle.sim_sound.proofs.Lists.{append_at, append_before, if_false, no_some, other_numbers, same_some, set_len, set_other, set_same, there_is}
 
 pub one_longer : {A : Type 0} (xs : List A) (x : A) → length (xs ++ x ∷ []) ≡ suc (length xs)
@@ -114,10 +116,11 @@ knows_staying s o m store j e a k = near_stays o m j e a (knows_near s o m store
 pub record SameOnes (m n : Instances) : Type 0 where
   pub count : length n.instances ≡ length m.instances
   pub ended : (j : ℕ) → is_given_at_end n j ≡ true → is_given_at_end m j ≡ true
+  pub enclosers : (j : ℕ) → encloser_of n j ≡ encloser_of m j
   pub standings : n.standings ≡ m.standings
 
 pub same_ones : (m : Instances) → SameOnes m m
-same_ones m = record { count = refl; ended = λ j e. e; standings = refl }
+same_ones m = record { count = refl; ended = λ j e. e; enclosers = λ j. refl; standings = refl }
 
 pub placed_on : (m n : Instances) (chain : List Activation) → SameOnes m n → Placed m chain → Placed n chain
 placed_on m n chain same a =
@@ -130,16 +133,20 @@ placed_on m n chain same a =
       as_many = ap length same.standings ∙ a.as_many ∙ sym same.count;
     }
 
+pub headed_same : (m n : Instances) (chain : List Activation) → SameOnes m n → Headed m chain → Headed n chain
+headed_same m n chain same h =
+    headed_on m n chain chain same.standings (λ x e. heads_kept m n same.enclosers (λ j. ap (λ z. is_object (slice_index_or z j (NoObject None))) same.standings) x) (λ x y e. le_same (times_above owner x y chain)) h
+
 -- where it stands does not hang on its work and its values in hand
 pub placed_as : (m : Instances) (i : ℕ) (w : List Item) (vals : List Val) (rest : List Activation) → Placed m (record { instance = i; work = []; values = [] } ∷ rest) → Placed m (record { instance = i; work = w; values = vals } ∷ rest)
 placed_as m i w vals rest a = record { once = a.once; made = a.made; ended = a.ended; all = a.all; as_many = a.as_many }
 
 -- what is on top operates
-pub operates_first : (b : List (Option ℕ)) (m : Instances) (a : Activation) (rest : List Activation) → a.instance < length m.instances → StandsOn b m a.instance (first_of rest) → Placed m (a ∷ rest) → Operates b m a.instance rest
-operates_first b m a rest before on p = record { before = before; on = on; placed = record { once = p.once; made = p.made; ended = p.ended; all = p.all; as_many = p.as_many } }
+pub operates_first : (b : List (Option ℕ)) (m : Instances) (a : Activation) (rest : List Activation) → a.instance < length m.instances → StandsOn b m a.instance (first_of rest) → Placed m (a ∷ rest) → Headed m (a ∷ rest) → Operates b m a.instance rest
+operates_first b m a rest before on p h = record { before = before; on = on; placed = record { once = p.once; made = p.made; ended = p.ended; all = p.all; as_many = p.as_many }; headed = headed_first m a rest h }
 
 pub operates_on : (b : List (Option ℕ)) (m n : Instances) (i : ℕ) (rest : List Activation) → SameOnes m n → Operates b m i rest → Operates b n i rest
-operates_on b m n i rest same top = record { before = subst (λ z. i < z) (sym same.count) top.before; on = λ ends. top.on (same.ended i ends); placed = placed_on m n _ same top.placed }
+operates_on b m n i rest same top = record { before = subst (λ z. i < z) (sym same.count) top.before; on = λ ends. top.on (same.ended i ends); placed = placed_on m n _ same top.placed; headed = headed_same m n _ same top.headed }
 
 -- ---- instances alone
 
@@ -240,7 +247,7 @@ module _ (s : Source) (o : AllArrays) (m : Instances) (e : ℕ) (y : Instance (L
   store_cells fine store = record {
     instances = each;
     elements = λ a i it x p l k at. plain_later s o m o set_in All later_cells (elements_of x) p (store.elements a i it x p l k at);
-    kept = kept_all s o m o set_in later_cells refl (λ j d e h a less f. f) store.kept;
+    kept = kept_all s o m o set_in later_cells refl refl (λ j d e h a less f. f) store.kept;
     noted = store.noted ∙ sym (set_len m.instances e other);
   }
     where
@@ -256,7 +263,16 @@ module _ (s : Source) (o : AllArrays) (m : Instances) (e : ℕ) (y : Instance (L
           there differ = instance_later s o m o set_in All later_cells j x tt (store.instances j x (sym (elsewhere j differ) ∙ now))
 
   pub same_cells : SameOnes m set_in
-  same_cells = record { count = set_len m.instances e other; ended = λ j a. ⊎_elim (λ same. here j same a) (λ differ. sym (ap ends_in (elsewhere j differ)) ∙ a) (cases_eq j e); standings = refl }
+  same_cells = record {
+    count = set_len m.instances e other;
+    ended = λ j a. ⊎_elim (λ same. here j same a) (λ differ. sym (ap ends_in (elsewhere j differ)) ∙ a) (cases_eq j e);
+    enclosers = λ j.
+        ⊎_elim
+        (λ same. let was = (instance_there (slice_get m.instances e) y lives).0 in ap (λ z. encloser_of set_in z) same ∙ ap (λ z. encloser_in z) (set_same m.instances e y other was) ∙ sym (ap (λ z. encloser_in z) was) ∙ ap (λ z. encloser_of m z) (sym same))
+        (λ differ. ap (λ z. encloser_in z) (set_other m.instances e j other differ))
+        (cases_eq j e);
+    standings = refl;
+  }
     where
       here : (j : ℕ) → j ≡ e → is_given_at_end set_in j ≡ true → is_given_at_end m j ≡ true
       here j same a = ap ends_in (ap (live m) same ∙ lives) ∙ sym (ap ends_in (ap (live set_in) same ∙ set_lives)) ∙ a
@@ -300,16 +316,33 @@ begins_fine s o m j (DetachedObject chain) a = absurd a
 begins_fine s o m j ResumedObject a = absurd a
 begins_fine s o m j TerminatedObject a = absurd a
 
-begins_empty : (j : ℕ) (z : Standing Activation) → Begins z → times_on owner j (chain_in z) ≡ 0
-begins_empty j (NoObject None) a = refl
-begins_empty j (NoObject (Some chain)) a = absurd a
-begins_empty j AttachedObject a = refl
-begins_empty j (DetachedObject chain) a = absurd a
-begins_empty j ResumedObject a = absurd a
-begins_empty j TerminatedObject a = absurd a
+begins_empty : (z : Standing Activation) → Begins z → chain_in z ≡ []
+begins_empty (NoObject None) a = refl
+begins_empty (NoObject (Some chain)) a = absurd a
+begins_empty AttachedObject a = refl
+begins_empty (DetachedObject chain) a = absurd a
+begins_empty ResumedObject a = absurd a
+begins_empty TerminatedObject a = absurd a
 
 begins_living : (z : Standing Activation) → Begins z → z ≡ TerminatedObject → ⊥
 begins_living z a e = subst Begins e a
+
+begins_unresumed : (z : Standing Activation) → Begins z → z ≡ ResumedObject → ⊥
+begins_unresumed z a e = subst Begins e a
+
+begins_without : (z : Standing Activation) → Begins z → (main : List Activation) → z ≡ NoObject (Some main) → ⊥
+begins_without z a main e = subst Begins e a
+
+resumed_more : (xs : List (Standing Activation)) (z : Standing Activation) → Begins z → (j : ℕ) → is_resumed (slice_get (xs ++ z ∷ []) j) ≡ is_resumed (slice_get xs j)
+resumed_more [] (NoObject None) a zero = refl
+resumed_more [] AttachedObject a zero = refl
+resumed_more [] (NoObject (Some chain)) a zero = absurd a
+resumed_more [] (DetachedObject chain) a zero = absurd a
+resumed_more [] ResumedObject a zero = absurd a
+resumed_more [] TerminatedObject a zero = absurd a
+resumed_more [] z a (suc j) = refl
+resumed_more (x ∷ xs) z a zero = refl
+resumed_more (x ∷ xs) z a (suc j) = resumed_more xs z a j
 
 kept_more : (f : List Activation → ℕ) (xs : List (Standing Activation)) (z : Standing Activation) → f (chain_in z) ≡ 0 → over_kept f (xs ++ z ∷ []) ≡ over_kept f xs
 kept_more f [] z none = omega (arith, none)
@@ -345,10 +378,13 @@ module _ (s : Source) (o : AllArrays) (m : Instances) (y : Instance (List Held))
   later_entered =
       later_instances s o (on_top o u) m after refl refl still_noted still_there
       (λ j a. (a.0, append_before m.standings z j (there_is m.standings j a.0 a.1) ∙ a.1, a.2))
-      (λ j a. append_before m.standings z j (there_is m.standings j (NoObject None) a) ∙ a)
+      (λ j a. (a.0, append_before m.standings z j (there_is m.standings j (NoObject a.0) a.1) ∙ a.1))
 
   pub copies_entered : (j d : ℕ) → Copies o (on_top o u) j d
   copies_entered = still_copies s o (on_top o u) m after refl refl still_noted still_there
+
+  pub steady_entered : Begins z → (j : ℕ) → Steady o m (on_top o u) after j
+  steady_entered begins j = (refl, resumed_more m.standings z begins j)
 
   pub store_entered : StoreFine s o m → InstanceFine s (on_top o u) after (length m.instances) y → Begins z → StoreFine s (on_top o u) after
   store_entered store f begins = record {
@@ -360,7 +396,7 @@ module _ (s : Source) (o : AllArrays) (m : Instances) (y : Instance (List Held))
     elements = λ a i it x p l k at. plain_later s o m (on_top o u) after All later_entered (elements_of x) p (store.elements a i it x p l k at);
     kept = λ j x e.
         ⊎_elim
-        (λ old. standing_later s o m (on_top o u) after All later_entered All (λ i d k. copies_entered i d) j x (standing_apart x) (standing_apart x) (store.kept j x old))
+        (λ old. standing_later s o m (on_top o u) after All later_entered All (λ i d k. copies_entered i d) (λ i k. steady_entered begins i) j x refl (standing_apart x) (standing_apart x) (store.kept j x old))
         (λ new. subst (StandsFine s (on_top o u) after j) new.1 (begins_fine s (on_top o u) after j z begins))
         (old_or_new m.standings z j x e);
     noted = one_longer o.beneath u ∙ ap suc store.noted ∙ sym (one_longer m.instances y);
@@ -376,11 +412,43 @@ module _ (s : Source) (o : AllArrays) (m : Instances) (y : Instance (List Held))
       noted_new : slice_get (on_top o u).beneath (length m.instances) ≡ Some u
       noted_new = ap (slice_get (on_top o u).beneath) (sym store.noted) ∙ append_at o.beneath u
 
-  pub operates_entered : (chain : List Activation) → u ≡ first_of chain → length o.beneath ≡ length m.instances → Placed m chain → Begins z → Operates (on_top o u).beneath after (length m.instances) chain
-  operates_entered chain is noted a begins =
+  -- the heads of the resumed objects are the same
+  there_still : StoreFine s o m → length m.standings ≡ length m.instances → (x : ℕ) → standing_of (parts m []) x ≡ ResumedObject → system_head after x ≡ system_head m x
+  there_still store many x e =
+      let stays = store.kept x ResumedObject (stands_as m.standings x ResumedObject e (λ q. cc)) in
+      heads_same m after (λ p. (w : Instance (List Held)) × (live m p ≡ Some w)) (λ p w. let lt = live_less m p w.0 w.1 in (ap (λ q. encloser_in q) (append_before m.instances y p lt), ap (λ q. is_object q) (more_at m.standings z p (subst (λ q. p < q) (sym many) lt))))
+      (λ p q w is. by_out p w.0 q (ap (λ r. encloser_in r) (sym (instance_there (slice_get m.instances p) w.0 w.1).0) ∙ is) (store.instances p w.0 w.1).out) x (stays.now, stays.lives)
+    where
+      by_out : (p : ℕ) (w : Instance (List Held)) (q : ℕ) → w.encloser ≡ Some q → Enclosed s o m p w.text w.encloser → (v : Instance (List Held)) × (live m q ≡ Some v)
+      by_out p w q is (alone none around) = absurd (no_some w.encloser q none is)
+      by_out p w q is (within {e = f} out around less near whole) = subst (λ r. (v : Instance (List Held)) × (live m r ≡ Some v)) (same_some w.encloser f q out is) (whole.now, whole.lives)
+
+  headed_entered : (a : Activation) (chain : List Activation) → StoreFine s o m → length m.standings ≡ length m.instances → (0 < length m.standings) ⊎ (z ≡ NoObject None) → Begins z → Headed m chain → Headed after (a ∷ chain)
+  headed_entered a chain store many first begins h = record {
+    outer = more_first m.standings z first h.outer;
+    resumed = λ x e.
+        (let was = more_old m.standings z ResumedObject x (begins_unresumed z begins) e in
+        let p = h.resumed x was in
+        let head = there_still store many x was in
+        let w = system_head m x in
+        let above : 0 < times_above owner x w chain + over_kept (times_above owner x w) m.standings = p.above in
+        let more = kept_more (times_above owner x w) m.standings z (ap (times_above owner x w) (begins_empty z begins)) in
+        record {
+          above = subst (λ q. 0 < times_above_in owner x q (parts after (a ∷ chain))) (sym head) (omega (arith, above, more));
+          main = p.main;
+          keeps = ap (λ q. slice_index_or after.standings q (NoObject None)) head ∙ more_new m.standings z (NoObject (Some p.main)) w (λ q. cc) p.keeps;
+        });
+    main = λ x main e.
+        (let r = h.main x main (more_old m.standings z (NoObject (Some main)) x (begins_without z begins main) e) in
+        record { object = r.object; resumed = more_new m.standings z ResumedObject r.object (λ q. cc) r.resumed; its_head = there_still store many r.object r.resumed ∙ r.its_head });
+  }
+
+  pub operates_entered : (chain : List Activation) → u ≡ first_of chain → StoreFine s o m → Placed m chain → Headed m chain → (0 < length m.standings) ⊎ (z ≡ NoObject None) → Begins z → Operates (on_top o u).beneath after (length m.instances) chain
+  operates_entered chain is store a headed first begins =
+      let noted = store.noted in
       let n = one_longer m.instances y in
       let counted : (j : ℕ) → places after (record { instance = length m.instances; work = []; values = [] } ∷ chain) j ≡ once_if (length m.instances == j) + places m chain j =
-      λ j. (let more = kept_more (times_on owner j) m.standings z (begins_empty j z begins) in omega (arith, more)) in
+      λ j. (let more = kept_more (times_on owner j) m.standings z (ap (times_on owner j) (begins_empty z begins)) in omega (arith, more)) in
       record {
         before = omega (arith, n);
         on = λ ends. ap (slice_get (on_top o u).beneath) (sym noted) ∙ append_at o.beneath u ∙ ap Some is;
@@ -406,6 +474,7 @@ module _ (s : Source) (o : AllArrays) (m : Instances) (y : Instance (List Held))
               (was_or_is j x.0 x.1));
           as_many = one_longer m.standings z ∙ ap suc a.as_many ∙ sym (one_longer m.instances y);
         };
+        headed = headed_entered (record { instance = length m.instances; work = []; values = [] }) chain store a.as_many first begins headed;
       }
 
 -- ---- an instance that ends
@@ -511,7 +580,7 @@ module _ (s : Source) (o : AllArrays) (m : Instances) (i : ℕ) (store : StoreFi
     near = near_apart;
     beneath = λ j x e. e;
     objects = λ j a. (a.0, ap (λ z. slice_get z j) (kept_given m i (slice_get m.instances i)) ∙ a.1, a.2);
-    nobody = λ j a. ap (λ z. slice_get z j) (kept_given m i (slice_get m.instances i)) ∙ a;
+    nobody = λ j a. (a.0, ap (λ z. slice_get z j) (kept_given m i (slice_get m.instances i)) ∙ a.1);
   }
 
   -- a copy in hand of another instance is not given back
@@ -528,7 +597,7 @@ module _ (s : Source) (o : AllArrays) (m : Instances) (i : ℕ) (store : StoreFi
   store_given others = record {
     instances = λ j x e. (let was = live_given j x e in instance_later s o m (given_view i o) (given m i) Apart later_given j x was.0 (store.instances j x was.1));
     elements = λ a k it x p l is at. plain_later s o m (given_view i o) (given m i) Apart later_given (elements_of x) p (store.elements a k it x p (given_lived o.real i a it l) is at);
-    kept = kept_later s o m (given_view i o) (given m i) Apart later_given Apart copies_given (kept_given m i (slice_get m.instances i)) others others store.kept;
+    kept = kept_later s o m (given_view i o) (given m i) Apart later_given Apart copies_given (λ j k. steady_same o m (given_view i o) (given m i) (kept_given m i (slice_get m.instances i)) refl j) (kept_given m i (slice_get m.instances i)) refl others others store.kept;
     noted = store.noted ∙ sym (given_len m i (slice_get m.instances i));
   }
 
@@ -557,8 +626,10 @@ module _ (s : Source) (o : AllArrays) (m : Instances) (i : ℕ) (store : StoreFi
 pub record Left (s : Source) (g : Marks) (o : World) (m : Instances) (i : ℕ) (rest : List Activation) (o' : World) (m' : Instances) : Type 0 where
   pub later : Later s (see g o) m (see g o') m' (λ j. is_given_at_end m i ≡ true → j ≢ i)
   pub copies : (j d : ℕ) → j ≢ i → Copies (see g o) (see g o') j d
+  pub steady : (j : ℕ) → Steady (see g o) m (see g o') m' j
   pub store : StoreFine s (see g o') m'
   pub placed : Placed m' rest
+  pub headed : Headed m' rest
   pub long : length o'.arrays ≡ length o.arrays
   pub count : length m'.instances ≡ length m.instances
 
@@ -604,9 +675,9 @@ placed_left b m i rest stays top =
       as_many = a.as_many;
     }
 
-pub left_by : (s : Source) (g : Marks) (o : World) (m : Instances) (i : ℕ) (rest : List Activation) → StoreFine s (see g o) m → Operates g.beneath m i rest → (v : Waits) → ChainFine s (see g o) m rest v → Left s g o m i rest (world_left s i o m) (instances_left i m)
+pub left_by : (s : Source) (g : Marks) (o : World) (m : Instances) (i : ℕ) (rest : List Activation) → StoreFine s (see g o) m → Operates g.beneath m i rest → NoObjectStands m i → (v : Waits) → ChainFine s (see g o) m rest v → Left s g o m i rest (world_left s i o m) (instances_left i m)
 unfolding giving_back
-left_by s g o m i rest store top v c = by_flag (is_given_at_end m i) refl
+left_by s g o m i rest store top nobody v c = by_flag (is_given_at_end m i) refl
   where
     alone_there : (j : ℕ) → is_given_at_end m j ≡ true → slice_get g.beneath j ≡ Some (Some i) → j ≢ i → ⊥
     alone_there j e on differ = free s (see g o) m i j e on rest store top v c differ
@@ -618,72 +689,26 @@ left_by s g o m i rest store top v c = by_flag (is_given_at_end m i) refl
     by_flag true e = record {
       later = later_sure s (see g o) m (see g back) (given m i) (is_given_at_end m i ≡ true) (λ j. j ≢ i) e (later_given s (see g o) m i store e alone_there);
       copies = λ j d differ. copies_given s (see g o) m i store e alone_there j d differ;
+      steady = λ j. steady_same (see g o) m (see g back) (given m i) (kept_given m i (slice_get m.instances i)) refl j;
       store = store_given s (see g o) m i store e alone_there (others_kept g.beneath m i rest top);
       placed = placed_given s (see g o) m i store e alone_there g.beneath rest top;
+      headed = headed_left m (given m i) i rest (kept_given m i (slice_get m.instances i)) (given_encloser m i (slice_get m.instances i) refl) nobody.0 nobody.1 top.headed;
       long = with_len i o.arrays;
       count = given_len m i (slice_get m.instances i);
     }
     by_flag false e = record {
       later = later_never s (see g o) m (is_given_at_end m i ≡ true) (λ j. j ≢ i) (λ yes. cc);
       copies = λ j d differ k h a lt f. f;
+      steady = λ j. (refl, refl);
       store = store;
       placed = placed_left g.beneath m i rest e top;
+      headed = headed_left m m i rest refl (λ j. refl) nobody.0 nobody.1 top.headed;
       long = refl;
       count = refl;
     }
-
--- ---- an object that ends
 
 -- one instance stands otherwise
 pub kept_set : (f : List Activation → ℕ) (xs : List (Standing Activation)) (i : ℕ) (x z : Standing Activation) → slice_get xs i ≡ Some x → over_kept f (slice_set xs i z) + f (chain_in x) ≡ over_kept f xs + f (chain_in z)
 kept_set f [] i x z e = absurd (cc)
 kept_set f (y ∷ xs) zero x z e = let same : f (chain_in y) ≡ f (chain_in x) = ap (λ q. f (chain_in q)) (same_some (Some y) y x refl e) in omega (arith, same)
 kept_set f (y ∷ xs) (suc i) x z e = let more = kept_set f xs i x z e in omega (arith, more)
-
-module _ (s : Source) (o : AllArrays) (b : List (Option ℕ)) (m : Instances) (i : ℕ) (rest : List Activation) (top : Operates b m i rest) (store : StoreFine s o m) (stands : ObjectStands m i) where
-  attached : slice_get m.standings i ≡ Some AttachedObject
-  attached = is_attached s o b m i rest store top stands
-
-  abbrev pub terminated : Instances
-  terminated = record m { standings = slice_set m.standings i TerminatedObject }
-
-  now_terminated : (j : ℕ) → j ≡ i → slice_get terminated.standings j ≡ Some TerminatedObject
-  now_terminated j same = ap (slice_get terminated.standings) same ∙ set_same m.standings i AttachedObject TerminatedObject attached
-
-  others_stand : (j : ℕ) → j ≢ i → slice_get terminated.standings j ≡ slice_get m.standings j
-  others_stand j differ = set_other m.standings i j TerminatedObject differ
-
-  pub later_terminated : Later s o m o terminated All
-  later_terminated =
-      later_instances s o o m terminated refl refl (λ j x e. e) (λ j x lives. record { now = x; lives = lives; grown = as_it_was x })
-      (λ j a. ⊎_elim (λ same. (TerminatedObject, now_terminated j same, tt)) (λ differ. (a.0, others_stand j differ ∙ a.1, a.2)) (cases_eq j i))
-      (λ j a. ⊎_elim (λ same. absurd (let e : slice_get m.standings j ≡ Some AttachedObject = ap (slice_get m.standings) same ∙ attached in cc)) (λ differ. others_stand j differ ∙ a) (cases_eq j i))
-
-  pub store_terminated : StoreFine s o terminated
-  store_terminated = record {
-    instances = λ j x e. instance_later s o m o terminated All later_terminated j x tt (store.instances j x e);
-    elements = λ a k it x p l is at. plain_later s o m o terminated All later_terminated (elements_of x) p (store.elements a k it x p l is at);
-    kept = λ j x e.
-        ⊎_elim
-        (λ same. subst (StandsFine s o terminated j) (same_some (slice_get terminated.standings j) TerminatedObject x (now_terminated j same) e) tt)
-        (λ differ. standing_later s o m o terminated All later_terminated All (λ k d a q h n less f. f) j x (standing_apart x) (standing_apart x) (store.kept j x (sym (others_stand j differ) ∙ e)))
-        (cases_eq j i);
-    noted = store.noted;
-  }
-
-  -- what is not given back at its end leaves the rest on the chain
-  pub placed_terminated : is_given_at_end m i ≡ false → Placed terminated rest
-  placed_terminated stays =
-      let a = placed_left b m i rest stays top in
-      let counted : (j : ℕ) → places terminated rest j ≡ places m rest j = λ j. (let set = kept_set (times_on owner j) m.standings i AttachedObject TerminatedObject attached in omega (arith, set)) in
-      record {
-        once = λ j. (let c = counted j in let once = a.once j in omega (arith, c, once));
-        made = λ j less. counted j ∙ a.made j less;
-        ended = λ j e.
-            ⊎_elim
-            (λ same. let c = counted j in let one = here_once i j (sym same) in let once = (top.placed).once j in omega (arith, c, one, once))
-            (λ differ. counted j ∙ a.ended j (sym (others_stand j differ) ∙ e))
-            (cases_eq j i);
-        all = λ j e. (let c = counted j in let there = a.all j e in omega (arith, c, there));
-        as_many = set_len m.standings i TerminatedObject ∙ a.as_many;
-      }

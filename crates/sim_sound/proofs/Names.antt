@@ -25,7 +25,8 @@ use Rattle.sim_sound.specs.Held.{ArrayOf, Holds, Refers, Simply}
 use Rattle.sim_sound.specs.Expressions.{standard_kind}
 use Rattle.sim_sound.proofs.Cells.{target_cell, val_up}
 use Rattle.sim_sound.proofs.Constants.{NoReference}
-use Rattle.sim_sound.proofs.Sound.{AddressOf, Component, Copied, DeepFine, ElementFine, HandFine, HandsFine, ImageAddress, IsImage, Kinds, Lasting, LinkTo, Marks, Open, OperandIs, OperandsAre, PlainFine, ReferenceAddress, StoreFine, ValFine, Value, pushed, see}
+use Rattle.sim_sound.proofs.Running.{StoreFine}
+use Rattle.sim_sound.proofs.Sound.{AddressOf, Component, Copied, DeepFine, ElementFine, HandFine, HandsFine, ImageAddress, IsImage, Kinds, Lasting, LinkTo, Marks, Open, OperandIs, OperandsAre, PlainFine, ReferenceAddress, ValFine, Value, pushed, see}
 use Rattle.sim_sound.proofs.Lifts.{Goes, Shape, a_char, a_text, an_int, any_popped, computed, had, ran, shape, took}
 use Rattle.sim_sound.proofs.Lists.{equal_numbers, there_get}
 use Rattle.sim_sound.proofs.Moves.{knows_near}

@@ -6,7 +6,8 @@ use Rattle.sim_meaning.specs.Pending.{Activation, Address, ArrayValue, Configura
 use Rattle.sim_meaning.specs.Sane.{IsObject, LastNames, Names, NamesOn}
 use Rattle.sim_sound.specs.Held.{ArrayOf, Refers, Simply}
 use Rattle.sim_sound.specs.Typed.{Typed}
-use Rattle.sim_sound.proofs.Sound.{AddressOf, AllArrays, ChainFine, Component, Copied, DeepFine, Fine, HandsFine, ImageAddress, Kinds, Lasting, LinkTo, ObjectOf, opens, ReferenceAddress, runs, Takes, Value}
+use Rattle.sim_sound.proofs.Running.{ChainFine, Fine, opens, runs}
+use Rattle.sim_sound.proofs.Sound.{AddressOf, AllArrays, Component, Copied, DeepFine, HandsFine, ImageAddress, Kinds, Lasting, LinkTo, ObjectOf, ReferenceAddress, Takes, Value}
 
 module _ (s : Source) (ok : Typed s) (o : AllArrays) (m : Instances) where
   object_is : (j c : ℕ) → ObjectOf s m j c → IsObject s m j
@@ -48,4 +49,4 @@ module _ (s : Source) (ok : Typed s) (o : AllArrays) (m : Instances) where
 
 pub fine_names : (s : Source) → Typed s → (o : AllArrays) (c : Configuration) → Fine s o c → NamesOn s c.memory c.chain
 fine_names s ok o c (opens none empty nobody unseen unnoted) = subst (NamesOn s c.memory) (sym none) tt
-fine_names s ok o c (runs store placed f) = chain_names s ok o c.memory c.chain f
+fine_names s ok o c (runs store placed headed f) = chain_names s ok o c.memory c.chain f

@@ -1,5 +1,5 @@
 -- Objects are generated and prefixed blocks are entered, and what is pending in them: declarations, levels and `inner`.
-use Rattle.std.proofs.Common.{◌≡◌, ◌<◌, ◌≤◌, ℕ, suc, Bool, true, false, List, [], ◌∷◌, ◌++◌, length, map, Option, Some, None, refl, sym, ap, ◌∙◌, subst, arith}
+use Rattle.std.proofs.Common.{Bool, List, None, Option, Some, [], ap, arith, false, inl, length, map, refl, subst, suc, sym, true, ℕ, ◌++◌, ◌∙◌, ◌∷◌, ◌≡◌, ◌≤◌}
 use Rattle.sim_base.specs.declared.limits.Limits.{Limits}
 use Rattle.sim_base.specs.declared.numbering.DeclNo.{DeclNo}
 use Rattle.sim_chains.specs.Components.{AttachedObject, NoObject, Standing}
@@ -43,10 +43,12 @@ use Rattle.sim_sound.proofs.Handing.{Handed, classes_hand, hand_every, handed_sa
 use Rattle.sim_sound.proofs.Later.{All, Copies, Later, hands_later, live_less, work_later}
 use Rattle.sim_sound.proofs.Lifts.{Goes, any_popped, enters, had, ran, whens}
 use Rattle.sim_sound.proofs.Lists.{same_some}
-use Rattle.sim_sound.proofs.Moves.{Begins, knows_near, on_top, placed_as}
+use Rattle.sim_sound.proofs.Moves.{Begins, knows_near, marked, on_top, placed_as}
 use Rattle.sim_sound.proofs.Prefixes.{LevelOf, level_words, levels_solid}
 use Rattle.sim_sound.proofs.Reach.{attribute_key}
-use Rattle.sim_sound.proofs.Sound.{AllArrays, Begun, CellsFine, ChainFine, DeclareFine, Expected, Generated, HandsFine, KeyAmong, Kinds, Knows, LevelsFine, LinkTo, Made, Marks, NewOpFine, Operates, PrefixedOpFine, Shown, Sight, StoreFine, Takes, Value, Waits, Whole, WorkFine, class_kinds, holds_of, in_hand, kept_kinds, key_of, keys_in, no_further, outward, see}
+use Rattle.sim_sound.proofs.Running.{Begun, ChainFine, Expected, IsRelease, Operates, Shown, StoreFine, WorkFine, awaited, is_resumed}
+use Rattle.sim_sound.proofs.Sound.{AllArrays, CellsFine, DeclareFine, Generated, HandsFine, KeyAmong, Kinds, Knows, LevelsFine, LinkTo, Made, Marks, NewOpFine, PrefixedOpFine, Sight, Takes, Value, Waits, Whole, class_kinds, holds_of, in_hand, kept_kinds, key_of, keys_in, no_further, outward, see}
+use Rattle.sim_sound.proofs.Heads.{headed_as}
 
 -- ---- actual parameters of a class
 
@@ -93,7 +95,7 @@ module _ (s : Source) (ok : Typed s) (l : Limits) (o : World) (marks : Marks) (l
 
   -- What enters it has these values in hand then, and waits. `z` says how the new instance stands, and its work ends with `end`.
   module _ (k line : ℕ) (has : has_levels (text s k) ≡ true) (vs vs' : List Val) (d j u : ℕ) (todo : List DeclNo) (left : List Kinds) (stands : encloser s.tables k ≡ Some u) (knows : Knows m i j) (whole : Whole s m j u) (acts : ActualsAre s (see marks o) m i d (class_kinds s (class_parameters s (Some k))) vs) (less : length vs' ≤ d) (b : Begun s (see marks o) m i t todo) (hands : HandsFine s (see marks o) m i left vs')
-      (waits : Waits) (hold : List Val) (shown : Shown waits hold vs') (expected : List Kinds) (expects : Expected s waits left expected) (work : Work s o marks long m i t rest top w todo expected) (z : Standing Activation) (begins : Begins z) (end : Item)
+      (waits : Waits) (hold : List Val) (shown : Shown (awaited marks.waiting i waits) hold vs') (expected : List Kinds) (expects : Expected s (awaited marks.waiting i waits) left expected) (work : Work s o marks long m i t rest top w todo expected) (z : Standing Activation) (begins : Begins z) (end : Item)
       (ends : (v : AllArrays) (c : List Held) → ChainFine s v (entered m (new_instance s k (Some j) c) z) (record { instance = i; work = w; values = hold } ∷ rest) waits → WorkFine s v (entered m (new_instance s k (Some j) c) z) (λ q. ChainFine s v (entered m (new_instance s k (Some j) c) z) (record { instance = i; work = w; values = hold } ∷ rest) q) ((record { instance = i; work = w; values = hold } ∷ rest) ≡ []) (length m.instances) k (end ∷ []) [] []) where
     abbrev own : Leveled s ok k
     own = leveled s ok k has
@@ -139,14 +141,14 @@ module _ (s : Source) (ok : Typed s) (l : Limits) (o : World) (marks : Marks) (l
     abbrev After : List Held → Instances
     After c = entered m (new_instance s k (Some j) c) z
 
-    abbrev noted : List (Option ℕ)
-    noted = marks.beneath ++ Some i ∷ []
+    abbrev noted : Marks
+    noted = marked marks (Some i)
 
-    later_with : (c : List Held) (q : List Sight) (p : World) → Later s (see (marks_of marks.beneath q) p) m (see (marks_of noted q) p) (After c) All
-    later_with c q p = later_new s ok (see (marks_of marks.beneath q) p) m k (Some j) c z X is solid (Some i)
+    later_with : (c : List Held) (q : List Sight) (p : World) → Later s (see (marks_of marks q) p) m (see (marks_of noted q) p) (After c) All
+    later_with c q p = later_new s ok (see (marks_of marks q) p) m k (Some j) c z X is solid (Some i)
 
-    handed : (c : List Held) → Handed s m (After c) i N top.before marks.beneath noted (later_with c) o marks.sights d P (λ v. (kk : ℕ) → ValsFine s v (After c) N kk (holds_of s fs) vs)
-    handed c = hand_every s m (After c) i N top.before marks.beneath noted (later_with c) fs (class_kinds s fs) (classes_hand s ⊥ formals fs typed.formals) vs o marks.sights long d acts
+    handed : (c : List Held) → Handed s m (After c) i N top.before marks noted (later_with c) o marks.sights d P (λ v. (kk : ℕ) → ValsFine s v (After c) N kk (holds_of s fs) vs)
+    handed c = hand_every s m (After c) i N top.before marks noted (later_with c) fs (class_kinds s fs) (classes_hand s ⊥ formals fs typed.formals) vs o marks.sights long d acts
 
     -- the formal parameters and constants of all levels
     parameters : (e : DeclNo) → Among e numbers → IsFormal (entry_of s.tables e) → Among e formals
@@ -172,7 +174,7 @@ module _ (s : Source) (ok : Typed s) (l : Limits) (o : World) (marks : Marks) (l
     Cells = (filled first_ones).cells
 
     abbrev G : Marks
-    G = marks_of marks.beneath (handed Cells).sights
+    G = marks_of marks (handed Cells).sights
 
     abbrev V : AllArrays
     V = see G P
@@ -220,7 +222,7 @@ module _ (s : Source) (ok : Typed s) (l : Limits) (o : World) (marks : Marks) (l
         made_level y.0 q y.2 c h (subst (λ x. key_holds s x (Declared c.0) ≡ Some (ArrayOf h)) (sym y.1) is_array) (attributes_among s c (numbers_of s (y.0).text) (of_level u y.0 y.1 q (Declared c.0) there)) none
 
     e : Later s (see marks o) m V m All
-    e = (handed Cells).later marks.beneath m
+    e = (handed Cells).later marks m
 
     copies : (n y : ℕ) → Other i n → Copies (see marks o) V n y
     copies n y other q kd c' small copy = (handed Cells).copies n q kd c' (λ same. absurd (other same)) copy
@@ -250,14 +252,14 @@ module _ (s : Source) (ok : Typed s) (l : Limits) (o : World) (marks : Marks) (l
       hands = hands_later s (see marks o) m V m All e i tt left vs' (λ n kd c deep copy. (handed Cells).copies i n kd c (λ q. omega (arith, deep, less)) copy) hands;
       expected = expected;
       expects = expects;
-      goes = work_later s (see marks o) m V m All e i t tt (rest ≡ []) (λ q. ChainFine s (see marks o) m rest q) (λ q. ChainFine s V m rest q) (below_handed s ok l o marks long m i t rest top w vs' P (handed Cells).sights e copies b.store (handed Cells).elements) w todo expected work;
+      goes = work_later s (see marks o) m V m All e i t tt refl (rest ≡ []) (rest ≡ []) (λ q. q) (λ q. ChainFine s (see marks o) m rest q) (λ q. ChainFine s V m rest q) (below_handed s ok l o marks long m i t rest top w vs' P (handed Cells).sights e copies b.store (handed Cells).elements) w todo expected work;
     }
 
     abbrev Wk : List Item → List DeclNo → List Kinds → Type 0
     Wk w todo ks = WorkFine s V' M (λ q. ChainFine s V' M Below q) (Below ≡ []) N k w todo ks
 
     at_end : Wk (end ∷ []) [] []
-    at_end = ends V' Cells (below_new s ok V m k (Some j) Cells z X is solid (Some i) Below waits chain)
+    at_end = ends V' Cells (below_new s ok V m k (Some j) Cells z X is solid (Some i) begins Below waits chain)
 
     -- each of its levels, with those inside
     inside : (ys : List Level) → LevelsAre s k ys → LevelsFine s M N ys
@@ -300,7 +302,7 @@ module _ (s : Source) (ok : Typed s) (l : Limits) (o : World) (marks : Marks) (l
         had (IsFine s) (filled_in vs (Some (cells_of_levels s xs)) formals) Cells o (λ c. entering l line (words_of_cells (cells_of_levels s xs)) o (λ p. Entered (arrays_given N vs p) c)) filled_same
         (enters (IsFine s) l line (words_of_cells (cells_of_levels s xs)) o (λ p. Entered (arrays_given N vs p) Cells) (λ t' w'.
         same_arrays P (arrays_given N vs (ran o t' w')) _ (handed_same N (arrays_among vs) o (ran o t' w') refl)
-        (enters_fine s ok P G (handed Cells).long m k (Some j) Cells z (arrays_of_levels s xs) begins (levels_work xs end) Below store (placed_as m i w hold rest top.placed) begun works)))
+        (enters_fine s ok P G (handed Cells).long m k (Some j) Cells z (arrays_of_levels s xs) begins (levels_work xs end) Below store (placed_as m i w hold rest top.placed) (headed_as m i w hold rest top.headed) (inl (let before = top.before in let many = (top.placed).as_many in omega (arith, before, many))) begun works)))
 
   module _ (vals : List Val) where
     class_many : (fs : List Formal) → length (class_kinds s fs) ≡ length fs
@@ -326,7 +328,9 @@ module _ (s : Source) (ok : Typed s) (l : Limits) (o : World) (marks : Marks) (l
       where
         -- it is an object, which ends as one
         object_at_end : (v : AllArrays) (hs : List Held) → is_class_free s k ≡ false → has_levels (text s k) ≡ true → (j : ℕ) → (below : List Activation) → ChainFine s v (entered m (new_instance s k (Some j) hs) AttachedObject) below (Generated (length m.instances) k) → WorkFine s v (entered m (new_instance s k (Some j) hs) AttachedObject) (λ q. ChainFine s v (entered m (new_instance s k (Some j) hs) AttachedObject) below q) (below ≡ []) (length m.instances) k (EndObject ∷ []) [] []
-        object_at_end v hs free has j below c = (refl, free, has, (AttachedObject, stands_new m (new_instance s k (Some j) hs) AttachedObject (top.placed).as_many, tt), Generated (length m.instances) k, (refl, refl), c)
+        object_at_end v hs free has j below c =
+            let stands = stands_new m (new_instance s k (Some j) hs) AttachedObject (top.placed).as_many in
+            (refl, free, has, (AttachedObject, stands, tt), Generated (length m.instances) k, subst (λ b. IsRelease b (length m.instances) k (Generated (length m.instances) k)) (sym (ap is_resumed stands)) (refl, refl), c)
 
         next : List Val → List Val → Run Configuration
         next values vals = popping vals o (λ v vals. having (instance_in v) o (λ j. when (is_live m j) o (having (levels s k) o (λ xs. object_entered s l o m i w vals rest k line values j xs))))
@@ -345,7 +349,7 @@ module _ (s : Source) (ok : Typed s) (l : Limits) (o : World) (marks : Marks) (l
         (subst (λ z. Goes (IsFine s) (pop_many (length r.values) [] z o next)) (sym r.are)
         (subst (Goes (IsFine s)) (sym (all_taken r.values r.rest o next))
         (had (IsFine s) (levels s k) xs o (λ xs. prefixed_entered s l o m (record { instance = i; work = w; values = r.rest } ∷ rest) k line r.values (Some i) EndPrefixed xs) (levels_are s ok k c.has)
-        (entered_goes k line c.has r.values r.rest (length r.rest) i c.around [] behind c.stands_in (outward no_further) (site_whole s (see marks o) m i t c.around b c.site) r.fine (omega arith) b r.more (Takes None) r.rest refl behind refl work (NoObject None) tt EndPrefixed (λ v hs x. (stands_new m (new_instance s k (Some i) hs) (NoObject None) (top.placed).as_many, x))))))
+        (entered_goes k line c.has r.values r.rest (length r.rest) i c.around [] behind c.stands_in (outward no_further) (site_whole s (see marks o) m i t c.around b c.site) r.fine (omega arith) b r.more (Takes None) r.rest refl behind refl work (NoObject None) tt EndPrefixed (λ v hs x. ((None, stands_new m (new_instance s k (Some i) hs) (NoObject None) (top.placed).as_many), x))))))
       where
         next : List Val → List Val → Run Configuration
         next values vals = having (levels s k) o (λ xs. prefixed_entered s l o m (record { instance = i; work = w; values = vals } ∷ rest) k line values (Some i) EndPrefixed xs)

@@ -1,5 +1,5 @@
 -- Each operator of expressions and assignments goes on.
-use Rattle.std.proofs.Common.{◌≡◌, ℕ, suc, ◌<◌, Bool, true, false, List, [], ◌∷◌, ◌++◌, length, Option, Some, None, inr, refl, sym, ap, ◌∙◌, subst}
+use Rattle.std.proofs.Common.{◌≡◌, ℕ, suc, Bool, true, false, List, [], ◌∷◌, ◌++◌, length, Option, Some, None, inr, refl, sym, ap, ◌∙◌, subst}
 use Rattle.std.specs.Prelude.{◌*◌}
 use Rattle.sim_base.specs.declared.limits.Limits.{Limits}
 use Rattle.sim_base.specs.declared.numbering.DeclNo.{DeclNo}
@@ -40,7 +40,8 @@ use Rattle.sim_sound.proofs.Moves.{same_ones}
 use Rattle.sim_sound.proofs.Names.{ValueIs, performed}
 use Rattle.sim_sound.proofs.Ops.{back_goes, fetched_goes, later_hands, later_with, putting_goes, putting_reference_goes, set_goes, store_with, stored_array}
 use Rattle.sim_sound.proofs.References.{any_object_popped, held_reference_goes, object_popped}
-use Rattle.sim_sound.proofs.Sound.{AddressOf, Addressed, Begun, CellTarget, Component, Copied, CopyFine, DeepFine, HandFine, HandsFine, Hidden, ImageAddress, IsAddress, IsCopy, Kinds, Lasting, Leads, LinkTo, Marks, ObjectOf, OneKinds, OpFine, Open, Operates, ReferenceAddress, Sight, TermFine, ValFine, Value, array_stored, elements_of, given, held_kinds, see, value_stored}
+use Rattle.sim_sound.proofs.Running.{Begun, Operates}
+use Rattle.sim_sound.proofs.Sound.{AddressOf, Addressed, CellTarget, Component, Copied, CopyFine, DeepFine, HandFine, HandsFine, Hidden, ImageAddress, IsAddress, IsCopy, Kinds, Lasting, Leads, LinkTo, Marks, ObjectOf, OneKinds, OpFine, Open, ReferenceAddress, Sight, TermFine, ValFine, Value, array_stored, elements_of, given, held_kinds, see, value_stored}
 
 one_longer : (g : List Sight) (o : List OneArray) (z : Sight) (x : OneArray) → length (g ++ z ∷ []) ≡ suc (length g)
 one_longer [] o z x = refl
@@ -124,9 +125,9 @@ module _ (s : Source) (ok : Typed s) (l : Limits) (o : World) (g : Marks) (long 
       let seen : Marks = record g { sights = g.sights ++ z ∷ [] } in
       let longer : length seen.sights ≡ length (o.arrays ++ x ∷ []) = one_longer g.sights o.arrays z x ∙ ap suc long ∙ sym (one_longer' o.arrays x) in
       let copies : (j d : ℕ) → Copies (see g o) (more (see g o) z x) j d = λ j d. copies_array (see g o) z x j d in
-      let store = store_with s (see g o) (more (see g o) z x) m e refl copies (elements_array s (see g o) m z x long new.elements b.store.elements) b.store in
-      later_with s ok l o g long m i t rest top seen (added (ran o t' w') x) longer refl m e copies (same_ones m) store w (ArrayValue (length o.arrays) ∷ vs) todo (c ∷ left) (present_later s (see g o) m (more (see g o) z x) m All e i t todo tt b.here) (own_later s (see g o) m (more (see g o) z x) m All e i t todo tt b.here ∙ b.own)
-      (f, later_hands s ok l o g long m i t rest top seen (added (ran o t' w') x) longer refl m e copies (same_ones m) store left vs hands) y
+      let store = store_with s (see g o) (more (see g o) z x) m e refl refl copies (elements_array s (see g o) m z x long new.elements b.store.elements) b.store in
+      later_with s ok l o g long m i t rest top seen (added (ran o t' w') x) longer refl refl m e copies (same_ones m) store w (ArrayValue (length o.arrays) ∷ vs) todo (c ∷ left) (present_later s (see g o) m (more (see g o) z x) m All e i t todo tt b.here) (own_later s (see g o) m (more (see g o) z x) m All e i t todo tt b.here ∙ b.own)
+      (f, later_hands s ok l o g long m i t rest top seen (added (ran o t' w') x) longer refl refl m e copies (same_ones m) store left vs hands) y
 
   pub copy_op : (line : ℕ) → OpFine s (see g o) m i t (CopyOp line) todo todo' before behind → Stepped (CopyOp line)
   copy_op line a =
@@ -339,9 +340,9 @@ module _ (s : Source) (ok : Typed s) (l : Limits) (o : World) (g : Marks) (long 
       let next = replaced (see g o) n f.it now f.lives refl (inr refl) (λ k. refl) refl refl in
       let e = later_replaced (see g o) n f.it now f.lives refl (inr refl) (λ k. refl) refl refl s m in
       let copies : (j d : ℕ) → Copies (see g o) next j d = λ j d. copies_replaced (see g o) n f.it now f.lives refl (inr refl) (λ k. refl) refl refl a.0 f.known j d in
-      let store = store_with s (see g o) next m e refl copies (elements_replaced (see g o) n f.it now f.lives refl (inr refl) (λ k. refl) refl refl s m (Open a.0) f.known (λ q p at. b.store.elements n q f.it (Open a.0) p f.lives f.known at) b.store.elements) b.store in
-      later_with s ok l o g long m i t rest top g (with_array o n now) (long ∙ sym (set_len o.arrays n now)) refl m e copies (same_ones m) store w (ArrayValue n ∷ vs) todo (Lasting a.0 ∷ a.1) (present_later s (see g o) m next m All e i t todo tt b.here) (own_later s (see g o) m next m All e i t todo tt b.here ∙ b.own)
-      (record { it = now; lives = new_lives (see g o) n f.it now f.lives refl (inr refl) (λ k. refl) refl refl n refl; known = f.known; keeps = refl; count = f.count }, later_hands s ok l o g long m i t rest top g (with_array o n now) (long ∙ sym (set_len o.arrays n now)) refl m e copies (same_ones m) store a.1 vs hands) (works _ a.3 a.4))))
+      let store = store_with s (see g o) next m e refl refl copies (elements_replaced (see g o) n f.it now f.lives refl (inr refl) (λ k. refl) refl refl s m (Open a.0) f.known (λ q p at. b.store.elements n q f.it (Open a.0) p f.lives f.known at) b.store.elements) b.store in
+      later_with s ok l o g long m i t rest top g (with_array o n now) (long ∙ sym (set_len o.arrays n now)) refl refl m e copies (same_ones m) store w (ArrayValue n ∷ vs) todo (Lasting a.0 ∷ a.1) (present_later s (see g o) m next m All e i t todo tt b.here) (own_later s (see g o) m next m All e i t todo tt b.here ∙ b.own)
+      (record { it = now; lives = new_lives (see g o) n f.it now f.lives refl (inr refl) (λ k. refl) refl refl n refl; known = f.known; keeps = refl; count = f.count }, later_hands s ok l o g long m i t rest top g (with_array o n now) (long ∙ sym (set_len o.arrays n now)) refl refl m e copies (same_ones m) store a.1 vs hands) (works _ a.3 a.4))))
 
   pub refer_op : (line : ℕ) → OpFine s (see g o) m i t (ReferOp line) todo todo' before behind → Stepped (ReferOp line)
   refer_op line a =

@@ -1,5 +1,5 @@
 -- The operators of expressions and assignments.
-use Rattle.std.proofs.Common.{◌≡◌, ℕ, ◌<◌, true, List, [], ◌∷◌, length, map, Option, Some, None, ◌⊎◌, inl, inr, ⊎_elim, refl, sym, ap, ◌∙◌, subst, arith}
+use Rattle.std.proofs.Common.{◌≡◌, ℕ, true, List, [], ◌∷◌, length, map, Option, Some, None, ◌⊎◌, inl, inr, ⊎_elim, refl, sym, ap, ◌∙◌, subst}
 use Rattle.sim_base.specs.declared.limits.Limits.{Limits}
 use Rattle.sim_base.specs.declared.numbering.DeclNo.{DeclNo}
 use Rattle.sim_scope.specs.Source.{Source}
@@ -22,14 +22,15 @@ use Rattle.sim_sound.proofs.Cells.{cell_found, cell_put, own_key, plain_anywhere
 use Rattle.sim_sound.proofs.Changes.{ElementsFine, changed, copies_element, elements_changed, held_now, held_stays, keys_set, later_element, new}
 use Rattle.sim_sound.proofs.Evals.{IsFine, Work, goes_on}
 use Rattle.sim_sound.proofs.Fitting.{plain_val, val_fits}
-use Rattle.sim_sound.proofs.Later.{All, Copies, Later, all_apart, chain_later, hands_later, instance_later, kept_all, own_later, present_later, work_later}
+use Rattle.sim_sound.proofs.Later.{All, Copies, Later, all_apart, fine_later, hands_later, instance_later, kept_all, own_later, present_later, steady_same, work_later}
 use Rattle.sim_sound.proofs.Lifts.{Goes, had, ran}
 use Rattle.sim_sound.proofs.Names.{AllBack, element_there, image_there}
 use Rattle.sim_sound.proofs.Lists.{if_true, no_some, set_len}
 use Rattle.sim_sound.proofs.Moves.{SameOnes, later_cell, operates_on, same_cell, same_ones, set_lives, store_cell}
 use Rattle.sim_sound.proofs.Prefixes.{LevelOf, same_is}
 use Rattle.sim_sound.proofs.References.{held_reference_goes}
-use Rattle.sim_sound.proofs.Sound.{AddressOf, AllArrays, Begun, CellTarget, ChainFine, Component, Copied, ElementFine, HandFine, HandsFine, ImageAddress, IsPlain, KeyAmong, Kinds, Lasting, Leads, LinkTo, Made, Marks, OperandIs, Operates, PlainFine, Present, ReferenceAddress, StoreFine, ValFine, Value, Waits, WorkFine, in_instance as at_cell, key_of, keys_in, own_text, see}
+use Rattle.sim_sound.proofs.Running.{Begun, ChainFine, Operates, StoreFine, WorkFine}
+use Rattle.sim_sound.proofs.Sound.{AddressOf, AllArrays, CellTarget, Component, Copied, ElementFine, HandFine, HandsFine, ImageAddress, IsPlain, KeyAmong, Kinds, Lasting, Leads, LinkTo, Made, Marks, OperandIs, PlainFine, Present, ReferenceAddress, ValFine, Value, Waits, in_instance as at_cell, key_of, keys_in, own_text, see}
 
 among_cases : (e : DeclNo) (xs : List DeclNo) → Among e xs → (d : DeclNo) (ds : List DeclNo) → xs ≡ d ∷ ds → (e ≡ d) ⊎ Among e ds
 among_cases e xs (first {ds = es}) d ds f = inl (cc)
@@ -39,11 +40,11 @@ abbrev pub with_arrays : World → List OneArray → World
 with_arrays o a = record o { arrays = a }
 
 -- a store with other arrays
-pub store_with : (s : Source) (o o' : AllArrays) (m : Instances) → Later s o m o' m All → o'.beneath ≡ o.beneath → ((j d : ℕ) → Copies o o' j d) → ElementsFine s o' m → StoreFine s o m → StoreFine s o' m
-store_with s o o' m e same copies fine store = record {
+pub store_with : (s : Source) (o o' : AllArrays) (m : Instances) → Later s o m o' m All → o'.beneath ≡ o.beneath → o'.waiting ≡ o.waiting → ((j d : ℕ) → Copies o o' j d) → ElementsFine s o' m → StoreFine s o m → StoreFine s o' m
+store_with s o o' m e same waits copies fine store = record {
   instances = λ j x lives. instance_later s o m o' m All e j x tt (store.instances j x lives);
   elements = fine;
-  kept = kept_all s o m o' m e refl copies store.kept;
+  kept = kept_all s o m o' m e refl waits copies store.kept;
   noted = ap length same ∙ store.noted;
 }
 
@@ -61,12 +62,12 @@ module _ (s : Source) (ok : Typed s) (l : Limits) (o : World) (g : Marks) (long 
   Bg todo = Begun s (see g o) m i t todo
 
   -- where a store is later, with all else as it was
-  module _ (g' : Marks) (o' : World) (longer : length g'.sights ≡ length o'.arrays) (under : g'.beneath ≡ g.beneath) (n : Instances) (e : Later s (see g o) m (see g' o') n All) (copies : (j d : ℕ) → Copies (see g o) (see g' o') j d) (same : SameOnes m n) (store : StoreFine s (see g' o') n) where
+  module _ (g' : Marks) (o' : World) (longer : length g'.sights ≡ length o'.arrays) (under : g'.beneath ≡ g.beneath) (waits : g'.waiting ≡ g.waiting) (n : Instances) (e : Later s (see g o) m (see g' o') n All) (copies : (j d : ℕ) → Copies (see g o) (see g' o') j d) (same : SameOnes m n) (store : StoreFine s (see g' o') n) where
     below_later : (v : Waits) → ChainFine s (see g o) m rest v → ChainFine s (see g' o') n rest v
-    below_later v c = chain_later s (see g o) m (see g' o') n All e All (λ j d k. copies j d) (λ v. ⊥) (λ rest. rest ≡ []) rest (all_apart rest) (all_apart rest) v c
+    below_later v c = fine_later s (see g o) m (see g' o') n All e All (λ j d k. copies j d) (λ j k. steady_same (see g o) m (see g' o') n same.standings waits j) rest (all_apart rest) (all_apart rest) v c
 
     pub later_work : (w : List Item) (todo : List DeclNo) (ks : List Kinds) → Wk w todo ks → WorkFine s (see g' o') n (λ v. ChainFine s (see g' o') n rest v) (rest ≡ []) i t w todo ks
-    later_work w todo ks a = work_later s (see g o) m (see g' o') n All e i t tt (rest ≡ []) (λ v. ChainFine s (see g o) m rest v) (λ v. ChainFine s (see g' o') n rest v) below_later w todo ks a
+    later_work w todo ks a = work_later s (see g o) m (see g' o') n All e i t tt (steady_same (see g o) m (see g' o') n same.standings waits i).1 (rest ≡ []) (rest ≡ []) (λ z. z) (λ v. ChainFine s (see g o) m rest v) (λ v. ChainFine s (see g' o') n rest v) below_later w todo ks a
 
     pub later_hands : (ks : List Kinds) (vals : List Val) → Hd ks vals → HandsFine s (see g' o') n i ks vals
     later_hands ks vals h = hands_later s (see g o) m (see g' o') n All e i tt ks vals (copies i (length vals)) h
@@ -92,7 +93,7 @@ module _ (s : Source) (ok : Typed s) (l : Limits) (o : World) (g : Marks) (long 
       let holds : key_holds s x.text key ≡ Some q = f.holds c.around at key c.there ∙ c.holds in
       let r = cell_put s m j x key v p.lives (f.keys c.around at key c.there) in
       had (IsFine s) (cell_set m j key v) (with_instance m j (record x { cells = r.0 })) o (λ m. go o m i w vals rest) r.2
-      (later_goes g o long refl (with_instance m j (record x { cells = r.0 })) (later_cell s (see g o) m j x p.lives key v r.0 r.1) same_copies (same_cell s (see g o) m j x p.lives key v r.0 r.1)
+      (later_goes g o long refl refl (with_instance m j (record x { cells = r.0 })) (later_cell s (see g o) m j x p.lives key v r.0 r.1) same_copies (same_cell s (see g o) m j x p.lives key v r.0 r.1)
       (store_cell s (see g o) m j x p.lives key v r.0 r.1 q holds (plain_anywhere s (see g o) m i j q v flat fine) b.store) w vals todo ks b h work)
 
   made_now : (t : ℕ) (todo todo' : List DeclNo) (d : DeclNo) (v : Val) (hs cells : List Held) → held_set (Declared d.0) v hs ≡ Some cells → todo ≡ d ∷ todo' → Made s t todo hs → Made s t todo' cells
@@ -116,14 +117,14 @@ module _ (s : Source) (ok : Typed s) (l : Limits) (o : World) (g : Marks) (long 
       let keys : (key : Key) → KeyAmong key (map key_of x.cells) → KeyAmong key (map key_of r.0) = λ key a. subst (KeyAmong key) (sym (keys_set (Declared d.0) v x.cells r.0 r.1)) a in
       let stays : (key : Key) → held key r.0 ≡ None → held key x.cells ≡ None = λ key a. held_stays (Declared d.0) v key x.cells r.0 r.1 a in
       had (IsFine s) (cell_set m i (Declared d.0) v) n o (λ m. go o m i w vals rest) r.2
-      (later_with g o long refl n e same_copies same store w vals todo' ks (record {
+      (later_with g o long refl refl n e same_copies same store w vals todo' ks (record {
         now = record x { cells = r.0 };
         lives = set_lives s (see g o) m i x p.lives r.0 keys stays;
         stands = own_text (same_is s x.text t b.own);
         words = p.words;
         has_text = p.has_text;
         made = made_now x.text todo todo' d v x.cells r.0 r.1 is p.made;
-      }) b.own (later_hands g o long refl n e same_copies same store ks vals h) work)
+      }) b.own (later_hands g o long refl refl n e same_copies same store ks vals h) work)
 
   -- ---- an element is set
 
@@ -134,8 +135,8 @@ module _ (s : Source) (ok : Typed s) (l : Limits) (o : World) (g : Marks) (long 
       let e = later_element (see g o) m i h0 a n p f s in
       let set : element_set o a n p ≡ Some (with_arrays o now.real) = ap (λ z. element_set_in o a n p z (element o a n)) (f.array).lives ∙ ap (λ z. element_set_in o a n p (Some (f.array).it) z) q.1 in
       had (IsFine s) (element_set o a n p) (with_arrays o now.real) o (λ o. go o m i w vals rest) set
-      (later_goes g (with_arrays o now.real) (long ∙ sym (set_len o.arrays a (new (see g o) m i h0 a n p f))) refl m e (λ j d. copies_element (see g o) m i h0 a n p f j d) (same_ones m)
-      (store_with s (see g o) now m e refl (λ j d. copies_element (see g o) m i h0 a n p f j d) (elements_changed (see g o) m i h0 a n p f s is b.store.elements) b.store) w vals todo ks b h work)
+      (later_goes g (with_arrays o now.real) (long ∙ sym (set_len o.arrays a (new (see g o) m i h0 a n p f))) refl refl m e (λ j d. copies_element (see g o) m i h0 a n p f j d) (same_ones m)
+      (store_with s (see g o) now m e refl refl (λ j d. copies_element (see g o) m i h0 a n p f j d) (elements_changed (see g o) m i h0 a n p f s is b.store.elements) b.store) w vals todo ks b h work)
 
   pub putting_goes : (q : Holds) (p v : Val) (w : List Item) (vals : List Val) (todo : List DeclNo) (ks : List Kinds) → IsPlain q → HandFine s (see g o) m i (AddressOf q) p → ValFine s (see g o) m i q v → Bg todo → Hd ks vals → Wk w todo ks → Go (having (variable_in p) o (λ p. putting p v o m (λ o m. go o m i w vals rest)))
   unfolding putting

@@ -20,7 +20,8 @@ use Rattle.sim_meaning.specs.Pending.{Declared, Held, Instances, Key, Result}
 use Rattle.sim_meaning.specs.Texts.{BlockText, ClassText, ConnectionText, PrefixedText, ProcedureText, Text, text}
 use Rattle.sim_sound.specs.Held.{Among, Around, Holds, In, InBound, IsFixed, Place, Seen, Sees, StandsAround, entry_holds, first, from_around, further, itself, later, own_fixed}
 use Rattle.sim_sound.specs.Typed.{Home, TextTyped, Typed, connected as past, stands}
-use Rattle.sim_sound.proofs.Sound.{AllArrays, Enclosed, InstanceFine, KeyAmong, Knows, Present, StandsFor, StoreFine, Whole, alone, connected, first_key, key_of, keys_in, later_key, no_further, one_out, outward as knows_outward, own_cells, own_text, within}
+use Rattle.sim_sound.proofs.Running.{StoreFine}
+use Rattle.sim_sound.proofs.Sound.{AllArrays, Enclosed, InstanceFine, KeyAmong, Knows, Present, StandsFor, Whole, alone, connected, first_key, key_of, keys_in, later_key, no_further, one_out, outward as knows_outward, own_cells, own_text, within}
 use Rattle.sim_sound.proofs.Cells.{fine_at, none_among, own_level, stands_level_of}
 use Rattle.sim_sound.proofs.Lists.{equal_numbers, if_false, if_true, no_some, other_numbers, same_some}
 use Rattle.sim_sound.proofs.Moves.{knows_itself, knows_then}

@@ -1,10 +1,7 @@
--- Which configurations have a rule for what is pending.
-use Rattle.std.proofs.Common.{◌≡◌, ◌<◌, ◌≤◌, ℕ, zero, suc, Bool, true, false, List, [], ◌∷◌, ◌++◌, length, map, Option, Some, None, ◌⊎◌}
-use Rattle.std.specs.Prelude.{slice_get, ◌+◌, ◌*◌, ◌&&◌, not}
+-- Which values, terms and operators are fine for an instance among others.
+use Rattle.std.proofs.Common.{◌≡◌, ◌<◌, ℕ, zero, suc, Bool, true, false, List, [], ◌∷◌, ◌++◌, length, map, Option, Some, None, ◌⊎◌}
+use Rattle.std.specs.Prelude.{slice_get, ◌*◌, ◌&&◌, not}
 use Rattle.sim_base.specs.declared.numbering.DeclNo.{DeclNo}
-use Rattle.sim_chains.specs.Chains.{outermost, times_on}
-use Rattle.sim_chains.specs.Components.{AttachedObject, DetachedObject, NoObject, ResumedObject, Standing, TerminatedObject}
-use Rattle.sim_chains.specs.WellFormed.{over_kept}
 use Rattle.sim_scope.specs.declared.types.Formal.{Formal}
 use Rattle.sim_scope.specs.declared.types.FormalKind.{FormalKind}
 use Rattle.sim_scope.specs.declared.types.FormalKind.TheVariants as shape
@@ -30,14 +27,13 @@ use Rattle.sim_code.specs.Outcome.{ArrayOf as OneArray, World}
 use Rattle.sim_code.specs.Arrays.{unless_given}
 use Rattle.sim_code.specs.Instances.{CellPlace, ElementPlace, ImagePlace, Instance, is_given_at_end, live}
 use Rattle.sim_code.specs.Running.{name_runs}
-use Rattle.sim_code.specs.Transfers.{Calling, Detaching, Transfer}
+use Rattle.sim_code.specs.Transfers.{Calling, Detaching, Resuming, Transfer}
 use Rattle.sim_meaning.specs.Attributes.{cell_of_connection, is_connection}
 use Rattle.sim_meaning.specs.Closing.{class_parameters}
 use Rattle.sim_meaning.specs.Entries.{first_cells, formals_of, is_array_by_value, numbers_of}
 use Rattle.sim_meaning.specs.Levels.{has_levels}
-use Rattle.sim_meaning.specs.Meaning.{has_result}
 use Rattle.sim_meaning.specs.Objects.{attributes_from}
-use Rattle.sim_meaning.specs.Pending.{Activation, Address, AgainOp, ArrayOp, ArrayValue, AttributeOf, AttributeOp, BackOp, BranchOp, CallOf, CallOp, Cell, ChooseOp, Configuration, ConnectOp, CopyOf, CopyOp, Declared, DeclareOp, Do, DropOp, Either, ElementOf, ElementOp, ElementsOp, EndBlock, EndLevel, EndObject, EndPrefixed, EndProcedure, EndProgram, EnterOp, Eval, Exec, Execs, FetchOp, FitsOf, FitsOp, Further, Given, GiveOp, Held, IfOp, ImageOf, InnerOp, Instances, Item, JoinOp, Joined, KeepOp, KeptOf, Key, Level, LevelOp, Link, MemberOf, MemberOp, NewOf, NewOp, NoTerm, NotNoneOf, NotNoneOp, ObjectOp, Of, One, OneOp, Op, PastOp, PlaceOf, PrefixedOp, QuaOf, QuaOp, QualifiedElementOf, QualifiedElementOp, QualifiedPlaceOf, RaiseOp, ReferOp, RemoteCallOf, ShareOp, StandardOf, StandardOp, StepOp, StepTestOp, StoreOp, SwapOp, Target, Term, Terms, TestOp, ToAddress, ToCell, ToPlace, ToReference, ToReferenceAt, ToText, ToTextAt, ToTextOf, TransferOf, TransferOp, Two, TwoOp, Unbuilt, Val, ValueAt, WhenOp, WhileElementOp, held, owner}
+use Rattle.sim_meaning.specs.Pending.{Address, AgainOp, ArrayOp, ArrayValue, AttributeOf, AttributeOp, BackOp, BranchOp, CallOf, CallOp, Cell, ChooseOp, ConnectOp, CopyOf, CopyOp, Declared, DeclareOp, DropOp, Either, ElementOf, ElementOp, ElementsOp, EnterOp, Eval, Exec, Execs, FetchOp, FitsOf, FitsOp, Further, Given, GiveOp, Held, IfOp, ImageOf, InnerOp, Instances, JoinOp, Joined, KeepOp, KeptOf, Key, Level, LevelOp, Link, MemberOf, MemberOp, NewOf, NewOp, NoTerm, NotNoneOf, NotNoneOp, ObjectOp, Of, One, OneOp, Op, PastOp, PlaceOf, PrefixedOp, QuaOf, QuaOp, QualifiedElementOf, QualifiedElementOp, QualifiedPlaceOf, RaiseOp, ReferOp, RemoteCallOf, ShareOp, StandardOf, StandardOp, StepOp, StepTestOp, StoreOp, SwapOp, Target, Term, Terms, TestOp, ToAddress, ToCell, ToPlace, ToReference, ToReferenceAt, ToText, ToTextAt, ToTextOf, TransferOf, TransferOp, Two, TwoOp, Unbuilt, Val, ValueAt, WhenOp, WhileElementOp, held}
 use Rattle.sim_meaning.specs.Texts.{BlockText, ClassText, PrefixedText, ProcedureText, Text, is_class_free, text}
 use Rattle.sim_sound.specs.Expressions.{ExprIs, TwoKinds, some_holds, standard_kind}
 use Rattle.sim_sound.specs.Held.{Among, ArrayOf, Fits, FitsIn, Holds, In, InBound, IsOfKind, Refers, Simply, formal_holds, key_holds, reference_to, result_holds}
@@ -75,19 +71,42 @@ abbrev pub elements_of : Sight → Holds
 elements_of (Open h) = h
 elements_of (Hidden h home depth) = h
 
--- what is noted beside a run: who may know its arrays, and on top of which instance each instance was entered, if of any
+-- a value; where a variable or an element lies; where a reference lies, with its qualification; where an image lies; an instance of a text; a
+-- copy for a parameter by value; an array that is kept; an object
+pub data Kinds : Type 0 where
+  Value : Holds → Kinds
+  AddressOf : Holds → Kinds
+  ReferenceAddress : (class : ℕ) → Kinds
+  ImageAddress : Kinds
+  LinkTo : (text : ℕ) → Kinds
+  Copied : Holds → Kinds
+  Lasting : Holds → Kinds
+  Component : Kinds
+
+-- What an activation waits for: a value or none, which is put in its hand; that the object ends, or lets go, that it generated, whose
+-- reference it has in hand already; or that the resumed object above it gives control to the main component that it keeps, and then what
+-- is noted of it.
+pub data Waits : Type 0 where
+  Takes : Option Kinds → Waits
+  Generated : (object class : ℕ) → Waits
+  Suspended : Waits
+
+-- what is noted beside a run: who may know its arrays; on top of which instance each instance was entered, if of any; and what a system head
+-- waits for while a resumed object operates in its system
 pub record Marks : Type 0 where
   pub sights : List Sight
   pub beneath : List (Option ℕ)
+  pub waiting : ℕ → Waits
 
 -- the arrays of a run, with what is noted
 pub record AllArrays : Type 0 where
   pub sights : List Sight
   pub beneath : List (Option ℕ)
+  pub waiting : ℕ → Waits
   pub real : List OneArray
 
 abbrev pub see : Marks → World → AllArrays
-see g o = record { sights = g.sights; beneath = g.beneath; real = o.arrays }
+see g o = record { sights = g.sights; beneath = g.beneath; waiting = g.waiting; real = o.arrays }
 
 -- what is below an instance on its chain, through those that are given back at their end: it stays there until they end
 pub data Beneath (o : AllArrays) (m : Instances) : (j e : ℕ) → Type 0 where
@@ -235,18 +254,6 @@ pub record InstanceFine (s : Source) (o : AllArrays) (m : Instances) (j : ℕ) (
   pub out : Enclosed s o m j x.text x.encloser
 
 -- ---- values in hand
-
--- a value; where a variable or an element lies; where a reference lies, with its qualification; where an image lies; an instance of a text; a
--- copy for a parameter by value; an array that is kept; an object
-pub data Kinds : Type 0 where
-  Value : Holds → Kinds
-  AddressOf : Holds → Kinds
-  ReferenceAddress : (class : ℕ) → Kinds
-  ImageAddress : Kinds
-  LinkTo : (text : ℕ) → Kinds
-  Copied : Holds → Kinds
-  Lasting : Holds → Kinds
-  Component : Kinds
 
 pub record ElementFine (o : AllArrays) (m : Instances) (j : ℕ) (h : Holds) (a n : ℕ) : Type 0 where
   pub array : ArrayFine o m j h a
@@ -421,6 +428,7 @@ Comes s h g = (h' : Holds) × Fits s h h' × (Some (Value h') ≡ g)
 abbrev pub component_kind : Transfer → Kinds
 component_kind Detaching = Component
 component_kind Calling = Value (Simply kind.Reference)
+component_kind Resuming = Value (Simply kind.Reference)
 
 abbrev mutual
   -- in an instance j of the text t
@@ -658,144 +666,3 @@ OpFine s o m j t (StepOp line) todo todo' before behind = (left : List Kinds) ×
 OpFine s o m j t (RaiseOp x line step limit a) todo todo' before behind =
     Ready todo todo' before behind (Sited s m j (λ u. VariableFine s m j t x kind.Integer × ExprIs s (In u) step (Simply kind.Integer) × ExprIs s (In u) limit (Simply kind.Integer) × StatementIs s u a))
 OpFine s o m j t (PrefixedOp k n line) todo todo' before behind = (todo ≡ []) × (todo' ≡ []) × PrefixedOpFine s m j k n before behind
-
--- an instance that is an object's
-abbrev pub IsObject : Standing Activation → Type 0
-IsObject AttachedObject = Unit {0}
-IsObject (DetachedObject chain) = Unit {0}
-IsObject TerminatedObject = Unit {0}
-IsObject _ = ⊥
-
-abbrev pub ObjectStands : Instances → ℕ → Type 0
-ObjectStands m j = (x : Standing Activation) × (slice_get m.standings j ≡ Some x) × IsObject x
-
--- and one that is none
-abbrev pub NoObjectStands : Instances → ℕ → Type 0
-NoObjectStands m j = slice_get m.standings j ≡ Some (NoObject None)
-
--- What an activation waits for: a value or none, which is put in its hand; or that the object ends, or lets go, that it generated, whose
--- reference it has in hand already.
-pub data Waits : Type 0 where
-  Takes : Option Kinds → Waits
-  Generated : (object class : ℕ) → Waits
-
--- what waits when an object of a text ends, or detaches itself: what generated it; or what called it, which has no reference in hand for it
-abbrev pub IsRelease : (object class : ℕ) → Waits → Type 0
-IsRelease j t (Takes None) = Unit {0}
-IsRelease j t (Takes (Some k)) = ⊥
-IsRelease j t (Generated i u) = (i ≡ j) × (u ≡ t)
-
--- The pending work of an instance. `Below` tells what is below on the chain where it waits for this; `Outermost` that nothing is.
-abbrev pub WorkFine : Source → AllArrays → Instances → (Below : Waits → Type 0) → (Outermost : Type 0) → (j t : ℕ) → List Item → (todo : List DeclNo) → (before : List Kinds) → Type 0
-WorkFine s o m Below Outermost j t [] todo before = ⊥
-WorkFine s o m Below Outermost j t (Do op ∷ w) todo before = (todo' : List DeclNo) × (behind : List Kinds) × OpFine s o m j t op todo todo' before behind × WorkFine s o m Below Outermost j t w todo' behind
-WorkFine s o m Below Outermost j t (EndBlock ∷ w) todo before = NoObjectStands m j × Below (Takes None)
-WorkFine s o m Below Outermost j t (EndProcedure leaves ∷ w) todo before =
-    (result : Option TypeName) × (heading : Heading) × (body : Statement) × (text s t ≡ Some (ProcedureText result heading body)) × (has_result result ≡ leaves) × (g : Option Kinds) × GivesResult s t g × NoObjectStands m j × Below (Takes g)
-WorkFine s o m Below Outermost j t (EndLevel k ∷ w) todo before = WorkFine s o m Below Outermost j t w todo before
--- an object, with its arrays
-WorkFine s o m Below Outermost j t (EndObject ∷ w) todo before =
-    (todo ≡ []) × (is_class_free s t ≡ false) × (has_levels (text s t) ≡ true) × ObjectStands m j × (v : Waits) × IsRelease j t v × Below v
-WorkFine s o m Below Outermost j t (EndPrefixed ∷ w) todo before = NoObjectStands m j × Below (Takes None)
-WorkFine s o m Below Outermost j t (EndProgram ∷ w) todo before = NoObjectStands m j × Outermost
-
--- ---- chains
-
--- the values in hand but for the reference to an object that was generated
-abbrev pub Shown : Waits → (all vals : List Val) → Type 0
-Shown (Takes g) all vals = all ≡ vals
-Shown (Generated j class) all vals = all ≡ Of (Object j) ∷ vals
-
--- what is in hand when what is waited for comes
-abbrev pub Expected : Source → Waits → (kinds then : List Kinds) → Type 0
-Expected s (Takes g) ks xs = given g ks ≡ xs
-Expected s (Generated j class) ks xs = (h : Holds) × Fits s (Refers class) h × (Value h ∷ ks ≡ xs)
-
--- the instance that stands first on a chain
-abbrev pub first_of : List Activation → Option ℕ
-first_of [] = None
-first_of (a ∷ rest) = Some a.instance
-
--- what is given back at its end stands on that on which it was entered
-abbrev pub StandsOn : (beneath : List (Option ℕ)) → Instances → (j : ℕ) → Option ℕ → Type 0
-StandsOn beneath m j under = is_given_at_end m j ≡ true → slice_get beneath j ≡ Some under
-
-pub record ActFine (s : Source) (o : AllArrays) (m : Instances) (a : Activation) (under : Option ℕ) (waits : Waits) (Below : Waits → Type 0) (Outermost : Type 0) : Type 0 where
-  pub of_text : ℕ
-  pub todo : List DeclNo
-  pub here : Present s m a.instance of_text todo
-  pub own : (here.now).text ≡ of_text
-  pub on : StandsOn o.beneath m a.instance under
-  pub vals : List Val
-  pub shown : Shown waits a.values vals
-  pub kinds : List Kinds
-  pub hands : HandsFine s o m a.instance kinds vals
-  pub expected : List Kinds
-  pub expects : Expected s waits kinds expected
-  pub goes : WorkFine s o m Below Outermost a.instance of_text a.work todo expected
-
--- The instances on a chain. `Ground` tells what its last one may wait for, and `Outermost` where the program may end: above what rest.
-abbrev pub ChainOn : Source → AllArrays → Instances → (Ground : Waits → Type 0) → (Outermost : List Activation → Type 0) → List Activation → (waits : Waits) → Type 0
-ChainOn s o m Ground Outermost [] waits = Ground waits
-ChainOn s o m Ground Outermost (a ∷ rest) waits = ActFine s o m a (first_of rest) waits (λ v. ChainOn s o m Ground Outermost rest v) (Outermost rest)
-
--- the operating chain: nothing is below it
-abbrev pub ChainFine : Source → AllArrays → Instances → List Activation → (waits : Waits) → Type 0
-ChainFine s o m chain waits = ChainOn s o m (λ v. ⊥) (λ rest. rest ≡ []) chain waits
-
--- the chain that a detached object keeps, which is the last one on it: when it ends, what called it goes on
-pub record KeptChain (s : Source) (o : AllArrays) (m : Instances) (j : ℕ) (chain : List Activation) : Type 0 where
-  pub stays : Stays m j
-  pub last : outermost owner chain ≡ Some j
-  pub fine : ChainOn s o m (λ v. v ≡ Takes None) (λ rest. ⊥) chain (Takes None)
-
--- how an instance stands: no system head keeps a chain, and no object is resumed
-abbrev pub StandsFine : Source → AllArrays → Instances → ℕ → Standing Activation → Type 0
-StandsFine s o m j (NoObject None) = Unit {0}
-StandsFine s o m j (NoObject (Some chain)) = ⊥
-StandsFine s o m j AttachedObject = Unit {0}
-StandsFine s o m j (DetachedObject chain) = KeptChain s o m j chain
-StandsFine s o m j ResumedObject = ⊥
-StandsFine s o m j TerminatedObject = Unit {0}
-
--- ---- the store
-
--- Each instance that was not given back is as its text says, wherever it stands; each element of an array holds what the array's do; and so is
--- all that stands on the chains that are kept.
-pub record StoreFine (s : Source) (o : AllArrays) (m : Instances) : Type 0 where
-  pub instances : (j : ℕ) (x : Instance (List Held)) → live m j ≡ Some x → InstanceFine s o m j x
-  pub elements : (a i : ℕ) (it : OneArray) (x : Sight) (p : Plain) → unless_given (slice_get o.real a) ≡ Some it → slice_get o.sights a ≡ Some x → slice_get it.elements i ≡ Some p → PlainFine s m (elements_of x) p
-  pub kept : (j : ℕ) (x : Standing Activation) → slice_get m.standings j ≡ Some x → StandsFine s o m j x
-  pub noted : length o.beneath ≡ length m.instances
-
--- an instance whose arrays are made but for these, in such a store
-pub record Begun (s : Source) (o : AllArrays) (m : Instances) (j t : ℕ) (todo : List DeclNo) : Type 0 where
-  pub store : StoreFine s o m
-  pub here : Present s m j t todo
-  pub own : (here.now).text ≡ t
-
--- ---- where instances stand
-
--- on how many places of the operating chain and of those that are kept an instance stands
-abbrev pub places : Instances → List Activation → ℕ → ℕ
-places m chain j = times_on owner j chain + over_kept (times_on owner j) m.standings
-
--- Each instance stands on one place at most, and does so where it is given back at its end and was not; an object that is terminated stands
--- nowhere.
-pub record Placed (m : Instances) (chain : List Activation) : Type 0 where
-  pub once : (j : ℕ) → places m chain j ≤ 1
-  pub made : (j : ℕ) → length m.instances ≤ j → places m chain j ≡ 0
-  pub ended : (j : ℕ) → slice_get m.standings j ≡ Some TerminatedObject → places m chain j ≡ 0
-  pub all : (j : ℕ) → is_given_at_end m j ≡ true → 0 < places m chain j
-  pub as_many : length m.standings ≡ length m.instances
-
--- The instance i operates, on top of the rest of the chain.
-pub record Operates (beneath : List (Option ℕ)) (m : Instances) (i : ℕ) (rest : List Activation) : Type 0 where
-  pub before : i < length m.instances
-  pub on : StandsOn beneath m i (first_of rest)
-  pub placed : Placed m (record { instance = i; work = []; values = [] } ∷ rest)
-
--- before the first step there is nothing
-pub data Fine (s : Source) (o : AllArrays) (c : Configuration) : Type 0 where
-  opens : c.chain ≡ [] → (c.memory).instances ≡ [] → (c.memory).standings ≡ [] → o.sights ≡ [] → o.beneath ≡ [] → Fine s o c
-  runs : StoreFine s o c.memory → Placed c.memory c.chain → ChainFine s o c.memory c.chain (Takes None) → Fine s o c

@@ -50,7 +50,8 @@ use Rattle.sim_sound.proofs.Lefts.{LeftFine, reference_is, variable_fine}
 use Rattle.sim_sound.proofs.Lifts.{Goes, chosen, had, ran, ticked, truth_popped}
 use Rattle.sim_sound.proofs.Prefixes.{LevelOf, class_has, class_solid, level_of_levels}
 use Rattle.sim_sound.proofs.Reach.{Reaches, ReachesText, reaches_in, text_in}
-use Rattle.sim_sound.proofs.Sound.{AddressOf, Begun, HandsFine, Kinds, LevelsFine, Marks, OpFine, Operates, Site, TermFine, TermsFine, Value, VariableFine, Whole, class_kinds, given, held_kinds, in_instance as at_cell, see, simple, value_stored}
+use Rattle.sim_sound.proofs.Running.{Begun, Operates}
+use Rattle.sim_sound.proofs.Sound.{AddressOf, HandsFine, Kinds, LevelsFine, Marks, OpFine, Site, TermFine, TermsFine, Value, VariableFine, Whole, class_kinds, given, held_kinds, in_instance as at_cell, see, simple, value_stored}
 
 -- ---- a variable as a left side is a cell, or is found by a tree
 

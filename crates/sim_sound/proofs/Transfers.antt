@@ -1,224 +1,41 @@
 -- Control is transferred from component to component.
-use Rattle.std.proofs.Common.{◌≡◌, ◌≢◌, ◌+◌, ℕ, zero, suc, List, [], ◌∷◌, ◌++◌, ⊎_elim, length, Option, Some, None, Result, Ok, Err, refl, sym, ap, ◌∙◌, subst, arith}
-use Rattle.std.proofs.lemmas.Bool.{cases_eq}
-use Rattle.std.specs.Prelude.{slice_get, slice_index_or, slice_set}
+use Rattle.std.proofs.Common.{◌≡◌, ◌≢◌, ℕ, false, true, List, [], ◌∷◌, ◌++◌, ⊎_elim, length, Option, Some, None, Result, Ok, Err, refl, sym, ap, ◌∙◌, subst, arith}
+use Rattle.std.proofs.lemmas.Bool.{cases_lt}
+use Rattle.std.specs.Prelude.{slice_get, slice_set}
 use Rattle.sim_base.specs.declared.limits.Limits.{Limits}
 use Rattle.sim_base.specs.declared.numbering.DeclNo.{DeclNo}
 use Rattle.sim_base.specs.declared.run_error.RunError.{RunError}
 use Rattle.sim_chains.specs.Chains.{Cut, cut_at, outermost, times_on, upper}
-use Rattle.sim_chains.specs.Components.{AttachedObject, Components, DetachedObject, NoObject, ResumedObject, Standing, TerminatedObject, call, call_by, leave_at, standing_of, with_operating, with_standing}
-use Rattle.sim_chains.specs.WellFormed.{chain_in}
-use Rattle.sim_chains.proofs.Counts.{times-append, outermost-append}
+use Rattle.sim_chains.specs.Components.{AttachedObject, Components, DetachedObject, NoObject, ResumedObject, Standing, TerminatedObject, call, call_by, detach, detach_by, give_up_at, kept, kept_by, leave_at, main_at, main_by, resume, resume_at, resume_by, resume_main, standing_of, with_operating, with_standing}
+use Rattle.sim_chains.specs.WellFormed.{HasResumed, IsWellFormed, is_object}
+use Rattle.sim_chains.proofs.Counts.{times-append}
 use Rattle.sim_chains.proofs.Cuts.{IsCut, cut_is}
+use Rattle.sim_chains.proofs.Keeps.{call_law, detach_law, directly, kept_object, main_law, resume_law}
 use Rattle.sim_scope.specs.Levels.{has_level}
 use Rattle.sim_scope.specs.Source.{Source}
 use Rattle.sim_values.specs.declared.kind.Kind.TheVariants as kind
 use Rattle.sim_values.specs.Plain.{Character, Integer, Nothing, Object, Plain, Text, Truth, kind_of}
 use Rattle.sim_code.specs.Events.{computing, having, pop_plain}
-use Rattle.sim_code.specs.Instances.{going_below, live}
+use Rattle.sim_code.specs.Instances.{going_below, is_object_at, live, system_head}
 use Rattle.sim_code.specs.Outcome.{Run, World}
-use Rattle.sim_code.specs.Transfers.{Calling, Detaching, Transfer, detached, detached_by, transferred, transferring}
+use Rattle.sim_code.specs.Transfers.{Calling, Detaching, Resuming, Transfer, transferred, transferring}
 use Rattle.sim_meaning.specs.Meaning.{do_op}
-use Rattle.sim_meaning.specs.Pending.{Activation, Address, ArrayValue, Configuration, Do, EndBlock, EndLevel, EndObject, EndPrefixed, EndProcedure, EndProgram, Instances, Item, Link, Of, ProcedureValue, TransferOp, Tree, Val, owner, plain}
+use Rattle.sim_meaning.specs.Pending.{Activation, Address, ArrayValue, Configuration, Instances, Item, Link, Of, ProcedureValue, TransferOp, Tree, Val, owner, plain}
 use Rattle.sim_sound.specs.Typed.{Typed}
-use Rattle.sim_sound.proofs.Chains.{ends_with}
-use Rattle.sim_sound.proofs.Ends.{released}
+use Rattle.sim_sound.proofs.Chains.{here_once}
+use Rattle.sim_sound.proofs.Ends.{goes_below, released, suspended}
 use Rattle.sim_sound.proofs.Evals.{IsFine, Work}
-use Rattle.sim_sound.proofs.Later.{All, Later, all_apart, as_it_was, chain_later, instance_later, object_later, plain_later, standing_apart, standing_later, stays_later}
+use Rattle.sim_sound.proofs.Heads.{at_is, head_outer, headed_as, headed_then, stands_as, well_formed}
+use Rattle.sim_sound.proofs.Later.{All, Later, object_later}
 use Rattle.sim_sound.proofs.Lifts.{Goes, any_popped, computed, had, known_popped}
-use Rattle.sim_sound.proofs.Lists.{same_some, set_len, set_other, set_same}
-use Rattle.sim_sound.proofs.Moves.{kept_set, later_instances, placed_as, stays_not}
+use Rattle.sim_sound.proofs.Lists.{same_some, set_other, there_get}
+use Rattle.sim_sound.proofs.Moves.{placed_as}
 use Rattle.sim_sound.proofs.Reach.{has_itself}
-use Rattle.sim_sound.proofs.Sound.{AllArrays, Begun, ChainFine, ChainOn, Component, DeepFine, HandsFine, IsObject, IsRelease, KeptChain, Kinds, Marks, NoObjectStands, ObjectOf, Operates, Placed, Present, StandsFine, Stays, StoreFine, Takes, Waits, WorkFine, component_kind, elements_of, first_of, places, runs, see}
-
--- ---- chains that are joined, and cut
-
--- what is pending does not hang on what is below
-work_below : (s : Source) (o : AllArrays) (m : Instances) (Below Below' : Waits → Type 0) (Outermost Outermost' : Type 0) → ((v : Waits) → Below v → Below' v) → (Outermost → Outermost') → (j t : ℕ) (w : List Item) (todo : List DeclNo) (before : List Kinds) → WorkFine s o m Below Outermost j t w todo before → WorkFine s o m Below' Outermost' j t w todo before
-work_below s o m Below Below' Outermost Outermost' f h j t [] todo before a = absurd a
-work_below s o m Below Below' Outermost Outermost' f h j t (Do op ∷ w) todo before a = (a.0, a.1, a.2, work_below s o m Below Below' Outermost Outermost' f h j t w a.0 a.1 a.3)
-work_below s o m Below Below' Outermost Outermost' f h j t (EndBlock ∷ w) todo before a = (a.0, f _ a.1)
-work_below s o m Below Below' Outermost Outermost' f h j t (EndProcedure leaves ∷ w) todo before a = (a.0, a.1, a.2, a.3, a.4, a.5, a.6, a.7, f _ a.8)
-work_below s o m Below Below' Outermost Outermost' f h j t (EndLevel k ∷ w) todo before a = work_below s o m Below Below' Outermost Outermost' f h j t w todo before a
-work_below s o m Below Below' Outermost Outermost' f h j t (EndObject ∷ w) todo before a = (a.0, a.1, a.2, a.3, a.4, a.5, f a.4 a.6)
-work_below s o m Below Below' Outermost Outermost' f h j t (EndPrefixed ∷ w) todo before a = (a.0, f _ a.1)
-work_below s o m Below Below' Outermost Outermost' f h j t (EndProgram ∷ w) todo before a = (a.0, h a.1)
-
-not_both : (m : Instances) (j : ℕ) → slice_get m.standings j ≡ Some AttachedObject → NoObjectStands m j → ⊥
-not_both m j e f = cc
-
--- what an object that is attached has pending stays so on a chain that it keeps
-object_work : (s : Source) (o : AllArrays) (m : Instances) (Below : Waits → Type 0) (Outermost : Type 0) (j t : ℕ) → slice_get m.standings j ≡ Some AttachedObject → (w : List Item) (todo : List DeclNo) (before : List Kinds) → WorkFine s o m Below Outermost j t w todo before → WorkFine s o m (λ v. v ≡ Takes None) ⊥ j t w todo before
-object_work s o m Below Outermost j t stands [] todo before a = absurd a
-object_work s o m Below Outermost j t stands (Do op ∷ w) todo before a = (a.0, a.1, a.2, object_work s o m Below Outermost j t stands w a.0 a.1 a.3)
-object_work s o m Below Outermost j t stands (EndBlock ∷ w) todo before a = absurd (not_both m j stands a.0)
-object_work s o m Below Outermost j t stands (EndProcedure leaves ∷ w) todo before a = absurd (not_both m j stands a.7)
-object_work s o m Below Outermost j t stands (EndLevel k ∷ w) todo before a = object_work s o m Below Outermost j t stands w todo before a
-object_work s o m Below Outermost j t stands (EndObject ∷ w) todo before a = (a.0, a.1, a.2, a.3, Takes None, tt, refl)
-object_work s o m Below Outermost j t stands (EndPrefixed ∷ w) todo before a = absurd (not_both m j stands a.0)
-object_work s o m Below Outermost j t stands (EndProgram ∷ w) todo before a = absurd (not_both m j stands a.0)
-
--- and what is below waits for its release
-object_release : (s : Source) (o : AllArrays) (m : Instances) (Below : Waits → Type 0) (Outermost : Type 0) (j t : ℕ) → slice_get m.standings j ≡ Some AttachedObject → (w : List Item) (todo : List DeclNo) (before : List Kinds) → WorkFine s o m Below Outermost j t w todo before → (v : Waits) × IsRelease j t v × Below v
-object_release s o m Below Outermost j t stands [] todo before a = absurd a
-object_release s o m Below Outermost j t stands (Do op ∷ w) todo before a = object_release s o m Below Outermost j t stands w a.0 a.1 a.3
-object_release s o m Below Outermost j t stands (EndBlock ∷ w) todo before a = absurd (not_both m j stands a.0)
-object_release s o m Below Outermost j t stands (EndProcedure leaves ∷ w) todo before a = absurd (not_both m j stands a.7)
-object_release s o m Below Outermost j t stands (EndLevel k ∷ w) todo before a = object_release s o m Below Outermost j t stands w todo before a
-object_release s o m Below Outermost j t stands (EndObject ∷ w) todo before a = (a.4, a.5, a.6)
-object_release s o m Below Outermost j t stands (EndPrefixed ∷ w) todo before a = absurd (not_both m j stands a.0)
-object_release s o m Below Outermost j t stands (EndProgram ∷ w) todo before a = absurd (not_both m j stands a.0)
-
-first_same : (above : List Activation) (here : Activation) (below below' : List Activation) → first_of (above ++ here ∷ below) ≡ first_of (above ++ here ∷ below')
-first_same [] here below below' = refl
-first_same (a ∷ above) here below below' = refl
-
-not_empty : (above : List Activation) (here : Activation) (below : List Activation) → (above ++ here ∷ below) ≡ [] → ⊥
-not_empty [] here below e = cc
-not_empty (a ∷ above) here below e = cc
-
--- A chain that is kept stands on the operating chain when its object is called.
-module _ (s : Source) (o : AllArrays) (m : Instances) (j : ℕ) (stays : Stays m j) (b : Activation) (rest : List Activation) (c : ChainFine s o m (b ∷ rest) (Takes None)) where
-  joined_fine : (chain : List Activation) → outermost owner chain ≡ Some j → (v : Waits) → ChainOn s o m (λ v. v ≡ Takes None) (λ rest. ⊥) chain v → ChainFine s o m (chain ++ b ∷ rest) v
-  joined_fine [] e v f = absurd (cc)
-  joined_fine (a ∷ []) e v f =
-      let same : j ≡ a.instance = cc in
-      record {
-        of_text = f.of_text;
-        todo = f.todo;
-        here = f.here;
-        own = f.own;
-        on = λ ends. absurd (stays_not m a.instance j ends stays same);
-        vals = f.vals;
-        shown = f.shown;
-        kinds = f.kinds;
-        hands = f.hands;
-        expected = f.expected;
-        expects = f.expects;
-        goes = work_below s o m (λ v. v ≡ Takes None) (λ v. ChainFine s o m (b ∷ rest) v) ⊥ (b ∷ rest ≡ []) (λ v is. subst (ChainFine s o m (b ∷ rest)) (sym is) c) (λ x. absurd x) a.instance f.of_text a.work f.todo f.expected f.goes;
-      }
-  joined_fine (a ∷ d ∷ l) e v f = record {
-    of_text = f.of_text;
-    todo = f.todo;
-    here = f.here;
-    own = f.own;
-    on = f.on;
-    vals = f.vals;
-    shown = f.shown;
-    kinds = f.kinds;
-    hands = f.hands;
-    expected = f.expected;
-    expects = f.expects;
-    goes = work_below s o m (λ v. ChainOn s o m (λ v. v ≡ Takes None) (λ rest. ⊥) (d ∷ l) v) (λ v. ChainFine s o m ((d ∷ l) ++ b ∷ rest) v) ⊥ ((d ∷ l) ++ b ∷ rest ≡ []) (λ v k. joined_fine (d ∷ l) e v k) (λ x. absurd x) a.instance f.of_text a.work f.todo f.expected f.goes;
-  }
-
--- The operating chain is cut at an object, which is on it. What is below waits for its release.
-pub record WaitsBelow (s : Source) (o : AllArrays) (m : Instances) (j : ℕ) (below : List Activation) : Type 0 where
-  pub of_text : ℕ
-  pub todo : List DeclNo
-  pub here : Present s m j of_text todo
-  pub own : (here.now).text ≡ of_text
-  pub waits : Waits
-  pub release : IsRelease j of_text waits
-  pub fine : ChainFine s o m below waits
-
-module _ (s : Source) (o : AllArrays) (m : Instances) (here : Activation) (below : List Activation) (stays : Stays m here.instance) (stands : slice_get m.standings here.instance ≡ Some AttachedObject) where
-  upper_fine : (above : List Activation) (v : Waits) → ChainFine s o m (above ++ here ∷ below) v → ChainOn s o m (λ v. v ≡ Takes None) (λ rest. ⊥) (above ++ here ∷ []) v
-  upper_fine [] v f = record {
-    of_text = f.of_text;
-    todo = f.todo;
-    here = f.here;
-    own = f.own;
-    on = λ ends. absurd (stays_not m here.instance here.instance ends stays refl);
-    vals = f.vals;
-    shown = f.shown;
-    kinds = f.kinds;
-    hands = f.hands;
-    expected = f.expected;
-    expects = f.expects;
-    goes = object_work s o m (λ v. ChainFine s o m below v) (below ≡ []) here.instance f.of_text stands here.work f.todo f.expected f.goes;
-  }
-  upper_fine (a ∷ above) v f = record {
-    of_text = f.of_text;
-    todo = f.todo;
-    here = f.here;
-    own = f.own;
-    on = λ ends. f.on ends ∙ ap Some (first_same above here below []);
-    vals = f.vals;
-    shown = f.shown;
-    kinds = f.kinds;
-    hands = f.hands;
-    expected = f.expected;
-    expects = f.expects;
-    goes = work_below s o m (λ v. ChainFine s o m (above ++ here ∷ below) v) (λ v. ChainOn s o m (λ v. v ≡ Takes None) (λ rest. ⊥) (above ++ here ∷ []) v) (above ++ here ∷ below ≡ []) ⊥ (λ v k. upper_fine above v k) (λ e. not_empty above here below e) a.instance f.of_text a.work f.todo f.expected f.goes;
-  }
-
-  lower_fine : (above : List Activation) (v : Waits) → ChainFine s o m (above ++ here ∷ below) v → WaitsBelow s o m here.instance below
-  lower_fine [] v f =
-      let x = object_release s o m (λ v. ChainFine s o m below v) (below ≡ []) here.instance f.of_text stands here.work f.todo f.expected f.goes in
-      record { of_text = f.of_text; todo = f.todo; here = f.here; own = f.own; waits = x.0; release = x.1; fine = x.2 }
-  lower_fine (a ∷ above) v f =
-      ⊎_elim
-      (λ x. lower_fine above x.0 x.1)
-      (λ e. absurd (not_empty above here below e))
-      (ends_with s o m (λ v. ChainFine s o m (above ++ here ∷ below) v) (above ++ here ∷ below ≡ []) a.instance f.of_text a.work f.todo f.expected f.goes)
-
--- ---- an object stands otherwise
-
-module _ (s : Source) (o : AllArrays) (m : Instances) (y : ℕ) (x z : Standing Activation) (is : slice_get m.standings y ≡ Some x) (was_object : IsObject x) (is_object : IsObject z) (store : StoreFine s o m) where
-  abbrev changed : Instances
-  changed = record m { standings = slice_set m.standings y z }
-
-  now_stands : (j : ℕ) → j ≡ y → slice_get changed.standings j ≡ Some z
-  now_stands j same = ap (slice_get changed.standings) same ∙ set_same m.standings y x z is
-
-  others_stand : (j : ℕ) → j ≢ y → slice_get changed.standings j ≡ slice_get m.standings j
-  others_stand j differ = set_other m.standings y j z differ
-
-  nobody_is : (j : ℕ) → j ≡ y → NoObjectStands m j → ⊥
-  nobody_is j same a = subst IsObject (same_some (slice_get m.standings y) x (NoObject None) is (ap (slice_get m.standings) (sym same) ∙ a)) was_object
-
-  later_changed : Later s o m o changed All
-  later_changed =
-      later_instances s o o m changed refl refl (λ j u e. e) (λ j u lives. record { now = u; lives = lives; grown = as_it_was u })
-      (λ j a. ⊎_elim (λ same. (z, now_stands j same, is_object)) (λ differ. (a.0, others_stand j differ ∙ a.1, a.2)) (cases_eq j y))
-      (λ j a. ⊎_elim (λ same. absurd (nobody_is j same a)) (λ differ. others_stand j differ ∙ a) (cases_eq j y))
-
-  chain_changed : (Ground : Waits → Type 0) (Outermost : List Activation → Type 0) (chain : List Activation) (v : Waits) → ChainOn s o m Ground Outermost chain v → ChainOn s o changed Ground Outermost chain v
-  chain_changed Ground Outermost chain v c = chain_later s o m o changed All later_changed All (λ j d k a h n less f. f) Ground Outermost chain (all_apart chain) (all_apart chain) v c
-
-  store_changed : StandsFine s o changed y z → StoreFine s o changed
-  store_changed stands = record {
-    instances = λ j u e. instance_later s o m o changed All later_changed j u tt (store.instances j u e);
-    elements = λ a k it u p l at e. plain_later s o m o changed All later_changed (elements_of u) p (store.elements a k it u p l at e);
-    kept = λ j u e.
-        ⊎_elim
-        (λ same. subst (StandsFine s o changed j) (same_some (slice_get changed.standings j) z u (now_stands j same) e) (subst (λ q. StandsFine s o changed q z) (sym same) stands))
-        (λ differ. standing_later s o m o changed All later_changed All (λ i d k a h n less f. f) j u (standing_apart u) (standing_apart u) (store.kept j u (sym (others_stand j differ) ∙ e)))
-        (cases_eq j y);
-    noted = store.noted;
-  }
-
-  -- no instance comes to stand elsewhere than on another chain
-  placed_changed : (chain chain' : List Activation) → (z ≡ TerminatedObject → ⊥) → ((j : ℕ) → times_on owner j chain' + times_on owner j (chain_in z) ≡ times_on owner j chain + times_on owner j (chain_in x)) → Placed m chain → Placed changed chain'
-  placed_changed chain chain' living moved a =
-      let counted : (j : ℕ) → places changed chain' j ≡ places m chain j =
-      λ j. (let set = kept_set (times_on owner j) m.standings y x z is in let same = moved j in omega (arith, set, same)) in
-      record {
-        once = λ j. (let c = counted j in let once = a.once j in omega (arith, c, once));
-        made = λ j less. counted j ∙ a.made j less;
-        ended = λ j e. ⊎_elim (λ same. absurd (living (same_some (slice_get changed.standings j) z TerminatedObject (now_stands j same) e))) (λ differ. counted j ∙ a.ended j (sym (others_stand j differ) ∙ e)) (cases_eq j y);
-        all = λ j e. (let c = counted j in let there = a.all j e in omega (arith, c, there));
-        as_many = set_len m.standings y z ∙ a.as_many;
-      }
+use Rattle.sim_sound.proofs.Running.{Begun, ChainFine, Headed, IsRelease, Operates, Placed, StoreFine, is_resumed, parts, resumes}
+use Rattle.sim_sound.proofs.Sound.{Component, DeepFine, HandsFine, Kinds, Marks, ObjectOf, Present, Stays, Suspended, Takes, component_kind, see}
+use Rattle.sim_sound.proofs.Standings.{AllFine, Ends, after_one, ends_in_one, joins, keeps_main, kinds_same, later_changed, lets_go, main_on, released_below, then_waits}
 
 -- ---- the transfers
-
--- how an instance stands, if it stands otherwise than one that was never entered
-stands_as : (xs : List (Standing Activation)) (y : ℕ) (x : Standing Activation) → slice_index_or xs y (NoObject None) ≡ x → (NoObject None ≡ x → ⊥) → slice_get xs y ≡ Some x
-stands_as [] y x e other = absurd (other e)
-stands_as (z ∷ xs) zero x e other = ap Some e
-stands_as (z ∷ xs) (suc y) x e other = stands_as xs y x e other
 
 no_ok : {P : Type 0} {a : P} {e : RunError} → ◌≡◌ {A = Result P RunError} (Err e) (Ok a) → ⊥
 no_ok e = cc
@@ -226,58 +43,201 @@ no_ok e = cc
 ok_is : {P : Type 0} {a b : P} → ◌≡◌ {A = Result P RunError} (Ok a) (Ok b) → a ≡ b
 ok_is e = cc
 
-module _ (s : Source) (ok : Typed s) (o : World) (g : Marks) (long : length g.sights ≡ length o.arrays) (m : Instances) (chain : List Activation) (store : StoreFine s (see g o) m) (placed : Placed m chain) (fine : ChainFine s (see g o) m chain (Takes None)) where
+module _ (s : Source) (ok : Typed s) (o : World) (g : Marks) (long : length g.sights ≡ length o.arrays) (m : Instances) (chain : List Activation) (store : StoreFine s (see g o) m) (placed : Placed m chain) (headed : Headed m chain) (fine : ChainFine s (see g o) m chain (Takes None)) where
   abbrev c : Components Activation
-  c = record { operating = chain; standings = m.standings }
+  c = parts m chain
+
+  abbrev head : ℕ → ℕ
+  head = system_head m
 
   abbrev After : Components Activation → Run Configuration
   After d = going_below o d.operating (record m { standings = d.standings })
 
-  goes_below : (chain' : List Activation) (n : Instances) → StoreFine s (see g o) n → Placed n chain' → ChainFine s (see g o) n chain' (Takes None) → Goes (IsFine s) (going_below o chain' n)
-  goes_below [] n store' placed' f = absurd f
-  goes_below (a ∷ rest) n store' placed' f = (g, long, runs store' placed' f)
+  well : IsWellFormed owner head c
+  well = well_formed s (see g o) m chain store placed headed
+
+  here_fine : AllFine s (see g o) m chain (Takes None)
+  here_fine = record { store = store; placed = placed; fine = fine }
 
   goes_after : (d e : Components Activation) → d ≡ e → Goes (IsFine s) (After d) → Goes (IsFine s) (After e)
   goes_after d e same f = subst (λ z. Goes (IsFine s) (After z)) same f
 
-  -- an object is called
-  module _ (y : ℕ) (kept : List Activation) (is : slice_get m.standings y ≡ Some (DetachedObject kept)) where
-    joins : (chain : List Activation) → ChainFine s (see g o) m chain (Takes None) → ChainFine s (see g o) m (kept ++ chain) (Takes None)
-    joins [] f = absurd f
-    joins (b ∷ rest) f = let k = store.kept y (DetachedObject kept) is in joined_fine s (see g o) m y k.stays b rest f kept k.last (Takes None) k.fine
+  -- what is fine and well formed goes on
+  goes_then : (g' : Marks) → length g'.sights ≡ length o.arrays → (d e : Components Activation) → d ≡ e → IsWellFormed owner head e → ((j : ℕ) → is_object_at (record m { standings = d.standings }) j ≡ is_object_at m j) → AllFine s (see g' o) (record m { standings = d.standings }) d.operating (Takes None) → Goes (IsFine s) (After e)
+  goes_then g' long' d e same w kinds f =
+      goes_after d e same (goes_below s o g' long' d.operating (record m { standings = d.standings }) f (headed_then m d (subst (IsWellFormed owner head) (sym same) w) headed.outer kinds))
 
-    moved_up : (j : ℕ) → times_on owner j (kept ++ chain) + 0 ≡ times_on owner j chain + times_on owner j kept
-    moved_up j = let parts = times-append owner j kept chain in omega (arith, parts)
+  stays_on : (d : Components Activation) → c ≡ d → Goes (IsFine s) (After d)
+  stays_on d same = goes_after c d same (goes_below s o g long chain m here_fine headed)
 
-    called_on : Goes (IsFine s) (After (with_standing y AttachedObject (with_operating (kept ++ chain) c)))
-    called_on =
-        goes_below (kept ++ chain) (changed s (see g o) m y (DetachedObject kept) AttachedObject is tt tt store) (store_changed s (see g o) m y (DetachedObject kept) AttachedObject is tt tt store tt)
-        (placed_changed s (see g o) m y (DetachedObject kept) AttachedObject is tt tt store chain (kept ++ chain) (λ e. cc) moved_up placed)
-        (chain_changed s (see g o) m y (DetachedObject kept) AttachedObject is tt tt store (λ v. ⊥) (λ rest. rest ≡ []) (kept ++ chain) (Takes None) (joins chain fine))
+  first_is : (q : List Activation) → ChainFine s (see g o) m q (Takes None) → (b : Activation) × (rest : List Activation) × (q ≡ b ∷ rest)
+  first_is [] f = absurd f
+  first_is (b ∷ rest) f = (b, rest, refl)
+
+  -- ---- an object is called
+
+  called_on : (y : ℕ) (u : List Activation) (d : Components Activation) → slice_get m.standings y ≡ Some (DetachedObject u) → with_standing y AttachedObject (with_operating (u ++ chain) c) ≡ d → call c (Some y) ≡ Ok d → Goes (IsFine s) (After d)
+  called_on y u d is same e =
+      let b = first_is chain fine in
+      let v = see g o in
+      goes_then g long (with_standing y AttachedObject (with_operating (u ++ chain) c)) d same (call_law owner head c d (Some y) well e) (kinds_same s v v m y (DetachedObject u) AttachedObject is refl refl refl refl)
+      (subst (λ q. AllFine s v (record m { standings = slice_set m.standings y AttachedObject }) (u ++ q) (Takes None)) (sym b.2)
+      (joins s v m y u AttachedObject is tt refl (λ z. cc) (λ q n a. tt) b.0 b.1 (Takes None) (λ t. tt) (subst (λ q. AllFine s v m q (Takes None)) b.2 here_fine)))
 
   call_on : (y : Option ℕ) (d : Components Activation) → call c y ≡ Ok d → Goes (IsFine s) (After d)
   call_on None d e = absurd (no_ok e)
-  call_on (Some y) d e = by_standing (standing_of c y) refl e
+  call_on (Some y) d e = by_standing (standing_of c y) refl (e)
     where
       by_standing : (x : Standing Activation) → standing_of c y ≡ x → call_by x c y ≡ Ok d → Goes (IsFine s) (After d)
-      by_standing (NoObject main) is e = absurd (no_ok e)
-      by_standing AttachedObject is e = absurd (no_ok e)
-      by_standing TerminatedObject is e = absurd (no_ok e)
-      by_standing ResumedObject is e = absurd (no_ok e)
-      by_standing (DetachedObject kept) is e = goes_after _ d (ok_is e) (called_on y kept (stands_as m.standings y (DetachedObject kept) is (λ e. cc)))
+      by_standing (NoObject main) is q = absurd (no_ok q)
+      by_standing AttachedObject is q = absurd (no_ok q)
+      by_standing TerminatedObject is q = absurd (no_ok q)
+      by_standing ResumedObject is q = absurd (no_ok q)
+      by_standing (DetachedObject u) is q = called_on y u d (stands_as m.standings y (DetachedObject u) is (λ z. cc)) (ok_is q) e
 
-  pub called : (line : ℕ) (y : Option ℕ) → Goes (IsFine s) (having (transferred owner Calling c y) o (λ r. computing line r o After))
+  pub called : (line : ℕ) (y : Option ℕ) → Goes (IsFine s) (having (transferred owner Calling head c y) o (λ r. computing line r o After))
   called line y = had (IsFine s) (Some (call c y)) (call c y) o (λ r. computing line r o After) refl (computed (IsFine s) line (call c y) o After (λ d e. call_on y d e))
 
-  -- an object detaches itself
+  -- ---- the chain is cut at a system head
+
+  module _ (y : ℕ) (k : Cut Activation) (cut : IsCut owner y chain k) where
+    here_is : (k.here).instance ≡ y
+    here_is = let e = cut.here in cc
+
+    whole : AllFine s (see g o) m (k.above ++ k.here ∷ k.below) (Takes None)
+    whole = subst (λ z. AllFine s (see g o) m z (Takes None)) (sym cut.chain) here_fine
+
+    -- what stands on the chain has a number
+    there : (x : Standing Activation) → standing_of c y ≡ x → slice_get m.standings y ≡ Some x
+    there x is =
+        ⊎_elim
+        (λ less. let q = there_get m.standings y less in q.1 ∙ ap (λ z. Some z) (sym (at_is m.standings y q.0 (NoObject None) q.1) ∙ is))
+        (λ more. absurd (let many = placed.as_many in let none = placed.made y (omega (arith, more, many)) in let parts = times-append owner y k.above (k.here ∷ k.below) in let all = ap (times_on owner y) cut.chain in let one = here_once (k.here).instance y here_is in omega (arith, none, parts, all, one)))
+        (cases_lt y (length m.standings))
+
+    -- the resumed object above it lets go
+    module _ (main : List Activation) (keeps : standing_of c y ≡ NoObject (Some main)) where
+      r : HasResumed owner head c y
+      r = headed.main y main keeps
+
+      last : outermost owner k.above ≡ Some r.object
+      last = directly owner head c y k r.object well cut r.resumed r.its_head
+
+      end : Ends k.above r.object
+      end = ends_in_one k.above r.object last
+
+      abbrev Without : Instances
+      Without = record m { standings = slice_set m.standings r.object (DetachedObject k.above) }
+
+      resumed_is : slice_get m.standings r.object ≡ Some ResumedObject
+      resumed_is = stands_as m.standings r.object ResumedObject r.resumed (λ z. cc)
+
+      keeps_is : slice_get m.standings y ≡ Some (NoObject (Some main))
+      keeps_is = stands_as m.standings y (NoObject (Some main)) keeps (λ z. cc)
+
+      head_apart : y ≢ r.object
+      head_apart same = let as_it = ap (slice_get m.standings) same in let a = keeps_is in let b = resumed_is in cc
+
+      joined_there : AllFine s (see g o) m (end.above ++ end.here ∷ k.here ∷ k.below) (Takes None)
+      joined_there = subst (λ z. AllFine s (see g o) m z (Takes None)) (ap (λ z. z ++ k.here ∷ k.below) end.is ∙ after_one end.above end.here (k.here ∷ k.below)) whole
+
+      object_stays : Stays m r.object
+      object_stays = store.kept r.object ResumedObject resumed_is
+
+      let_go : AllFine s (see g o) Without (k.here ∷ k.below) Suspended
+      let_go =
+          let b = released_below s (see g o) m r.object ResumedObject resumed_is tt refl object_stays end.above end.here (k.here ∷ k.below) end.its k.above end.is joined_there in
+          let resumed : resumes m (end.here).instance ≡ true = ap (resumes m) end.its ∙ ap (λ q. is_resumed q) resumed_is in
+          subst (AllFine s (see g o) Without (k.here ∷ k.below)) (suspended (end.here).instance b.of_text b.waits (subst (λ q. IsRelease q (end.here).instance b.of_text b.waits) resumed b.release))
+          (lets_go s (see g o) m r.object ResumedObject resumed_is tt refl object_stays end.above end.here (k.here ∷ k.below) end.its k.above end.is joined_there)
+
+      kinds_without : (j : ℕ) → is_object_at Without j ≡ is_object_at m j
+      kinds_without j = kinds_same s (see g o) (see g o) m r.object ResumedObject (DetachedObject k.above) resumed_is refl refl refl refl j
+
+      -- and the main component goes on
+      main_goes : (d : Components Activation) → with_standing y (NoObject None) (with_operating (main ++ k.here ∷ k.below) (kept owner y k.above c)) ≡ d → IsWellFormed owner head d → Goes (IsFine s) (After d)
+      main_goes d same w =
+          let is = set_other m.standings r.object y (DetachedObject k.above) head_apart ∙ keeps_is in
+          goes_then g long (with_standing y (NoObject None) (with_operating (main ++ k.here ∷ k.below) (with_standing r.object (DetachedObject k.above) c))) d
+          (ap (λ z. with_standing y (NoObject None) (with_operating (main ++ k.here ∷ k.below) z)) (sym (kept_object owner head c y r.object main k.above keeps last)) ∙ same) w
+          (λ j. kinds_same s (see g o) (see g o) Without y (NoObject (Some main)) (NoObject None) is refl refl refl refl j ∙ kinds_without j)
+          (main_on s (see g o) Without y main is k.here k.below here_is let_go)
+
+    -- a detached object of the system is resumed
+    module _ (x : ℕ) (u : List Activation) (is : slice_get m.standings x ≡ Some (DetachedObject u)) where
+      abbrev To : Components Activation → Components Activation
+      To z = with_standing x ResumedObject (with_operating (u ++ k.here ∷ k.below) z)
+
+      resume_goes : (d : Components Activation) → To (kept owner y k.above c) ≡ d → IsWellFormed owner head d → (z : Standing Activation) → standing_of c y ≡ z → is_object z ≡ false → Goes (IsFine s) (After d)
+      resume_goes d same w (NoObject None) at none =
+          let v = see g o in
+          let at_y = there (NoObject None) at in
+          let apart : x ≢ y = λ q. (let as_it = ap (slice_get m.standings) q in cc) in
+          let g' : Marks = record g { waiting = then_waits s v m y at_y k.above k.here k.below here_is whole } in
+          let n : Instances = record m { standings = slice_set m.standings y (NoObject (Some k.above)) } in
+          let is_x = set_other m.standings y x (NoObject (Some k.above)) apart ∙ is in
+          goes_then g' long (To (with_standing y (NoObject (Some k.above)) c)) d (ap (λ z. To (kept_by owner z y k.above c)) (sym at) ∙ same) w
+          (λ j. kinds_same s v v n x (DetachedObject u) ResumedObject is_x refl refl refl refl j ∙ kinds_same s v v m y (NoObject None) (NoObject (Some k.above)) at_y refl refl refl refl j)
+          (joins s (see g' o) n x u ResumedObject is_x tt refl (λ q. cc) (λ q n a. a) k.here k.below Suspended (λ t. tt) (keeps_main s v m y at_y k.above k.here k.below here_is whole))
+      resume_goes d same w (NoObject (Some main)) at none =
+          let v = see g o in
+          let apart : x ≢ (r main at).object = λ q. (let as_it = ap (slice_get m.standings) q in let b = resumed_is main at in cc) in
+          let is_x = set_other m.standings (r main at).object x (DetachedObject k.above) apart ∙ is in
+          let n : Instances = record m { standings = slice_set m.standings (r main at).object (DetachedObject k.above) } in
+          goes_then g long (To (with_standing (r main at).object (DetachedObject k.above) c)) d (ap To (sym (kept_object owner head c y (r main at).object main k.above at (last main at))) ∙ same) w
+          (λ j. kinds_same s v v n x (DetachedObject u) ResumedObject is_x refl refl refl refl j ∙ kinds_without main at j)
+          (joins s v n x u ResumedObject is_x tt refl (λ q. cc) (λ q n a. a) k.here k.below Suspended (λ t. tt) (let_go main at))
+      resume_goes d same w AttachedObject at none = absurd (cc)
+      resume_goes d same w (DetachedObject z) at none = absurd (cc)
+      resume_goes d same w ResumedObject at none = absurd (cc)
+      resume_goes d same w TerminatedObject at none = absurd (cc)
+
+  -- ---- an object is resumed
+
+  resume_on : (y : Option ℕ) (d : Components Activation) → resume owner head c y ≡ Ok d → Goes (IsFine s) (After d)
+  resume_on None d e = absurd (no_ok e)
+  resume_on (Some y) d e = by_standing (standing_of c y) refl e
+    where
+      by_cut : (u : List Activation) → slice_get m.standings y ≡ Some (DetachedObject u) → (k : Option (Cut Activation)) → cut_at owner (head y) chain ≡ k → resume_at owner k u c (head y) y ≡ Ok d → Goes (IsFine s) (After d)
+      by_cut u is None cut q = absurd (no_ok q)
+      by_cut u is (Some k) cut q = resume_goes (head y) k (cut_is owner (head y) chain k cut) y u is d (ok_is q) (resume_law owner head c d (Some y) well e) (standing_of c (head y)) refl (head_outer m headed.outer y)
+
+      by_standing : (x : Standing Activation) → standing_of c y ≡ x → resume_by owner x c (head y) y ≡ Ok d → Goes (IsFine s) (After d)
+      by_standing (NoObject main) is q = absurd (no_ok q)
+      by_standing AttachedObject is q = absurd (no_ok q)
+      by_standing TerminatedObject is q = absurd (no_ok q)
+      by_standing ResumedObject is q = stays_on d (ok_is q)
+      by_standing (DetachedObject u) is q = by_cut u (stands_as m.standings y (DetachedObject u) is (λ z. cc)) (cut_at owner (head y) chain) refl q
+
+  pub resumes_on : (line : ℕ) (y : Option ℕ) → Goes (IsFine s) (having (transferred owner Resuming head c y) o (λ r. computing line r o After))
+  resumes_on line y = had (IsFine s) (Some (resume owner head c y)) (resume owner head c y) o (λ r. computing line r o After) refl (computed (IsFine s) line (resume owner head c y) o After (λ d e. resume_on y d e))
+
+  -- ---- an object detaches itself
+
+  -- where it is resumed, the main component of its system goes on
+  main_on_again : (y : ℕ) (d : Components Activation) → resume_main owner c y ≡ Ok d → Goes (IsFine s) (After d)
+  main_on_again y d e = by_standing (standing_of c y) refl e
+    where
+      by_cut : (main : List Activation) → standing_of c y ≡ NoObject (Some main) → (k : Option (Cut Activation)) → cut_at owner y chain ≡ k → main_at owner k main c y ≡ Ok d → Goes (IsFine s) (After d)
+      by_cut main is None cut q = absurd (no_ok q)
+      by_cut main is (Some k) cut q = main_goes y k (cut_is owner y chain k cut) main is d (ok_is q) (main_law owner head c d y well e)
+
+      by_standing : (x : Standing Activation) → standing_of c y ≡ x → main_by owner x c y ≡ Ok d → Goes (IsFine s) (After d)
+      by_standing (NoObject None) is q = stays_on d (ok_is q)
+      by_standing (NoObject (Some main)) is q = by_cut main is (cut_at owner y chain) refl q
+      by_standing AttachedObject is q = stays_on d (ok_is q)
+      by_standing (DetachedObject u) is q = stays_on d (ok_is q)
+      by_standing ResumedObject is q = stays_on d (ok_is q)
+      by_standing TerminatedObject is q = stays_on d (ok_is q)
+
   module _ (y class : ℕ) (object : ObjectOf s m y class) where
     stays : Stays m y
     stays = record { now = object.now; lives = object.lives; stays = object.stays }
 
     -- it is one of the class of its own text
-    own_class : (t : ℕ) (todo : List DeclNo) (p : Present s m y t todo) → (p.now).text ≡ t → ObjectOf s m y t
-    own_class t todo p own =
-        let same = same_some (live m y) p.now object.now p.lives object.lives in
+    own_class : (t : ℕ) (todo : List DeclNo) (i : ℕ) → i ≡ y → (p : Present s m i t todo) → (p.now).text ≡ t → ObjectOf s m y t
+    own_class t todo i at p own =
+        let same = same_some (live m y) p.now object.now (ap (live m) (sym at) ∙ p.lives) object.lives in
         let is : (object.now).text ≡ t = ap (λ z. z.text) (sym same) ∙ own in
         record {
           now = object.now;
@@ -290,74 +250,40 @@ module _ (s : Source) (ok : Typed s) (o : World) (g : Marks) (long : length g.si
           made = object.made;
         }
 
-    module _ (k : Cut Activation) (cut : IsCut owner y chain k) (is : slice_get m.standings y ≡ Some AttachedObject) where
-      here_is : (k.here).instance ≡ y
-      here_is = let e = cut.here in cc
+    left_on : slice_get m.standings y ≡ Some AttachedObject → (k : Cut Activation) → IsCut owner y chain k → (d : Components Activation) → with_standing y (DetachedObject (upper k)) (with_operating k.below c) ≡ d → IsWellFormed owner head d → Goes (IsFine s) (After d)
+    left_on is k cut d same w =
+        let v = see g o in
+        let at = here_is y k cut in
+        let f = whole y k cut in
+        let n : Instances = record m { standings = slice_set m.standings y (DetachedObject (upper k)) } in
+        let b = released_below s v m y AttachedObject is tt refl stays k.above k.here k.below at (upper k) refl f in
+        let a : AllFine s v n k.below b.waits = lets_go s v m y AttachedObject is tt refl stays k.above k.here k.below at (upper k) refl f in
+        let unresumed : resumes m (k.here).instance ≡ false = ap (resumes m) at ∙ ap (λ q. is_resumed q) is in
+        let release : IsRelease false y b.of_text b.waits = subst (λ q. IsRelease false q b.of_text b.waits) at (subst (λ q. IsRelease q (k.here).instance b.of_text b.waits) unresumed b.release) in
+        let e : Later s v m v n All = later_changed s v v m y AttachedObject (DetachedObject (upper k)) is refl refl refl refl in
+        goes_then g long (with_standing y (DetachedObject (upper k)) (with_operating k.below c)) d same w (kinds_same s v v m y AttachedObject (DetachedObject (upper k)) is refl refl refl refl)
+        (record { store = a.store; placed = a.placed; fine = released s ok v n a.store k.below b.waits y b.of_text release (object_later s v m v n All e y b.of_text (own_class b.of_text b.todo (k.here).instance at b.here b.own)) a.fine })
 
-      whole : ChainFine s (see g o) m (k.above ++ k.here ∷ k.below) (Takes None)
-      whole = subst (λ z. ChainFine s (see g o) m z (Takes None)) (sym cut.chain) fine
-
-      abbrev Left : Instances
-      Left = changed s (see g o) m y AttachedObject (DetachedObject (upper k)) is tt tt store
-
-      e : Later s (see g o) m (see g o) Left All
-      e = later_changed s (see g o) m y AttachedObject (DetachedObject (upper k)) is tt tt store
-
-      stays_here : Stays m (k.here).instance
-      stays_here = subst (Stays m) (sym here_is) stays
-
-      stands_here : slice_get m.standings (k.here).instance ≡ Some AttachedObject
-      stands_here = ap (slice_get m.standings) here_is ∙ is
-
-      kept_upper : KeptChain s (see g o) Left y (upper k)
-      kept_upper = record {
-        stays = stays_later s (see g o) m (see g o) Left All e y stays;
-        last = outermost-append owner k.above k.here ∙ cut.here;
-        fine = chain_changed s (see g o) m y AttachedObject (DetachedObject (upper k)) is tt tt store (λ v. v ≡ Takes None) (λ rest. ⊥) (upper k) (Takes None) (upper_fine s (see g o) m k.here k.below stays_here stands_here k.above (Takes None) whole);
-      }
-
-      store_left : StoreFine s (see g o) Left
-      store_left = store_changed s (see g o) m y AttachedObject (DetachedObject (upper k)) is tt tt store kept_upper
-
-      moved_down : (j : ℕ) → times_on owner j k.below + times_on owner j (upper k) ≡ times_on owner j chain + 0
-      moved_down j =
-          let parts = times-append owner j k.above (k.here ∷ k.below) in
-          let above = times-append owner j k.above (k.here ∷ []) in
-          let all = ap (times_on owner j) cut.chain in
-          omega (arith, parts, above, all)
-
-      below_left : ChainFine s (see g o) Left k.below (Takes None)
-      below_left =
-          let b = lower_fine s (see g o) m k.here k.below stays_here stands_here k.above (Takes None) whole in
-          let q = moved_here b.of_text b.todo (k.here).instance here_is b.here b.own in
-          released s ok (see g o) Left store_left k.below b.waits y b.of_text (subst (λ z. IsRelease z b.of_text b.waits) here_is b.release)
-          (object_later s (see g o) m (see g o) Left All e y b.of_text (own_class b.of_text b.todo q.0 q.1))
-          (chain_changed s (see g o) m y AttachedObject (DetachedObject (upper k)) is tt tt store (λ v. ⊥) (λ rest. rest ≡ []) k.below b.waits b.fine)
-        where
-          moved_here : (t : ℕ) (todo : List DeclNo) (i : ℕ) → i ≡ y → (p : Present s m i t todo) → (p.now).text ≡ t → (q : Present s m y t todo) × ((q.now).text ≡ t)
-          moved_here t todo i same p own = (record { now = p.now; lives = ap (live m) (sym same) ∙ p.lives; stands = p.stands; words = p.words; has_text = p.has_text; made = p.made }, own)
-
-      left_on : Goes (IsFine s) (After (with_standing y (DetachedObject (upper k)) (with_operating k.below c)))
-      left_on =
-          goes_below k.below Left store_left
-          (placed_changed s (see g o) m y AttachedObject (DetachedObject (upper k)) is tt tt store chain k.below (λ e. cc) moved_down placed)
-          below_left
-
-    leaves_on : slice_get m.standings y ≡ Some AttachedObject → (k : Option (Cut Activation)) → cut_at owner y chain ≡ k → (d : Components Activation) → leave_at owner k c y ≡ Ok d → Goes (IsFine s) (After d)
-    leaves_on is None cut d e = absurd (no_ok e)
-    leaves_on is (Some k) cut d e = goes_after _ d (ok_is e) (left_on k (cut_is owner y chain k cut) is)
-
-    pub detaches : (line : ℕ) → Goes (IsFine s) (having (detached owner c y) o (λ r. computing line r o After))
-    detaches line = by_standing (standing_of c y) refl
+    detach_on : (d : Components Activation) → detach owner head c y ≡ Ok d → Goes (IsFine s) (After d)
+    detach_on d e = by_standing (standing_of c y) refl e
       where
-        by_standing : (x : Standing Activation) → standing_of c y ≡ x → Goes (IsFine s) (having (detached_by owner x c y) o (λ r. computing line r o After))
-        by_standing (NoObject main) is = had (IsFine s) (Some (Ok c)) (Ok c) o (λ r. computing line r o After) refl (computed (IsFine s) line (Ok c) o After (λ d e. goes_after c d (ok_is e) (goes_below chain m store placed fine)))
-        by_standing AttachedObject is =
-            had (IsFine s) (Some (leave_at owner (cut_at owner y chain) c y)) (leave_at owner (cut_at owner y chain) c y) o (λ r. computing line r o After) refl
-            (computed (IsFine s) line (leave_at owner (cut_at owner y chain) c y) o After (λ d e. leaves_on (stands_as m.standings y AttachedObject is (λ e. cc)) (cut_at owner y chain) refl d e))
-        by_standing (DetachedObject kept) is = had (IsFine s) (Some (Err _)) (Err _) o (λ r. computing line r o After) refl (computed (IsFine s) line (Err _) o After (λ d e. absurd (no_ok e)))
-        by_standing TerminatedObject is = had (IsFine s) (Some (Err _)) (Err _) o (λ r. computing line r o After) refl (computed (IsFine s) line (Err _) o After (λ d e. absurd (no_ok e)))
-        by_standing ResumedObject is = absurd (store.kept y ResumedObject (stands_as m.standings y ResumedObject is (λ e. cc)))
+        by_cut : slice_get m.standings y ≡ Some AttachedObject → (k : Option (Cut Activation)) → cut_at owner y chain ≡ k → leave_at owner k c y ≡ Ok d → Goes (IsFine s) (After d)
+        by_cut is None cut q = absurd (no_ok q)
+        by_cut is (Some k) cut q = left_on is k (cut_is owner y chain k cut) d (ok_is q) (detach_law owner head c d y well e)
+
+        by_place : (k : Option (Cut Activation)) → give_up_at owner k c (head y) ≡ Ok d → Goes (IsFine s) (After d)
+        by_place None q = absurd (no_ok q)
+        by_place (Some k) q = main_on_again (head y) d q
+
+        by_standing : (x : Standing Activation) → standing_of c y ≡ x → detach_by owner x c (head y) y ≡ Ok d → Goes (IsFine s) (After d)
+        by_standing (NoObject main) is q = stays_on d (ok_is q)
+        by_standing AttachedObject is q = by_cut (stands_as m.standings y AttachedObject is (λ z. cc)) (cut_at owner y chain) refl q
+        by_standing ResumedObject is q = by_place (cut_at owner y chain) q
+        by_standing (DetachedObject u) is q = absurd (no_ok q)
+        by_standing TerminatedObject is q = absurd (no_ok q)
+
+    pub detaches : (line : ℕ) → Goes (IsFine s) (having (transferred owner Detaching head c (Some y)) o (λ r. computing line r o After))
+    detaches line = had (IsFine s) (Some (detach owner head c y)) (detach owner head c y) o (λ r. computing line r o After) refl (computed (IsFine s) line (detach owner head c y) o After (λ d e. detach_on d e))
 
 module _ (s : Source) (ok : Typed s) (l : Limits) (o : World) (g : Marks) (long : length g.sights ≡ length o.arrays) (m : Instances) (i t : ℕ) (rest : List Activation) (top : Operates g.beneath m i rest) (w : List Item) (vals : List Val) (todo todo' : List DeclNo) (before behind : List Kinds) (b : Begun s (see g o) m i t todo) (h : HandsFine s (see g o) m i before vals) (work : Work s o g long m i t rest top w todo' behind) where
   abbrev Chain : List Val → List Activation
@@ -368,16 +294,25 @@ module _ (s : Source) (ok : Typed s) (l : Limits) (o : World) (g : Marks) (long 
 
   calls : todo' ≡ todo → (line : ℕ) (vs : List Val) → HandsFine s (see g o) m i behind vs → (p : Plain) → kind_of p ≡ kind.Reference → Goes (IsFine s) (transferring owner Calling line o (Chain vs) m p)
   unfolding transferring
-  calls same line vs more (Object j) e = had (IsFine s) (Some (Some j)) (Some j) o _ refl (called s ok o g long m (Chain vs) b.store (placed_as m i w vs rest top.placed) (waits_fine same vs more) line (Some j))
-  calls same line vs more Nothing e = had (IsFine s) (Some None) None o _ refl (called s ok o g long m (Chain vs) b.store (placed_as m i w vs rest top.placed) (waits_fine same vs more) line None)
+  calls same line vs more (Object j) e = had (IsFine s) (Some (Some j)) (Some j) o _ refl (called s ok o g long m (Chain vs) b.store (placed_as m i w vs rest top.placed) (headed_as m i w vs rest top.headed) (waits_fine same vs more) line (Some j))
+  calls same line vs more Nothing e = had (IsFine s) (Some None) None o _ refl (called s ok o g long m (Chain vs) b.store (placed_as m i w vs rest top.placed) (headed_as m i w vs rest top.headed) (waits_fine same vs more) line None)
   calls same line vs more (Integer z) e = absurd (cc)
   calls same line vs more (Character z) e = absurd (cc)
   calls same line vs more (Truth z) e = absurd (cc)
   calls same line vs more (Text z) e = absurd (cc)
 
+  resumptions : todo' ≡ todo → (line : ℕ) (vs : List Val) → HandsFine s (see g o) m i behind vs → (p : Plain) → kind_of p ≡ kind.Reference → Goes (IsFine s) (transferring owner Resuming line o (Chain vs) m p)
+  unfolding transferring
+  resumptions same line vs more (Object j) e = had (IsFine s) (Some (Some j)) (Some j) o _ refl (resumes_on s ok o g long m (Chain vs) b.store (placed_as m i w vs rest top.placed) (headed_as m i w vs rest top.headed) (waits_fine same vs more) line (Some j))
+  resumptions same line vs more Nothing e = had (IsFine s) (Some None) None o _ refl (resumes_on s ok o g long m (Chain vs) b.store (placed_as m i w vs rest top.placed) (headed_as m i w vs rest top.headed) (waits_fine same vs more) line None)
+  resumptions same line vs more (Integer z) e = absurd (cc)
+  resumptions same line vs more (Character z) e = absurd (cc)
+  resumptions same line vs more (Truth z) e = absurd (cc)
+  resumptions same line vs more (Text z) e = absurd (cc)
+
   leaves : todo' ≡ todo → (line : ℕ) (vs : List Val) → HandsFine s (see g o) m i behind vs → (j c : ℕ) → ObjectOf s m j c → Goes (IsFine s) (transferring owner Detaching line o (Chain vs) m (Object j))
   unfolding transferring
-  leaves same line vs more j c object = had (IsFine s) (Some (Some j)) (Some j) o _ refl (detaches s ok o g long m (Chain vs) b.store (placed_as m i w vs rest top.placed) (waits_fine same vs more) j c object line)
+  leaves same line vs more j c object = had (IsFine s) (Some (Some j)) (Some j) o _ refl (detaches s ok o g long m (Chain vs) b.store (placed_as m i w vs rest top.placed) (headed_as m i w vs rest top.headed) (waits_fine same vs more) j c object line)
 
   -- the value in hand is an object
   object_in_hand : todo' ≡ todo → (line : ℕ) (vs : List Val) → HandsFine s (see g o) m i behind vs → (v : Val) → DeepFine s (see g o) m i (length vs) Component v → Goes (IsFine s) (having (plain v) o (λ p. transferring owner Detaching line o (Chain vs) m p))
@@ -397,5 +332,7 @@ module _ (s : Source) (ok : Typed s) (l : Limits) (o : World) (g : Marks) (long 
   unfolding pop_plain
   transfer_op Calling line a =
       known_popped (IsFine s) s (see g o) m i kind.Reference behind vals o (λ p vs. transferring owner Calling line o (Chain vs) m p) (subst (λ z. HandsFine s (see g o) m i z vals) a.0 h) (λ p vs fine more. calls a.1 line vs more p fine.0)
+  transfer_op Resuming line a =
+      known_popped (IsFine s) s (see g o) m i kind.Reference behind vals o (λ p vs. transferring owner Resuming line o (Chain vs) m p) (subst (λ z. HandsFine s (see g o) m i z vals) a.0 h) (λ p vs fine more. resumptions a.1 line vs more p fine.0)
   transfer_op Detaching line a =
       any_popped (IsFine s) s (see g o) m i Component behind vals o (λ v vs. having (plain v) o (λ p. transferring owner Detaching line o (Chain vs) m p)) (subst (λ z. HandsFine s (see g o) m i z vals) a.0 h) (λ v vs same fine more. object_in_hand a.1 line vs more v fine)

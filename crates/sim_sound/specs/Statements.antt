@@ -17,7 +17,7 @@ use Rattle.sim_tree.specs.Syntax.{Also, Arms, Begin, Block, Declarations, Elemen
 use Rattle.sim_tree.specs.Syntax as syntax
 use Rattle.sim_values.specs.declared.kind.Kind.{Kind}
 use Rattle.sim_values.specs.declared.kind.Kind.TheVariants as kind
-use Rattle.sim_code.specs.Transfers.{Calling, Detaching, Transfer}
+use Rattle.sim_code.specs.Transfers.{Calling, Detaching, Resuming, Transfer}
 use Rattle.sim_meaning.specs.Attributes.{connection_at, first_in, transfer_at}
 use Rattle.sim_meaning.specs.Closing.{class_parameters, is_text, result_meant, stream_of, typed_token}
 use Rattle.sim_meaning.specs.Levels.{class_at, is_class, qualification}
@@ -134,10 +134,11 @@ abbrev pub is_given : Option Holds → Bool
 is_given None = false
 is_given (Some h) = true
 
--- a transfer of control: `detach` of what is found around, without an actual parameter; `call` of a reference
+-- a transfer of control: `detach` of what is found around, without an actual parameter; `call` and `resume` of a reference
 abbrev pub TransferIs : Source → ℕ → Transfer → (found : Option ℕ) → Expressions → Type 0
 TransferIs s t Detaching found es = ThisFound s (In t) found (Simply kind.Reference) × AreOf s (In t) es []
 TransferIs s t Calling found es = AreOf s (In t) es (kind.Reference ∷ [])
+TransferIs s t Resuming found es = AreOf s (In t) es (kind.Reference ∷ [])
 
 abbrev pub OrTransferIs : Option Transfer → (Transfers : Transfer → Type 0) → (Other : Type 0) → Type 0
 OrTransferIs None Transfers Other = Other

@@ -14,7 +14,8 @@ pub fn typed_programs_have_a_rule()
     ensures { (s : Source) → Typed s → (l : Limits) (input : List ℕ) (n : ℕ) (o : World) → run s l input n ≡ Ended o NoRule → ⊥ }
 {}
 
-/// At each moment of a typed program's run the instance that operates lives with its enclosers, and stands at no other place of the chains.
+/// At each moment of a typed program's run the instance that operates lives with its enclosers, and stands at no other place of the chains; and
+/// the components are as transfers of control leave them.
 #[tactic(auto, using(crate::proofs::Main::stays_sane))]
 pub fn typed_programs_stay_sane()
     ensures { (s : Source) → Typed s → StaysSane s }

@@ -1,5 +1,5 @@
--- Which sources have a standard name that is not built, by their tokens: `resume`, or one of sets or of simulation. As long as these are not built,
--- `run` refuses such a source before any rule on names and types.
+-- Which sources have a standard name that is not built, by their tokens: one of sets or of simulation. As long as these are not built, `run`
+-- refuses such a source before any rule on names and types.
 use Rattle.std.specs.Prelude.{◌≡◌, ℕ, Bool, true, false, ◌||◌, ◌&&◌, not, List, [], ◌∷◌, codes, drop}
 use Rattle.std.specs.List.{list_any}
 use Rattle.std.specs.Str.{bytes_eq}
@@ -10,9 +10,9 @@ use Rattle.sim_base.specs.declared.token.TokenValue.{TokenValue}
 use Rattle.sim_base.specs.Lexeme.{bytes_of}
 use Rattle.sim_scope.specs.ClassNames.{is_name_of_classes}
 
--- `detach` and `call` are built
+-- those of coroutines are built
 abbrev pub names_built : List (List ℕ)
-names_built = codes "detach" ∷ codes "call" ∷ []
+names_built = codes "detach" ∷ codes "call" ∷ codes "resume" ∷ []
 
 unfoldable pub is_unbuilt_name : List ℕ → Bool
 is_unbuilt_name name = is_name_of_classes name && not (list_any (bytes_eq name) names_built)

@@ -31,7 +31,7 @@ static NAMES_OF_SIMULATION: [&str; 13] = [
 ];
 
 /// Those of them that are built.
-static NAMES_BUILT: [&str; 2] = ["detach", "call"];
+static NAMES_BUILT: [&str; 3] = ["detach", "call", "resume"];
 
 fn contains(names: &[&str], name: &[u8]) -> bool
     ensures { result ≡ list_any (λ word. bytes_eq name.now word.now) names.now }
@@ -103,8 +103,8 @@ fn spells_here(dotted: bool, token: &Token) -> bool
     spells(dotted, token.lexeme.kind, &token.lexeme.value)
 }
 
-/// Whether the tokens of a source have an identifier that is spelt as a standard name that is not built: `resume`, or one of sets or of
-/// simulation. Behind a dot none is: these are attributes of the standard classes alone, which are named where they are used.
+/// Whether the tokens of a source have an identifier that is spelt as a standard name that is not built: one of sets or of simulation. Behind a
+/// dot none is: these are attributes of the standard classes alone, which are named where they are used.
 #[tactic(auto, using(crate::proofs::Names::named))]
 pub fn has_unbuilt_name(tokens: &[Token]) -> bool
     ensures { HasUnbuiltName tokens.now result }

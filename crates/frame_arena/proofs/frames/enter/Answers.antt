@@ -1,5 +1,6 @@
 use Rattle.std.proofs.Common.{sym, refl, ap, ◌∙◌}
-use Rattle.frame_arena.proofs.Changes.{detached_set, frame_same}
+use Rattle.frame_arena.specs.Frames.{keeps_chain}
+use Rattle.frame_arena.proofs.Changes.{frame_same, kept_set, off}
 use Rattle.frame_arena.proofs.Entries.{enters, here_entered, leads_entered}
 use Rattle.frame_arena.proofs.Rooms.{rooms_kept}
 use Rattle.frame_arena.proofs.frames.enter.Goals as goal
@@ -16,5 +17,7 @@ returns-clause-leads c m x standing r leads = leads_entered c.args.frames.now m 
 pub returns-clause-here : goal.returns-clause-here
 returns-clause-here c = here_entered c.args.frames.now c.args.place _ c.requires.there refl
 
-pub returns-clause-detached : goal.returns-clause-detached
-returns-clause-detached c = detached_set c.args.frames.now c.args.place _ (λ n h. absurd (c.first_component-frame.ensures.other (sym (ap (λ g. g.component) (frame_same c.args.frames.now c.args.place _ c.requires.there)) ∙ h.1)))
+pub returns-clause-chains : goal.returns-clause-chains
+returns-clause-chains c =
+    kept_set c.args.frames.now c.args.place _
+    (λ n x h. absurd (off (sym c.first_component-frame.ensures.other ∙ ap (λ x. keeps_chain x) (sym (ap (λ g. g.component) (frame_same c.args.frames.now c.args.place _ c.requires.there)) ∙ h.1) ∙ h.2)))

@@ -1,5 +1,5 @@
 use Rattle.std.proofs.Common.{refl}
-use Rattle.frame_arena.proofs.Changes.{detached_given, gives}
+use Rattle.frame_arena.proofs.Changes.{kept_given, gives}
 use Rattle.frame_arena.proofs.Leading.{gives_leading}
 use Rattle.frame_arena.proofs.Rooms.{rooms_kept}
 use Rattle.frame_arena.proofs.frames.give_back.Goals as goal
@@ -22,8 +22,8 @@ returns-then-block-heads-clause-leads c cells m r h leads = gives_leading c.args
 pub returns-else-block-heads-clause-leads : goal.returns-else-block-heads-clause-leads
 returns-else-block-heads-clause-leads c cells m r h leads = gives_leading c.args.frames.now cells m c.args.place _ r h c.requires.there c.requires.live leads
 
-pub returns-then-block-heads-clause-detached : goal.returns-then-block-heads-clause-detached
-returns-then-block-heads-clause-detached c = detached_given c.args.frames.now c.args.place _ c.requires.there refl
+pub returns-then-block-heads-clause-chains : goal.returns-then-block-heads-clause-chains
+returns-then-block-heads-clause-chains c = kept_given c.args.frames.now c.args.place _ c.requires.there refl
 
-pub returns-else-block-heads-clause-detached : goal.returns-else-block-heads-clause-detached
-returns-else-block-heads-clause-detached c = detached_given c.args.frames.now c.args.place _ c.requires.there refl
+pub returns-else-block-heads-clause-chains : goal.returns-else-block-heads-clause-chains
+returns-else-block-heads-clause-chains c = kept_given c.args.frames.now c.args.place _ c.requires.there refl

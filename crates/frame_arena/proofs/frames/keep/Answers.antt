@@ -1,5 +1,5 @@
 use Rattle.std.proofs.Common.{refl}
-use Rattle.frame_arena.proofs.Entries.{detached_kept, keeps}
+use Rattle.frame_arena.proofs.Entries.{chains_kept, keeps}
 use Rattle.frame_arena.proofs.Leading.{keeps_leading}
 use Rattle.frame_arena.proofs.Rooms.{rooms_kept}
 use Rattle.frame_arena.proofs.frames.keep.Goals as goal
@@ -13,5 +13,5 @@ returns-clause-stacks c = rooms_kept c.args.frames.now c.args.place _ c.requires
 pub returns-clause-leads : goal.returns-clause-leads
 returns-clause-leads c cells m r h leads = keeps_leading c.args.frames.now cells m c.args.place r h c.requires.there c.requires.live leads
 
-pub returns-clause-detached : goal.returns-clause-detached
-returns-clause-detached c = detached_kept c.args.frames.now c.args.place c.requires.there
+pub returns-clause-chains : goal.returns-clause-chains
+returns-clause-chains c = chains_kept c.args.frames.now c.args.place c.requires.there

@@ -2,8 +2,8 @@ use Rattle.std.specs.Prelude.{false, None}
 use Rattle.frame_arena.specs.declared.frames.Component.TheVariants as component
 use Rattle.frame_arena.specs.declared.frames.Frame.{Frame}
 use Rattle.std.proofs.Common.{rules, ◌≡◌, length, subst, sym, refl, arith}
-use Rattle.frame_arena.specs.Frames.{DetachedBefore, Holds, Laid, Leads, rooms}
-use Rattle.frame_arena.proofs.Growth.{adds, detached_more, leads_more}
+use Rattle.frame_arena.specs.Frames.{KeptBefore, Holds, Laid, Leads, rooms}
+use Rattle.frame_arena.proofs.Growth.{adds, kept_more, leads_more}
 use Rattle.frame_arena.proofs.Rooms.{laid_to}
 use Rattle.frame_arena.proofs.regions.add_region.Goals as goal
 
@@ -26,7 +26,7 @@ returns-clause-leads c m r leads =
     let f : Frame = record { live = false; number = 0; block = 0; level = 0; parent = None; passing = false; kept = false; component = component.NoObject; base = c.in-Ok.base; cells = c.args.count; floor = c.in-Ok-try_from.floor; room = c.args.room; next = 0 } in
     subst (λ l. Leads l m r) (sym c.in_ok-push.ensures.items) (leads_more c.args.frames.now.items f refl m r leads)
 
-pub returns-clause-detached : goal.returns-clause-detached
-returns-clause-detached c =
+pub returns-clause-chains : goal.returns-clause-chains
+returns-clause-chains c =
     let f : Frame = record { live = false; number = 0; block = 0; level = 0; parent = None; passing = false; kept = false; component = component.NoObject; base = c.in-Ok.base; cells = c.args.count; floor = c.in-Ok-try_from.floor; room = c.args.room; next = 0 } in
-    subst (λ l. DetachedBefore c.args.frames.now.items l) (sym c.in_ok-push.ensures.items) (detached_more c.args.frames.now.items f refl)
+    subst (λ l. KeptBefore c.args.frames.now.items l) (sym c.in_ok-push.ensures.items) (kept_more c.args.frames.now.items f refl)

@@ -7,7 +7,7 @@ use Rattle.sim_values.specs.Words.{instance_words}
 use Rattle.sim_code.specs.Arrays.{words_with}
 use Rattle.sim_code.specs.Instances.{given, is_given_at_end}
 use Rattle.sim_code.specs.Machine.{words_of_block}
-use Rattle.frame_arena.specs.Frames.{DetachedBefore, Holds, Leads, frame_at}
+use Rattle.frame_arena.specs.Frames.{Holds, KeptBefore, Leads, frame_at}
 use Rattle.object_machine.specs.declared.machine.Storage.{Storage}
 use Rattle.object_machine.proofs.Departures.{ends_given, ends_kept}
 use Rattle.object_machine.proofs.Parks.{rooms_count}
@@ -38,6 +38,6 @@ returns-clause-row c l b before now o m cells s =
     subst (λ f. Holds f p.cells.items (given m j)) (sym items) (subst (λ n. Holds c.give_back.new.frames p.cells.items (given m n)) number (c.give_back.ensures.holds p.cells.items m h1)) in
     let leads : (r : FrameRef) → Leads p.frames.items m r → Leads p2.frames.items (given m j) r = λ r q.
     subst (λ f. Leads f (given m j) r) (sym items) (subst (λ n. Leads c.give_back.new.frames (given m n) r) number (c.give_back.ensures.leads p.cells.items m r h1 (subst (λ f. Leads f m r) (sym c.deref_mut.ensures.value) q))) in
-    let detached : DetachedBefore p.frames.items p2.frames.items = subst (λ f. DetachedBefore p.frames.items f) (sym items) (subst (λ f. DetachedBefore f c.give_back.new.frames) c.deref_mut.ensures.value c.give_back.ensures.detached) in
+    let before_kept : KeptBefore p.frames.items p2.frames.items = subst (λ f. KeptBefore p.frames.items f) (sym items) (subst (λ f. KeptBefore f c.give_back.new.frames) c.deref_mut.ensures.value c.give_back.ensures.chains) in
     let long : length p.frames.items ≡ length p2.frames.items = ap (λ f. length f) (sym c.deref_mut.ensures.value) ∙ rooms_count c.deref_mut.result.now c.give_back.new.frames c.give_back.ensures.stacks ∙ ap (λ f. length f) (sym items) in
-    ends_given l p p2 b j before now o m leads (c.give_back_owned-storage.ensures.leads o.arrays s.arrays) c.words_instance.result (sym same ∙ c.if-not-is_given_at_end.false) words used refl refl refl refl refl holds (c.give_back_owned-storage.ensures.holds o.arrays s.arrays) (c.give_back_owned-storage.ensures.elements p.frames.items m s.elements) detached long refl s
+    ends_given l p p2 b j before now o m leads (c.give_back_owned-storage.ensures.leads o.arrays s.arrays) c.words_instance.result (sym same ∙ c.if-not-is_given_at_end.false) words used refl refl refl refl refl holds (c.give_back_owned-storage.ensures.holds o.arrays s.arrays) (c.give_back_owned-storage.ensures.elements p.frames.items m s.elements) before_kept long refl s

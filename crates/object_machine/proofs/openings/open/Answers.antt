@@ -5,7 +5,7 @@ use Rattle.sim_values.specs.declared.value.FrameRef.{FrameRef}
 use Rattle.sim_code.specs.Machine.{first_cells, first_value}
 use Rattle.sim_code.specs.Instances.{entered}
 use Rattle.frame_arena.specs.Arrays.{AllLeadArrays}
-use Rattle.frame_arena.specs.Frames.{DetachedBefore, Holds, IsDetached, Leads, AllLead, Has, cells_at, frame_at, number_in, stands_first}
+use Rattle.frame_arena.specs.Frames.{Holds, IsKeeping, KeptBefore, Leads, AllLead, Has, cells_at, frame_at, number_in, stands_first}
 use Rattle.frame_arena.specs.Slots.{empty_slot}
 use Rattle.std.specs.Vec.{with_items}
 use Rattle.std.proofs.lemmas.List.{with_items_is, places}
@@ -38,7 +38,7 @@ returns-clause-row c l before now o m s up =
     (c.enter.ensures.holds c.fill_first.new.cells m (subst (λ f. Holds f c.fill_first.new.cells m) (sym c.deref_mut-4.ensures.value) h2) s.entered up1))) in
     let later : (r : FrameRef) → Leads p.frames.items m r → Leads c.enter.new.frames (opened m c.args.number b c.args.beginning c.args.parent) r =
     λ r leads. c.enter.ensures.leads m _ (stands_first c.args.beginning.object) r (subst (λ f. Leads f m r) (sym c.deref_mut-4.ensures.value) (c.in_ok-place.ensures.leads m r leads)) in
-    let detached : DetachedBefore p.frames.items c.enter.new.frames = λ at number h. c.in_ok-place.ensures.detached at number (subst (λ f. IsDetached f at number) c.deref_mut-4.ensures.value (c.enter.ensures.detached at number h)) in
+    let before_kept : KeptBefore p.frames.items c.enter.new.frames = λ at number x h. c.in_ok-place.ensures.chains at number x (subst (λ f. IsKeeping f at number x) c.deref_mut-4.ensures.value (c.enter.ensures.chains at number x h)) in
     let each : length c.reserve.new.parks.items ≡ length c.enter.new.frames = c.in_ok-place.ensures.each s.parks.each ∙ ap (λ f. length f) (sym c.deref_mut-4.ensures.value) ∙ rooms_count c.deref_mut-4.result.now c.enter.new.frames c.enter.ensures.stacks in
     let here : Has c.enter.new.frames c.in-Ok-try_from.region p.entered = subst (λ k. Has c.enter.new.frames k p.entered) (let q : c.in_ok-place.place ≡ c.in-Ok-try_from.region = search rules in q) c.enter.ensures.here in
     let room : c.in_ok-stack.stack.items ≡ replicate c.block.inside.room empty_slot = c.in_ok-stack.ensures in
@@ -51,5 +51,5 @@ returns-clause-row c l before now o m s up =
     (has_leads c.enter.new.frames c.fill_first.new.cells (opened m c.args.number b c.args.beginning c.args.parent) (record { frame = c.in-Ok-try_from.region; stamp = p.entered }) h3 here)
     (subst (λ x. AllLead c.enter.new.frames (opened m c.args.number b c.args.beginning c.args.parent) x) (sym room) (empty_leads c.block.inside.room c.enter.new.frames (opened m c.args.number b c.args.beginning c.args.parent)))
     (subst (λ x. AllLeadArrays p.arrays.regions o.arrays x) (sym room) (empty_leads_arrays c.block.inside.room p.arrays.regions o.arrays))
-    each c.in_ok-place.ensures.parked detached
+    each c.in_ok-place.ensures.parked before_kept
     (first_activation p.entered (length m.instances) c.in-Ok-try_from.region c.args.beginning.start c.block.inside.room c.args.beginning.stage c.in_ok-stack.stack.items s.entered room))

@@ -147,6 +147,24 @@ returns-in-Attach-clause-row g c s e = (
   ),
 )
 
+pub returns-in-Resume-clause-ends : goal.returns-in-Resume-clause-ends
+returns-in-Resume-clause-ends g c = flow_still g.O.Sink.written g.O.Sink.faults c.args.out.now _ c.without_ports-in-Resume.ensures.other
+
+pub returns-in-Resume-clause-read : goal.returns-in-Resume-clause-read
+returns-in-Resume-clause-read g c = input_still (g.I.Source.faults c.args.input.now) _ c.without_ports-in-Resume.ensures.read
+
+pub returns-in-Resume-clause-row : goal.returns-in-Resume-clause-row
+returns-in-Resume-clause-row g c s e = (
+  s,
+  e,
+  (
+    still_same c.without_ports-in-Resume.result (g.O.Sink.written c.args.out.now),
+    λ code line e1 e2 e3 e4.
+        c.without_ports-in-Resume.ensures.row _ _ _ _ _ _ _ _ _ _ _ _ _
+        (for_instr_in _ code c.args.limits.now line _ _ _ _ _ _ _ _ _ _ c.args.instr i.Resume c.in-Resume.is (c.resume-flow.ensures.row c.args.limits.now line (outside (g.O.Sink.written c.args.out.now) s))),
+  ),
+)
+
 pub returns-in_default : goal.returns-in_default
 returns-in_default g c =
     let l = c.args.limits.now in

@@ -1,5 +1,6 @@
 use Rattle.std.proofs.Common.{◌∷◌, ℕ, sym, subst, ap, ◌∙◌}
-use Rattle.sim_base.specs.declared.run_error.RunError.TheVariants.{ComponentIsAttached, ComponentIsTerminated}
+use Rattle.std.specs.Prelude.{None, Some}
+use Rattle.sim_base.specs.declared.run_error.RunError.TheVariants.{ComponentIsAttached, ComponentIsResumed, ComponentIsTerminated}
 use Rattle.sim_values.specs.Plain.{Object}
 use Rattle.sim_code.specs.Machine.{owner, waiting}
 use Rattle.sim_code.specs.Transfers.{Calling, transferring}
@@ -10,7 +11,7 @@ use Rattle.object_machine.specs.declared.machine.Flow.TheVariants as flow
 use Rattle.object_machine.specs.Standing.{Leaves, activation_of, below_of}
 use Rattle.object_machine.proofs.Going.{along, faults}
 use Rattle.object_machine.proofs.Moving.{stands_so, stands_waiting, waits_as}
-use Rattle.object_machine.proofs.Transferring.{call_attached, call_no_object, call_terminated}
+use Rattle.object_machine.proofs.Transferring.{call_attached, call_no_object, call_resumed, call_terminated}
 use Rattle.object_machine.proofs.transfers.call_instance.Goals as goal
 
 pub returns-in_default-clause-row : goal.returns-in_default-clause-row
@@ -27,7 +28,20 @@ returns-in-NoObject-clause-row c l line before now o m s leads =
     let j : ℕ = c.args.object.stamp in
     let has : Has c.deref-2.result.now place j = subst (λ f. Has f place j) (c.deref.ensures.value ∙ sym c.deref-2.ensures.value) c.in-Some.ensures.there in
     let stands = stands_so p.frames.items c.deref-2.result.now p.cells.items m place j c.component_at.result component.NoObject s.stores.frames has c.deref-2.ensures.value c.component_at.ensures c.in-NoObject.is in
-    along l line p below before now (flow.Fault ComponentIsAttached) t.registers t.stack.items _ _ (call_no_object line o (waiting (activation_of t) (values_of depth t.stack.items) ∷ below_of below) m j stands)
+    along l line p below before now (flow.Fault ComponentIsAttached) t.registers t.stack.items _ _ (call_no_object line o (waiting (activation_of t) (values_of depth t.stack.items) ∷ below_of below) m j None stands)
+    (faults l line p below before now ComponentIsAttached t.registers t.registers t.stack.items t.stack.items o m s)
+
+pub returns-in-Waiting-clause-row : goal.returns-in-Waiting-clause-row
+returns-in-Waiting-clause-row c l line before now o m s leads =
+    let p = c.args.storage.now in
+    let t = c.args.top.now in
+    let below = c.args.below.now.items in
+    let depth = c.args.depth in
+    let place = c.in-Some.place in
+    let j : ℕ = c.args.object.stamp in
+    let has : Has c.deref-2.result.now place j = subst (λ f. Has f place j) (c.deref.ensures.value ∙ sym c.deref-2.ensures.value) c.in-Some.ensures.there in
+    let stands = stands_so p.frames.items c.deref-2.result.now p.cells.items m place j c.component_at.result component.Waiting s.stores.frames has c.deref-2.ensures.value c.component_at.ensures c.in-Waiting.is in
+    along l line p below before now (flow.Fault ComponentIsAttached) t.registers t.stack.items _ _ (call_no_object line o (waiting (activation_of t) (values_of depth t.stack.items) ∷ below_of below) m j (Some stands.0) stands.1)
     (faults l line p below before now ComponentIsAttached t.registers t.registers t.stack.items t.stack.items o m s)
 
 pub returns-in-Attached-clause-row : goal.returns-in-Attached-clause-row
@@ -59,6 +73,19 @@ returns-in-Detached-clause-row c l line before now o m s leads =
     subst (λ q. Leaves d.result l line d.new.storage d.new.top.registers d.new.top.stack.items d.new.below.items before now q)
     (sym (ap (λ a. transferring owner Calling line o (a ∷ below_of below) m (Object j)) (waits_as t t2 depth e)))
     (d.ensures.row l line before now o m (stands_waiting l line p t below before now o m s depth t2 e))
+
+pub returns-in-Resumed-clause-row : goal.returns-in-Resumed-clause-row
+returns-in-Resumed-clause-row c l line before now o m s leads =
+    let p = c.args.storage.now in
+    let t = c.args.top.now in
+    let below = c.args.below.now.items in
+    let depth = c.args.depth in
+    let place = c.in-Some.place in
+    let j : ℕ = c.args.object.stamp in
+    let has : Has c.deref-2.result.now place j = subst (λ f. Has f place j) (c.deref.ensures.value ∙ sym c.deref-2.ensures.value) c.in-Some.ensures.there in
+    let stands = stands_so p.frames.items c.deref-2.result.now p.cells.items m place j c.component_at.result component.Resumed s.stores.frames has c.deref-2.ensures.value c.component_at.ensures c.in-Resumed.is in
+    along l line p below before now (flow.Fault ComponentIsResumed) t.registers t.stack.items _ _ (call_resumed line o (waiting (activation_of t) (values_of depth t.stack.items) ∷ below_of below) m j stands)
+    (faults l line p below before now ComponentIsResumed t.registers t.registers t.stack.items t.stack.items o m s)
 
 pub returns-in-Terminated-clause-row : goal.returns-in-Terminated-clause-row
 returns-in-Terminated-clause-row c l line before now o m s leads =

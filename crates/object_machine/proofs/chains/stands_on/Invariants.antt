@@ -1,0 +1,13 @@
+use Rattle.std.proofs.Common.{◌≡◌, ℕ, ◌≤◌, length}
+use Rattle.std.specs.Prelude.{false, ◌==◌, Some, slice_get}
+use Rattle.object_machine.specs.declared.machine.Activation as working
+use Rattle.object_machine.proofs.chains.stands_on.Given as goal
+
+abbrev pub invariant-loop-at : goal.invariant-loop-at
+invariant-loop-at l = record {
+  within : l.at ≤ length l.below;
+  none : (k : ℕ) (t : working.Activation) → l.at ≤ k → slice_get l.below k ≡ Some t → (t.registers.home.stamp == l.instance) ≡ false;
+}
+
+abbrev pub decreases-loop-at : goal.decreases-loop-at
+decreases-loop-at l = l.at

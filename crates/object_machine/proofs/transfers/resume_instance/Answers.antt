@@ -1,0 +1,86 @@
+use Rattle.std.proofs.Common.{◌∷◌, ℕ, sym, subst, ◌∙◌}
+use Rattle.std.specs.Prelude.{None, Some}
+use Rattle.sim_base.specs.declared.run_error.RunError.TheVariants.{ComponentIsTerminated, ResumedIsAttached}
+use Rattle.sim_code.specs.Machine.{waiting}
+use Rattle.sim_code.specs.Transfers.{Resuming}
+use Rattle.frame_arena.specs.declared.frames.Component.TheVariants as component
+use Rattle.frame_arena.specs.Frames.{Has}
+use Rattle.frame_arena.specs.Stacks.{values_of}
+use Rattle.object_machine.specs.declared.machine.Flow.TheVariants as flow
+use Rattle.object_machine.specs.Standing.{Leaves, activation_of, below_of}
+use Rattle.object_machine.proofs.Going.{along, faults}
+use Rattle.object_machine.proofs.Moving.{stands_so, stays_on}
+use Rattle.object_machine.proofs.Transferring.{resume_attached, resume_no_object, resume_terminated, resumed_stays}
+use Rattle.object_machine.proofs.transfers.resume_instance.Goals as goal
+
+pub returns-in_default-clause-row : goal.returns-in_default-clause-row
+unfolding Leaves
+returns-in_default-clause-row c l line before now o m s leads = tt
+
+pub returns-in-NoObject-clause-row : goal.returns-in-NoObject-clause-row
+returns-in-NoObject-clause-row c l line before now o m s leads =
+    let p = c.args.storage.now in
+    let t = c.args.top.now in
+    let below = c.args.below.now.items in
+    let depth = c.args.depth in
+    let place = c.in-Some.place in
+    let j : ℕ = c.args.object.stamp in
+    let has : Has c.deref-2.result.now place j = subst (λ f. Has f place j) (c.deref.ensures.value ∙ sym c.deref-2.ensures.value) c.in-Some.ensures.there in
+    let stands = stands_so p.frames.items c.deref-2.result.now p.cells.items m place j c.component_at.result component.NoObject s.stores.frames has c.deref-2.ensures.value c.component_at.ensures c.in-NoObject.is in
+    along l line p below before now (flow.Fault ResumedIsAttached) t.registers t.stack.items _ _ (resume_no_object line o (waiting (activation_of t) (values_of depth t.stack.items) ∷ below_of below) m j None stands)
+    (faults l line p below before now ResumedIsAttached t.registers t.registers t.stack.items t.stack.items o m s)
+
+pub returns-in-Waiting-clause-row : goal.returns-in-Waiting-clause-row
+returns-in-Waiting-clause-row c l line before now o m s leads =
+    let p = c.args.storage.now in
+    let t = c.args.top.now in
+    let below = c.args.below.now.items in
+    let depth = c.args.depth in
+    let place = c.in-Some.place in
+    let j : ℕ = c.args.object.stamp in
+    let has : Has c.deref-2.result.now place j = subst (λ f. Has f place j) (c.deref.ensures.value ∙ sym c.deref-2.ensures.value) c.in-Some.ensures.there in
+    let stands = stands_so p.frames.items c.deref-2.result.now p.cells.items m place j c.component_at.result component.Waiting s.stores.frames has c.deref-2.ensures.value c.component_at.ensures c.in-Waiting.is in
+    along l line p below before now (flow.Fault ResumedIsAttached) t.registers t.stack.items _ _ (resume_no_object line o (waiting (activation_of t) (values_of depth t.stack.items) ∷ below_of below) m j (Some stands.0) stands.1)
+    (faults l line p below before now ResumedIsAttached t.registers t.registers t.stack.items t.stack.items o m s)
+
+pub returns-in-Attached-clause-row : goal.returns-in-Attached-clause-row
+returns-in-Attached-clause-row c l line before now o m s leads =
+    let p = c.args.storage.now in
+    let t = c.args.top.now in
+    let below = c.args.below.now.items in
+    let depth = c.args.depth in
+    let place = c.in-Some.place in
+    let j : ℕ = c.args.object.stamp in
+    let has : Has c.deref-2.result.now place j = subst (λ f. Has f place j) (c.deref.ensures.value ∙ sym c.deref-2.ensures.value) c.in-Some.ensures.there in
+    let stands = stands_so p.frames.items c.deref-2.result.now p.cells.items m place j c.component_at.result component.Attached s.stores.frames has c.deref-2.ensures.value c.component_at.ensures c.in-Attached.is in
+    along l line p below before now (flow.Fault ResumedIsAttached) t.registers t.stack.items _ _ (resume_attached line o (waiting (activation_of t) (values_of depth t.stack.items) ∷ below_of below) m j stands)
+    (faults l line p below before now ResumedIsAttached t.registers t.registers t.stack.items t.stack.items o m s)
+
+pub returns-in-Detached-clause-row : goal.returns-in-Detached-clause-row
+returns-in-Detached-clause-row c l line before now o m s leads = c.resume_detached.ensures.row l line before now o m s
+
+pub returns-in-Resumed-clause-row : goal.returns-in-Resumed-clause-row
+returns-in-Resumed-clause-row c l line before now o m s leads =
+    let p = c.args.storage.now in
+    let t = c.args.top.now in
+    let below = c.args.below.now.items in
+    let depth = c.args.depth in
+    let place = c.in-Some.place in
+    let j : ℕ = c.args.object.stamp in
+    let has : Has c.deref-2.result.now place j = subst (λ f. Has f place j) (c.deref.ensures.value ∙ sym c.deref-2.ensures.value) c.in-Some.ensures.there in
+    let stands = stands_so p.frames.items c.deref-2.result.now p.cells.items m place j c.component_at.result component.Resumed s.stores.frames has c.deref-2.ensures.value c.component_at.ensures c.in-Resumed.is in
+    let t2 = c.wait.new.top in
+    stays_on l line p t below before now o m s Resuming depth t2 c.wait.ensures j (resumed_stays line o (activation_of t2 ∷ below_of below) m j stands)
+
+pub returns-in-Terminated-clause-row : goal.returns-in-Terminated-clause-row
+returns-in-Terminated-clause-row c l line before now o m s leads =
+    let p = c.args.storage.now in
+    let t = c.args.top.now in
+    let below = c.args.below.now.items in
+    let depth = c.args.depth in
+    let place = c.in-Some.place in
+    let j : ℕ = c.args.object.stamp in
+    let has : Has c.deref-2.result.now place j = subst (λ f. Has f place j) (c.deref.ensures.value ∙ sym c.deref-2.ensures.value) c.in-Some.ensures.there in
+    let stands = stands_so p.frames.items c.deref-2.result.now p.cells.items m place j c.component_at.result component.Terminated s.stores.frames has c.deref-2.ensures.value c.component_at.ensures c.in-Terminated.is in
+    along l line p below before now (flow.Fault ComponentIsTerminated) t.registers t.stack.items _ _ (resume_terminated line o (waiting (activation_of t) (values_of depth t.stack.items) ∷ below_of below) m j stands)
+    (faults l line p below before now ComponentIsTerminated t.registers t.registers t.stack.items t.stack.items o m s)

@@ -1,0 +1,197 @@
+-- What stands on the chains, and which configurations have a rule for what is pending.
+use Rattle.std.proofs.Common.{◌≡◌, ◌<◌, ◌≤◌, ℕ, Bool, true, false, List, [], ◌∷◌, length, Option, Some, None}
+use Rattle.std.specs.Prelude.{slice_get, ◌+◌}
+use Rattle.sim_base.specs.declared.numbering.DeclNo.{DeclNo}
+use Rattle.sim_chains.specs.Chains.{outermost, times_on}
+use Rattle.sim_chains.specs.Components.{AttachedObject, Components, DetachedObject, NoObject, ResumedObject, Standing, TerminatedObject, standing_of}
+use Rattle.sim_chains.specs.WellFormed.{HasResumed, IsInPlace, over_kept}
+use Rattle.sim_scope.specs.Source.{Source}
+use Rattle.sim_tree.specs.declared.stmt.TypeName.{TypeName}
+use Rattle.sim_tree.specs.Syntax.{Heading, Statement}
+use Rattle.sim_values.specs.Plain.{Object, Plain}
+use Rattle.sim_code.specs.Outcome.{ArrayOf as OneArray}
+use Rattle.sim_code.specs.Arrays.{unless_given}
+use Rattle.sim_code.specs.Instances.{Instance, is_given_at_end, is_object_at, live, system_head}
+use Rattle.sim_meaning.specs.Levels.{has_levels}
+use Rattle.sim_meaning.specs.Meaning.{has_result}
+use Rattle.sim_meaning.specs.Pending.{Activation, Configuration, Do, EndBlock, EndLevel, EndObject, EndPrefixed, EndProcedure, EndProgram, Held, Instances, Item, Of, Val, owner}
+use Rattle.sim_meaning.specs.Texts.{ProcedureText, is_class_free, text}
+use Rattle.sim_sound.specs.Held.{Fits, Holds, Refers}
+use Rattle.sim_sound.proofs.Sound.{AllArrays, Generated, GivesResult, HandsFine, InstanceFine, Kinds, OpFine, PlainFine, Present, Sight, Stays, Suspended, Takes, Value, Waits, elements_of, given}
+
+-- an instance that is an object's
+abbrev pub IsObject : Standing Activation → Type 0
+IsObject AttachedObject = Unit {0}
+IsObject (DetachedObject chain) = Unit {0}
+IsObject ResumedObject = Unit {0}
+IsObject TerminatedObject = Unit {0}
+IsObject (NoObject main) = ⊥
+
+abbrev pub ObjectStands : Instances → ℕ → Type 0
+ObjectStands m j = (x : Standing Activation) × (slice_get m.standings j ≡ Some x) × IsObject x
+
+-- and one that is none
+abbrev pub NoObjectStands : Instances → ℕ → Type 0
+NoObjectStands m j = (main : Option (List Activation)) × (slice_get m.standings j ≡ Some (NoObject main))
+
+abbrev pub is_resumed : Option (Standing Activation) → Bool
+is_resumed (Some ResumedObject) = true
+is_resumed _ = false
+
+-- a resumed object
+abbrev pub resumes : Instances → ℕ → Bool
+resumes m j = is_resumed (slice_get m.standings j)
+
+-- what waits when an object of a text ends, or detaches itself: below a resumed one its system head; else what generated it, or what called
+-- it, which has no reference in hand for it
+abbrev pub IsRelease : (resumed : Bool) → (object class : ℕ) → Waits → Type 0
+IsRelease true j t Suspended = Unit {0}
+IsRelease true j t (Takes g) = ⊥
+IsRelease true j t (Generated i u) = ⊥
+IsRelease false j t Suspended = ⊥
+IsRelease false j t (Takes None) = Unit {0}
+IsRelease false j t (Takes (Some k)) = ⊥
+IsRelease false j t (Generated i u) = (i ≡ j) × (u ≡ t)
+
+-- The pending work of an instance. `Below` tells what is below on the chain where it waits for this; `Outermost` that nothing is.
+abbrev pub WorkFine : Source → AllArrays → Instances → (Below : Waits → Type 0) → (Outermost : Type 0) → (j t : ℕ) → List Item → (todo : List DeclNo) → (before : List Kinds) → Type 0
+WorkFine s o m Below Outermost j t [] todo before = ⊥
+WorkFine s o m Below Outermost j t (Do op ∷ w) todo before = (todo' : List DeclNo) × (behind : List Kinds) × OpFine s o m j t op todo todo' before behind × WorkFine s o m Below Outermost j t w todo' behind
+WorkFine s o m Below Outermost j t (EndBlock ∷ w) todo before = NoObjectStands m j × Below (Takes None)
+WorkFine s o m Below Outermost j t (EndProcedure leaves ∷ w) todo before =
+    (result : Option TypeName) × (heading : Heading) × (body : Statement) × (text s t ≡ Some (ProcedureText result heading body)) × (has_result result ≡ leaves) × (g : Option Kinds) × GivesResult s t g × NoObjectStands m j × Below (Takes g)
+WorkFine s o m Below Outermost j t (EndLevel k ∷ w) todo before = WorkFine s o m Below Outermost j t w todo before
+-- an object, with its arrays
+WorkFine s o m Below Outermost j t (EndObject ∷ w) todo before =
+    (todo ≡ []) × (is_class_free s t ≡ false) × (has_levels (text s t) ≡ true) × ObjectStands m j × (v : Waits) × IsRelease (resumes m j) j t v × Below v
+WorkFine s o m Below Outermost j t (EndPrefixed ∷ w) todo before = NoObjectStands m j × Below (Takes None)
+WorkFine s o m Below Outermost j t (EndProgram ∷ w) todo before = NoObjectStands m j × Outermost
+
+-- ---- chains
+
+-- what an activation waits for, that may be a system head
+abbrev pub awaited : (waiting : ℕ → Waits) → ℕ → Waits → Waits
+awaited waiting j Suspended = waiting j
+awaited waiting j (Takes g) = Takes g
+awaited waiting j (Generated i u) = Generated i u
+
+-- the values in hand but for the reference to an object that was generated
+abbrev pub Shown : Waits → (all vals : List Val) → Type 0
+Shown (Takes g) all vals = all ≡ vals
+Shown (Generated j class) all vals = all ≡ Of (Object j) ∷ vals
+Shown Suspended all vals = ⊥
+
+-- what is in hand when what is waited for comes
+abbrev pub Expected : Source → Waits → (kinds then : List Kinds) → Type 0
+Expected s (Takes g) ks xs = given g ks ≡ xs
+Expected s (Generated j class) ks xs = (h : Holds) × Fits s (Refers class) h × (Value h ∷ ks ≡ xs)
+Expected s Suspended ks xs = ⊥
+
+-- the instance that stands first on a chain, or the floor below it
+abbrev pub first_over : (floor : Option ℕ) → List Activation → Option ℕ
+first_over floor [] = floor
+first_over floor (a ∷ rest) = Some a.instance
+
+abbrev pub first_of : List Activation → Option ℕ
+first_of chain = first_over None chain
+
+-- what is given back at its end stands on that on which it was entered
+abbrev pub StandsOn : (beneath : List (Option ℕ)) → Instances → (j : ℕ) → Option ℕ → Type 0
+StandsOn beneath m j under = is_given_at_end m j ≡ true → slice_get beneath j ≡ Some under
+
+pub record ActFine (s : Source) (o : AllArrays) (m : Instances) (a : Activation) (under : Option ℕ) (waits : Waits) (Below : Waits → Type 0) (Outermost : Type 0) : Type 0 where
+  pub of_text : ℕ
+  pub todo : List DeclNo
+  pub here : Present s m a.instance of_text todo
+  pub own : (here.now).text ≡ of_text
+  pub on : StandsOn o.beneath m a.instance under
+  pub vals : List Val
+  pub shown : Shown waits a.values vals
+  pub kinds : List Kinds
+  pub hands : HandsFine s o m a.instance kinds vals
+  pub expected : List Kinds
+  pub expects : Expected s waits kinds expected
+  pub goes : WorkFine s o m Below Outermost a.instance of_text a.work todo expected
+
+-- The instances on a chain. `floor` stands below it, if any does; `Ground` tells what its last one may wait for, and `Outermost` where the program
+-- may end: above what rest.
+abbrev pub ChainOn : Source → AllArrays → Instances → (floor : Option ℕ) → (Ground : Waits → Type 0) → (Outermost : List Activation → Type 0) → List Activation → (waits : Waits) → Type 0
+ChainOn s o m floor Ground Outermost [] waits = Ground waits
+ChainOn s o m floor Ground Outermost (a ∷ rest) waits = ActFine s o m a (first_over floor rest) (awaited o.waiting a.instance waits) (λ v. ChainOn s o m floor Ground Outermost rest v) (Outermost rest)
+
+-- the operating chain: nothing is below it
+abbrev pub ChainFine : Source → AllArrays → Instances → List Activation → (waits : Waits) → Type 0
+ChainFine s o m chain waits = ChainOn s o m None (λ v. ⊥) (λ rest. rest ≡ []) chain waits
+
+-- a chain on which no program ends
+abbrev pub ChainOver : Source → AllArrays → Instances → (floor : Option ℕ) → (Ground : Waits → Type 0) → List Activation → Type 0
+ChainOver s o m floor Ground chain = ChainOn s o m floor Ground (λ rest. ⊥) chain (Takes None)
+
+-- the chain that a detached object keeps, which is the last one on it: when it ends, what called it goes on
+pub record KeptChain (s : Source) (o : AllArrays) (m : Instances) (j : ℕ) (chain : List Activation) : Type 0 where
+  pub stays : Stays m j
+  pub last : outermost owner chain ≡ Some j
+  pub fine : ChainOver s o m None (λ v. v ≡ Takes None) chain
+
+-- How an instance stands. The main chain that a system head keeps ends with what that waits for.
+abbrev pub StandsFine : Source → AllArrays → Instances → ℕ → Standing Activation → Type 0
+StandsFine s o m j (NoObject None) = Unit {0}
+StandsFine s o m j (NoObject (Some chain)) = ChainOver s o m (Some j) (λ v. awaited o.waiting j v ≡ o.waiting j) chain
+StandsFine s o m j AttachedObject = Unit {0}
+StandsFine s o m j (DetachedObject chain) = KeptChain s o m j chain
+StandsFine s o m j ResumedObject = Stays m j
+StandsFine s o m j TerminatedObject = Unit {0}
+
+-- ---- the store
+
+-- Each instance that was not given back is as its text says, wherever it stands; each element of an array holds what the array's do; and so is
+-- all that stands on the chains that are kept.
+pub record StoreFine (s : Source) (o : AllArrays) (m : Instances) : Type 0 where
+  pub instances : (j : ℕ) (x : Instance (List Held)) → live m j ≡ Some x → InstanceFine s o m j x
+  pub elements : (a i : ℕ) (it : OneArray) (x : Sight) (p : Plain) → unless_given (slice_get o.real a) ≡ Some it → slice_get o.sights a ≡ Some x → slice_get it.elements i ≡ Some p → PlainFine s m (elements_of x) p
+  pub kept : (j : ℕ) (x : Standing Activation) → slice_get m.standings j ≡ Some x → StandsFine s o m j x
+  pub noted : length o.beneath ≡ length m.instances
+
+-- an instance whose arrays are made but for these, in such a store
+pub record Begun (s : Source) (o : AllArrays) (m : Instances) (j t : ℕ) (todo : List DeclNo) : Type 0 where
+  pub store : StoreFine s o m
+  pub here : Present s m j t todo
+  pub own : (here.now).text ≡ t
+
+-- ---- where instances stand
+
+-- on how many places of the operating chain and of those that are kept an instance stands
+abbrev pub places : Instances → List Activation → ℕ → ℕ
+places m chain j = times_on owner j chain + over_kept (times_on owner j) m.standings
+
+-- Each instance stands on one place at most, and does so where it is given back at its end and was not; an object that is terminated stands
+-- nowhere.
+pub record Placed (m : Instances) (chain : List Activation) : Type 0 where
+  pub once : (j : ℕ) → places m chain j ≤ 1
+  pub made : (j : ℕ) → length m.instances ≤ j → places m chain j ≡ 0
+  pub ended : (j : ℕ) → slice_get m.standings j ≡ Some TerminatedObject → places m chain j ≡ 0
+  pub all : (j : ℕ) → is_given_at_end m j ≡ true → 0 < places m chain j
+  pub as_many : length m.standings ≡ length m.instances
+
+-- the components of a run
+abbrev pub parts : Instances → List Activation → Components Activation
+parts m chain = record { operating = chain; standings = m.standings }
+
+-- The first instance is no object, so that each object has a system head. A resumed object stands directly above its system head, which keeps
+-- its main chain; and a head does so only while a resumed object operates in its system.
+pub record Headed (m : Instances) (chain : List Activation) : Type 0 where
+  pub outer : is_object_at m 0 ≡ false
+  pub resumed : (x : ℕ) → standing_of (parts m chain) x ≡ ResumedObject → IsInPlace owner (system_head m) (parts m chain) x
+  pub main : (x : ℕ) (main : List Activation) → standing_of (parts m chain) x ≡ NoObject (Some main) → HasResumed owner (system_head m) (parts m chain) x
+
+-- The instance i operates, on top of the rest of the chain.
+pub record Operates (beneath : List (Option ℕ)) (m : Instances) (i : ℕ) (rest : List Activation) : Type 0 where
+  pub before : i < length m.instances
+  pub on : StandsOn beneath m i (first_of rest)
+  pub placed : Placed m (record { instance = i; work = []; values = [] } ∷ rest)
+  pub headed : Headed m (record { instance = i; work = []; values = [] } ∷ rest)
+
+-- before the first step there is nothing
+pub data Fine (s : Source) (o : AllArrays) (c : Configuration) : Type 0 where
+  opens : c.chain ≡ [] → (c.memory).instances ≡ [] → (c.memory).standings ≡ [] → o.sights ≡ [] → o.beneath ≡ [] → Fine s o c
+  runs : StoreFine s o c.memory → Placed c.memory c.chain → Headed c.memory c.chain → ChainFine s o c.memory c.chain (Takes None) → Fine s o c
