@@ -1,6 +1,6 @@
 -- Prefixed blocks.
 use Rattle.std.proofs.Common.{◌≡◌, ◌≢◌, ℕ, zero, suc, pos, Bool, true, false, List, length, map, Option, Some, None, refl, sym, ap, ◌∙◌, subst}
-use Rattle.std.specs.Prelude.{⊤, not, ◌&&◌}
+use Rattle.std.specs.Prelude.{⊤}
 use Rattle.sim_base.specs.declared.numbering.TokenNo.{TokenNo}
 use Rattle.sim_scope.specs.declared.bound.Bound.{Bound}
 use Rattle.sim_scope.specs.declared.types.Formal.{Formal}
@@ -13,32 +13,18 @@ use Rattle.sim_tree.specs.SyntaxOf.{syntax_of}
 use Rattle.sim_code.specs.declared.instr.Instr.{Instr}
 use Rattle.sim_code.specs.declared.instr.Instr.TheVariants as i
 use Rattle.sim_meaning.specs.Closing.{class_parameters}
-use Rattle.sim_meaning.specs.Levels.{is_class}
-use Rattle.sim_meaning.specs.Texts.{text}
 use Rattle.codegen_expr.specs.declared.spot.Spot.{Spot}
-use Rattle.codegen_expr.specs.Built.{ActualsBuilt, is_there}
+use Rattle.codegen_expr.specs.Built.{ActualsBuilt}
 use Rattle.codegen_expr.specs.CodeExpr.{ActualsAt, operands}
 use Rattle.codegen_expr.specs.Drafts.{DraftOf, Emits, given_up, with_instr}
 use Rattle.codegen_expr.specs.Emit.{WritesActuals}
-use Rattle.codegen_expr.specs.Sites.{At, block_number, prefix_of}
+use Rattle.codegen_expr.specs.Sites.{At, block_number}
 use Rattle.codegen_expr.proofs.Pieces.{emits_as, emits_at, emits_nothing, emits_then}
 use Rattle.codegen_expr.proofs.Seen.{count}
-use Rattle.codegen.specs.Agrees.{stands_behind}
+use Rattle.codegen.specs.Agrees.{is_prefixed}
 use Rattle.codegen.specs.BuiltProgram.{PrefixBuilt}
 use Rattle.codegen.specs.CodeStm.{PrefixedAt}
 use Rattle.codegen.specs.Emit.{WritesPrefix, WritesPrefixed}
-
--- ---- what has a class in front of it
-
-pub behind_some : (b : Bound) (k front : ℕ) (o : Option ℕ) (r t : Bool) → o ≡ prefix_of b.scopes k → o ≡ Some front → t ≡ is_class (text (source_of b) k) → r ≡ not t → r ≡ stands_behind (source_of b) k
-unfolding source_of
-behind_some b k front o r t eo some et er = er ∙ ap not et ∙ ap (λ z. is_there z && not (is_class (text (source_of b) k))) (sym some ∙ eo)
-
-pub behind_none : (b : Bound) (k : ℕ) (o : Option ℕ) → o ≡ prefix_of b.scopes k → o ≡ None → false ≡ stands_behind (source_of b) k
-unfolding source_of
-behind_none b k o eo none = ap (λ z. is_there z && not (is_class (text (source_of b) k))) (sym none ∙ eo)
-
-pub ruleset behinds = (behind_some, behind_none)
 
 -- ---- what is written
 
@@ -71,7 +57,8 @@ module _ (b : Bound) (w : Spot) where
   pub prefixed_outermost : (a c : DraftOf) (y : Identifier) (ys : List Expr) (token : TokenNo) (o : Option ℕ) (n : ℕ) → o ≡ block_at b.scopes token.0 → o ≡ Some n → n ≡ 0 → c ≡ given_up a → WritesPrefixed b w a c y ys token
   prefixed_outermost a c y ys token o n eo is zero_ ec = prefixed_as a c y ys token (Some 0) (sym (is ∙ ap Some zero_) ∙ eo) (emits_nothing w a c _ _ (λ z. z) ec)
 
-  pub prefixed_other : (a c : DraftOf) (y : Identifier) (ys : List Expr) (token : TokenNo) (o : Option ℕ) (n : ℕ) (r : Bool) → o ≡ block_at b.scopes token.0 → o ≡ Some n → n ≢ 0 → r ≡ stands_behind (source_of b) n → r ≡ false → c ≡ given_up a → WritesPrefixed b w a c y ys token
+  pub prefixed_other : (a c : DraftOf) (y : Identifier) (ys : List Expr) (token : TokenNo) (o : Option ℕ) (n : ℕ) (r : Bool) → o ≡ block_at b.scopes token.0 → o ≡ Some n → n ≢ 0 → r ≡ is_prefixed b.scopes n → r ≡ false → c ≡ given_up a → WritesPrefixed b w a c y ys token
+  unfolding source_of
   prefixed_other a c y ys token o zero r eo is ne er none ec = absurd (ne refl)
   prefixed_other a c y ys token o (suc n) r eo is ne er none ec = prefixed_as a c y ys token (Some (suc n)) (sym is ∙ eo) (emits_nothing w a c _ _ (λ h. clash (sym none ∙ er ∙ h.0)) ec)
     where
@@ -83,7 +70,7 @@ module _ (b : Bound) (w : Spot) where
   prefixed_elsewhere a c y ys token o zero eo is ne out ec = absurd (ne refl)
   prefixed_elsewhere a c y ys token o (suc n) eo is ne out ec = prefixed_as a c y ys token (Some (suc n)) (sym is ∙ eo) (emits_nothing w a c _ _ (λ h. out h.1) ec)
 
-  pub prefixed_entered : (a c : DraftOf) (y : Identifier) (ys : List Expr) (token : TokenNo) (o : Option ℕ) (n : ℕ) (r : Bool) → o ≡ block_at b.scopes token.0 → o ≡ Some n → n ≢ 0 → r ≡ stands_behind (source_of b) n → r ≡ true → encloser b.scopes n ≡ Some w.text → WritesPrefix b w a c y ys n → WritesPrefixed b w a c y ys token
+  pub prefixed_entered : (a c : DraftOf) (y : Identifier) (ys : List Expr) (token : TokenNo) (o : Option ℕ) (n : ℕ) (r : Bool) → o ≡ block_at b.scopes token.0 → o ≡ Some n → n ≢ 0 → r ≡ is_prefixed b.scopes n → r ≡ true → encloser b.scopes n ≡ Some w.text → WritesPrefix b w a c y ys n → WritesPrefixed b w a c y ys token
   unfolding WritesPrefix source_of
   prefixed_entered a c y ys token o zero r eo is ne er behind around f = absurd (ne refl)
   prefixed_entered a c y ys token o (suc n) r eo is ne er behind around f =

@@ -142,7 +142,7 @@ no_result s k (Some (ProcedureText (Some type) x a)) h = absurd (cc)
 no_result s k (Some (ClassText prefix x ds ss)) h = none_declared s _
 no_result s k (Some (PrefixedText class es ds ss)) h = none_declared s _
 no_result s k (Some ConnectionText) h = refl
-no_result s k (Some (StandardText which)) h = refl
+no_result s k (Some (StandardText which)) h = none_declared s _
 
 result_none : (s : Source) (k : ℕ) (x : Option Text) → has_result x ≡ false → place_from 0 Result (cells_in s k x ++ hidden_in s k) ≡ None
 unfolding hidden_in

@@ -20,6 +20,7 @@ pub mod Turns
 pub mod Heads
 pub mod Declared
 pub mod Walked
+pub mod LevelTexts
 pub mod Whole
 pub mod Controls
 pub mod Lying

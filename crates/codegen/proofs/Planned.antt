@@ -165,7 +165,7 @@ own_is b k x own is yes' f = f ∙ ap (λ z. map type_of_cell (z ++ hidden_in s 
     cells (tree.ClassOfStatement r c) h = refl
     cells (tree.Prefixed p q) h = of_prefixed (prefix_syntax p.now) (block_syntax q.now)
     cells tree.Connection h = absurd (cc)
-    cells (tree.Standard which) h = absurd (cc)
+    cells (tree.Standard which) h = refl
 
 -- ---- which texts are planned, and have numbers
 
@@ -196,7 +196,7 @@ planned_prefixed x p q is = sym (ap (λ z. is_planned (text_in z)) is ∙ prefix
 pub planned_connection : (x : TextTree) → x ≡ tree.Connection → false ≡ is_planned (text_in x)
 planned_connection x is = sym (ap (λ z. is_planned (text_in z)) is)
 
-pub planned_standard : (x : TextTree) (which : StandardClass) → x ≡ tree.Standard which → false ≡ is_planned (text_in x)
+pub planned_standard : (x : TextTree) (which : StandardClass) → x ≡ tree.Standard which → true ≡ is_planned (text_in x)
 planned_standard x which is = sym (ap (λ z. is_planned (text_in z)) is)
 
 no_class_in : (z : syntax.Block) → classes_in (block_text z) ≡ 0
@@ -209,7 +209,7 @@ numbered_class (tree.Class r c p) le = refl
 numbered_class (tree.ClassOfStatement r c) le = refl
 numbered_class (tree.Prefixed p q) le = refl
 numbered_class tree.Connection le = absurd (omega (arith, le))
-numbered_class (tree.Standard which) le = absurd (omega (arith, le))
+numbered_class (tree.Standard which) le = refl
 
 pub planned_solid : (x : Text) → is_planned x ≡ true → is_connection (Some x) ≡ false
 planned_solid (BlockText begin ds ss) e = refl

@@ -11,7 +11,8 @@ use Rattle.sim_scope.specs.declared.bound.Bound.{Bound}
 use Rattle.sim_scope.specs.declared.scopes.Denotation.{Denotation}
 use Rattle.sim_scope.specs.Assignments.{last_value, left_sides}
 use Rattle.sim_scope.specs.Access.{block_at, encloser}
-use Rattle.sim_scope.specs.Source.{Source, block_around, denoted, line_at, source_of, type_at}
+use Rattle.sim_scope.specs.Scopes.{entry_of}
+use Rattle.sim_scope.specs.Source.{Source, block_around, denoted, found_at, line_at, source_of, type_at}
 use Rattle.sim_tree.specs.declared.expr.Expr.{Expr}
 use Rattle.sim_tree.specs.declared.expr.Identifier.{Identifier}
 use Rattle.sim_tree.specs.declared.expr.Selector.{Selector}
@@ -36,11 +37,11 @@ use Rattle.sim_tree.proofs.ProgramSyntaxLemmas as v
 use Rattle.sim_code.specs.declared.instr.Instr.{Instr}
 use Rattle.sim_code.specs.declared.instr.Instr.TheVariants as i
 use Rattle.sim_code.specs.Code.{CodeOf}
-use Rattle.sim_meaning.specs.Attributes.{connection_at, transfer_at}
+use Rattle.sim_meaning.specs.Attributes.{connection_at, own_attribute, transfer_at}
 use Rattle.sim_meaning.specs.Statements.{denoted_leaves, leaves}
 use Rattle.codegen_expr.specs.declared.spot.Spot.{Spot}
-use Rattle.codegen_expr.specs.Built.{ActualsBuilt, AreBuilt, ConnectedNameBuilt, IsBuilt, NamedBuilt, ThroughBuilt}
-use Rattle.codegen_expr.specs.CodeExpr.{ActualsAt, ConnectedNameAt, ExprAt, ExprsAt, NamedAt, ThroughAt, gives}
+use Rattle.codegen_expr.specs.Built.{ActualsBuilt, AreBuilt, ConnectedNameBuilt, IsBuilt, NamedBuilt, OfObjectBuilt, OwnBuilt, ThisFoundBuilt, ThroughBuilt}
+use Rattle.codegen_expr.specs.CodeExpr.{ActualsAt, ConnectedNameAt, ExprAt, ExprsAt, NamedAt, OfObjectAt, OwnAt, ThisFoundAt, ThroughAt, gives}
 use Rattle.codegen_expr.specs.Drafts.{DraftOf, Emits, filled_in, given_up, with_hole, with_instr, with_push}
 use Rattle.codegen_expr.specs.declared.forms.Form.{Form}
 use Rattle.codegen_expr.specs.declared.forms.Form.TheVariants as form
@@ -53,7 +54,7 @@ use Rattle.codegen.specs.declared.left.Left.TheVariants as left
 use Rattle.codegen.specs.BuiltProgram.{AssignBuilt, BlockBuilt, CalledBuilt, ElementsBuilt, EnterBuilt, ForBuilt, LeftBuilt, ListBuilt, PrefixBuilt, StatementBuilt, StatementsBuilt, StepsBuilt, VariableBuilt}
 use Rattle.codegen.specs.CodeFor.{ForAt, GivesVariable, ListAt, LoadsVariable, OfCell, OfPlace, OfReference, StoresVariable, TakesValues, Variable, VariableThere, assigned_by, is_empty, variable_of, variable_stored}
 use Rattle.codegen.specs.CodeLeft.{AssignAt, AtAddress, AtAttribute, InCell, NotBuilt, Stored, ToReference, ToResult, ToText, each_stored, stored_left}
-use Rattle.sim_meaning.specs.Closing.{is_text, is_text_type}
+use Rattle.sim_meaning.specs.Closing.{formals_at, is_text, is_text_type}
 use Rattle.codegen.specs.CodeStm.{ArmsAt, BlockAt, CalledAt, ConnectsAt, DropsAt, EnterAt, InspectAt, PrefixedAt, StmAt, StmsAt}
 use Rattle.codegen.specs.EmitTargets.{Controls, ElementsOver, ListOver, WritesLoaded, WritesStored, line_in, takes_values}
 use Rattle.codegen.specs.Emit.{OwesStatements, WritesAssignment, WritesBlock, WritesCall, WritesCalled, WritesElementOf, WritesFor, WritesGiven, WritesList, WritesOne, WritesPrefixed, WritesStatement, WritesStatements, WritesTakenCall}
@@ -304,9 +305,12 @@ module _ (b : Bound) (w : Spot) where
       let xs = expressions (map syntax_of es) in
       let same : denoted_leaves s (denoted s x.token.0) ≡ gives s (denoted s x.token.0) = ap (denoted_leaves s) (sym eo) ∙ sym el ∙ eg ∙ ap (gives s) eo in
       let drops : denoted_leaves s (denoted s x.token.0) ≡ k = ap (denoted_leaves s) (sym eo) ∙ sym el in
-      let f' = subst (λ z. Emits w a c (ThroughBuilt (connection_at s x.token.0) (λ m. ConnectedNameBuilt s w.text m z xs (AreBuilt s w.text xs) (λ formals. ActualsBuilt s w.text xs formals)) (NamedBuilt s w.text z xs (AreBuilt s w.text xs) (λ formals. ActualsBuilt s w.text xs formals)))
+      let f' = subst (λ z. Emits w a c (ThroughBuilt (connection_at s x.token.0) (λ m. ConnectedNameBuilt s w.text m z xs (AreBuilt s w.text xs) (λ formals. ActualsBuilt s w.text xs formals))
+      (OwnBuilt (own_attribute s x.token.0) (λ j. OfObjectBuilt s j (entry_of s.tables j) xs (ThisFoundBuilt s w.text (found_at s x.token.0)) (AreBuilt s w.text xs) (ActualsBuilt s w.text xs (formals_at s j)))
+      (NamedBuilt s w.text z xs (AreBuilt s w.text xs) (λ formals. ActualsBuilt s w.text xs formals))))
       (λ final site p q. ThroughAt (connection_at s x.token.0) (λ m. ConnectedNameAt s final site 0 (line_at s x.token.0) m z xs (ExprsAt s final site 1 xs) (λ formals. ActualsAt s final site 1 (line_at s x.token.0) false xs formals))
-      (NamedAt s final site 0 (line_at s x.token.0) z xs (ExprsAt s final site 0 xs) (ExprsAt s final site 1 xs) (λ formals. ActualsAt s final site 1 (line_at s x.token.0) false xs formals)) p q)) eo f in
+      (OwnAt (own_attribute s x.token.0) (λ j. OfObjectAt s final site 0 (line_at s x.token.0) j (entry_of s.tables j) xs (ThisFoundAt s final site 0 (found_at s x.token.0)) (ExprsAt s final site 1 xs) (ActualsAt s final site 1 (line_at s x.token.0) false xs (formals_at s j)))
+      (NamedAt s final site 0 (line_at s x.token.0) z xs (ExprsAt s final site 0 xs) (ExprsAt s final site 1 xs) (λ formals. ActualsAt s final site 1 (line_at s x.token.0) false xs formals))) p q)) eo f in
       subst (NamedCall s w a d x xs) (sym none)
       (emits_as w _ _ _ _ a d (λ h. (h.1, tt)) (λ h. (same, h.0)) (λ final site p q _ _ r. (r.0, (same, r.1), subst (λ z. DropsAt final z r.0 q) (sym drops) r.2))
       (emits_then w _ ⊤ _ (λ final site p q. DropsAt final k p q) a c d f' g))

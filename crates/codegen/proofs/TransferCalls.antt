@@ -6,6 +6,7 @@ use Rattle.sim_scope.specs.declared.bound.Bound.{Bound}
 use Rattle.sim_scope.specs.declared.scopes.Denotation.{Denotation}
 use Rattle.sim_scope.specs.declared.scopes.Denotation.TheVariants as denotation
 use Rattle.sim_scope.specs.declared.standard.StandardName.TheVariants as found
+use Rattle.sim_scope.specs.Scopes.{entry_of}
 use Rattle.sim_scope.specs.Source.{Source, denoted, found_at, line_at, source_of}
 use Rattle.sim_tree.specs.declared.expr.Expr.{Expr}
 use Rattle.sim_tree.specs.declared.expr.Identifier.{Identifier}
@@ -17,14 +18,14 @@ use Rattle.sim_values.specs.Standard.{moves_position, row_of}
 use Rattle.sim_code.specs.declared.instr.Instr.TheVariants as i
 use Rattle.sim_code.specs.Code.{CodeOf}
 use Rattle.sim_code.specs.Transfers.{Calling, Detaching, Resuming, Transfer}
-use Rattle.sim_meaning.specs.Attributes.{connection_at, transfer_at, transfer_denoted, transfer_of}
-use Rattle.sim_meaning.specs.Closing.{is_attribute, is_variable, stream_of}
+use Rattle.sim_meaning.specs.Attributes.{connection_at, own_attribute, transfer_at, transfer_denoted, transfer_of}
+use Rattle.sim_meaning.specs.Closing.{formals_at, is_attribute, is_variable, stream_of}
 use Rattle.sim_meaning.specs.Statements.{denoted_leaves, has_value, leaves}
 use Rattle.codegen_expr.specs.declared.operators.Object.{Object}
 use Rattle.codegen_expr.specs.declared.operators.Object.TheVariants as object
 use Rattle.codegen_expr.specs.declared.spot.Spot.{Spot}
-use Rattle.codegen_expr.specs.Built.{ActualsBuilt, AreBuilt, ConnectedNameBuilt, DotBuilt, IsBuilt, NamedBuilt, PlaceBuilt, ThisFoundBuilt, ThroughBuilt}
-use Rattle.codegen_expr.specs.CodeExpr.{ActualsAt, ConnectedNameAt, DotAt, ExprAt, ExprsAt, NamedAt, PlaceAt, ThisFoundAt, ThroughAt, gives}
+use Rattle.codegen_expr.specs.Built.{ActualsBuilt, AreBuilt, ConnectedNameBuilt, DotBuilt, IsBuilt, NamedBuilt, OfObjectBuilt, OwnBuilt, PlaceBuilt, ThisFoundBuilt, ThroughBuilt}
+use Rattle.codegen_expr.specs.CodeExpr.{ActualsAt, ConnectedNameAt, DotAt, ExprAt, ExprsAt, NamedAt, OfObjectAt, OwnAt, PlaceAt, ThisFoundAt, ThroughAt, gives}
 use Rattle.codegen_expr.specs.Drafts.{DraftOf, Emits, given_up, with_instr}
 use Rattle.codegen_expr.specs.Emit.{Puts, PutsBefore, WritesList, moves_denoted}
 use Rattle.codegen_expr.specs.EmitObjects.{WritesThis}
@@ -50,11 +51,13 @@ NamedCall s w a d x es o =
     (OrTransferBuilt o (λ t. TransferBuilt t es (ThisFoundBuilt s w.text (found_at s x.token.0)) (AreBuilt s w.text es))
     ((leaves s (Named x es) ≡ gives s (denoted s x.token.0)) × ThroughBuilt (connection_at s x.token.0)
     (λ k. ConnectedNameBuilt s w.text k (denoted s x.token.0) es (AreBuilt s w.text es) (λ formals. ActualsBuilt s w.text es formals))
-    (NamedBuilt s w.text (denoted s x.token.0) es (AreBuilt s w.text es) (λ formals. ActualsBuilt s w.text es formals))))
+    (OwnBuilt (own_attribute s x.token.0) (λ j. OfObjectBuilt s j (entry_of s.tables j) es (ThisFoundBuilt s w.text (found_at s x.token.0)) (AreBuilt s w.text es) (ActualsBuilt s w.text es (formals_at s j)))
+    (NamedBuilt s w.text (denoted s x.token.0) es (AreBuilt s w.text es) (λ formals. ActualsBuilt s w.text es formals)))))
     (λ final site p q. (y : ℕ) × OrTransferAt o (λ t. TransferAt final (line_at s x.token.0) t es (ThisFoundAt s final site 0 (found_at s x.token.0)) (ExprsAt s final site 0 es))
     (λ p q. (leaves s (Named x es) ≡ gives s (denoted s x.token.0)) × ThroughAt (connection_at s x.token.0)
     (λ k. ConnectedNameAt s final site 0 (line_at s x.token.0) k (denoted s x.token.0) es (ExprsAt s final site 1 es) (λ formals. ActualsAt s final site 1 (line_at s x.token.0) false es formals))
-    (NamedAt s final site 0 (line_at s x.token.0) (denoted s x.token.0) es (ExprsAt s final site 0 es) (ExprsAt s final site 1 es) (λ formals. ActualsAt s final site 1 (line_at s x.token.0) false es formals)) p q) p y
+    (OwnAt (own_attribute s x.token.0) (λ j. OfObjectAt s final site 0 (line_at s x.token.0) j (entry_of s.tables j) es (ThisFoundAt s final site 0 (found_at s x.token.0)) (ExprsAt s final site 1 es) (ActualsAt s final site 1 (line_at s x.token.0) false es (formals_at s j)))
+    (NamedAt s final site 0 (line_at s x.token.0) (denoted s x.token.0) es (ExprsAt s final site 0 es) (ExprsAt s final site 1 es) (λ formals. ActualsAt s final site 1 (line_at s x.token.0) false es formals))) p q) p y
     × DropsAt final (leaves s (Named x es)) y q)
 
 -- a call of an attribute behind its object

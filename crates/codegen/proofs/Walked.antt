@@ -45,11 +45,11 @@ use Rattle.codegen.specs.CodeStm.{LevelAt, StmAt, StmsAt}
 use Rattle.codegen.specs.Compiled.{BlockBody, BodyOf, ClassTextOf, CodeHas, RecordOf, code_formal, parameters_of, site_of, type_of_cell, type_of_name}
 use Rattle.codegen.specs.Emit.{WritesStatement, WritesStatements}
 use Rattle.codegen.specs.EmitArrays.{WritesArrays}
-use Rattle.codegen.specs.EmitProgram.{AddsBlock, BlockAdded, ClassPut, Ends, FrontClass, LevelPlace, LevelText, Next, OwnEnd, PutsClass, TextEmitted, WritesBlockText, WritesClassText, WritesLevel, WritesProcedureText, WritesText, a_block, a_class, blocks_in, class_record, classes_in, formals_by_kind, inner_by_kind, is_planned}
+use Rattle.codegen.specs.EmitProgram.{AddsBlock, BlockAdded, Ends, Next, OwnEnd, TextEmitted, WritesBlockText, WritesProcedureText, blocks_in, formals_by_kind, is_planned}
 
 -- ---- lists
 
-within : {A : Type 0} (xs : List A) (k : ℕ) (x : A) → slice_get xs k ≡ Some x → k < length xs
+pub within : {A : Type 0} (xs : List A) (k : ℕ) (x : A) → slice_get xs k ≡ Some x → k < length xs
 within [] k x e = absurd (cc)
 within (y ∷ xs) zero x e = omega arith
 within (y ∷ xs) (suc k) x e = let h = within xs k x e in omega (arith, h)
@@ -62,7 +62,7 @@ map_append : {A B : Type 0} (f : A → B) (xs ys : List A) → map f (xs ++ ys) 
 map_append f [] ys = refl
 map_append f (x ∷ xs) ys = ap (λ z. f x ∷ z) (map_append f xs ys)
 
-one_only : {A : Type 0} (a : A) (j : ℕ) (b : A) → slice_get (a ∷ []) j ≡ Some b → (a ≡ b) × (j ≡ 0)
+pub one_only : {A : Type 0} (a : A) (j : ℕ) (b : A) → slice_get (a ∷ []) j ≡ Some b → (a ≡ b) × (j ≡ 0)
 one_only a zero b e = (cc, refl)
 one_only a (suc j) b e = absurd (cc)
 
@@ -72,25 +72,25 @@ abbrev Place : Type 1
 Place = CodeOf → Site → ℕ → ℕ → Type 0
 
 -- where the code of a text is written
-abbrev spot : (text used : ℕ) → Spot
+abbrev pub spot : (text used : ℕ) → Spot
 spot n m = record { text = n; used = m }
 
 -- a draft in which the code of a text begins
-abbrev restarted : DraftOf → ℕ → DraftOf
+abbrev pub restarted : DraftOf → ℕ → DraftOf
 restarted c n = record { instrs = c.instrs; room = 0; size = n; whole = c.whole; classes = c.classes }
 
 -- What is known of a text whose record is added: the record in the end, where its code stands, and that its draft becomes the code.
-record Recorded (s : Source) (k used : ℕ) (x : Text) (c : DraftOf) (new : Written) (head : Head) (final : CodeOf) (b : BlockOf) : Type 0 where
+pub record Recorded (s : Source) (k used : ℕ) (x : Text) (c : DraftOf) (new : Written) (head : Head) (final : CodeOf) (b : BlockOf) : Type 0 where
   pub found : slice_get final.blocks (block_number s k) ≡ Some b
   pub heads : RecordOf s final k head.kind head.result_type b
   pub entry : b.entry ≡ head.entry
   pub becomes : Becomes (spot k used) c final (site_of s final k b)
 
-kinds_agree : (s : Source) (k : ℕ) (x : Text) → BlockKind → Type 0
+unfoldable pub kinds_agree : (s : Source) (k : ℕ) (x : Text) → BlockKind → Type 0
 kinds_agree s k x a = map code_formal (formals_by_kind s a k) ≡ map code_formal (parameters_of s k (Some x))
 
 -- Of c the text is written, and then its last instruction: what the code has in the end.
-recorded : (b : Bound) (k : ℕ) (x : Text) (c : DraftOf) (stop : Instr) (before mid new : Written) (head : Head) (final : CodeOf) (used : ℕ) (added : BlockAdded (source_of b) mid new head)
+pub recorded : (b : Bound) (k : ℕ) (x : Text) (c : DraftOf) (stop : Instr) (before mid new : Written) (head : Head) (final : CodeOf) (used : ℕ) (added : BlockAdded (source_of b) mid new head)
     → Next (source_of b) before k x → is_planned x ≡ true → OwnEnd b before.draft.classes k used → mid.draft ≡ with_instr c stop 0 → stop ≢ i.Halt → mid.blocks.items ≡ before.blocks.items → c.classes ≡ before.draft.classes → head.text ≡ k
     → kinds_agree (source_of b) k x head.kind → Ends new final → Recorded (source_of b) k used x c new head final added.block
 unfolding with_instr kinds_agree OwnEnd
@@ -191,10 +191,10 @@ text_emitted b k x old mid new c2 c3 P There stop head used eu fr ew ecl run e e
         ap (λ z. planned_in (Some z)) (sym h.0) ∙ added.planned ∙ ap (λ z. planned_at z (block_number (source_of b) head.text)) same_classes ∙ ap (λ z. planned_at old.draft.classes (block_number (source_of b) z)) et ∙ ap (planned_at old.draft.classes) next.block
         ∙ ap (planned_at old.draft.classes) same
 
-syntax_of_block : (k : Block) (ds : List Decl) (ss : List Stmt) → ds ≡ k.declarations.items → ss ≡ k.statements.items → block_syntax k ≡ Begin k.token.0 (declarations (map declaration_syntax ds)) (statements (map statement_syntax ss)) k.end.0
+pub syntax_of_block : (k : Block) (ds : List Decl) (ss : List Stmt) → ds ≡ k.declarations.items → ss ≡ k.statements.items → block_syntax k ≡ Begin k.token.0 (declarations (map declaration_syntax ds)) (statements (map statement_syntax ss)) k.end.0
 syntax_of_block k ds ss ed es = v.syntax-block k.token k.declarations k.statements k.end ∙ ap (λ z. Begin k.token.0 (declarations (map declaration_syntax z)) (statements (map statement_syntax k.statements.items)) k.end.0) (sym ed) ∙ ap (λ z. Begin k.token.0 (declarations (map declaration_syntax ds)) (statements (map statement_syntax z)) k.end.0) (sym es)
 
-abbrev head_of : BlockKind → (text entry : ℕ) → CodeType → Head
+abbrev pub head_of : BlockKind → (text entry : ℕ) → CodeType → Head
 head_of a k entry rt = record { kind = a; text = k; entry = entry; result_type = rt }
 
 module _ (b : Bound) where
@@ -271,176 +271,12 @@ module _ (b : Bound) where
       front_at : (ls bs : List Lined) → Fronts ls bs → (k : ℕ) (x : Lined) → slice_get ls k ≡ Some x → slice_get bs k ≡ Some x
       front_at ls bs f k x e = ap (λ z. slice_get z k) f.1 ∙ get_front ls f.0 k x e
 
--- ---- classes
-
-ends_with : (c : DraftOf) (stop : Instr) (d : DraftOf) → d ≡ with_instr c stop 0 → d.instrs ≡ c.instrs ++ (lined stop 0 ∷ [])
-unfolding with_instr
-ends_with c stop d e = ap (λ z. z.instrs) e
-
-whole_with : (c : DraftOf) (stop : Instr) (d : DraftOf) → d ≡ with_instr c stop 0 → d.whole ≡ c.whole
-unfolding with_instr
-whole_with c stop d e = ap (λ z. z.whole) e
-
-classes_with : (c : DraftOf) (stop : Instr) (d : DraftOf) → d ≡ with_instr c stop 0 → d.classes ≡ c.classes
-unfolding with_instr
-classes_with c stop d e = ap (λ z. z.classes) e
-
-set_there : {A : Type 0} (xs : List A) (p : ℕ) (y v : A) → slice_get xs p ≡ Some y → slice_get (slice_set xs p v) p ≡ Some v
-set_there [] p y v e = absurd (cc)
-set_there (x ∷ xs) zero y v e = refl
-set_there (x ∷ xs) (suc p) y v e = set_there xs p y v e
-
--- what is put where none is leaves the others
-set_keeps : (xs : List (Option ClassAt)) (p j : ℕ) (v : Option ClassAt) (c : ClassAt) → slice_get xs p ≡ Some None → slice_get xs j ≡ Some (Some c) → slice_get (slice_set xs p v) j ≡ Some (Some c)
-set_keeps [] p j v c none is = absurd (cc)
-set_keeps (x ∷ xs) zero zero v c none is = let clash : Some None ≡ Some (Some c) = sym none ∙ is in absurd (cc)
-set_keeps (x ∷ xs) zero (suc j) v c none is = is
-set_keeps (x ∷ xs) (suc p) zero v c none is = is
-set_keeps (x ∷ xs) (suc p) (suc j) v c none is = set_keeps xs p j v c none is
-
-kept_by : (new newer : Written) (number : ℕ) (at : ClassAt) → ClassPut new newer number at → (j : ℕ) (c : ClassAt) → slice_get new.classes.items j ≡ Some (Some c) → slice_get newer.classes.items j ≡ Some (Some c)
-kept_by new newer number at f j c is = ap (λ z. slice_get z j) f.put ∙ set_keeps new.classes.items f.place j (Some at) c f.none is
-
--- with a class more, what was there is still there
-fewer : (new newer : Written) (number : ℕ) (at : ClassAt) (final : CodeOf) → ClassPut new newer number at → Ends newer final → Ends new final
-fewer new newer number at final f g = record {
-  grows = subst (λ z. Grows z final.instrs) (ap (λ z. z.instrs) f.draft) g.grows;
-  blocks = λ j x is. g.blocks j x (ap (λ z. slice_get z.items j) f.blocks ∙ is);
-  classes = λ j x is. g.classes j x (kept_by new newer number at f j x is);
-  classed = λ j. g.classed j ∙ ap (λ z. planned_at z.classes j) f.draft;
-}
-
-abbrev class_at_of : (prefix block declarations statements after : ℕ) → ClassAt
-class_at_of prefix block declared stated after = record { prefix = prefix; block = block; declarations = declared; statements = stated; after_inner = after }
-
--- ---- texts with levels, of either kind
-
-level_kinds : (s : Source) (k : ℕ) {ds : Declarations} {ss : Statements} {a : BlockKind} {x : Text} → LevelText ds ss a x → kinds_agree s k x a
-unfolding kinds_agree
-level_kinds s k a_class = refl
-level_kinds s k a_block = refl
-
-level_planned : {ds : Declarations} {ss : Statements} {a : BlockKind} {x : Text} → LevelText ds ss a x → is_planned x ≡ true
-level_planned a_class = refl
-level_planned a_block = refl
-
-level_counted : {ds : Declarations} {ss : Statements} {a : BlockKind} {x : Text} → LevelText ds ss a x → 1 ≡ blocks_in x
-level_counted a_class = refl
-level_counted a_block = refl
-
-level_numbered : {ds : Declarations} {ss : Statements} {a : BlockKind} {x : Text} → LevelText ds ss a x → 0 < classes_in x
-level_numbered a_class = omega arith
-level_numbered a_block = omega arith
-
-level_parts : (s : Source) (k : ℕ) {ds : Declarations} {ss : Statements} {a : BlockKind} {x : Text} → LevelText ds ss a x → TextBuilt s (suc k) x → ArraysBuilt s (suc k) ds × LevelBuilt s (suc k) (inner_by_kind s a (suc k)) ss
-level_parts s k a_class h = h
-level_parts s k a_block h = h
-
-level_code : (s : Source) (final : CodeOf) (k : ℕ) (blk : BlockOf) {ds : Declarations} {ss : Statements} {a : BlockKind} {x : Text} → LevelText ds ss a x → ClassTextOf s final (suc k) a (inner_by_kind s a (suc k)) ds ss blk → CodeHas s final (suc k) x (Some blk)
-level_code s final k blk a_class h = h
-level_code s final k blk a_block h = h
-
-level_first : (s : Source) {ds : Declarations} {ss : Statements} {a : BlockKind} {x : Text} → LevelText ds ss a x → TextBuilt s 0 x → ⊥
-level_first s a_class h = h
-level_first s a_block h = h
-
-module _ (b : Bound) where
-  pub class_text_written : (old mid new newer : Written) (c1 c2 c3 c4 : DraftOf) (ds : List Decl) (ss : List Stmt) (a : BlockKind) (among : Bool) (n start m stated after behind block level front number j : ℕ) (x3 x5 : Instr) → n ≢ 0 → block ≡ length old.blocks.items → start ≡ length old.draft.instrs
-      → LevelPlace b n level → FrontClass b old.draft.classes n front → j ≡ block_number (source_of b) n → number ≡ class_of old.draft.classes j
-      → OwnEnd b old.draft.classes n m → c1 ≡ restarted old.draft m → WritesArrays b (spot n m) c1 c2 ds → x3 ≡ i.NextDecl (pos level) → c3 ≡ with_instr c2 x3 0 → stated ≡ length c3.instrs → among ≡ inner_by_kind (source_of b) a n → WritesLevel b (spot n m) level among c3 c4 ss after
-      → x5 ≡ i.EndLevel (pos level) → mid.draft ≡ with_instr c4 x5 0 → mid.blocks ≡ old.blocks → mid.classes ≡ old.classes → behind ≡ after → AddsBlock b mid new (head_of a n start type.Nothing)
-      → PutsClass new newer number (class_at_of front block start stated behind) → WritesClassText b old newer n a ds ss
-  unfolding WritesClassText WritesArrays WritesLevel AddsBlock PutsClass LevelPlace FrontClass kinds_agree
-  class_text_written old mid new newer c1 c2 c3 c4 ds ss a among zero start m stated after behind block level front number j x3 x5 ne ek ee ep ef ej enum eo e1 fa e3' e3 est eam fw e5' e5 ebl ecs ea fb fc x kinded next = absurd (ne refl)
-  class_text_written old mid new newer c1 c2 c3 c4 ds ss a among (suc n) start m stated after behind block level front number j x3 x5 ne ek ee ep ef ej enum eo e1 fa e3' e3 est eam fw e5' e5 ebl ecs ea fb fc x kinded next =
-      let s = source_of b in
-      let k = suc n in
-      let xs = declarations (map declaration_syntax ds) in
-      let ys = statements (map statement_syntax ss) in
-      let fl = subst (λ z. WritesLevel b (spot k m) level z c3 c4 ss after) eam fw in
-      let stop = i.EndLevel (pos level) in
-      let at = class_at_of front block start stated behind in
-      let plan = old.draft.classes in
-      let ended : mid.draft ≡ with_instr c4 stop 0 = e5 ∙ ap (λ z. with_instr c4 z 0) e5' in
-      let i1 : c1.instrs ≡ old.draft.instrs = ap (λ z. z.instrs) e1 in
-      let at_start : length c1.instrs ≡ start = ap length i1 ∙ sym ee in
-      let body = emits_then (spot k m) _ _ _ _ c1 c2 c4 fa (emits_then (spot k m) _ _ _ _ c2 c3 c4 (emits_to b (spot k m) c2 c3 ⊤ _ stated est (emits_at (spot k m) c2 c3 (i.NextDecl (pos level)) 0 (e3 ∙ ap (λ z. with_instr c2 z 0) e3') (λ z. cc) refl)) fl.1) in
-      let draft : newer.draft ≡ with_instr c4 stop 0 = fc.draft ∙ fb.same ∙ ended in
-      let i5 : newer.draft.instrs ≡ c4.instrs ++ (lined stop 0 ∷ []) = ends_with c4 stop newer.draft draft in
-      let w5 : newer.draft.whole ≡ c4.whole = whole_with c4 stop newer.draft draft in
-      let last = emits_at (spot k m) c4 newer.draft stop 0 draft (λ z. cc) refl in
-      let fr : Fronts old.draft.instrs c4.instrs = subst (λ z. Fronts z c4.instrs) i1 (body.rest, body.front) in
-      let le1 : length c1.instrs ≤ length c4.instrs = fronts_le c1.instrs c4.instrs (body.rest, body.front) in
-      let le3 : length c3.instrs ≤ length c4.instrs = fronts_le c3.instrs c4.instrs (fl.1.rest, fl.1.front) in
-      let classed : c4.classes ≡ plan = body.classed ∙ ap (λ z. z.classes) e1 in
-      let mid_plan : mid.draft.classes ≡ plan = classes_with c4 stop mid.draft ended ∙ classed in
-      let own : planned_in (Some fb.block) ≡ planned_at plan (block_number s k) = fb.planned ∙ ap (λ z. planned_at z (block_number s k)) mid_plan in
-      let its : number ≡ (planned_at plan (block_number s k)).class = enum ∙ ap (class_of plan) ej in
-      let counts : fb.block.class ≡ suc fc.place = ap (λ z. z.class) own ∙ sym its ∙ fc.counts in
-      let all_there : Fronts old.draft.instrs newer.draft.instrs = fronts_then old.draft.instrs c4.instrs newer.draft.instrs fr (lined stop 0 ∷ [], i5) in
-      let classes : new.classes.items ≡ old.classes.items = fb.same_classes ∙ ap (λ z. z.items) ecs in
-      record {
-        rest = all_there.0;
-        front = all_there.1;
-        classed = classes_with c4 stop newer.draft draft ∙ classed;
-        fits = λ q. last.fits (body.fits (subst AllRun (sym i1) q));
-        added = fb.block ∷ [];
-        blocks = ap (λ z. z.items) fc.blocks ∙ fb.is ∙ ap (λ z. z.items ++ (fb.block ∷ [])) ebl;
-        kept = λ j y is. kept_by new newer number at fc j y (ap (λ z. slice_get z j) classes ∙ is);
-        earlier = λ q. sym (ap (λ z. z.whole) e1) ∙ body.before (sym w5 ∙ q);
-        built = λ q o. (let parts = level_parts s n kinded q in w5 ∙ body.built (parts.0, (tt, parts.1)) (ap (λ z. z.whole) e1 ∙ o));
-        counted = λ q. level_counted kinded;
-        numbered = λ q j blk is.
-            let one = one_only fb.block j blk is in
-            let first = one.1 in
-            let same : length old.blocks.items ≡ length old.blocks.items + j = omega (arith, first) in
-            ap (λ z. planned_in (Some z)) (sym one.0) ∙ own ∙ ap (planned_at plan) next.block ∙ ap (planned_at plan) same;
-        at = λ q final g.
-            let less = fewer new newer number at final fc g in
-            let r = recorded b k x c4 stop old mid new (head_of a k start type.Nothing) final m fb next (level_planned kinded) eo ended (λ z. cc) (ap (λ z. z.items) ebl) classed refl (level_kinds s k kinded) less in
-            let there : slice_get final.instrs (length c4.instrs) ≡ Some (lined stop 0) = g.grows.keeps (length c4.instrs) (lined stop 0) (ap (λ z. slice_get z (length c4.instrs)) i5 ∙ append_at c4.instrs (lined stop 0)) (λ z. cc) in
-            let inside : length c4.instrs < length final.instrs = within final.instrs (length c4.instrs) (lined stop 0) there in
-            let site = site_of s final k fb.block in
-            let stands = body.at (sym w5 ∙ q) final site r.becomes in
-            let put : slice_get newer.classes.items fc.place ≡ Some (Some at) = ap (λ z. slice_get z fc.place) fc.put ∙ set_there new.classes.items fc.place None (Some at) fc.none in
-            let known : (j : ℕ) → planned_in (slice_get final.blocks j) ≡ planned_at plan j = λ j. g.classed j ∙ ap (λ z. planned_at z j) (classes_with c4 stop newer.draft draft ∙ classed) in
-            let in_front : class_in (block_in_front s final k) ≡ (planned_front s plan k).class = ap (λ z. z.class) (front_planned s final plan k known) in
-            let lower = (next.plan.each k x next.is (level_planned kinded)).class (level_numbered kinded) in
-            let its_own : fb.block.class ≡ (planned_at plan (block_number s k)).class = ap (λ z. z.class) own in
-            let le_after = fl.0 in
-            subst (λ z. CodeHas s final k x z) (sym r.found)
-            (level_code s final n fb.block kinded (record {
-              heads = r.heads;
-              class = class_record at;
-              is = record {
-                numbered = ap (class_numbered final) counts ∙ g.classes fc.place at put;
-                of_block = ek ∙ sym next.block;
-                prefix = ef ∙ sym in_front;
-                lower = omega (arith, ef, lower, its_own);
-                no_process = refl;
-                no_matches = refl;
-              };
-              level = record {
-                place = level;
-                placed = ep;
-                x = stands.0;
-                y = stands.2.0;
-                declared_there = omega (arith, at_start, le1, inside);
-                declared = subst (λ z. ArraysAt s final site xs z stands.0) at_start stands.1;
-                next = record { line = 0; is = stands.2.1.0 };
-                stated_there = omega (arith, est, le3, inside);
-                stop = length c4.instrs;
-                stated = subst (λ z. LevelAt s final site level z (inner_by_kind s a k) ys stated (length c4.instrs)) (sym ea) (subst (λ z. LevelAt s final site level after (inner_by_kind s a k) ys z (length c4.instrs)) stands.2.1.1 stands.2.2);
-                behind_there = omega (arith, ea, le_after, inside);
-                last = suc (length c4.instrs);
-                ends = record { line = 0; is = record { at = there; on = refl } };
-              };
-            }));
-      }
+  pub first_block : (old new : Written) (k : ℕ) (p : Block) → k ≡ 0 → WritesBlockText b old new 0 p → WritesBlockText b old new k p
+  first_block old new k p e f = subst (λ z. WritesBlockText b old new z p) (sym e) f
 
 -- ---- texts that are not built
 
-text_given_up : (s : Source) (old new : Written) (k : ℕ) (x : Text) → (TextBuilt s k x → ⊥) → new.draft ≡ given_up old.draft → new.blocks ≡ old.blocks → new.classes ≡ old.classes → TextEmitted s old new k x
+pub text_given_up : (s : Source) (old new : Written) (k : ℕ) (x : Text) → (TextBuilt s k x → ⊥) → new.draft ≡ given_up old.draft → new.blocks ≡ old.blocks → new.classes ≡ old.classes → TextEmitted s old new k x
 unfolding given_up
 text_given_up s old new k x never e eb ec =
     let ew : new.draft.whole ≡ false = ap (λ z. z.whole) e in
@@ -463,61 +299,4 @@ text_given_up s old new k x never e eb ec =
     clash : false ≡ true → ⊥
     clash h = cc
 
-module _ (b : Bound) where
-  pub class_first : (old new : Written) (ds : List Decl) (ss : List Stmt) (a : BlockKind) (k : ℕ) → k ≡ 0 → new.draft ≡ given_up old.draft → new.blocks ≡ old.blocks → new.classes ≡ old.classes → WritesClassText b old new k a ds ss
-  unfolding WritesClassText
-  class_first old new ds ss a zero e ed eb ec x kinded next = text_given_up (source_of b) old new 0 x (level_first (source_of b) kinded) ed eb ec
-  class_first old new ds ss a (suc k) e ed eb ec x kinded next = absurd (omega (arith, e))
-
-  -- ---- by the part of the tree
-
-  text_as : (old new : Written) (k : ℕ) (x : TextTree) (y : Text) → text_in x ≡ y → (Next (source_of b) old k y → TextEmitted (source_of b) old new k y) → WritesText b old new k x
-  unfolding WritesText
-  text_as old new k x y is f = subst (λ z. Next (source_of b) old k z → TextEmitted (source_of b) old new k z) (sym is) f
-
-  pub text_of_block : (old new : Written) (k : ℕ) (x : TextTree) (p : Bor Block) → x ≡ tree.Block p → WritesBlockText b old new k p.now → WritesText b old new k x
-  unfolding WritesBlockText
-  text_of_block old new k x p is f = text_as old new k x _ (ap text_in is) f
-
-  pub first_block : (old new : Written) (k : ℕ) (p : Block) → k ≡ 0 → WritesBlockText b old new 0 p → WritesBlockText b old new k p
-  first_block old new k p e f = subst (λ z. WritesBlockText b old new z p) (sym e) f
-
-  pub text_of_procedure : (old new : Written) (k : ℕ) (x : TextTree) (r : Bor (Option TypeName)) (p : Bor Procedure) (y : Stmt) → x ≡ tree.Procedure r p → y ≡ p.now.body.value → WritesProcedureText b old new k r.now y → WritesText b old new k x
-  unfolding WritesProcedureText
-  text_of_procedure old new k x r p y is ey f =
-      text_as old new k x _ (ap text_in is) (subst (λ z. (h : Heading) → Next (source_of b) old k (ProcedureText r.now h (statement_syntax z)) → TextEmitted (source_of b) old new k (ProcedureText r.now h (statement_syntax z))) ey f (heading_syntax p.now.name p.now.parameters.items p.now.modes.items p.now.specifications.items))
-
-  pub text_of_class : (old new : Written) (k : ℕ) (x : TextTree) (r : Bor (Option Identifier)) (c : Bor Class) (p : Bor Block) (ds : List Decl) (ss : List Stmt) → x ≡ tree.Class r c p → ds ≡ p.now.declarations.items → ss ≡ p.now.statements.items → WritesClassText b old new k kind.Object ds ss → WritesText b old new k x
-  unfolding WritesClassText
-  text_of_class old new k x r c p ds ss is ed es f =
-      text_as old new k x _ (ap text_in is ∙ ap (λ z. class_text r.now (heading_of c.now) z) (syntax_of_block p.now ds ss ed es)) (f _ a_class)
-
-  pub text_of_statement : (old new : Written) (k : ℕ) (x : TextTree) (r : Bor (Option Identifier)) (c : Bor Class) (y : Stmt) → x ≡ tree.ClassOfStatement r c → y ≡ c.now.body.value → WritesClassText b old new k kind.Object [] (y ∷ []) → WritesText b old new k x
-  unfolding WritesClassText
-  text_of_statement old new k x r c y is ey f = text_as old new k x _ (ap text_in is ∙ ap (λ z. ClassText r.now (heading_of c.now) NoDeclaration (Also (statement_syntax z) NoStatement)) (sym ey)) (f _ a_class)
-
-  pub text_of_prefixed : (old new : Written) (k : ℕ) (x : TextTree) (p : Bor BlockPrefix) (q : Bor Block) (ds : List Decl) (ss : List Stmt) → x ≡ tree.Prefixed p q → ds ≡ q.now.declarations.items → ss ≡ q.now.statements.items → WritesClassText b old new k kind.Prefixed ds ss → WritesText b old new k x
-  unfolding WritesClassText
-  text_of_prefixed old new k x p q ds ss is ed es f = text_as old new k x _ (ap text_in is ∙ ap (prefixed_text (prefix_syntax p.now)) (syntax_of_block q.now ds ss ed es)) (f _ a_block)
-
-  pub text_of_standard : (old new : Written) (k : ℕ) (x : TextTree) (which : StandardClass) → x ≡ tree.Standard which → new.draft ≡ given_up old.draft → new.blocks ≡ old.blocks → new.classes ≡ old.classes → WritesText b old new k x
-  text_of_standard old new k x which is ed eb ec = text_as old new k x _ (ap text_in is) (λ next. text_given_up (source_of b) old new k _ (λ h. h) ed eb ec)
-
-  pub text_of_connection : (old : Written) (k : ℕ) (x : TextTree) → x ≡ tree.Connection → WritesText b old old k x
-  text_of_connection old k x is = text_as old old k x _ (ap text_in is)
-      (λ next. record {
-        rest = [];
-        front = sym (append-nil old.draft.instrs);
-        classed = refl;
-        fits = λ h. h;
-        added = [];
-        blocks = sym (append-nil old.blocks.items);
-        kept = λ j y is. is;
-        earlier = λ w. w;
-        built = λ h w. w;
-        counted = λ w. refl;
-        numbered = λ w j blk e. absurd (cc);
-        at = λ w final g. tt;
-      })
-
-pub ruleset texts = (block_text_written, procedure_text_written, program_text_written, class_text_written, class_first, text_of_block, first_block, text_of_procedure, text_of_class, text_of_statement, text_of_prefixed, text_of_standard, text_of_connection)
+pub ruleset blocks = (block_text_written, procedure_text_written, program_text_written, first_block)

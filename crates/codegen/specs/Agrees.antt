@@ -1,10 +1,12 @@
 -- That the tables of scopes agree with each other and with the texts, as far as code rests on it: the tables of each program do.
-use Rattle.std.specs.Prelude.{◌≡◌, ◌<◌, ◌&&◌, not, ℕ, suc, Bool, true, false, length, slice_get, Option, Some, None}
+use Rattle.std.specs.Prelude.{◌≡◌, ◌<◌, ℕ, suc, Bool, true, false, length, slice_get, Option, Some, None}
 use Rattle.sim_base.specs.declared.numbering.DeclNo.{DeclNo}
 use Rattle.sim_scope.specs.declared.types.Entry.TheVariants as entry
 use Rattle.sim_scope.specs.declared.types.Formal.{Formal}
 use Rattle.sim_scope.specs.declared.types.SimType.{SimType}
-use Rattle.sim_scope.specs.Access.{encloser}
+use Rattle.sim_scope.specs.declared.types.BlockKind.{BlockKind}
+use Rattle.sim_scope.specs.declared.types.BlockKind.TheVariants as kind
+use Rattle.sim_scope.specs.Access.{encloser, is_kind}
 use Rattle.sim_scope.specs.Scopes.{entry_of, formals_in}
 use Rattle.sim_scope.specs.Source.{Source, block_around, block_of, level_of}
 use Rattle.sim_scope.specs.Tables.{Tables}
@@ -16,7 +18,6 @@ use Rattle.sim_meaning.specs.Entries.{numbers_of}
 use Rattle.sim_meaning.specs.Levels.{has_levels, is_class}
 use Rattle.sim_meaning.specs.Meaning.{has_result}
 use Rattle.sim_meaning.specs.Texts.{ProcedureText, program_texts, text}
-use Rattle.codegen_expr.specs.Built.{is_there}
 use Rattle.codegen_expr.specs.Sites.{LevelOf, frame_text, is_connected, prefix_of}
 
 -- the text of a declared procedure stands in the text of its declaration, and has a result where the declaration has one
@@ -28,9 +29,13 @@ pub record ProcedureThere (s : Source) (d : DeclNo) (result : Option SimType) (k
   pub around : encloser s.tables k ≡ Some (block_of s d)
   pub same : has_result given ≡ has_type result
 
--- a text with a class in front of it that is no class itself
-abbrev pub stands_behind : Source → (text : ℕ) → Bool
-stands_behind s k = is_there (prefix_of s.tables k) && not (is_class (text s k))
+-- whether a text is a block with a prefix, as the tables have it
+abbrev pub is_prefixed_kind : BlockKind → Bool
+is_prefixed_kind kind.Prefixed = true
+is_prefixed_kind _ = false
+
+unfoldable pub is_prefixed : Tables → (text : ℕ) → Bool
+is_prefixed tables k = is_kind is_prefixed_kind tables k
 
 -- A class or a prefixed block has a class in front of it, of the same level. What is around that class is one of the levels of what is around
 -- the text.
@@ -63,6 +68,8 @@ pub record Agrees (s : Source) : Type 0 where
   pub same_level : (t u : ℕ) → encloser s.tables t ≡ Some u → is_connected s.tables t ≡ true → level_of s t ≡ level_of s u
   -- a connection is the innermost text around the token with which it begins
   pub begun : (k : ℕ) → is_connected s.tables k ≡ true → block_around s (first_in (slice_get s.tables.blocks k)) ≡ Some k
+  -- a block with a prefix has levels, and is no class
+  pub prefixed : (k : ℕ) → is_prefixed s.tables k ≡ true → (has_levels (text s k) ≡ true) × (is_class (text s k) ≡ false)
   pub prefixes : (k front : ℕ) → prefix_of s.tables k ≡ Some front → PrefixThere s k front
   -- a text has no more levels than there are texts
   pub ends : (k : ℕ) → Ends s.tables (length s.tables.blocks) k

@@ -2,22 +2,25 @@
 use Rattle.std.specs.Prelude.{◌≡◌, ⊤, ℕ, zero, suc, Bool, true, false, ◌||◌, List, [], ◌∷◌, Option, Some, None}
 use Rattle.sim_base.specs.declared.numbering.DeclNo.{DeclNo}
 use Rattle.sim_scope.specs.Assignments.{last_value, left_sides}
+use Rattle.sim_scope.specs.declared.types.StandardClass.{StandardClass}
+use Rattle.sim_scope.specs.declared.types.StandardClass.TheVariants as standard
 use Rattle.sim_scope.specs.Access.{encloser}
+use Rattle.sim_scope.specs.Scopes.{entry_of}
 use Rattle.sim_scope.specs.Source.{Source, block_around, block_of, denoted, found_at, line_at}
 use Rattle.sim_tree.specs.declared.expr.Identifier.{Identifier}
 use Rattle.sim_tree.specs.Syntax.{Also, Arms, Arrayed, Arrays, Begin, Block, BoundPair, Declarations, DeclareClass, DeclareProcedure, Element, Expression, Expressions, NoArm, NoDeclaration, NoMore, NoStatement, Statement, Statements, Then, Variables, When, With}
 use Rattle.sim_tree.specs.Syntax as syntax
 use Rattle.sim_code.specs.Transfers.{Calling, Detaching, Resuming, Transfer}
-use Rattle.sim_meaning.specs.Attributes.{cell_of_connection, connection_at, transfer_at}
-use Rattle.sim_meaning.specs.Closing.{class_parameters, is_attribute, is_text, is_variable, stream_of}
+use Rattle.sim_meaning.specs.Attributes.{cell_of_connection, connection_at, own_attribute, transfer_at}
+use Rattle.sim_meaning.specs.Closing.{class_parameters, formals_at, is_attribute, is_text, is_variable, stream_of}
 use Rattle.sim_meaning.specs.Levels.{class_at, writes_inner}
 use Rattle.sim_meaning.specs.Statements.{begin_of, leaves}
 use Rattle.sim_meaning.specs.Pending.{Connection, Declared, Result}
 use Rattle.sim_meaning.specs.Texts.{BlockText, ClassText, ConnectionText, PrefixedText, ProcedureText, StandardText, Text, declared_at, program_texts, text}
-use Rattle.codegen_expr.specs.Built.{ActualsBuilt, AreBuilt, CellBuilt, ClassBuilt, ConnectedNameBuilt, DotBuilt, IsBuilt, KeyBuilt, NamedBuilt, PlaceBuilt, ReferenceBuilt, ThisFoundBuilt, ThroughBuilt, is_there, slot_in}
+use Rattle.codegen_expr.specs.Built.{ActualsBuilt, AreBuilt, CellBuilt, ClassBuilt, ConnectedNameBuilt, DotBuilt, IsBuilt, KeyBuilt, NamedBuilt, OfObjectBuilt, OwnBuilt, PlaceBuilt, ReferenceBuilt, ThisFoundBuilt, ThroughBuilt, is_there, slot_in}
 use Rattle.codegen_expr.specs.CodeExpr.{gives}
-use Rattle.codegen_expr.specs.Sites.{Varies, frame_text}
-use Rattle.codegen.specs.Agrees.{Agrees, stands_behind}
+use Rattle.codegen_expr.specs.Sites.{Varies, frame_text, prefix_of}
+use Rattle.codegen.specs.Agrees.{Agrees, is_prefixed}
 use Rattle.codegen.specs.CodeFor.{OfCell, OfPlace, OfReference, Variable, assigned_by, variable_of}
 use Rattle.codegen.specs.CodeLeft.{AtAddress, AtAttribute, InCell, NotBuilt, Stored, ToReference, ToResult, ToText, each_stored}
 use Rattle.codegen.specs.CodeStm.{inner_of}
@@ -89,7 +92,7 @@ EnterBuilt s text (Some (suc k)) = encloser s.tables (suc k) ≡ Some text
 abbrev pub PrefixBuilt : Source → (text : ℕ) → Expressions → Option ℕ → Type 0
 PrefixBuilt s text es None = ⊥
 PrefixBuilt s text es (Some zero) = ⊥
-PrefixBuilt s text es (Some (suc k)) = (stands_behind s (suc k) ≡ true) × (encloser s.tables (suc k) ≡ Some text) × ActualsBuilt s text es (class_parameters s (Some (suc k)))
+PrefixBuilt s text es (Some (suc k)) = (is_prefixed s.tables (suc k) ≡ true) × (encloser s.tables (suc k) ≡ Some text) × ActualsBuilt s text es (class_parameters s (Some (suc k)))
 
 -- a transfer of control: `detach` has no actual parameter and stands where it is found, `call` and `resume` have one
 abbrev pub TransferBuilt : Transfer → Expressions → (Around Operands : Type 0) → Type 0
@@ -108,7 +111,9 @@ CalledBuilt s text (syntax.Named name es) =
     OrTransferBuilt (transfer_at s name.token.0) (λ t. TransferBuilt t es (ThisFoundBuilt s text (found_at s name.token.0)) (AreBuilt s text es))
     ((leaves s (syntax.Named name es) ≡ gives s (denoted s name.token.0)) × ThroughBuilt (connection_at s name.token.0)
     (λ k. ConnectedNameBuilt s text k (denoted s name.token.0) es (AreBuilt s text es) (λ formals. ActualsBuilt s text es formals))
-    (NamedBuilt s text (denoted s name.token.0) es (AreBuilt s text es) (λ formals. ActualsBuilt s text es formals)))
+    (OwnBuilt (own_attribute s name.token.0)
+    (λ d. OfObjectBuilt s d (entry_of s.tables d) es (ThisFoundBuilt s text (found_at s name.token.0)) (AreBuilt s text es) (ActualsBuilt s text es (formals_at s d)))
+    (NamedBuilt s text (denoted s name.token.0) es (AreBuilt s text es) (λ formals. ActualsBuilt s text es formals))))
 CalledBuilt s text (syntax.Dot token a name es) =
     OrTransferBuilt (transfer_at s name.token.0) (λ t. TransferBuilt Detaching es (IsBuilt s text a) (AreBuilt s text es))
     ((leaves s (syntax.Dot token a name es) ≡ gives s (denoted s name.token.0)) × DotBuilt s (denoted s name.token.0) (stream_of s a) (is_variable s a || is_attribute s a) es (PlaceBuilt s text a) (IsBuilt s text a) (AreBuilt s text es) (λ formals. ActualsBuilt s text es formals))
@@ -200,15 +205,25 @@ ArraysBuilt s text (With (DeclareClass prefix token h interface a end) ds) = Arr
 
 -- ---- programs
 
+-- processes are not built
+abbrev pub SetClass : StandardClass → Type 0
+SetClass standard.Process = ⊥
+SetClass _ = ⊤
+
+-- a prefix of the program itself is `simset`, which gives no level
+abbrev pub OnlyLevel : Source → Type 0
+OnlyLevel s = prefix_of s.tables 0 ≡ None
+
 abbrev pub TextBuilt : Source → (text : ℕ) → Text → Type 0
 TextBuilt s k (BlockText begin ds ss) = ArraysBuilt s k ds × StatementsBuilt s k ss
 TextBuilt s k (ProcedureText result h a) = StatementBuilt s k a
 TextBuilt s zero (ClassText prefix h ds ss) = ⊥
 TextBuilt s (suc k) (ClassText prefix h ds ss) = ArraysBuilt s (suc k) ds × LevelBuilt s (suc k) (writes_inner s (suc k)) ss
-TextBuilt s zero (PrefixedText class arguments ds ss) = ⊥
+TextBuilt s zero (PrefixedText class arguments ds ss) = OnlyLevel s × ArraysBuilt s zero ds × StatementsBuilt s zero ss
 TextBuilt s (suc k) (PrefixedText class arguments ds ss) = ArraysBuilt s (suc k) ds × StatementsBuilt s (suc k) ss
 TextBuilt s k ConnectionText = ⊤
-TextBuilt s k (StandardText which) = ⊥
+TextBuilt s zero (StandardText which) = ⊥
+TextBuilt s (suc k) (StandardText which) = SetClass which
 
 -- the texts of a program in their order
 unfoldable pub texts_of : Source → List Text

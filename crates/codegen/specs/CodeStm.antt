@@ -2,22 +2,23 @@
 use Rattle.std.specs.Prelude.{◌≡◌, ◌||◌, ℕ, zero, suc, Bool, true, false, pos, Option, Some, None}
 use Rattle.sim_scope.specs.Assignments.{last_value, left_sides}
 use Rattle.sim_scope.specs.Access.{encloser}
+use Rattle.sim_scope.specs.Scopes.{entry_of}
 use Rattle.sim_scope.specs.Source.{Source, block_around, denoted, found_at, level_of, line_at}
 use Rattle.sim_tree.specs.Syntax.{Also, Arms, Begin, Block, Expression, Expressions, NoArm, NoDeclaration, NoMore, NoStatement, Statement, Statements, Then, When, With}
 use Rattle.sim_tree.specs.Syntax as syntax
 use Rattle.sim_code.specs.declared.instr.Instr.TheVariants as i
 use Rattle.sim_code.specs.Code.{CodeOf}
 use Rattle.sim_code.specs.Transfers.{Calling, Detaching, Resuming, Transfer}
-use Rattle.sim_meaning.specs.Attributes.{cell_of_connection, connection_at, transfer_at}
-use Rattle.sim_meaning.specs.Closing.{class_parameters, is_attribute, is_text, is_variable, stream_of}
+use Rattle.sim_meaning.specs.Attributes.{cell_of_connection, connection_at, own_attribute, transfer_at}
+use Rattle.sim_meaning.specs.Closing.{class_parameters, formals_at, is_attribute, is_text, is_variable, stream_of}
 use Rattle.sim_meaning.specs.Levels.{class_at}
 use Rattle.sim_meaning.specs.Pending.{Connection}
 use Rattle.sim_meaning.specs.Statements.{begin_of, leaves}
 use Rattle.sim_meaning.specs.Texts.{ConnectionText, text}
 use Rattle.sim_meaning.specs.Texts as Texts
 use Rattle.codegen_expr.specs.Sites.{Ahead, At, HasCell, IfAt, Is, LoopAt, Pushes, Site, WhenAt, block_number, class_number, frame_text, slot_of}
-use Rattle.codegen_expr.specs.CodeExpr.{ActualsAt, ConnectedNameAt, DotAt, ExprAt, ExprsAt, NamedAt, PlaceAt, ThisFoundAt, ThroughAt, gives, operands}
-use Rattle.codegen.specs.Agrees.{stands_behind}
+use Rattle.codegen_expr.specs.CodeExpr.{ActualsAt, ConnectedNameAt, DotAt, ExprAt, ExprsAt, NamedAt, OfObjectAt, OwnAt, PlaceAt, ThisFoundAt, ThroughAt, gives, operands}
+use Rattle.codegen.specs.Agrees.{is_prefixed}
 use Rattle.codegen.specs.CodeFor.{ForAt, assigned_by, is_empty, variable_of}
 use Rattle.codegen.specs.CodeLeft.{AssignAt, each_stored}
 
@@ -37,7 +38,7 @@ EnterAt s code site line (Some (suc k)) p q = (encloser s.tables (suc k) ≡ Som
 -- A block prefix: its actuals, and the entry of the prefixed block, which stands in the text from which it is entered.
 pub record PrefixAt (s : Source) (code : CodeOf) (site : Site) (n line text : ℕ) (es : Expressions) (p q : ℕ) : Type 0 where
   pub x : ℕ
-  pub is : stands_behind s text ≡ true
+  pub is : is_prefixed s.tables text ≡ true
   pub around : encloser s.tables text ≡ Some site.text
   pub actuals : ActualsAt s code site n line true es (class_parameters s (Some text)) p x
   pub enter : At code (i.Pref (pos (block_number s text)) (pos (operands es))) line x q
@@ -73,7 +74,9 @@ CalledAt s code site n (syntax.Named name es) p q =
     OrTransferAt (transfer_at s name.token.0) (λ t. TransferAt code (line_at s name.token.0) t es (ThisFoundAt s code site n (found_at s name.token.0)) (ExprsAt s code site n es))
     (λ p q. (leaves s (syntax.Named name es) ≡ gives s (denoted s name.token.0)) × ThroughAt (connection_at s name.token.0)
     (λ k. ConnectedNameAt s code site n (line_at s name.token.0) k (denoted s name.token.0) es (ExprsAt s code site (suc n) es) (λ formals. ActualsAt s code site (suc n) (line_at s name.token.0) false es formals))
-    (NamedAt s code site n (line_at s name.token.0) (denoted s name.token.0) es (ExprsAt s code site n es) (ExprsAt s code site (suc n) es) (λ formals. ActualsAt s code site (suc n) (line_at s name.token.0) false es formals)) p q) p q
+    (OwnAt (own_attribute s name.token.0)
+    (λ d. OfObjectAt s code site n (line_at s name.token.0) d (entry_of s.tables d) es (ThisFoundAt s code site n (found_at s name.token.0)) (ExprsAt s code site (suc n) es) (ActualsAt s code site (suc n) (line_at s name.token.0) false es (formals_at s d)))
+    (NamedAt s code site n (line_at s name.token.0) (denoted s name.token.0) es (ExprsAt s code site n es) (ExprsAt s code site (suc n) es) (λ formals. ActualsAt s code site (suc n) (line_at s name.token.0) false es formals))) p q) p q
 CalledAt s code site n (syntax.Dot token a name es) p q =
     OrTransferAt (transfer_at s name.token.0) (λ t. TransferAt code (line_at s name.token.0) Detaching es (ExprAt s code site n a) (ExprsAt s code site n es))
     (λ p q. (leaves s (syntax.Dot token a name es) ≡ gives s (denoted s name.token.0)) × DotAt s code site n (line_at s name.token.0) (denoted s name.token.0) (stream_of s a) (is_variable s a || is_attribute s a) es

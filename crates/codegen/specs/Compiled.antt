@@ -7,10 +7,12 @@ use Rattle.sim_scope.specs.declared.types.Mode.{Mode}
 use Rattle.sim_scope.specs.declared.types.Mode.TheVariants as by
 use Rattle.sim_scope.specs.declared.types.SimType.{SimType}
 use Rattle.sim_scope.specs.declared.types.SimType.TheVariants as t
+use Rattle.sim_scope.specs.declared.types.StandardClass.{StandardClass}
+use Rattle.sim_scope.specs.declared.types.StandardClass.TheVariants as standard
 use Rattle.sim_scope.specs.Source.{Source, level_of, line_at}
 use Rattle.sim_tree.specs.declared.stmt.TypeName.{TypeName}
 use Rattle.sim_tree.specs.declared.stmt.TypeName.TheVariants as type_name
-use Rattle.sim_tree.specs.Syntax.{Declarations, Statement, Statements}
+use Rattle.sim_tree.specs.Syntax.{Declarations, NoDeclaration, NoStatement, Statement, Statements}
 use Rattle.sim_values.specs.Plain.{Plain, Integer, Truth, Character, Text, Object, Nothing}
 use Rattle.sim_code.specs.declared.code.BlockKind.{BlockKind}
 use Rattle.sim_code.specs.declared.code.BlockKind.TheVariants as kind
@@ -25,13 +27,14 @@ use Rattle.sim_code.specs.declared.instr.Instr.{Instr}
 use Rattle.sim_code.specs.declared.instr.Instr.TheVariants as i
 use Rattle.sim_code.specs.Classes.{class_numbered}
 use Rattle.sim_code.specs.Code.{BlockOf, ClassOf, CodeOf}
+use Rattle.sim_code.specs.Levels.{head_mark, linkage_mark}
 use Rattle.sim_meaning.specs.Constants.{constants_of}
 use Rattle.sim_meaning.specs.Closing.{class_parameters}
 use Rattle.sim_meaning.specs.Entries.{formals_of}
 use Rattle.sim_meaning.specs.Levels.{levels_of, writes_inner}
 use Rattle.sim_meaning.specs.Pending.{Held, Of, Val}
 use Rattle.sim_meaning.specs.Texts.{BlockText, ClassText, ConnectionText, PrefixedText, ProcedureText, StandardText, Text as TextOf, is_class_free, text}
-use Rattle.codegen_expr.specs.Sites.{At, Is, Site, block_in_front, block_number, cells_in, cells_of_block, class_in, own_end, own_part, room_of_block, types_in}
+use Rattle.codegen_expr.specs.Sites.{At, Is, Site, block_in_front, block_number, cells_in, cells_of_block, class_in, own_end, own_part, prefix_of, room_of_block, types_in}
 use Rattle.codegen.specs.Agrees.{Agrees}
 use Rattle.codegen.specs.CodeArrays.{ArraysAt}
 use Rattle.codegen.specs.CodeStm.{LevelAt, StmAt, StmsAt}
@@ -93,6 +96,7 @@ code_formal f = record { mode = code_mode f.mode; shape = code_shape f.kind; cod
 abbrev pub parameters_of : Source → (text : ℕ) → Option TextOf → List Formal
 parameters_of s k (Some (ClassText prefix h ds ss)) = class_parameters s (Some k)
 parameters_of s k (Some (PrefixedText class arguments ds ss)) = class_parameters s (Some k)
+parameters_of s k (Some (StandardText which)) = class_parameters s (Some k)
 parameters_of s k _ = formals_of s k
 
 -- The record of a text. Its frames have all that those of the class in front of it have, then the text's own part, then temps. What the text
@@ -168,25 +172,56 @@ pub record LevelOf (s : Source) (code : CodeOf) (k : ℕ) (written : Bool) (ds :
   pub last : ℕ
   pub ends : Is code (i.EndLevel (pos place)) stop last
 
+-- The block of the objects of a class has no entry, but a mark: of a class of SIMSET or SIMULATION which that is, and 0 of any other.
+abbrev pub standard_mark : StandardClass → ℕ
+standard_mark standard.Linkage = linkage_mark
+standard_mark standard.Link = 2
+standard_mark standard.Head = head_mark
+standard_mark standard.Process = 4
+
+abbrev pub mark_of : Option TextOf → ℕ
+mark_of (Some (StandardText which)) = standard_mark which
+mark_of _ = 0
+
+abbrev pub Marked : BlockKind → (mark entry : ℕ) → Type 0
+Marked kind.Object mark entry = entry ≡ mark
+Marked _ mark entry = ⊤
+
 pub record ClassTextOf (s : Source) (code : CodeOf) (k : ℕ) (kind : BlockKind) (written : Bool) (ds : Declarations) (ss : Statements) (b : BlockOf) : Type 0 where
   pub heads : RecordOf s code k kind type.Nothing b
+  pub marked : Marked kind (mark_of (text s k)) b.entry
   pub class : ClassOf
   pub is : ClassIs s code k b class
   pub level : LevelOf s code k written ds ss b class
 
+-- A prefix of the program's block gives no level in front. The block begins with a jump to the next instruction that has the line of the prefix.
+pub record PrefixedProgramOf (s : Source) (code : CodeOf) (line : ℕ) (ds : Declarations) (ss : Statements) (b : BlockOf) : Type 0 where
+  pub heads : RecordOf s code 0 kind.Prefixed type.Nothing b
+  pub alone : prefix_of s.tables 0 ≡ None
+  pub class : ClassOf
+  pub is : ClassIs s code 0 b class
+  pub enter : At code (i.Jump (pos class.declarations)) line b.entry class.declarations
+  pub level : LevelOf s code 0 false ds ss b class
+
 -- ---- programs
 
--- The program's block is the first text, and no class. That it has a prefix, and what standard classes are, is not built.
+-- The program's block is the first text, and no class. A class of SIMSET has no declarations and no statements of its own; processes are not
+-- built.
+abbrev pub StandardTextOf : Source → CodeOf → (text : ℕ) → StandardClass → BlockOf → Type 0
+StandardTextOf s code k standard.Process b = ⊥
+StandardTextOf s code k which b = ClassTextOf s code k kind.Object false NoDeclaration NoStatement b
+
 abbrev pub TextCode : Source → CodeOf → (text : ℕ) → TextOf → BlockOf → Type 0
 TextCode s code zero (BlockText begin ds ss) b = ProgramOf s code begin ds ss b
 TextCode s code (suc k) (BlockText begin ds ss) b = BlockTextOf s code (suc k) ds ss b
 TextCode s code k (ProcedureText result h a) b = ProcedureTextOf s code k result a b
 TextCode s code zero (ClassText prefix h ds ss) b = ⊥
 TextCode s code (suc k) (ClassText prefix h ds ss) b = ClassTextOf s code (suc k) kind.Object (writes_inner s (suc k)) ds ss b
-TextCode s code zero (PrefixedText class arguments ds ss) b = ⊥
+TextCode s code zero (PrefixedText class arguments ds ss) b = PrefixedProgramOf s code (line_at s class.token.0) ds ss b
 TextCode s code (suc k) (PrefixedText class arguments ds ss) b = ClassTextOf s code (suc k) kind.Prefixed false ds ss b
 TextCode s code k ConnectionText b = ⊥
-TextCode s code k (StandardText which) b = ⊥
+TextCode s code zero (StandardText which) b = ⊥
+TextCode s code (suc k) (StandardText which) b = StandardTextOf s code (suc k) which b
 
 -- a connection has no code of its own
 abbrev pub CodeHas : Source → CodeOf → (text : ℕ) → TextOf → Option BlockOf → Type 0

@@ -1,19 +1,21 @@
 -- What is written of the texts of a program.
-use Rattle.std.specs.Prelude.{◌≡◌, ◌<◌, ◌≤◌, ◌+◌, ◌&&◌, ℕ, suc, nat_le, nat_lt, Bool, true, false, List, [], ◌∷◌, ◌++◌, drop, length, map, slice_get, slice_set, Option, Some, None}
+use Rattle.std.specs.Prelude.{◌≡◌, ◌≢◌, ◌<◌, ◌≤◌, ◌+◌, ◌&&◌, ℕ, suc, nat_le, nat_lt, Bool, true, false, List, [], ◌∷◌, ◌++◌, drop, length, map, slice_get, slice_set, Option, Some, None}
 use Rattle.sim_base.specs.declared.numbering.DeclNo.{DeclNo}
 use Rattle.sim_base.specs.declared.numbering.TokenNo.{TokenNo}
 use Rattle.sim_scope.specs.declared.bound.Bound.{Bound}
 use Rattle.sim_scope.specs.declared.types.Entry.{Entry}
 use Rattle.sim_scope.specs.declared.types.Formal.{Formal}
+use Rattle.sim_scope.specs.declared.types.StandardClass.{StandardClass}
 use Rattle.sim_scope.specs.Tables.{BlockOf as TableBlock}
 use Rattle.sim_scope.specs.Source.{Source, block_around, level_of, source_of}
 use Rattle.sim_tree.specs.declared.expr.Identifier.{Identifier}
+use Rattle.sim_tree.specs.declared.program.BlockPrefix.{BlockPrefix}
 use Rattle.sim_tree.specs.declared.stmt.Block.{Block as BlockTree}
 use Rattle.sim_tree.specs.declared.stmt.Decl.{Decl}
 use Rattle.sim_tree.specs.declared.stmt.Stmt.{Stmt}
 use Rattle.sim_tree.specs.declared.stmt.TypeName.{TypeName}
-use Rattle.sim_tree.specs.Syntax.{Declarations, Expressions, Heading, Statements, declarations, statements}
-use Rattle.sim_tree.specs.SyntaxOfProgram.{block_syntax, declaration_syntax, statement_syntax}
+use Rattle.sim_tree.specs.Syntax.{Declarations, Expressions, Heading, NoDeclaration, NoStatement, Statements, declarations, statements}
+use Rattle.sim_tree.specs.SyntaxOfProgram.{block_syntax, declaration_syntax, prefix_syntax, statement_syntax}
 use Rattle.sim_code.specs.declared.code.BlockKind.{BlockKind}
 use Rattle.sim_code.specs.declared.code.BlockKind.TheVariants as kind
 use Rattle.sim_code.specs.declared.code.CodeType.{CodeType}
@@ -26,18 +28,19 @@ use Rattle.sim_meaning.specs.Entries.{cells_from, formals_of, numbers_of, with_c
 use Rattle.sim_meaning.specs.Levels.{levels_of, writes_inner}
 use Rattle.sim_meaning.specs.Texts.{ClassText, ConnectionText, PrefixedText, ProcedureText, StandardText, Text, is_class_free, is_class_kind, text}
 use Rattle.program_texts.specs.declared.tree.TextTree.{TextTree}
-use Rattle.program_texts.specs.TextTrees.{AreTexts, block_text, text_in}
+use Rattle.program_texts.specs.TextTrees.{AreTexts, block_text, prefixed_text, text_in}
 use Rattle.codegen_expr.specs.declared.spot.Spot.{Spot}
 use Rattle.codegen_expr.specs.Drafts.{DraftOf, Emits, Grows, PlannedOf, planned_at, planned_front, planned_in, planned_start}
 use Rattle.codegen_expr.specs.Sites.{block_number, cells_in, hidden_from, hidden_in, own_part}
+use Rattle.codegen.specs.declared.class_texts.LevelHead.{LevelHead}
 use Rattle.codegen.specs.declared.levels.InnerPlace.{InnerPlace}
 use Rattle.codegen.specs.declared.texts.ClassAt.{ClassAt}
 use Rattle.codegen.specs.declared.texts.Head.{Head}
 use Rattle.codegen.specs.declared.texts.Written.{Written}
 use Rattle.codegen.specs.Agrees.{Agrees}
-use Rattle.codegen.specs.BuiltProgram.{LevelBuilt, ProgramBuilt, TextBuilt, WithInnerBuilt, texts_of}
+use Rattle.codegen.specs.BuiltProgram.{ArraysBuilt, LevelBuilt, ProgramBuilt, SetClass, TextBuilt, WithInnerBuilt, texts_of}
 use Rattle.codegen.specs.CodeStm.{LevelAt, WithInnerAt, inner_of}
-use Rattle.codegen.specs.Compiled.{CodeHas, code_formal, type_of_cell}
+use Rattle.codegen.specs.Compiled.{ClassIs, CodeHas, LevelOf, RecordOf, code_formal, parameters_of, standard_mark, type_of_cell}
 
 -- ---- one text
 
@@ -48,6 +51,7 @@ blocks_in _ = 1
 abbrev pub classes_in : Text → ℕ
 classes_in (ClassText prefix h ds ss) = 1
 classes_in (PrefixedText class arguments ds ss) = 1
+classes_in (StandardText which) = 1
 classes_in _ = 0
 
 -- What is planned of the block of a text: what is planned of the class in front of it, if there is one, then the text's own part, then temps.
@@ -59,10 +63,9 @@ pub record PlanFor (s : Source) (plan : List PlannedOf) (k : ℕ) (x : Text) : T
   pub room : (planned_front s plan k).room ≤ (planned_at plan (block_number s k)).room
   pub class : 0 < classes_in x → (planned_front s plan k).class < (planned_at plan (block_number s k)).class
 
--- all texts but connections and standard classes
+-- all texts but connections
 abbrev pub is_planned : Text → Bool
 is_planned ConnectionText = false
-is_planned (StandardText which) = false
 is_planned _ = true
 
 -- a plan for each block of the code
@@ -119,14 +122,60 @@ WritesBlockText b old new k x = Next (source_of b) old k (block_text (block_synt
 unfoldable pub WritesProcedureText : Bound → (old new : Written) → (number : ℕ) → Option TypeName → Stmt → Type 0
 WritesProcedureText b old new k result a = (h : Heading) → Next (source_of b) old k (ProcedureText result h (statement_syntax a)) → TextEmitted (source_of b) old new k (ProcedureText result h (statement_syntax a))
 
--- a text with levels, by the kind of its block
-pub data LevelText (ds : Declarations) (ss : Statements) : BlockKind → Text → Type 0 where
-  a_class : {prefix : Option Identifier} → {h : Heading} → LevelText ds ss kind.Object (ClassText prefix h ds ss)
-  a_block : {class : Identifier} → {es : Expressions} → LevelText ds ss kind.Prefixed (PrefixedText class es ds ss)
+-- a text with levels that is no program: its declarations and statements, the kind of its block and the entry of that, and whether `inner` is
+-- among its statements
+pub data LevelText (s : Source) (k : ℕ) : Declarations → Statements → BlockKind → (entry : ℕ) → (inner : Bool) → Text → Type 0 where
+  a_class : {prefix : Option Identifier} → {h : Heading} → {ds : Declarations} → {ss : Statements} → LevelText s k ds ss kind.Object 0 (writes_inner s k) (ClassText prefix h ds ss)
+  a_standard : {which : StandardClass} → SetClass which → LevelText s k NoDeclaration NoStatement kind.Object (standard_mark which) false (StandardText which)
+  a_block : {class : Identifier} → {es : Expressions} → {ds : Declarations} → {ss : Statements} → {entry : ℕ} → k ≢ 0 → LevelText s k ds ss kind.Prefixed entry false (PrefixedText class es ds ss)
 
-unfoldable pub WritesClassText : Bound → (old new : Written) → (number : ℕ) → (of : BlockKind) → List Decl → List Stmt → Type 0
-WritesClassText b old new k of ds ss =
-    (x : Text) → LevelText (declarations (map declaration_syntax ds)) (statements (map statement_syntax ss)) of x → Next (source_of b) old k x → TextEmitted (source_of b) old new k x
+unfoldable pub WritesClassText : Bound → (old new : Written) → LevelHead → List Decl → List Stmt → Type 0
+WritesClassText b old new h ds ss =
+    (x : Text) → LevelText (source_of b) h.text (declarations (map declaration_syntax ds)) (statements (map statement_syntax ss)) h.kind h.entry h.inner x → Next (source_of b) old h.text x → TextEmitted (source_of b) old new h.text x
+
+-- the formal parameters of a text, those of a class of all its levels
+abbrev pub formals_by_kind : Source → BlockKind → (text : ℕ) → List Formal
+formals_by_kind s kind.Object k = class_parameters s (Some k)
+formals_by_kind s kind.Prefixed k = class_parameters s (Some k)
+formals_by_kind s _ k = formals_of s k
+
+-- no more than instructions is written
+pub record Entered (before old : Written) : Type 0 where
+  pub rest : List Lined
+  pub front : old.draft.instrs ≡ before.draft.instrs ++ rest
+  pub whole : old.draft.whole ≡ before.draft.whole
+  pub planned : old.draft.classes ≡ before.draft.classes
+  pub fits : AllRun before.draft.instrs → AllRun old.draft.instrs
+  pub blocks : old.blocks ≡ before.blocks
+  pub classes : old.classes ≡ before.classes
+
+-- A text begins before, and its level at old. Where the code of the level stands, that of the text does.
+pub record LevelIs (s : Source) (before old : Written) (h : LevelHead) (ds : Declarations) (ss : Statements) (x : Text) : Type 0 where
+  pub entered : Entered before old
+  pub parts : TextBuilt s h.text x → ArraysBuilt s h.text ds × LevelBuilt s h.text h.inner ss
+  pub planned : is_planned x ≡ true
+  pub formals : map code_formal (formals_by_kind s h.kind h.text) ≡ map code_formal (parameters_of s h.text (Some x))
+  pub one_block : 1 ≡ blocks_in x
+  pub one_class : 0 < classes_in x
+  pub code : (final : CodeOf) (block : BlockOf) (class : ClassOf) → Grows old.draft.instrs final.instrs → block.entry ≡ h.entry → class.declarations ≡ length old.draft.instrs
+      → RecordOf s final h.text h.kind type.Nothing block → ClassIs s final h.text block class → LevelOf s final h.text h.inner ds ss block class → CodeHas s final h.text x (Some block)
+
+unfoldable pub WritesLevelText : Bound → (old new : Written) → LevelHead → List Decl → List Stmt → Type 0
+WritesLevelText b old new h ds ss =
+    (before : Written) (x : Text) → LevelIs (source_of b) before old h (declarations (map declaration_syntax ds)) (statements (map statement_syntax ss)) x → Next (source_of b) before h.text x → TextEmitted (source_of b) before new h.text x
+
+-- the program with a prefix, and a block with one
+unfoldable pub WritesPrefixedText : Bound → (old new : Written) → (number : ℕ) → BlockPrefix → BlockTree → Type 0
+WritesPrefixedText b old new k p x =
+    Next (source_of b) old k (prefixed_text (prefix_syntax p) (block_syntax x)) → TextEmitted (source_of b) old new k (prefixed_text (prefix_syntax p) (block_syntax x))
+
+-- the mark of a class of SIMSET
+abbrev pub MarkIs : StandardClass → Option ℕ → Type 0
+MarkIs which None = SetClass which → ⊥
+MarkIs which (Some mark) = SetClass which × (mark ≡ standard_mark which)
+
+unfoldable pub WritesStandardText : Bound → (old new : Written) → (number : ℕ) → StandardClass → Type 0
+WritesStandardText b old new k which = Next (source_of b) old k (StandardText which) → TextEmitted (source_of b) old new k (StandardText which)
 
 -- ---- the statements of a class
 
@@ -202,12 +251,6 @@ unfoldable pub WritesProgram : Bound → (old new : Written) → List TextTree �
 WritesProgram b old new ts = WritesTo b old new ts (length ts)
 
 -- ---- records
-
--- the formal parameters of a text, those of a class of all its levels
-abbrev pub formals_by_kind : Source → BlockKind → (text : ℕ) → List Formal
-formals_by_kind s kind.Object k = class_parameters s (Some k)
-formals_by_kind s kind.Prefixed k = class_parameters s (Some k)
-formals_by_kind s _ k = formals_of s k
 
 -- a class or a prefixed block that is inside a block
 abbrev pub class_inside : TableBlock → TableBlock → Bool

@@ -79,7 +79,7 @@ abbrev pub the_class : ClassOf
 the_class = record { prefix = 0; block = 1; declarations = 17; statements = 18; after_inner = 19; process = false; matches = [] }
 
 abbrev pub objects_code : CodeOf
-objects_code = record (code (record (block kind.SubBlock 1 1 0 0 (type.Nothing) (type.Integer ∷ []) []) { class_free = false } ∷ record (block kind.Object 2 2 0 17 (type.Nothing) (type.Integer ∷ type.Integer ∷ []) []) { class_free = false; class = 1 } ∷ []) (at 1 (i.Jump (pos 1)) ∷ at 0 i.Tick ∷ at 0 i.Tick ∷ at 0 (i.Bool (pos 1)) ∷ at 0 (i.JumpF (pos 16)) ∷ at 0 i.Tick ∷ at 0 i.Tick ∷ at 0 (i.Load (pos 1) (pos 0)) ∷ at 0 (i.Int (pos 1)) ∷ at 5 i.Add ∷ at 0 (i.Store (pos 1) (pos 0)) ∷ at 0 i.Tick ∷ at 0 (i.Link (pos 1)) ∷ at 6 (i.New (pos 1) (pos 0)) ∷ at 0 i.Pop ∷ at 0 (i.Jump (pos 2)) ∷ at 0 (i.EndLevel (pos 0)) ∷ at 0 (i.NextDecl (pos 0)) ∷ at 0 (i.Inner (pos 0)) ∷ at 0 (i.EndLevel (pos 0)) ∷ [])) { classes = the_class ∷ [] }
+objects_code = record (code (record (block kind.SubBlock 1 1 0 0 (type.Nothing) (type.Integer ∷ []) []) { class_free = false } ∷ record (block kind.Object 2 2 0 0 (type.Nothing) (type.Integer ∷ type.Integer ∷ []) []) { class_free = false; class = 1 } ∷ []) (at 1 (i.Jump (pos 1)) ∷ at 0 i.Tick ∷ at 0 i.Tick ∷ at 0 (i.Bool (pos 1)) ∷ at 0 (i.JumpF (pos 16)) ∷ at 0 i.Tick ∷ at 0 i.Tick ∷ at 0 (i.Load (pos 1) (pos 0)) ∷ at 0 (i.Int (pos 1)) ∷ at 5 i.Add ∷ at 0 (i.Store (pos 1) (pos 0)) ∷ at 0 i.Tick ∷ at 0 (i.Link (pos 1)) ∷ at 6 (i.New (pos 1) (pos 0)) ∷ at 0 i.Pop ∷ at 0 (i.Jump (pos 2)) ∷ at 0 (i.EndLevel (pos 0)) ∷ at 0 (i.NextDecl (pos 0)) ∷ at 0 (i.Inner (pos 0)) ∷ at 0 (i.EndLevel (pos 0)) ∷ [])) { classes = the_class ∷ [] }
 
 pub record SameShown : Type 0 where
   pub fields_same : seen_code fields_code (limits 1000 1000) 200 ≡ seen fields (limits 1000 1000) 200

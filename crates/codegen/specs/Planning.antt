@@ -37,6 +37,7 @@ abbrev pub has_number : TextTree → Bool
 has_number (tree.Class prefix c p) = true
 has_number (tree.ClassOfStatement prefix c) = true
 has_number (tree.Prefixed prefix p) = true
+has_number (tree.Standard which) = true
 has_number _ = false
 
 -- ---- one text

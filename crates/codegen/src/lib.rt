@@ -3,6 +3,7 @@
 
 mod arrays;
 mod calls;
+mod class_texts;
 mod connections;
 mod elements;
 mod frames;

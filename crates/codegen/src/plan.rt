@@ -123,7 +123,7 @@ fn own_types(
     }
 }
 
-/// Whether a text is planned: all are but connections and standard classes.
+/// Whether a text is planned: all are but connections.
 #[tactic(auto, using(crate::proofs::Planned::planned))]
 fn is_planned(tree: TextTree) -> bool
     ensures { result ≡ is_planned_text (text_in tree.entry) }
@@ -135,7 +135,7 @@ fn is_planned(tree: TextTree) -> bool
         TextTree::ClassOfStatement { .. } => true,
         TextTree::Prefixed { .. } => true,
         TextTree::Connection => false,
-        TextTree::Standard(_) => false,
+        TextTree::Standard(_) => true,
     }
 }
 
@@ -147,6 +147,7 @@ fn is_class(tree: TextTree) -> bool
         TextTree::Class { .. } => true,
         TextTree::ClassOfStatement { .. } => true,
         TextTree::Prefixed { .. } => true,
+        TextTree::Standard(_) => true,
         _ => false,
     }
 }

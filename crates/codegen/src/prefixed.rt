@@ -3,15 +3,13 @@ ghost use Rattle.std.specs.Prelude.{◌≡◌, IfOk, OnOk, length, pos};
 ghost use Rattle.sim_code.specs.declared.instr.Instr.TheVariants as i;
 ghost use Rattle.sim_scope.specs.Source.{source_of};
 ghost use Rattle.codegen_expr.specs.Known.{Known};
-ghost use Rattle.codegen.specs.Agrees.{stands_behind as stands_behind_of};
+ghost use Rattle.codegen.specs.Agrees.{is_prefixed as is_prefixed_of, is_prefixed_kind as is_prefixed_kind_of};
 ghost use Rattle.codegen.specs.Emit.{WritesPrefix, WritesPrefixed};
 
-use codegen_expr::{
-    Cells, Draft, Spot, block_number, class_parameters, emit_actuals, is_class, line_at, prefix_of,
-};
+use codegen_expr::{Cells, Draft, Spot, block_number, class_parameters, emit_actuals, line_at};
 use sim_base::TokenNo;
 use sim_code::Instr;
-use sim_scope::{Bound, block_at, encloser};
+use sim_scope::{BlockKind, Bound, Scopes, block_at, encloser};
 use sim_tree::{Expr, Identifier};
 use std::alloc::AllocError;
 
@@ -26,14 +24,27 @@ fn prefix_instr(block: u32, actuals: usize) -> Result<Instr, AllocError>
     })
 }
 
-/// Whether a text has a class in front of it and is no class itself.
-#[tactic(auto, using(crate::proofs::BlockPrefixes::behinds))]
-fn stands_behind(bound: &Bound, cells: &Cells, text: u32) -> bool
-    requires cells { Known bound.now cells.now }
-    ensures { result ≡ stands_behind_of (source_of bound.now) text }
+fn is_prefixed_kind(kind: BlockKind) -> bool
+    ensures { result ≡ is_prefixed_kind_of kind }
 {
-    match prefix_of(&bound.scopes, text) {
-        Some(_) => !is_class(bound, cells, text),
+    match kind {
+        BlockKind::Program => false,
+        BlockKind::SubBlock => false,
+        BlockKind::Procedure => false,
+        BlockKind::Class => false,
+        BlockKind::Prefixed => true,
+        BlockKind::Connection => false,
+        BlockKind::StandardClass(_) => false,
+    }
+}
+
+/// Whether a text is a block with a prefix.
+#[tactic(auto, unfolding(crate::specs::Agrees::is_prefixed, sim_scope::specs::Access::is_kind))]
+fn is_prefixed(scopes: &Scopes, text: u32) -> bool
+    ensures { result ≡ is_prefixed_of scopes.now text }
+{
+    match scopes.blocks().get(text as usize) {
+        Some(block) => is_prefixed_kind(block.kind()),
         None => false,
     }
 }
@@ -94,7 +105,7 @@ pub(crate) fn emit_prefixed(
         draft.give_up();
         return Ok(());
     }
-    if !stands_behind(bound, cells, text) {
+    if !is_prefixed(&bound.scopes, text) {
         draft.give_up();
         return Ok(());
     }

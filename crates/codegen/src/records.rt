@@ -1,4 +1,5 @@
 //! Records of blocks: what the frames of a text hold.
+ghost use Rattle.std.specs.List.{list_any};
 ghost use Rattle.std.specs.Prelude.{◌≡◌, IfOk, OnOk, Some, map};
 ghost use Rattle.sim_code.specs.declared.code.CodeType.{CodeType as CodeTypeOf};
 ghost use Rattle.sim_meaning.specs.Entries.{numbers_of};
@@ -153,6 +154,13 @@ fn has_inside(row: &Block, block: &Block) -> bool
 pub fn holds_class(row: &Block, blocks: &[Block]) -> bool
     ensures { result ≡ has_class_in (Some row.now) blocks.now }
 {
+    is_class_kind(row.kind()) || any_inside(row, blocks)
+}
+
+/// Whether one of these blocks that is inside a block is a class or has a class in front of it.
+fn any_inside(row: &Block, blocks: &[Block]) -> bool
+    ensures { result ≡ list_any (class_inside row.now) blocks.now }
+{
     for block in blocks {
         if has_inside(row, block) {
             return true;
@@ -161,7 +169,7 @@ pub fn holds_class(row: &Block, blocks: &[Block]) -> bool
     false
 }
 
-/// Whether no class is declared in a text and no block in it has a prefix. Time is linear in the number of blocks.
+/// Whether a text is no class and has no prefix, and no block in it is or has one. Time is linear in the number of blocks.
 #[tactic(auto, unfolding(sim_scope::specs::Source::source_of, sim_meaning::specs::Texts::is_class_free))]
 pub(crate) fn is_class_free(bound: &Bound, text: u32) -> bool
     ensures { result ≡ is_class_free_of (source_of bound.now) text }

@@ -2,11 +2,11 @@
 ghost use Rattle.std.specs.Prelude.{[], OnOk};
 ghost use Rattle.codegen_expr.specs.Known.{Known};
 ghost use Rattle.text_tables.specs.TokenTable.{AreDeclared};
-ghost use Rattle.codegen.specs.EmitProgram.{AddsBlock, PutsClass, WritesBlockText, WritesClassText, WritesProcedureText, WritesProgram, WritesText};
+ghost use Rattle.codegen.specs.EmitProgram.{AddsBlock, PutsClass, WritesBlockText, WritesProcedureText, WritesProgram, WritesText};
 
 use crate::arrays::emit_arrays;
-use crate::frames::{front_class, own_end, rest_of};
-use crate::levels::{emit_level, end_instr, has_inner, level_place, next_instr};
+use crate::class_texts::{class_head, emit_class_text, emit_prefixed_text, emit_standard_text};
+use crate::frames::{own_end, rest_of};
 use crate::plan::copy_types;
 use crate::records::{code_formals, is_class_free, number, type_of_name};
 use crate::statement::{emit_statement, emit_statements};
@@ -15,7 +15,7 @@ use program_texts::TextTree;
 use sim_base::{DeclNo, Line};
 use sim_code::{BlockKind, BlockRecord, CodeType, Instr};
 use sim_scope::Bound;
-use sim_tree::{Block, Decl, Procedure, Stmt, TypeName};
+use sim_tree::{Block, Stmt, TypeName};
 use std::alloc::{AllocError, Global};
 
 /// The class of a text, with the places of its code.
@@ -58,7 +58,7 @@ pub(crate) struct Head {
 }
 
 /// Adds the record of a text whose code is written. What was planned of it is enough for the code.
-fn add_block(
+pub(crate) fn add_block(
     alloc: Global,
     bound: &Bound,
     cells: &Cells,
@@ -97,7 +97,7 @@ fn add_block(
 }
 
 /// Puts a class in the place of its number, where none is yet.
-fn put_class(written: &mut Written, class: u32, at: ClassAt) -> Result<(), AllocError>
+pub(crate) fn put_class(written: &mut Written, class: u32, at: ClassAt) -> Result<(), AllocError>
     ensures { OnOk result (PutsClass written.old written.new class at) }
 {
     if class == 0 {
@@ -114,7 +114,7 @@ fn put_class(written: &mut Written, class: u32, at: ClassAt) -> Result<(), Alloc
 }
 
 /// The code of the program's block, which is the first of all. It begins with a jump to the next instruction.
-#[tactic(auto, using(crate::proofs::Walked::texts))]
+#[tactic(auto, using(crate::proofs::Walked::blocks))]
 fn emit_program_text(
     alloc: Global,
     bound: &Bound,
@@ -146,7 +146,7 @@ fn emit_program_text(
 }
 
 /// The code of a block: the program's, which is the first text, or a sub-block.
-#[tactic(auto, using(crate::proofs::Walked::texts))]
+#[tactic(auto, using(crate::proofs::Walked::blocks))]
 fn emit_block_text(
     alloc: Global,
     bound: &Bound,
@@ -182,7 +182,7 @@ fn emit_block_text(
 }
 
 /// The code of a procedure.
-#[tactic(auto, using(crate::proofs::Walked::texts))]
+#[tactic(auto, using(crate::proofs::Walked::blocks))]
 fn emit_procedure_text(
     alloc: Global,
     bound: &Bound,
@@ -212,63 +212,8 @@ fn emit_procedure_text(
     Ok(())
 }
 
-/// The code of a class or a prefixed block with these declarations and statements.
-#[tactic(auto, using(crate::proofs::Walked::texts))]
-fn emit_class_text(
-    alloc: Global,
-    bound: &Bound,
-    cells: &Cells,
-    declared: &[Option<DeclNo>],
-    written: &mut Written,
-    text: u32,
-    kind: BlockKind,
-    declarations: &[Decl],
-    statements: &[Stmt],
-) -> Result<(), AllocError>
-    requires cells { Known bound.now cells.now }
-    requires declared { AreDeclared bound.now declared.now }
-    ensures { OnOk result (WritesClassText bound.now written.old written.new text kind declarations.now statements.now) }
-{
-    if text == 0 {
-        written.draft.give_up();
-        return Ok(());
-    }
-    let block = number(written.blocks.len())?;
-    let start = number(written.draft.here())?;
-    let level = level_place(bound, text)?;
-    let prefix = front_class(bound, cells, &written.draft, text);
-    let class = written.draft.class_of(block_number(bound, cells, text));
-    let used = own_end(alloc, bound, cells, &written.draft, text)?;
-    written.draft.restart(used);
-    let spot = Spot { text, used };
-    let draft = &mut written.draft;
-    emit_arrays(bound, cells, declared, spot, draft, declarations)?;
-    draft.put(next_instr(level), Line(0))?;
-    let stated = number(draft.here())?;
-    let among = has_inner(bound, text, kind);
-    let after = emit_level(bound, cells, spot, level, among, draft, statements)?;
-    draft.put(end_instr(level), Line(0))?;
-    let after_inner = number(after)?;
-    let head = Head {
-        kind,
-        text,
-        entry: start,
-        result_type: CodeType::Nothing,
-    };
-    add_block(alloc, bound, cells, written, head)?;
-    let at = ClassAt {
-        prefix,
-        block,
-        declarations: start,
-        statements: stated,
-        after_inner,
-    };
-    put_class(written, class, at)?;
-    Ok(())
-}
-
 /// The code of a text, by its number.
-#[tactic(auto, using(crate::proofs::Walked::texts))]
+#[tactic(auto, using(crate::proofs::LevelTexts::texts))]
 fn emit_text(
     alloc: Global,
     bound: &Bound,
@@ -296,8 +241,7 @@ fn emit_text(
                 cells,
                 declared,
                 written,
-                text,
-                BlockKind::Object,
+                class_head(bound, text),
                 &block.declarations,
                 &block.statements,
             )
@@ -309,35 +253,23 @@ fn emit_text(
                 cells,
                 declared,
                 written,
-                text,
-                BlockKind::Object,
+                class_head(bound, text),
                 &[],
                 std::slice::from_ref(&*class.body),
             )
         }
-        TextTree::Prefixed { block, .. } => {
-            emit_class_text(
-                alloc,
-                bound,
-                cells,
-                declared,
-                written,
-                text,
-                BlockKind::Prefixed,
-                &block.declarations,
-                &block.statements,
-            )
+        TextTree::Prefixed { prefix, block } => {
+            emit_prefixed_text(alloc, bound, cells, declared, written, text, prefix, block)
         }
         TextTree::Connection => Ok(()),
-        TextTree::Standard(_) => {
-            written.draft.give_up();
-            Ok(())
+        TextTree::Standard(class) => {
+            emit_standard_text(alloc, bound, cells, declared, written, text, class)
         }
     }
 }
 
 /// The texts of a program in their order.
-#[tactic(auto, using(crate::proofs::Walked::texts))]
+#[tactic(auto, using(crate::proofs::LevelTexts::texts))]
 pub(crate) fn emit_texts(
     alloc: Global,
     bound: &Bound,

@@ -101,7 +101,7 @@ past_declared s k c rest (Some (ProcedureText result h a)) = past_result result 
 past_declared s k c rest (Some (ClassText prefix h ds ss)) = past_cells s c rest (numbers_of s k) 0 ∙ from_zero c rest (length (cells_from s (numbers_of s k)))
 past_declared s k c rest (Some (PrefixedText class arguments ds ss)) = past_cells s c rest (numbers_of s k) 0 ∙ from_zero c rest (length (cells_from s (numbers_of s k)))
 past_declared s k c rest (Some ConnectionText) = refl
-past_declared s k c rest (Some (StandardText which)) = refl
+past_declared s k c rest (Some (StandardText which)) = past_cells s c rest (numbers_of s k) 0 ∙ from_zero c rest (length (cells_from s (numbers_of s k)))
 
 -- In a loop: the place that is searched for is among the connections that are left, where the next one has this place.
 unfoldable pub Searched : Bound → (frame connection place done : ℕ) → Type 0

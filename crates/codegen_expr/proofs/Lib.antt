@@ -9,6 +9,7 @@ pub mod Joins
 pub mod Written
 pub mod Seen
 pub mod OfObjects
+pub mod SetProcedures
 pub mod Behind
 pub mod Places
 pub mod Taken

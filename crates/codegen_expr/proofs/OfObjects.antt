@@ -25,19 +25,21 @@ use Rattle.sim_code.specs.declared.instr.Instr.{Instr}
 use Rattle.sim_code.specs.declared.instr.Instr.TheVariants as i
 use Rattle.sim_code.specs.Code.{CodeOf}
 use Rattle.sim_code.specs.Running.{runs}
-use Rattle.sim_meaning.specs.Attributes.{cell_of_connection, is_connection}
-use Rattle.sim_meaning.specs.Closing.{class_parameters, formals_at}
+use Rattle.sim_meaning.specs.Attributes.{attribute_formals, cell_of_connection, is_connection}
+use Rattle.sim_meaning.specs.Closing.{class_parameters, formals_at, formals_declared}
 use Rattle.sim_meaning.specs.Levels.{class_at}
 use Rattle.sim_meaning.specs.Pending.{Declared}
 use Rattle.sim_meaning.specs.Texts.{constant_of, text}
 use Rattle.codegen_expr.specs.declared.operators.Seen.{Seen}
 use Rattle.codegen_expr.specs.declared.operators.Seen.TheVariants as seen
+use Rattle.codegen_expr.specs.declared.sets.SetProcedure.{SetProcedure}
 use Rattle.codegen_expr.specs.declared.spot.Spot.{Spot}
 use Rattle.codegen_expr.specs.Built.{ActualsBuilt, AreBuilt, ClassBuilt, ConstantBuilt, GenerationBuilt, IsBuilt, OfObjectBuilt, ParameterOfBuilt, ParameterPlaceOfBuilt, PlaceBehindBuilt, PlaceOfObjectBuilt, ThisFoundBuilt, ThisOfBuilt, is_around, is_there, slot_in}
-use Rattle.codegen_expr.specs.CodeExpr.{ActualsAt, AttributePlaceAt, ConstantAt, ExprAt, ExprsAt, GenerationAt, GivenAt, MemberAt, OfObjectAt, ParameterOfAt, ParameterPlaceOfAt, PlaceBehindAt, PlaceOfObjectAt, QuaAt, RemoteCallAt, ElementOfAt, ThisFoundAt, ThisOfAt, member_instr, operands}
+use Rattle.codegen_expr.specs.CodeExpr.{ActualsAt, AttributePlaceAt, ConstantAt, ExprAt, ExprsAt, GenerationAt, GivenAt, MemberAt, OfObjectAt, ParameterOfAt, ParameterPlaceOfAt, PlaceBehindAt, PlaceOfObjectAt, QuaAt, RemoteCallAt, ElementOfAt, SetAt, SetNamed, ThisFoundAt, ThisOfAt, member_instr, operands}
 use Rattle.codegen_expr.specs.Drafts.{DraftOf, Emits, class_of, given_up, planned_at, planned_in, planned_start, with_instr, with_push, with_temp}
 use Rattle.codegen_expr.specs.Emit.{Puts, WritesActuals, WritesConstant, WritesLink, WritesList, attribute_seen, formals_of_block, parameter_seen}
 use Rattle.codegen_expr.specs.EmitObjects.{Base, BaseAt, BaseBuilt, OfConnection, PutsBase, SeenOfAt, SeenOfBuilt, SeenPlaceOfAt, SeenPlaceOfBuilt, WritesAttribute, WritesConstantOf, WritesElementOf, WritesFit, WritesGeneration, WritesMember, WritesNew, WritesObjectOf, WritesOf, WritesPlaceBehind, WritesPlaceOf, WritesQua, WritesSeenOf, WritesSeenPlaceOf, WritesThis}
+use Rattle.codegen_expr.specs.EmitSets.{WritesSet, set_procedure}
 use Rattle.codegen_expr.specs.Sites.{At, HasCell, Inside, Is, Pushes, Site, block_number, frame_text, slot_of}
 use Rattle.codegen_expr.proofs.Around.{inside}
 use Rattle.codegen_expr.proofs.Pieces.{class_numbered, emits_as, emits_at, emits_classed, emits_nothing, emits_push, emits_temp, emits_then}
@@ -65,7 +67,7 @@ no_operands (Some v) x xs h = h
 
 module _ (b : Bound) (w : Spot) (n : ℕ) where
   -- what stands behind something and is not built
-  gives_up : (P Q : Type 0) (A B : Part) (a c d : DraftOf) → Emits w a c P A → (Q → ⊥) → d ≡ given_up c → Emits w a d Q B
+  pub gives_up : (P Q : Type 0) (A B : Part) (a c d : DraftOf) → Emits w a c P A → (Q → ⊥) → d ≡ given_up c → Emits w a d Q B
   gives_up P Q A B a c d f never is =
       emits_as w (P × ⊥) Q _ _ a d (λ q. absurd (never q)) (λ q. absurd q.1) (λ final site p q _ _ r. absurd r.2)
       (emits_then w P ⊥ A (λ final site p q. ⊥) a c d f (emits_nothing w c d ⊥ (λ final site p q. ⊥) (λ z. z) is))
@@ -313,20 +315,20 @@ module _ (b : Bound) (w : Spot) (n : ℕ) where
   unfolding WritesSeenOf PutsBase
   of_nothing a c token d k es is ec start y h = subst (Has start c token d y (expressions (map syntax_of es))) (sym is) (gives_up _ _ _ _ start a c h (λ t. t) ec)
 
-  of_emits : (a c : DraftOf) (line : ℕ) (d : DeclNo) (k : Option Entry) (es : Expressions) (O P : Type 0) (A : List Formal → Type 0) (X I : Part) (B : CodeOf → Site → List Formal → ℕ → ℕ → Type 0) → k ≡ entry_of (source_of b).tables d
+  of_emits : (a c : DraftOf) (line : ℕ) (d : DeclNo) (k : Option Entry) (es : Expressions) (O P : Type 0) (A : List Formal → Type 0) (X I : Part) (B : CodeOf → Site → List Formal → ℕ → ℕ → Type 0) → k ≡ entry_of (source_of b).tables d → set_procedure k ≡ None
       → Emits w a c (SeenOfBuilt (source_of b) d (attribute_seen k) es O P A) (λ final site p q. SeenOfAt (source_of b) final site n line d (attribute_seen k) es (X final site) (I final site) (B final site) p q)
       → Emits w a c (OfObjectBuilt (source_of b) d k es O P (A (formals_at (source_of b) d))) (λ final site p q. OfObjectAt (source_of b) final site n line d k es (X final site) (I final site) (B final site (formals_at (source_of b) d)) p q)
-  of_emits a c line d None es O P A X I B ek f = f
-  of_emits a c line d (Some (entry.Variable type)) es O P A X I B ek f = f
-  of_emits a c line d (Some (entry.Constant type)) es O P A X I B ek f = f
-  of_emits a c line d (Some (entry.Array element dimensions)) es O P A X I B ek f = f
-  of_emits a c line d (Some (entry.Procedure result block)) es O P A X I B ek f =
+  of_emits a c line d None es O P A X I B ek none f = f
+  of_emits a c line d (Some (entry.Variable type)) es O P A X I B ek none f = f
+  of_emits a c line d (Some (entry.Constant type)) es O P A X I B ek none f = f
+  of_emits a c line d (Some (entry.Array element dimensions)) es O P A X I B ek none f = f
+  of_emits a c line d (Some (entry.Procedure result block)) es O P A X I B ek none f =
       subst (λ fs. Emits w a c (O × A fs) (λ final site p q. RemoteCallAt (source_of b) final line block es (X final site) (B final site fs) p q)) (block_formals (source_of b) d result block ek) f
-  of_emits a c line d (Some (entry.Class text)) es O P A X I B ek f = f
-  of_emits a c line d (Some (entry.Virtual result own)) es O P A X I B ek f = f
-  of_emits a c line d (Some (entry.Unspecified written)) es O P A X I B ek f = f
-  of_emits a c line d (Some (entry.Attribute name parameter result)) es O P A X I B ek f = f
-  of_emits a c line d (Some (entry.Formal x)) es O P A X I B ek f = formal x.kind f
+  of_emits a c line d (Some (entry.Class text)) es O P A X I B ek none f = f
+  of_emits a c line d (Some (entry.Virtual result own)) es O P A X I B ek none f = f
+  of_emits a c line d (Some (entry.Unspecified written)) es O P A X I B ek none f = f
+  of_emits a c line d (Some (entry.Attribute name parameter result)) es O P A X I B ek none f = absurd (cc)
+  of_emits a c line d (Some (entry.Formal x)) es O P A X I B ek none f = formal x.kind f
     where
       formal : (k : FormalKind) → Emits w a c (SeenOfBuilt (source_of b) d (parameter_seen k) es O P A) (λ final site p q. SeenOfAt (source_of b) final site n line d (parameter_seen k) es (X final site) (I final site) (B final site) p q)
           → Emits w a c (ParameterOfBuilt (source_of b) d k es O P) (λ final site p q. ParameterOfAt (source_of b) final line d k es (X final site) (I final site) p q)
@@ -334,14 +336,40 @@ module _ (b : Bound) (w : Spot) (n : ℕ) where
       formal shape.Array f = f
       formal shape.Procedure f = f
 
-  pub of_declared : (a c : DraftOf) (token : TokenNo) (d : DeclNo) (es : List Expr) (k : Option Entry) (x : Seen) → k ≡ entry_of b.scopes d → x ≡ attribute_seen k → WritesSeenOf b w n a c token d x es → WritesOf b w n a c token d es
+  pub of_declared : (a c : DraftOf) (token : TokenNo) (d : DeclNo) (es : List Expr) (k : Option Entry) (r : Option SetProcedure) (x : Seen) → k ≡ entry_of b.scopes d → r ≡ set_procedure k → r ≡ None → x ≡ attribute_seen k → WritesSeenOf b w n a c token d x es → WritesOf b w n a c token d es
   unfolding WritesOf WritesSeenOf source_of
-  of_declared a c token d ys k x ek ex f start y h =
+  of_declared a c token d ys k r x ek er none ex f start y h =
       let s = source_of b in
       let es = expressions (map syntax_of ys) in
       let line = line_at s token.0 in
-      of_emits start c line d (entry_of s.tables d) es (BaseBuilt s w.text y) (AreBuilt s w.text es) (λ formals. ActualsBuilt s w.text es formals) (λ final site p q. BaseAt s final site n y p q) (λ final site p q. ExprsAt s final site (suc n) es p q) (λ final site formals p q. ActualsAt s final site (suc n) line false es formals p q) refl
+      of_emits start c line d (entry_of s.tables d) es (BaseBuilt s w.text y) (AreBuilt s w.text es) (λ formals. ActualsBuilt s w.text es formals) (λ final site p q. BaseAt s final site n y p q) (λ final site p q. ExprsAt s final site (suc n) es p q) (λ final site formals p q. ActualsAt s final site (suc n) line false es formals p q) refl (ap set_procedure (sym ek) ∙ sym er ∙ none)
       (subst (Has start c token d y es) (ex ∙ ap attribute_seen ek) (f start y h))
+
+  set_emits : (a c : DraftOf) (line : ℕ) (d : DeclNo) (k : Option Entry) (x : SetProcedure) (es : Expressions) (O P : Type 0) (A : List Formal → Type 0) (X I : Part) (B : CodeOf → Site → List Formal → ℕ → ℕ → Type 0) → k ≡ entry_of (source_of b).tables d → set_procedure k ≡ Some x
+      → Emits w a c (O × SetNamed x.name x.result (operands es) × A (attribute_formals x.parameter)) (λ final site p q. SetAt final line x.name x.result es (X final site) (B final site (attribute_formals x.parameter)) p q)
+      → Emits w a c (OfObjectBuilt (source_of b) d k es O P (A (formals_at (source_of b) d))) (λ final site p q. OfObjectAt (source_of b) final site n line d k es (X final site) (I final site) (B final site (formals_at (source_of b) d)) p q)
+  set_emits a c line d None x es O P A X I B ek some f = absurd (cc)
+  set_emits a c line d (Some (entry.Variable type)) x es O P A X I B ek some f = absurd (cc)
+  set_emits a c line d (Some (entry.Constant type)) x es O P A X I B ek some f = absurd (cc)
+  set_emits a c line d (Some (entry.Array element dimensions)) x es O P A X I B ek some f = absurd (cc)
+  set_emits a c line d (Some (entry.Procedure result block)) x es O P A X I B ek some f = absurd (cc)
+  set_emits a c line d (Some (entry.Class text)) x es O P A X I B ek some f = absurd (cc)
+  set_emits a c line d (Some (entry.Virtual result own)) x es O P A X I B ek some f = absurd (cc)
+  set_emits a c line d (Some (entry.Unspecified written)) x es O P A X I B ek some f = absurd (cc)
+  set_emits a c line d (Some (entry.Formal y)) x es O P A X I B ek some f = absurd (cc)
+  set_emits a c line d (Some (entry.Attribute name parameter result)) x es O P A X I B ek some f =
+      let is : record { name = name; parameter = parameter; result = result } ≡ x = cc in
+      let f' = subst (λ z. Emits w a c (O × SetNamed z.name z.result (operands es) × A (attribute_formals z.parameter)) (λ final site p q. SetAt final line z.name z.result es (X final site) (B final site (attribute_formals z.parameter)) p q)) (sym is) f in
+      subst (λ fs. Emits w a c (O × SetNamed name result (operands es) × A fs) (λ final site p q. SetAt final line name result es (X final site) (B final site fs) p q)) (ap (formals_declared (source_of b) d) ek) f'
+
+  pub of_set : (a c : DraftOf) (token : TokenNo) (d : DeclNo) (es : List Expr) (k : Option Entry) (r : Option SetProcedure) (x : SetProcedure) → k ≡ entry_of b.scopes d → r ≡ set_procedure k → r ≡ Some x → WritesSet b w n a c token x es → WritesOf b w n a c token d es
+  unfolding WritesOf WritesSet source_of
+  of_set a c token d ys k r x ek er some f start y h =
+      let s = source_of b in
+      let es = expressions (map syntax_of ys) in
+      let line = line_at s token.0 in
+      set_emits start c line d (entry_of s.tables d) x es (BaseBuilt s w.text y) (AreBuilt s w.text es) (λ formals. ActualsBuilt s w.text es formals) (λ final site p q. BaseAt s final site n y p q) (λ final site p q. ExprsAt s final site (suc n) es p q) (λ final site formals p q. ActualsAt s final site (suc n) line false es formals p q) refl (ap set_procedure (sym ek) ∙ sym er ∙ some)
+      (f start y h)
 
   -- ---- where what an object has lies
 
@@ -474,4 +502,4 @@ module _ (b : Bound) (w : Spot) (n : ℕ) where
 
 pub ruleset leaves = (connected_load, connected_no_slot, connected_outside, object_pushed, object_outside, this_connected, this_object, this_nowhere, attribute_found, attribute_no_slot, constant_read, constant_no_slot, member_named, member_unnamed, qua_named, qua_unnamed, fitted)
 
-pub ruleset objects = (element_of, of_variable, of_no_variable, of_constant, of_no_constant, of_array, of_element, of_call, of_nothing, of_declared, lying_variable, lying_no_variable, lying_element, lying_array, lying_constant, lying_call, lying_nothing, lying_declared, behind_declared, behind_standard, behind_undeclared, generated, new_declared, new_no_class, new_standard, new_undeclared)
+pub ruleset objects = (element_of, of_variable, of_no_variable, of_constant, of_no_constant, of_array, of_element, of_call, of_nothing, of_declared, of_set, lying_variable, lying_no_variable, lying_element, lying_array, lying_constant, lying_call, lying_nothing, lying_declared, behind_declared, behind_standard, behind_undeclared, generated, new_declared, new_no_class, new_standard, new_undeclared)

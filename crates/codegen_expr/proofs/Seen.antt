@@ -17,7 +17,7 @@ use Rattle.sim_scope.specs.declared.types.Mode.TheVariants as mode
 use Rattle.sim_scope.specs.declared.types.SimType.{SimType}
 use Rattle.sim_scope.specs.Scopes.{block_in, entry_of, formals_of}
 use Rattle.sim_scope.specs.Scopes.{formals_at as formals_at_block}
-use Rattle.sim_scope.specs.Source.{Source, block_of, denoted, level_of, line_at, source_of}
+use Rattle.sim_scope.specs.Source.{Source, block_of, denoted, found_at, level_of, line_at, source_of}
 use Rattle.sim_tree.specs.declared.expr.Expr.{Expr}
 use Rattle.sim_tree.specs.declared.expr.Identifier.{Identifier}
 use Rattle.sim_tree.specs.Syntax.{Expression, Expressions, NoMore, Then, expressions}
@@ -28,18 +28,18 @@ use Rattle.sim_values.specs.Standard.{row_of}
 use Rattle.sim_code.specs.declared.instr.Instr.{Instr}
 use Rattle.sim_code.specs.declared.instr.Instr.TheVariants as i
 use Rattle.sim_code.specs.Code.{CodeOf}
-use Rattle.sim_meaning.specs.Attributes.{connection_at, parameter_qualification}
-use Rattle.sim_meaning.specs.Closing.{formals_at, formals_from, is_text_type}
+use Rattle.sim_meaning.specs.Attributes.{connection_at, own_attribute, parameter_qualification}
+use Rattle.sim_meaning.specs.Closing.{formals_at, formals_declared, formals_from, is_text_type}
 use Rattle.sim_meaning.specs.Texts.{constant_of}
 use Rattle.codegen_expr.specs.declared.operators.Passed.{Passed}
 use Rattle.codegen_expr.specs.declared.operators.Passed.TheVariants as passed
 use Rattle.codegen_expr.specs.declared.operators.Seen.{Seen}
 use Rattle.codegen_expr.specs.declared.operators.Seen.TheVariants as seen
 use Rattle.codegen_expr.specs.declared.spot.Spot.{Spot}
-use Rattle.codegen_expr.specs.Built.{ActualBuilt, ActualsBuilt, AreBuilt, CallBuilt, ConnectedNameBuilt, ConstantBuilt, DeclaredBuilt, IsBuilt, FormalBuilt, NamedBuilt, ThroughBuilt, is_around}
-use Rattle.codegen_expr.specs.CodeExpr.{ActualAt, ActualsAt, CallAt, ConnectedNameAt, DeclaredAt, ElementAt, ExprAt, ExprsAt, FittingAt, FormalAt, NamedAt, StandardIs, ThroughAt, gives, operands}
+use Rattle.codegen_expr.specs.Built.{ActualBuilt, ActualsBuilt, AreBuilt, CallBuilt, ConnectedNameBuilt, ConstantBuilt, DeclaredBuilt, IsBuilt, FormalBuilt, NamedBuilt, OfObjectBuilt, OwnBuilt, ThisFoundBuilt, ThroughBuilt, is_around}
+use Rattle.codegen_expr.specs.CodeExpr.{ActualAt, ActualsAt, CallAt, ConnectedNameAt, DeclaredAt, ElementAt, ExprAt, ExprsAt, FittingAt, FormalAt, NamedAt, OfObjectAt, OwnAt, StandardIs, ThisFoundAt, ThroughAt, gives, operands}
 use Rattle.codegen_expr.specs.Drafts.{DraftOf, Emits, given_up, with_instr, with_push}
-use Rattle.codegen_expr.specs.Emit.{OwesActuals, Puts, PutsNamed, PutsSeen, PutsUnconnected, SeenAt, SeenBuilt, Writes, WritesActual, WritesActuals, WritesCall, WritesCell, WritesConstant, WritesElement, WritesGiving, WritesLink, WritesNamed, WritesPassed, WritesSeen, WritesStandard, WritesThrough, WritesUnconnected, formals_of_block, passed_of, seen_formal, seen_of}
+use Rattle.codegen_expr.specs.Emit.{OwesActuals, Puts, PutsNamed, PutsOwn, PutsSeen, PutsUnconnected, SeenAt, SeenBuilt, Writes, WritesActual, WritesActuals, WritesCall, WritesCell, WritesConstant, WritesElement, WritesGiving, WritesLink, WritesNamed, WritesOwn, WritesPassed, WritesSeen, WritesStandard, WritesThrough, WritesUnconnected, formals_of_block, passed_of, seen_formal, seen_of}
 use Rattle.codegen_expr.specs.EmitObjects.{OfConnection, PutsBase, WritesFit, WritesOf}
 use Rattle.codegen_expr.specs.Sites.{At, Inside, Is, Pushes, Site, block_number, class_number}
 use Rattle.codegen_expr.proofs.Around.{inside}
@@ -50,7 +50,7 @@ Place = CodeOf → Site → ℕ → ℕ → Type 0
 
 pub block_formals : (s : Source) (d : DeclNo) (result : Option SimType) (block : ℕ) → Some (entry.Procedure result block) ≡ entry_of s.tables d → formals_of_block s block ≡ formals_at s d
 unfolding formals_of
-block_formals s d result block e = ap (λ k. formals_from s (formals_at_block s.tables (block_in k))) e
+block_formals s d result block e = ap (λ k. formals_from s (formals_at_block s.tables (block_in k))) e ∙ ap (formals_declared s d) e
 
 pub count : (es : List Expr) → operands (expressions (map syntax_of es)) ≡ length es
 count [] = refl
@@ -380,17 +380,20 @@ module _ (b : Bound) (w : Spot) (n : ℕ) where
   Through a c token u es o =
       Emits w a c
       (ThroughBuilt o (λ k. ConnectedNameBuilt (source_of b) w.text k u es (AreBuilt (source_of b) w.text es) (λ formals. ActualsBuilt (source_of b) w.text es formals))
-      (NamedBuilt (source_of b) w.text u es (AreBuilt (source_of b) w.text es) (λ formals. ActualsBuilt (source_of b) w.text es formals)))
+      (OwnBuilt (own_attribute (source_of b) token.0) (λ d. OfObjectBuilt (source_of b) d (entry_of (source_of b).tables d) es (ThisFoundBuilt (source_of b) w.text (found_at (source_of b) token.0)) (AreBuilt (source_of b) w.text es) (ActualsBuilt (source_of b) w.text es (formals_at (source_of b) d)))
+      (NamedBuilt (source_of b) w.text u es (AreBuilt (source_of b) w.text es) (λ formals. ActualsBuilt (source_of b) w.text es formals))))
       (λ final site p q. ThroughAt o
       (λ k. ConnectedNameAt (source_of b) final site n (line_at (source_of b) token.0) k u es (λ x y. ExprsAt (source_of b) final site (suc n) es x y) (λ formals x y. ActualsAt (source_of b) final site (suc n) (line_at (source_of b) token.0) false es formals x y))
-      (NamedAt (source_of b) final site n (line_at (source_of b) token.0) u es (λ x y. ExprsAt (source_of b) final site n es x y) (λ x y. ExprsAt (source_of b) final site (suc n) es x y) (λ formals x y. ActualsAt (source_of b) final site (suc n) (line_at (source_of b) token.0) false es formals x y)) p q)
+      (OwnAt (own_attribute (source_of b) token.0)
+      (λ d. OfObjectAt (source_of b) final site n (line_at (source_of b) token.0) d (entry_of (source_of b).tables d) es (λ x y. ThisFoundAt (source_of b) final site n (found_at (source_of b) token.0) x y) (λ x y. ExprsAt (source_of b) final site (suc n) es x y) (λ x y. ActualsAt (source_of b) final site (suc n) (line_at (source_of b) token.0) false es (formals_at (source_of b) d) x y))
+      (NamedAt (source_of b) final site n (line_at (source_of b) token.0) u es (λ x y. ExprsAt (source_of b) final site n es x y) (λ x y. ExprsAt (source_of b) final site (suc n) es x y) (λ formals x y. ActualsAt (source_of b) final site (suc n) (line_at (source_of b) token.0) false es formals x y))) p q)
 
   pub see_through : (a c : DraftOf) (token : TokenNo) (es : List Expr) (u : Option Denotation) (o : Option ℕ) (k : ℕ) → o ≡ connection_at (source_of b) token.0 → o ≡ Some k → WritesThrough b w n a c token k u es → WritesNamed b w n a c token u es
   unfolding WritesNamed PutsNamed WritesThrough
   see_through a c token ys u o k eo some f = subst (Through a c token u (expressions (map syntax_of ys))) (sym some ∙ eo) f
 
-  pub see_unconnected : (a c : DraftOf) (token : TokenNo) (es : List Expr) (u : Option Denotation) (o : Option ℕ) → o ≡ connection_at (source_of b) token.0 → o ≡ None → WritesUnconnected b w n a c token u es → WritesNamed b w n a c token u es
-  unfolding WritesNamed PutsNamed WritesUnconnected PutsUnconnected
+  pub see_unconnected : (a c : DraftOf) (token : TokenNo) (es : List Expr) (u : Option Denotation) (o : Option ℕ) → o ≡ connection_at (source_of b) token.0 → o ≡ None → WritesOwn b w n a c token u es → WritesNamed b w n a c token u es
+  unfolding WritesNamed PutsNamed WritesOwn PutsOwn
   see_unconnected a c token ys u o eo none f = subst (Through a c token u (expressions (map syntax_of ys))) (sym none ∙ eo) f
 
   pub see_giving : (a c : DraftOf) (x : Identifier) (es : List Expr) (u : Option Denotation) → u ≡ denoted (source_of b) x.token.0 → gives (source_of b) u ≡ true → WritesNamed b w n a c x.token u es → WritesGiving b w n a c x es

@@ -24,13 +24,13 @@ use Rattle.sim_tree.specs.Syntax.{Binary, Constant, Dot, Expression, Expressions
 use Rattle.sim_tree.specs.SyntaxOf.{Cast, Selection, Take, selected, selector_syntax, syntax_of}
 use Rattle.sim_values.specs.declared.standard.Standard.{Standard as Row}
 use Rattle.sim_code.specs.Code.{CodeOf}
-use Rattle.sim_meaning.specs.Attributes.{connection_at}
+use Rattle.sim_meaning.specs.Attributes.{attribute_denoted, connection_at, own_attribute}
 use Rattle.sim_meaning.specs.Closing.{is_attribute, is_attribute_denoted, is_image_behind, is_image_denoted, is_variable, stream_denoted, stream_of}
 use Rattle.sim_meaning.specs.Names.{procedure_named, stream_named}
 use Rattle.codegen_expr.specs.declared.operators.Object.{Object}
 use Rattle.codegen_expr.specs.declared.operators.Object.TheVariants as object
 use Rattle.codegen_expr.specs.declared.spot.Spot.{Spot}
-use Rattle.codegen_expr.specs.Built.{ActualsBuilt, AreBuilt, AttributeBuilt, ConnectedNameBuilt, DotBuilt, IsBuilt, NameBuilt, NamedBuilt, ObjectBuilt, OfObjectBuilt, ParameterOfBuilt, PlaceBehindBuilt, PlaceBuilt, StandardBuilt, StreamBuilt, ThroughBuilt}
+use Rattle.codegen_expr.specs.Built.{ActualsBuilt, AreBuilt, AttributeBuilt, ConnectedNameBuilt, DotBuilt, IsBuilt, NameBuilt, NamedBuilt, ObjectBuilt, OfObjectBuilt, OwnBuilt, ParameterOfBuilt, PlaceBehindBuilt, PlaceBuilt, StandardBuilt, StreamBuilt, ThroughBuilt}
 use Rattle.codegen_expr.specs.CodeExpr.{ActualsAt, AttributeAt, DotAt, ExprAt, ExprsAt, ObjectAt, PlaceAt, PlaceBehindAt, StandardIs, StreamPlaceAt, gives, operands}
 use Rattle.codegen_expr.specs.Drafts.{DraftOf, Emits, given_up}
 use Rattle.codegen_expr.specs.Emit.{AloneAt, AloneBuilt, Puts, PutsBefore, PutsPlace, Writes, WritesBefore, WritesBehind, WritesDot, WritesEnd, WritesImage, WritesLast, WritesPlace, WritesStandard, WritesStart, WritesStep, WritesSteps, WritesTaken, WritesTakenPlace, image_placed, lies, moves_denoted, moves_named, moves_next, moves_selection, takes_attribute, takes_image}
@@ -165,8 +165,8 @@ module _ (b : Bound) (w : Spot) (n : ℕ) where
 
   -- `sysin` and `sysout` are no values
   pub streamless : (e : Expression) (img : ℕ) → stream_of (source_of b) e ≡ Some img → IsBuilt (source_of b) w.text e → ⊥
-  unfolding stream_of
-  streamless (Named k es) img is h = named (denoted (source_of b) k.token.0) (connection_at (source_of b) k.token.0) is h.1
+  unfolding stream_of own_attribute
+  streamless (Named k es) img is h = named (denoted (source_of b) k.token.0) (connection_at (source_of b) k.token.0) _ is h.1
     where
       standard : (x : StandardName) → stream_named x ≡ Some img → StandardBuilt (procedure_named x) es (AreBuilt (source_of b) w.text es) → ⊥
       standard (found.Procedure x) is h = cc
@@ -174,12 +174,12 @@ module _ (b : Bound) (w : Spot) (n : ℕ) where
       standard found.Sysout is h = h
       standard (found.Prefix x) is h = cc
 
-      named : (o : Option Denotation) (c : Option ℕ) → stream_denoted o ≡ Some img
-          → ThroughBuilt c (λ k. ConnectedNameBuilt (source_of b) w.text k o es (AreBuilt (source_of b) w.text es) (λ formals. ActualsBuilt (source_of b) w.text es formals)) (NamedBuilt (source_of b) w.text o es (AreBuilt (source_of b) w.text es) (λ formals. ActualsBuilt (source_of b) w.text es formals)) → ⊥
-      named None c is h = cc
-      named (Some (denotation.Declared d)) c is h = cc
-      named (Some (denotation.Standard x)) None is h = standard x is h
-      named (Some (denotation.Standard x)) (Some k) is h = h
+      named : (o : Option Denotation) (c : Option ℕ) (Own : DeclNo → Type 0) → stream_denoted o ≡ Some img
+          → ThroughBuilt c (λ k. ConnectedNameBuilt (source_of b) w.text k o es (AreBuilt (source_of b) w.text es) (λ formals. ActualsBuilt (source_of b) w.text es formals)) (OwnBuilt (attribute_denoted (source_of b) o) Own (NamedBuilt (source_of b) w.text o es (AreBuilt (source_of b) w.text es) (λ formals. ActualsBuilt (source_of b) w.text es formals))) → ⊥
+      named None c Own is h = cc
+      named (Some (denotation.Declared d)) c Own is h = cc
+      named (Some (denotation.Standard x)) None Own is h = standard x is h
+      named (Some (denotation.Standard x)) (Some k) Own is h = h
   streamless (If i c a e) img is h = cc
   streamless (Binary op i a e) img is h = cc
   streamless (Not i a) img is h = cc
@@ -209,7 +209,7 @@ module _ (b : Bound) (w : Spot) (n : ℕ) where
   object_built d (Some (entry.Class text)) es O P A h = absurd h
   object_built d (Some (entry.Virtual result own)) es O P A h = absurd h
   object_built d (Some (entry.Unspecified written)) es O P A h = absurd h
-  object_built d (Some (entry.Attribute name parameter result)) es O P A h = absurd h
+  object_built d (Some (entry.Attribute name parameter result)) es O P A h = h.0
   object_built d None es O P A h = absurd h
 
   pub dot_of_object : (a c : DraftOf) (o : Object) (x : Identifier) (ys : List Expr) (d : Option Denotation) (k : DeclNo) → d ≡ denoted (source_of b) x.token.0 → d ≡ Some (denotation.Declared k) → o ≡ object.Value → WritesOf b w n a c x.token k ys → WritesDot b w n a c o x ys

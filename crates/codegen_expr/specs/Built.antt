@@ -20,14 +20,14 @@ use Rattle.sim_values.specs.declared.standard.Standard.{Standard}
 use Rattle.sim_values.specs.Standard.{is_image, moves_position, on_image, operands_of, row_of}
 use Rattle.sim_values.specs.Plain.{Plain, Integer, Truth, Character, Text}
 use Rattle.sim_code.specs.Running.{name_runs}
-use Rattle.sim_meaning.specs.Attributes.{cell_of_connection, connection_at, is_connection}
+use Rattle.sim_meaning.specs.Attributes.{cell_of_connection, connection_at, is_connection, own_attribute}
 use Rattle.sim_meaning.specs.Closing.{class_parameters, formals_at, is_attribute, is_variable, result_meant, stream_of, typed_token}
 use Rattle.sim_meaning.specs.Constants.{text_constant}
 use Rattle.sim_meaning.specs.Levels.{class_at, qualification}
 use Rattle.sim_meaning.specs.Names.{procedure_named}
 use Rattle.sim_meaning.specs.Pending.{Declared, Held, Key, Result, same_key}
 use Rattle.sim_meaning.specs.Texts.{constant_of, text}
-use Rattle.codegen_expr.specs.CodeExpr.{gives, operands}
+use Rattle.codegen_expr.specs.CodeExpr.{SetNamed, gives, operands}
 use Rattle.codegen_expr.specs.Sites.{frame_text, own_part, prefix_of}
 
 -- ---- cells
@@ -163,6 +163,7 @@ OfObjectBuilt s d (Some (entry.Constant type)) es Object Operands Actuals = Cons
 OfObjectBuilt s d (Some (entry.Array element dimensions)) es Object Operands Actuals = ArrayOfBuilt s d Object Operands
 OfObjectBuilt s d (Some (entry.Formal f)) es Object Operands Actuals = ParameterOfBuilt s d f.kind es Object Operands
 OfObjectBuilt s d (Some (entry.Procedure result block)) es Object Operands Actuals = Object × Actuals
+OfObjectBuilt s d (Some (entry.Attribute name parameter result)) es Object Operands Actuals = Object × SetNamed name result (operands es) × Actuals
 OfObjectBuilt s d _ es Object Operands Actuals = ⊥
 
 -- where a variable or an element lies that an object has
@@ -197,6 +198,10 @@ ThroughBuilt (Some k) Connected Plain = Connected k
 abbrev pub ConnectedNameBuilt : Source → (text connection : ℕ) → Option Denotation → Expressions → (Operands : Type 0) → (Actuals : List Formal → Type 0) → Type 0
 ConnectedNameBuilt s text k (Some (denotation.Declared d)) es Operands Actuals = OfObjectBuilt s d (entry_of s.tables d) es (ConnectedBuilt s text k) Operands (Actuals (formals_at s d))
 ConnectedNameBuilt s text k _ es Operands Actuals = ⊥
+
+abbrev pub OwnBuilt : (own : Option DeclNo) → (Own : DeclNo → Type 0) → (Other : Type 0) → Type 0
+OwnBuilt None Own Other = Other
+OwnBuilt (Some d) Own Other = Own d
 
 -- `this`
 abbrev pub ThisOfBuilt : Source → (text found : ℕ) → (is_connection : Bool) → Type 0
@@ -291,7 +296,9 @@ abbrev mutual
   IsBuilt s text (syntax.Named name es) =
       (gives s (denoted s name.token.0) ≡ true) × ThroughBuilt (connection_at s name.token.0)
       (λ k. ConnectedNameBuilt s text k (denoted s name.token.0) es (AreBuilt s text es) (λ formals. ActualsBuilt s text es formals))
-      (NamedBuilt s text (denoted s name.token.0) es (AreBuilt s text es) (λ formals. ActualsBuilt s text es formals))
+      (OwnBuilt (own_attribute s name.token.0)
+      (λ d. OfObjectBuilt s d (entry_of s.tables d) es (ThisFoundBuilt s text (found_at s name.token.0)) (AreBuilt s text es) (ActualsBuilt s text es (formals_at s d)))
+      (NamedBuilt s text (denoted s name.token.0) es (AreBuilt s text es) (λ formals. ActualsBuilt s text es formals)))
   IsBuilt s text (syntax.This token class) = ThisFoundBuilt s text (found_at s token)
   IsBuilt s text (syntax.New token class es) = GenerationBuilt s text (denoted s class.token.0) (class_at s class.token.0) (ActualsBuilt s text es (class_parameters s (class_at s class.token.0)))
   IsBuilt s text (syntax.Parentheses token a) = IsBuilt s text a

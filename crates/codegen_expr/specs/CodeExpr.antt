@@ -10,6 +10,7 @@ use Rattle.sim_scope.specs.declared.types.FormalKind.{FormalKind}
 use Rattle.sim_scope.specs.declared.types.FormalKind.TheVariants as shape
 use Rattle.sim_scope.specs.declared.types.Mode.{Mode}
 use Rattle.sim_scope.specs.declared.types.Mode.TheVariants as mode
+use Rattle.sim_scope.specs.declared.types.SimType.{SimType}
 use Rattle.sim_scope.specs.Scopes.{entry_of}
 use Rattle.sim_scope.specs.Source.{Source, block_of, denoted, found_at, level_of, line_at, type_at}
 use Rattle.sim_tree.specs.declared.expr.Membership.{Membership}
@@ -36,7 +37,8 @@ use Rattle.sim_code.specs.declared.instr.Instr.TheVariants as i
 use Rattle.sim_code.specs.Code.{CodeOf}
 use Rattle.sim_code.specs.Names.{standard_names}
 use Rattle.sim_code.specs.Rows.{text_value}
-use Rattle.sim_meaning.specs.Attributes.{cell_of_connection, connection_at, is_connection, parameter_qualification}
+use Rattle.sim_code.specs.Sets.{is_set_name, parameter_count}
+use Rattle.sim_meaning.specs.Attributes.{cell_of_connection, connection_at, is_connection, own_attribute, parameter_qualification}
 use Rattle.sim_meaning.specs.Closing.{has_type, Joining, Lazily, Negated, Plainly, Sort, class_parameters, formals_at, is_attribute, is_text, is_text_type, is_variable, result_meant, sort_of, stream_of, sysout, typed_token}
 use Rattle.sim_meaning.specs.Constants.{constants_of, text_constant}
 use Rattle.sim_meaning.specs.Levels.{class_at, qualification}
@@ -232,6 +234,7 @@ NamedAt s code site n line (Some (denotation.Standard name)) es Operands Inner A
 -- An operand is no call of a procedure without a result, and no standard name without one.
 abbrev pub gives_entry : Option Entry → Bool
 gives_entry (Some (entry.Procedure result text)) = has_type result
+gives_entry (Some (entry.Attribute name parameter result)) = has_type result
 gives_entry _ = true
 
 abbrev pub gives : Source → Option Denotation → Bool
@@ -296,6 +299,26 @@ pub record RemoteCallAt (s : Source) (code : CodeOf) (line text : ℕ) (es : Exp
   pub actuals : Actuals y z
   pub call : At code (i.Call (pos (block_number s text)) (pos (operands es))) line z q
 
+-- what the code of a procedure of SIMSET rests on: which name it is, that it has as many actual parameters as that takes, and that it leaves a
+-- value just where its declaration says so
+pub record SetNamed (name : Standard) (result : Option SimType) (count : ℕ) : Type 0 where
+  pub is_name : is_set_name name ≡ true
+  pub as_many : count ≡ parameter_count name
+  pub leaves : has_type result ≡ has_value (row_of name).result
+
+-- a procedure of SIMSET of an object, which is tested before the actual parameter
+pub record SetAt (code : CodeOf) (line : ℕ) (name : Standard) (result : Option SimType) (es : Expressions) (Object Actuals : ℕ → ℕ → Type 0) (p q : ℕ) : Type 0 where
+  pub x : ℕ
+  pub y : ℕ
+  pub z : ℕ
+  pub named : SetNamed name result (operands es)
+  pub object : Object p x
+  pub there : At code i.NotNone line x y
+  pub actuals : Actuals y z
+  pub number : ℕ
+  pub numbered : slice_get standard_names number ≡ Some name
+  pub done : At code (i.Std (pos number)) line z q
+
 -- what an object has, with its operands, which stand on one value more
 abbrev pub OfObjectAt : Source → CodeOf → Site → ℕ → (line : ℕ) → DeclNo → Option Entry → Expressions → (Object Inner Actuals : ℕ → ℕ → Type 0) → ℕ → ℕ → Type 0
 OfObjectAt s code site n line d (Some (entry.Variable type)) es Object Inner Actuals p q = VariableOfAt s code line d es Object p q
@@ -303,6 +326,7 @@ OfObjectAt s code site n line d (Some (entry.Constant type)) es Object Inner Act
 OfObjectAt s code site n line d (Some (entry.Array element dimensions)) es Object Inner Actuals p q = ArrayOfAt s code line d es Object Inner p q
 OfObjectAt s code site n line d (Some (entry.Formal f)) es Object Inner Actuals p q = ParameterOfAt s code line d f.kind es Object Inner p q
 OfObjectAt s code site n line d (Some (entry.Procedure result text)) es Object Inner Actuals p q = RemoteCallAt s code line text es Object Actuals p q
+OfObjectAt s code site n line d (Some (entry.Attribute name parameter result)) es Object Inner Actuals p q = SetAt code line name result es Object Actuals p q
 OfObjectAt s code site n line d _ es Object Inner Actuals p q = ⊥
 
 -- where a variable or an element lies that an object has
@@ -361,6 +385,11 @@ ThisOfAt s code site n k false p q = ThisAt s code site n k p q
 abbrev pub ThisFoundAt : Source → CodeOf → Site → ℕ → (found : Option ℕ) → ℕ → ℕ → Type 0
 ThisFoundAt s code site n None p q = ⊥
 ThisFoundAt s code site n (Some k) p q = ThisOfAt s code site n k (is_connection (text s k)) p q
+
+-- a procedure of SIMSET that is seen without a dot is one of the object around
+abbrev pub OwnAt : (own : Option DeclNo) → (Own : DeclNo → ℕ → ℕ → Type 0) → (Other : ℕ → ℕ → Type 0) → ℕ → ℕ → Type 0
+OwnAt None Own Other p q = Other p q
+OwnAt (Some d) Own Other p q = Own d p q
 
 -- `is`, `in` and `qua`
 abbrev pub member_instr : Membership → (class : ℕ) → Instr
@@ -497,7 +526,9 @@ abbrev mutual
   ExprAt s code site n (syntax.Named name es) p q =
       (gives s (denoted s name.token.0) ≡ true) × ThroughAt (connection_at s name.token.0)
       (λ k. ConnectedNameAt s code site n (line_at s name.token.0) k (denoted s name.token.0) es (ExprsAt s code site (suc n) es) (λ formals. ActualsAt s code site (suc n) (line_at s name.token.0) false es formals))
-      (NamedAt s code site n (line_at s name.token.0) (denoted s name.token.0) es (ExprsAt s code site n es) (ExprsAt s code site (suc n) es) (λ formals. ActualsAt s code site (suc n) (line_at s name.token.0) false es formals)) p q
+      (OwnAt (own_attribute s name.token.0)
+      (λ d. OfObjectAt s code site n (line_at s name.token.0) d (entry_of s.tables d) es (ThisFoundAt s code site n (found_at s name.token.0)) (ExprsAt s code site (suc n) es) (ActualsAt s code site (suc n) (line_at s name.token.0) false es (formals_at s d)))
+      (NamedAt s code site n (line_at s name.token.0) (denoted s name.token.0) es (ExprsAt s code site n es) (ExprsAt s code site (suc n) es) (λ formals. ActualsAt s code site (suc n) (line_at s name.token.0) false es formals))) p q
   ExprAt s code site n (syntax.This token class) p q = ThisFoundAt s code site n (found_at s token) p q
   ExprAt s code site n (syntax.New token class es) p q =
       GenerationAt s code site n (line_at s token) (denoted s class.token.0) (class_at s class.token.0) es (ActualsAt s code site (suc n) (line_at s class.token.0) true es (class_parameters s (class_at s class.token.0))) p q

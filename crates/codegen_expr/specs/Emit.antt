@@ -13,8 +13,8 @@ use Rattle.sim_scope.specs.declared.types.FormalKind.{FormalKind}
 use Rattle.sim_scope.specs.declared.types.FormalKind.TheVariants as shape
 use Rattle.sim_scope.specs.declared.types.Mode.{Mode}
 use Rattle.sim_scope.specs.declared.types.Mode.TheVariants as mode
-use Rattle.sim_scope.specs.Scopes.{formals_in}
-use Rattle.sim_scope.specs.Source.{Source, block_of, denoted, level_of, line_at, source_of}
+use Rattle.sim_scope.specs.Scopes.{entry_of, formals_in}
+use Rattle.sim_scope.specs.Source.{Source, block_of, denoted, found_at, level_of, line_at, source_of}
 use Rattle.sim_tree.specs.declared.expr.Expr.{Expr}
 use Rattle.sim_tree.specs.declared.expr.Identifier.{Identifier}
 use Rattle.sim_tree.specs.declared.expr.Operand.{Operand}
@@ -31,8 +31,8 @@ use Rattle.sim_code.specs.declared.instr.Instr.TheVariants as i
 use Rattle.sim_code.specs.Code.{CodeOf}
 use Rattle.sim_code.specs.Names.{standard_names}
 use Rattle.sim_code.specs.Running.{name_runs, runs}
-use Rattle.sim_meaning.specs.Attributes.{connection_at, parameter_qualification}
-use Rattle.sim_meaning.specs.Closing.{Joining, Lazily, Negated, Plainly, Sort, formals_from, is_attribute, is_attribute_denoted, is_image_denoted, is_text, is_text_type, is_variable, sort_of, stream_of}
+use Rattle.sim_meaning.specs.Attributes.{connection_at, own_attribute, parameter_qualification}
+use Rattle.sim_meaning.specs.Closing.{Joining, Lazily, Negated, Plainly, Sort, formals_at, formals_from, is_attribute, is_attribute_denoted, is_image_denoted, is_text, is_text_type, is_variable, sort_of, stream_of}
 use Rattle.sim_meaning.specs.Constants.{text_constant}
 use Rattle.sim_meaning.specs.Constants.{text_constant}
 use Rattle.sim_meaning.specs.Names.{procedure_named}
@@ -49,8 +49,8 @@ use Rattle.codegen_expr.specs.declared.operators.Seen.TheVariants as seen
 use Rattle.codegen_expr.specs.declared.operators.Sorted.{Sorted}
 use Rattle.codegen_expr.specs.declared.operators.Sorted.TheVariants as sorted
 use Rattle.codegen_expr.specs.declared.spot.Spot.{Spot}
-use Rattle.codegen_expr.specs.Built.{ActualBuilt, ActualsBuilt, AreBuilt, ArrayBuilt, ArrayPlaceBuilt, CallBuilt, CellBuilt, ConnectedNameBuilt, ConstantBuilt, DotBuilt, IsBuilt, NameBuilt, NamedBuilt, NamedPlaceBuilt, PlaceBuilt, PlainBuilt, StandardBuilt, StandsIn, ThroughBuilt, VariableBuilt}
-use Rattle.codegen_expr.specs.CodeExpr.{ActualAt, ActualsAt, ArrayAt, ArrayPlaceAt, CallAt, CellAt, CellPlaceAt, ConnectedNameAt, ConstantAt, DotAt, ElementAt, ExprAt, ExprsAt, FittingAt, GivenAt, IsConstant, NamedAt, NamedPlaceAt, PlaceAt, Stand, StandardAt, StandardIs, ThroughAt, VariableAt, VariablePlaceAt, join_instrs, operands, two_instr}
+use Rattle.codegen_expr.specs.Built.{ActualBuilt, ActualsBuilt, AreBuilt, ArrayBuilt, ArrayPlaceBuilt, CallBuilt, CellBuilt, ConnectedNameBuilt, ConstantBuilt, DotBuilt, IsBuilt, NameBuilt, NamedBuilt, NamedPlaceBuilt, OfObjectBuilt, OwnBuilt, PlaceBuilt, PlainBuilt, StandardBuilt, StandsIn, ThisFoundBuilt, ThroughBuilt, VariableBuilt}
+use Rattle.codegen_expr.specs.CodeExpr.{ActualAt, ActualsAt, ArrayAt, ArrayPlaceAt, CallAt, CellAt, CellPlaceAt, ConnectedNameAt, ConstantAt, DotAt, ElementAt, ExprAt, ExprsAt, FittingAt, GivenAt, IsConstant, NamedAt, NamedPlaceAt, OfObjectAt, OwnAt, PlaceAt, Stand, StandardAt, StandardIs, ThisFoundAt, ThroughAt, VariableAt, VariablePlaceAt, join_instrs, operands, two_instr}
 use Rattle.codegen_expr.specs.Drafts.{DraftOf, Emits}
 use Rattle.codegen_expr.specs.Sites.{Inside, Pushes, Site}
 
@@ -218,15 +218,31 @@ WritesThrough b w n old new token k u ys =
     Emits w old new (ConnectedNameBuilt s w.text k u es (AreBuilt s w.text es) (λ formals. ActualsBuilt s w.text es formals))
     (λ final site p q. ConnectedNameAt s final site n (line_at s token.0) k u es (λ x y. ExprsAt s final site (suc n) es x y) (λ formals x y. ActualsAt s final site (suc n) (line_at s token.0) false es formals x y) p q)
 
+-- the same where it may be a procedure of SIMSET of the object around
+unfoldable pub PutsOwn : Source → Spot → (n : ℕ) → (old new : DraftOf) → TokenNo → Option Denotation → Expressions → Type 0
+PutsOwn s w n old new token u es =
+    Emits w old new
+    (OwnBuilt (own_attribute s token.0) (λ d. OfObjectBuilt s d (entry_of s.tables d) es (ThisFoundBuilt s w.text (found_at s token.0)) (AreBuilt s w.text es) (ActualsBuilt s w.text es (formals_at s d)))
+    (NamedBuilt s w.text u es (AreBuilt s w.text es) (λ formals. ActualsBuilt s w.text es formals)))
+    (λ final site p q. OwnAt (own_attribute s token.0)
+    (λ d. OfObjectAt s final site n (line_at s token.0) d (entry_of s.tables d) es (λ x y. ThisFoundAt s final site n (found_at s token.0) x y) (λ x y. ExprsAt s final site (suc n) es x y) (λ x y. ActualsAt s final site (suc n) (line_at s token.0) false es (formals_at s d) x y))
+    (NamedAt s final site n (line_at s token.0) u es (λ x y. ExprsAt s final site n es x y) (λ x y. ExprsAt s final site (suc n) es x y) (λ formals x y. ActualsAt s final site (suc n) (line_at s token.0) false es formals x y)) p q)
+
+unfoldable pub WritesOwn : Bound → Spot → (n : ℕ) → (old new : DraftOf) → TokenNo → Option Denotation → List Expr → Type 0
+WritesOwn b w n old new token u es = PutsOwn (source_of b) w n old new token u (expressions (map syntax_of es))
+
 -- an identifier with its operands, which may be a call that leaves no value
 unfoldable pub PutsNamed : Source → Spot → (n : ℕ) → (old new : DraftOf) → TokenNo → Option Denotation → Expressions → Type 0
 PutsNamed s w n old new token u es =
     Emits w old new
     (ThroughBuilt (connection_at s token.0) (λ k. ConnectedNameBuilt s w.text k u es (AreBuilt s w.text es) (λ formals. ActualsBuilt s w.text es formals))
-    (NamedBuilt s w.text u es (AreBuilt s w.text es) (λ formals. ActualsBuilt s w.text es formals)))
+    (OwnBuilt (own_attribute s token.0) (λ d. OfObjectBuilt s d (entry_of s.tables d) es (ThisFoundBuilt s w.text (found_at s token.0)) (AreBuilt s w.text es) (ActualsBuilt s w.text es (formals_at s d)))
+    (NamedBuilt s w.text u es (AreBuilt s w.text es) (λ formals. ActualsBuilt s w.text es formals))))
     (λ final site p q. ThroughAt (connection_at s token.0)
     (λ k. ConnectedNameAt s final site n (line_at s token.0) k u es (λ x y. ExprsAt s final site (suc n) es x y) (λ formals x y. ActualsAt s final site (suc n) (line_at s token.0) false es formals x y))
-    (NamedAt s final site n (line_at s token.0) u es (λ x y. ExprsAt s final site n es x y) (λ x y. ExprsAt s final site (suc n) es x y) (λ formals x y. ActualsAt s final site (suc n) (line_at s token.0) false es formals x y)) p q)
+    (OwnAt (own_attribute s token.0)
+    (λ d. OfObjectAt s final site n (line_at s token.0) d (entry_of s.tables d) es (λ x y. ThisFoundAt s final site n (found_at s token.0) x y) (λ x y. ExprsAt s final site (suc n) es x y) (λ x y. ActualsAt s final site (suc n) (line_at s token.0) false es (formals_at s d) x y))
+    (NamedAt s final site n (line_at s token.0) u es (λ x y. ExprsAt s final site n es x y) (λ x y. ExprsAt s final site (suc n) es x y) (λ formals x y. ActualsAt s final site (suc n) (line_at s token.0) false es formals x y))) p q)
 
 unfoldable pub WritesNamed : Bound → Spot → (n : ℕ) → (old new : DraftOf) → TokenNo → Option Denotation → List Expr → Type 0
 WritesNamed b w n old new token u es = PutsNamed (source_of b) w n old new token u (expressions (map syntax_of es))

@@ -1,5 +1,5 @@
 -- What is written of objects, of what they have, and of the classes that are named.
-use Rattle.std.specs.Prelude.{◌<◌, ◌≤◌, ⊤, ℕ, suc, pos, true, false, List, map, Some}
+use Rattle.std.specs.Prelude.{◌<◌, ◌≤◌, ⊤, ℕ, suc, pos, true, false, List, map, Option, Some}
 use Rattle.sim_base.specs.declared.numbering.DeclNo.{DeclNo}
 use Rattle.sim_base.specs.declared.numbering.TokenNo.{TokenNo}
 use Rattle.sim_scope.specs.declared.bound.Bound.{Bound}
@@ -27,18 +27,21 @@ use Rattle.codegen_expr.specs.Sites.{At, Is, Pushes, Site, class_number}
 
 -- ---- objects
 
--- an object: the value of an expression, or that of a connection
+-- an object: the value of an expression, that of a connection, or what `this` means there
 pub data Base : Type 0 where
   OfValue : Expression → Base
   OfConnection : (connection : ℕ) → Base
+  OfThis : (found : Option ℕ) → Base
 
 abbrev pub BaseBuilt : Source → (text : ℕ) → Base → Type 0
 BaseBuilt s text (OfValue e) = IsBuilt s text e
 BaseBuilt s text (OfConnection k) = ConnectedBuilt s text k
+BaseBuilt s text (OfThis found) = ThisFoundBuilt s text found
 
 abbrev pub BaseAt : Source → CodeOf → Site → ℕ → Base → ℕ → ℕ → Type 0
 BaseAt s code site n (OfValue e) p q = ExprAt s code site n e p q
 BaseAt s code site n (OfConnection k) p q = ConnectedAt s code site n k p q
+BaseAt s code site n (OfThis found) p q = ThisFoundAt s code site n found p q
 
 unfoldable pub PutsBase : Source → Spot → (n : ℕ) → (old new : DraftOf) → Base → Type 0
 PutsBase s w n old new x = Emits w old new (BaseBuilt s w.text x) (λ final site p q. BaseAt s final site n x p q)

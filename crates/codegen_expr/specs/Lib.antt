@@ -5,5 +5,6 @@ pub mod Built
 pub mod Known
 pub mod Emit
 pub mod EmitObjects
+pub mod EmitSets
 pub mod PlaceAlone
 pub mod Forms

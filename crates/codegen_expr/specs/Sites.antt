@@ -17,7 +17,7 @@ use Rattle.sim_code.specs.Code.{CodeOf}
 use Rattle.sim_code.specs.Code as code
 use Rattle.sim_meaning.specs.Entries.{cells_from, first_cells, numbers_of}
 use Rattle.sim_meaning.specs.Pending.{Connection, Held, Key, same_key}
-use Rattle.sim_meaning.specs.Texts.{ClassText, PrefixedText, Text, text}
+use Rattle.sim_meaning.specs.Texts.{ClassText, PrefixedText, StandardText, Text, text}
 
 -- Where code stands: in which text, how many values its operand stack holds, how many cells and temps of the frame are in use, and how many
 -- the frame has. A temp that code there takes lies behind those in use; the code inside that keeps it stands at a site with more in use.
@@ -150,6 +150,7 @@ frame_text s k = frame_within k s.tables k
 abbrev pub own_cells : Source → ℕ → Text → List Held
 own_cells s k (ClassText prefix h ds ss) = cells_from s (numbers_of s k)
 own_cells s k (PrefixedText class arguments ds ss) = cells_from s (numbers_of s k)
+own_cells s k (StandardText which) = cells_from s (numbers_of s k)
 own_cells s k x = first_cells s k x
 
 abbrev pub cells_in : Source → ℕ → Option Text → List Held

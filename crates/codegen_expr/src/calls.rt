@@ -1,5 +1,5 @@
 //! Identifiers with their operands: variables, elements of arrays, constants, calls.
-ghost use Rattle.codegen_expr.specs.Emit.{WritesActual, WritesActuals, WritesCall, WritesElement, WritesGiving, WritesNamed, WritesPassed, WritesSeen, WritesThrough, WritesUnconnected};
+ghost use Rattle.codegen_expr.specs.Emit.{WritesActual, WritesActuals, WritesCall, WritesElement, WritesGiving, WritesNamed, WritesOwn, WritesPassed, WritesSeen, WritesThrough, WritesUnconnected};
 ghost use Rattle.codegen_expr.specs.Known.{Known};
 ghost use Rattle.std.specs.Prelude.{OnOk};
 
@@ -8,11 +8,12 @@ use crate::classes::{connection_at, parameter_qualification};
 use crate::draft::{Draft, deeper};
 use crate::emit::emit_expr;
 use crate::instructions::{call_instr, element_instr, standard_instr};
-use crate::leaves::{emit_cell, emit_connected, emit_constant, emit_fit, emit_link};
+use crate::leaves::{emit_cell, emit_connected, emit_constant, emit_fit, emit_link, emit_this};
 use crate::lookups::{block_number, denoted, formals_of_block, gives, line_at};
 use crate::objects::emit_of;
 use crate::operands::emit_list;
 use crate::operators::{Passed, Seen, passed_of, seen_of};
+use crate::sets::own_attribute;
 use crate::spot::Spot;
 use crate::standard::emit_standard;
 use sim_base::{DeclNo, Line, TokenNo};
@@ -311,6 +312,31 @@ fn emit_through(
     }
 }
 
+/// An identifier with its operands that is not seen through a connection; a procedure of SIMSET is one of the object around.
+#[cycle(emit)]
+#[tactic(auto, using(crate::proofs::SetProcedures::owns))]
+fn emit_own(
+    bound: &Bound,
+    cells: &Cells,
+    spot: Spot,
+    draft: &mut Draft,
+    depth: u32,
+    token: TokenNo,
+    denoted: Option<Denotation>,
+    list: &[Expr],
+) -> Result<(), AllocError>
+    requires cells { Known bound.now cells.now }
+    ensures { OnOk result (WritesOwn bound.now spot depth draft.old draft.new token denoted list.now) }
+{
+    match own_attribute(bound, token) {
+        Some(declaration) => {
+            emit_this(bound, cells, spot, draft, depth, token)?;
+            emit_of(bound, cells, spot, draft, depth, token, declaration, list)
+        }
+        None => emit_unconnected(bound, cells, spot, draft, depth, token, denoted, list),
+    }
+}
+
 /// An identifier with its operands, also where it is a call that leaves no value. The token is that of the identifier, and what it denotes
 /// is given.
 #[cycle(emit)]
@@ -334,7 +360,7 @@ pub fn emit_named(
                 bound, cells, spot, draft, depth, token, connection, denoted, list,
             )
         }
-        None => emit_unconnected(bound, cells, spot, draft, depth, token, denoted, list),
+        None => emit_own(bound, cells, spot, draft, depth, token, denoted, list),
     }
 }
 

@@ -17,6 +17,7 @@ mod objects;
 mod operands;
 mod operators;
 mod selectors;
+mod sets;
 mod spot;
 mod standard;
 mod variables;

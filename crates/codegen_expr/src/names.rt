@@ -3,6 +3,7 @@ ghost use Rattle.std.specs.Prelude.{◌≡◌, Some};
 ghost use Rattle.sim_meaning.specs.Names.{procedure_named};
 ghost use Rattle.sim_meaning.specs.Statements.{has_value, standard_leaves as standard_leaves_of};
 ghost use Rattle.codegen_expr.specs.Emit.{Numbered, OnImageIs, moves_named};
+ghost use Rattle.codegen_expr.specs.EmitSets.{NumberOfSet};
 
 use sim_scope::StandardName;
 use sim_values::{Standard, StandardType};
@@ -70,6 +71,31 @@ fn procedure_code(name: Standard) -> Option<StandardCode>
         Standard::Outchar => built(38, 1),
         Standard::Outtext => built(39, 1),
         Standard::Outint => built(40, 2),
+        // by itself, without an object, a name of SIMSET takes nothing
+        _ => match set_number(name) {
+            Some(number) => built(number, 0),
+            None => None,
+        },
+    }
+}
+
+/// The number of a name of SIMSET.
+pub(crate) fn set_number(name: Standard) -> Option<u32>
+    ensures { NumberOfSet name result }
+{
+    match name {
+        Standard::Suc => Some(49),
+        Standard::Pred => Some(50),
+        Standard::Prev => Some(51),
+        Standard::Out => Some(52),
+        Standard::Follow => Some(53),
+        Standard::Precede => Some(54),
+        Standard::Into => Some(55),
+        Standard::First => Some(56),
+        Standard::Last => Some(57),
+        Standard::Empty => Some(58),
+        Standard::Cardinal => Some(59),
+        Standard::Clear => Some(60),
         _ => None,
     }
 }

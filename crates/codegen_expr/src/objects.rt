@@ -12,6 +12,7 @@ use crate::leaves::{emit_attribute, emit_constant_of, emit_link};
 use crate::lookups::{block_number, denoted, formals_of_block, line_at};
 use crate::operands::emit_list;
 use crate::operators::{Seen, attribute_of};
+use crate::sets::{emit_set, set_procedure};
 use crate::spot::Spot;
 use sim_base::{DeclNo, Line, TokenNo};
 use sim_code::Instr;
@@ -131,18 +132,23 @@ pub(crate) fn emit_of(
     requires cells { Known bound.now cells.now }
     ensures { OnOk result (WritesOf bound.now spot depth draft.old draft.new token declaration list.now) }
 {
-    let seen = attribute_of(entry_of(&bound.scopes, declaration));
-    emit_seen_of(
-        bound,
-        cells,
-        spot,
-        draft,
-        depth,
-        token,
-        declaration,
-        seen,
-        list,
-    )
+    let entry = entry_of(&bound.scopes, declaration);
+    match set_procedure(entry) {
+        Some(procedure) => emit_set(bound, cells, spot, draft, depth, token, procedure, list),
+        None => {
+            emit_seen_of(
+                bound,
+                cells,
+                spot,
+                draft,
+                depth,
+                token,
+                declaration,
+                attribute_of(entry),
+                list,
+            )
+        }
+    }
 }
 
 /// Where a variable lies that the object on top has, as it is seen, with the class of a reference there.

@@ -33,7 +33,7 @@ const MODELS: [(&str, Option<&str>); 15] = [
 ];
 
 // The collections of data/ whose sources are run, in the order in which they are shown.
-const COLLECTIONS: [&str; 10] = [
+const COLLECTIONS: [&str; 11] = [
     "messages.cases",
     "programs.cases",
     "tokens.cases",
@@ -42,6 +42,7 @@ const COLLECTIONS: [&str; 10] = [
     "texts.cases",
     "numbers.cases",
     "objects.cases",
+    "sets.cases",
     "manual.cases",
     "models.cases",
 ];

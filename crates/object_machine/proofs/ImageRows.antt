@@ -136,6 +136,7 @@ stands_image l p r stack below before now o m i n t s e = record {
     cells = s.stores.cells;
     elements = s.stores.elements;
     parks = s.stores.parks;
+    members = s.stores.members;
   };
   top = s.top;
   others = s.others;

@@ -1,6 +1,13 @@
 pub mod Going
 pub mod Jumps
 pub mod Scalars
+pub mod Linkages
+pub mod Enrolments
+pub mod Searching
+pub mod LevelMarks
+pub mod SetSteps
+pub mod Emptiness
+pub mod SetRows
 pub mod Parks
 pub mod Transferring
 pub mod Anew

@@ -1,6 +1,6 @@
 -- Rows of standard names.
 use Rattle.std.proofs.Common.{◌≡◌, inl, inr, ◌⊎◌, ℕ, zero, suc, ◌-◌, ◌<◌, ◌≤◌, List, [], ◌∷◌, ◌++◌, length, set, length-set, sym, subst, refl, ap, ◌∙◌, arith}
-use Rattle.std.specs.Prelude.{ℤ, Bool, true, false, Option, Some, None}
+use Rattle.std.specs.Prelude.{ℤ, Bool, true, false, if◌then◌else◌, Option, Some, None}
 use Rattle.std.specs.Io.KnownBytes.{Appends}
 use Rattle.sim_base.specs.declared.limits.Limits.{Limits}
 use Rattle.sim_values.specs.declared.standard.Standard.{Standard}
@@ -12,15 +12,19 @@ use Rattle.basic_io.specs.Input.{HeldInput}
 use Rattle.sim_code.specs.Events.{computing, having, no_rule, performing, pop_operands, putting_back, stopping, taking, when}
 use Rattle.sim_code.specs.Machine.{Activation, Frames, Machine, Of, Value, on, operand, plain}
 use Rattle.sim_code.specs.Outcome.{Going, Run, StorageExhausted, World}
-use Rattle.sim_code.specs.Rows.{has_room, put_back, room_for, standard_of, with_value}
+use Rattle.sim_code.specs.Rows.{has_room, put_back, room_for, standard_of, standard_row as row_of_name, with_value}
+use Rattle.sim_code.specs.Running.{name_runs}
+use Rattle.sim_code.specs.Sets.{is_set_name}
 use Rattle.frame_arena.specs.declared.slot.Slot.{Slot}
 use Rattle.frame_arena.specs.Arrays.{AllLeadArrays}
 use Rattle.frame_arena.specs.Frames.{AllLead}
 use Rattle.frame_arena.specs.Slots.{value_of}
 use Rattle.frame_arena.specs.Stacks.{slot_at, values_of}
+use Rattle.standard_calls.specs.declared.manner.Manner.{Manner}
+use Rattle.standard_calls.specs.declared.manner.Manner.TheVariants as manner
 use Rattle.standard_calls.specs.declared.names.Performed.{Performed}
 use Rattle.standard_calls.specs.declared.names.Performed.TheVariants as performed
-use Rattle.standard_calls.specs.Quiet.{OnNumbers, OnText}
+use Rattle.standard_calls.specs.Quiet.{OnNumbers, OnText, is_done}
 use Rattle.standard_calls.specs.Performed.{Agrees, Held, IfMoved, Parts, PerformedAs, PerformedFaults, PerformedStops, does, held, parts, standard_row, wrote}
 use Rattle.object_machine.specs.declared.machine.Storage.{Storage}
 use Rattle.object_machine.specs.declared.machine.Registers.{Registers}
@@ -34,7 +38,7 @@ use Rattle.object_machine.specs.Operands.{AllRead, IsNoTextIn, IsReady, OneUnrea
 use Rattle.object_machine.specs.Placing.{LeadsFrom, PutsBack}
 use Rattle.object_machine.specs.Settled.{Follows, Settles, named}
 use Rattle.object_machine.specs.Standing.{InWorld, Leaves, Obeys, Outside, Stands, activation_at, below_of, ports_of}
-use Rattle.object_machine.proofs.Going.{along, depth_goes_on}
+use Rattle.object_machine.proofs.Going.{along, depth_goes_on, other_chosen}
 use Rattle.object_machine.proofs.Having.{having_some}
 use Rattle.object_machine.proofs.OperandRows.{above, character_behind, integer_behind, no_character_there, no_integer_there, no_text_popped, no_text_popped_below, no_text_taken, numbers_alone, pop_as_they_stand, text_popped, text_popped_below}
 use Rattle.object_machine.proofs.Scalars.{off}
@@ -312,6 +316,7 @@ module _ (l : Limits) (line : ℕ) (p p2 : Storage) (below : List working.Activa
       cells = s.stores.cells;
       elements = s.stores.elements;
       parks = s.stores.parks;
+      members = s.stores.members;
     };
     top = record { home = s.top.home; slots = slots; arrays_lead = arrays };
     others = s.others;
@@ -417,11 +422,35 @@ module _ (l : Limits) (line : ℕ) (p p2 : Storage) (below : List working.Activa
       (subst (λ a. Settles result f a (record p { texts = texts2 }) p2 r r2) (first_is (length (operands_of (row_of name).function)) r.depth stack (one_at_least (row_of name).function on)) settled)
       (first_led p o m (length (operands_of (row_of name).function)) r.depth stack s.top.slots s.top.arrays_lead)
 
+-- ---- the row of the table
+
+-- the names that are done here are no procedures of sets
+pub done_apart : (name : Standard) → is_done name ≡ true → is_set_name name ≡ false
+done_apart name e = by_test (is_set_name name) (name_runs name) e
+  where
+    by_test : (b x : Bool) → (if b then false else x) ≡ true → b ≡ false
+    by_test true x e = absurd (off e)
+    by_test false x e = refl
+
+abbrev pub IsQuietly : Manner → Type 0
+IsQuietly manner.Ports = ⊥
+IsQuietly _ = Unit {0}
+
+pub not_ports : (x : Manner) → IsQuietly x → x ≡ manner.Ports → ⊥
+not_ports x h e = subst IsQuietly e h
+
+pub apart_done : (name : Standard) → name_runs name ≡ true → is_set_name name ≡ false → is_done name ≡ true
+apart_done name e h = ap (λ b. if b then false else name_runs name) h ∙ e
+
+pub apart_row : (l : Limits) (line : ℕ) (name : Standard) (o : World) (m : Frames) (a : Activation) (below : List Activation) → is_set_name name ≡ false → row_of_name l o m a below line name ≡ named l line name o m a below
+apart_row l line name o m a below e = other_chosen (is_set_name name) _ _ e
+
 -- the row of the name of a number
-pub for_name : (f : Flow) (l : Limits) (line : ℕ) (z : ℤ) (name : Standard) → Some name ≡ standard_of z → (p p2 : Storage) (r r2 : Registers) (stack stack2 : List Slot) (below : List working.Activation) (now : Outside) →
-    Obeys f l line (λ o m a b. named l line name o m a b) p p2 r r2 stack stack2 below below now now → Obeys f l line (λ o m a b. having (standard_of z) o (λ name. named l line name o m a b)) p p2 r r2 stack stack2 below below now now
+pub for_name : (f : Flow) (l : Limits) (line : ℕ) (z : ℤ) (name : Standard) → Some name ≡ standard_of z → is_set_name name ≡ false → (p p2 : Storage) (r r2 : Registers) (stack stack2 : List Slot) (below : List working.Activation) (now : Outside) →
+    Obeys f l line (λ o m a b. named l line name o m a b) p p2 r r2 stack stack2 below below now now → Obeys f l line (λ o m a b. having (standard_of z) o (λ name. row_of_name l o m a b line name)) p p2 r r2 stack stack2 below below now now
 unfolding Obeys
-for_name f l line z name e p p2 r r2 stack stack2 below now h before o m s = along l line p2 below before now f r2 stack2 _ _ (having_some (standard_of z) name o _ e) (h before o m s)
+for_name f l line z name e apart p p2 r r2 stack stack2 below now h before o m s =
+    along l line p2 below before now f r2 stack2 _ _ (having_some (standard_of z) name o _ e ∙ apart_row l line name o m (activation_at r stack) (below_of below) apart) (h before o m s)
 
 -- ---- how the ends stand
 

@@ -326,6 +326,7 @@ stands_texts l p r stack below before now o m new s = record {
     cells = s.stores.cells;
     elements = s.stores.elements;
     parks = s.stores.parks;
+    members = s.stores.members;
   };
   top = s.top;
   others = s.others;

@@ -51,5 +51,6 @@ module _ (l : Limits) (line wanted : â„•) (p : Storage) (before : Option (List â
           cells = s.cells;
           elements = s.elements;
           parks = s.parks;
+          members = s.members;
         },
       )

@@ -1,3 +1,5 @@
+pub mod Enrolling
+pub mod SetRows
 pub mod Standing
 pub mod Entering
 pub mod Running

@@ -21,6 +21,8 @@ use crate::entering::cover;
 use crate::handing::hand_over_all;
 use crate::levelled::{objects_of, take_linked};
 use crate::machine::{Activation, Flow, Registers, Storage};
+use crate::marks::linkage_of_class;
+use crate::members::enroll;
 use crate::openings::{Beginning, open};
 use crate::parameters::{are_supplied, fill_parameters};
 use crate::paying::pay;
@@ -264,6 +266,10 @@ pub fn generate(
     if home.stamp >= 1 << 63 {
         return Flow::Memory;
     }
+    let linkage = linkage_of_class(blocks, classes, block.class);
+    let Ok(()) = enroll(&mut storage.members, linkage, home) else {
+        return Flow::Memory;
+    };
     let Some(depth) = stack::push(&mut top.stack, ready.actuals.under, Slot::object(home)) else {
         return Flow::Memory;
     };

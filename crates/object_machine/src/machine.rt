@@ -6,6 +6,7 @@ use frame_arena::{Arrays, Slot};
 use sim_base::RunError;
 use sim_code::Stage;
 use sim_values::FrameRef;
+use simset::Rings;
 use text_objects::Texts;
 
 /// Where a frame at work goes on.
@@ -39,6 +40,15 @@ pub struct Images {
     pub output: OutImage,
 }
 
+/// The objects that are linkages, with their sets.
+#[derive(Drop)]
+pub struct Members {
+    /// The links and heads.
+    pub rings: Rings,
+    /// The object of each of them. Those that were made later have higher numbers.
+    pub objects: Vec<FrameRef>,
+}
+
 /// What all frames share.
 #[derive(Drop)]
 pub struct Storage {
@@ -60,6 +70,8 @@ pub struct Storage {
     pub texts: Texts,
     /// The images of sysin and sysout.
     pub image: Images,
+    /// The links and heads with their sets.
+    pub members: Members,
     /// The ticks taken.
     pub ticks: u64,
     /// The words in use.

@@ -1,16 +1,16 @@
 //! Standard names.
 ghost use Rattle.std.specs.Prelude.{◌≡◌, ℕ, ◌+◌, ◌<◌, ◌≤◌, ◌^◌, List, Option, Some, IfSome, length, true};
-ghost use Rattle.sim_code.specs.Events.{having, performing, when};
-ghost use Rattle.sim_code.specs.Machine.{Frames, on, operand as operand_of};
+ghost use Rattle.sim_code.specs.Events.{having};
+ghost use Rattle.sim_code.specs.Machine.{Frames};
 ghost use Rattle.sim_code.specs.Outcome.{ArrayOf, World};
-ghost use Rattle.sim_code.specs.Rows.{put_back as put_back_of, room_for, standard_of, with_value};
-ghost use Rattle.sim_code.specs.Running.{name_runs, standard_runs};
+ghost use Rattle.sim_code.specs.Rows.{standard_of, standard_row};
+ghost use Rattle.sim_code.specs.Running.{standard_runs};
 ghost use Rattle.frame_arena.specs.Arrays.{AllLeadArrays, HoldsArrays};
 ghost use Rattle.frame_arena.specs.Frames.{AllLead, Holds};
 ghost use Rattle.sim_base.specs.declared.limits.Limits.{Limits as LimitsOf};
 ghost use Rattle.sim_values.specs.Standard.{row_of};
 ghost use Rattle.standard_calls.specs.Performed.{IfDepth};
-ghost use Rattle.standard_calls.specs.Quiet.{OnNumbers, OnText, manner_of as manner};
+ghost use Rattle.standard_calls.specs.Quiet.{OnNumbers, OnText, is_done, manner_of as manner};
 ghost use Rattle.object_machine.specs.Named.{FlowEnds, InputEnds, Still};
 ghost use Rattle.object_machine.specs.Operands.{IsReady};
 ghost use Rattle.object_machine.specs.Running.{Onward};
@@ -22,6 +22,7 @@ use crate::constants::index;
 use crate::machine::{Activation, Flow, Registers, Storage};
 use crate::placing::{Placing, put_back, put_text};
 use crate::reading::{first_operand, read_operands, text_operand};
+use crate::sets::{is_set_name, set_standard};
 use frame_arena::{EMPTY, Slot};
 use sim_base::Limits;
 use sim_ports::{Sink, Source};
@@ -132,7 +133,7 @@ fn follow(regs: &mut Registers, placing: Placing, depth: usize) -> Flow
 #[inline(always)]
 fn ready(storage: &Storage, stack: &mut [Slot], depth: usize, name: Standard) -> Option<Slot>
     requires fits { depth ≤ length stack.old }
-    requires runs { name_runs name ≡ true }
+    requires runs { is_done name ≡ true }
     ensures long { length stack.new ≡ length stack.old }
     ensures leads { (m : Frames) → AllLead storage.now.frames.items m stack.old → AllLead storage.now.frames.items m stack.new }
     ensures leads_arrays { (list : List ArrayOf) → AllLeadArrays storage.now.arrays.regions list stack.old → AllLeadArrays storage.now.arrays.regions list stack.new }
@@ -168,7 +169,7 @@ fn whole_standard(
     name: Standard,
 ) -> Flow
     requires whole { manner name ≡ Manner.Whole }
-    requires runs { name_runs name ≡ true }
+    requires runs { is_done name ≡ true }
     requires fits { regs.old.depth ≤ length stack.old }
     requires short { regs.old.pc + 1 < 2 ^ 64 }
     requires images { HasImages storage.old.texts storage.old.image }
@@ -207,7 +208,7 @@ fn whole_apart(
     name: Standard,
 ) -> Flow
     requires whole { manner name ≡ Manner.Whole }
-    requires runs { name_runs name ≡ true }
+    requires runs { is_done name ≡ true }
     requires fits { regs.old.depth ≤ length stack.old }
     requires short { regs.old.pc + 1 < 2 ^ 64 }
     requires images { HasImages storage.old.texts storage.old.image }
@@ -249,7 +250,7 @@ pub fn quiet_standard(
     ensures other { Untouched result storage.old storage.new regs.old regs.new stack.old stack.new }
     ensures next { IfSome result (λ f. Advances f regs.old regs.new) }
     ensures row { IfSome result (λ f. (line : ℕ) (below : List Activation) (now : Outside) →
-        Obeys f limits.now line (λ o m a b. having (standard_of operand) o (λ name. when (room_for name a) o (performing operand_of put_back_of limits.now line name a.stack o m (λ p m value st. on p m a (with_value value st) b)))) storage.old storage.new regs.old regs.new stack.old stack.new below below now now) }
+        Obeys f limits.now line (λ o m a b. having (standard_of operand) o (λ name. standard_row limits.now o m a b line name)) storage.old storage.new regs.old regs.new stack.old stack.new below below now now) }
 {
     let Some(name) = name_of(operand) else {
         return None;
@@ -304,9 +305,9 @@ pub fn standard<I: Source, O: Sink>(
 
     // Where the row takes nothing of the input nothing was read.
     ensures takes { (s : List ℕ) → I.left input.old ≡ Some s → (line : ℕ) (below : List Activation) →
-        StepTakes limits.now (λ o m a b. having (standard_of operand) o (λ name. when (room_for name a) o (performing operand_of put_back_of limits.now line name a.stack o m (λ p m value st. on p m a (with_value value st) b)))) storage.old regs.old stack.old below (outside (O.written out.old) s) input.old input.new }
+        StepTakes limits.now (λ o m a b. having (standard_of operand) o (λ name. standard_row limits.now o m a b line name)) storage.old regs.old stack.old below (outside (O.written out.old) s) input.old input.new }
     ensures row { Onward (I.left input.old) (I.left input.new) (λ s t. Still result (O.written out.old) (O.written out.new) × ((line : ℕ) (below : List Activation) →
-        Obeys result limits.now line (λ o m a b. having (standard_of operand) o (λ name. when (room_for name a) o (performing operand_of put_back_of limits.now line name a.stack o m (λ p m value st. on p m a (with_value value st) b)))) storage.old storage.new regs.old regs.new stack.old stack.new below below (outside (O.written out.old) s) (outside (O.written out.new) t))) }
+        Obeys result limits.now line (λ o m a b. having (standard_of operand) o (λ name. standard_row limits.now o m a b line name)) storage.old storage.new regs.old regs.new stack.old stack.new below below (outside (O.written out.old) s) (outside (O.written out.new) t))) }
 {
     let Some(name) = name_of(operand) else {
         return Flow::NoRule;
@@ -314,6 +315,9 @@ pub fn standard<I: Source, O: Sink>(
     match manner_of(name) {
         Manner::Ports => {}
         _ => return Flow::Memory,
+    }
+    if is_set_name(name) {
+        return set_standard(storage, stack, regs, name);
     }
     let depth = regs.depth;
     let Some(address) = ready(storage, stack, depth, name) else {

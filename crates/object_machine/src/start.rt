@@ -5,10 +5,11 @@ ghost use Rattle.sim_values.specs.Store.{constant_frames};
 ghost use Rattle.frame_arena.specs.Frames.{empty_memory};
 ghost use Rattle.object_machine.specs.Standing.{HasImages, Stores, outside};
 
-use crate::machine::{Images, Storage};
+use crate::machine::{Images, Members, Storage};
 use basic_io::{InImage, OutImage};
 use frame_arena::Arrays;
 use sim_base::{ByteString, Limits, Memory};
+use simset::Rings;
 use std::alloc::Global;
 use text_objects::Texts;
 
@@ -64,6 +65,10 @@ pub fn start(
         arrays: Arrays::new(alloc),
         texts,
         image: Images { input, output },
+        members: Members {
+            rings: Rings::new(alloc),
+            objects: Vec::new(alloc),
+        },
         ticks: 0,
         words: 0,
         wanted: 0,

@@ -1,16 +1,18 @@
 -- Whether a declaration is accessible at a token does not depend on what connections connect: a connection gives no access, and is no level of a class.
 use Rattle.std.proofs.Common.{◌≡◌, ℕ, zero, suc, Bool, true, false, List, length, Option, Some, None, refl, sym, ap, ◌∙◌, if◌then◌else◌}
-use Rattle.std.specs.Prelude.{◌&&◌, ◌||◌, nat_eq, not, slice_get}
+use Rattle.std.specs.Option.{option_or}
+use Rattle.std.specs.Prelude.{◌&&◌, ◌||◌, nat_eq, not, position, slice_get}
+use Rattle.std.specs.Str.{bytes_eq}
 use Rattle.sim_base.specs.declared.numbering.DeclNo.{DeclNo}
 use Rattle.sim_scope.specs.declared.scopes.Declaration.{Declaration}
 use Rattle.sim_scope.specs.declared.types.BlockKind.{BlockKind}
 use Rattle.sim_scope.specs.declared.types.BlockKind.TheVariants as kind
+use Rattle.sim_scope.specs.declared.types.StandardPrefix.{StandardPrefix}
 use Rattle.sim_scope.specs.Access.{accessible, accessible_row, around, block_at, encloser, has_text_of_levels, hides, hides_in, holds_at, is_connection, is_kind, is_level, is_open, is_so, joined, kind_in, names_hidden, no_block, opens, protector, protector_of, protects, protects_in, some_around, some_around_of}
-use Rattle.sim_scope.specs.Levels.{base, holds, level_beyond, some_level, some_level_of}
-use Rattle.sim_scope.specs.Scopes.{declared_in, level_shows, lookup, seen, seen_from}
+use Rattle.sim_scope.specs.Levels.{base, holds, level_beyond, some_level, some_level_of, standard_in}
+use Rattle.sim_scope.specs.Scopes.{brought_by, brought_in, declared_in, level_shows, lookup, numbered, seen, seen_from}
 use Rattle.sim_scope.specs.Tables.{BlockOf, Tables}
 use Rattle.sim_agree.proofs.Completing.{Retyped, Rows, bare_row}
-use Rattle.sim_agree.proofs.Unprefixed.{Unprefixed, shows}
 
 -- where a declaration stands, and its identifier
 pub record Standing : Type 0 where
@@ -75,7 +77,7 @@ kind_no_connection (Some row) e = text_no_connection row.kind e
 -- has the same levels in both.
 module _ (T C : Tables) (Solid : ℕ → Type 0) (rows : (k : ℕ) → bare_row (slice_get T.blocks k) ≡ bare_row (slice_get C.blocks k)) (size : length T.blocks ≡ length C.blocks) (places : T.places ≡ C.places)
     (stand : (d : ℕ) → standing (slice_get T.declarations d) ≡ standing (slice_get C.declarations d)) (solid : (k : ℕ) → is_kind is_connection C k ≡ false → Solid k)
-    (own : (k : ℕ) → Solid k → base T k ≡ base C k) (next : (k j : ℕ) → Solid k → base T k ≡ Some j → Solid j) where
+    (standards : (k : ℕ) → standard_in (slice_get T.blocks k) ≡ standard_in (slice_get C.blocks k)) (own : (k : ℕ) → Solid k → base T k ≡ base C k) (next : (k j : ℕ) → Solid k → base T k ≡ Some j → Solid j) where
   same_kinds : (test : BlockKind → Bool) (k : ℕ) → is_kind test T k ≡ is_kind test C k
   unfolding is_kind
   same_kinds test k = ap (is_so test) (sym (kind_bare (slice_get T.blocks k)) ∙ ap kind_in (rows k) ∙ kind_bare (slice_get C.blocks k))
@@ -185,6 +187,27 @@ module _ (T C : Tables) (Solid : ℕ → Type 0) (rows : (k : ℕ) → bare_row 
       go None = refl
       go (Some token) = accessible_same token d
 
+  -- what a standard prefix brings
+  same_brought : (k : ℕ) (name : List ℕ) → brought_by T k name ≡ brought_by C k name
+  unfolding brought_by
+  same_brought k name = go (slice_get T.blocks k) (slice_get C.blocks k) (rows k) (standards k)
+    where
+      numbers : BlockOf → Option StandardPrefix → Option DeclNo
+      numbers row p = elim p [ None ↦ None | Some which ↦ numbered row.brought (position (bytes_eq name) row.brought_names) ]
+
+      some_row : (a b : BlockOf) → Some a ≡ Some b → a ≡ b
+      some_row a b e = cc
+
+      go : (a c : Option BlockOf) → bare_row a ≡ bare_row c → standard_in a ≡ standard_in c → brought_in a name ≡ brought_in c name
+      go None None e f = refl
+      go None (Some y) e f = absurd (cc)
+      go (Some x) None e f = absurd (cc)
+      go (Some x) (Some y) e f =
+          let same : record x { base = None; standard = None } ≡ record y { base = None; standard = None } = some_row (record x { base = None; standard = None }) (record y { base = None; standard = None }) e in
+          ap (numbers x) f ∙ ap (λ (z : BlockOf). numbers z y.standard) same
+
   -- a level shows the same in both
-  pub shows_same : Unprefixed T → Unprefixed C → (from : Option ℕ) (k : ℕ) (name : List ℕ) → level_shows T from k name ≡ level_shows C from k name
-  shows_same w v from k name = shows T w from k name ∙ ap (λ o. seen T from o) (same_lookup k name) ∙ seen_same from (lookup C k name) ∙ sym (shows C v from k name)
+  pub shows_same : (from : Option ℕ) (k : ℕ) (name : List ℕ) → level_shows T from k name ≡ level_shows C from k name
+  unfolding level_shows
+  shows_same from k name =
+      ap (λ o. option_or (seen T from o) (brought_by T k name)) (same_lookup k name) ∙ ap (λ o. option_or o (brought_by T k name)) (seen_same from (lookup C k name)) ∙ ap (λ o. option_or (seen C from (lookup C k name)) o) (same_brought k name)

@@ -1,5 +1,5 @@
 -- The arrays that a block or a class declares are those of its tables.
-use Rattle.std.proofs.Common.{◌≡◌, ◌⊎◌, inl, inr, ℕ, List, [], ◌∷◌, ◌++◌, length, Option, Some, None, refl, sym, ap, ◌∙◌, subst}
+use Rattle.std.proofs.Common.{◌≡◌, ◌⊎◌, inl, inr, ℕ, true, false, List, [], ◌∷◌, ◌++◌, length, Option, Some, None, refl, sym, ap, ◌∙◌, subst}
 use Rattle.std.specs.Prelude.{slice_get}
 use Rattle.sim_base.specs.declared.numbering.DeclNo.{DeclNo}
 use Rattle.sim_base.specs.declared.numbering.TokenNo.{TokenNo}
@@ -12,7 +12,8 @@ use Rattle.sim_scope.specs.declared.scopes.Declaration.{Declaration}
 use Rattle.sim_scope.specs.declared.types.Entry.{Entry}
 use Rattle.sim_scope.specs.declared.types.Entry.TheVariants as entry
 use Rattle.sim_scope.specs.declared.types.SimType.{SimType}
-use Rattle.sim_scope.specs.Building.{Declares, Mark}
+use Rattle.sim_scope.specs.Building.{Declares, Mark, typed_or_none}
+use Rattle.sim_scope.specs.Standard.{parameter_of, result_of}
 use Rattle.sim_scope.specs.Declare.{declared_by, result_named, type_named}
 use Rattle.sim_scope.specs.Runs.{each}
 use Rattle.sim_scope.specs.Scopes.{entry_of}
@@ -25,11 +26,16 @@ use Rattle.sim_agree.specs.Plain.{Plain}
 use Rattle.sim_agree.specs.TablesOf.{TablesOf}
 use Rattle.sim_agree.proofs.Clean.{OwedAt, RowFor}
 use Rattle.sim_agree.proofs.Constants.{has_split, only}
-use Rattle.sim_agree.proofs.Fine.{Alike, RowIn, class_row, formal_row, own_row, procedure_row}
+use Rattle.sim_agree.proofs.Fine.{Alike, RowIn, attribute_row, class_row, formal_row, own_row, procedure_row}
 use Rattle.sim_agree.proofs.Groups.{Has, OwnEntry, declared_in_text, here, own_array, own_marks, own_segment, own_variable, there}
 use Rattle.sim_agree.proofs.Steps.{Parametric}
 use Rattle.sim_agree.proofs.Tables as t
-use Rattle.sim_agree.proofs.Tables.{Bs, Ts, alike_new}
+use Rattle.sim_agree.proofs.ClassRows.{own_no_class}
+use Rattle.sim_agree.specs.TablesAgree.{is_attribute}
+use Rattle.sim_values.specs.declared.standard.Standard.{Standard as StandardName}
+use Rattle.sim_scope.specs.Tables.{BlockOf}
+use Rattle.sim_agree.proofs.Tables.{Bs, Ts}
+use Rattle.sim_agree.proofs.Retypes.{alike_new}
 use Rattle.sim_agree.proofs.Tokens.{token_declared}
 
 -- ---- the marks of a block
@@ -54,6 +60,36 @@ alike_itself (entry.Formal f) o = absurd o
 alike_itself (entry.Unspecified w) o = absurd o
 alike_itself (entry.Attribute name given result) o = absurd o
 
+pub own_no_attribute : (e : Entry) (name : StandardName) (given result : Option SimType) → OwnEntry e → Alike e (entry.Attribute name given result) → ⊥
+own_no_attribute (entry.Variable ty) name given result o a = a
+own_no_attribute (entry.Constant ty) name given result o a = a
+own_no_attribute (entry.Array ty n) name given result o a = a
+own_no_attribute (entry.Procedure r n) name given result o a = o
+own_no_attribute (entry.Class n) name given result o a = o
+own_no_attribute (entry.Virtual r n) name given result o a = o
+own_no_attribute (entry.Formal f) name given result o a = o
+own_no_attribute (entry.Unspecified w) name given result o a = o
+own_no_attribute (entry.Attribute other taken given_back) name given result o a = o
+
+-- what is declared in a text, and is neither a procedure nor a class, is listed and is no attribute
+listed_own : (bs : List BlockOf) (ts : List Text) (x : Text) (d : ℕ) (row : Declaration) (e : Entry) → OwnEntry e → Alike e row.entry → RowIn bs ts x d row → row.listed ≡ true
+listed_own bs ts x d row e o a (own_row y p) = p.listed
+listed_own bs ts x d row e o a (procedure_row y p) = p.listed
+listed_own bs ts x d row e o a (class_row y p) = absurd (own_no_class e p.number o (subst (Alike e) p.entry a))
+listed_own bs ts x d row e o a (formal_row y p l) = l
+listed_own bs ts x d row e o a (attribute_row y p) = p.listed
+
+no_attribute : (e f : Entry) → OwnEntry e → Alike e f → is_attribute f ≡ false
+no_attribute e (entry.Variable ty) o a = refl
+no_attribute e (entry.Constant ty) o a = refl
+no_attribute e (entry.Array ty n) o a = refl
+no_attribute e (entry.Procedure r n) o a = refl
+no_attribute e (entry.Class n) o a = refl
+no_attribute e (entry.Virtual r n) o a = refl
+no_attribute e (entry.Formal f) o a = refl
+no_attribute e (entry.Unspecified w) o a = refl
+no_attribute e (entry.Attribute name given result) o a = absurd (own_no_attribute e name given result o a)
+
 -- ---- arrays behind others
 
 pub option_among : (o : Option DeclNo) (d : DeclNo) (more : List DeclNo) → Among d more → Among d (of_option o more)
@@ -69,6 +105,17 @@ segments_more s [] d more a = a
 segments_more s (x ∷ as_) d more a = named_more s x.names d (arrays_in_segments s as_ more) (segments_more s as_ d more a)
 
 module _ (s : Source) (of : TablesOf s) (plain : Plain s.program) (order : InOrder s.program) where
+  -- the row of what a block or a class declares itself has its token
+  pub declared_for : (k : ℕ) (y : Identifier) (e : Entry) (q : RowFor (declared_by s.program) k y e) → declared_at s y.token.0 ≡ Some (record { 0 = q.number })
+  declared_for k y e q =
+      let d : DeclNo = record { 0 = q.number } in
+      let n = (t.completed_tables s of plain order).rows.stays q.number q.row q.at in
+      let own : OwnEntry e = q.own in
+      let like : Alike e n.0.entry = alike_new q.row.entry n.0.entry n.2.entry e (subst (Alike e) (sym q.entry) (alike_itself e own)) in
+      let w = t.text_of_row s of plain order q.number n.0 n.1 in
+      let shown : n.0.listed ≡ true = listed_own (Bs s of plain order) (Ts s of plain order) w.0 q.number n.0 e own like w.2 in
+      ap (λ (z : TokenNo). declared_at s z.0) (sym (n.2.token ∙ q.token)) ∙ token_declared s of plain order d n.0 n.1 (shown, no_attribute e n.0.entry own like)
+
   -- what a block or a class declares itself has a row at its token
   pub row_for : (k : ℕ) (x : Text) → text s k ≡ Some x → (y : Identifier) (e : Entry) → Has (Declares y e) (own_marks (declared_in_text x))
       → (d : DeclNo) × (declared_at s y.token.0 ≡ Some d) × ((f : Entry) × (entry_of s.tables d ≡ Some f) × Alike e f) × Among d (numbers_of s k)
@@ -81,11 +128,14 @@ module _ (s : Source) (of : TablesOf s) (plain : Plain s.program) (order : InOrd
       go (inl q) =
           let d : DeclNo = record { 0 = q.number } in
           let n = (t.completed_tables s of plain order).rows.stays q.number q.row q.at in
-          let own : OwnEntry e = q.own in (
+          let own : OwnEntry e = q.own in
+          let like : Alike e n.0.entry = alike_new q.row.entry n.0.entry n.2.entry e (subst (Alike e) (sym q.entry) (alike_itself e own)) in
+          let w = t.text_of_row s of plain order q.number n.0 n.1 in
+          let shown : n.0.listed ≡ true = listed_own (Bs s of plain order) (Ts s of plain order) w.0 q.number n.0 e own like w.2 in (
             d,
-            ap (λ (z : TokenNo). declared_at s z.0) (sym (n.2.token ∙ q.token)) ∙ token_declared s of plain order d n.0 n.1,
-            (n.0.entry, t.row_entry s of plain order d n.0 n.1, alike_new q.row.entry n.0.entry n.2.entry e (subst (Alike e) (sym q.entry) (alike_itself e own))),
-            subst (λ z. Among d (numbers_of s z)) (n.2.block ∙ q.block) (t.listed s of plain order d n.0 n.1),
+            declared_for k y e q,
+            (n.0.entry, t.row_entry s of plain order d n.0 n.1, like),
+            subst (λ z. Among d (numbers_of s z)) (n.2.block ∙ q.block) (t.listed s of plain order d n.0 n.1 shown),
           )
 
   module _ (k : ℕ) (x : Text) (at : text s k ≡ Some x) where
@@ -177,11 +227,12 @@ module _ (s : Source) (of : TablesOf s) (plain : Plain s.program) (order : InOrd
         go : (row : Declaration) → slice_get s.tables.declarations d.0 ≡ Some row → row.entry ≡ entry.Array ty n → (y : Text) → y ≡ x → RowIn (Bs s of plain order) (Ts s of plain order) y d.0 row → Among d (arrays_of_block s (declared_in_text x))
         go row e f y z (procedure_row u p) = absurd (subst (Alike (entry.Procedure (result_named p.result) p.number)) f p.entry)
         go row e f y z (class_row u p) = absurd (let g : entry.Class p.number ≡ entry.Array ty n = sym p.entry ∙ f in cc)
-        go row e f y z (formal_row u p) = absurd (subst Parametric f p)
+        go row e f y z (formal_row u p l) = absurd (subst Parametric f p)
+        go row e f y z (attribute_row u p) = absurd (let g : entry.Attribute p.name (typed_or_none (Some p.first) (parameter_of p.name)) (typed_or_none (Some p.first) (result_of p.name)) ≡ entry.Array ty n = sym p.entry ∙ f in cc)
         go row e f y z (own_row u p) =
             let q = array_like p.entry ty n p.fits (subst (Alike p.entry) f p.alike) in
             subst (λ v. Among d (arrays_of_block s (declared_in_text v))) z
-            (made_from (declared_in_text y) p.name q.0 q.1 d (subst (λ v. Has (Declares p.name v) (own_marks (declared_in_text y))) q.2 p.mark) (ap (λ (z : TokenNo). declared_at s z.0) p.token ∙ token_declared s of plain order d row e))
+            (made_from (declared_in_text y) p.name q.0 q.1 d (subst (λ v. Has (Declares p.name v) (own_marks (declared_in_text y))) q.2 p.mark) (ap (λ (z : TokenNo). declared_at s z.0) p.token ∙ token_declared s of plain order d row e (p.listed, ap is_attribute f)))
 
     -- each array that is declared in the block is one of its tables
     own_named : (type : TypeName) (n : ℕ) (xs : List Identifier) (d : DeclNo) (more : List DeclNo) → ((m : Mark) → Has m (each (own_array type n) xs) → Has m (own_marks (declared_in_text x))) → Among d (arrays_named s xs more) → Among d (numbers_of s k) ⊎ Among d more

@@ -33,7 +33,7 @@ use Rattle.sim_sound.specs.Held.{Among, Holds, IsOfKind, Simply, first, held_by,
 use Rattle.sim_sound.specs.Typed.{ArrayIs, ArraysAre, Distinct, arrays_in_segments, arrays_named, arrays_of_block, of_option}
 use Rattle.sim_agree.specs.Plain.{Plain}
 use Rattle.sim_agree.specs.TablesOf.{TablesOf}
-use Rattle.sim_agree.proofs.ArrayNames.{has_left, has_right, named_more, option_among, row_for, segments_more}
+use Rattle.sim_agree.proofs.ArrayNames.{declared_for, has_left, has_right, named_more, option_among, row_for, segments_more}
 use Rattle.sim_agree.proofs.Clean.{OwedAt, RowFor, WrittenFor}
 use Rattle.sim_agree.proofs.Completing.{Retyped}
 use Rattle.sim_agree.proofs.Fine.{Alike}
@@ -41,7 +41,6 @@ use Rattle.sim_agree.proofs.Groups.{ArrayWritten, Has, NamedAmong, NamedIn, OfRe
 use Rattle.sim_agree.proofs.Qualified as q
 use Rattle.sim_agree.proofs.Tables as tables
 use Rattle.sim_agree.proofs.TextOrder.{distinct, distinct_class, distinct_prefixed}
-use Rattle.sim_agree.proofs.Tokens.{token_declared}
 
 -- ---- what arrays hold by the type that is written
 
@@ -204,7 +203,7 @@ module _ (s : Source) (of : TablesOf s) (plain : Plain s.program) (order : InOrd
     now = (tables.completed_tables s of plain order).rows.stays p.number p.row p.at
 
     declared : declared_at s y.token.0 ≡ Some number
-    declared = ap (λ (z : TokenNo). declared_at s z.0) (sym (now.2.token ∙ p.token)) ∙ token_declared s of plain order number now.0 now.1
+    declared = declared_for s of plain order k y (entry.Array t.NoneType n) p
 
     covered : (i : ℕ) × (z : Qualification) × (slice_get (declared_by s.program).tables.qualifications i ≡ Some z) × (z.declaration.0 ≡ p.number)
     covered = tables.program_covered s.program plain of.unbroken p.number p.row p.at (subst OfReferences (sym p.entry) tt)

@@ -1,5 +1,5 @@
 -- The prefix of each prefixed block of an allowed plain program is a declared class, whose parameters are those of the block.
-use Rattle.std.proofs.Common.{◌≡◌, ℕ, zero, suc, Bool, true, false, List, [], ◌∷◌, ◌++◌, ◌+◌, length, map, Option, Some, None, refl, sym, ap, ◌∙◌, subst, append-nil}
+use Rattle.std.proofs.Common.{◌≡◌, ◌⊎◌, inl, inr, ℕ, zero, suc, Bool, true, false, List, [], ◌∷◌, ◌++◌, ◌+◌, length, map, Option, Some, None, refl, sym, ap, ◌∙◌, subst, append-nil}
 use Rattle.std.specs.Prelude.{◌||◌, not, slice_get}
 use Rattle.sim_base.specs.declared.numbering.DeclNo.{DeclNo}
 use Rattle.sim_tree.specs.declared.expr.Identifier.{Identifier}
@@ -12,11 +12,14 @@ use Rattle.sim_scope.specs.declared.types.BlockKind.{BlockKind}
 use Rattle.sim_scope.specs.declared.types.BlockKind.TheVariants as kind
 use Rattle.sim_scope.specs.declared.standard.StandardName.TheVariants as standard
 use Rattle.sim_scope.specs.declared.types.StandardClass.{StandardClass}
+use Rattle.sim_scope.specs.declared.types.Entry.TheVariants as entry
 use Rattle.sim_scope.specs.declared.types.StandardPrefix.{StandardPrefix}
+use Rattle.sim_scope.specs.declared.types.StandardPrefix.TheVariants as prefix
 use Rattle.sim_scope.specs.Bodies.{Around, Body, arms_bodies, block_bodies, bodies_of, classes_declared, declaration_bodies, declarations_bodies, prefix_bodies, program_bodies, standard_bodies, standard_body, statement_bodies, statements_bodies}
 use Rattle.sim_scope.specs.Declare.{declared_by}
 use Rattle.sim_scope.specs.Laws.{Shape, outline, shape_of}
-use Rattle.sim_scope.specs.Levels.{base, base_in, owner_of_level}
+use Rattle.sim_scope.specs.Access.{around, encloser}
+use Rattle.sim_scope.specs.Levels.{base, base_in, owner_in, owner_of_level, standard_in}
 use Rattle.sim_scope.specs.Scopes.{class_formals, class_formals_of, entry_of, formals_at, formals_beyond, formals_in}
 use Rattle.sim_scope.specs.Source.{Source}
 use Rattle.sim_scope.specs.Standard.{standard_prefix}
@@ -28,10 +31,10 @@ use Rattle.sim_meaning.specs.Attributes.{is_connection}
 use Rattle.sim_meaning.specs.Closing as closing
 use Rattle.sim_meaning.specs.Entries.{numbers_of}
 use Rattle.sim_meaning.specs.Levels.{is_class}
-use Rattle.sim_meaning.specs.Texts.{ClassText, PrefixedText, text}
+use Rattle.sim_meaning.specs.Texts.{BlockText, ClassText, ConnectionText, PrefixedText, ProcedureText, StandardText, Text, program_texts, text}
 use Rattle.sim_sound.specs.Held.{Among, first, later}
-use Rattle.sim_sound.specs.Typed.{Ends, NoFormal, NoFormals, outermost, prefixed as prefixed_by}
-use Rattle.sim_agree.specs.Facts.{BlockPrefix}
+use Rattle.sim_sound.specs.Typed.{Ends, NoFormal, NoFormals, Starts, as_block, as_prefixed, outermost, prefixed as prefixed_by}
+use Rattle.sim_agree.specs.Facts.{BlockPrefix, SetPrefix}
 use Rattle.sim_agree.specs.Plain.{Plain}
 use Rattle.sim_agree.specs.TablesOf.{TablesOf}
 use Rattle.sim_agree.proofs.Chains as c
@@ -41,11 +44,14 @@ use Rattle.sim_agree.proofs.Fine.{KindIs}
 use Rattle.sim_agree.proofs.Headings as h
 use Rattle.sim_agree.proofs.Qualified.{no_least}
 use Rattle.sim_agree.proofs.Tables as t
-use Rattle.sim_agree.proofs.Unprefixed.{Extras, extras_in, no_extras}
+use Rattle.sim_agree.proofs.Owned.{OwnerIs}
+use Rattle.sim_agree.proofs.PlainNames.{SetsOrNone}
+use Rattle.sim_agree.proofs.Prefixing.{HomeFrom, PrefixOf}
+use Rattle.sim_agree.proofs.SetBlocks.{set_base}
 
 -- ---- each body of the kind has a prefix
 
-abbrev HasPrefix : BlockKind → Option Identifier → Type 0
+abbrev pub HasPrefix : BlockKind → Option Identifier → Type 0
 HasPrefix kind.Prefixed None = ⊥
 HasPrefix _ _ = Unit {0}
 
@@ -149,6 +155,15 @@ formals_same T n k b (prefixed_by {n = m} {b = d} e ends) is none =
     ap (λ o. formals_beyond (λ b. class_formals_of T m b) o ++ formals_at T (Some k)) is ∙ ap (λ z. class_formals_of T m b ++ z) none ∙ append-nil (class_formals_of T m b)
     ∙ sym (formals_more T m b (subst (Ends T m) same ends))
 
+-- what has no parameters of its own, and no level in front of it, has none
+formals_none : (T : Tables) (k : ℕ) → base T k ≡ None → formals_at T (Some k) ≡ [] → class_formals T k ≡ []
+unfolding class_formals class_formals_of
+formals_none T k none own = go (length T.blocks)
+  where
+    go : (n : ℕ) → class_formals_of T n k ≡ []
+    go zero = refl
+    go (suc n) = ap (λ o. formals_beyond (λ b. class_formals_of T n b) o ++ formals_at T (Some k)) none ∙ own
+
 some_same : {A : Type 0} (a b : A) → Some a ≡ Some b → a ≡ b
 some_same a b e = cc
 
@@ -163,7 +178,7 @@ module _ (s : Source) (of : TablesOf s) (plain : Plain s.program) (order : InOrd
     other = ap is_connection is
 
     -- its block, as it was declared
-    declared_row : (row : BlockOf) × (slice_get (declared_by s.program).tables.blocks k ≡ Some row) × (row.kind ≡ kind.Prefixed)
+    pub declared_row : (row : BlockOf) × (slice_get (declared_by s.program).tables.blocks k ≡ Some row) × (row.kind ≡ kind.Prefixed)
     unfolding text
     declared_row = go (slice_get (declared_by s.program).tables.blocks k) refl (subst (λ o. KindIs (slice_get (declared_by s.program).tables.blocks k) o) is ((t.program_agrees s.program plain).fine.kinds k))
       where
@@ -171,16 +186,19 @@ module _ (s : Source) (of : TablesOf s) (plain : Plain s.program) (order : InOrd
         go None at q = absurd q
         go (Some row) at q = (row, refl, q)
 
-    has_prefix : HasPrefix kind.Prefixed (declared_row.0).prefix
+    pub has_prefix : HasPrefix kind.Prefixed (declared_row.0).prefix
     unfolding program_bodies
     has_prefix =
         subst (λ z. HasPrefix z (declared_row.0).prefix) declared_row.2
         (block_has (declared_by s.program).tables.blocks (bodies_of s.program.prefix s.program.block) k declared_row.0 (blocks_are_bodies s.program) (program_have s.program.prefix s.program.block) declared_row.1)
 
     -- its prefix is known, since no rule on prefixes is broken
-    known_base : (row : BlockOf) → slice_get T.blocks k ≡ Some row → (o : Option Identifier) → row.prefix ≡ o → HasPrefix kind.Prefixed o → row.standard ≡ None → (b : ℕ) × (row.base ≡ Some b)
-    known_base row at None e has none = absurd has
-    known_base row at (Some x) e has none = go row.base refl (known (is_known row) _ (sym (ap (breaks_prefix T row) e) ∙ prefix_known T (no_least (prefix_faults T) of.prefixes) k row at))
+    abbrev KnownIn : BlockOf → Type 0
+    KnownIn row = ((b : ℕ) × (row.base ≡ Some b)) ⊎ ((row.base ≡ None) × ((which : StandardPrefix) × (row.standard ≡ Some which)))
+
+    known_base : (row : BlockOf) → slice_get T.blocks k ≡ Some row → (o : Option Identifier) → row.prefix ≡ o → HasPrefix kind.Prefixed o → KnownIn row
+    known_base row at None e has = absurd has
+    known_base row at (Some x) e has = go row.base row.standard refl refl (known (is_known row) _ (sym (ap (breaks_prefix T row) e) ∙ prefix_known T (no_least (prefix_faults T) of.prefixes) k row at))
       where
         known : (a b : Bool) → (not a || b) ≡ false → a ≡ true
         known true b f = refl
@@ -192,43 +210,36 @@ module _ (s : Source) (of : TablesOf s) (plain : Plain s.program) (order : InOrd
         base_known : Option ℕ → Option StandardPrefix → Bool
         base_known o p = elim o [ Some b ↦ true | None ↦ standard_known p ]
 
-        go : (o : Option ℕ) → row.base ≡ o → is_known row ≡ true → (b : ℕ) × (o ≡ Some b)
-        go (Some b) f g = (b, refl)
-        go None f g = absurd (let q : base_known None None ≡ true = sym (ap (λ o. base_known o row.standard) f ∙ ap (base_known None) none) ∙ g in let z : false ≡ true = q in cc)
+        go : (o : Option ℕ) (p : Option StandardPrefix) → row.base ≡ o → row.standard ≡ p → is_known row ≡ true → KnownIn row
+        go (Some b) p e f g = inl (b, e)
+        go None (Some which) e f g = inr (e, (which, f))
+        go None None e f g = absurd (let q : base_known None None ≡ true = sym (ap (λ o. base_known o row.standard) e ∙ ap (base_known None) f) ∙ g in let z : false ≡ true = q in cc)
 
-    based : (b : ℕ) × (base s.tables k ≡ Some b)
+    abbrev KnownHere : Type 0
+    KnownHere = ((b : ℕ) × (base s.tables k ≡ Some b)) ⊎ ((base s.tables k ≡ None) × (standard_in (slice_get s.tables.blocks k) ≡ Some prefix.Simset))
+
+    known_here : KnownHere
     unfolding base
-    based = go (slice_get T.blocks k) refl
+    known_here = go (slice_get T.blocks k) refl
       where
-        go : (o : Option BlockOf) → slice_get T.blocks k ≡ o → (b : ℕ) × (base_in (slice_get s.tables.blocks k) ≡ Some b)
-        go None at = absurd (let f : None ≡ Some (record declared_row.0 { base = None }) = sym (ap bare_row at) ∙ (t.P s of plain order).blocks k ∙ ap bare_row declared_row.1 in cc)
+        set_only : (row : BlockOf) (which : StandardPrefix) → SetsOrNone row.standard → row.standard ≡ Some which → row.standard ≡ Some prefix.Simset
+        set_only row which (inl e) f = absurd (let z : None ≡ Some which = sym e ∙ f in cc)
+        set_only row which (inr e) f = e
+
+        from_row : (row : BlockOf) → slice_get T.blocks k ≡ Some row → KnownIn row → KnownHere
+        from_row row at (inl q) = inl (q.0, t.own_base_of s of plain order k other ∙ ap base_in at ∙ q.1)
+        from_row row at (inr q) =
+            inr (
+              t.own_base_of s of plain order k other ∙ ap base_in at ∙ q.0,
+              (t.completed_tables s of plain order).standards k ∙ ap standard_in at ∙ set_only row q.1.0 (subst (λ o. SetsOrNone (standard_in o)) at ((t.P s of plain order).standards k)) q.1.1,
+            )
+
+        go : (o : Option BlockOf) → slice_get T.blocks k ≡ o → KnownHere
+        go None at = absurd (let f : None ≡ Some (record declared_row.0 { base = None; standard = None }) = sym (ap bare_row at) ∙ (t.P s of plain order).blocks k ∙ ap bare_row declared_row.1 in cc)
         go (Some row) at =
-            let same : record row { base = None } ≡ record declared_row.0 { base = None } = some_same (record row { base = None }) (record declared_row.0 { base = None }) (sym (ap bare_row at) ∙ (t.P s of plain order).blocks k ∙ ap bare_row declared_row.1) in
+            let same : record row { base = None; standard = None } ≡ record declared_row.0 { base = None; standard = None } = some_same (record row { base = None; standard = None }) (record declared_row.0 { base = None; standard = None }) (sym (ap bare_row at) ∙ (t.P s of plain order).blocks k ∙ ap bare_row declared_row.1) in
             let written : row.prefix ≡ (declared_row.0).prefix = ap (λ (z : BlockOf). z.prefix) same in
-            let standard : row.standard ≡ None = ap (λ (z : BlockOf). z.standard) same ∙ ap (λ (z : Extras). z.standard) (sym (ap extras_in declared_row.1) ∙ (t.program_agrees s.program plain).fine.bare.blocks k) in
-            let b = known_base row at (declared_row.0).prefix written has_prefix standard in
-            (b.0, t.own_base s of plain order k other ∙ ap base_in at ∙ b.1)
-
-    -- the prefix is a class, which belongs to its declaration
-    owned : (d : DeclNo) × (owner_of_level s.tables (Some based.0) ≡ Some d)
-    unfolding text
-    owned =
-        let class = t.connects s of plain order k based.0 based.1 in
-        let q = t.program_owned s.program plain of.unbroken based.0 (ClassText class.0 class.1 class.2 class.3) class.4 in
-        (q.0, h.owner_at s of plain order based.0 q.0 (t.same_owner s of plain order based.0 ∙ q.2))
-
-    denoted : prefix_in s.tables (slice_get s.tables.blocks k) ≡ Some (denotation.Declared owned.0)
-    unfolding base
-    denoted = go (slice_get s.tables.blocks k) refl ((t.unprefixed s of plain order).blocks k) based.1
-      where
-        no_standard : (p : Option StandardPrefix) (o : Option Denotation) → p ≡ None → (elim p [ None ↦ o | Some which ↦ Some (denotation.Standard (standard.Prefix which)) ]) ≡ o
-        no_standard None o e = refl
-        no_standard (Some which) o e = absurd (cc)
-
-        go : (o : Option BlockOf) → slice_get s.tables.blocks k ≡ o → extras_in o ≡ no_extras → base_in o ≡ Some based.0 → prefix_in s.tables o ≡ Some (denotation.Declared owned.0)
-        go None at e f = absurd (cc)
-        go (Some row) at e f =
-            no_standard row.standard (class_denoted (owner_of_level s.tables row.base)) (ap (λ (z : Extras). z.standard) e) ∙ ap (λ o. class_denoted (owner_of_level s.tables o)) f ∙ ap class_denoted owned.1
+            from_row row at (known_base row at (declared_row.0).prefix written has_prefix)
 
     -- the block itself has no parameters
     no_parameters : formals_at s.tables (Some k) ≡ []
@@ -246,13 +257,112 @@ module _ (s : Source) (of : TablesOf s) (plain : Plain s.program) (order : InOrd
             none_of (x ∷ xs) d n (later a) = none_of xs d n.1 a
             none_of [] d n a = elim a [ ]
 
-    pub block_prefix : BlockPrefix s k
-    unfolding class_formals
-    block_prefix =
-        let class = t.connects s of plain order k based.0 based.1 in record {
-          declaration = owned.0;
-          class = record { block = based.0; declares = c.owners s of plain order based.0 owned.0 (ap is_class class.4) owned.1; is = ap is_class class.4; owned = owned.1 };
-          based = based.1;
-          denoted = denoted;
-          parameters = ap (closing.formals_from s) (formals_same s.tables (length s.tables.blocks) k based.0 (c.ends s of plain order k other) based.1 no_parameters);
-        }
+    -- it gives no level
+    module _ (none : base s.tables k ≡ None) (is_set : standard_in (slice_get s.tables.blocks k) ≡ Some prefix.Simset) where
+      set_denoted : prefix_in s.tables (slice_get s.tables.blocks k) ≡ Some (denotation.Standard (standard.Prefix prefix.Simset))
+      set_denoted = go (slice_get s.tables.blocks k) is_set
+        where
+          chosen : (p : Option StandardPrefix) (o : Option Denotation) → p ≡ Some prefix.Simset → (elim p [ None ↦ o | Some which ↦ Some (denotation.Standard (standard.Prefix which)) ]) ≡ Some (denotation.Standard (standard.Prefix prefix.Simset))
+          chosen None o e = absurd (cc)
+          chosen (Some which) o e = (let same : which ≡ prefix.Simset = cc in ap (λ z. Some (denotation.Standard (standard.Prefix z))) same)
+
+          go : (o : Option BlockOf) → standard_in o ≡ Some prefix.Simset → prefix_in s.tables o ≡ Some (denotation.Standard (standard.Prefix prefix.Simset))
+          go None e = absurd (cc)
+          go (Some row) e = chosen row.standard (class_denoted (owner_of_level s.tables row.base)) e
+
+      set_prefix : SetPrefix s k
+      set_prefix = record { based = none; denoted = set_denoted; parameters = formals_none s.tables k none no_parameters }
+
+    -- or it is a class, which belongs to its declaration
+    module _ (b : ℕ) (based : base s.tables k ≡ Some b) where
+      owned : (d : DeclNo) × (owner_of_level s.tables (Some b) ≡ Some d)
+      unfolding text
+      owned = go (slice_get (program_texts s.program.prefix s.program.block) b) refl (t.connects s of plain order k b based)
+        where
+          of_class : OwnerIs (declared_by s.program) (owner_in (slice_get (declared_by s.program).tables.blocks b)) (entry.Class b) → (d : DeclNo) × (owner_of_level s.tables (Some b) ≡ Some d)
+          of_class q = (q.0, h.owner_at s of plain order b q.0 (t.same_owner s of plain order b ∙ q.2))
+
+          go : (o : Option Text) → slice_get (program_texts s.program.prefix s.program.block) b ≡ o → is_class o ≡ true → (d : DeclNo) × (owner_of_level s.tables (Some b) ≡ Some d)
+          go None at e = absurd (cc)
+          go (Some (BlockText i ds ss)) at e = absurd (cc)
+          go (Some (ProcedureText result h a)) at e = absurd (cc)
+          go (Some ConnectionText) at e = absurd (cc)
+          go (Some (PrefixedText class es ds ss)) at e = absurd (cc)
+          go (Some (ClassText prefix h ds ss)) at e = of_class (t.program_owned s.program plain of.unbroken b (ClassText prefix h ds ss) at)
+          go (Some (StandardText which)) at e = of_class (t.program_owned s.program plain of.unbroken b (StandardText which) at)
+
+      apart : standard_in (slice_get s.tables.blocks k) ≡ None
+      apart = (t.completed_tables s of plain order).standards k ∙ (t.P s of plain order).apart k b (sym (t.own_base_of s of plain order k other) ∙ based)
+
+      denoted : prefix_in s.tables (slice_get s.tables.blocks k) ≡ Some (denotation.Declared owned.0)
+      unfolding base
+      denoted = go (slice_get s.tables.blocks k) apart based
+        where
+          no_standard : (p : Option StandardPrefix) (o : Option Denotation) → p ≡ None → (elim p [ None ↦ o | Some which ↦ Some (denotation.Standard (standard.Prefix which)) ]) ≡ o
+          no_standard None o e = refl
+          no_standard (Some which) o e = absurd (cc)
+
+          go : (o : Option BlockOf) → standard_in o ≡ None → base_in o ≡ Some b → prefix_in s.tables o ≡ Some (denotation.Declared owned.0)
+          go None e f = absurd (cc)
+          go (Some row) e f =
+              no_standard row.standard (class_denoted (owner_of_level s.tables row.base)) e ∙ ap (λ o. class_denoted (owner_of_level s.tables o)) f ∙ ap class_denoted owned.1
+
+      class_prefix : BlockPrefix s k
+      unfolding class_formals
+      class_prefix =
+          let class = t.connects s of plain order k b based in record {
+            declaration = owned.0;
+            class = record { block = b; declares = c.owners s of plain order b owned.0 class owned.1; is = class; owned = owned.1 };
+            based = based;
+            denoted = denoted;
+            parameters = ap (closing.formals_from s) (formals_same s.tables (length s.tables.blocks) k b (c.ends s of plain order k other) based no_parameters);
+          }
+
+    pub block_prefix : BlockPrefix s k ⊎ SetPrefix s k
+    block_prefix = go known_here
+      where
+        go : KnownHere → BlockPrefix s k ⊎ SetPrefix s k
+        go (inl q) = inl (class_prefix q.0 q.1)
+        go (inr q) = inr (set_prefix q.0 q.1)
+
+  -- nothing is around the program's block, so no class is its prefix
+  none_first : (class : Identifier) (es : Expressions) (ds : Declarations) (ss : Statements) → text s 0 ≡ Some (PrefixedText class es ds ss) → base s.tables 0 ≡ None
+  unfolding text encloser base
+  none_first class es ds ss is = go (base s.tables 0) refl
+    where
+      outermost_row : (row : BlockOf) → slice_get (declared_by s.program).tables.blocks 0 ≡ Some row → row.encloser ≡ None
+      outermost_row row at = sym (ap around at) ∙ sym (t.same_around s of plain order 0) ∙ t.outermost s of plain order
+
+      no_home : (o : Option ℕ) (outer : ℕ) → o ≡ None → HomeFrom (declared_by s.program).tables o outer → ⊥
+      no_home None outer e q = elim q [ ]
+      no_home (Some u) outer e q = absurd (cc)
+
+      from_prefix : (b : ℕ) → PrefixOf (declared_by s.program).tables s.tables 0 b ⊎ (base (declared_by s.program).tables 0 ≡ Some b) → ⊥
+      from_prefix b (inl p) = no_home p.row.encloser p.outer (outermost_row p.row p.at) p.around
+      from_prefix b (inr was) =
+          let q = set_base (declared_by s.program) (program_texts s.program.prefix s.program.block) [] (t.program_agrees s.program plain).fine 0 b was in
+          let z : Some (PrefixedText class es ds ss) ≡ Some (StandardText q.2.which) = sym is ∙ q.2.text in cc
+
+      go : (o : Option ℕ) → base s.tables 0 ≡ o → base s.tables 0 ≡ None
+      go None e = e
+      go (Some b) e = absurd (from_prefix b (t.prefix_is s of plain order 0 b (ap is_connection is) e))
+
+  abbrev BlockFirst : Option Text → Type 0
+  BlockFirst o = (i : ℕ) × (ds : Declarations) × (ss : Statements) × (o ≡ Some (BlockText i ds ss))
+
+  abbrev PrefixedFirst : Option Text → Type 0
+  PrefixedFirst o = (class : Identifier) × (es : Expressions) × (ds : Declarations) × (ss : Statements) × (o ≡ Some (PrefixedText class es ds ss))
+
+  first_is : (prefix : Option Prefix) (b : Block) → BlockFirst (slice_get (program_texts prefix b) 0) ⊎ PrefixedFirst (slice_get (program_texts prefix b) 0)
+  first_is None (Begin i ds ss end) = inl (i, ds, ss, refl)
+  first_is (Some p) (Begin i ds ss end) = inr (p.class, p.arguments, ds, ss, refl)
+
+  pub starts : Starts s
+  unfolding text
+  starts = go (first_is s.program.prefix s.program.block)
+    where
+      go : BlockFirst (text s 0) ⊎ PrefixedFirst (text s 0) → Starts s
+      go (inl q) = as_block q.3
+      go (inr q) =
+          let none = none_first q.0 q.1 q.2 q.3 q.4 in
+          as_prefixed q.4 none (formals_none s.tables 0 none (no_parameters 0 q.0 q.1 q.2 q.3 q.4))

@@ -1,6 +1,6 @@
 -- The prefixes of the classes of an allowed plain program: each chain comes to an end, and what is around a class is, or has for a prefix, what is
 -- around its prefix.
-use Rattle.std.proofs.Common.{◌≡◌, ◌<◌, ◌≤◌, ◌+◌, ℕ, zero, suc, Bool, true, false, List, [], ◌∷◌, ◌++◌, length, Option, Some, None, refl, sym, ap, ◌∙◌, subst, arith}
+use Rattle.std.proofs.Common.{◌≡◌, ◌<◌, ◌≤◌, ◌+◌, ◌⊎◌, inl, inr, ℕ, zero, suc, Bool, true, false, List, [], ◌∷◌, ◌++◌, length, Option, Some, None, refl, sym, ap, ◌∙◌, subst, arith}
 use Rattle.std.specs.Prelude.{◌||◌, nat_eq, slice_get}
 use Rattle.std.specs.List.{AllByRecursion, IsDistinct, list_any}
 use Rattle.std.proofs.lemmas.Bool.Decides.{nat_tests}
@@ -9,38 +9,42 @@ use Rattle.std.proofs.lemmas.Option.{slice_get_within}
 use Rattle.sim_base.specs.declared.numbering.DeclNo.{DeclNo}
 use Rattle.sim_base.specs.declared.rule.Rule.{Rule}
 use Rattle.sim_base.specs.declared.rule.Rule.TheVariants as r
-use Rattle.sim_tree.specs.declared.expr.Identifier.{Identifier}
 use Rattle.sim_tree.specs.Order.{InOrder}
-use Rattle.sim_tree.specs.Syntax.{Declarations, Heading, Statements}
 use Rattle.sim_scope.specs.declared.found.Fault.{Fault}
 use Rattle.sim_scope.specs.declared.scopes.Declaration.{Declaration}
 use Rattle.sim_scope.specs.declared.types.Entry.TheVariants as entry
+use Rattle.sim_scope.specs.declared.types.StandardClass.TheVariants as standard
 use Rattle.sim_scope.specs.Access.{around, encloser, is_connection as is_connection_kind, is_kind, is_so}
 use Rattle.sim_scope.specs.Declare.{declared_by}
 use Rattle.sim_scope.specs.Levels.{base, base_in, has_level, holds, some_level_of, owner_of_level}
 use Rattle.sim_scope.specs.Runs.{each}
-use Rattle.sim_scope.specs.Scopes.{declared_in, lookup, numbered, entry_of}
+use Rattle.sim_scope.specs.Scopes.{entry_of}
 use Rattle.sim_scope.specs.Source.{Source}
 use Rattle.sim_scope.specs.Tables.{BlockOf, Tables}
 use Rattle.prefix_bind.specs.Prefixes.{block_faults, breaks_prefix, faults_of, is_in_own_chain, numbers_to, prefix_faults, prefix_token, prefixed, row_faults, where_true}
 use Rattle.prefix_bind.proofs.Numbers.{each-append}
 use Rattle.sim_meaning.specs.Attributes.{is_connection}
-use Rattle.sim_meaning.specs.Entries.{numbers_in, numbers_of}
-use Rattle.sim_meaning.specs.Levels.{is_class}
+use Rattle.sim_meaning.specs.Entries.{numbers_of}
+use Rattle.sim_meaning.specs.Levels.{has_levels, is_class}
 use Rattle.sim_meaning.specs.Texts.{BlockText, ClassText, ConnectionText, PrefixedText, ProcedureText, StandardText, Text, text, program_texts}
-use Rattle.sim_sound.specs.Held.{Among, first, later}
+use Rattle.sim_sound.specs.Held.{Among}
 use Rattle.sim_sound.specs.Typed as typed
 use Rattle.sim_sound.specs.Typed.{Ends, PrefixTyped, Prefixes, outermost, prefixed as prefixed_by, Home}
 use Rattle.sim_agree.specs.Plain.{Plain}
 use Rattle.sim_agree.specs.TablesOf.{TablesOf}
-use Rattle.sim_agree.proofs.Fine.{KindIs}
-use Rattle.sim_agree.proofs.Completing.{bare_row, kind_in}
+use Rattle.sim_agree.proofs.ClassRows.{no_class_connection}
+use Rattle.sim_agree.proofs.Completing.{bare_row, kind_in, prefixable_base}
+use Rattle.sim_agree.proofs.Fine.{Fine, InGroup, owner_in}
+use Rattle.sim_agree.proofs.Groups.{Prefixing}
+use Rattle.sim_agree.proofs.Owned.{OwnerIs}
+use Rattle.sim_agree.proofs.SetBlocks.{SetBase, set_base}
+use Rattle.sim_scope.specs.Building.{place_of}
 use Rattle.sim_agree.proofs.Headings as headings
 use Rattle.sim_agree.proofs.Insides as i
 use Rattle.sim_agree.proofs.Prefixing.{PrefixOf, Reaches, itself, through, HomeFrom, connected, stands}
 use Rattle.sim_agree.proofs.Qualified.{no_least}
 use Rattle.sim_agree.proofs.Tables as t
-use Rattle.sim_agree.proofs.Tables.{class_new}
+use Rattle.sim_agree.proofs.Retypes.{class_new}
 
 -- so many levels lead from one block to another
 data Path (T : Tables) : (steps from to : ℕ) → Type 0 where
@@ -216,17 +220,24 @@ module _ (s : Source) (of : TablesOf s) (plain : Plain s.program) (order : InOrd
   free k = own_free (prefixed (declared_by s.program).tables) (no_least (prefix_faults (prefixed (declared_by s.program).tables)) of.prefixes) k
 
   below : (k b : ℕ) → base (prefixed (declared_by s.program).tables) k ≡ Some b → b < length (prefixed (declared_by s.program).tables).blocks
-  below k b e =
-      let p = (t.P s of plain order).bases k b e in
-      let c = t.class_at s.program plain p.class b p.declares in
-      let size : length (prefixed (declared_by s.program).tables).blocks ≡ length (declared_by s.program).tables.blocks = (t.P s of plain order).size in
-      let lt : b < length (declared_by s.program).tables.blocks = within (slice_get (declared_by s.program).tables.blocks b) refl c.2 in omega arith
+  unfolding base
+  below k b e = let size : length (prefixed (declared_by s.program).tables).blocks ≡ length (declared_by s.program).tables.blocks = (t.P s of plain order).size in subst (λ m. b < m) (sym size) (go ((t.P s of plain order).bases k b e))
     where
       within : {u : ℕ} (o : Option BlockOf) → slice_get (declared_by s.program).tables.blocks b ≡ o → around o ≡ Some u → b < length (declared_by s.program).tables.blocks
       within None at f = absurd (cc)
       within (Some row) at f = slice_get_within (declared_by s.program).tables.blocks b row at
 
-  sizes : length s.tables.blocks ≡ length (prefixed (declared_by s.program).tables).blocks
+      below_set : (n which m c : ℕ) → m ≡ n + 1 + which → c ≡ n + 1 → m < length (declared_by s.program).tables.blocks → c < length (declared_by s.program).tables.blocks
+      below_set n which m c place at lt = omega (arith, lt, place, at)
+
+      go : PrefixOf (declared_by s.program).tables (prefixed (declared_by s.program).tables) k b ⊎ (base (declared_by s.program).tables k ≡ Some b) → b < length (declared_by s.program).tables.blocks
+      go (inl p) = let c = t.class_at s.program plain p.class b p.declares in within (slice_get (declared_by s.program).tables.blocks b) refl c.2
+      go (inr was) =
+          let q = set_base (declared_by s.program) (program_texts s.program.prefix s.program.block) [] (t.program_agrees s.program plain).fine k b was in
+          let lt : k < length (declared_by s.program).tables.blocks = slice_get_within (declared_by s.program).tables.blocks k q.0 q.1 in
+          below_set q.2.block (place_of q.2.which) k b q.2.place q.2.base lt
+
+  pub sizes : length s.tables.blocks ≡ length (prefixed (declared_by s.program).tables).blocks
   sizes = (t.completed_tables s of plain order).size ∙ sym (t.P s of plain order).size
 
   some_length : (n : ℕ) × (length (prefixed (declared_by s.program).tables).blocks ≡ suc n)
@@ -237,10 +248,10 @@ module _ (s : Source) (of : TablesOf s) (plain : Plain s.program) (order : InOrd
       go (suc n) e = (n, e)
 
   ends_more : (n k : ℕ) → is_connection (text s k) ≡ false → Ends (prefixed (declared_by s.program).tables) n k → Ends s.tables n k
-  ends_more n k other (outermost e) = outermost (t.own_base s of plain order k other ∙ e)
+  ends_more n k other (outermost e) = outermost (t.own_base_of s of plain order k other ∙ e)
   ends_more n k other (prefixed_by {n = m} {b = b} e ends) =
       let f = t.base_stays s of plain order k b e in
-      prefixed_by f (ends_more m b (ap is_connection (t.connects s of plain order k b f).4) ends)
+      prefixed_by f (ends_more m b (no_class_connection (text s b) (t.connects s of plain order k b f)) ends)
 
   -- the levels of each block that is no connection come to an end
   pub ends : (k : ℕ) → is_connection (text s k) ≡ false → Ends s.tables (length s.tables.blocks) k
@@ -248,42 +259,24 @@ module _ (s : Source) (of : TablesOf s) (plain : Plain s.program) (order : InOrd
       ends_more (length s.tables.blocks) k other
       (subst (λ z. Ends (prefixed (declared_by s.program).tables) z k) (sym sizes) (chain_ends (prefixed (declared_by s.program).tables) below free some_length.0 some_length.1 k))
 
-  same_levels : (n : ℕ) (p : ℕ → Bool) (k : ℕ) → is_connection (text s k) ≡ false → some_level_of s.tables n p k ≡ some_level_of (prefixed (declared_by s.program).tables) n p k
+  pub same_levels : (n : ℕ) (p : ℕ → Bool) (k : ℕ) → is_connection (text s k) ≡ false → some_level_of s.tables n p k ≡ some_level_of (prefixed (declared_by s.program).tables) n p k
   unfolding some_level_of
   same_levels zero p k other = refl
-  same_levels (suc n) p k other = ap (λ z. p k || z) (go (base s.tables k) refl (λ b f. same_levels n p b f) ∙ ap (holds (λ b. some_level_of (prefixed (declared_by s.program).tables) n p b)) (t.own_base s of plain order k other))
+  same_levels (suc n) p k other = ap (λ z. p k || z) (go (base s.tables k) refl (λ b f. same_levels n p b f) ∙ ap (holds (λ b. some_level_of (prefixed (declared_by s.program).tables) n p b)) (t.own_base_of s of plain order k other))
     where
       go : (o : Option ℕ) → base s.tables k ≡ o → ((b : ℕ) → is_connection (text s b) ≡ false → some_level_of s.tables n p b ≡ some_level_of (prefixed (declared_by s.program).tables) n p b)
           → holds (λ b. some_level_of s.tables n p b) o ≡ holds (λ b. some_level_of (prefixed (declared_by s.program).tables) n p b) o
       go None e h = refl
-      go (Some b) e h = h b (ap is_connection (t.connects s of plain order k b e).4)
+      go (Some b) e h = h b (no_class_connection (text s b) (t.connects s of plain order k b e))
 
   -- no class is a level of its own prefix
   not_own : (k b : ℕ) → is_connection (text s k) ≡ false → base s.tables k ≡ Some b → has_level s.tables b k ≡ false
   unfolding has_level is_in_own_chain
   not_own k b other e =
-      same_levels (length s.tables.blocks) (λ c. nat_eq c k) b (ap is_connection (t.connects s of plain order k b e).4)
+      same_levels (length s.tables.blocks) (λ c. nat_eq c k) b (no_class_connection (text s b) (t.connects s of plain order k b e))
       ∙ ap (λ n. some_level_of (prefixed (declared_by s.program).tables) n (λ c. nat_eq c k) b) sizes
-      ∙ ap (holds (λ c. some_level_of (prefixed (declared_by s.program).tables) (length (prefixed (declared_by s.program).tables).blocks) (λ d. nat_eq d k) c)) (sym (sym (t.own_base s of plain order k other) ∙ e))
+      ∙ ap (holds (λ c. some_level_of (prefixed (declared_by s.program).tables) (length (prefixed (declared_by s.program).tables).blocks) (λ d. nat_eq d k) c)) (sym (sym (t.own_base_of s of plain order k other) ∙ e))
       ∙ free k
-
-  -- what a block of the declared tables shows is listed in it
-  listed : (name : List ℕ) (k : ℕ) (d : DeclNo) → lookup (declared_by s.program).tables k name ≡ Some d → Among d (numbers_in (slice_get (declared_by s.program).tables.blocks k))
-  unfolding lookup
-  listed name k d e = go (slice_get (declared_by s.program).tables.blocks k) e
-    where
-      at_place : (ns : List DeclNo) (n : ℕ) → slice_get ns n ≡ Some d → Among d ns
-      at_place [] n f = absurd (cc)
-      at_place (m ∷ ns) zero f = subst (λ z. Among z (m ∷ ns)) (let same : m ≡ d = cc in same) first
-      at_place (m ∷ ns) (suc n) f = later (at_place ns n f)
-
-      placed : (ns : List DeclNo) (o : Option ℕ) → numbered ns o ≡ Some d → Among d ns
-      placed ns None f = absurd (cc)
-      placed ns (Some n) f = at_place ns n f
-
-      go : (o : Option BlockOf) → declared_in o name ≡ Some d → Among d (numbers_in o)
-      go None f = absurd (cc)
-      go (Some row) f = placed row.numbers _ f
 
   -- the declared tables have a connection where the text is one
   connection_is : (k : ℕ) → is_kind is_connection_kind (declared_by s.program).tables k ≡ is_connection (text s k)
@@ -308,11 +301,12 @@ module _ (s : Source) (of : TablesOf s) (plain : Plain s.program) (order : InOrd
   some_same : {A : Type 0} (a b : A) → Some a ≡ Some b → a ≡ b
   some_same a b e = cc
 
-  prefix_typed : (k b : ℕ) → is_connection (text s k) ≡ false → base s.tables k ≡ Some b → PrefixTyped s k b
+  -- of a prefix that is written
+  written_typed : (k b : ℕ) → base s.tables k ≡ Some b → PrefixOf (declared_by s.program).tables s.tables k b → PrefixTyped s k b
   unfolding encloser has_level text
-  prefix_typed k b other e = record {
-    has = t.levels_there s of plain order k p.row p.at p.kind;
-    prefix = ap is_class (t.connects s of plain order k b e).4;
+  written_typed k b e p = record {
+    has = t.levels_there s of plain order k p.row p.at (prefixable_base p.row.kind p.kind);
+    prefix = t.connects s of plain order k b e;
     outer = p.outer;
     outer_prefix = p.level;
     around = home_typed k p.row.encloser p.outer (t.same_around s of plain order k ∙ ap around p.at) p.around;
@@ -321,19 +315,64 @@ module _ (s : Source) (of : TablesOf s) (plain : Plain s.program) (order : InOrd
     declared = reaches_level s.tables (length s.tables.blocks) p.outer p.level (ends p.outer solid_outer) p.reaches;
   }
     where
-      p : PrefixOf (declared_by s.program).tables s.tables k b
-      p = t.prefix_is s of plain order k b other e
-
       c : (row : Declaration) × (slice_get (declared_by s.program).tables.declarations p.class.0 ≡ Some row) × (around (slice_get (declared_by s.program).tables.blocks b) ≡ Some row.block)
       c = t.class_at s.program plain p.class b p.declares
 
       block : (c.0).block ≡ p.level
-      block =
-          let o = (t.program_agrees s.program plain).fine.own p.level p.class (listed p.name p.level p.class p.listed) in
-          ap (λ (z : Declaration). z.block) (some_same c.0 o.0 (sym c.1 ∙ o.1)) ∙ o.2
+      block = ap (λ (z : Declaration). z.block) (some_same c.0 p.stands.0 (sym c.1 ∙ p.stands.1)) ∙ p.stands.2
 
       solid_outer : is_connection (text s p.outer) ≡ false
       solid_outer = home_solid p.row.encloser p.outer p.around
+
+  -- a class of SIMSET and its prefix were brought together
+  set_typed : (k b : ℕ) → base s.tables k ≡ Some b → base (declared_by s.program).tables k ≡ Some b → PrefixTyped s k b
+  unfolding base encloser has_level text
+  set_typed k b e was = record {
+    has = ap has_levels q.2.text;
+    prefix = t.connects s of plain order k b e;
+    outer = g.block;
+    outer_prefix = g.block;
+    around = typed.stands (t.same_around s of plain order k ∙ there) solid_host;
+    around_prefix = t.same_around s of plain order b ∙ ap (λ m. around (slice_get (declared_by s.program).tables.blocks m)) here ∙ g.group.around standard.Linkage tt;
+    solid = solid_host;
+    declared = reaches_level s.tables (length s.tables.blocks) g.block g.block (ends g.block solid_host) itself;
+  }
+    where
+      fine : Fine (declared_by s.program) (program_texts s.program.prefix s.program.block) []
+      fine = (t.program_agrees s.program plain).fine
+
+      q : (row : BlockOf) × (slice_get (declared_by s.program).tables.blocks k ≡ Some row) × SetBase (program_texts s.program.prefix s.program.block) k b row
+      q = set_base (declared_by s.program) (program_texts s.program.prefix s.program.block) [] fine k b was
+
+      g : InGroup (declared_by s.program).tables.blocks (program_texts s.program.prefix s.program.block) k q.2.which
+      g = fine.sets k q.2.which q.2.text
+
+      there : around (slice_get (declared_by s.program).tables.blocks k) ≡ Some g.block
+      there = ap (λ m. around (slice_get (declared_by s.program).tables.blocks m)) g.place ∙ g.group.around q.2.which g.is
+
+      block : q.2.block ≡ g.block
+      block = some_same q.2.block g.block (sym (ap around q.1 ∙ q.2.encloser) ∙ there)
+
+      here : b ≡ g.block + 1 + 0
+      here = q.2.base ∙ ap (λ m. m + 1) block ∙ (let z : g.block + 1 ≡ g.block + 1 + 0 = omega arith in z)
+
+      host : (x : Text) → Prefixing x → is_connection (Some x) ≡ false
+      host (ClassText prefix h ds ss) p = refl
+      host (PrefixedText class es ds ss) p = refl
+      host (BlockText i ds ss) p = refl
+      host (ProcedureText result h a) p = refl
+      host ConnectionText p = absurd p
+      host (StandardText which) p = refl
+
+      solid_host : is_connection (text s g.block) ≡ false
+      solid_host = ap is_connection g.group.host.1 ∙ host g.group.host.0 g.group.host.2
+
+  prefix_typed : (k b : ℕ) → is_connection (text s k) ≡ false → base s.tables k ≡ Some b → PrefixTyped s k b
+  prefix_typed k b other e = go (t.prefix_is s of plain order k b other e)
+    where
+      go : PrefixOf (declared_by s.program).tables s.tables k b ⊎ (base (declared_by s.program).tables k ≡ Some b) → PrefixTyped s k b
+      go (inl p) = written_typed k b e p
+      go (inr was) = set_typed k b e was
 
   -- what a class declares is declared by no level of its prefix
   declares_apart : (k b u : ℕ) (d : DeclNo) → is_connection (text s k) ≡ false → base s.tables k ≡ Some b → has_level s.tables b u ≡ true → Among d (numbers_of s u) → Among d (numbers_of s k) → ⊥
@@ -347,25 +386,20 @@ module _ (s : Source) (of : TablesOf s) (plain : Plain s.program) (order : InOrd
   -- the declaration to which the text of a class belongs is that of the class
   pub owners : (k : ℕ) (d : DeclNo) → is_class (text s k) ≡ true → owner_of_level s.tables (Some k) ≡ Some d → entry_of s.tables d ≡ Some (entry.Class k)
   unfolding text
-  owners k d class e = go (slice_get (program_texts s.program.prefix s.program.block) k) refl class (t.kind_at s of plain order k)
+  owners k d class e = go (slice_get (program_texts s.program.prefix s.program.block) k) refl class
     where
-      of_class : (prefix : Option Identifier) (h : Heading) (ds : Declarations) (ss : Statements) → slice_get (program_texts s.program.prefix s.program.block) k ≡ Some (ClassText prefix h ds ss) → entry_of s.tables d ≡ Some (entry.Class k)
-      of_class prefix h ds ss is =
-          let q = t.program_owned s.program plain of.unbroken k (ClassText prefix h ds ss) is in
+      of_class : (x : Text) → slice_get (program_texts s.program.prefix s.program.block) k ≡ Some x → OwnerIs (declared_by s.program) (owner_in (slice_get (declared_by s.program).tables.blocks k)) (entry.Class k) → entry_of s.tables d ≡ Some (entry.Class k)
+      of_class x is q =
           let own : owner_of_level s.tables (Some k) ≡ Some q.0 = headings.owner_at s of plain order k q.0 (t.same_owner s of plain order k ∙ q.2) in
           let new = (t.completed_tables s of plain order).rows.stays q.0.0 q.1 q.3 in
           subst (λ z. entry_of s.tables z ≡ Some (entry.Class k)) (some_same q.0 d (sym own ∙ e))
           (t.row_entry s of plain order q.0 new.0 new.1 ∙ ap Some (class_new q.1.entry new.0.entry new.2.entry k q.4))
 
-      go : (o : Option Text) → slice_get (program_texts s.program.prefix s.program.block) k ≡ o → is_class o ≡ true → KindIs (slice_get s.tables.blocks k) (slice_get (program_texts s.program.prefix s.program.block) k) → entry_of s.tables d ≡ Some (entry.Class k)
-      go None is c kinds = absurd (cc)
-      go (Some (BlockText i ds ss)) is c kinds = absurd (cc)
-      go (Some (ProcedureText result h a)) is c kinds = absurd (cc)
-      go (Some (ClassText prefix h ds ss)) is c kinds = of_class prefix h ds ss is
-      go (Some ConnectionText) is c kinds = absurd (cc)
-      go (Some (PrefixedText class es ds ss)) is c kinds = absurd (cc)
-      go (Some (StandardText which)) is c kinds = absurd (nothing (slice_get s.tables.blocks k) (subst (KindIs (slice_get s.tables.blocks k)) is kinds))
-        where
-          nothing : (o : Option BlockOf) → KindIs o (Some (StandardText which)) → ⊥
-          nothing None q = q
-          nothing (Some row) q = q
+      go : (o : Option Text) → slice_get (program_texts s.program.prefix s.program.block) k ≡ o → is_class o ≡ true → entry_of s.tables d ≡ Some (entry.Class k)
+      go None is c = absurd (cc)
+      go (Some (BlockText i ds ss)) is c = absurd (cc)
+      go (Some (ProcedureText result h a)) is c = absurd (cc)
+      go (Some (ClassText prefix h ds ss)) is c = of_class (ClassText prefix h ds ss) is (t.program_owned s.program plain of.unbroken k (ClassText prefix h ds ss) is)
+      go (Some ConnectionText) is c = absurd (cc)
+      go (Some (PrefixedText class es ds ss)) is c = absurd (cc)
+      go (Some (StandardText which)) is c = of_class (StandardText which) is (t.program_owned s.program plain of.unbroken k (StandardText which) is)

@@ -271,7 +271,7 @@ owed_kept bs cs ts keep (o ∷ os) current n m s (inr q) =
     inr (subst (λ z. OwedAt cs z os n m) (sym f) (owed_kept bs cs ts keep os (around (slice_get bs s.0)) n m s.3 (subst (λ z. OwedAt bs z os n m) e q)))
 
 -- what is owed further out is owed in earlier blocks
-owed_below : (bs : List BlockOf) → ((t u : ℕ) → around (slice_get bs t) ≡ Some u → u < t) → (os : List Open) (current : Option ℕ) (k n : ℕ) (m : Mark) → ((u : ℕ) → current ≡ Some u → u < k) → OwedAt bs current os n m → n < k
+pub owed_below : (bs : List BlockOf) → ((t u : ℕ) → around (slice_get bs t) ≡ Some u → u < t) → (os : List Open) (current : Option ℕ) (k n : ℕ) (m : Mark) → ((u : ℕ) → current ≡ Some u → u < k) → OwedAt bs current os n m → n < k
 owed_below bs nested [] current k n m under q = absurd q
 owed_below bs nested (o ∷ os) current k n m under (inl q) = under n q.0
 owed_below bs nested (o ∷ os) current k n m under (inr q) = owed_below bs nested os (out bs current) k n m (go current under) q
@@ -317,9 +317,9 @@ Origins b ts = (q : ℕ) (x : Qualification) (row : Declaration) (ty : SimType) 
 
 pub record Clean (b : BuildingOf) (ts : List Text) (os : List Open) : Type 0 where
   pub complete : (n : ℕ) (x : Text) → slice_get ts n ≡ Some x → (y : Identifier) (e : Entry) → Has (Declares y e) (own_marks (declared_in_text x)) → RowFor b n y e ⊎ OwedAt b.tables.blocks b.current os n (Declares y e)
-  pub heads : (d : ℕ) (row : Declaration) (w : Option WrittenMode) → slice_get b.tables.declarations d ≡ Some row → row.entry ≡ entry.Unspecified w → (y : Identifier) × (y.name ≡ row.name) × OwedAt b.tables.blocks b.current os row.block (Headed y)
-  -- in front of the end of a heading there are but parameters
-  pub early : (n : ℕ) (y : Identifier) → OwedAt b.tables.blocks b.current os n (Headed y) → (d : ℕ) (row : Declaration) → slice_get b.tables.declarations d ≡ Some row → row.block ≡ n → IsParameter row.entry
+  pub heads : (d : ℕ) (row : Declaration) (w : Option WrittenMode) → slice_get b.tables.declarations d ≡ Some row → row.entry ≡ entry.Unspecified w → (y : Identifier) × (y.name ≡ row.name) × OwedAt b.tables.blocks b.current os row.block (Headed y) × (row.listed ≡ true)
+  -- in front of the end of a heading a block lists but parameters
+  pub early : (n : ℕ) (y : Identifier) → OwedAt b.tables.blocks b.current os n (Headed y) → (d : ℕ) (row : Declaration) → slice_get b.tables.declarations d ≡ Some row → row.block ≡ n → row.listed ≡ true → IsParameter row.entry
   pub counts : (k : ℕ) (row : BlockOf) → slice_get b.tables.blocks k ≡ Some row → Counts b.tables.declarations row
   pub refs : (q : ℕ) (x : Qualification) → slice_get b.tables.qualifications q ≡ Some x → (row : Declaration) × (slice_get b.tables.declarations x.declaration.0 ≡ Some row) × OfReferences row.entry
   pub origins : Origins b ts
@@ -387,13 +387,13 @@ module _ (b c : BuildingOf) (New : ℕ → Declaration → Type 0) (s : Step b c
   complete_stays os k n x e (inr q) = inr (owed_stays os k n (Declares x e) q)
 
   pub heads_stay : (os : List Open) → Stack b.tables.blocks ts b.current os → Clean b ts os → (d : ℕ) (row old : Declaration) (w : Option WrittenMode) → slice_get b.tables.declarations d ≡ Some old → Changed old row → row.entry ≡ entry.Unspecified w
-      → (y : Identifier) × (y.name ≡ row.name) × OwedAt c.tables.blocks c.current os row.block (Headed y)
+      → (y : Identifier) × (y.name ≡ row.name) × OwedAt c.tables.blocks c.current os row.block (Headed y) × (row.listed ≡ true)
   heads_stay os k f d row old w at ch is = go ch.entry
     where
-      found : (v : Option WrittenMode) → old.entry ≡ entry.Unspecified v → (y : Identifier) × (y.name ≡ row.name) × OwedAt c.tables.blocks c.current os row.block (Headed y)
-      found v e = let q = f.heads d old v at e in (q.0, q.1 ∙ sym ch.name, subst (λ z. OwedAt c.tables.blocks c.current os z (Headed q.0)) (sym ch.block) (owed_stays os k old.block (Headed q.0) q.2))
+      found : (v : Option WrittenMode) → old.entry ≡ entry.Unspecified v → (y : Identifier) × (y.name ≡ row.name) × OwedAt c.tables.blocks c.current os row.block (Headed y) × (row.listed ≡ true)
+      found v e = let q = f.heads d old v at e in (q.0, q.1 ∙ sym ch.name, subst (λ z. OwedAt c.tables.blocks c.current os z (Headed q.0)) (sym ch.block) (owed_stays os k old.block (Headed q.0) q.2), ch.listed ∙ q.3)
 
-      go : Becomes old.entry row.entry → (y : Identifier) × (y.name ≡ row.name) × OwedAt c.tables.blocks c.current os row.block (Headed y)
+      go : Becomes old.entry row.entry → (y : Identifier) × (y.name ≡ row.name) × OwedAt c.tables.blocks c.current os row.block (Headed y) × (row.listed ≡ true)
       go (inl e) = found w (sym e ∙ is)
       go (inr q) = found q.0 q.1
 
@@ -474,14 +474,14 @@ module _ (b c : BuildingOf) (New : ℕ → Declaration → Type 0) (s : Step b c
               none (inr u) = other d.0 r u.0 param
 
   pub early_stays : (os : List Open) → Stack c.tables.blocks ts c.current os → ((d : ℕ) (row : Declaration) → New d row → (y : Identifier) → OwedAt b.tables.blocks b.current os row.block (Headed y) → IsParameter row.entry) → Clean b ts os
-      → (n : ℕ) (y : Identifier) → OwedAt c.tables.blocks c.current os n (Headed y) → (d : ℕ) (row : Declaration) → slice_get c.tables.declarations d ≡ Some row → row.block ≡ n → IsParameter row.entry
-  early_stays os k newly g n y q d row at is = go (s.rows d row at)
+      → (n : ℕ) (y : Identifier) → OwedAt c.tables.blocks c.current os n (Headed y) → (d : ℕ) (row : Declaration) → slice_get c.tables.declarations d ≡ Some row → row.block ≡ n → row.listed ≡ true → IsParameter row.entry
+  early_stays os k newly g n y q d row at is l = go (s.rows d row at)
     where
       was : OwedAt b.tables.blocks b.current os n (Headed y)
       was = owed_was os k n (Headed y) q
 
       go : ((old : Declaration) × (slice_get b.tables.declarations d ≡ Some old) × Changed old row) ⊎ (New d row × Among (record { 0 = d }) (numbers_in (slice_get c.tables.blocks row.block)) × (AllEven b.tables.blocks → declared_in (slice_get c.tables.blocks row.block) row.name ≡ Some (record { 0 = d }))) → IsParameter row.entry
-      go (inl p) = param_stays p.0.entry row.entry p.2.entry (g.early n y was d p.0 p.1 (sym p.2.block ∙ is))
+      go (inl p) = param_stays p.0.entry row.entry p.2.entry (g.early n y was d p.0 p.1 (sym p.2.block ∙ is) (sym p.2.listed ∙ l))
       go (inr p) = newly d row p.0 y (subst (λ z. OwedAt b.tables.blocks b.current os z (Headed y)) (sym is) was)
 
 -- what ends and begins no text, and declares no parameter
@@ -498,7 +498,7 @@ step_clean b c New s ts os f new other past spans same g = record {
 }
   where
     heads : (d : ℕ) (row : Declaration) (w : Option WrittenMode) → row.entry ≡ entry.Unspecified w → ((old : Declaration) × (slice_get b.tables.declarations d ≡ Some old) × Changed old row) ⊎ (New d row × Among (record { 0 = d }) (numbers_in (slice_get c.tables.blocks row.block)) × (AllEven b.tables.blocks → declared_in (slice_get c.tables.blocks row.block) row.name ≡ Some (record { 0 = d })))
-        → (y : Identifier) × (y.name ≡ row.name) × OwedAt c.tables.blocks c.current os row.block (Headed y)
+        → (y : Identifier) × (y.name ≡ row.name) × OwedAt c.tables.blocks c.current os row.block (Headed y) × (row.listed ≡ true)
     heads d row w is (inl q) = heads_stay b c New s ts os f.stack g d row q.0 w q.1 q.2 is
     heads d row w is (inr q) = absurd (other d row q.0 (subst IsParameter (sym is) tt))
 

@@ -1,8 +1,7 @@
 -- Mark by mark, where no rule on declarations is broken: what a plain program declares comes into its tables.
 use Rattle.std.proofs.Common.{◌≡◌, ◌<◌, ◌≤◌, ◌⊎◌, inl, inr, ℕ, Bool, true, false, List, [], ◌∷◌, ◌++◌, length, Option, Some, None, refl, sym, ap, ◌∙◌, subst, arith, append-nil, append_assoc}
-use Rattle.std.specs.Prelude.{nat_eq, nat_lt, slice_get, slice_set}
+use Rattle.std.specs.Prelude.{nat_lt, slice_get, slice_set}
 use Rattle.std.proofs.lemmas.Option.{slice_get_within}
-use Rattle.std.proofs.lemmas.Bool.Decides.{nat_tests}
 use Rattle.sim_base.specs.declared.numbering.DeclNo.{DeclNo}
 use Rattle.sim_base.specs.declared.rule.Rule.{Rule}
 use Rattle.sim_base.specs.declared.rule.Rule.TheVariants as r
@@ -16,298 +15,32 @@ use Rattle.sim_scope.specs.declared.types.Entry.{Entry}
 use Rattle.sim_scope.specs.declared.types.Entry.TheVariants as entry
 use Rattle.sim_scope.specs.declared.types.FormalKind.{FormalKind}
 use Rattle.sim_scope.specs.declared.types.SimType.{SimType}
-use Rattle.sim_scope.specs.declared.types.WrittenMode.{WrittenMode}
-use Rattle.sim_scope.specs.Building.{BuildingOf, Declares, Headed, Mark, Opens, block_around, broken, broken_if, changed, closed, closed_at, counted, counted_in, declared, formal, found_in, headed as headed_of, holding_class, inner, level_in, marked, most_levels, opened, parameter as parameter_of, placed, row_of as new_row, specified as specified_of, unspecified_at, unspecified_in}
+use Rattle.sim_scope.specs.Building.{BuildingOf, Declares, Headed, Mark, Opens, block_around, broken, broken_if, changed, closed, closed_at, declared, formal, found_in, headed as headed_of, holding_class, inner, level_in, prefixed_by, marked, most_levels, opened, parameter as parameter_of, placed, row_of as new_row, specified as specified_of, unspecified_at}
 use Rattle.sim_scope.specs.Declare.{headed_marks, result_named}
 use Rattle.sim_scope.specs.Found.{fault}
 use Rattle.sim_scope.specs.Runs.{each, run}
 use Rattle.sim_scope.specs.Access.{around}
-use Rattle.sim_scope.specs.Scopes.{declared_in, entry_in, entry_of, lookup}
-use Rattle.sim_scope.specs.Tables.{BlockOf, Tables}
-use Rattle.sim_scope.proofs.Kept.{kept_set, more_here, set_here}
+use Rattle.sim_scope.specs.Tables.{BlockOf}
+use Rattle.sim_scope.proofs.Kept.{kept_set, more_here}
 use Rattle.sim_meaning.specs.Entries.{numbers_in}
 use Rattle.sim_sound.specs.Held.{Among}
 use Rattle.sim_meaning.specs.Texts.{BlockText, ClassText, ConnectionText, ProcedureText, Text, PrefixedText}
-use Rattle.sim_agree.proofs.Calm.{class_calm, declared_calm, headed_calm, inner_calm, moded_calm, span, specified_calm, prefix_calm, guards_calm}
-use Rattle.sim_agree.proofs.Groups.{AreReferences, ArrayWritten, Grouped, Has, NoBreaks, NoHeaded, OfReferences, Open, OwnEntry, Quals, block, breaks_rule, closes, connects, declared_in_text, declares, declares_class, has_cases, headed, here, inner_mark, item, moded, nothing, own_marks, parameter, procedure, qualifies, specified, there, unqualified, Written, prefixes, guarded, prefixed_block}
-use Rattle.sim_agree.proofs.Steps.{AllEven, Becomes, Changed, Declared, IsParameter, Nothing, Step, Unmatched, class_step, class_unmatched, declared_latest, declared_step, headed_step, inner_step, last_cases, met, moded_step, own_unmatched, parameter_step, procedure_unmatched, quals_step, rule_step, specified_met, unspecified_unmatched, among_at, prefix_step, guards_step}
+use Rattle.sim_agree.proofs.Calm.{class_calm, declared_calm, inner_calm, moded_calm, specified_calm, prefix_calm, guards_calm}
+use Rattle.sim_agree.proofs.Groups.{AreReferences, Grouped, Has, NoBreaks, NoHeaded, OfReferences, Open, Quals, block, breaks_rule, closes, connects, declared_in_text, declares, declares_class, headed, here, inner_mark, item, moded, nothing, own_marks, parameter, procedure, qualifies, specified, there, unqualified, prefixes, guarded, prefixed_block, set_prefix, sets_block, sets_class, Prefixing}
+use Rattle.sim_agree.proofs.Steps.{Declared, IsParameter, Nothing, Step, Unmatched, class_step, class_unmatched, declared_latest, declared_step, headed_step, inner_step, last_cases, met, moded_step, own_unmatched, parameter_step, procedure_unmatched, quals_step, rule_step, specified_met, unspecified_unmatched, prefix_step, guards_step}
 use Rattle.sim_agree.proofs.Fine.{Agree, Fine, KindIs, Stack, With, begun_keeps, closed_agrees, fresh, same_around, step_fine}
-use Rattle.sim_agree.proofs.FineRuns.{Owes, block_agrees, class_agrees, declares_agrees, owes_heading, owes_none, parameter_agrees, procedure_agrees, quiet_agrees, run_both, step_agrees, prefix_kind}
+use Rattle.sim_agree.proofs.FineRuns.{Owes, block_agrees, class_agrees, declares_agrees, owes_heading, owes_none, parameter_agrees, procedure_agrees, quiet_agrees, run_both, sets_run_agree, step_agrees, prefix_kind}
 use Rattle.sim_agree.proofs.Owned.{Owned, closed_owned, opened_owned, owned_step}
 use Rattle.sim_agree.proofs.Covered.{Covered, closed_covers, covered_stays, declared_alone, declared_covered, holding_refs, inner_covers, moded_covers, opened_least, opened_same, specified_covered, prefix_covers, guards_covers}
-use Rattle.sim_agree.proofs.Clean.{Clean, Counts, Made, Origin, OwedAt, RowFor, SpecifiedRow, WrittenFor, complete_stays, declared_clean, declared_refs, early_stays, headed_clean, heading_past, heads_stay, holding_same, if_clean, inner_quiet, moded_quiet, never_none, old_row, origins_stay, out, owed_kept, param_stays, param_was, quals_clean, quals_least, quiet_clean, references_stay, some_same, specified_at, specified_latest, specified_quiet, step_clean, prefix_quiet, guards_quiet}
+use Rattle.sim_agree.proofs.Clean.{Clean, Counts, Made, Origin, OwedAt, RowFor, SpecifiedRow, WrittenFor, declared_clean, declared_refs, headed_clean, holding_same, if_clean, inner_quiet, moded_quiet, never_none, out, owed_kept, quals_clean, quals_least, quiet_clean, some_same, specified_at, specified_latest, specified_quiet, prefix_quiet, guards_quiet}
 use Rattle.sim_agree.proofs.OwnedRuns.{class_owned, procedure_owned}
-
--- ---- a declaration that is no parameter
-
-module _ (b c : BuildingOf) (y : Identifier) (e : Entry) (n : ℕ) (ts : List Text) (x : Text) (owed : List Mark) (os : List Open) (s : Step b c (Declared (length b.tables.declarations) y e n)) (spans : (j : ℕ) → span (slice_get c.tables.blocks j) ≡ span (slice_get b.tables.blocks j))
-    (same : c.tables.qualifications ≡ b.tables.qualifications) (other : IsParameter e → ⊥) (free : NoHeaded owed) (cur : b.current ≡ Some n) where
-  named_clean : Fine b ts (item x owed ∷ os) → Clean b ts (item x owed ∷ os) → Clean c ts (item x owed ∷ os)
-  named_clean f g =
-      step_clean b c (Declared (length b.tables.declarations) y e n) s ts (item x owed ∷ os) f (λ d row p. p.0) (λ d row p q. other (subst IsParameter p.1.3 q))
-      (λ d row p z q. heading_past b ts x owed os f free n cur z (subst (λ m. OwedAt b.tables.blocks b.current (item x owed ∷ os) m (Headed z)) p.1.2 q)) spans same g
-
-own_other : (e : Entry) → OwnEntry e → IsParameter e → ⊥
-own_other (entry.Variable ty) own p = p
-own_other (entry.Constant ty) own p = p
-own_other (entry.Array ty n) own p = p
-own_other (entry.Procedure result k) own p = own
-own_other (entry.Class k) own p = own
-own_other (entry.Virtual result k) own p = own
-own_other (entry.Formal f) own p = own
-own_other (entry.Unspecified v) own p = own
-own_other (entry.Attribute name given result) own p = own
-
--- what is declared has come
-pop_declares : (c : BuildingOf) (ts : List Text) (x : Text) (y : Identifier) (e : Entry) (owed : List Mark) (os : List Open) (n : ℕ) → c.current ≡ Some n → RowFor c n y e → Clean c ts (item x (Declares y e ∷ owed) ∷ os) → Clean c ts (item x owed ∷ os)
-pop_declares c ts x y e owed os n cur made f = record {
-  complete = λ m z at w k has. complete m w k (f.complete m z at w k has);
-  heads = λ d row w at is. heads row (f.heads d row w at is);
-  early = λ m w q. f.early m w (more m w q);
-  counts = f.counts;
-  refs = f.refs;
-  origins = f.origins;
-}
-  where
-    is_mark : (w : Identifier) (k : Entry) → Declares w k ≡ Declares y e → (w ≡ y) × (k ≡ e)
-    is_mark w k is = (cc, cc)
-
-    complete : (m : ℕ) (w : Identifier) (k : Entry) → RowFor c m w k ⊎ OwedAt c.tables.blocks c.current (item x (Declares y e ∷ owed) ∷ os) m (Declares w k) → RowFor c m w k ⊎ OwedAt c.tables.blocks c.current (item x owed ∷ os) m (Declares w k)
-    complete m w k (inl q) = inl q
-    complete m w k (inr (inr q)) = inr (inr q)
-    complete m w k (inr (inl q)) = go (has_cases q.1)
-      where
-        go : (Declares w k ≡ Declares y e) ⊎ Has (Declares w k) owed → RowFor c m w k ⊎ OwedAt c.tables.blocks c.current (item x owed ∷ os) m (Declares w k)
-        go (inr h) = inr (inl (q.0, h))
-        go (inl h) =
-            let both = is_mark w k h in
-            let same : n ≡ m = some_same n m (sym cur ∙ q.0) in
-            inl (subst (λ z. RowFor c m w z) (sym both.1) (subst (λ z. RowFor c m z e) (sym both.0) (subst (λ z. RowFor c z y e) same made)))
-
-    heads : (row : Declaration) → (z : Identifier) × (z.name ≡ row.name) × OwedAt c.tables.blocks c.current (item x (Declares y e ∷ owed) ∷ os) row.block (Headed z) → (z : Identifier) × (z.name ≡ row.name) × OwedAt c.tables.blocks c.current (item x owed ∷ os) row.block (Headed z)
-    heads row (z, name, inr q) = (z, name, inr q)
-    heads row (z, name, inl q) = go (has_cases q.1)
-      where
-        go : (Headed z ≡ Declares y e) ⊎ Has (Headed z) owed → (w : Identifier) × (w.name ≡ row.name) × OwedAt c.tables.blocks c.current (item x owed ∷ os) row.block (Headed w)
-        go (inl h) = absurd (cc)
-        go (inr h) = (z, name, inl (q.0, h))
-
-    more : (m : ℕ) (w : Identifier) → OwedAt c.tables.blocks c.current (item x owed ∷ os) m (Headed w) → OwedAt c.tables.blocks c.current (item x (Declares y e ∷ owed) ∷ os) m (Headed w)
-    more m w (inl q) = inl (q.0, there q.1)
-    more m w (inr q) = inr q
-
-no_headed_under : (y : Identifier) (e : Entry) (owed : List Mark) → NoHeaded owed → NoHeaded (Declares y e ∷ owed)
-no_headed_under y e owed free z h = go (has_cases h)
-  where
-    go : (Headed z ≡ Declares y e) ⊎ Has (Headed z) owed → ⊥
-    go (inl q) = cc
-    go (inr q) = free z q
-
--- a mark of a text's own
-declares_clean : (b : BuildingOf) (x : Text) (owed quals : List Mark) (y : Identifier) (e : Entry) (ts : List Text) (os : List Open) (row : BlockOf) → NoHeaded owed → OwnEntry e → Quals (OfReferences e) quals → Written e y quals (declared_in_text x) → (f : Fine b ts (item x (Declares y e ∷ owed) ∷ os)) → slice_get b.tables.blocks f.stack.0 ≡ Some row
-    → (run marked (declared b y e) quals).least ≡ None → (b.least ≡ None) × (Clean b ts (item x (Declares y e ∷ owed) ∷ os) → Clean (run marked (declared b y e) quals) ts (item x owed ∷ os))
-declares_clean b x owed quals y e ts os row free own q written f at clean =
-    let d = declared_clean b y e f.stack.0 row alone f.stack.1 at (sym (quals_least c (OfReferences e) quals q) ∙ clean) in (
-      d.0,
-      λ g. quals_clean c (OfReferences e) quals ts (item x owed ∷ os) q (last d.1) (origin d.1)
-          (pop_declares c ts x y e owed os f.stack.0 (s.current ∙ f.stack.1) (made d.1)
-          (named_clean b c y e f.stack.0 ts x (Declares y e ∷ owed) os s (declared_calm b y e).spans (declared_refs b y e f.stack.0 alone f.stack.1) (own_other e own) (no_headed_under y e owed free) f.stack.1 f g)),
-    )
-  where
-    c : BuildingOf
-    c = declared b y e
-
-    alone : Unmatched b.tables e
-    alone = own_unmatched b.tables e own
-
-    s : Step b (declared b y e) (Declared (length b.tables.declarations) y e f.stack.0)
-    s = declared_step b y e f.stack.0 (own_unmatched b.tables e own) f.stack.1
-
-    made : Made b y e f.stack.0 (declared b y e) → RowFor (declared b y e) f.stack.0 y e
-    made m = record { number = length b.tables.declarations; row = new_row y e f.stack.0 true; at = m; name = refl; token = refl; block = refl; entry = refl; own = own }
-
-    last : Made b y e f.stack.0 (declared b y e) → OfReferences e → (d : DeclNo) × ((declared b y e).latest ≡ Some d) × (found : Declaration) × (slice_get (declared b y e).tables.declarations d.0 ≡ Some found) × OfReferences found.entry
-    last m refs = (record { 0 = length b.tables.declarations }, declared_latest b y e f.stack.0 (new_row y e f.stack.0 true) (own_unmatched b.tables e own) f.stack.1 m, new_row y e f.stack.0 true, m, refs)
-
-    origin : Made b y e f.stack.0 (declared b y e) → Origin (declared b y e) quals ts
-    origin m class are d is found ty n known array =
-        let same : record { 0 = length b.tables.declarations } ≡ d = some_same (record { 0 = length b.tables.declarations }) d (sym (declared_latest b y e f.stack.0 (new_row y e f.stack.0 true) (own_unmatched b.tables e own) f.stack.1 m) ∙ is) in
-        let one : new_row y e f.stack.0 true ≡ found = some_same (new_row y e f.stack.0 true) found (sym m ∙ subst (λ (z : DeclNo). slice_get (declared b y e).tables.declarations z.0 ≡ Some found) (sym same) known) in
-        subst (λ z. WrittenFor ts z class) one (record {
-          text = x;
-          at = f.stack.2;
-          name = y;
-          token = refl;
-          written = subst (λ z. ArrayWritten y z (declared_in_text x)) are (subst (λ z. Written z y quals (declared_in_text x)) (ap (λ (z : Declaration). z.entry) one ∙ array) written);
-        })
-
--- ---- parameters
-
-counted_same : (d : BuildingOf) (o : Option ℕ) → ((counted_in d o).least ≡ d.least) × ((counted_in d o).tables.declarations ≡ d.tables.declarations) × ((counted_in d o).tables.qualifications ≡ d.tables.qualifications)
-counted_same d None = (refl, refl, refl)
-counted_same d (Some n) = go (slice_get d.tables.blocks n)
-  where
-    go : (o : Option BlockOf) → ((counted d n o).least ≡ d.least) × ((counted d n o).tables.declarations ≡ d.tables.declarations) × ((counted d n o).tables.qualifications ≡ d.tables.qualifications)
-    go None = (refl, refl, refl)
-    go (Some row) = (refl, refl, refl)
-
-counted_here : (d : BuildingOf) (n : ℕ) (row : BlockOf) → slice_get (counted_in d (Some n)).tables.blocks n ≡ Some row → row.formals ≡ length row.numbers
-counted_here d n row is = go (slice_get d.tables.blocks n) refl is
-  where
-    go : (o : Option BlockOf) → slice_get d.tables.blocks n ≡ o → slice_get (counted d n o).tables.blocks n ≡ Some row → row.formals ≡ length row.numbers
-    go None at is = absurd (let e : None ≡ Some row = sym at ∙ is in cc)
-    go (Some old) at is =
-        let e : record old { formals = length old.numbers } ≡ row = some_same (record old { formals = length old.numbers }) row (sym (set_here d.tables.blocks n old (record old { formals = length old.numbers }) at) ∙ is) in
-        subst (λ (z : BlockOf). z.formals ≡ length z.numbers) e refl
-
-parameter_clean : (b : BuildingOf) (x : Text) (owed : List Mark) (y : Identifier) (ts : List Text) (os : List Open) (row : BlockOf) → Has (Headed y) owed → (f : Fine b ts (item x owed ∷ os)) → Fine (parameter_of b y) ts (item x owed ∷ os) → slice_get b.tables.blocks f.stack.0 ≡ Some row
-    → (parameter_of b y).least ≡ None → (b.least ≡ None) × (Clean b ts (item x owed ∷ os) → Clean (parameter_of b y) ts (item x owed ∷ os))
-parameter_clean b x owed y ts os row has f fc at clean =
-    let q = declared_clean b y (entry.Unspecified None) n row (unspecified_unmatched b.tables None) f.stack.1 at (sym (counted_same d d.current).0 ∙ clean) in (q.0, after)
-  where
-    n : ℕ
-    n = f.stack.0
-
-    d : BuildingOf
-    d = declared b y (entry.Unspecified None)
-
-    c : BuildingOf
-    c = parameter_of b y
-
-    stack : List Open
-    stack = item x owed ∷ os
-
-    New : ℕ → Declaration → Type 0
-    New = Declared (length b.tables.declarations) y (entry.Unspecified None) n
-
-    s : Step b (parameter_of b y) (Declared (length b.tables.declarations) y (entry.Unspecified None) n)
-    s = parameter_step b y n f.stack.1
-
-    kept : c.tables.qualifications ≡ b.tables.qualifications
-    kept = (counted_same d d.current).2 ∙ declared_refs b y (entry.Unspecified None) n (unspecified_unmatched b.tables None) f.stack.1
-
-    now : d.current ≡ Some n
-    now = (declared_step b y (entry.Unspecified None) n (unspecified_unmatched b.tables None) f.stack.1).current ∙ f.stack.1
-
-    after : Clean b ts (item x owed ∷ os) → Clean (parameter_of b y) ts (item x owed ∷ os)
-    after g = record {
-      complete = λ m z top w k q. complete_stays b c New s ts stack f.stack m w k (g.complete m z top w k q);
-      heads = λ e found w is named. heads e found w named (s.rows e found is);
-      early = early;
-      counts = λ m found is. counts m found is (nat_eq n m) refl;
-      refs = references_stay b c New s ts kept stack g;
-      origins = origins_stay b c New s ts kept stack g;
-    }
-      where
-        heads : (e : ℕ) (found : Declaration) (w : Option WrittenMode) → found.entry ≡ entry.Unspecified w
-            → ((old : Declaration) × (slice_get b.tables.declarations e ≡ Some old) × Changed old found) ⊎ (Declared (length b.tables.declarations) y (entry.Unspecified None) n e found × Among (record { 0 = e }) (numbers_in (slice_get c.tables.blocks found.block)) × (AllEven b.tables.blocks → declared_in (slice_get c.tables.blocks found.block) found.name ≡ Some (record { 0 = e })))
-            → (z : Identifier) × (z.name ≡ found.name) × OwedAt c.tables.blocks c.current stack found.block (Headed z)
-        heads e found w is (inl q) = heads_stay b c New s ts stack f.stack g e found q.0 w q.1 q.2 is
-        heads e found w is (inr q) = (y, sym q.0.1.0, inl (s.current ∙ f.stack.1 ∙ ap Some (sym q.0.1.2), has))
-
-        early : (m : ℕ) (z : Identifier) → OwedAt c.tables.blocks c.current stack m (Headed z) → (e : ℕ) (found : Declaration) → slice_get c.tables.declarations e ≡ Some found → found.block ≡ m → IsParameter found.entry
-        early = early_stays b c New s ts stack fc.stack (λ e found p z q. subst IsParameter (sym p.1.3) tt) g
-
-        here_owed : OwedAt c.tables.blocks c.current (item x owed ∷ os) n (Headed y)
-        here_owed = inl (s.current ∙ f.stack.1, has)
-
-        counts : (m : ℕ) (found : BlockOf) → slice_get c.tables.blocks m ≡ Some found → (z : Bool) → nat_eq n m ≡ z → Counts c.tables.declarations found
-        counts m found is true e =
-            let same : n ≡ m = grind (arith, nat_tests) in
-            let all : found.formals ≡ length found.numbers = counted_here d n found (subst (λ o. slice_get (counted_in d o).tables.blocks n ≡ Some found) now (ap (slice_get c.tables.blocks) same ∙ is)) in record {
-              fits = omega (arith, all);
-              front = λ i v r p t lt.
-                  let o = fc.own m v (subst (λ z. Among v (numbers_in z)) (sym is) (among_at found.numbers i v p)) in
-                  let one : o.0 ≡ r = some_same o.0 r (sym o.1 ∙ t) in
-                  early n y here_owed v.0 r t (ap (λ (z : Declaration). z.block) (sym one) ∙ o.2 ∙ sym same);
-              back = λ i v r p t param. (let lt : i < length found.numbers = slice_get_within found.numbers i v p in omega (arith, all));
-            }
-        counts m found is false e =
-            let old : slice_get b.tables.blocks m ≡ Some found = sym (s.others m (λ q. (let same : n ≡ m = some_same n m (sym f.stack.1 ∙ q) in let P : nat_eq n m ≡ true = grind (arith, nat_tests) in let Q : true ≡ false = sym P ∙ e in cc))) ∙ is in
-            let k = g.counts m found old in record {
-              fits = k.fits;
-              front = λ i v r p t lt.
-                  let w = old_row b c New s ts stack f (λ a row u. u.0) m v r (subst (λ z. Among v (numbers_in z)) (sym old) (among_at found.numbers i v p)) t in
-                  param_stays w.0.entry r.entry w.2.entry (k.front i v w.0 p w.1 lt);
-              back = λ i v r p t param.
-                  let w = old_row b c New s ts stack f (λ a row u. u.0) m v r (subst (λ z. Among v (numbers_in z)) (sym old) (among_at found.numbers i v p)) t in
-                  k.back i v w.0 p w.1 (param_was w.0.entry r.entry w.2.entry param);
-            }
-
--- the end of a heading
-unspecified_found : (t : Tables) (n : ℕ) (name : List ℕ) (d : DeclNo) (row : Declaration) (w : Option WrittenMode) → declared_in (slice_get t.blocks n) name ≡ Some d → slice_get t.declarations d.0 ≡ Some row → row.entry ≡ entry.Unspecified w
-    → unspecified_at t (found_in t (Some n) name) ≡ None → ⊥
-unfolding lookup entry_of
-unspecified_found t n name d row w found at is none =
-    let e : unspecified_in (entry_in (slice_get t.declarations d.0)) ≡ None = sym (ap (unspecified_at t) found) ∙ none in
-    let f : unspecified_in (Some row.entry) ≡ None = sym (ap (λ o. unspecified_in (entry_in o)) at) ∙ e in
-    let g : Some w ≡ None = sym (ap (λ z. unspecified_in (Some z)) is) ∙ f in cc
-
-headed_step_clean : (b : BuildingOf) (x : Text) (owed : List Mark) (y : Identifier) (ts : List Text) (os : List Open) → Fine b ts (item x (Headed y ∷ owed) ∷ os) → (headed_of b y.token (unspecified_at b.tables (found_in b.tables b.current y.name))).least ≡ None
-    → (b.least ≡ None) × (Clean b ts (item x (Headed y ∷ owed) ∷ os) → Clean (headed_of b y.token (unspecified_at b.tables (found_in b.tables b.current y.name))) ts (item x owed ∷ os))
-headed_step_clean b x owed y ts os g clean =
-    let q = headed_clean b y.token (unspecified_at b.tables (found_in b.tables b.current y.name)) clean in
-    (q.1.1 clean, λ f. after q.0 (quiet_clean b c ts before s (headed_calm b y.token (unspecified_at b.tables (found_in b.tables b.current y.name))) q.1.0 g f))
-  where
-    c : BuildingOf
-    c = headed_of b y.token (unspecified_at b.tables (found_in b.tables b.current y.name))
-
-    before : List Open
-    before = item x (Headed y ∷ owed) ∷ os
-
-    next : List Open
-    next = item x owed ∷ os
-
-    s : Step b (headed_of b y.token (unspecified_at b.tables (found_in b.tables b.current y.name))) Nothing
-    s = headed_step b y.token (unspecified_at b.tables (found_in b.tables b.current y.name))
-
-    after : unspecified_at b.tables (found_in b.tables b.current y.name) ≡ None → Clean (headed_of b y.token (unspecified_at b.tables (found_in b.tables b.current y.name))) ts (item x (Headed y ∷ owed) ∷ os)
-        → Clean (headed_of b y.token (unspecified_at b.tables (found_in b.tables b.current y.name))) ts (item x owed ∷ os)
-    after none f = record {
-      complete = λ m z top w e has. complete m w e (f.complete m z top w e has);
-      heads = λ d row w at is. heads d row w at is (f.heads d row w at is);
-      early = λ m w q. f.early m w (more m w q);
-      counts = f.counts;
-      refs = f.refs;
-      origins = f.origins;
-    }
-      where
-        more : (m : ℕ) (w : Identifier) → OwedAt c.tables.blocks c.current next m (Headed w) → OwedAt c.tables.blocks c.current before m (Headed w)
-        more m w (inl q) = inl (q.0, there q.1)
-        more m w (inr q) = inr q
-
-        complete : (m : ℕ) (w : Identifier) (e : Entry) → RowFor c m w e ⊎ OwedAt c.tables.blocks c.current before m (Declares w e) → RowFor c m w e ⊎ OwedAt c.tables.blocks c.current next m (Declares w e)
-        complete m w e (inl q) = inl q
-        complete m w e (inr (inr q)) = inr (inr q)
-        complete m w e (inr (inl q)) = go (has_cases q.1)
-          where
-            go : (Declares w e ≡ Headed y) ⊎ Has (Declares w e) owed → RowFor c m w e ⊎ OwedAt c.tables.blocks c.current next m (Declares w e)
-            go (inl p) = absurd (cc)
-            go (inr p) = inr (inl (q.0, p))
-
-        heads : (d : ℕ) (row : Declaration) (w : Option WrittenMode) → slice_get c.tables.declarations d ≡ Some row → row.entry ≡ entry.Unspecified w → (z : Identifier) × (z.name ≡ row.name) × OwedAt c.tables.blocks c.current before row.block (Headed z)
-            → (z : Identifier) × (z.name ≡ row.name) × OwedAt c.tables.blocks c.current next row.block (Headed z)
-        heads d row w at is (z, name, inr q) = (z, name, inr q)
-        heads d row w at is (z, name, inl q) = go (has_cases q.1)
-          where
-            same_name : Headed z ≡ Headed y → z ≡ y
-            same_name e = cc
-
-            old : (row : Declaration) → ((prior : Declaration) × (slice_get b.tables.declarations d ≡ Some prior) × Changed prior row) ⊎ (Nothing d row × Among (record { 0 = d }) (numbers_in (slice_get c.tables.blocks row.block)) × (AllEven b.tables.blocks → declared_in (slice_get c.tables.blocks row.block) row.name ≡ Some (record { 0 = d })))
-                → row.entry ≡ entry.Unspecified w → row.name ≡ y.name → b.current ≡ Some row.block → ⊥
-            old row (inr p) is named cur = p.0
-            old row (inl p) is named cur =
-                unspecified_found b.tables row.block y.name (record { 0 = d }) p.0 (unspec p.2.entry).0
-                (subst (λ z. declared_in (slice_get b.tables.blocks z) y.name ≡ Some (record { 0 = d })) (sym p.2.block) (subst (λ z. declared_in (slice_get b.tables.blocks p.0.block) z ≡ Some (record { 0 = d })) (sym p.2.name ∙ named) (g.finds d p.0 p.1)))
-                p.1 (unspec p.2.entry).1 (subst (λ z. unspecified_at b.tables (found_in b.tables z y.name) ≡ None) cur none)
-              where
-                unspec : Becomes p.0.entry row.entry → (v : Option WrittenMode) × (p.0.entry ≡ entry.Unspecified v)
-                unspec (inl e) = (w, sym e ∙ is)
-                unspec (inr e) = (e.0, e.1)
-
-            go : (Headed z ≡ Headed y) ⊎ Has (Headed z) owed → (v : Identifier) × (v.name ≡ row.name) × OwedAt c.tables.blocks c.current next row.block (Headed v)
-            go (inr p) = (z, name, inl (q.0, p))
-            go (inl p) = absurd (old row (s.rows d row at) is (sym name ∙ ap (λ (v : Identifier). v.name) (same_name p)) (sym s.current ∙ q.0))
+use Rattle.sim_agree.proofs.BroughtClean as sets
+use Rattle.sim_agree.proofs.BroughtRows.{marks_of_sets}
+use Rattle.sim_agree.proofs.BroughtRuns.{FreshTop, brought_is, opened_top, prefixed_fresh, prefixed_is, prefixed_top}
+use Rattle.sim_agree.proofs.PlainNames.{set_texts}
+use Rattle.sim_agree.specs.Plain.{PlainName}
+use Rattle.sim_scope.specs.declared.types.StandardPrefix.TheVariants as standard_prefixes
+use Rattle.sim_agree.proofs.CleanSteps.{counted_same, declares_clean, headed_step_clean, named_clean, parameter_clean}
 
 -- ---- a block begins
 
@@ -319,8 +52,8 @@ begun_clean : (b : BuildingOf) (new : BlockOf) (places : List (Option ℕ)) (ts 
     → Fine b ts os → Clean b ts os → Clean (With b new places ts x) (ts ++ x ∷ []) (item x owed ∷ os)
 begun_clean b new places ts x owed os around_is none uncounted begins g f = record {
   complete = λ m z at y e has. complete m z y e has (last_cases ts x m z at);
-  heads = λ d row w at is. (let q = f.heads d row w at is in (q.0, q.1, inr (moved row.block (Headed q.0) q.2)));
-  early = λ m y q d row at is. early m y d row at is q;
+  heads = λ d row w at is. (let q = f.heads d row w at is in (q.0, q.1, inr (moved row.block (Headed q.0) q.2), q.3));
+  early = λ m y q d row at is l. early m y d row at is l q;
   counts = λ m row at. counts m row (last_cases bs new m row at);
   refs = f.refs;
   origins = λ q z row ty n at is e. grown row z.class (f.origins q z row ty n at is e);
@@ -369,16 +102,16 @@ begun_clean b new places ts x owed os around_is none uncounted begins g f = reco
         inr (inl (ap Some here_now, begins y e (subst (λ w. Has (Declares y e) (own_marks (declared_in_text w))) (sym q.1) has)))
 
     -- a declaration stands in an earlier block
-    earlier : (d : ℕ) (row : Declaration) → slice_get b.tables.declarations d ≡ Some row → row.block < length bs
-    earlier d row at = go (slice_get bs row.block) refl (g.listed d row at)
+    earlier : (d : ℕ) (row : Declaration) → slice_get b.tables.declarations d ≡ Some row → row.listed ≡ true → row.block < length bs
+    earlier d row at l = go (slice_get bs row.block) refl (g.listed d row at l)
       where
         go : (o : Option BlockOf) → slice_get bs row.block ≡ o → Among (record { 0 = d }) (numbers_in o) → row.block < length bs
         go None is a = absurd (elim a [ ])
         go (Some found) is a = slice_get_within bs row.block found is
 
-    early : (m : ℕ) (y : Identifier) (d : ℕ) (row : Declaration) → slice_get b.tables.declarations d ≡ Some row → row.block ≡ m → OwedAt cs (Some (length bs)) (item x owed ∷ os) m (Headed y) → IsParameter row.entry
-    early m y d row at is (inl q) = let lt : row.block < length bs = earlier d row at in let e : length bs ≡ m = some_same (length bs) m q.0 in absurd (omega (arith, is))
-    early m y d row at is (inr q) = f.early m y (was m (Headed y) q) d row at is
+    early : (m : ℕ) (y : Identifier) (d : ℕ) (row : Declaration) → slice_get b.tables.declarations d ≡ Some row → row.block ≡ m → row.listed ≡ true → OwedAt cs (Some (length bs)) (item x owed ∷ os) m (Headed y) → IsParameter row.entry
+    early m y d row at is l (inl q) = let lt : row.block < length bs = earlier d row at l in let e : length bs ≡ m = some_same (length bs) m q.0 in absurd (omega (arith, is))
+    early m y d row at is l (inr q) = f.early m y (was m (Headed y) q) d row at is l
 
     counts : (m : ℕ) (row : BlockOf) → (slice_get bs m ≡ Some row) ⊎ ((m ≡ length bs) × (new ≡ row)) → Counts b.tables.declarations row
     counts m row (inl q) = f.counts m row q
@@ -488,8 +221,8 @@ closed_row b end n (Some row) ts x os cur at k clean = (
     complete m y e (inl p) = inl (record { number = p.number; row = p.row; at = p.at; name = p.name; token = p.token; block = p.block; entry = p.entry; own = p.own })
     complete m y e (inr q) = inr (moved m (Declares y e) q)
 
-    heads : (found : Declaration) → (y : Identifier) × (y.name ≡ found.name) × OwedAt bs b.current (item x [] ∷ os) found.block (Headed y) → (y : Identifier) × (y.name ≡ found.name) × OwedAt cs row.encloser os found.block (Headed y)
-    heads found q = (q.0, q.1, moved found.block (Headed q.0) q.2)
+    heads : (found : Declaration) → (y : Identifier) × (y.name ≡ found.name) × OwedAt bs b.current (item x [] ∷ os) found.block (Headed y) × (found.listed ≡ true) → (y : Identifier) × (y.name ≡ found.name) × OwedAt cs row.encloser os found.block (Headed y) × (found.listed ≡ true)
+    heads found q = (q.0, q.1, moved found.block (Headed q.0) q.2, q.3)
 
 closed_clean : (b : BuildingOf) (end : ℕ) (ts : List Text) (x : Text) (os : List Open) (row : BlockOf) → (g : Fine b ts (item x [] ∷ os)) → slice_get b.tables.blocks (g.stack.0) ≡ Some row → (closed b end b.current).least ≡ None
     → (b.least ≡ None) × (Clean b ts (item x [] ∷ os) → Clean (closed b end b.current) ts os)
@@ -608,13 +341,50 @@ no_origin c d k ty quals ts last p class are v is found a n known array =
     let one : p.row ≡ found = some_same p.row found (sym p.at ∙ subst (λ (z : DeclNo). slice_get c.tables.declarations z.0 ≡ Some found) (sym same) known) in
     absurd (let other : formal p.mode k ty ≡ entry.Array a n = sym p.entry ∙ ap (λ (z : Declaration). z.entry) one ∙ array in cc)
 
+-- `simset` in front of the innermost block, which has just begun
+module _ (c : BuildingOf) (top : FreshTop c) (token : ℕ) (y : Identifier) (x : Text) (owed : List Mark) (ts : List Text) (os : List Open) (prefixing : Prefixing x) (plain : PlainName y) (a : Agree c ts (item x owed ∷ os)) where
+  abbrev with_prefix : BuildingOf
+  with_prefix = prefixed_top c top y
+
+  abbrev t : FreshTop (prefixed_top c top y)
+  t = prefixed_fresh c top y
+
+  s : Step c (changed c (prefixed_by y) c.current) Nothing
+  s = prefix_step c y a.fine.stack.0 a.fine.stack.1 plain (prefix_kind c x owed ts os prefixing a.fine)
+
+  prefix_agrees : Agree (prefixed_top c top y) ts (item x owed ∷ os)
+  prefix_agrees = subst (λ d. Agree d ts (item x owed ∷ os)) (prefixed_is c top y) (quiet_agrees c _ ts (item x owed ∷ os) s a)
+
+  sets_least : (run marked c (set_prefix token y)).least ≡ None → c.least ≡ None
+  sets_least e = sym (ap (λ (k : BuildingOf). k.least) (brought_is c top token y)) ∙ e
+
+  sets_clean : Clean c ts (item x owed ∷ os) → Clean (run marked c (set_prefix token y)) (ts ++ set_texts) (item x owed ∷ os)
+  sets_clean f =
+      subst (λ d. Clean d (ts ++ set_texts) (item x owed ∷ os)) (sym (brought_is c top token y))
+      (sets.sets_clean (prefixed_top c top y) t.number token t.row t.last t.at ts x owed os prefix_agrees.fine t.current prefixing
+      (subst (λ d. Clean d ts (item x owed ∷ os)) (prefixed_is c top y) (quiet_clean c _ ts (item x owed ∷ os) s (prefix_calm c y c.current) (prefix_quiet c y c.current).0 a.fine f)))
+
+  sets_covered : Covered c → Covered (run marked c (set_prefix token y))
+  sets_covered v =
+      subst Covered (sym (brought_is c top token y))
+      (sets.sets_covered (prefixed_top c top y) t.number token t.row t.last t.at ts x owed os prefix_agrees.fine t.current prefixing (subst Covered (prefixed_is c top y) (prefix_covers c y c.current v)))
+
+  sets_owned : Owned c ts → Owned (run marked c (set_prefix token y)) (ts ++ set_texts)
+  sets_owned v =
+      subst (λ d. Owned d (ts ++ set_texts)) (sym (brought_is c top token y))
+      (sets.sets_owned (prefixed_top c top y) t.number token t.row t.last t.at ts x owed os prefix_agrees.fine t.current prefixing (subst (λ d. Owned d ts) (prefixed_is c top y) (owned_step c _ Nothing ts s v)))
+
+-- the marks break no rule by themselves
+sets_unbroken : (token : ℕ) (y : Identifier) (ms : List Mark) → NoBreaks ms → NoBreaks (set_prefix token y ++ ms)
+sets_unbroken token y ms h = subst (λ z. NoBreaks (z ++ ms)) (sym (marks_of_sets token)) h
+
 pub run_clean : {os : List Open} {ms : List Mark} {xs : List Text} (b : BuildingOf) (ts : List Text) → Grouped os ms xs → Owes os → Agree b ts os → (run marked b ms).least ≡ None → (b.least ≡ None) × (Clean b ts os → Clean (run marked b ms) (ts ++ xs) []) × NoBreaks ms × (Covered b → Covered (run marked b ms)) × (Owned b ts → Owned (run marked b ms) (ts ++ xs))
 unfolding run marked
 run_clean {os = os} b ts (nothing e) w a clean = (clean, (λ f. subst (λ z. Clean b z []) (sym (append-nil ts)) (subst (Clean b ts) e f)), tt, (λ v. v), λ v. subst (Owned b) (sym (append-nil ts)) v)
 run_clean {os = os} b ts (block {ms = ms} {xs = xs} k text first i ds ss p g) w a clean =
     let x : Text = BlockText i ds ss in
     let c : BuildingOf = opened b k text first in
-    let later = run_clean c (ts ++ x ∷ []) g ((λ y e q. q), w) (block_agrees b k text first x (own_marks ds) ts os p a) clean in
+    let later = run_clean c (ts ++ x ∷ []) g ((λ y e q. q), w) (block_agrees b k text first x (own_marks ds) ts os p tt a) clean in
     let q = opened_clean b k text first ts x (own_marks ds) os (λ y e h. h) a.fine later.0 in (
       q.0,
       (λ f. subst (λ z. Clean (run marked c ms) z []) (append_assoc ts (x ∷ []) xs) (later.1 (q.1 f))),
@@ -625,7 +395,7 @@ run_clean {os = os} b ts (block {ms = ms} {xs = xs} k text first i ds ss p g) w 
 run_clean {os = os} b ts (prefixed_block {ms = ms} {xs = xs} text first class es ds ss g) w a clean =
     let x : Text = PrefixedText class es ds ss in
     let c : BuildingOf = opened b kind.Prefixed text first in
-    let later = run_clean c (ts ++ x ∷ []) g ((λ y e q. q), w) (block_agrees b kind.Prefixed text first x (own_marks ds) ts os refl a) clean in
+    let later = run_clean c (ts ++ x ∷ []) g ((λ y e q. q), w) (block_agrees b kind.Prefixed text first x (own_marks ds) ts os refl tt a) clean in
     let q = opened_clean b kind.Prefixed text first ts x (own_marks ds) os (λ y e h. h) a.fine later.0 in (
       q.0,
       (λ f. subst (λ z. Clean (run marked c ms) z []) (append_assoc ts (x ∷ []) xs) (later.1 (q.1 f))),
@@ -633,10 +403,26 @@ run_clean {os = os} b ts (prefixed_block {ms = ms} {xs = xs} text first class es
       (λ v. later.3 (covered_stays b c (opened_same b kind.Prefixed text first) v)),
       λ v. subst (Owned (run marked c ms)) (append_assoc ts (x ∷ []) xs) (later.4 (opened_owned b kind.Prefixed text first ts x a.fine.size tt v)),
     )
+run_clean {os = os} b ts (sets_block {ms = ms} {xs = xs} text first class es ds ss p e g) w a clean =
+    let x : Text = PrefixedText class es ds ss in
+    let c : BuildingOf = opened b kind.Prefixed text first in
+    let k : BuildingOf = run marked c (set_prefix first class) in
+    let top = opened_top b kind.Prefixed text first in
+    let begun = block_agrees b kind.Prefixed text first x (own_marks ds) ts os refl tt a in
+    let parts : run marked c (set_prefix first class ++ ms) ≡ run marked k ms = run_both c (set_prefix first class) ms in
+    let later = run_clean k ((ts ++ x ∷ []) ++ set_texts) g ((λ y e q. q), w) (sets_run_agree c top first class x (own_marks ds) (ts ++ x ∷ []) os tt p begun) (ap (λ (d : BuildingOf). d.least) (sym parts) ∙ clean) in
+    let all : ((ts ++ x ∷ []) ++ set_texts) ++ xs ≡ ts ++ (x ∷ (set_texts ++ xs)) = append_assoc (ts ++ x ∷ []) set_texts xs ∙ append_assoc ts (x ∷ []) (set_texts ++ xs) in
+    let q = opened_clean b kind.Prefixed text first ts x (own_marks ds) os (λ y e h. h) a.fine (sets_least c top first class x (own_marks ds) (ts ++ x ∷ []) os tt p begun later.0) in (
+      q.0,
+      (λ f. subst (λ d. Clean d (ts ++ (x ∷ (set_texts ++ xs))) []) (sym parts) (subst (λ z. Clean (run marked k ms) z []) all (later.1 (sets_clean c top first class x (own_marks ds) (ts ++ x ∷ []) os tt p begun (q.1 f))))),
+      sets_unbroken first class ms later.2,
+      (λ v. subst Covered (sym parts) (later.3 (sets_covered c top first class x (own_marks ds) (ts ++ x ∷ []) os tt p begun (covered_stays b c (opened_same b kind.Prefixed text first) v)))),
+      λ v. subst (λ d. Owned d (ts ++ (x ∷ (set_texts ++ xs)))) (sym parts) (subst (Owned (run marked k ms)) all (later.4 (sets_owned c top first class x (own_marks ds) (ts ++ x ∷ []) os tt p begun (opened_owned b kind.Prefixed text first ts x a.fine.size tt v)))),
+    )
 run_clean {os = os} b ts (connects {ms = ms} {xs = xs} text first g) w a clean =
     let x : Text = ConnectionText in
     let c : BuildingOf = opened b kind.Connection text first in
-    let later = run_clean c (ts ++ x ∷ []) g (owes_none x, w) (block_agrees b kind.Connection text first x [] ts os refl a) clean in
+    let later = run_clean c (ts ++ x ∷ []) g (owes_none x, w) (block_agrees b kind.Connection text first x [] ts os refl tt a) clean in
     let q = opened_clean b kind.Connection text first ts x [] os (λ y e h. h) a.fine later.0 in (
       q.0,
       (λ f. subst (λ z. Clean (run marked c ms) z []) (append_assoc ts (x ∷ []) xs) (later.1 (q.1 f))),
@@ -678,6 +464,31 @@ run_clean b ts (declares_class {os = os} {ms = ms} {xs = xs} text first x owed p
           (sym (holding_same c0 b.current).0 ∙ opened_least (changed c0 holding_class b.current) kind.Class text first later.0) (λ z. z) v)))),
       λ v. subst (Owned (run marked c ms)) (append_assoc ts (z ∷ []) xs)
           (later.4 (class_owned b text first prefix h ds ss ts row.0 a.fine.stack.0 a.fine.stack.1 row.1 a.fine.size later.0 v)),
+    )
+run_clean b ts (sets_class {os = os} {ms = ms} {xs = xs} text first x owed y h ds ss p e d n g) w a clean =
+    let z : Text = ClassText (Some y) h ds ss in
+    let c0 : BuildingOf = declared b h.name (entry.Class (length b.tables.blocks)) in
+    let c1 : BuildingOf = changed c0 holding_class b.current in
+    let c : BuildingOf = opened c1 kind.Class text first in
+    let inner : List Mark = each headed_marks h.formals ++ own_marks ds in
+    let k : BuildingOf = run marked c (set_prefix first y) in
+    let top = opened_top c1 kind.Class text first in
+    let row = row_of b ts _ a.fine a.fine.stack.0 x a.fine.stack.2 in
+    let begun = class_agrees b text first x owed inner (Some y) h ds ss ts os d a in
+    let parts : run marked c (set_prefix first y ++ ms) ≡ run marked k ms = run_both c (set_prefix first y) ms in
+    let later = run_clean k ((ts ++ z ∷ []) ++ set_texts) g (owes_heading z h.formals (own_marks ds) (λ y e q. q), w) (sets_run_agree c top first y z inner (ts ++ z ∷ []) (item x owed ∷ os) tt p begun) (ap (λ (j : BuildingOf). j.least) (sym parts) ∙ clean) in
+    let all : ((ts ++ z ∷ []) ++ set_texts) ++ xs ≡ ts ++ (z ∷ (set_texts ++ xs)) = append_assoc (ts ++ z ∷ []) set_texts xs ∙ append_assoc ts (z ∷ []) (set_texts ++ xs) in
+    let c_clean : c.least ≡ None = sets_least c top first y z inner (ts ++ z ∷ []) (item x owed ∷ os) tt p begun later.0 in
+    let q = class_clean b text first x owed inner (Some y) h ds ss ts os row.0 n (begins_heading z h.formals (own_marks ds) (λ y e q. q)) a.fine row.1 c_clean in (
+      q.0,
+      (λ f. subst (λ j. Clean j (ts ++ (z ∷ (set_texts ++ xs))) []) (sym parts) (subst (λ v. Clean (run marked k ms) v []) all (later.1 (sets_clean c top first y z inner (ts ++ z ∷ []) (item x owed ∷ os) tt p begun (q.1 f))))),
+      sets_unbroken first y ms later.2,
+      (λ v. subst Covered (sym parts) (later.3 (sets_covered c top first y z inner (ts ++ z ∷ []) (item x owed ∷ os) tt p begun
+          (covered_stays c1 c (opened_same c1 kind.Class text first) (covered_stays c0 c1 (holding_refs c0 b.current)
+          (declared_alone b h.name (entry.Class (length b.tables.blocks)) a.fine.stack.0 row.0 (class_unmatched b.tables (length b.tables.blocks)) a.fine.stack.1 row.1
+          (sym (holding_same c0 b.current).0 ∙ opened_least c1 kind.Class text first c_clean) (λ z. z) v)))))),
+      λ v. subst (λ j. Owned j (ts ++ (z ∷ (set_texts ++ xs)))) (sym parts) (subst (Owned (run marked k ms)) all
+          (later.4 (sets_owned c top first y z inner (ts ++ z ∷ []) (item x owed ∷ os) tt p begun (class_owned b text first (Some y) h ds ss ts row.0 a.fine.stack.0 a.fine.stack.1 row.1 a.fine.size c_clean v)))),
     )
 run_clean b ts (declares {os = os} {ms = ms} {xs = xs} x owed quals y e d n own q written g) w a clean =
     let row = row_of b ts _ a.fine a.fine.stack.0 x a.fine.stack.2 in

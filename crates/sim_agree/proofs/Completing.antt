@@ -18,7 +18,7 @@ use Rattle.sim_scope.specs.declared.types.SimType.{SimType}
 use Rattle.sim_scope.specs.declared.types.SimType.TheVariants as t
 use Rattle.sim_scope.specs.Access.{block_at, joined}
 use Rattle.sim_scope.specs.Expressions.{judge_side}
-use Rattle.sim_scope.specs.Levels.{base_in, class_block, class_block_in}
+use Rattle.sim_scope.specs.Levels.{base_in, class_block, class_block_in, standard_in}
 use Rattle.sim_scope.specs.Runs.{run}
 use Rattle.sim_scope.specs.Scopes.{binding, entry_in, entry_of}
 use Rattle.sim_scope.specs.Tables.{BlockOf, Tables, with_base_at, with_entry_at}
@@ -38,10 +38,11 @@ pub record Retyped (old new : Declaration) : Type 0 where
   pub name : new.name ≡ old.name
   pub token : new.token ≡ old.token
   pub block : new.block ≡ old.block
+  pub listed : new.listed ≡ old.listed
   pub entry : (new.entry ≡ old.entry) ⊎ (OfReferences old.entry × ((class : DeclNo) × (new.entry ≡ entry_to class old.entry)))
 
 same_retyped : (row : Declaration) → Retyped row row
-same_retyped row = record { name = refl; token = refl; block = refl; entry = inl refl }
+same_retyped row = record { name = refl; token = refl; block = refl; listed = refl; entry = inl refl }
 
 -- rows become such rows, each at its place
 pub record Rows (ds es : List Declaration) : Type 0 where
@@ -81,7 +82,7 @@ module _ (ds es : List Declaration) (r : Rows ds es) (n : ℕ) (row old : Declar
   was_this = let q = r.was n row at in subst (λ z. Retyped z row) (some_same q.0 old (sym q.1 ∙ was_at)) q.2
 
   now_this : Retyped old (record row { entry = entry_to class row.entry })
-  now_this = let w = was_this in record { name = w.name; token = w.token; block = w.block; entry = inr (refs, (class, go w.entry)) }
+  now_this = let w = was_this in record { name = w.name; token = w.token; block = w.block; listed = w.listed; entry = inr (refs, (class, go w.entry)) }
     where
       go : (row.entry ≡ old.entry) ⊎ (OfReferences old.entry × ((c : DeclNo) × (row.entry ≡ entry_to c old.entry))) → entry_to class row.entry ≡ entry_to class old.entry
       go (inl e) = ap (entry_to class) e
@@ -146,18 +147,34 @@ module _ (D : Tables) where
 
 -- ---- the classes of connections
 
--- a block without the class that it connects
+-- a block without its next level and without its standard prefix
 abbrev pub bare_row : Option BlockOf → Option BlockOf
 bare_row None = None
-bare_row (Some row) = Some (record row { base = None })
+bare_row (Some row) = Some (record row { base = None; standard = None })
 
 abbrev pub kind_in : Option BlockOf → Option BlockKind
 kind_in None = None
 kind_in (Some row) = Some row.kind
 
+-- a class, a block with a prefix, or a class of SIMSET
+abbrev pub has_base : BlockKind → Bool
+has_base kind.Class = true
+has_base kind.Prefixed = true
+has_base (kind.StandardClass which) = true
+has_base _ = false
+
+pub prefixable_base : (k : BlockKind) → is_prefixable k ≡ true → has_base k ≡ true
+prefixable_base kind.Program e = absurd (cc)
+prefixable_base kind.SubBlock e = absurd (cc)
+prefixable_base kind.Procedure e = absurd (cc)
+prefixable_base kind.Class e = refl
+prefixable_base kind.Prefixed e = refl
+prefixable_base kind.Connection e = absurd (cc)
+prefixable_base (kind.StandardClass which) e = refl
+
 -- what may have a next level: a connection, a class or a block with a prefix
 abbrev pub HasNext : Tables → (block : ℕ) → Type 0
-HasNext D k = (row : BlockOf) × (slice_get D.blocks k ≡ Some row) × ((row.kind ≡ kind.Connection) ⊎ (is_prefixable row.kind ≡ true))
+HasNext D k = (row : BlockOf) × (slice_get D.blocks k ≡ Some row) × ((row.kind ≡ kind.Connection) ⊎ (has_base row.kind ≡ true))
 
 -- What is complete of tables: of blocks but what connections connect, the classes of references, and these are classes.
 pub record Completes (D T : Tables) (IsClass : ℕ → Type 0) : Type 0 where
@@ -168,6 +185,7 @@ pub record Completes (D T : Tables) (IsClass : ℕ → Type 0) : Type 0 where
   pub bases : (k c : ℕ) → base_in (slice_get T.blocks k) ≡ Some c → HasNext D k × IsClass c
   -- what is no connection has the base that its prefix gives it
   pub steady : (k : ℕ) → (kind_in (slice_get D.blocks k) ≡ Some kind.Connection → ⊥) → base_in (slice_get T.blocks k) ≡ base_in (slice_get (prefixed D).blocks k)
+  pub standards : (k : ℕ) → standard_in (slice_get T.blocks k) ≡ standard_in (slice_get (prefixed D).blocks k)
 
 module _ (D Q : Tables) (IsClass : ℕ → Type 0) (classes : (d : DeclNo) (n : ℕ) → class_block Q d ≡ Some n → IsClass n) where
   -- so far
@@ -205,6 +223,7 @@ module _ (D Q : Tables) (IsClass : ℕ → Type 0) (classes : (d : DeclNo) (n : 
     rows = c.rows;
     bases = λ j n e. bases j n (nat_eq k j) refl e;
     steady = λ j other. steady j (nat_eq k j) refl other;
+    standards = λ j. kept_set standard_in T.blocks k row (record row { base = next }) at refl j ∙ c.standards j;
   }
     where
       steady : (j : ℕ) (z : Bool) → nat_eq k j ≡ z → (kind_in (slice_get D.blocks j) ≡ Some kind.Connection → ⊥) → base_in (slice_get (slice_set T.blocks k (record row { base = next })) j) ≡ base_in (slice_get (prefixed D).blocks j)

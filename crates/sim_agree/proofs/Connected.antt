@@ -22,7 +22,7 @@ use Rattle.sim_scope.specs.Access.{around, block_at, encloser, is_connection as 
 use Rattle.sim_scope.specs.Declare.{declared_by}
 use Rattle.sim_scope.specs.Expressions.{judge_side}
 use Rattle.sim_scope.specs.Judged.{Judged}
-use Rattle.sim_scope.specs.Levels.{base, base_in}
+use Rattle.sim_scope.specs.Levels.{base, base_in, is_standard_class, standard_in}
 use Rattle.sim_scope.specs.Runs.{run}
 use Rattle.sim_scope.specs.Scopes.{binding, block_in, entry_in, entry_of}
 use Rattle.sim_scope.specs.Source.{Source}
@@ -50,7 +50,8 @@ use Rattle.sim_agree.proofs.Settled as b
 use Rattle.sim_agree.proofs.Settled.{Alike, Settled}
 use Rattle.sim_agree.proofs.SettledJudged as j
 use Rattle.sim_agree.proofs.Tables as t
-use Rattle.sim_agree.proofs.Unprefixed.{Unprefixed, extras_in}
+use Rattle.sim_agree.proofs.Unprefixed.{NoVirtuals}
+use Rattle.sim_agree.proofs.ClassRows.{no_class_connection}
 
 -- ---- steps change nothing but what a connection connects
 
@@ -59,15 +60,16 @@ record Grown (T U : Tables) : Type 0 where
   places : U.places ≡ T.places
   declarations : U.declarations ≡ T.declarations
   rows : (k : ℕ) → bare_row (slice_get U.blocks k) ≡ bare_row (slice_get T.blocks k)
+  standards : (k : ℕ) → standard_in (slice_get U.blocks k) ≡ standard_in (slice_get T.blocks k)
 
 step_grown : (T : Tables) (o next : Option ℕ) → Grown T (connected_at T o next)
 unfolding with_base_at
-step_grown T None next = record { size = refl; places = refl; declarations = refl; rows = λ k. refl }
+step_grown T None next = record { size = refl; places = refl; declarations = refl; rows = λ k. refl; standards = λ k. refl }
 step_grown T (Some k) next = go (slice_get T.blocks k) refl
   where
     go : (o : Option BlockOf) → slice_get T.blocks k ≡ o → Grown T (elim o [ None ↦ T | Some row ↦ record T { blocks = slice_set T.blocks k (record row { base = next }) } ])
-    go None at = record { size = refl; places = refl; declarations = refl; rows = λ n. refl }
-    go (Some row) at = record { size = length-set T.blocks k (record row { base = next }); places = refl; declarations = refl; rows = λ n. kept_set bare_row T.blocks k row (record row { base = next }) at refl n }
+    go None at = record { size = refl; places = refl; declarations = refl; rows = λ n. refl; standards = λ n. refl }
+    go (Some row) at = record { size = length-set T.blocks k (record row { base = next }); places = refl; declarations = refl; rows = λ n. kept_set bare_row T.blocks k row (record row { base = next }) at refl n; standards = λ n. kept_set standard_in T.blocks k row (record row { base = next }) at refl n }
 
 step_apart : (T : Tables) (o next : Option ℕ) (n : ℕ) → (o ≡ Some n → ⊥) → slice_get (connected_at T o next).blocks n ≡ slice_get T.blocks n
 unfolding with_base_at
@@ -88,10 +90,10 @@ step_base T next k row at = go (slice_get T.blocks k) refl at
     go (Some x) e f = ap base_in (set_here T.blocks k x (record x { base = next }) e)
 
 grown_more : (T U V : Tables) → Grown T U → Grown U V → Grown T V
-grown_more T U V x y = record { size = y.size ∙ x.size; places = y.places ∙ x.places; declarations = y.declarations ∙ x.declarations; rows = λ k. y.rows k ∙ x.rows k }
+grown_more T U V x y = record { size = y.size ∙ x.size; places = y.places ∙ x.places; declarations = y.declarations ∙ x.declarations; rows = λ k. y.rows k ∙ x.rows k; standards = λ k. y.standards k ∙ x.standards k }
 
 grown_same : (T : Tables) → Grown T T
-grown_same T = record { size = refl; places = refl; declarations = refl; rows = λ k. refl }
+grown_same T = record { size = refl; places = refl; declarations = refl; rows = λ k. refl; standards = λ k. refl }
 
 run_grown : (es : List Connecting) (c : ConnectingOf) → Grown c.tables (run connecting c es).tables
 unfolding run connecting
@@ -145,13 +147,6 @@ around_bare (Some row) = refl
 around_same : (o q : Option BlockOf) → bare_row o ≡ bare_row q → around o ≡ around q
 around_same o q e = sym (around_bare o) ∙ ap around e ∙ around_bare q
 
-extras_bare : (o : Option BlockOf) → extras_in (bare_row o) ≡ extras_in o
-extras_bare None = refl
-extras_bare (Some row) = refl
-
-extras_same : (o q : Option BlockOf) → bare_row o ≡ bare_row q → extras_in o ≡ extras_in q
-extras_same o q e = sym (extras_bare o) ∙ ap extras_in e ∙ extras_bare q
-
 module _ (s : Source) (of : TablesOf s) (plain : Plain s.program) (order : InOrder s.program) where
   done : Completes (declared_by s.program).tables s.tables (t.IsClassText s.program)
   done = t.completes s of plain order
@@ -159,7 +154,7 @@ module _ (s : Source) (of : TablesOf s) (plain : Plain s.program) (order : InOrd
   -- the block that begins where a connection is opened
   number_there : (o n : ℕ) → (q : Opened (declared_by s.program).tables.blocks o) → joined (slice_get s.tables.places o) ≡ Some n → q.number ≡ n
   number_there o n q e =
-      let first = t.first_place s.program plain order q.number q.row q.at in
+      let first = t.first_place s.program plain order q.number q.row q.at (ap is_standard_class q.is) in
       let here : slice_get (declared_by s.program).tables.places o ≡ Some (Some q.number) = subst (λ z. slice_get (declared_by s.program).tables.places z ≡ Some (Some q.number)) q.begins first in
       some_same q.number n (sym (ap joined here) ∙ ap (λ (z : List (Option ℕ)). joined (slice_get z o)) (sym done.places) ∙ e)
 
@@ -178,7 +173,7 @@ module _ (s : Source) (of : TablesOf s) (plain : Plain s.program) (order : InOrd
     where
       go : (o : Option Entry) → entry_of s.tables d ≡ o → block_in o ≡ Some k → is_connection (text s k) ≡ false
       go (Some (entry.Procedure result n)) at f = let same : n ≡ k = some_same n k f in ap is_connection (h.procedures s of plain order d result k (at ∙ ap (λ z. Some (entry.Procedure result z)) same)).is
-      go (Some (entry.Class n)) at f = let same : n ≡ k = some_same n k f in ap is_connection (h.classes s of plain order d k (at ∙ ap (λ z. Some (entry.Class z)) same)).0.is
+      go (Some (entry.Class n)) at f = let same : n ≡ k = some_same n k f in no_class_connection (text s k) (h.classes s of plain order d k (at ∙ ap (λ z. Some (entry.Class z)) same)).0.is
       go (Some (entry.Variable ty)) at f = absurd (cc)
       go (Some (entry.Constant ty)) at f = absurd (cc)
       go (Some (entry.Array ty n)) at f = absurd (cc)
@@ -214,11 +209,8 @@ module _ (s : Source) (of : TablesOf s) (plain : Plain s.program) (order : InOrd
     settled : (k : ℕ) → Apart s.tables.places k es → Settled c.tables s.tables k
     settled k apart = sym (ap (λ (z : Tables). slice_get z.blocks k) is ∙ run_apart es c k (subst (λ z. Apart z k es) grown.places apart))
 
-    bare : Unprefixed c.tables
-    bare = let u = t.unprefixed s of plain order in record {
-      blocks = λ k. extras_same (slice_get c.tables.blocks k) (slice_get s.tables.blocks k) (sym (grown.rows k)) ∙ u.blocks k;
-      virtuals = λ d row at. u.virtuals d row (ap (λ (ds : List Declaration). slice_get ds d) grown.declarations ∙ at);
-    }
+    bare : NoVirtuals c.tables.declarations
+    bare = let u = t.shows s of plain order in λ d row at. u.virtuals d row (ap (λ (ds : List Declaration). slice_get ds d) grown.declarations ∙ at)
 
     -- what is numbered below the later connections is as it will be
     alike : (l m : ℕ) → AllOpened es (declared_by s.program).tables.blocks → LooksTo s l es m → Alike c.tables s.tables (λ k. k < l)
@@ -232,10 +224,11 @@ module _ (s : Source) (of : TablesOf s) (plain : Plain s.program) (order : InOrd
       solid = λ k other. settled k (body_apart k (sym (i.connections s of plain order k) ∙ other) es opened);
       here = λ k lt. settled k (low_apart k l m es lt looks);
       outward = λ k n lt e. (let inner = t.nesting s of plain order k n (around_same (slice_get s.tables.blocks k) (slice_get c.tables.blocks k) (grown.rows k) ∙ e) in let z : n < l = omega (arith, lt, inner) in z);
-      levels = λ k n e f. (let q = t.connects s of plain order k n (sym (ap base_in e) ∙ f) in settled n (body_apart n (ap is_connection q.4) es opened));
+      levels = λ k n e f. (let q = t.connects s of plain order k n (sym (ap base_in e) ∙ f) in settled n (body_apart n (no_class_connection (text s n) q) es opened));
       bodies = λ d k e. settled k (body_apart k (body_text d k (ap (λ (ds : List Declaration). block_in (entry_in (slice_get ds d.0))) grown.declarations ∙ e)) es opened);
+      standards = λ k. sym (grown.standards k);
       first = bare;
-      last = t.unprefixed s of plain order;
+      last = (let u = t.shows s of plain order in u.virtuals);
     }
 
     class_type_same : (l m : ℕ) → AllOpened es (declared_by s.program).tables.blocks → LooksTo s l es m → (x : Option SimType) → class_of_type c.tables x ≡ class_of_type s.tables x
@@ -348,7 +341,7 @@ none_first s of plain order k is =
   where
     go : (o : Option ℕ) → base (prefixed (declared_by s.program).tables) k ≡ o → o ≡ None
     go None e = refl
-    go (Some b) e = absurd (let p = (t.P s of plain order).bases k b e in let q : true ≡ false = sym is ∙ t.prefixed_other s of plain order k p.row p.at p.kind in cc)
+    go (Some b) e = absurd (let q : true ≡ false = sym is ∙ t.next_there s of plain order k b ((t.P s of plain order).bases k b e) in cc)
 
 pub connects_met : (s : Source) (of : TablesOf s) (plain : Plain s.program) (order : InOrder s.program) (P : Option ℕ → Type 0) → P None → AllMet s P (program_events connections s.program) → (k c : ℕ) → is_connection (text s k) ≡ true → base s.tables k ≡ Some c → P (Some c)
 unfolding completed connected base

@@ -1,16 +1,19 @@
 -- A connection stands in a text.
-use Rattle.std.proofs.Common.{◌≡◌, ℕ, zero, suc, true, false, List, [], ◌∷◌, ◌++◌, Some, refl, sym, ap, ◌∙◌}
-use Rattle.std.specs.Prelude.{slice_get}
+use Rattle.std.proofs.Common.{◌≡◌, ℕ, zero, suc, true, false, List, [], ◌∷◌, ◌++◌, Option, Some, None, refl, sym, ap, ◌∙◌}
+use Rattle.std.specs.Prelude.{map, slice_get}
 use Rattle.sim_tree.specs.Order.{InOrder}
-use Rattle.sim_tree.specs.Syntax.{Also, Arms, Arrays, Begin, Block, Declaration, Declarations, DeclareClass, DeclareProcedure, NoArm, NoDeclaration, NoStatement, Statement, Statements, Variables, When, With, Expressions}
+use Rattle.sim_tree.specs.Syntax.{Also, Arms, Arrays, Begin, Block, Declaration, Declarations, DeclareClass, DeclareProcedure, NoArm, NoDeclaration, NoStatement, Statement, Statements, Variables, When, With, Expressions, Prefix}
 use Rattle.sim_tree.specs.Syntax as syntax
+use Rattle.sim_scope.specs.declared.types.StandardClass.{StandardClass}
 use Rattle.sim_scope.specs.Access.{encloser}
+use Rattle.sim_scope.specs.Bodies.{classes_declared}
+use Rattle.sim_scope.specs.Standard.{standard_prefix}
 use Rattle.sim_scope.specs.Source.{Source}
-use Rattle.sim_meaning.specs.Texts.{ConnectionText, text}
+use Rattle.sim_meaning.specs.Texts.{ConnectionText, text, StandardText, prefix_texts, standard_texts}
 use Rattle.sim_meaning.specs.Attributes.{is_connection}
 use Rattle.sim_agree.specs.Plain.{Plain}
 use Rattle.sim_agree.specs.TablesOf.{TablesOf}
-use Rattle.sim_agree.proofs.Laid.{Held, Joined, Whole, arms_held, block_held, declaration_held, declarations_held, held_program, program_held, statement_held, statements_held, text_held, prefixed_held}
+use Rattle.sim_agree.proofs.Laid.{Held, Joined, Whole, arms_held, block_held, declaration_held, declarations_held, held_program, program_held, statement_held, statements_held, text_held, prefixed_held, all_held}
 use Rattle.sim_agree.proofs.Placing as p
 use Rattle.sim_agree.proofs.Tables as t
 use Rattle.sim_agree.proofs.Tables.{program_final}
@@ -26,6 +29,18 @@ both_whole : (xs ys : List Held) → AllWhole xs → AllWhole ys → AllWhole (x
 both_whole [] ys a b = b
 both_whole (Whole x ∷ xs) ys a b = (a.0, both_whole xs ys a.1 b)
 both_whole (Joined i x ∷ xs) ys a b = both_whole xs ys a b
+
+all_whole : (cs : List StandardClass) → AllWhole (all_held (map StandardText cs))
+all_whole [] = tt
+all_whole (c ∷ cs) = (refl, all_whole cs)
+
+standard_whole : (name : List ℕ) → AllWhole (all_held (standard_texts name))
+unfolding standard_texts
+standard_whole name = all_whole (classes_declared (standard_prefix name))
+
+prefix_whole : (prefix : Option Identifier) → AllWhole (all_held (prefix_texts prefix))
+prefix_whole None = tt
+prefix_whole (Some y) = standard_whole y.name
 
 mutual
   statement_whole : (a : Statement) → AllWhole (statement_held a)
@@ -51,7 +66,8 @@ mutual
   arms_whole (When i class opening a end more) = both_whole (statement_held a) (arms_held more) (statement_whole a) (arms_whole more)
 
   prefixed_whole : (class : Identifier) (es : Expressions) (b : Block) → AllWhole (prefixed_held class es b)
-  prefixed_whole class es (Begin i ds ss e) = (refl, both_whole (declarations_held ds) (statements_held ss) (declarations_whole ds) (statements_whole ss))
+  prefixed_whole class es (Begin i ds ss e) =
+      (refl, both_whole (all_held (standard_texts class.name)) (declarations_held ds ++ statements_held ss) (standard_whole class.name) (both_whole (declarations_held ds) (statements_held ss) (declarations_whole ds) (statements_whole ss)))
 
   block_whole : (b : Block) → AllWhole (block_held b)
   block_whole (Begin i NoDeclaration ss e) = statements_whole ss
@@ -66,11 +82,13 @@ mutual
   declaration_whole (Variables type vs) = tt
   declaration_whole (Arrays type i segments) = tt
   declaration_whole (DeclareProcedure result i h a e) = (refl, statement_whole a)
-  declaration_whole (DeclareClass prefix i h interface (syntax.Compound (Begin j ds ss e)) end) = (refl, both_whole (declarations_held ds) (statements_held ss) (declarations_whole ds) (statements_whole ss))
-  declaration_whole (DeclareClass prefix i h interface a end) = (refl, statement_whole a)
+  declaration_whole (DeclareClass prefix i h interface (syntax.Compound (Begin j ds ss e)) end) =
+      (refl, both_whole (all_held (prefix_texts prefix)) (declarations_held ds ++ statements_held ss) (prefix_whole prefix) (both_whole (declarations_held ds) (statements_held ss) (declarations_whole ds) (statements_whole ss)))
+  declaration_whole (DeclareClass prefix i h interface a end) = (refl, both_whole (all_held (prefix_texts prefix)) (statement_held a) (prefix_whole prefix) (statement_whole a))
 
-program_whole : (b : Block) → AllWhole (program_held b)
-program_whole (Begin i ds ss end) = (refl, both_whole (declarations_held ds) (statements_held ss) (declarations_whole ds) (statements_whole ss))
+program_whole : (prefix : Option Prefix) (b : Block) → AllWhole (program_held prefix b)
+program_whole (Some x) b = prefixed_whole x.class x.arguments b
+program_whole None (Begin i ds ss end) = (refl, both_whole (declarations_held ds) (statements_held ss) (declarations_whole ds) (statements_whole ss))
 
 joined_at : (hs : List Held) (n : ℕ) (h : Held) → AllWhole hs → slice_get hs n ≡ Some h → text_held h ≡ ConnectionText → (i : ℕ) × (a : Statement) × (slice_get hs n ≡ Some (Joined i a))
 joined_at [] n h w at e = absurd (cc)
@@ -85,8 +103,8 @@ module _ (s : Source) (of : TablesOf s) (plain : Plain s.program) (order : InOrd
   pub connection_enclosed : (k : ℕ) → text s k ≡ Some ConnectionText → (u : ℕ) × (encloser s.tables k ≡ Some u)
   unfolding text encloser
   connection_enclosed k at =
-      let texts = held_program s.program.prefix s.program.block plain.prefix plain.block in
-      let h = p.what_is_held (program_held s.program.block) k ConnectionText (ap (λ z. slice_get z k) texts ∙ at) in
-      let j = joined_at (program_held s.program.block) k h.0 (program_whole s.program.block) h.1 h.2 in
+      let texts = held_program s.program.prefix s.program.block plain.block in
+      let h = p.what_is_held (program_held s.program.prefix s.program.block) k ConnectionText (ap (λ z. slice_get z k) texts ∙ at) in
+      let j = joined_at (program_held s.program.prefix s.program.block) k h.0 (program_whole s.program.prefix s.program.block) h.1 h.2 in
       let q = (program_final s.program plain order).laid.joins k j.0 j.1 j.2 in
       (q.1.0, t.same_around s of plain order k ∙ q.1.1)

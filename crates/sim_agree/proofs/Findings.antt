@@ -1,5 +1,5 @@
 -- What an identifier denotes in an allowed plain program, and in which block it is found.
-use Rattle.std.proofs.Common.{◌≡◌, ◌<◌, ◌⊎◌, inl, inr, ℕ, zero, suc, Bool, true, false, List, [], ◌∷◌, length, Option, Some, None, refl, sym, ap, ◌∙◌, subst, arith, if◌then◌else◌}
+use Rattle.std.proofs.Common.{◌≡◌, ◌<◌, ◌⊎◌, inl, inr, ℕ, zero, suc, Bool, true, false, List, length, Option, Some, None, refl, sym, ap, ◌∙◌, subst, arith, if◌then◌else◌}
 use Rattle.std.specs.Prelude.{◌||◌, nat_eq, slice_get}
 use Rattle.std.specs.Option.{option_or}
 use Rattle.std.proofs.lemmas.Bool.Decides.{nat_tests}
@@ -13,19 +13,17 @@ use Rattle.sim_scope.specs.Access.{block_at, encloser}
 use Rattle.sim_scope.specs.Along.{first_along, from_next}
 use Rattle.sim_scope.specs.Calls.{attribute_in, detach_or_none}
 use Rattle.sim_scope.specs.Levels.{base, has_level, holds, level_beyond, some_level_of}
-use Rattle.sim_scope.specs.Scopes.{beyond, binding, declaration_from, declared_in, declared_or_standard, ends_search, entry_of, found_in, if_found, is_shown, lookup, numbered, outward, represented, searched, shown, shown_of}
+use Rattle.sim_scope.specs.Scopes.{beyond, binding, declaration_from, declared_or_standard, ends_search, entry_of, found_in, if_found, is_shown, outward, represented, searched, shown, shown_of}
 use Rattle.sim_scope.specs.Source.{Source, block_of}
-use Rattle.sim_scope.specs.Tables.{BlockOf}
 use Rattle.sim_meaning.specs.Attributes.{is_connection}
-use Rattle.sim_meaning.specs.Entries.{numbers_in, numbers_of}
 use Rattle.sim_meaning.specs.Texts.{text}
-use Rattle.sim_sound.specs.Held.{Among, Around, first, further, itself, later}
+use Rattle.sim_sound.specs.Held.{Around, further, itself}
 use Rattle.sim_agree.specs.Facts.{Found, FoundThrough}
 use Rattle.sim_agree.specs.Plain.{Plain}
 use Rattle.sim_agree.specs.TablesOf.{TablesOf}
 use Rattle.sim_agree.proofs.Tables as t
 use Rattle.sim_agree.proofs.Prefixing.{Reaches, shown_reaches}
-use Rattle.sim_agree.proofs.Unprefixed.{Unprefixed, declared_is, shown_next, stands_for_itself}
+use Rattle.sim_agree.proofs.Unprefixed.{Showing, StandsIn, declared_is, shown_next, stands_for_itself}
 
 some_same : {A : Type 0} (a b : A) → Some a ≡ Some b → a ≡ b
 some_same a b e = cc
@@ -37,29 +35,12 @@ in_range : {A : Type 0} (xs : List A) (n : ℕ) (o : Option A) → slice_get xs 
 in_range xs n o at x e = slice_get_within xs n x (at ∙ e)
 
 module _ (s : Source) (of : TablesOf s) (plain : Plain s.program) (order : InOrder s.program) where
-  bare : Unprefixed s.tables
-  bare = t.unprefixed s of plain order
+  bare : Showing s.tables
+  bare = t.shows s of plain order
 
-  -- what a block declares is listed in it
-  looked : (name : List ℕ) (k : ℕ) (d : DeclNo) → lookup s.tables k name ≡ Some d → Among d (numbers_of s k) × (k < length s.tables.blocks)
-  unfolding lookup
-  looked name k d e = go (slice_get s.tables.blocks k) refl e
-    where
-      at_place : (ns : List DeclNo) (n : ℕ) → slice_get ns n ≡ Some d → Among d ns
-      at_place [] n f = absurd (cc)
-      at_place (m ∷ ns) zero f = subst (λ z. Among z (m ∷ ns)) (some_same m d f) first
-      at_place (m ∷ ns) (suc n) f = later (at_place ns n f)
-
-      placed : (ns : List DeclNo) (o : Option ℕ) → numbered ns o ≡ Some d → Among d ns
-      placed ns None f = absurd (cc)
-      placed ns (Some n) f = at_place ns n f
-
-      go : (o : Option BlockOf) → slice_get s.tables.blocks k ≡ o → declared_in o name ≡ Some d → Among d (numbers_of s k) × (k < length s.tables.blocks)
-      go None at f = absurd (cc)
-      go (Some row) at f = (subst (λ z. Among d z) (sym (ap numbers_in at)) (placed row.numbers _ f), slice_get_within s.tables.blocks k row at)
-
-  row_of_found : (name : List ℕ) (k : ℕ) (d : DeclNo) → lookup s.tables k name ≡ Some d → (e : Entry) × (entry_of s.tables d ≡ Some e)
-  row_of_found name k d e = let r = t.owned s of plain order k d (looked name k d e).0 in (r.0.entry, t.row_entry s of plain order d r.0 r.1)
+  -- what stands in a block
+  block_stands : (k : ℕ) (d : DeclNo) → StandsIn s.tables k d → block_of s d ≡ k
+  block_stands k d q = t.block_is s of plain order d q.0 q.1 ∙ q.2
 
   -- what is shown is declared at a level
   shown_level : (n : ℕ) (from : Option ℕ) (k : ℕ) (name : List ℕ) (d : DeclNo) → shown_of s.tables n from k name ≡ Some d → some_level_of s.tables n (λ b. nat_eq b (block_of s d)) k ≡ true
@@ -71,10 +52,10 @@ module _ (s : Source) (of : TablesOf s) (plain : Plain s.program) (order : InOrd
       or_true true y e = refl
       or_true false y e = e
 
-      go : (lookup s.tables k name ≡ Some d) ⊎ ((c : ℕ) × (base s.tables k ≡ Some c) × (shown_of s.tables n from c name ≡ Some d)) → ((c : ℕ) → shown_of s.tables n from c name ≡ Some d → some_level_of s.tables n (λ b. nat_eq b (block_of s d)) c ≡ true)
+      go : StandsIn s.tables k d ⊎ ((c : ℕ) × (base s.tables k ≡ Some c) × (shown_of s.tables n from c name ≡ Some d)) → ((c : ℕ) → shown_of s.tables n from c name ≡ Some d → some_level_of s.tables n (λ b. nat_eq b (block_of s d)) c ≡ true)
           → (nat_eq k (block_of s d) || holds (λ b. some_level_of s.tables n (λ b. nat_eq b (block_of s d)) b) (base s.tables k)) ≡ true
       go (inl l) rest =
-          let own : block_of s d ≡ k = t.owned_block s of plain order k d (looked name k d l).0 in
+          let own : block_of s d ≡ k = block_stands k d l in
           ap (λ z. z || holds (λ b. some_level_of s.tables n (λ b. nat_eq b (block_of s d)) b) (base s.tables k)) (ap (nat_eq k) own ∙ same_number k)
       go (inr q) rest = or_true (nat_eq k (block_of s d)) _ (ap (holds (λ b. some_level_of s.tables n (λ b. nat_eq b (block_of s d)) b)) q.1 ∙ rest q.0 q.2)
 
@@ -102,8 +83,8 @@ module _ (s : Source) (of : TablesOf s) (plain : Plain s.program) (order : InOrd
       by_count zero e = absurd (nothing_shown from k name d e)
       by_count (suc n) e = go (shown_next s.tables bare n from k name d e)
         where
-          go : (lookup s.tables k name ≡ Some d) ⊎ ((c : ℕ) × (base s.tables k ≡ Some c) × (shown_of s.tables n from c name ≡ Some d)) → (c : ℕ) × (base s.tables k ≡ Some c) × (some_level_of s.tables (suc n) (λ b. nat_eq b (block_of s d)) c ≡ true)
-          go (inl l) = absurd (t.nothing_in_connections s of plain order k is d (looked name k d l).0)
+          go : StandsIn s.tables k d ⊎ ((c : ℕ) × (base s.tables k ≡ Some c) × (shown_of s.tables n from c name ≡ Some d)) → (c : ℕ) × (base s.tables k ≡ Some c) × (some_level_of s.tables (suc n) (λ b. nat_eq b (block_of s d)) c ≡ true)
+          go (inl l) = absurd (t.nothing_stands_in_connections s of plain order k is d l)
           go (inr q) = (q.0, q.1, level_more n (λ b. nat_eq b (block_of s d)) q.0 (shown_level n from q.0 name d q.2))
 
   record Shows (k : ℕ) (d : DeclNo) : Type 0 where
@@ -115,11 +96,11 @@ module _ (s : Source) (of : TablesOf s) (plain : Plain s.program) (order : InOrd
   unfolding shown has_level
   shows from k name d e = go (is_connection (text s k)) refl
     where
-      listed : (l : ℕ) × Reaches s.tables k l × (lookup s.tables l name ≡ Some d)
+      listed : (l : ℕ) × Reaches s.tables k l × StandsIn s.tables l d
       listed = shown_reaches s.tables bare (length s.tables.blocks) from k name d e
 
       r : (e : Entry) × (entry_of s.tables d ≡ Some e)
-      r = row_of_found name listed.0 d listed.2
+      r = (listed.2.0.entry, t.row_entry s of plain order d listed.2.0 listed.2.1)
 
       go : (c : Bool) → is_connection (text s k) ≡ c → Shows k d
       go false at = record { through = subst (λ z. FoundThrough s z k (block_of s d)) (sym at) (shown_level (length s.tables.blocks) from k name d e); entry = r.0; is = r.1 }
@@ -150,7 +131,7 @@ module _ (s : Source) (of : TablesOf s) (plain : Plain s.program) (order : InOrd
   find : (token k : ℕ) (name : List ℕ) (d : DeclNo) → block_at s.tables token ≡ Some k → binding s.tables token name ≡ Some (denotation.Declared d) → IsFound token k name d
   unfolding declaration_from found_in
   find token k name d at e =
-      let q = search token (length s.tables.blocks) k name d (ap (λ o. declaration_from s.tables (Some token) o name) (sym at) ∙ declared_is s.tables bare token name d e) in
+      let q = search token (length s.tables.blocks) k name d (ap (λ o. declaration_from s.tables (Some token) o name) (sym at) ∙ declared_is s.tables bare.virtuals token name d e) in
       record { found = q.0; at = ap (λ o. level_beyond (first_along (encloser s.tables) (length s.tables.blocks) (if_found s.tables token name)) o) at ∙ q.1; around = q.2; shows = shows (Some token) q.0 name d q.3 }
 
   pub around : (token k : ℕ) (name : List ℕ) (d : DeclNo) → block_at s.tables token ≡ Some k → binding s.tables token name ≡ Some (denotation.Declared d) → Found s token k name d
@@ -162,7 +143,7 @@ module _ (s : Source) (of : TablesOf s) (plain : Plain s.program) (order : InOrd
     where
       go : (o : Option ℕ) → block_at s.tables token ≡ o → (f : Entry) × (entry_of s.tables d ≡ Some f)
       go (Some k) at = let f = find token k name d at e in (f.shows.entry, f.shows.is)
-      go None at = absurd (let none : None ≡ Some d = ap (λ o. declaration_from s.tables (Some token) o name) (sym at) ∙ declared_is s.tables bare token name d e in cc)
+      go None at = absurd (let none : None ≡ Some d = ap (λ o. declaration_from s.tables (Some token) o name) (sym at) ∙ declared_is s.tables bare.virtuals token name d e in cc)
 
   pub attributes : (token block : ℕ) (name : List ℕ) (d : DeclNo) → attribute_in s.tables token block name ≡ Some (denotation.Declared d) → (e : Entry) × (entry_of s.tables d ≡ Some e) × (has_level s.tables block (block_of s d) ≡ true)
   unfolding attribute_in shown has_level
@@ -170,7 +151,7 @@ module _ (s : Source) (of : TablesOf s) (plain : Plain s.program) (order : InOrd
     where
       go : (o : Option DeclNo) (k : Option StandardName) → shown s.tables (Some token) block name ≡ o → declared_or_standard s.tables o k ≡ Some (denotation.Declared d) → (e : Entry) × (entry_of s.tables d ≡ Some e) × (has_level s.tables block (block_of s d) ≡ true)
       go (Some f) k at g =
-          let same : f ≡ d = sym (stands_for_itself s.tables bare f) ∙ (let h : represented s.tables f ≡ d = cc in h) in
+          let same : f ≡ d = sym (stands_for_itself s.tables bare.virtuals f) ∙ (let h : represented s.tables f ≡ d = cc in h) in
           let at' : shown s.tables (Some token) block name ≡ Some d = at ∙ ap Some same in
           let r = shows (Some token) block name d at' in
           (r.entry, r.is, shown_level (length s.tables.blocks) (Some token) block name d at')

@@ -9,28 +9,35 @@ use Rattle.sim_base.specs.declared.rule.Rule.{Rule}
 use Rattle.sim_base.specs.declared.rule.Rule.TheVariants as r
 use Rattle.sim_tree.specs.declared.expr.Identifier.{Identifier}
 use Rattle.sim_tree.specs.declared.stmt.TypeName.{TypeName}
-use Rattle.sim_tree.specs.Syntax.{Declarations, Heading, Statement, Statements}
+use Rattle.sim_tree.specs.Syntax.{Declarations, Heading, Statement}
 use Rattle.sim_scope.specs.declared.scopes.Declaration.{Declaration}
 use Rattle.sim_scope.specs.declared.types.BlockKind.{BlockKind}
 use Rattle.sim_scope.specs.declared.types.BlockKind.TheVariants as kind
 use Rattle.sim_scope.specs.declared.types.Entry.{Entry}
 use Rattle.sim_scope.specs.declared.types.Entry.TheVariants as entry
 use Rattle.sim_scope.specs.declared.types.SimType.{SimType}
+use Rattle.sim_scope.specs.declared.types.StandardClass.{StandardClass}
+use Rattle.sim_scope.specs.declared.types.StandardClass.TheVariants as standard
 use Rattle.sim_scope.specs.declared.types.WrittenMode.{WrittenMode}
-use Rattle.sim_scope.specs.Building.{BuildingOf, Declares, Mark, block_around, broken_if, closed, closed_at, level_in, most_levels, opened, owner_of, parameter, placed}
+use Rattle.sim_scope.specs.Building.{BuildingOf, Declares, Mark, attribute_entry, block_around, broken_if, closed, closed_at, level_in, most_levels, opened, owner_of, parameter, place_of, placed, standard_base}
 use Rattle.sim_scope.specs.Declare.{result_named}
 use Rattle.sim_scope.specs.Access.{around}
 use Rattle.sim_scope.specs.Levels.{base_in}
 use Rattle.sim_scope.specs.Scopes.{declared_in}
 use Rattle.sim_scope.specs.Source.{level_in as level_of_row}
+use Rattle.sim_scope.specs.Standard.{class_owning}
 use Rattle.sim_scope.specs.Tables.{BlockOf, deeper}
 use Rattle.sim_scope.proofs.Kept.{kept_more, more_here, more_other}
+use Rattle.sim_values.specs.declared.standard.Standard.{Standard}
+use Rattle.sim_values.specs.Standard.{row_of}
+use Rattle.sim_code.specs.Sets.{is_set_name}
 use Rattle.sim_meaning.specs.Entries.{numbers_in}
-use Rattle.sim_meaning.specs.Texts.{BlockText, ClassText, ConnectionText, ProcedureText, Text, kind_of_type, PrefixedText}
+use Rattle.sim_meaning.specs.Levels.{is_class}
+use Rattle.sim_meaning.specs.Texts.{BlockText, ClassText, ConnectionText, ProcedureText, StandardText, Text, kind_of_type, PrefixedText}
 use Rattle.sim_sound.specs.Held.{Among}
-use Rattle.sim_agree.proofs.Groups.{Declaring, Has, Open, OwnEntry, PlainKind, Taking, declared_in_text, item, own_marks}
+use Rattle.sim_agree.proofs.Groups.{Declaring, Has, Open, OwnEntry, PlainKind, Prefixing, Taking, declared_in_text, item, own_marks}
 use Rattle.sim_agree.proofs.Steps.{AllEven, Becomes, Changed, Even, Fixed, Listed, Nothing, Parametric, Step, among_at, fixed, last_cases, row_step, same_step}
-use Rattle.sim_agree.proofs.Unprefixed.{Baseless, Unprefixed, extras_in, no_extras}
+use Rattle.sim_agree.proofs.Unprefixed.{Unprefixed, brought_of, extras_in, no_extras}
 
 -- ---- the open texts
 
@@ -82,6 +89,23 @@ pub owner_fixed : (o : Option BlockOf) → owner_of_fixed (fixed o) ≡ owner_in
 owner_fixed None = refl
 owner_fixed (Some row) = refl
 
+-- the base of a block before the classes of prefixes are known: a class of SIMSET has it from the start
+abbrev pub base_by : BlockKind → Option ℕ → Option ℕ
+base_by (kind.StandardClass which) (Some n) = standard_base which n
+base_by _ _ = None
+
+abbrev pub own_base : Option BlockOf → Option ℕ
+own_base None = None
+own_base (Some row) = base_by row.kind row.encloser
+
+abbrev own_base_of_fixed : Fixed → Option ℕ
+own_base_of_fixed None = None
+own_base_of_fixed (Some x) = base_by x.kind x.encloser
+
+own_base_fixed : (o : Option BlockOf) → own_base_of_fixed (fixed o) ≡ own_base o
+own_base_fixed None = refl
+own_base_fixed (Some row) = refl
+
 base_fixed : (o : Option BlockOf) → base_of_fixed (fixed o) ≡ base_in o
 base_fixed None = refl
 base_fixed (Some row) = refl
@@ -116,7 +140,7 @@ KindOf k (ProcedureText result h a) = k ≡ kind.Procedure
 KindOf k (ClassText prefix h ds ss) = k ≡ kind.Class
 KindOf k (PrefixedText class es ds ss) = k ≡ kind.Prefixed
 KindOf k ConnectionText = k ≡ kind.Connection
-KindOf k _ = ⊥
+KindOf k (StandardText which) = k ≡ kind.StandardClass which
 
 abbrev pub KindIs : Option BlockOf → Option Text → Type 0
 KindIs (Some row) (Some x) = KindOf row.kind x
@@ -127,19 +151,61 @@ KindIs _ _ = ⊥
 abbrev pub Rising : List DeclNo → Type 0
 Rising ns = (n m : ℕ) (d e : DeclNo) → slice_get ns n ≡ Some d → slice_get ns m ≡ Some e → n < m → d.0 < e.0
 
+-- the classes of SIMSET, which are brought together into a block, and their declarations
+abbrev pub IsSetClass : StandardClass → Type 0
+IsSetClass standard.Process = ⊥
+IsSetClass _ = Unit {0}
+
+pub record SetGroup (bs : List BlockOf) (ts : List Text) (n : ℕ) (first : DeclNo) : Type 0 where
+  pub texts : (which : StandardClass) → IsSetClass which → slice_get ts (n + 1 + place_of which) ≡ Some (StandardText which)
+  pub bases : (which : StandardClass) → IsSetClass which → base_in (slice_get bs (n + 1 + place_of which)) ≡ standard_base which n
+  pub around : (which : StandardClass) → IsSetClass which → around (slice_get bs (n + 1 + place_of which)) ≡ Some n
+  pub host : (x : Text) × (slice_get ts n ≡ Some x) × Prefixing x
+  pub owners : (which : StandardClass) → IsSetClass which → owner_in (slice_get bs (n + 1 + place_of which)) ≡ Some (record { 0 = first.0 + place_of which })
+
+-- each of their texts is one of such a group
+pub record InGroup (bs : List BlockOf) (ts : List Text) (k : ℕ) (which : StandardClass) : Type 0 where
+  pub block : ℕ
+  pub first : DeclNo
+  pub group : SetGroup bs ts block first
+  pub is : IsSetClass which
+  pub place : k ≡ block + 1 + place_of which
+
+abbrev pub SetTexts : List BlockOf → List Text → Type 0
+SetTexts bs ts = (k : ℕ) (which : StandardClass) → slice_get ts k ≡ Some (StandardText which) → InGroup bs ts k which
+
+-- they have no text
+abbrev pub set_first : BlockKind → (first : ℕ) → ℕ
+set_first (kind.StandardClass which) first = first
+set_first _ first = 0
+
+abbrev pub first_or_none : Option BlockOf → ℕ
+first_or_none None = 0
+first_or_none (Some row) = set_first row.kind row.first
+
+abbrev pub Textless : List BlockOf → Type 0
+Textless bs = (k : ℕ) → first_or_none (slice_get bs k) ≡ 0
+
+-- what is brought into a block is declared in it
+abbrev pub Brought : BuildingOf → Type 0
+Brought b = (k : ℕ) (d : DeclNo) → Among d (brought_of (slice_get b.tables.blocks k)) → (row : Declaration) × (slice_get b.tables.declarations d.0 ≡ Some row) × (row.block ≡ k)
+
 pub record Fine (b : BuildingOf) (ts : List Text) (os : List Open) : Type 0 where
   pub size : length b.tables.blocks ≡ length ts
   pub stack : Stack b.tables.blocks ts b.current os
   pub nested : (t u : ℕ) → around (slice_get b.tables.blocks t) ≡ Some u → u < t
   pub levels : (t u : ℕ) → around (slice_get b.tables.blocks t) ≡ Some u → level_of_row (slice_get b.tables.blocks t) ≡ deeper_in (slice_get b.tables.blocks t) (level_of_row (slice_get b.tables.blocks u))
   pub kinds : (t : ℕ) → KindIs (slice_get b.tables.blocks t) (slice_get ts t)
-  pub listed : (d : ℕ) (row : Declaration) → slice_get b.tables.declarations d ≡ Some row → Among (record { 0 = d }) (numbers_in (slice_get b.tables.blocks row.block))
+  pub listed : (d : ℕ) (row : Declaration) → slice_get b.tables.declarations d ≡ Some row → row.listed ≡ true → Among (record { 0 = d }) (numbers_in (slice_get b.tables.blocks row.block))
   pub evens : AllEven b.tables.blocks
-  pub finds : (d : ℕ) (row : Declaration) → slice_get b.tables.declarations d ≡ Some row → declared_in (slice_get b.tables.blocks row.block) row.name ≡ Some (record { 0 = d })
-  pub own : (k : ℕ) (d : DeclNo) → Among d (numbers_in (slice_get b.tables.blocks k)) → (row : Declaration) × (slice_get b.tables.declarations d.0 ≡ Some row) × (row.block ≡ k)
+  pub finds : (d : ℕ) (row : Declaration) → slice_get b.tables.declarations d ≡ Some row → row.listed ≡ true → declared_in (slice_get b.tables.blocks row.block) row.name ≡ Some (record { 0 = d })
+  pub own : (k : ℕ) (d : DeclNo) → Among d (numbers_in (slice_get b.tables.blocks k)) → (row : Declaration) × (slice_get b.tables.declarations d.0 ≡ Some row) × (row.block ≡ k) × (row.listed ≡ true)
   pub rising : (k : ℕ) → Rising (numbers_in (slice_get b.tables.blocks k))
-  pub baseless : Baseless b.tables.blocks
+  pub based : (k : ℕ) → base_in (slice_get b.tables.blocks k) ≡ own_base (slice_get b.tables.blocks k)
   pub bare : Unprefixed b.tables
+  pub sets : SetTexts b.tables.blocks ts
+  pub textless : Textless b.tables.blocks
+  pub brought : Brought b
 
 -- the same entry, but for the class that references are qualified by
 abbrev pub AlikeTypes : SimType → SimType → Type 0
@@ -164,6 +230,10 @@ pub alike_results : (a : Option SimType) → AlikeResults a a
 alike_results None = tt
 alike_results (Some a) = refl
 
+abbrev pub IsStandard : Text → Type 0
+IsStandard (StandardText which) = Unit {0}
+IsStandard _ = ⊥
+
 -- a declaration of a block or a class: one of its own marks
 pub record Own (ds : Declarations) (row : Declaration) : Type 0 where
   pub entry : Entry
@@ -172,6 +242,7 @@ pub record Own (ds : Declarations) (row : Declaration) : Type 0 where
   pub name : Identifier
   pub named : name.name ≡ row.name
   pub token : name.token ≡ row.token
+  pub listed : row.listed ≡ true
   pub mark : Has (Declares name entry) (own_marks ds)
 
 -- or a procedure or a class, whose text stands in it
@@ -181,26 +252,41 @@ pub record OfProcedure (bs : List BlockOf) (ts : List Text) (d : ℕ) (row : Dec
   pub body : Statement
   pub number : ℕ
   pub entry : Alike (entry.Procedure (result_named result) number) row.entry
+  pub listed : row.listed ≡ true
   pub text : slice_get ts number ≡ Some (ProcedureText result heading body)
   pub around : around (slice_get bs number) ≡ Some row.block
   pub owner : owner_in (slice_get bs number) ≡ Some (record { 0 = d })
 
 pub record OfClass (bs : List BlockOf) (ts : List Text) (d : ℕ) (row : Declaration) : Type 0 where
-  pub prefix : Option Identifier
-  pub heading : Heading
-  pub declarations : Declarations
-  pub statements : Statements
+  pub class : Text
+  pub is : is_class (Some class) ≡ true
   pub number : ℕ
   pub entry : row.entry ≡ entry.Class number
-  pub text : slice_get ts number ≡ Some (ClassText prefix heading declarations statements)
+  pub listed : (row.listed ≡ true) ⊎ IsStandard class
+  pub text : slice_get ts number ≡ Some class
   pub around : around (slice_get bs number) ≡ Some row.block
   pub owner : owner_in (slice_get bs number) ≡ Some (record { 0 = d })
+
+-- an attribute of a class of SIMSET, by the first of the classes that were brought together
+pub record OfAttribute (bs : List BlockOf) (ts : List Text) (row : Declaration) : Type 0 where
+  pub name : Standard
+  pub class : StandardClass
+  pub owner : class_owning (row_of name).owner ≡ Some class
+  pub is_set : is_set_name name ≡ true
+  pub block : ℕ
+  pub first : DeclNo
+  pub group : SetGroup bs ts block first
+  pub is : IsSetClass class
+  pub entry : row.entry ≡ attribute_entry (Some first) name
+  pub listed : row.listed ≡ true
+  pub stands : row.block ≡ block + 1 + place_of class
 
 pub data RowIn (bs : List BlockOf) (ts : List Text) (x : Text) (d : ℕ) (row : Declaration) : Type 0 where
   own_row : Declaring x → Own (declared_in_text x) row → RowIn bs ts x d row
   procedure_row : Declaring x → OfProcedure bs ts d row → RowIn bs ts x d row
   class_row : Declaring x → OfClass bs ts d row → RowIn bs ts x d row
-  formal_row : Taking x → Parametric row.entry → RowIn bs ts x d row
+  formal_row : Taking x → Parametric row.entry → row.listed ≡ true → RowIn bs ts x d row
+  attribute_row : IsStandard x → OfAttribute bs ts row → RowIn bs ts x d row
 
 abbrev pub RowOf : List BlockOf → List Text → Option Text → ℕ → Declaration → Type 0
 RowOf bs ts None d row = ⊥
@@ -234,25 +320,55 @@ same_kind o p t e k = from_fixed o t (subst (λ z. KindFixed z t) (sym e) (to_fi
 pub same_owner : (o p : Option BlockOf) → fixed o ≡ fixed p → owner_in o ≡ owner_in p
 same_owner o p e = sym (owner_fixed o) ∙ ap owner_of_fixed e ∙ owner_fixed p
 
-same_base : (o p : Option BlockOf) → fixed o ≡ fixed p → base_in o ≡ base_in p
+pub same_base : (o p : Option BlockOf) → fixed o ≡ fixed p → base_in o ≡ base_in p
 same_base o p e = sym (base_fixed o) ∙ ap base_of_fixed e ∙ base_fixed p
+
+abbrev textless_of_fixed : Fixed → ℕ
+textless_of_fixed None = 0
+textless_of_fixed (Some x) = set_first x.kind x.first
+
+textless_fixed : (o : Option BlockOf) → textless_of_fixed (fixed o) ≡ first_or_none o
+textless_fixed None = refl
+textless_fixed (Some row) = refl
+
+pub same_textless : (o p : Option BlockOf) → fixed o ≡ fixed p → first_or_none o ≡ first_or_none p
+same_textless o p e = sym (textless_fixed o) ∙ ap textless_of_fixed e ∙ textless_fixed p
+
+same_own_base : (o p : Option BlockOf) → fixed o ≡ fixed p → own_base o ≡ own_base p
+same_own_base o p e = sym (own_base_fixed o) ∙ ap own_base_of_fixed e ∙ own_base_fixed p
 
 module _ (bs cs : List BlockOf) (ts us : List Text) (keep : Keeps bs cs ts us) where
   procedure_kept : (d : ℕ) (row : Declaration) → OfProcedure bs ts d row → OfProcedure cs us d row
   procedure_kept d row p =
       let k = keep p.number (ProcedureText p.result p.heading p.body) p.text in
-      record { result = p.result; heading = p.heading; body = p.body; number = p.number; entry = p.entry; text = k.1; around = same_around (slice_get cs p.number) (slice_get bs p.number) k.0 ∙ p.around; owner = same_owner (slice_get cs p.number) (slice_get bs p.number) k.0 ∙ p.owner }
+      record { result = p.result; heading = p.heading; body = p.body; number = p.number; entry = p.entry; listed = p.listed; text = k.1; around = same_around (slice_get cs p.number) (slice_get bs p.number) k.0 ∙ p.around; owner = same_owner (slice_get cs p.number) (slice_get bs p.number) k.0 ∙ p.owner }
 
   class_kept : (d : ℕ) (row : Declaration) → OfClass bs ts d row → OfClass cs us d row
   class_kept d row p =
-      let k = keep p.number (ClassText p.prefix p.heading p.declarations p.statements) p.text in
-      record { prefix = p.prefix; heading = p.heading; declarations = p.declarations; statements = p.statements; number = p.number; entry = p.entry; text = k.1; around = same_around (slice_get cs p.number) (slice_get bs p.number) k.0 ∙ p.around; owner = same_owner (slice_get cs p.number) (slice_get bs p.number) k.0 ∙ p.owner }
+      let k = keep p.number p.class p.text in
+      record { class = p.class; is = p.is; number = p.number; entry = p.entry; listed = p.listed; text = k.1; around = same_around (slice_get cs p.number) (slice_get bs p.number) k.0 ∙ p.around; owner = same_owner (slice_get cs p.number) (slice_get bs p.number) k.0 ∙ p.owner }
+
+  pub group_kept : (n : ℕ) (first : DeclNo) → SetGroup bs ts n first → SetGroup cs us n first
+  group_kept n first g = record {
+    host = (g.host.0, (keep n g.host.0 g.host.1).1, g.host.2);
+    texts = λ which p. (keep (n + 1 + place_of which) (StandardText which) (g.texts which p)).1;
+    bases = λ which p. same_base (slice_get cs (n + 1 + place_of which)) (slice_get bs (n + 1 + place_of which)) (keep (n + 1 + place_of which) (StandardText which) (g.texts which p)).0 ∙ g.bases which p;
+    around = λ which p. same_around (slice_get cs (n + 1 + place_of which)) (slice_get bs (n + 1 + place_of which)) (keep (n + 1 + place_of which) (StandardText which) (g.texts which p)).0 ∙ g.around which p;
+    owners = λ which p. same_owner (slice_get cs (n + 1 + place_of which)) (slice_get bs (n + 1 + place_of which)) (keep (n + 1 + place_of which) (StandardText which) (g.texts which p)).0 ∙ g.owners which p;
+  }
+
+  pub in_group_kept : (k : ℕ) (which : StandardClass) → InGroup bs ts k which → InGroup cs us k which
+  in_group_kept k which g = record { block = g.block; first = g.first; group = group_kept g.block g.first g.group; is = g.is; place = g.place }
+
+  attribute_kept : (row : Declaration) → OfAttribute bs ts row → OfAttribute cs us row
+  attribute_kept row p = record { name = p.name; class = p.class; owner = p.owner; is_set = p.is_set; block = p.block; first = p.first; group = group_kept p.block p.first p.group; is = p.is; entry = p.entry; listed = p.listed; stands = p.stands }
 
   row_at : (x : Text) (d : ℕ) (row : Declaration) → RowIn bs ts x d row → RowIn cs us x d row
+  row_at x d row (attribute_row y p) = attribute_row y (attribute_kept row p)
   row_at x d row (own_row y p) = own_row y p
   row_at x d row (procedure_row y p) = procedure_row y (procedure_kept d row p)
   row_at x d row (class_row y p) = class_row y (class_kept d row p)
-  row_at x d row (formal_row y p) = formal_row y p
+  row_at x d row (formal_row y p l) = formal_row y p l
 
   pub row_kept : (d : ℕ) (row : Declaration) → RowOf bs ts (slice_get ts row.block) d row → RowOf cs us (slice_get us row.block) d row
   row_kept d row p = go (slice_get ts row.block) refl p
@@ -277,23 +393,32 @@ changed_in : (bs : List BlockOf) (ts : List Text) (x : Text) (d : ℕ) (old row 
 changed_in bs ts x d old row c (own_row y p) = own_row y (go c.entry)
   where
     go : Becomes old.entry row.entry → Own (declared_in_text x) row
-    go (inl e) = record { entry = p.entry; fits = p.fits; alike = subst (Alike p.entry) (sym e) p.alike; name = p.name; named = p.named ∙ sym c.name; token = p.token ∙ sym c.token; mark = p.mark }
+    go (inl e) = record { entry = p.entry; fits = p.fits; alike = subst (Alike p.entry) (sym e) p.alike; name = p.name; named = p.named ∙ sym c.name; token = p.token ∙ sym c.token; listed = c.listed ∙ p.listed; mark = p.mark }
     go (inr q) = absurd (alike_unspecified p.entry q.0 p.fits (subst (Alike p.entry) q.1 p.alike))
 changed_in bs ts x d old row c (procedure_row y p) = procedure_row y (go c.entry)
   where
     go : Becomes old.entry row.entry → OfProcedure bs ts d row
-    go (inl e) = record { result = p.result; heading = p.heading; body = p.body; number = p.number; entry = subst (Alike (entry.Procedure (result_named p.result) p.number)) (sym e) p.entry; text = p.text; around = p.around ∙ ap Some (sym c.block); owner = p.owner }
+    go (inl e) = record { result = p.result; heading = p.heading; body = p.body; number = p.number; entry = subst (Alike (entry.Procedure (result_named p.result) p.number)) (sym e) p.entry; listed = c.listed ∙ p.listed; text = p.text; around = p.around ∙ ap Some (sym c.block); owner = p.owner }
     go (inr q) = absurd (subst (Alike (entry.Procedure (result_named p.result) p.number)) q.1 p.entry)
 changed_in bs ts x d old row c (class_row y p) = class_row y (go c.entry)
   where
+    still : (old.listed ≡ true) ⊎ IsStandard p.class → (row.listed ≡ true) ⊎ IsStandard p.class
+    still (inl l) = inl (c.listed ∙ l)
+    still (inr q) = inr q
+
     go : Becomes old.entry row.entry → OfClass bs ts d row
-    go (inl e) = record { prefix = p.prefix; heading = p.heading; declarations = p.declarations; statements = p.statements; number = p.number; entry = e ∙ p.entry; text = p.text; around = p.around ∙ ap Some (sym c.block); owner = p.owner }
+    go (inl e) = record { class = p.class; is = p.is; number = p.number; entry = e ∙ p.entry; listed = still p.listed; text = p.text; around = p.around ∙ ap Some (sym c.block); owner = p.owner }
     go (inr q) = absurd (let e : entry.Unspecified q.0 ≡ entry.Class p.number = sym q.1 ∙ p.entry in cc)
-changed_in bs ts x d old row c (formal_row y p) = formal_row y (go c.entry)
+changed_in bs ts x d old row c (formal_row y p l) = formal_row y (go c.entry) (c.listed ∙ l)
   where
     go : Becomes old.entry row.entry → Parametric row.entry
     go (inl e) = subst Parametric (sym e) p
     go (inr q) = q.2 (subst Parametric q.1 p)
+changed_in bs ts x d old row c (attribute_row y p) = attribute_row y (go c.entry)
+  where
+    go : Becomes old.entry row.entry → OfAttribute bs ts row
+    go (inl e) = record { name = p.name; class = p.class; owner = p.owner; is_set = p.is_set; block = p.block; first = p.first; group = p.group; is = p.is; entry = e ∙ p.entry; listed = c.listed ∙ p.listed; stands = c.block ∙ p.stands }
+    go (inr q) = absurd (let e : entry.Unspecified q.0 ≡ attribute_entry (Some p.first) p.name = sym q.1 ∙ p.entry in cc)
 
 pub changed_row : (bs : List BlockOf) (ts : List Text) (o : Option Text) (d : ℕ) (old row : Declaration) → Changed old row → RowOf bs ts o d old → RowOf bs ts o d row
 changed_row bs ts None d old row c p = absurd p
@@ -327,13 +452,16 @@ module _ (b c : BuildingOf) (New : ℕ → Declaration → Type 0) (s : Step b c
         level t ∙ f.levels t u (sym (out t) ∙ is) ∙ ap (deeper_in (slice_get b.tables.blocks t)) (sym (level u))
         ∙ sym (same_deeper (slice_get c.tables.blocks t) (slice_get b.tables.blocks t) (level_of_row (slice_get c.tables.blocks u)) (s.fixes t));
     kinds = λ t. same_kind (slice_get c.tables.blocks t) (slice_get b.tables.blocks t) (slice_get ts t) (s.fixes t) (f.kinds t);
-    listed = λ d row is. listed d row (s.rows d row is);
+    listed = λ d row is l. listed d row l (s.rows d row is);
     evens = s.evens f.evens;
-    finds = λ d row is. finds d row (s.rows d row is);
+    finds = λ d row is l. finds d row l (s.rows d row is);
     own = λ k d a. own k d (s.fewer k d a);
     rising = λ k. rising k (s.lists k);
-    baseless = λ k. same_base (slice_get c.tables.blocks k) (slice_get b.tables.blocks k) (s.fixes k) ∙ f.baseless k;
+    based = λ k. same_base (slice_get c.tables.blocks k) (slice_get b.tables.blocks k) (s.fixes k) ∙ f.based k ∙ sym (same_own_base (slice_get c.tables.blocks k) (slice_get b.tables.blocks k) (s.fixes k));
     bare = s.bare f.bare;
+    sets = λ k which is. in_group_kept b.tables.blocks c.tables.blocks ts ts step_keeps k which (f.sets k which is);
+    textless = λ k. same_textless (slice_get c.tables.blocks k) (slice_get b.tables.blocks k) (s.fixes k) ∙ f.textless k;
+    brought = λ k d a. (let old = f.brought k d (subst (λ z. Among d z) (s.brings k) a) in let new = s.stays d.0 old.0 old.1 in (new.0, new.1, new.2.block ∙ old.2));
   }
     where
       out : (t : ℕ) → around (slice_get c.tables.blocks t) ≡ around (slice_get b.tables.blocks t)
@@ -342,20 +470,20 @@ module _ (b c : BuildingOf) (New : ℕ → Declaration → Type 0) (s : Step b c
       level : (t : ℕ) → level_of_row (slice_get c.tables.blocks t) ≡ level_of_row (slice_get b.tables.blocks t)
       level t = same_level (slice_get c.tables.blocks t) (slice_get b.tables.blocks t) (s.fixes t)
 
-      listed : (d : ℕ) (row : Declaration) → ((old : Declaration) × (slice_get b.tables.declarations d ≡ Some old) × Changed old row) ⊎ (New d row × Among (record { 0 = d }) (numbers_in (slice_get c.tables.blocks row.block)) × (AllEven b.tables.blocks → declared_in (slice_get c.tables.blocks row.block) row.name ≡ Some (record { 0 = d })))
+      listed : (d : ℕ) (row : Declaration) → row.listed ≡ true → ((old : Declaration) × (slice_get b.tables.declarations d ≡ Some old) × Changed old row) ⊎ (New d row × Among (record { 0 = d }) (numbers_in (slice_get c.tables.blocks row.block)) × (AllEven b.tables.blocks → declared_in (slice_get c.tables.blocks row.block) row.name ≡ Some (record { 0 = d })))
           → Among (record { 0 = d }) (numbers_in (slice_get c.tables.blocks row.block))
-      listed d row (inl q) = s.more row.block (record { 0 = d }) (subst (λ z. Among (record { 0 = d }) (numbers_in (slice_get b.tables.blocks z))) (sym q.2.block) (f.listed d q.0 q.1))
-      listed d row (inr q) = q.1
+      listed d row l (inl q) = s.more row.block (record { 0 = d }) (subst (λ z. Among (record { 0 = d }) (numbers_in (slice_get b.tables.blocks z))) (sym q.2.block) (f.listed d q.0 q.1 (sym q.2.listed ∙ l)))
+      listed d row l (inr q) = q.1
 
-      finds : (d : ℕ) (row : Declaration) → ((old : Declaration) × (slice_get b.tables.declarations d ≡ Some old) × Changed old row) ⊎ (New d row × Among (record { 0 = d }) (numbers_in (slice_get c.tables.blocks row.block)) × (AllEven b.tables.blocks → declared_in (slice_get c.tables.blocks row.block) row.name ≡ Some (record { 0 = d })))
+      finds : (d : ℕ) (row : Declaration) → row.listed ≡ true → ((old : Declaration) × (slice_get b.tables.declarations d ≡ Some old) × Changed old row) ⊎ (New d row × Among (record { 0 = d }) (numbers_in (slice_get c.tables.blocks row.block)) × (AllEven b.tables.blocks → declared_in (slice_get c.tables.blocks row.block) row.name ≡ Some (record { 0 = d })))
           → declared_in (slice_get c.tables.blocks row.block) row.name ≡ Some (record { 0 = d })
-      finds d row (inl q) =
+      finds d row l (inl q) =
           subst (λ z. declared_in (slice_get c.tables.blocks z) row.name ≡ Some (record { 0 = d })) (sym q.2.block)
-          (subst (λ z. declared_in (slice_get c.tables.blocks q.0.block) z ≡ Some (record { 0 = d })) (sym q.2.name) (s.looks q.0.block q.0.name (record { 0 = d }) (f.finds d q.0 q.1)))
-      finds d row (inr q) = q.2 f.evens
+          (subst (λ z. declared_in (slice_get c.tables.blocks q.0.block) z ≡ Some (record { 0 = d })) (sym q.2.name) (s.looks q.0.block q.0.name (record { 0 = d }) (f.finds d q.0 q.1 (sym q.2.listed ∙ l))))
+      finds d row l (inr q) = q.2 f.evens
 
-      own : (k : ℕ) (d : DeclNo) → Among d (numbers_in (slice_get b.tables.blocks k)) ⊎ ((row : Declaration) × (slice_get c.tables.declarations d.0 ≡ Some row) × (row.block ≡ k)) → (row : Declaration) × (slice_get c.tables.declarations d.0 ≡ Some row) × (row.block ≡ k)
-      own k d (inl a) = let old = f.own k d a in let new = s.stays d.0 old.0 old.1 in (new.0, new.1, new.2.block ∙ old.2)
+      own : (k : ℕ) (d : DeclNo) → Among d (numbers_in (slice_get b.tables.blocks k)) ⊎ ((row : Declaration) × (slice_get c.tables.declarations d.0 ≡ Some row) × (row.block ≡ k) × (row.listed ≡ true)) → (row : Declaration) × (slice_get c.tables.declarations d.0 ≡ Some row) × (row.block ≡ k) × (row.listed ≡ true)
+      own k d (inl a) = let old = f.own k d a in let new = s.stays d.0 old.0 old.1 in (new.0, new.1, new.2.block ∙ old.2, new.2.listed ∙ old.3)
       own k d (inr q) = q
 
       rising : (k : ℕ) → Listed (length b.tables.declarations) (numbers_in (slice_get b.tables.blocks k)) (numbers_in (slice_get c.tables.blocks k)) → Rising (numbers_in (slice_get c.tables.blocks k))
@@ -391,6 +519,45 @@ text_other (t ∷ ts) x (suc k) other = text_other ts x k (let e : length (t ∷
 some_eq : {A : Type 0} (a b : A) → Some a ≡ Some b → a ≡ b
 some_eq a b e = cc
 
+-- what is no class of SIMSET has no base before the classes of prefixes are known
+abbrev pub Ordinary : Text → Type 0
+Ordinary (StandardText which) = ⊥
+Ordinary _ = Unit {0}
+
+plain_base : (k : BlockKind) (o : Option ℕ) → PlainKind k → base_by k o ≡ None
+plain_base kind.Program o p = refl
+plain_base kind.SubBlock o p = refl
+plain_base kind.Procedure o p = absurd p
+plain_base kind.Class o p = absurd p
+plain_base kind.Prefixed o p = absurd p
+plain_base kind.Connection o p = absurd p
+plain_base (kind.StandardClass which) o p = absurd p
+
+pub ordinary_base : (row : BlockOf) (x : Text) → KindOf row.kind x → Ordinary x → own_base (Some row) ≡ None
+ordinary_base row (BlockText i ds ss) k o = plain_base row.kind row.encloser k
+ordinary_base row (ProcedureText result h a) k o = ap (λ z. base_by z row.encloser) k
+ordinary_base row (ClassText prefix h ds ss) k o = ap (λ z. base_by z row.encloser) k
+ordinary_base row (PrefixedText class es ds ss) k o = ap (λ z. base_by z row.encloser) k
+ordinary_base row ConnectionText k o = ap (λ z. base_by z row.encloser) k
+ordinary_base row (StandardText which) k o = absurd o
+
+plain_first : (k : BlockKind) (n : ℕ) → PlainKind k → set_first k n ≡ 0
+plain_first kind.Program n p = refl
+plain_first kind.SubBlock n p = refl
+plain_first kind.Procedure n p = absurd p
+plain_first kind.Class n p = absurd p
+plain_first kind.Prefixed n p = absurd p
+plain_first kind.Connection n p = absurd p
+plain_first (kind.StandardClass which) n p = absurd p
+
+ordinary_first : (row : BlockOf) (x : Text) → KindOf row.kind x → Ordinary x → first_or_none (Some row) ≡ 0
+ordinary_first row (BlockText i ds ss) k o = plain_first row.kind row.first k
+ordinary_first row (ProcedureText result h a) k o = ap (λ z. set_first z row.first) k
+ordinary_first row (ClassText prefix h ds ss) k o = ap (λ z. set_first z row.first) k
+ordinary_first row (PrefixedText class es ds ss) k o = ap (λ z. set_first z row.first) k
+ordinary_first row ConnectionText k o = ap (λ z. set_first z row.first) k
+ordinary_first row (StandardText which) k o = absurd o
+
 -- a new block inside the innermost open one, whose text comes next
 module _ (b : BuildingOf) (new : BlockOf) (places : List (Option ℕ)) (ts : List Text) (x : Text) where
   abbrev pub With : BuildingOf
@@ -402,20 +569,23 @@ module _ (b : BuildingOf) (new : BlockOf) (places : List (Option ℕ)) (ts : Lis
       let same : length b.tables.blocks ≡ length ts = f.size in
       (ap fixed (more_other b.tables.blocks new n (let P : nat_eq n (length b.tables.blocks) ≡ false = grind (arith, nat_tests) in P)), more_text ts (x ∷ []) n y is)
 
-  begun_fine : (owed : List Mark) (os : List Open) → new.encloser ≡ b.current → new.numbers ≡ [] → new.names ≡ [] → ((u : ℕ) → b.current ≡ Some u → new.level ≡ deeper new.kind (level_of_row (slice_get b.tables.blocks u))) → KindIs (Some new) (Some x) → extras_in (Some new) ≡ no_extras → new.base ≡ None
+  begun_fine : (owed : List Mark) (os : List Open) → new.encloser ≡ b.current → new.numbers ≡ [] → new.names ≡ [] → ((u : ℕ) → b.current ≡ Some u → new.level ≡ deeper new.kind (level_of_row (slice_get b.tables.blocks u))) → KindIs (Some new) (Some x) → extras_in (Some new) ≡ no_extras → new.base ≡ None → new.brought ≡ [] → Ordinary x
       → Fine b ts os → Fine With (ts ++ x ∷ []) (item x owed ∷ os)
-  begun_fine owed os out none nameless level fits without bottom f = record {
+  begun_fine owed os out none nameless level fits without bottom unbrought ordinary f = record {
     size = length-append bs (new ∷ []) ∙ (let e : length bs ≡ length ts = f.size in ap (λ z. z + 1) e) ∙ sym (length-append ts (x ∷ []));
     stack = (length bs, refl, at, subst (λ z. Stack (bs ++ new ∷ []) (ts ++ x ∷ []) z os) (sym (here ∙ out)) (stack_kept bs (bs ++ new ∷ []) ts (ts ++ x ∷ []) (begun_keeps os f) os b.current f.stack));
     nested = λ t u is. nested t u (nat_eq t (length bs)) refl is;
     levels = λ t u is. levels t u (nat_eq t (length bs)) refl is;
     kinds = λ t. kinds t (nat_eq t (length bs)) refl;
-    listed = λ d row is. listed d row (nat_eq row.block (length bs)) refl (f.listed d row is);
+    listed = λ d row is l. listed d row (nat_eq row.block (length bs)) refl (f.listed d row is l);
     evens = λ j. evens j (nat_eq j (length bs)) refl;
-    finds = λ d row is. finds row (record { 0 = d }) (nat_eq row.block (length bs)) refl (f.finds d row is);
+    finds = λ d row is l. finds row (record { 0 = d }) (nat_eq row.block (length bs)) refl (f.finds d row is l);
     own = λ k d a. own k d (nat_eq k (length bs)) refl a;
     rising = λ k. rising k (nat_eq k (length bs)) refl;
-    baseless = λ k. kept_more base_in bs new bottom k ∙ f.baseless k;
+    based = λ k. kept_more base_in bs new bottom k ∙ f.based k ∙ sym (kept_more own_base bs new (ordinary_base new x fits ordinary) k);
+    sets = λ k which is. sets k which (last_cases ts x k (StandardText which) is);
+    textless = λ k. kept_more first_or_none bs new (ordinary_first new x fits ordinary) k ∙ f.textless k;
+    brought = λ k d a. f.brought k d (subst (λ z. Among d z) (kept_more brought_of bs new unbrought k) a);
     bare = record { blocks = λ k. kept_more extras_in bs new without k ∙ f.bare.blocks k; virtuals = f.bare.virtuals };
   }
     where
@@ -493,7 +663,11 @@ module _ (b : BuildingOf) (new : BlockOf) (places : List (Option ℕ)) (ts : Lis
           beyond (Some found) at is = let lt : row.block < length bs = slice_get_within bs row.block found at in let same : row.block ≡ length bs = grind (arith, nat_tests) in omega arith
       finds row d false e is = ap (λ z. declared_in z row.name) (more_other bs new row.block e) ∙ is
 
-      own : (k : ℕ) (d : DeclNo) (c : Bool) → nat_eq k (length bs) ≡ c → Among d (numbers_in (slice_get (bs ++ new ∷ []) k)) → (row : Declaration) × (slice_get b.tables.declarations d.0 ≡ Some row) × (row.block ≡ k)
+      sets : (k : ℕ) (which : StandardClass) → (slice_get ts k ≡ Some (StandardText which)) ⊎ ((k ≡ length ts) × (x ≡ StandardText which)) → InGroup (bs ++ new ∷ []) (ts ++ x ∷ []) k which
+      sets k which (inl q) = in_group_kept bs (bs ++ new ∷ []) ts (ts ++ x ∷ []) (begun_keeps os f) k which (f.sets k which q)
+      sets k which (inr q) = absurd (subst Ordinary q.1 ordinary)
+
+      own : (k : ℕ) (d : DeclNo) (c : Bool) → nat_eq k (length bs) ≡ c → Among d (numbers_in (slice_get (bs ++ new ∷ []) k)) → (row : Declaration) × (slice_get b.tables.declarations d.0 ≡ Some row) × (row.block ≡ k) × (row.listed ≡ true)
       own k d true e a = let empty : Among d [] = subst (λ z. Among d z) none (subst (λ z. Among d (numbers_in z)) (is_new k e) a) in absurd (elim empty [ ])
       own k d false e a = f.own k d (subst (λ z. Among d (numbers_in z)) (more_other bs new k e) a)
 
@@ -523,10 +697,10 @@ closed_row b end n None ts x os cur at is under a = absurd (no_kind (subst (λ z
 closed_row b end n (Some row) ts x os cur at is under a =
     let new : BlockOf = record row { end = end } in
     let c : BuildingOf = record b { tables = record b.tables { blocks = slice_set b.tables.blocks n new } } in
-    let s : Step b c Nothing = row_step b b Nothing n row new cur at refl refl refl refl (same_step b b Nothing refl refl) in
+    let s : Step b c Nothing = row_step b b Nothing n row new cur at refl refl refl refl refl (same_step b b Nothing refl refl) in
     let f : Fine c ts (item x [] ∷ os) = step_fine b c Nothing s ts (item x [] ∷ os) a.fine in
     let g : Rows c ts = step_rows b c Nothing s ts (λ d r q. absurd q) a.rows in record {
-      fine = record { size = f.size; stack = subst (λ z. Stack c.tables.blocks ts z os) (ap around at) (stack_kept b.tables.blocks c.tables.blocks ts ts (step_keeps b c Nothing s ts) os (around (slice_get b.tables.blocks n)) under); nested = f.nested; levels = f.levels; kinds = f.kinds; listed = f.listed; evens = f.evens; finds = f.finds; own = f.own; rising = f.rising; baseless = f.baseless; bare = record { blocks = f.bare.blocks; virtuals = f.bare.virtuals } };
+      fine = record { size = f.size; stack = subst (λ z. Stack c.tables.blocks ts z os) (ap around at) (stack_kept b.tables.blocks c.tables.blocks ts ts (step_keeps b c Nothing s ts) os (around (slice_get b.tables.blocks n)) under); nested = f.nested; levels = f.levels; kinds = f.kinds; listed = f.listed; evens = f.evens; finds = f.finds; own = f.own; rising = f.rising; based = f.based; bare = record { blocks = f.bare.blocks; virtuals = f.bare.virtuals }; sets = f.sets; textless = f.textless; brought = f.brought };
       rows = g;
     }
 
@@ -538,7 +712,7 @@ closed_agrees b end ts x os a =
 -- ---- a block begins
 
 if_agrees : (c : Bool) (b : BuildingOf) (token : ℕ) (rule : Rule) (ts : List Text) (os : List Open) → Agree b ts os → Agree (broken_if c b token rule) ts os
-if_agrees true b token rule ts os a = record { fine = record { size = a.fine.size; stack = a.fine.stack; nested = a.fine.nested; levels = a.fine.levels; kinds = a.fine.kinds; listed = a.fine.listed; evens = a.fine.evens; finds = a.fine.finds; own = a.fine.own; rising = a.fine.rising; baseless = a.fine.baseless; bare = a.fine.bare }; rows = a.rows }
+if_agrees true b token rule ts os a = record { fine = record { size = a.fine.size; stack = a.fine.stack; nested = a.fine.nested; levels = a.fine.levels; kinds = a.fine.kinds; listed = a.fine.listed; evens = a.fine.evens; finds = a.fine.finds; own = a.fine.own; rising = a.fine.rising; based = a.fine.based; bare = a.fine.bare; sets = a.fine.sets; textless = a.fine.textless; brought = a.fine.brought }; rows = a.rows }
 if_agrees false b token rule ts os a = a
 
 abbrev pub fresh : BuildingOf → BlockKind → ℕ → BlockOf
@@ -561,11 +735,11 @@ current_within b ts os f u is = go os f.stack
         let lt : h.0 < length ts = slice_get_within ts h.0 o.text h.2 in
         let e : length b.tables.blocks ≡ length ts = f.size in omega arith
 
-pub opened_agrees : (b : BuildingOf) (k : BlockKind) (text first : ℕ) (ts : List Text) (x : Text) (owed : List Mark) (os : List Open) → KindOf k x
+pub opened_agrees : (b : BuildingOf) (k : BlockKind) (text first : ℕ) (ts : List Text) (x : Text) (owed : List Mark) (os : List Open) → KindOf k x → Ordinary x
     → Fine b ts os → Rows (With b (fresh b k first) (placed b.tables b.current first).places ts x) (ts ++ x ∷ []) → Agree (opened b k text first) (ts ++ x ∷ []) (item x owed ∷ os)
-opened_agrees b k text first ts x owed os fits f g =
+opened_agrees b k text first ts x owed os fits ordinary f g =
     if_agrees (nat_lt most_levels (level_in k (block_around b.tables b.current))) (With b (fresh b k first) (placed b.tables b.current first).places ts x) text r.TooManyLevels (ts ++ x ∷ []) (item x owed ∷ os) (record {
       fine = begun_fine b (fresh b k first) (placed b.tables b.current first).places ts x owed os refl refl refl
-          (λ u cur. subst (λ z. level_in k (block_around b.tables z) ≡ deeper k (level_of_row (slice_get b.tables.blocks u))) (sym cur) (level_new k b.tables.blocks u (current_within b ts os f u cur))) fits refl refl f;
+          (λ u cur. subst (λ z. level_in k (block_around b.tables z) ≡ deeper k (level_of_row (slice_get b.tables.blocks u))) (sym cur) (level_new k b.tables.blocks u (current_within b ts os f u cur))) fits refl refl refl ordinary f;
       rows = g;
     })

@@ -20,10 +20,14 @@ use Rattle.sim_scope.proofs.Kept.{more_here}
 use Rattle.sim_meaning.specs.Entries.{numbers_in}
 use Rattle.sim_meaning.specs.Texts.{BlockText, ClassText, ConnectionText, ProcedureText, Text, PrefixedText, StandardText}
 use Rattle.sim_sound.specs.Held.{Among}
-use Rattle.sim_agree.proofs.Groups.{AreReferences, Declaring, Grouped, Has, OfReferences, Open, OwnEntry, Quals, Taking, block, breaks_rule, closes, connects, declared_in_text, declares, declares_class, has_cases, headed, here, inner_mark, item, moded, nothing, own_marks, parameter as parameter_mark, procedure, qualifies, specified, there, unqualified, prefixes, guarded, Prefixing, prefixed_block}
+use Rattle.sim_agree.specs.Plain.{PlainName}
+use Rattle.sim_agree.proofs.Groups.{AreReferences, Declaring, Grouped, Has, OfReferences, Open, OwnEntry, Quals, Taking, block, breaks_rule, closes, connects, declared_in_text, declares, declares_class, has_cases, headed, here, inner_mark, item, moded, nothing, own_marks, parameter as parameter_mark, procedure, qualifies, specified, there, unqualified, prefixes, guarded, Prefixing, prefixed_block, set_prefix, sets_block, sets_class}
 use Rattle.sim_agree.proofs.Steps.{AllEven, Changed, Declared, IsRow, Nothing, Parametric, Step, Unmatched, class_step, class_unmatched, declared_latest, declared_step, headed_step, inner_step, met, moded_step, own_unmatched, parameter_step, procedure_unmatched, quals_latest, quals_step, rule_step, specified_met, prefix_step, guards_step}
-use Rattle.sim_agree.proofs.Fine.{Agree, Alike, Fine, Keeps, KindOf, OfClass, OfProcedure, Own, RowOf, alike_results, begun_keeps, begun_rows, changed_row, class_row, closed_agrees, formal_row, fresh, more_text, opened_agrees, own_row, owner_in, procedure_row, row_kept, row_text, step_fine, step_rows, KindIs}
+use Rattle.sim_agree.proofs.Fine.{Agree, Alike, Fine, Keeps, KindOf, OfClass, OfProcedure, Own, RowOf, alike_results, begun_keeps, begun_rows, changed_row, class_row, closed_agrees, formal_row, fresh, more_text, opened_agrees, own_row, owner_in, procedure_row, row_kept, row_text, step_fine, step_rows, KindIs, Ordinary}
 use Rattle.sim_agree.proofs.Unprefixed.{is_prefixable}
+use Rattle.sim_agree.proofs.BroughtFine.{sets_agree}
+use Rattle.sim_agree.proofs.BroughtRuns.{FreshTop, brought_is, opened_top, prefixed_fresh, prefixed_is, prefixed_top}
+use Rattle.sim_agree.proofs.PlainNames.{set_texts}
 
 -- ---- a procedure or a class is declared, and its block begins
 
@@ -57,9 +61,9 @@ module _ (b c : BuildingOf) (k : BlockKind) (text first : ℕ) (y : Identifier) 
   pub next_around : (row : Declaration) → IsRow y e n row → around (slice_get begun_blocks (length b.tables.blocks)) ≡ Some row.block
   next_around row q = ap around next_block ∙ s.current ∙ g.fine.stack.1 ∙ ap Some (sym (q.2 ∙ same))
 
-  pub next_agrees : ((d : ℕ) (row : Declaration) → slice_get c.tables.declarations d ≡ Some row → (d ≡ length b.tables.declarations) × IsRow y e n row → RowOf begun_blocks us (slice_get us row.block) d row)
+  pub next_agrees : Ordinary z → ((d : ℕ) (row : Declaration) → slice_get c.tables.declarations d ≡ Some row → (d ≡ length b.tables.declarations) × IsRow y e n row → RowOf begun_blocks us (slice_get us row.block) d row)
       → Agree (opened c k text first) us (item z inner ∷ item x owed ∷ os)
-  next_agrees made = opened_agrees c k text first ts z inner (item x owed ∷ os) fits f (λ d row is. go d row is (s.rows d row is))
+  next_agrees ordinary made = opened_agrees c k text first ts z inner (item x owed ∷ os) fits ordinary f (λ d row is. go d row is (s.rows d row is))
     where
       go : (d : ℕ) (row : Declaration) → slice_get c.tables.declarations d ≡ Some row
           → ((old : Declaration) × (slice_get b.tables.declarations d ≡ Some old) × Changed old row) ⊎ (Declared (length b.tables.declarations) y e n d row × Among (record { 0 = d }) (numbers_in (slice_get c.tables.blocks row.block)) × (AllEven b.tables.blocks → declared_in (slice_get c.tables.blocks row.block) row.name ≡ Some (record { 0 = d })))
@@ -81,7 +85,7 @@ pub procedure_agrees : (b : BuildingOf) (text first : ℕ) (x : Text) (owed inne
     → Agree b ts (item x owed ∷ os)
     → Agree (opened (run marked (declared b h.name (entry.Procedure (result_named result) (length b.tables.blocks))) quals) kind.Procedure text first) (ts ++ ProcedureText result h a ∷ []) (item (ProcedureText result h a) inner ∷ item x owed ∷ os)
 procedure_agrees b text first x owed inner quals result h a ts os d q g =
-    next_agrees b c kind.Procedure text first h.name e n x owed inner z ts os s g refl refl (λ i row is p.
+    next_agrees b c kind.Procedure text first h.name e n x owed inner z ts os s g refl refl tt (λ i row is p.
     subst (λ o. RowOf cs us o i row) (sym (here_text b c kind.Procedure text first h.name e n x owed inner z ts os s g refl refl row p.1)) (procedure_row d (made i row is p)))
   where
     n : ℕ
@@ -124,6 +128,7 @@ procedure_agrees b text first x owed inner quals result h a ts os d q g =
       body = a;
       number = length b.tables.blocks;
       entry = subst (Alike e) (sym p.1.3) (alike_results (result_named result), refl);
+      listed = p.1.4;
       text = next_text b c kind.Procedure text first h.name e n x owed inner z ts os s g refl refl;
       around = next_around b c kind.Procedure text first h.name e n x owed inner z ts os s g refl refl row p.1;
       owner = ap owner_in (next_block b c kind.Procedure text first h.name e n x owed inner z ts os s g refl refl) ∙ latest i row is p.0;
@@ -133,7 +138,7 @@ pub class_agrees : (b : BuildingOf) (text first : ℕ) (x : Text) (owed inner : 
     → Agree b ts (item x owed ∷ os)
     → Agree (opened (changed (declared b h.name (entry.Class (length b.tables.blocks))) holding_class b.current) kind.Class text first) (ts ++ ClassText prefix h ds ss ∷ []) (item (ClassText prefix h ds ss) inner ∷ item x owed ∷ os)
 class_agrees b text first x owed inner prefix h ds ss ts os d g =
-    next_agrees b c kind.Class text first h.name e n x owed inner z ts os s g refl refl (λ i row is p.
+    next_agrees b c kind.Class text first h.name e n x owed inner z ts os s g refl refl tt (λ i row is p.
     subst (λ o. RowOf cs us o i row) (sym (here_text b c kind.Class text first h.name e n x owed inner z ts os s g refl refl row p.1)) (class_row d (made i row is p)))
   where
     n : ℕ
@@ -176,12 +181,11 @@ class_agrees b text first x owed inner prefix h ds ss ts os d g =
 
     made : (i : ℕ) (row : Declaration) → slice_get c.tables.declarations i ≡ Some row → (i ≡ length b.tables.declarations) × IsRow h.name e n row → OfClass cs us i row
     made i row is p = record {
-      prefix = prefix;
-      heading = h;
-      declarations = ds;
-      statements = ss;
+      class = ClassText prefix h ds ss;
+      is = refl;
       number = length b.tables.blocks;
       entry = p.1.3;
+      listed = inl p.1.4;
       text = next_text b c kind.Class text first h.name e n x owed inner z ts os s g refl refl;
       around = next_around b c kind.Class text first h.name e n x owed inner z ts os s g refl refl row p.1;
       owner = ap owner_in (next_block b c kind.Class text first h.name e n x owed inner z ts os s g refl refl) ∙ latest i row is p.0;
@@ -194,7 +198,7 @@ pub step_agrees : (b c : BuildingOf) (New : ℕ → Declaration → Type 0) (x :
     → ((d : ℕ) (row : Declaration) → New d row → RowOf c.tables.blocks ts (slice_get ts row.block) d row)
     → Agree b ts (item x owed ∷ os) → Agree c ts (item x later ∷ os)
 step_agrees b c New x owed later ts os s new g = record {
-  fine = step_fine b c New s ts (item x later ∷ os) (record { size = g.fine.size; stack = g.fine.stack; nested = g.fine.nested; levels = g.fine.levels; kinds = g.fine.kinds; listed = g.fine.listed; evens = g.fine.evens; finds = g.fine.finds; own = g.fine.own; rising = g.fine.rising; baseless = g.fine.baseless; bare = g.fine.bare });
+  fine = step_fine b c New s ts (item x later ∷ os) (record { size = g.fine.size; stack = g.fine.stack; nested = g.fine.nested; levels = g.fine.levels; kinds = g.fine.kinds; listed = g.fine.listed; evens = g.fine.evens; finds = g.fine.finds; own = g.fine.own; rising = g.fine.rising; based = g.fine.based; bare = g.fine.bare; sets = g.fine.sets; textless = g.fine.textless; brought = g.fine.brought });
   rows = step_rows b c New s ts new g.rows;
 }
 
@@ -222,7 +226,7 @@ declares_agrees b x owed quals y e ts os d own q has a =
   where
     made : (i : ℕ) (row : Declaration) → IsRow y e a.fine.stack.0 row → RowOf (run marked (declared b y e) quals).tables.blocks ts (slice_get ts row.block) i row
     made i row p =
-        let o : Own (declared_in_text x) row = record { entry = e; fits = own; alike = subst (Alike e) (sym p.3) (alike_own e own); name = y; named = sym p.0; token = sym p.1; mark = has } in
+        let o : Own (declared_in_text x) row = record { entry = e; fits = own; alike = subst (Alike e) (sym p.3) (alike_own e own); name = y; named = sym p.0; token = sym p.1; listed = p.4; mark = has } in
         subst (λ z. RowOf (run marked (declared b y e) quals).tables.blocks ts z i row) (sym (ap (slice_get ts) p.2 ∙ a.fine.stack.2)) (own_row d o)
 
 pub parameter_agrees : (b : BuildingOf) (x : Text) (owed : List Mark) (y : Identifier) (ts : List Text) (os : List Open) → Taking x → Agree b ts (item x owed ∷ os) → Agree (parameter b y) ts (item x owed ∷ os)
@@ -230,10 +234,10 @@ parameter_agrees b x owed y ts os d a =
     step_agrees b (parameter b y) (Declared (length b.tables.declarations) y (entry.Unspecified None) a.fine.stack.0) x owed owed ts os (parameter_step b y a.fine.stack.0 a.fine.stack.1) (λ i row p. made i row p.1) a
   where
     made : (i : ℕ) (row : Declaration) → IsRow y (entry.Unspecified None) a.fine.stack.0 row → RowOf (parameter b y).tables.blocks ts (slice_get ts row.block) i row
-    made i row p = subst (λ z. RowOf (parameter b y).tables.blocks ts z i row) (sym (ap (slice_get ts) p.2 ∙ a.fine.stack.2)) (formal_row d (subst Parametric (sym p.3) tt))
+    made i row p = subst (λ z. RowOf (parameter b y).tables.blocks ts z i row) (sym (ap (slice_get ts) p.2 ∙ a.fine.stack.2)) (formal_row d (subst Parametric (sym p.3) tt) p.4)
 
-pub block_agrees : (b : BuildingOf) (k : BlockKind) (text first : ℕ) (x : Text) (owed : List Mark) (ts : List Text) (os : List Open) → KindOf k x → Agree b ts os → Agree (opened b k text first) (ts ++ x ∷ []) (item x owed ∷ os)
-block_agrees b k text first x owed ts os p a = opened_agrees b k text first ts x owed os p a.fine (begun_rows b (fresh b k first) (placed b.tables b.current first).places ts x os a.fine a.rows)
+pub block_agrees : (b : BuildingOf) (k : BlockKind) (text first : ℕ) (x : Text) (owed : List Mark) (ts : List Text) (os : List Open) → KindOf k x → Ordinary x → Agree b ts os → Agree (opened b k text first) (ts ++ x ∷ []) (item x owed ∷ os)
+block_agrees b k text first x owed ts os p ordinary a = opened_agrees b k text first ts x owed os p ordinary a.fine (begun_rows b (fresh b k first) (placed b.tables b.current first).places ts x os a.fine a.rows)
 
 -- the innermost block may have a prefix
 pub prefix_kind : (b : BuildingOf) (x : Text) (owed : List Mark) (ts : List Text) (os : List Open) → Prefixing x → (f : Fine b ts (item x owed ∷ os)) → (row : BlockOf) → slice_get b.tables.blocks f.stack.0 ≡ Some row → is_prefixable row.kind ≡ true
@@ -246,6 +250,18 @@ prefix_kind b x owed ts os p f row at = go x p (subst (λ z. KindIs (Some row) z
     go (ProcedureText result h a) q k = absurd q
     go ConnectionText q k = absurd q
     go (StandardText which) q k = absurd q
+
+-- `simset` in front of the innermost block, which has just begun
+pub sets_run_agree : (c : BuildingOf) → FreshTop c → (token : ℕ) (y : Identifier) (x : Text) (owed : List Mark) (ts : List Text) (os : List Open) → Prefixing x → PlainName y → Agree c ts (item x owed ∷ os) → Agree (run marked c (set_prefix token y)) (ts ++ set_texts) (item x owed ∷ os)
+sets_run_agree c t token y x owed ts os q p a =
+    subst (λ d. Agree d (ts ++ set_texts) (item x owed ∷ os)) (sym (brought_is c t token y))
+    (sets_agree (prefixed_top c t y) u.number token u.row u.last u.at ts x owed os b.fine u.current q u.none b.rows)
+  where
+    u : FreshTop (prefixed_top c t y)
+    u = prefixed_fresh c t y
+
+    b : Agree (prefixed_top c t y) ts (item x owed ∷ os)
+    b = subst (λ d. Agree d ts (item x owed ∷ os)) (prefixed_is c t y) (quiet_agrees c _ ts (item x owed ∷ os) (prefix_step c y a.fine.stack.0 a.fine.stack.1 p (prefix_kind c x owed ts os q a.fine)) a)
 
 -- ---- the whole
 
@@ -280,12 +296,19 @@ pub run_agrees : {os : List Open} {ms : List Mark} {xs : List Text} (b : Buildin
 unfolding run marked
 run_agrees {os = os} b ts (nothing e) w a = subst (λ z. Agree b z []) (sym (append-nil ts)) (subst (Agree b ts) e a)
 run_agrees {os = os} b ts (block {ms = ms} {xs = xs} k text first i ds ss p g) w a =
-    subst (λ z. Agree (run marked (opened b k text first) ms) z []) (append_assoc ts (BlockText i ds ss ∷ []) xs) (run_agrees (opened b k text first) (ts ++ BlockText i ds ss ∷ []) g ((λ y e q. q), w) (block_agrees b k text first (BlockText i ds ss) (own_marks ds) ts os p a))
+    subst (λ z. Agree (run marked (opened b k text first) ms) z []) (append_assoc ts (BlockText i ds ss ∷ []) xs) (run_agrees (opened b k text first) (ts ++ BlockText i ds ss ∷ []) g ((λ y e q. q), w) (block_agrees b k text first (BlockText i ds ss) (own_marks ds) ts os p tt a))
 run_agrees {os = os} b ts (prefixed_block {ms = ms} {xs = xs} text first class es ds ss g) w a =
     let x : Text = PrefixedText class es ds ss in
-    subst (λ z. Agree (run marked (opened b kind.Prefixed text first) ms) z []) (append_assoc ts (x ∷ []) xs) (run_agrees (opened b kind.Prefixed text first) (ts ++ x ∷ []) g ((λ y e q. q), w) (block_agrees b kind.Prefixed text first x (own_marks ds) ts os refl a))
+    subst (λ z. Agree (run marked (opened b kind.Prefixed text first) ms) z []) (append_assoc ts (x ∷ []) xs) (run_agrees (opened b kind.Prefixed text first) (ts ++ x ∷ []) g ((λ y e q. q), w) (block_agrees b kind.Prefixed text first x (own_marks ds) ts os refl tt a))
+run_agrees {os = os} b ts (sets_block {ms = ms} {xs = xs} text first class es ds ss p e g) w a =
+    let x : Text = PrefixedText class es ds ss in
+    let c : BuildingOf = opened b kind.Prefixed text first in
+    let d : BuildingOf = run marked c (set_prefix first class) in
+    subst (λ k. Agree k (ts ++ (x ∷ (set_texts ++ xs))) []) (sym (run_both c (set_prefix first class) ms))
+    (subst (λ z. Agree (run marked d ms) z []) (append_assoc (ts ++ x ∷ []) set_texts xs ∙ append_assoc ts (x ∷ []) (set_texts ++ xs))
+    (run_agrees d ((ts ++ x ∷ []) ++ set_texts) g ((λ y e q. q), w) (sets_run_agree c (opened_top b kind.Prefixed text first) first class x (own_marks ds) (ts ++ x ∷ []) os tt p (block_agrees b kind.Prefixed text first x (own_marks ds) ts os refl tt a))))
 run_agrees {os = os} b ts (connects {ms = ms} {xs = xs} text first g) w a =
-    subst (λ z. Agree (run marked (opened b kind.Connection text first) ms) z []) (append_assoc ts (ConnectionText ∷ []) xs) (run_agrees (opened b kind.Connection text first) (ts ++ ConnectionText ∷ []) g (owes_none ConnectionText, w) (block_agrees b kind.Connection text first ConnectionText [] ts os refl a))
+    subst (λ z. Agree (run marked (opened b kind.Connection text first) ms) z []) (append_assoc ts (ConnectionText ∷ []) xs) (run_agrees (opened b kind.Connection text first) (ts ++ ConnectionText ∷ []) g (owes_none ConnectionText, w) (block_agrees b kind.Connection text first ConnectionText [] ts os refl tt a))
 run_agrees b ts (procedure {os = os} {ms = ms} {xs = xs} text first x owed quals result h body d n q g) w a =
     let z : Text = ProcedureText result h body in
     let c : BuildingOf = run marked (declared b h.name (entry.Procedure (result_named result) (length b.tables.blocks))) quals in
@@ -298,6 +321,15 @@ run_agrees b ts (declares_class {os = os} {ms = ms} {xs = xs} text first x owed 
     let c : BuildingOf = changed (declared b h.name (entry.Class (length b.tables.blocks))) holding_class b.current in
     subst (λ z. Agree (run marked (opened c kind.Class text first) ms) z []) (append_assoc ts (z ∷ []) xs)
     (run_agrees (opened c kind.Class text first) (ts ++ z ∷ []) g (owes_heading z h.formals (own_marks ds) (λ y e q. q), w) (class_agrees b text first x owed (each headed_marks h.formals ++ own_marks ds) prefix h ds ss ts os d a))
+run_agrees b ts (sets_class {os = os} {ms = ms} {xs = xs} text first x owed y h ds ss p e d n g) w a =
+    let z : Text = ClassText (Some y) h ds ss in
+    let c0 : BuildingOf = changed (declared b h.name (entry.Class (length b.tables.blocks))) holding_class b.current in
+    let c : BuildingOf = opened c0 kind.Class text first in
+    let inner : List Mark = each headed_marks h.formals ++ own_marks ds in
+    let k : BuildingOf = run marked c (set_prefix first y) in
+    subst (λ q. Agree q (ts ++ (z ∷ (set_texts ++ xs))) []) (sym (run_both c (set_prefix first y) ms))
+    (subst (λ q. Agree (run marked k ms) q []) (append_assoc (ts ++ z ∷ []) set_texts xs ∙ append_assoc ts (z ∷ []) (set_texts ++ xs))
+    (run_agrees k ((ts ++ z ∷ []) ++ set_texts) g (owes_heading z h.formals (own_marks ds) (λ y e q. q), w) (sets_run_agree c (opened_top c0 kind.Class text first) first y z inner (ts ++ z ∷ []) (item x owed ∷ os) tt p (class_agrees b text first x owed inner (Some y) h ds ss ts os d a))))
 run_agrees b ts (declares {os = os} {ms = ms} {xs = xs} x owed quals y e d n own q written g) w a =
     subst (λ c. Agree c (ts ++ xs) []) (sym (run_both (declared b y e) quals ms))
     (run_agrees (run marked (declared b y e) quals) ts g ((λ z f p. w.0 z f (there p)), w.1) (declares_agrees b x owed quals y e ts os d own q (w.0 y e here) a))

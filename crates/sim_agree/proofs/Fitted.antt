@@ -1,6 +1,6 @@
 -- What is known of each text of a plain program beside where its parts stand: a dot is another token than the attribute behind it, `inner` stands
 -- in the body of a class alone, and a connection connects the class that is looked up in front of it.
-use Rattle.std.proofs.Common.{◌≡◌, ◌≤◌, ◌+◌, ℕ, zero, suc, Bool, true, false, List, [], ◌∷◌, ◌++◌, Option, Some, None, refl, sym, subst, arith}
+use Rattle.std.proofs.Common.{◌≡◌, ◌≤◌, ◌+◌, ℕ, zero, suc, Bool, true, false, List, [], ◌∷◌, ◌++◌, Option, Some, None, refl, subst, arith}
 use Rattle.std.specs.Prelude.{nat_eq, slice_get}
 use Rattle.std.proofs.lemmas.Bool.Decides.{nat_tests}
 use Rattle.sim_tree.specs.declared.expr.Identifier.{Identifier}
@@ -9,7 +9,7 @@ use Rattle.sim_tree.specs.declared.stmt.TypeName.TheVariants as type_name
 use Rattle.sim_tree.specs.declared.stmt.Variable.{Variable}
 use Rattle.sim_tree.specs.Named.{all_named, named}
 use Rattle.sim_tree.specs.Order.{Ascends, Behind, InOrder, Spot, Token, in_arms, in_block, in_bounds, in_declaration, in_declarations, in_each, in_element, in_expression, in_name, in_result, in_segment, in_side, in_statement, in_statements, in_type, in_variable, tokens, in_prefix}
-use Rattle.sim_tree.specs.Syntax.{Also, Arms, Arrayed, Arrays, Begin, Block, BoundPair, Declaration, Declarations, DeclareClass, DeclareProcedure, Element, Expression, Expressions, Heading, Interface, NoArm, NoDeclaration, NoStatement, RightSide, Statement, Statements, Variables, When, With}
+use Rattle.sim_tree.specs.Syntax.{Also, Arms, Arrayed, Arrays, Begin, Block, BoundPair, Declaration, Declarations, DeclareClass, DeclareProcedure, Element, Expression, Expressions, Heading, Interface, NoArm, NoDeclaration, NoStatement, RightSide, Statement, Statements, Variables, When, With, Prefix}
 use Rattle.sim_tree.specs.Syntax as syntax
 use Rattle.sim_scope.specs.declared.outcome.Extent.TheVariants as extent
 use Rattle.sim_scope.specs.declared.scopes.Denotation.{Denotation}
@@ -30,8 +30,8 @@ use Rattle.inspect_types.specs.Connecting.{Connecting, Connects, Looks, Names, c
 use Rattle.sim_meaning.specs.Texts.{BlockText, ClassText, ProcedureText, Text, arms_texts, block_texts, declaration_texts, declarations_texts, program_texts, statement_texts, statements_texts, text, prefix_texts, PrefixedText, prefixed_texts}
 use Rattle.sim_agree.specs.Places.{class_of_name, class_of_type}
 use Rattle.sim_agree.proofs.Groups.{NoBreaks}
-use Rattle.sim_agree.specs.Plain.{Each, Plain, PlainArms, PlainBlock, PlainDeclaration, PlainDeclarations, PlainStatement, PlainStatements, PlainPrefix, PlainName}
-use Rattle.sim_agree.proofs.PlainNames.{no_prefix_texts}
+use Rattle.sim_agree.specs.Plain.{Each, Plain, PlainArms, PlainBlock, PlainDeclaration, PlainDeclarations, PlainStatement, PlainStatements, PlainPrefix, PlainName, PlainStart}
+use Rattle.sim_agree.proofs.PlainNames.{behind_prefix}
 
 -- ---- what is known
 
@@ -302,9 +302,9 @@ abbrev Allows : Position → Type 0
 Allows ClassStatement = Unit {0}
 Allows _ = ⊥
 
--- behind a prefix that brings no texts
+-- behind the texts of a prefix
 fitted_prefix : (s : Source) (C : Meets) (prefix : Option Identifier) → PlainPrefix prefix → (xs : List Text) → AllFitted s C xs → AllFitted s C (prefix_texts prefix ++ xs)
-fitted_prefix s C prefix w xs a = subst (λ z. AllFitted s C (z ++ xs)) (sym (no_prefix_texts prefix w)) a
+fitted_prefix s C prefix w xs a = behind_prefix (AllFitted s C) prefix w xs a (tt, (tt, (tt, a)))
 
 module _ (s : Source) (C : Meets) where
   mutual
@@ -457,16 +457,20 @@ module _ (s : Source) (C : Meets) where
         let y = statements_fitted ClassStatement true (λ z. z) ss tt p.1 n.1 m.1 (Behind e ∷ Behind end ∷ l) x.2.0 x.2.1 in
         (tt, ((x.0, y.0), fitted_prefix s C prefix w (declarations_texts ds ++ statements_texts ss) (both_fitted s C (declarations_texts ds) (statements_texts ss) x.1 y.1)), (end, y.2.1.1.1))
 
-  block_fits : (b : Block) → PlainBlock b → NoBreaks (whole_events declaring b) → Connected s C (whole_events connections b) → Ascends 0 (in_block b []) → AllFitted s C (program_texts None b)
+  block_fits : (prefix : Option Prefix) → PlainStart prefix → (b : Block) → PlainBlock b → NoBreaks (whole_events declaring b) → Connected s C (whole_events connections b) → Ascends 0 (in_block b []) → AllFitted s C (program_texts prefix b)
   unfolding declaring connections
-  block_fits (Begin i ds ss end) p b k h =
+  block_fits prefix start (Begin i ds ss end) p b k h =
       let n = both_unbroken (declarations_events declaring ds) (statements_events declaring Inside ss ++ Closes end ∷ []) b in
       let m = both_unbroken (statements_events declaring Inside ss) (Closes end ∷ []) n.1 in
       let j = parts_connect s C (declarations_events connections ds) (statements_events connections Inside ss ++ []) k in
       let g = parts_connect s C (statements_events connections Inside ss) [] j.1 in
       let x = declarations_fitted ds p.0 n.0 j.0 (in_statements ss (Behind end ∷ [])) (i + 1) h.1 in
       let y = statements_fitted Inside false (λ z. z) ss tt p.1 m.0 g.0 (Behind end ∷ []) x.2.0 x.2.1 in
-      ((x.0, y.0), both_fitted s C (declarations_texts ds) (statements_texts ss) x.1 y.1)
+      whole prefix start (x.0, y.0) (both_fitted s C (declarations_texts ds) (statements_texts ss) x.1 y.1)
+    where
+      whole : (prefix : Option Prefix) → PlainStart prefix → DotsDeclarations ds × FittedStatements s C false ss → AllFitted s C (declarations_texts ds ++ statements_texts ss) → AllFitted s C (program_texts prefix (Begin i ds ss end))
+      whole None start own inner = (own, inner)
+      whole (Some x) start own inner = (own, fitted_prefix s C (Some x.class) start.0 (declarations_texts ds ++ statements_texts ss) inner)
 
   fitted_at : (xs : List Text) (k : ℕ) (x : Text) → AllFitted s C xs → slice_get xs k ≡ Some x → TextFitted s C x
   fitted_at [] k x a e = absurd (cc)
@@ -478,4 +482,4 @@ module _ (s : Source) (C : Meets) where
   text_fitted p order b c k x e =
       let body = s.program.block in
       let n = both_unbroken (declaring.program s.program.prefix (begin_of body)) (whole_events declaring body) b in
-      fitted_at (program_texts None body) k x (block_fits body p.block n.1 (None, c) order) (subst (λ z. slice_get (program_texts z body) k ≡ Some x) p.prefix e)
+      fitted_at (program_texts s.program.prefix body) k x (block_fits s.program.prefix p.start body p.block n.1 (None, c) order) e

@@ -23,12 +23,14 @@ use Rattle.sim_scope.specs.declared.types.SimType.{SimType}
 use Rattle.sim_scope.specs.declared.types.SimType.TheVariants as t
 use Rattle.sim_scope.specs.Bodies.{body_declarations, body_statements}
 use Rattle.sim_scope.specs.Building.{Breaks, Closes, Declares, DeclaresClass, DeclaresProcedure, Headed, Inner, Mark, Moded, Opens, Parameter, Qualifies, Specified, Prefixes, Protects}
-use Rattle.sim_scope.specs.Declare.{array_marks, class_marks, class_prefix_marks, declaring, first_of_class, first_of_procedure, headed_marks, heading_marks, inner_marks, interface_marks, mode_named, mode_part_marks, moded_marks, parameter_marks, procedure_marks, program_marks, protection_marks, qualified_marks, qualified_result, result_named, segment_marks, specification_marks, specified_marks, type_named, variable_marks, virtual_marks, marks_of_standard, prefix_marks, standard_marks, is_written, protected_marks, prefixed_marks}
+use Rattle.sim_scope.specs.Declare.{array_marks, class_marks, class_prefix_marks, declaring, first_of_class, first_of_procedure, headed_marks, heading_marks, inner_marks, interface_marks, mode_named, mode_part_marks, moded_marks, parameter_marks, procedure_marks, program_marks, protection_marks, qualified_marks, qualified_result, result_named, segment_marks, specification_marks, specified_marks, type_named, variable_marks, virtual_marks, brought_marks, marks_of_standard, prefix_marks, standard_marks, is_written, protected_marks, prefixed_marks}
 use Rattle.sim_scope.specs.Runs.{each}
+use Rattle.sim_scope.specs.Standard.{classes_of_sets, standard_prefix}
+use Rattle.sim_scope.specs.declared.types.StandardPrefix.TheVariants as standard_prefixes
 use Rattle.sim_scope.specs.Walk.{arms_events, begin_of, block_events, declaration_events, declarations_events, program_events, statement_events, statements_events, whole_events}
-use Rattle.sim_meaning.specs.Texts.{BlockText, ClassText, ConnectionText, ProcedureText, Text, arms_texts, block_texts, declaration_texts, declarations_texts, prefix_texts, program_texts, statement_texts, statements_texts, PrefixedText, prefixed_texts}
-use Rattle.sim_agree.specs.Plain.{Each, Plain, PlainArms, PlainBlock, PlainDeclarations, PlainHeading, PlainInterface, PlainMode, PlainSpecification, PlainStatement, PlainStatements, PlainWord, PlainName, PlainPrefix}
-use Rattle.sim_agree.proofs.PlainNames.{no_prefix_texts, no_standard_prefix}
+use Rattle.sim_meaning.specs.Texts.{BlockText, ClassText, ConnectionText, ProcedureText, Text, arms_texts, block_texts, declaration_texts, declarations_texts, prefix_texts, program_texts, statement_texts, statements_texts, PrefixedText, prefixed_texts, standard_texts}
+use Rattle.sim_agree.specs.Plain.{Each, Plain, PlainArms, PlainBlock, PlainDeclarations, PlainHeading, PlainInterface, PlainMode, PlainSpecification, PlainStatement, PlainStatements, PlainWord, PlainName, PlainPrefix, PlainStart}
+use Rattle.sim_agree.proofs.PlainNames.{SetsOrNone, no_texts, plain_standard, set_texts, texts_of_sets}
 
 -- what a block or a class declares itself, but for its parameters, procedures and classes
 unfoldable pub own_variable : TypeName → Variable → List Mark
@@ -157,6 +159,13 @@ pub data Has (m : Mark) : List Mark → Type 0 where
 abbrev pub NoHeaded : List Mark → Type 0
 NoHeaded owed = (y : Identifier) → Has (Headed y) owed → ⊥
 
+-- `simset` in front of a block or class that begins at a token
+abbrev pub IsSimset : Identifier → Type 0
+IsSimset y = standard_prefix y.name ≡ Some standard_prefixes.Simset
+
+abbrev pub set_prefix : (first : ℕ) → Identifier → List Mark
+set_prefix first y = Prefixes y ∷ brought_marks first standard_prefixes.Simset classes_of_sets
+
 -- Marks that lead from open texts to none, and the texts that they open.
 pub data Grouped : List Open → List Mark → List Text → Type 0 where
   nothing : {os : List Open} → os ≡ [] → Grouped os [] []
@@ -164,6 +173,8 @@ pub data Grouped : List Open → List Mark → List Text → Type 0 where
       → Grouped (item (BlockText i ds ss) (own_marks ds) ∷ os) ms xs → Grouped os (Opens k text first ∷ ms) (BlockText i ds ss ∷ xs)
   prefixed_block : {os : List Open} {ms : List Mark} {xs : List Text} (text first : ℕ) (class : Identifier) (es : Expressions) (ds : Declarations) (ss : Statements)
       → Grouped (item (PrefixedText class es ds ss) (own_marks ds) ∷ os) ms xs → Grouped os (Opens kind.Prefixed text first ∷ ms) (PrefixedText class es ds ss ∷ xs)
+  sets_block : {os : List Open} {ms : List Mark} {xs : List Text} (text first : ℕ) (class : Identifier) (es : Expressions) (ds : Declarations) (ss : Statements) → PlainName class → IsSimset class
+      → Grouped (item (PrefixedText class es ds ss) (own_marks ds) ∷ os) ms xs → Grouped os (Opens kind.Prefixed text first ∷ (set_prefix first class ++ ms)) (PrefixedText class es ds ss ∷ (set_texts ++ xs))
   connects : {os : List Open} {ms : List Mark} {xs : List Text} (text first : ℕ)
       → Grouped (item ConnectionText [] ∷ os) ms xs → Grouped os (Opens kind.Connection text first ∷ ms) (ConnectionText ∷ xs)
   procedure : {os : List Open} {ms : List Mark} {xs : List Text} (text first : ℕ) (x : Text) (owed quals : List Mark) (result : Option TypeName) (h : Heading) (a : Statement) → Declaring x → NoHeaded owed → Quals (AreReferences (result_named result)) quals
@@ -172,6 +183,9 @@ pub data Grouped : List Open → List Mark → List Text → Type 0 where
   declares_class : {os : List Open} {ms : List Mark} {xs : List Text} (text first : ℕ) (x : Text) (owed : List Mark) (prefix : Option Identifier) (h : Heading) (ds : Declarations) (ss : Statements) → Declaring x → NoHeaded owed
       → Grouped (item (ClassText prefix h ds ss) (each headed_marks h.formals ++ own_marks ds) ∷ item x owed ∷ os) ms xs
       → Grouped (item x owed ∷ os) (DeclaresClass h.name ∷ Opens kind.Class text first ∷ ms) (ClassText prefix h ds ss ∷ xs)
+  sets_class : {os : List Open} {ms : List Mark} {xs : List Text} (text first : ℕ) (x : Text) (owed : List Mark) (y : Identifier) (h : Heading) (ds : Declarations) (ss : Statements) → PlainName y → IsSimset y → Declaring x → NoHeaded owed
+      → Grouped (item (ClassText (Some y) h ds ss) (each headed_marks h.formals ++ own_marks ds) ∷ item x owed ∷ os) ms xs
+      → Grouped (item x owed ∷ os) (DeclaresClass h.name ∷ Opens kind.Class text first ∷ (set_prefix first y ++ ms)) (ClassText (Some y) h ds ss ∷ (set_texts ++ xs))
   declares : {os : List Open} {ms : List Mark} {xs : List Text} (x : Text) (owed quals : List Mark) (y : Identifier) (e : Entry) → Declaring x → NoHeaded owed → OwnEntry e → Quals (OfReferences e) quals → Written e y quals (declared_in_text x)
       → Grouped (item x owed ∷ os) ms xs → Grouped (item x (Declares y e ∷ owed) ∷ os) (Declares y e ∷ (quals ++ ms)) xs
   parameter : {os : List Open} {ms : List Mark} {xs : List Text} (x : Text) (owed : List Mark) (y : Identifier) → Taking x → Has (Headed y) owed
@@ -390,10 +404,14 @@ as_texts {os = os} {ps = ps} {es = es} ns ks e a = subst (λ z. Adds os es z ps)
 as_marks : {os ps : List Open} {ns : List Text} (es fs : List Mark) → es ≡ fs → Adds os es ns ps → Adds os fs ns ps
 as_marks {os = os} {ps = ps} {ns = ns} es fs e a = subst (λ z. Adds os z ns ps) e a
 
--- a prefix that is spelt as no standard name is one mark
-pub plain_prefix : (first : ℕ) (y : Identifier) → PlainName y → prefix_marks first y ≡ Prefixes y ∷ []
+-- a prefix that is spelt as no standard name is one mark, and `simset` brings its classes
+pub plain_prefix : (first : ℕ) (y : Identifier) → standard_prefix y.name ≡ None → prefix_marks first y ≡ Prefixes y ∷ []
 unfolding prefix_marks standard_marks marks_of_standard
-plain_prefix first y p = ap (λ z. Prefixes y ∷ marks_of_standard first z) (no_standard_prefix y.name p)
+plain_prefix first y e = ap (λ z. Prefixes y ∷ marks_of_standard first z) e
+
+pub sets_prefix : (first : ℕ) (y : Identifier) → IsSimset y → prefix_marks first y ≡ set_prefix first y
+unfolding prefix_marks standard_marks marks_of_standard
+sets_prefix first y e = ap (λ z. Prefixes y ∷ marks_of_standard first z) e
 
 begins_block : (k : BlockKind) (text first i : ℕ) (ds : Declarations) (ss : Statements) (os : List Open) → PlainKind k
     → Adds os (Opens k text first ∷ []) (BlockText i ds ss ∷ []) (item (BlockText i ds ss) (own_marks ds) ∷ os)
@@ -411,28 +429,51 @@ begins_procedure x d owed n os result token h a = record {
       (procedure (first_of_procedure result token) h.name.token.0 x owed (qualified_result result) result h a d n (quals_of_result result) g);
 }
 
--- the mark of a prefix
-prefix_adds : (prefix other : Option Identifier) → PlainPrefix prefix → (first : ℕ) (h : Heading) (ds : Declarations) (ss : Statements) (owed : List Mark) (os : List Open)
-    → Adds (item (ClassText other h ds ss) owed ∷ os) (class_prefix_marks first prefix) [] (item (ClassText other h ds ss) owed ∷ os)
-unfolding class_prefix_marks
-prefix_adds None other p first h ds ss owed os = none
-prefix_adds (Some y) other p first h ds ss owed os =
-    as_marks (Prefixes y ∷ []) (prefix_marks first y) (sym (plain_prefix first y p)) (record { before = λ ms xs g. prefixes (ClassText other h ds ss) owed y tt p g })
-
 begins_class : (x : Text) → Declaring x → (owed : List Mark) → NoHeaded owed → (os : List Open) (prefix : Option Identifier) → PlainPrefix prefix → (token : ℕ) (h : Heading) (ds : Declarations) (ss : Statements)
-    → Adds (item x owed ∷ os) (class_marks prefix token h.name) (ClassText prefix h ds ss ∷ []) (item (ClassText prefix h ds ss) (each headed_marks h.formals ++ own_marks ds) ∷ item x owed ∷ os)
-unfolding class_marks
-begins_class x d owed n os prefix p token h ds ss = record {
-  before = λ ms xs g.
-      declares_class (first_of_class prefix token) h.name.token.0 x owed prefix h ds ss d n ((prefix_adds prefix prefix p h.name.token.0 h ds ss (each headed_marks h.formals ++ own_marks ds) (item x owed ∷ os)).before ms xs g);
-}
+    → Adds (item x owed ∷ os) (class_marks prefix token h.name) (ClassText prefix h ds ss ∷ prefix_texts prefix) (item (ClassText prefix h ds ss) (each headed_marks h.formals ++ own_marks ds) ∷ item x owed ∷ os)
+unfolding class_marks class_prefix_marks
+begins_class x d owed n os None p token h ds ss = record { before = λ ms xs g. declares_class (first_of_class None token) h.name.token.0 x owed None h ds ss d n g }
+begins_class x d owed n os (Some y) p token h ds ss = go (plain_standard y.name p)
+  where
+    first : ℕ
+    first = first_of_class (Some y) token
+
+    inner : Open
+    inner = item (ClassText (Some y) h ds ss) (each headed_marks h.formals ++ own_marks ds)
+
+    head : List Mark → List Mark
+    head ms = DeclaresClass h.name ∷ Opens kind.Class (first_of_class (Some y) token) h.name.token.0 ∷ ms
+
+    go : SetsOrNone (standard_prefix y.name) → Adds (item x owed ∷ os) (DeclaresClass h.name ∷ Opens kind.Class (first_of_class (Some y) token) h.name.token.0 ∷ prefix_marks h.name.token.0 y) (ClassText (Some y) h ds ss ∷ standard_texts y.name) (inner ∷ item x owed ∷ os)
+    go (inl e) =
+        as_texts (ClassText (Some y) h ds ss ∷ []) (ClassText (Some y) h ds ss ∷ standard_texts y.name) (ap (λ z. ClassText (Some y) h ds ss ∷ z) (sym (no_texts y.name e)))
+        (as_marks (head (Prefixes y ∷ [])) (head (prefix_marks h.name.token.0 y)) (ap head (sym (plain_prefix h.name.token.0 y e)))
+        (record { before = λ ms xs g. declares_class first h.name.token.0 x owed (Some y) h ds ss d n (prefixes (ClassText (Some y) h ds ss) (each headed_marks h.formals ++ own_marks ds) y tt p g) }))
+    go (inr e) =
+        as_texts (ClassText (Some y) h ds ss ∷ set_texts) (ClassText (Some y) h ds ss ∷ standard_texts y.name) (ap (λ z. ClassText (Some y) h ds ss ∷ z) (sym (texts_of_sets y.name e)))
+        (as_marks (head (set_prefix h.name.token.0 y)) (head (prefix_marks h.name.token.0 y)) (ap head (sym (sets_prefix h.name.token.0 y e)))
+        (record { before = λ ms xs g. sets_class first h.name.token.0 x owed y h ds ss p e d n g }))
 
 begins_prefixed : (class : Identifier) → PlainName class → (i : ℕ) (es : Expressions) (ds : Declarations) (ss : Statements) (os : List Open)
-    → Adds os (prefixed_marks class i) (PrefixedText class es ds ss ∷ []) (item (PrefixedText class es ds ss) (own_marks ds) ∷ os)
+    → Adds os (prefixed_marks class i) (PrefixedText class es ds ss ∷ standard_texts class.name) (item (PrefixedText class es ds ss) (own_marks ds) ∷ os)
 unfolding prefixed_marks
-begins_prefixed class p i es ds ss os =
-    as_marks (Opens kind.Prefixed class.token.0 i ∷ Prefixes class ∷ []) (Opens kind.Prefixed class.token.0 i ∷ prefix_marks i class) (ap (λ z. Opens kind.Prefixed class.token.0 i ∷ z) (sym (plain_prefix i class p)))
-    (record { before = λ ms xs g. prefixed_block class.token.0 i class es ds ss (prefixes (PrefixedText class es ds ss) (own_marks ds) class tt p g) })
+begins_prefixed class p i es ds ss os = go (plain_standard class.name p)
+  where
+    x : Text
+    x = PrefixedText class es ds ss
+
+    head : List Mark → List Mark
+    head ms = Opens kind.Prefixed class.token.0 i ∷ ms
+
+    go : SetsOrNone (standard_prefix class.name) → Adds os (Opens kind.Prefixed class.token.0 i ∷ prefix_marks i class) (PrefixedText class es ds ss ∷ standard_texts class.name) (item (PrefixedText class es ds ss) (own_marks ds) ∷ os)
+    go (inl e) =
+        as_texts (x ∷ []) (x ∷ standard_texts class.name) (ap (λ z. x ∷ z) (sym (no_texts class.name e)))
+        (as_marks (head (Prefixes class ∷ [])) (head (prefix_marks i class)) (ap head (sym (plain_prefix i class e)))
+        (record { before = λ ms xs g. prefixed_block class.token.0 i class es ds ss (prefixes (PrefixedText class es ds ss) (own_marks ds) class tt p g) }))
+    go (inr e) =
+        as_texts (x ∷ set_texts) (x ∷ standard_texts class.name) (ap (λ z. x ∷ z) (sym (texts_of_sets class.name e)))
+        (as_marks (head (set_prefix i class)) (head (prefix_marks i class)) (ap head (sym (sets_prefix i class e)))
+        (record { before = λ ms xs g. sets_block class.token.0 i class es ds ss p e g }))
 
 ends : (x : Text) (end : ℕ) (os : List Open) → Adds (item x [] ∷ os) (Closes end ∷ []) [] os
 ends x end os = record { before = λ ms xs g. closes x end g }
@@ -462,24 +503,23 @@ interface_adds : (i : Interface) → PlainInterface i → (os : List Open) → A
 interface_adds i p os = as_marks (each protection_marks i.protections) (interface_marks i) (sym (only_protections i p)) (protections_add i.protections os)
 
 -- the texts of a class, whose body is `begin .. end` or one statement
-pub one_text : (prefix : Option Identifier) → PlainPrefix prefix → (h : Heading) (a : Statement) → ClassText prefix h NoDeclaration (Also a NoStatement) ∷ (prefix_texts prefix ++ statement_texts a) ≡ ClassText prefix h NoDeclaration (Also a NoStatement) ∷ (statement_texts a ++ [])
-one_text prefix p h a =
-    ap (λ z. ClassText prefix h NoDeclaration (Also a NoStatement) ∷ (z ++ statement_texts a)) (no_prefix_texts prefix p) ∙ ap (λ z. ClassText prefix h NoDeclaration (Also a NoStatement) ∷ z) (sym (append-nil (statement_texts a)))
+pub one_text : (prefix : Option Identifier) (h : Heading) (a : Statement) → ClassText prefix h NoDeclaration (Also a NoStatement) ∷ (prefix_texts prefix ++ statement_texts a) ≡ ClassText prefix h NoDeclaration (Also a NoStatement) ∷ (prefix_texts prefix ++ (statement_texts a ++ []))
+one_text prefix h a = ap (λ z. ClassText prefix h NoDeclaration (Also a NoStatement) ∷ (prefix_texts prefix ++ z)) (sym (append-nil (statement_texts a)))
 
-pub class_texts : (prefix : Option Identifier) → PlainPrefix prefix → (j : ℕ) (h : Heading) (i : Interface) (a : Statement) (e : ℕ)
-    → declaration_texts (DeclareClass prefix j h i a e) ≡ ClassText prefix h (body_declarations a) (body_statements a) ∷ (declarations_texts (body_declarations a) ++ statements_texts (body_statements a))
-class_texts prefix p j h i (syntax.Compound (Begin n ds ss m)) e = ap (λ z. ClassText prefix h ds ss ∷ (z ++ (declarations_texts ds ++ statements_texts ss))) (no_prefix_texts prefix p)
-class_texts prefix p j h i (syntax.Empty n) e = one_text prefix p h (syntax.Empty n)
-class_texts prefix p j h i (syntax.Prefixed x args b) e = one_text prefix p h (syntax.Prefixed x args b)
-class_texts prefix p j h i (syntax.Inner n) e = one_text prefix p h (syntax.Inner n)
-class_texts prefix p j h i (syntax.Call x) e = one_text prefix p h (syntax.Call x)
-class_texts prefix p j h i (syntax.Assign x sides) e = one_text prefix p h (syntax.Assign x sides)
-class_texts prefix p j h i (syntax.Choose n c x rest) e = one_text prefix p h (syntax.Choose n c x rest)
-class_texts prefix p j h i (syntax.Repeat n c x) e = one_text prefix p h (syntax.Repeat n c x)
-class_texts prefix p j h i (syntax.For n y sign m es x) e = one_text prefix p h (syntax.For n y sign m es x)
-class_texts prefix p j h i (syntax.Inspect n object d x m rest) e = one_text prefix p h (syntax.Inspect n object d x m rest)
-class_texts prefix p j h i (syntax.InspectWhen n object arms rest) e = one_text prefix p h (syntax.InspectWhen n object arms rest)
-class_texts prefix p j h i (syntax.Activate n w process schedule) e = one_text prefix p h (syntax.Activate n w process schedule)
+pub class_texts : (prefix : Option Identifier) (j : ℕ) (h : Heading) (i : Interface) (a : Statement) (e : ℕ)
+    → declaration_texts (DeclareClass prefix j h i a e) ≡ ClassText prefix h (body_declarations a) (body_statements a) ∷ (prefix_texts prefix ++ (declarations_texts (body_declarations a) ++ statements_texts (body_statements a)))
+class_texts prefix j h i (syntax.Compound (Begin n ds ss m)) e = refl
+class_texts prefix j h i (syntax.Empty n) e = one_text prefix h (syntax.Empty n)
+class_texts prefix j h i (syntax.Prefixed x args b) e = one_text prefix h (syntax.Prefixed x args b)
+class_texts prefix j h i (syntax.Inner n) e = one_text prefix h (syntax.Inner n)
+class_texts prefix j h i (syntax.Call x) e = one_text prefix h (syntax.Call x)
+class_texts prefix j h i (syntax.Assign x sides) e = one_text prefix h (syntax.Assign x sides)
+class_texts prefix j h i (syntax.Choose n c x rest) e = one_text prefix h (syntax.Choose n c x rest)
+class_texts prefix j h i (syntax.Repeat n c x) e = one_text prefix h (syntax.Repeat n c x)
+class_texts prefix j h i (syntax.For n y sign m es x) e = one_text prefix h (syntax.For n y sign m es x)
+class_texts prefix j h i (syntax.Inspect n object d x m rest) e = one_text prefix h (syntax.Inspect n object d x m rest)
+class_texts prefix j h i (syntax.InspectWhen n object arms rest) e = one_text prefix h (syntax.InspectWhen n object arms rest)
+class_texts prefix j h i (syntax.Activate n w process schedule) e = one_text prefix h (syntax.Activate n w process schedule)
 
 procedure_adds : (x : Text) → Declaring x → (os : List Open) (owed : List Mark) → NoHeaded owed → (result : Option TypeName) (j : ℕ) (h : Heading) (a : Statement) (e : ℕ) → PlainHeading h
     → Adds (item (ProcedureText result h a) [] ∷ item x owed ∷ os) (statement_events declaring Inside a) (statement_texts a) (item (ProcedureText result h a) [] ∷ item x owed ∷ os)
@@ -501,7 +541,8 @@ class_adds x d os owed n prefix w j h i a e p q body =
     let ps : List Open = item x owed ∷ os in
     let inside : List Text = declarations_texts (body_declarations a) ++ statements_texts (body_statements a) in
     let own : List Mark = own_marks (body_declarations a) in
-    as_texts (y ∷ (inside ++ [])) (declaration_texts (DeclareClass prefix j h i a e)) (ap (λ z. y ∷ z) (append-nil inside) ∙ sym (class_texts prefix w j h i a e))
+    as_texts (y ∷ ((prefix_texts prefix ++ []) ++ (inside ++ []))) (declaration_texts (DeclareClass prefix j h i a e))
+    (ap (λ z. y ∷ (z ++ (inside ++ []))) (append-nil (prefix_texts prefix)) ∙ ap (λ z. y ∷ (prefix_texts prefix ++ z)) (append-nil inside) ∙ sym (class_texts prefix j h i a e))
     (both (both (begins_class x d owed n os prefix w j h (body_declarations a) (body_statements a))
     (both (heading_adds y tt own ps h p) (interface_adds i q (item y own ∷ ps)))) (both body (ends y e ps)))
 
@@ -562,12 +603,11 @@ mutual
   prefixed_adds : (x : Identifier) (args : Expressions) (b : Block) (os : List Open) → PlainName x → PlainBlock b → Adds os (prefixed_marks x (begin_of b) ++ whole_events declaring b) (prefixed_texts x args b) os
   prefixed_adds x args (Begin i ds ss e) os w p =
       let y : Text = PrefixedText x args ds ss in
-      as_texts (y ∷ (declarations_texts ds ++ statements_texts ss)) (prefixed_texts x args (Begin i ds ss e)) (ap (λ z. y ∷ (z ++ (declarations_texts ds ++ statements_texts ss))) (sym (no_prefix_texts (Some x) w)))
-      (as_marks (prefixed_marks x i ++ ((declarations_events declaring ds ++ statements_events declaring Inside ss) ++ Closes e ∷ [])) (prefixed_marks x i ++ (declarations_events declaring ds ++ (statements_events declaring Inside ss ++ Closes e ∷ [])))
+      as_marks (prefixed_marks x i ++ ((declarations_events declaring ds ++ statements_events declaring Inside ss) ++ Closes e ∷ [])) (prefixed_marks x i ++ (declarations_events declaring ds ++ (statements_events declaring Inside ss ++ Closes e ∷ [])))
       (ap (λ z. prefixed_marks x i ++ z) (append_assoc (declarations_events declaring ds) (statements_events declaring Inside ss) (Closes e ∷ [])))
       (both (begins_prefixed x w i args ds ss os)
       (inside_block os y (own_marks ds) (declarations_events declaring ds) (statements_events declaring Inside ss) (declarations_texts ds) (statements_texts ss) e
-      (declarations_add y tt os ds (λ z quals w. w) p.0) (statements_add false ss (item y [] ∷ os) p.1))))
+      (declarations_add y tt os ds (λ z quals w. w) p.0) (statements_add false ss (item y [] ∷ os) p.1)))
 
   block_adds : (b : Block) (os : List Open) → PlainBlock b → Adds os (block_events declaring b) (block_texts b) os
   block_adds (Begin i NoDeclaration ss e) os p = statements_add false ss os p.1
@@ -591,10 +631,15 @@ mutual
 -- a plain program
 pub program_grouped : (p : Program) → Plain p → Grouped [] (program_events declaring p) (program_texts p.prefix p.block)
 unfolding program_events declaring program_marks
-program_grouped p q = go p.prefix p.block q.prefix q.block
+program_grouped p q = go p.prefix p.block q.start q.block
   where
-    go : (prefix : Option Prefix) (b : Block) → prefix ≡ None → PlainBlock b → Grouped [] (declaring.program prefix (begin_of b) ++ whole_events declaring b) (program_texts prefix b)
-    go (Some x) b e r = absurd (cc)
+    go : (prefix : Option Prefix) (b : Block) → PlainStart prefix → PlainBlock b → Grouped [] (declaring.program prefix (begin_of b) ++ whole_events declaring b) (program_texts prefix b)
+    go (Some x) b e r =
+        let all : Adds [] (prefixed_marks x.class (begin_of b) ++ whole_events declaring b) (prefixed_texts x.class x.arguments b) [] = prefixed_adds x.class x.arguments b [] e.0 r in
+        whole_of b x (subst (λ z. Grouped [] z (prefixed_texts x.class x.arguments b)) (append-nil _) (subst (λ z. Grouped [] ((prefixed_marks x.class (begin_of b) ++ whole_events declaring b) ++ []) z) (append-nil _) (all.before [] [] (nothing refl))))
+      where
+        whole_of : (b : Block) (x : Prefix) → Grouped [] (prefixed_marks x.class (begin_of b) ++ whole_events declaring b) (prefixed_texts x.class x.arguments b) → Grouped [] (prefixed_marks x.class (begin_of b) ++ whole_events declaring b) (program_texts (Some x) b)
+        whole_of (Begin i ds ss end) x g = g
     go None (Begin i ds ss end) e r =
         let x : Text = BlockText i ds ss in
         let all : Adds [] ((Opens kind.Program i i ∷ []) ++ ((declarations_events declaring ds ++ statements_events declaring Inside ss) ++ Closes end ∷ [])) ((x ∷ []) ++ (declarations_texts ds ++ statements_texts ss)) [] =

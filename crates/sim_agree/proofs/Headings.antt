@@ -18,20 +18,24 @@ use Rattle.sim_scope.specs.declared.types.SimType.{SimType}
 use Rattle.sim_scope.specs.Access.{encloser}
 use Rattle.sim_scope.specs.Access.{around as around_of}
 use Rattle.sim_scope.specs.Declare.{result_named}
+use Rattle.sim_scope.specs.Building.{typed_or_none}
 use Rattle.sim_scope.specs.Levels.{owner_of_level, base}
+use Rattle.sim_scope.specs.Standard.{parameter_of, result_of}
+use Rattle.sim_meaning.specs.Levels.{is_class}
+use Rattle.sim_agree.proofs.ClassRows.{own_no_class}
 use Rattle.sim_scope.specs.Scopes.{class_formals, class_formals_of, entry_of, formals_in, formals_beyond}
 use Rattle.sim_scope.specs.Source.{Source, block_of}
 use Rattle.sim_scope.specs.Tables.{BlockOf}
 use Rattle.sim_meaning.specs.Closing as closing
 use Rattle.sim_meaning.specs.Closing.{class_parameters}
 use Rattle.sim_meaning.specs.Entries.{formals_from, formals_of, numbers_in, numbers_of}
-use Rattle.sim_meaning.specs.Texts.{ClassText, ProcedureText, Text, text}
+use Rattle.sim_meaning.specs.Texts.{ProcedureText, Text, text}
 use Rattle.sim_sound.specs.Held.{Among, ArrayOf, Holds, IsFormal, first, formal_holds, held_by, later}
 use Rattle.sim_sound.specs.Typed.{ClassThere, Distinct, FormalsAre, NoFormal, NoFormals, ProcedureThere}
 use Rattle.sim_agree.specs.Plain.{Plain}
 use Rattle.sim_agree.specs.TablesOf.{TablesOf}
 use Rattle.sim_agree.proofs.Clean.{Counts}
-use Rattle.sim_agree.proofs.Fine.{Alike, Rising, RowIn, class_row, formal_row, own_row, owner_in, procedure_row}
+use Rattle.sim_agree.proofs.Fine.{Alike, IsStandard, Rising, RowIn, attribute_row, class_row, formal_row, own_row, owner_in, procedure_row}
 use Rattle.sim_agree.proofs.Groups.{Declaring, OwnEntry, PlainFormal, Taking}
 use Rattle.sim_agree.proofs.Steps.{IsParameter, NoName, Parametric}
 use Rattle.sim_agree.proofs.Tables as t
@@ -134,7 +138,8 @@ module _ (s : Source) (of : TablesOf s) (plain : Plain s.program) (order : InOrd
   param_in x d row (own_row y p) q = absurd (own_is_none p.entry row.entry p.fits p.alike q)
   param_in x d row (procedure_row y p) q = absurd (procedure_is_none (result_named p.result) p.number row.entry p.entry q)
   param_in x d row (class_row y p) q = absurd (subst IsParameter p.entry q)
-  param_in x d row (formal_row y p) q = p
+  param_in x d row (formal_row y p l) q = p
+  param_in x d row (attribute_row y p) q = absurd (subst IsParameter p.entry q)
 
   -- a parameter is specified
   parameter_is : (d : DeclNo) (row : Declaration) → slice_get s.tables.declarations d.0 ≡ Some row → IsParameter row.entry → IsSpecified d
@@ -190,7 +195,8 @@ module _ (s : Source) (of : TablesOf s) (plain : Plain s.program) (order : InOrd
       go x f (own_row y p) = absurd (subst Declaring (some_same x (ProcedureText result h a) f) y)
       go x f (procedure_row y p) = absurd (subst Declaring (some_same x (ProcedureText result h a) f) y)
       go x f (class_row y p) = absurd (subst Declaring (some_same x (ProcedureText result h a) f) y)
-      go x f (formal_row y p) = p
+      go x f (formal_row y p l) = p
+      go x f (attribute_row y p) = absurd (subst IsStandard (some_same x (ProcedureText result h a) f) y)
 
   parametric : (e : Entry) → Parametric e → IsParameter e
   parametric (entry.Formal f) q = tt
@@ -357,7 +363,8 @@ module _ (s : Source) (of : TablesOf s) (plain : Plain s.program) (order : InOrd
       in_row x f d row (own_row y p) = of_own p.entry row.entry p.fits p.alike
       in_row x f d row (procedure_row y p) = of_procedures (result_named p.result) p.number row.entry p.entry
       in_row x f d row (class_row y p) = subst (λ z. NoFormal (Some z)) (sym p.entry) tt
-      in_row x f d row (formal_row y p) = absurd (free (subst Taking (some_same x z f) y))
+      in_row x f d row (formal_row y p l) = absurd (free (subst Taking (some_same x z f) y))
+      in_row x f d row (attribute_row y p) = subst (λ z. NoFormal (Some z)) (sym p.entry) tt
 
       one : (d : DeclNo) → Among d (numbers_of s k) → NoFormal (entry_of s.tables d)
       one d a =
@@ -410,7 +417,8 @@ module _ (s : Source) (of : TablesOf s) (plain : Plain s.program) (order : InOrd
             owned = subst (λ z. owner_of_level s.tables (Some z) ≡ Some d) same (owner_at p.number d p.owner);
           }
       go row at f x (class_row y p) = absurd (let g : entry.Class p.number ≡ entry.Procedure result k = sym p.entry ∙ f in cc)
-      go row at f x (formal_row y p) = absurd (subst Parametric f p)
+      go row at f x (formal_row y p l) = absurd (subst Parametric f p)
+      go row at f x (attribute_row y p) = absurd (let g : entry.Attribute p.name (typed_or_none (Some p.first) (parameter_of p.name)) (typed_or_none (Some p.first) (result_of p.name)) ≡ entry.Procedure result k = sym p.entry ∙ f in cc)
 
   pub classes : (d : DeclNo) (k : ℕ) → entry_of s.tables d ≡ Some (entry.Class k) → ClassThere s d k × (owner_of_level s.tables (Some k) ≡ Some d)
   unfolding text encloser
@@ -420,28 +428,13 @@ module _ (s : Source) (of : TablesOf s) (plain : Plain s.program) (order : InOrd
       go r.0 r.1 r.2 w.0 w.2
     where
       go : (row : Declaration) → slice_get s.tables.declarations d.0 ≡ Some row → row.entry ≡ entry.Class k → (x : Text) → RowIn (Bs s of plain order) (Ts s of plain order) x d.0 row → ClassThere s d k × (owner_of_level s.tables (Some k) ≡ Some d)
-      go row at f x (own_row y p) = absurd (own_no_class p.entry p.fits (subst (Alike p.entry) f p.alike))
-        where
-          own_no_class : (o : Entry) → OwnEntry o → Alike o (entry.Class k) → ⊥
-          own_no_class (entry.Variable ty) q a = a
-          own_no_class (entry.Constant ty) q a = a
-          own_no_class (entry.Array ty n) q a = a
-          own_no_class (entry.Procedure z n) q a = q
-          own_no_class (entry.Class n) q a = q
-          own_no_class (entry.Virtual z n) q a = q
-          own_no_class (entry.Formal z) q a = q
-          own_no_class (entry.Unspecified w) q a = q
-          own_no_class (entry.Attribute name given z) q a = q
+      go row at f x (own_row y p) = absurd (own_no_class p.entry k p.fits (subst (Alike p.entry) f p.alike))
       go row at f x (procedure_row y p) = absurd (subst (Alike (entry.Procedure (result_named p.result) p.number)) f p.entry)
       go row at f x (class_row y p) =
           let same : p.number ≡ k = number p.number k (sym p.entry ∙ f) in
           let block : row.block ≡ block_of s d = sym (t.block_is s of plain order d row at) in (
             record {
-              prefix = p.prefix;
-              heading = p.heading;
-              declarations = p.declarations;
-              statements = p.statements;
-              is = subst (λ z. slice_get (Ts s of plain order) z ≡ Some (ClassText p.prefix p.heading p.declarations p.statements)) same p.text;
+              is = ap is_class (subst (λ z. slice_get (Ts s of plain order) z ≡ Some p.class) same p.text) ∙ p.is;
               around = subst (λ z. around_of (slice_get s.tables.blocks z) ≡ Some (block_of s d)) same (p.around ∙ ap Some block);
             },
             subst (λ z. owner_of_level s.tables (Some z) ≡ Some d) same (owner_at p.number d p.owner),
@@ -449,4 +442,5 @@ module _ (s : Source) (of : TablesOf s) (plain : Plain s.program) (order : InOrd
         where
           number : (m n : ℕ) → entry.Class m ≡ entry.Class n → m ≡ n
           number m n q = cc
-      go row at f x (formal_row y p) = absurd (subst Parametric f p)
+      go row at f x (formal_row y p l) = absurd (subst Parametric f p)
+      go row at f x (attribute_row y p) = absurd (let g : entry.Attribute p.name (typed_or_none (Some p.first) (parameter_of p.name)) (typed_or_none (Some p.first) (result_of p.name)) ≡ entry.Class k = sym p.entry ∙ f in cc)

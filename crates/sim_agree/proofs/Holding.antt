@@ -1,5 +1,5 @@
 -- A block of a plain program in which a class is declared is said to have one.
-use Rattle.std.proofs.Common.{◌≡◌, ◌<◌, ◌⊎◌, inl, inr, ℕ, zero, suc, Bool, true, false, List, [], ◌∷◌, ◌++◌, length, Option, Some, None, refl, sym, ap, ◌∙◌, subst, arith, if◌then◌else◌}
+use Rattle.std.proofs.Common.{◌≡◌, ◌<◌, ◌+◌, ◌⊎◌, inl, inr, ℕ, zero, suc, Bool, true, false, List, [], ◌∷◌, ◌++◌, length, Option, Some, None, refl, sym, ap, ◌∙◌, subst, arith, if◌then◌else◌}
 use Rattle.std.specs.Prelude.{◌&&◌, ◌||◌, nat_eq, nat_lt, not, slice_get, slice_set}
 use Rattle.std.specs.List.{list_any}
 use Rattle.std.specs.Str.{bytes_eq}
@@ -37,16 +37,21 @@ use Rattle.sim_agree.specs.TablesOf.{TablesOf}
 use Rattle.sim_agree.proofs.Calm.{declared_calm}
 use Rattle.sim_agree.proofs.Completing.{bare_row}
 use Rattle.sim_agree.proofs.Tables as tables
-use Rattle.sim_agree.proofs.Groups.{Grouped, OfReferences, Open, OwnEntry, Quals, block, breaks_rule, closes, connects, declares, declares_class, headed as headed_mark, inner_mark, moded as moded_mark, nothing, parameter as parameter_mark, procedure, program_grouped, qualifies, specified as specified_mark, unqualified, prefixes, guarded, prefixed_block}
+use Rattle.sim_agree.proofs.Groups.{Grouped, OfReferences, Open, OwnEntry, Quals, block, breaks_rule, closes, connects, declares, declares_class, headed as headed_mark, inner_mark, moded as moded_mark, nothing, parameter as parameter_mark, procedure, program_grouped, qualifies, specified as specified_mark, unqualified, prefixes, guarded, prefixed_block, set_prefix, sets_block, sets_class}
+use Rattle.sim_agree.proofs.BroughtFine as sets
+use Rattle.sim_agree.proofs.BroughtKnown as known
+use Rattle.sim_agree.proofs.BroughtRows.{with_sets}
+use Rattle.sim_agree.proofs.BroughtRuns.{FreshTop, brought_is, opened_top, prefixed_fresh, prefixed_is, prefixed_top}
+use Rattle.sim_values.specs.declared.standard.Standard.{Standard}
 
 -- a block is said to have a class
 abbrev pub flag : Option BlockOf → Bool
 flag None = false
 flag (Some row) = row.has_class
 
--- each class that is declared is declared in such a block
+-- each class that is declared and listed is declared in such a block
 abbrev pub ClassesHeld : BuildingOf → Type 0
-ClassesHeld b = (d n : ℕ) (row : Declaration) → slice_get b.tables.declarations d ≡ Some row → row.entry ≡ entry.Class n → flag (slice_get b.tables.blocks row.block) ≡ true
+ClassesHeld b = (d n : ℕ) (row : Declaration) → slice_get b.tables.declarations d ≡ Some row → row.entry ≡ entry.Class n → row.listed ≡ true → flag (slice_get b.tables.blocks row.block) ≡ true
 
 -- a class was declared before
 record Old (b : BuildingOf) (d : ℕ) (row : Declaration) : Type 0 where
@@ -55,6 +60,7 @@ record Old (b : BuildingOf) (d : ℕ) (row : Declaration) : Type 0 where
   at : slice_get b.tables.declarations d ≡ Some old
   is : old.entry ≡ entry.Class number
   block : old.block ≡ row.block
+  listed : old.listed ≡ row.listed
 
 -- what is new are classes in these blocks
 record Grows (New : ℕ → Type 0) (b c : BuildingOf) : Type 0 where
@@ -65,17 +71,17 @@ abbrev Nowhere : ℕ → Type 0
 Nowhere k = ⊥
 
 held_on : (New : ℕ → Type 0) (b c : BuildingOf) → Grows New b c → ((k : ℕ) → New k → flag (slice_get c.tables.blocks k) ≡ true) → ClassesHeld b → ClassesHeld c
-held_on New b c g new h d n row at is = go (g.rows d n row at is)
+held_on New b c g new h d n row at is l = go (g.rows d n row at is)
   where
     go : Old b d row ⊎ New row.block → flag (slice_get c.tables.blocks row.block) ≡ true
-    go (inl o) = g.flags row.block (subst (λ k. flag (slice_get b.tables.blocks k) ≡ true) o.block (h d o.number o.old o.at o.is))
+    go (inl o) = g.flags row.block (subst (λ k. flag (slice_get b.tables.blocks k) ≡ true) o.block (h d o.number o.old o.at o.is (o.listed ∙ l)))
     go (inr q) = new row.block q
 
 held_same : (b c : BuildingOf) → Grows Nowhere b c → ClassesHeld b → ClassesHeld c
 held_same b c g h = held_on Nowhere b c g (λ k q. absurd q) h
 
 same_rows : (New : ℕ → Type 0) (b : BuildingOf) (d n : ℕ) (row : Declaration) → slice_get b.tables.declarations d ≡ Some row → row.entry ≡ entry.Class n → Old b d row ⊎ New row.block
-same_rows New b d n row at is = inl (record { number = n; old = row; at = at; is = is; block = refl })
+same_rows New b d n row at is = inl (record { number = n; old = row; at = at; is = is; block = refl; listed = refl })
 
 stays : (New : ℕ → Type 0) (b : BuildingOf) → Grows New b b
 stays New b = record { flags = λ k e. e; rows = same_rows New b }
@@ -123,11 +129,11 @@ matching_class (entry.Unspecified w) d n e = e
 matching_class (entry.Attribute name given result) d n e = e
 
 known_rows : (b : BuildingOf) (v d : DeclNo) (o : Option Declaration) → slice_get b.tables.declarations v.0 ≡ o → (k n : ℕ) (row : Declaration) → slice_get (row_matching o d b.tables.declarations v.0) k ≡ Some row → row.entry ≡ entry.Class n → Old b k row
-known_rows b v d None at k n row e is = record { number = n; old = row; at = e; is = is; block = refl }
+known_rows b v d None at k n row e is = record { number = n; old = row; at = e; is = is; block = refl; listed = refl }
 known_rows b v d (Some old) at k n row e is = go (nat_eq v.0 k) refl
   where
     go : (z : Bool) → nat_eq v.0 k ≡ z → Old b k row
-    go false z = record { number = n; old = row; at = sym (set_other b.tables.declarations v.0 k (record old { entry = matching old.entry d }) z) ∙ e; is = is; block = refl }
+    go false z = record { number = n; old = row; at = sym (set_other b.tables.declarations v.0 k (record old { entry = matching old.entry d }) z) ∙ e; is = is; block = refl; listed = refl }
     go true z =
         let same : v.0 ≡ k = grind (arith, nat_tests, z) in
         let here : slice_get (slice_set b.tables.declarations v.0 (record old { entry = matching old.entry d })) k ≡ Some (record old { entry = matching old.entry d }) =
@@ -139,6 +145,7 @@ known_rows b v d (Some old) at k n row e is = go (nat_eq v.0 k) refl
           at = subst (λ j. slice_get b.tables.declarations j ≡ Some old) same at;
           is = matching_class old.entry d n (ap (λ (z : Declaration). z.entry) new ∙ is);
           block = ap (λ (z : Declaration). z.block) new;
+          listed = ap (λ (z : Declaration). z.listed) new;
         }
 
 declared_row : (b : BuildingOf) (x : Identifier) (e : Entry) (k : ℕ) (o : Option BlockOf) → slice_get b.tables.blocks k ≡ o → Grows (NewIn k e) b (declared_at b x e k o)
@@ -171,7 +178,7 @@ declared_row b x e k (Some row) at = go (list_any (bytes_eq x.name) row.names)
     })
       where
         choose : (d n : ℕ) (new : Declaration) → new.entry ≡ entry.Class n → (slice_get b.tables.declarations d ≡ Some new) ⊎ (row_of x e k true ≡ new) → Old b d new ⊎ NewIn k e new.block
-        choose d n new is (inl q) = inl (record { number = n; old = new; at = q; is = is; block = refl })
+        choose d n new is (inl q) = inl (record { number = n; old = new; at = q; is = is; block = refl; listed = refl })
         choose d n new is (inr q) = inr (added_row true d n new q is)
 
 -- one that is no class
@@ -221,7 +228,7 @@ entered_grows b d e other None at = stays Nowhere b
 entered_grows b d e other (Some old) at = record { flags = λ k f. f; rows = λ k n row there is. go k n row there is (nat_eq d.0 k) refl }
   where
     go : (k n : ℕ) (row : Declaration) → slice_get (slice_set b.tables.declarations d.0 (record old { entry = e })) k ≡ Some row → row.entry ≡ entry.Class n → (z : Bool) → nat_eq d.0 k ≡ z → Old b k row ⊎ ⊥
-    go k n row there is false z = inl (record { number = n; old = row; at = sym (set_other b.tables.declarations d.0 k (record old { entry = e }) z) ∙ there; is = is; block = refl })
+    go k n row there is false z = inl (record { number = n; old = row; at = sym (set_other b.tables.declarations d.0 k (record old { entry = e }) z) ∙ there; is = is; block = refl; listed = refl })
     go k n row there is true z =
         let same : d.0 ≡ k = grind (arith, nat_tests, z) in
         let here : slice_get (slice_set b.tables.declarations d.0 (record old { entry = e })) k ≡ Some (record old { entry = e }) = subst (λ j. slice_get (slice_set b.tables.declarations d.0 (record old { entry = e })) j ≡ Some (record old { entry = e })) same (set_here b.tables.declarations d.0 old (record old { entry = e }) at) in
@@ -338,11 +345,45 @@ own_no_class (entry.Formal f) own q = own
 own_no_class (entry.Unspecified w) own q = own
 own_no_class (entry.Attribute name given result) own q = own
 
+-- a block gets what its prefix brings
+flag_within : (bs : List BlockOf) (k : ℕ) → flag (slice_get bs k) ≡ true → k < length bs
+flag_within bs k e = go (slice_get bs k) refl e
+  where
+    go : (o : Option BlockOf) → slice_get bs k ≡ o → flag o ≡ true → k < length bs
+    go None at f = absurd (cc)
+    go (Some row) at f = slice_get_within bs k row at
+
+with_held : (b : BuildingOf) (t : FreshTop b) (token : ℕ) → ClassesHeld b → ClassesHeld (with_sets b t.number token t.row)
+with_held b t token h d n row at is l = go (sets.row_part b t.number token t.row t.last t.at [] d row at)
+  where
+    no_class : (name : Standard) (given result : Option SimType) → row.entry ≡ entry.Attribute name given result → ⊥
+    no_class name given result e = let z : entry.Class n ≡ entry.Attribute name given result = sym is ∙ e in cc
+
+    new : (i : ℕ) → known.Added t.number (length b.tables.declarations) token (t.row).level i row → ⊥
+    new i (inl q) = let z : true ≡ false = sym l ∙ q.listed in cc
+    new i (inr q) = no_class q.name _ _ q.entry
+
+    go : ((d < length b.tables.declarations) × (slice_get b.tables.declarations d ≡ Some row)) ⊎ ((i : ℕ) × (d ≡ length b.tables.declarations + i) × known.Added t.number (length b.tables.declarations) token (t.row).level i row)
+        → flag (slice_get (with_sets b t.number token t.row).tables.blocks row.block) ≡ true
+    go (inr q) = absurd (new q.0 q.2)
+    go (inl q) =
+        let was = h d n row q.1 is l in
+        sets.old_same b t.number token t.row t.last t.at [] flag refl row.block (flag_within b.tables.blocks row.block was) ∙ was
+
+sets_held : (b : BuildingOf) (t : FreshTop b) (token : ℕ) (y : Identifier) → ClassesHeld b → ClassesHeld (run marked b (set_prefix token y))
+sets_held b t token y h =
+    subst ClassesHeld (sym (brought_is b t token y))
+    (with_held (prefixed_top b t y) (prefixed_fresh b t y) token (subst ClassesHeld (prefixed_is b t y) (prefix_held b y b.current h)))
+
 run_held : {os : List Open} {ms : List Mark} {xs : List Text} (b : BuildingOf) → Grouped os ms xs → ClassesHeld b → ClassesHeld (run marked b ms)
 unfolding run marked
 run_held b (nothing e) h = h
 run_held b (block k text first i ds ss p g) h = run_held (opened b k text first) g (opened_held b k text first h)
 run_held b (prefixed_block text first class es ds ss g) h = run_held (opened b kind.Prefixed text first) g (opened_held b kind.Prefixed text first h)
+run_held b (sets_block {ms = ms} text first class es ds ss p is g) h =
+    let c : BuildingOf = opened b kind.Prefixed text first in
+    subst ClassesHeld (sym (run_both c (set_prefix first class) ms))
+    (run_held (run marked c (set_prefix first class)) g (sets_held c (opened_top b kind.Prefixed text first) first class (opened_held b kind.Prefixed text first h)))
 run_held b (connects text first g) h = run_held (opened b kind.Connection text first) g (opened_held b kind.Connection text first h)
 run_held b (procedure text first x owed quals result hd a dx nh q g) h =
     let c : BuildingOf = declared b hd.name (entry.Procedure (result_named result) (length b.tables.blocks)) in
@@ -355,6 +396,13 @@ run_held b (declares_class text first x owed prefix hd ds ss dx nh g) h =
     let e : Entry = entry.Class (length b.tables.blocks) in
     run_held (opened (changed (declared b hd.name (entry.Class (length b.tables.blocks))) holding_class b.current) kind.Class text first) g
     (opened_held (changed (declared b hd.name (entry.Class (length b.tables.blocks))) holding_class b.current) kind.Class text first (class_held b hd.name (entry.Class (length b.tables.blocks)) b.current (declared_calm b hd.name (entry.Class (length b.tables.blocks))).size h))
+run_held b (sets_class {ms = ms} text first x owed y hd ds ss p is dx nh g) h =
+    let held : BuildingOf = changed (declared b hd.name (entry.Class (length b.tables.blocks))) holding_class b.current in
+    let c : BuildingOf = opened held kind.Class text first in
+    subst ClassesHeld (sym (run_both c (set_prefix first y) ms))
+    (run_held (run marked c (set_prefix first y)) g
+    (sets_held c (opened_top held kind.Class text first) first y
+    (opened_held held kind.Class text first (class_held b hd.name (entry.Class (length b.tables.blocks)) b.current (declared_calm b hd.name (entry.Class (length b.tables.blocks))).size h))))
 run_held b (declares x owed quals y e dx nh own q written g) h =
     subst ClassesHeld (sym (run_both (declared b y e) quals _)) (run_held (run marked (declared b y e) quals) g (quals_held (declared b y e) _ quals q (other_held b y e (own_no_class e own) b.current h)))
 run_held b (parameter_mark x owed y tx has g) h = run_held (parameter b y) g (counted_held (declared b y (entry.Unspecified None)) (declared b y (entry.Unspecified None)).current (other_held b y (entry.Unspecified None) (λ z. absurd (let f : entry.Unspecified None ≡ entry.Class z.0 = z.1 in cc)) b.current h))
@@ -381,7 +429,7 @@ none_there (suc d) = refl
 
 pub classes_held : (p : Program) → Plain p → ClassesHeld (declared_by p)
 unfolding declared_by
-classes_held p plain = run_held empty (program_grouped p plain) (λ d n row at is. absurd (let f : None ≡ Some row = sym (none_there d) ∙ at in cc))
+classes_held p plain = run_held empty (program_grouped p plain) (λ d n row at is l. absurd (let f : None ≡ Some row = sym (none_there d) ∙ at in cc))
 
 -- ---- in the complete tables
 
@@ -402,14 +450,14 @@ class_before (entry.Formal x) new n (inr f) g = absurd (let h : entry.Formal (re
 class_before (entry.Unspecified w) new n (inr f) g = absurd f.0
 class_before (entry.Attribute name given result) new n (inr f) g = absurd f.0
 
-pub class_in_block : (s : Source) → TablesOf s → Plain s.program → InOrder s.program → (d : DeclNo) (n : ℕ) → entry_of s.tables d ≡ Some (entry.Class n) → holds_class s.tables (block_of s d) ≡ true
+pub class_in_block : (s : Source) → TablesOf s → Plain s.program → InOrder s.program → (d : DeclNo) (n : ℕ) (row : Declaration) → slice_get s.tables.declarations d.0 ≡ Some row → row.entry ≡ entry.Class n → row.listed ≡ true
+    → holds_class s.tables (block_of s d) ≡ true
 unfolding holds_class
-class_in_block s of plain order d n e =
-    let r = tables.entry_row s of plain order d (entry.Class n) e in
+class_in_block s of plain order d n row at is l =
     let c = tables.completes s of plain order in
-    let w = c.rows.was d.0 r.0 r.1 in
-    let held = classes_held s.program plain d.0 n w.0 w.1 (class_before w.0.entry r.0.entry n w.2.entry r.2) in
-    let block : block_of s d ≡ w.0.block = tables.block_is s of plain order d r.0 r.1 ∙ w.2.block in
+    let w = c.rows.was d.0 row at in
+    let held = classes_held s.program plain d.0 n w.0 w.1 (class_before w.0.entry row.entry n w.2.entry is) (sym w.2.listed ∙ l) in
+    let block : block_of s d ≡ w.0.block = tables.block_is s of plain order d row at ∙ w.2.block in
     let same : flag (slice_get s.tables.blocks w.0.block) ≡ flag (slice_get (declared_by s.program).tables.blocks w.0.block) = sym (flag_bare (slice_get s.tables.blocks w.0.block)) ∙ ap flag (c.blocks w.0.block) ∙ flag_bare (slice_get (declared_by s.program).tables.blocks w.0.block) in
     subst (λ k. holds_class_in (slice_get s.tables.blocks k) ≡ true) (sym block) (go (slice_get s.tables.blocks w.0.block) (same ∙ held))
   where

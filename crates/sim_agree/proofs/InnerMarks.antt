@@ -47,7 +47,7 @@ module _ {rs : List InnerRow} {now : Option ℕ} where
   same_tables : (b c : BuildingOf) → c.tables.blocks ≡ b.tables.blocks → c.current ≡ b.current → Stays rs now b → Stays rs now c
   same_tables b c t e a = record { rows = ap (map inner_row) t ∙ a.rows; current = e ∙ a.current }
 
-  row_stays : (b : BuildingOf) (j : ℕ) (row new : BlockOf) → slice_get b.tables.blocks j ≡ Some row → inner_row new ≡ inner_row row → Stays rs now b → Stays rs now (record b { tables = record b.tables { blocks = slice_set b.tables.blocks j new } })
+  pub row_stays : (b : BuildingOf) (j : ℕ) (row new : BlockOf) → slice_get b.tables.blocks j ≡ Some row → inner_row new ≡ inner_row row → Stays rs now b → Stays rs now (record b { tables = record b.tables { blocks = slice_set b.tables.blocks j new } })
   row_stays b j row new at alike a = record { rows = map_set inner_row b.tables.blocks j row new at alike ∙ a.rows; current = a.current }
 
   if_broken : (c : Bool) (b : BuildingOf) (token : ℕ) (rule : Rule) → Stays rs now b → Stays rs now (broken_if c b token rule)

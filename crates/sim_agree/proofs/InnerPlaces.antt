@@ -1,5 +1,5 @@
 -- In an allowed program `inner` stands among the statements of a class alone.
-use Rattle.std.proofs.Common.{◌≡◌, ℕ, zero, suc, List, [], ◌∷◌, ◌++◌, Option, Some, None, refl, subst, sym}
+use Rattle.std.proofs.Common.{◌≡◌, ℕ, zero, suc, List, [], ◌∷◌, ◌++◌, Option, Some, None, refl, subst}
 use Rattle.std.specs.Prelude.{slice_get}
 use Rattle.sim_scope.specs.declared.found.Fault.{Fault}
 use Rattle.sim_scope.specs.declared.types.Position.TheVariants.{ClassBody, ClassStatement, Inside}
@@ -15,8 +15,8 @@ use Rattle.sim_tree.specs.Syntax.{Also, Arms, Arrays, Begin, Block, Declaration,
 use Rattle.sim_tree.specs.Syntax as syntax
 use Rattle.sim_meaning.specs.Texts.{BlockText, ClassText, ProcedureText, Text, arms_texts, block_texts, declaration_texts, declarations_texts, program_texts, statement_texts, statements_texts, text, prefix_texts, PrefixedText, prefixed_texts}
 use Rattle.sim_agree.specs.Inners.{NoInner, NoInnerArms, NoInnerWithin, NoInners}
-use Rattle.sim_agree.specs.Plain.{Each, Plain, PlainArms, PlainBlock, PlainDeclaration, PlainDeclarations, PlainStatement, PlainStatements, PlainPrefix, PlainName}
-use Rattle.sim_agree.proofs.PlainNames.{no_prefix_texts}
+use Rattle.sim_agree.specs.Plain.{Each, Plain, PlainArms, PlainBlock, PlainDeclaration, PlainDeclarations, PlainStatement, PlainStatements, PlainPrefix, PlainName, PlainStart}
+use Rattle.sim_agree.proofs.PlainNames.{behind_prefix}
 use Rattle.sim_agree.specs.TablesOf.{TablesOf}
 
 -- ---- marks that break no rule
@@ -169,9 +169,9 @@ class_statement (syntax.For j name sign assign es x) g f = g f
 class_statement (syntax.Inspect j e opening x close other) g f = g f
 class_statement (syntax.InspectWhen j e arms other) g f = g f
 
--- behind a prefix that brings no texts
+-- behind the texts of a prefix
 placed_behind : (prefix : Option Identifier) → PlainPrefix prefix → (xs : List Text) → Each InPlace xs → Each InPlace (prefix_texts prefix ++ xs)
-placed_behind prefix w xs a = subst (λ z. Each InPlace (z ++ xs)) (sym (no_prefix_texts prefix w)) a
+placed_behind prefix w xs a = behind_prefix (Each InPlace) prefix w xs a (tt, (tt, (tt, a)))
 
 mutual
   unfolding declaring inner_marks prefixed_marks
@@ -299,7 +299,7 @@ mutual
       let body = front events (Closes end ∷ []) (back heading (events ++ Closes end ∷ []) f) in
       ((no_inner (syntax.InspectWhen j e arms other) body, tt), placed_behind prefix p.0 (statement_texts (syntax.InspectWhen j e arms other)) (statement_placed (syntax.InspectWhen j e arms other) p.3 body))
 
-program_placed : (prefix : Option Prefix) (b : Block) → prefix ≡ None → PlainBlock b → Free (program_events declaring (record { prefix = prefix; block = b })) → Each InPlace (program_texts prefix b)
+program_placed : (prefix : Option Prefix) (b : Block) → PlainStart prefix → PlainBlock b → Free (program_events declaring (record { prefix = prefix; block = b })) → Each InPlace (program_texts prefix b)
 unfolding program_events declaring
 program_placed None (Begin i ds ss end) e p f =
     let first = declarations_events declaring ds in
@@ -307,7 +307,10 @@ program_placed None (Begin i ds ss end) e p f =
     let whole = back (program_marks None i) (first ++ (events ++ Closes end ∷ [])) f in
     let body = front events (Closes end ∷ []) (back first (events ++ Closes end ∷ []) whole) in
     (no_inners ss body, both_each (declarations_texts ds) (statements_texts ss) (declarations_placed ds p.0 (front first (events ++ Closes end ∷ []) whole)) (statements_placed ss p.1 body))
-program_placed (Some x) b e p f = absurd (cc)
+program_placed (Some x) b e p f = start x b e p (back (program_marks (Some x) (begin_of b)) (whole_events declaring b) f)
+  where
+    start : (x : Prefix) (b : Block) → PlainStart (Some x) → PlainBlock b → Free (whole_events declaring b) → Each InPlace (program_texts (Some x) b)
+    start x (Begin i ds ss end) e p f = prefixed_placed x.class x.arguments (Begin i ds ss end) e.0 p f
 
 pub each_at : (P : Text → Type 0) (xs : List Text) (k : ℕ) (x : Text) → Each P xs → slice_get xs k ≡ Some x → P x
 each_at P [] k x a e = absurd (cc)
@@ -317,4 +320,4 @@ each_at P (y ∷ xs) (suc k) x a e = each_at P xs k x a.1 e
 pub in_place : (s : Source) → TablesOf s → Plain s.program → (k : ℕ) (x : Text) → text s k ≡ Some x → InPlace x
 unfolding text
 in_place s of plain k x e =
-    each_at InPlace (program_texts s.program.prefix s.program.block) k x (program_placed s.program.prefix s.program.block plain.prefix plain.block (program_free s.program of.unbroken)) e
+    each_at InPlace (program_texts s.program.prefix s.program.block) k x (program_placed s.program.prefix s.program.block plain.start plain.block (program_free s.program of.unbroken)) e

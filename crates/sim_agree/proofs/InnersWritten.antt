@@ -1,5 +1,5 @@
 -- The tables of an allowed plain program have an `inner` of a class just where one is among its statements, and never two.
-use Rattle.std.proofs.Common.{◌≡◌, ℕ, zero, suc, Bool, true, false, List, [], ◌∷◌, ◌++◌, length, map, Option, Some, None, refl, sym, ap, ◌∙◌, subst, arith, append-nil, append_assoc}
+use Rattle.std.proofs.Common.{◌≡◌, inl, inr, ℕ, zero, suc, Bool, true, false, List, [], ◌∷◌, ◌++◌, length, map, Option, Some, None, refl, sym, ap, ◌∙◌, subst, arith, append-nil, append_assoc}
 use Rattle.std.specs.Prelude.{slice_get, slice_set}
 use Rattle.std.proofs.lemmas.List.{length-map, map-append}
 use Rattle.sim_base.specs.declared.rule.Rule.{Rule}
@@ -15,7 +15,9 @@ use Rattle.sim_scope.specs.declared.types.BlockKind.TheVariants as kind
 use Rattle.sim_scope.specs.declared.types.Position.TheVariants.{ClassBody, ClassStatement, Inside}
 use Rattle.sim_scope.specs.Bodies.{body_declarations, body_statements}
 use Rattle.sim_scope.specs.Breaks.{all_breaks, at, breaks, broken_by, inner_breaks, inner_breaks_in, inner_breaks_of}
-use Rattle.sim_scope.specs.Building.{BuildingOf, Closes, DeclaresClass, DeclaresProcedure, Inner, Mark, Opens, broken_if, block_around, closed, closed_at, inner, inner_at, inner_in, level_in, marked, owner_of}
+use Rattle.sim_scope.proofs.Kept.{set_here}
+use Rattle.sim_scope.specs.Standard.{standard_prefix}
+use Rattle.sim_scope.specs.Building.{BuildingOf, Closes, DeclaresClass, DeclaresProcedure, Inner, Mark, Opens, Prefixes, broken_if, block_around, closed, closed_at, inner, inner_at, inner_in, level_in, marked, owner_of, prefixed_by}
 use Rattle.sim_scope.specs.Declare.{class_marks, class_prefix_marks, declared_by, declaring, empty, first_of_class, first_of_procedure, heading_marks, inner_marks, interface_marks, procedure_marks, program_marks, qualified_result, result_named, segment_marks, variable_marks, prefix_marks, prefixed_marks}
 use Rattle.sim_scope.specs.Runs.{each, run}
 use Rattle.sim_scope.specs.Source.{Source}
@@ -24,16 +26,18 @@ use Rattle.sim_scope.specs.Walk.{arms_events, begin_of, block_events, declaratio
 use Rattle.sim_scope.proofs.Breaking.{least_declared}
 use Rattle.sim_scope.proofs.Walks.{run-append}
 use Rattle.sim_meaning.specs.Levels.{is_written, written_in}
-use Rattle.sim_meaning.specs.Texts.{BlockText, ClassText, ConnectionText, ProcedureText, Text, arms_texts, block_texts, declaration_texts, declarations_texts, program_texts, statement_texts, statements_texts, text, PrefixedText, prefixed_texts}
+use Rattle.sim_meaning.specs.Texts.{BlockText, ClassText, ConnectionText, ProcedureText, Text, arms_texts, block_texts, declaration_texts, declarations_texts, program_texts, statement_texts, statements_texts, text, PrefixedText, prefix_texts, prefixed_texts, standard_texts}
 use Rattle.sim_agree.specs.Inners.{Inners, InnersIn, NoInner, NoInners, OneInner, here, behind}
-use Rattle.sim_agree.specs.Plain.{Plain, PlainArms, PlainBlock, PlainDeclaration, PlainDeclarations, PlainInterface, PlainStatement, PlainStatements, PlainPrefix, PlainName}
+use Rattle.sim_agree.specs.Plain.{Plain, PlainArms, PlainBlock, PlainDeclaration, PlainDeclarations, PlainInterface, PlainStatement, PlainStatements, PlainPrefix, PlainName, PlainStart}
 use Rattle.sim_agree.specs.TablesOf.{TablesOf}
 use Rattle.sim_agree.proofs.Completing.{bare_row}
-use Rattle.sim_agree.proofs.Groups.{class_texts, plain_prefix}
-use Rattle.sim_agree.proofs.InnerMarks.{AllKeep, InnerRow, Stays, all_stay, inner_row, keep_heading, keep_result, keep_segments, keep_variables, keep_both, keep_interface}
+use Rattle.sim_agree.proofs.BroughtRows.{bringing, set_rows}
+use Rattle.sim_agree.proofs.BroughtRuns.{FreshTop, brought_is, brought_top, opened_top, prefixed_fresh, prefixed_top}
+use Rattle.sim_agree.proofs.Groups.{class_texts, plain_prefix, set_prefix, sets_prefix}
+use Rattle.sim_agree.proofs.InnerMarks.{AllKeep, InnerRow, Stays, all_stay, inner_row, row_stays, keep_heading, keep_result, keep_segments, keep_variables, keep_both, keep_interface}
 use Rattle.sim_agree.proofs.InnerPlaces.{Free, all_free, back, no_fault, no_inner, no_inners, none_first, none_second}
 use Rattle.sim_agree.proofs.Tables as t
-use Rattle.sim_agree.proofs.PlainNames.{no_prefix_texts}
+use Rattle.sim_agree.proofs.PlainNames.{SetsOrNone, no_texts, plain_standard, set_texts, texts_of_sets}
 
 -- ---- lists
 
@@ -197,26 +201,87 @@ closes_stays rs more within around end b a = go (block_of_row b.tables.blocks (l
         })
 
 -- what stands inside a text, from its begin to its end
-record Filled (rs : List InnerRow) (around : Option ℕ) (x : Text) (ns : List Text) (c : BuildingOf) : Type 0 where
+record Filled (rs old : List InnerRow) (around : Option ℕ) (x : Text) (ns : List Text) (c : BuildingOf) : Type 0 where
   within : Option ℕ
   more : List InnerRow
-  stays : Stays (rs ++ row within around ∷ more) (Some (length rs)) c
+  stays : Stays (rs ++ row within around ∷ (old ++ more)) (Some (length rs)) c
   fits : Fits more ns
   this : InnersIn (is_written within) x
 
+-- behind it some blocks stand already
 Fills : Text → List Mark → List Text → Type 0
-Fills x es ns = (b : BuildingOf) (rs : List InnerRow) (around : Option ℕ) → Stays (rs ++ row None around ∷ []) (Some (length rs)) b → all_breaks b es ≡ [] → Filled rs around x ns (run marked b es)
+Fills x es ns = (b : BuildingOf) (rs old : List InnerRow) (around : Option ℕ) → Stays (rs ++ row None around ∷ old) (Some (length rs)) b → all_breaks b es ≡ [] → Filled rs old around x ns (run marked b es)
+
+-- or it has just been begun
+FillsFresh : Text → List Mark → List Text → Type 0
+FillsFresh x es ns = (b : BuildingOf) (rs : List InnerRow) (around : Option ℕ) → FreshTop b → Stays (rs ++ row None around ∷ []) (Some (length rs)) b → all_breaks b es ≡ [] → Filled rs [] around x ns (run marked b es)
 
 -- a text without `inner`
 fills_plain : (x : Text) (es : List Mark) (ns : List Text) → (Free es → InnersIn false x) → Adds es ns → Fills x es ns
 unfolding Adds Fills
-fills_plain x es ns i p b rs around a e =
-    let g = p b (rs ++ row None around ∷ []) (Some (length rs)) a e in
-    record { within = None; more = g.more; stays = stays_as _ _ (append_assoc rs (row None around ∷ []) g.more) g.stays; fits = g.fits; this = i (all_free b es e) }
+fills_plain x es ns i p b rs old around a e =
+    let g = p b (rs ++ row None around ∷ old) (Some (length rs)) a e in
+    record { within = None; more = g.more; stays = stays_as _ _ (append_assoc rs (row None around ∷ old) g.more) g.stays; fits = g.fits; this = i (all_free b es e) }
 
 fills_after : (x : Text) (es fs : List Mark) (ns : List Text) → AllKeep es → Fills x fs ns → Fills x (es ++ fs) ns
 unfolding Fills
-fills_after x es fs ns q p b rs around a e = subst (Filled rs around x ns) (sym (run-append marked b es fs)) (p (run marked b es) rs around (all_stay b es q a) (breaks_both b es fs e).1)
+fills_after x es fs ns q p b rs old around a e = subst (Filled rs old around x ns) (sym (run-append marked b es fs)) (p (run marked b es) rs old around (all_stay b es q a) (breaks_both b es fs e).1)
+
+fresh_fills : (x : Text) (es : List Mark) (ns : List Text) → Fills x es ns → FillsFresh x es ns
+unfolding Fills FillsFresh
+fresh_fills x es ns f b rs around top a e = f b rs [] around a e
+
+-- what a prefix brings stands in front
+abbrev set_inners : ℕ → List InnerRow
+set_inners n = row None (Some n) ∷ row None (Some n) ∷ row None (Some n) ∷ []
+
+sets_stay : (b : BuildingOf) (top : FreshTop b) (first : ℕ) (y : Identifier) (rs : List InnerRow) (around : Option ℕ) → Stays (rs ++ row None around ∷ []) (Some (length rs)) b
+    → Stays (rs ++ row None around ∷ set_inners (length rs)) (Some (length rs)) (run marked b (set_prefix first y))
+sets_stay b top first y rs around a =
+    subst (Stays (rs ++ row None around ∷ set_inners (length rs)) (Some (length rs))) (sym (brought_is b top first y))
+    (subst (λ n. Stays (rs ++ row None around ∷ set_inners n) (Some (length rs)) (brought_top b top first y)) (some_same top.number (length rs) (sym top.current ∙ a.current)) (record {
+      rows = map-append inner_row (slice_set B.tables.blocks top.number new) (set_rows top.number (length B.tables.declarations) (top.row).level) ∙ ap (λ z. z ++ set_inners top.number) changed_rows.rows
+          ∙ append_assoc rs (row None around ∷ []) (set_inners top.number);
+      current = a.current;
+    }))
+  where
+    B : BuildingOf
+    B = prefixed_top b top y
+
+    u : FreshTop B
+    u = prefixed_fresh b top y
+
+    new : BlockOf
+    new = bringing (length B.tables.declarations) (prefixed_by y top.row)
+
+    prefixed_rows : Stays (rs ++ row None around ∷ []) (Some (length rs)) B
+    prefixed_rows = row_stays b top.number top.row (prefixed_by y top.row) top.at refl a
+
+    changed_rows : Stays (rs ++ row None around ∷ []) (Some (length rs)) (record B { tables = record B.tables { blocks = slice_set B.tables.blocks top.number new } })
+    changed_rows = row_stays B top.number (prefixed_by y top.row) new (set_here b.tables.blocks top.number top.row (prefixed_by y top.row) top.at) refl prefixed_rows
+
+sets_fill : (x : Text) (first : ℕ) (y : Identifier) (es : List Mark) (ns : List Text) → Fills x es ns → FillsFresh x (set_prefix first y ++ es) (set_texts ++ ns)
+unfolding Fills FillsFresh
+sets_fill x first y es ns f b rs around top a e =
+    let g = f (run marked b (set_prefix first y)) rs (set_inners (length rs)) around (sets_stay b top first y rs around a) (breaks_both b (set_prefix first y) es e).1 in
+    subst (Filled rs [] around x (set_texts ++ ns)) (sym (run-append marked b (set_prefix first y) es)) (record { within = g.within; more = set_inners (length rs) ++ g.more; stays = g.stays; fits = (tt, (tt, (tt, g.fits))); this = g.this })
+
+prefix_fills : (x : Text) (first : ℕ) (y : Identifier) → PlainName y → (es : List Mark) (ns : List Text) → Fills x es ns → FillsFresh x (prefix_marks first y ++ es) (standard_texts y.name ++ ns)
+prefix_fills x first y w es ns f = go (plain_standard y.name w)
+  where
+    go : SetsOrNone (standard_prefix y.name) → FillsFresh x (prefix_marks first y ++ es) (standard_texts y.name ++ ns)
+    go (inl e) =
+        subst (λ z. FillsFresh x (z ++ es) (standard_texts y.name ++ ns)) (sym (plain_prefix first y e))
+        (subst (λ z. FillsFresh x ((Prefixes y ∷ []) ++ es) (z ++ ns)) (sym (no_texts y.name e)) (fresh_fills x ((Prefixes y ∷ []) ++ es) ns (fills_after x (Prefixes y ∷ []) es ns (tt, tt) f)))
+    go (inr e) =
+        subst (λ z. FillsFresh x (z ++ es) (standard_texts y.name ++ ns)) (sym (sets_prefix first y e))
+        (subst (λ z. FillsFresh x (set_prefix first y ++ es) (z ++ ns)) (sym (texts_of_sets y.name e)) (sets_fill x first y es ns f))
+
+class_prefix_fills : (prefix : Option Identifier) → PlainPrefix prefix → (first : ℕ) (x : Text) (H B : List Mark) (ns : List Text) → AllKeep H → Fills x B ns → FillsFresh x ((class_prefix_marks first prefix ++ H) ++ B) (prefix_texts prefix ++ ns)
+unfolding class_prefix_marks
+class_prefix_fills None w first x H B ns k p = fresh_fills x (H ++ B) ns (fills_after x H B ns k p)
+class_prefix_fills (Some y) w first x H B ns k p =
+    subst (λ z. FillsFresh x z (standard_texts y.name ++ ns)) (sym (append_assoc (prefix_marks first y) H B)) (prefix_fills x first y w (H ++ B) ns (fills_after x H B ns k p))
 
 fills_texts : (x : Text) (es : List Mark) (ns ms : List Text) → ns ≡ ms → Fills x es ns → Fills x es ms
 fills_texts x es ns ms e p = subst (Fills x es) e p
@@ -225,19 +290,26 @@ run_two : (b : BuildingOf) (m : Mark) (es : List Mark) (l : Mark) → run marked
 unfolding run
 run_two b m es l = run-append marked (marked b m) es (l ∷ [])
 
-adds_one : (k : BlockKind) (text first end : ℕ) (x : Text) (es : List Mark) (ns : List Text) → Fills x es ns → Adds (Opens k text first ∷ (es ++ Closes end ∷ [])) (x ∷ ns)
-unfolding Adds Fills
+begun_top : (b : BuildingOf) (k : BlockKind) (text first : ℕ) → FreshTop (marked b (Opens k text first))
+unfolding marked
+begun_top b k text first = opened_top b k text first
+
+adds_one : (k : BlockKind) (text first end : ℕ) (x : Text) (es : List Mark) (ns : List Text) → FillsFresh x es ns → Adds (Opens k text first ∷ (es ++ Closes end ∷ [])) (x ∷ ns)
+unfolding Adds FillsFresh
 adds_one k text first end x es ns f b rs now a e =
     let c = marked b (Opens k text first) in
     let s = breaks_both c es (Closes end ∷ []) (breaks_more b (Opens k text first) (es ++ Closes end ∷ []) e) in
-    let g = f c rs now (opens_stays k text first b rs now a) s.0 in record {
+    let g = f c rs now (begun_top b k text first) (opens_stays k text first b rs now a) s.0 in record {
       more = row g.within now ∷ g.more;
       stays = subst (Stays (rs ++ row g.within now ∷ g.more) now) (sym (run_two b (Opens k text first) es (Closes end))) (closes_stays rs g.more g.within now end (run marked c es) g.stays);
       fits = (g.this, g.fits);
     }
 
+adds_filled : (k : BlockKind) (text first end : ℕ) (x : Text) (es : List Mark) (ns : List Text) → Fills x es ns → Adds (Opens k text first ∷ (es ++ Closes end ∷ [])) (x ∷ ns)
+adds_filled k text first end x es ns f = adds_one k text first end x es ns (fresh_fills x es ns f)
+
 adds_connection : (opening end : ℕ) (es : List Mark) (ns : List Text) → Adds es ns → Adds (Opens kind.Connection opening opening ∷ (es ++ Closes end ∷ [])) (ConnectionText ∷ ns)
-adds_connection opening end es ns p = adds_one kind.Connection opening opening end ConnectionText es ns (fills_plain ConnectionText es ns (λ f. tt) p)
+adds_connection opening end es ns p = adds_filled kind.Connection opening opening end ConnectionText es ns (fills_plain ConnectionText es ns (λ f. tt) p)
 
 -- ---- the statements of a class
 
@@ -355,15 +427,16 @@ having_class false prefix h ds ss q = q
 class_fills : (prefix : Option Identifier) (h : Heading) (ds : Declarations) (ss : Statements) → Adds (declarations_events declaring ds) (declarations_texts ds) → ClassAdds ss
     → Fills (ClassText prefix h ds ss) (declarations_events declaring ds ++ statements_events declaring ClassStatement ss) (declarations_texts ds ++ statements_texts ss)
 unfolding Adds ClassAdds Fills
-class_fills prefix h ds ss p q b rs around a e =
+class_fills prefix h ds ss p q b rs old around a e =
     let es = declarations_events declaring ds in
     let fs = statements_events declaring ClassStatement ss in
     let s = breaks_both b es fs e in
-    let one = p b (rs ++ row None around ∷ []) (Some (length rs)) a s.0 in
-    let two = q (run marked b es) rs one.more around None (stays_as _ _ (append_assoc rs (row None around ∷ []) one.more) one.stays) s.1 in record {
+    let one = p b (rs ++ row None around ∷ old) (Some (length rs)) a s.0 in
+    let two = q (run marked b es) rs (old ++ one.more) around None (stays_as _ _ (append_assoc rs (row None around ∷ old) one.more) one.stays) s.1 in record {
       within = two.after;
       more = one.more ++ two.new;
-      stays = subst (Stays (rs ++ row two.after around ∷ (one.more ++ two.new)) (Some (length rs))) (sym (run-append marked b es fs)) two.stays;
+      stays = subst (Stays (rs ++ row two.after around ∷ (old ++ (one.more ++ two.new))) (Some (length rs))) (sym (run-append marked b es fs))
+          (stays_as _ _ (ap (λ z. rs ++ row two.after around ∷ z) (append_assoc old one.more two.new)) two.stays);
       fits = fits_both one.more (declarations_texts ds) two.new (statements_texts ss) one.fits two.fits;
       this = having_class (is_written two.after) prefix h ds ss two.seen;
     }
@@ -388,16 +461,8 @@ procedure_adds result i h a e p =
     adds_as ((P ∷ q) ++ (O ∷ ((H ++ B) ++ C))) _ (x ∷ statement_texts a)
     (ap (λ z. P ∷ (q ++ (O ∷ z))) (append_assoc H B C) ∙ sym (ap (λ z. P ∷ z) (append_assoc (q ++ O ∷ []) H (B ++ C) ∙ append_assoc q (O ∷ []) (H ++ (B ++ C)))))
     (adds_both (P ∷ q) (O ∷ ((H ++ B) ++ C)) [] (x ∷ statement_texts a) (adds_kept (P ∷ q) (tt, keep_result result))
-    (adds_one kind.Procedure (first_of_procedure result i) h.name.token.0 e x (H ++ B) (statement_texts a)
+    (adds_filled kind.Procedure (first_of_procedure result i) h.name.token.0 e x (H ++ B) (statement_texts a)
     (fills_plain x (H ++ B) (statement_texts a) (λ f. no_inner a (back H B f)) (adds_both H B [] (statement_texts a) (adds_kept H (keep_heading h)) p))))
-
-keep_prefix_marks : (first : ℕ) (y : Identifier) → PlainName y → AllKeep (prefix_marks first y)
-keep_prefix_marks first y w = subst AllKeep (sym (plain_prefix first y w)) (tt, tt)
-
-keep_prefix : (first : ℕ) (prefix : Option Identifier) → PlainPrefix prefix → AllKeep (class_prefix_marks first prefix)
-unfolding class_prefix_marks
-keep_prefix first None w = tt
-keep_prefix first (Some y) w = keep_prefix_marks first y w
 
 class_adds : (prefix : Option Identifier) → PlainPrefix prefix → (i : ℕ) (h : Heading) (interface : Interface) (a : Statement) (e : ℕ) → PlainInterface interface
     → Fills (ClassText prefix h (body_declarations a) (body_statements a)) (statement_events declaring ClassBody a) (declarations_texts (body_declarations a) ++ statements_texts (body_statements a))
@@ -412,9 +477,12 @@ class_adds prefix w i h interface a e q p =
     let C = Closes e ∷ [] in
     let x : Text = ClassText prefix h (body_declarations a) (body_statements a) in
     let ns : List Text = declarations_texts (body_declarations a) ++ statements_texts (body_statements a) in
-    adds_texts _ (x ∷ ns) _ (sym (class_texts prefix w i h interface a e))
-    (adds_as ((P ∷ []) ++ (O ∷ (((K ++ H) ++ B) ++ C))) _ (x ∷ ns) (ap (λ z. P ∷ O ∷ z) (append_assoc (K ++ H) B C))
-    (adds_both (P ∷ []) (O ∷ (((K ++ H) ++ B) ++ C)) [] (x ∷ ns) (adds_kept (P ∷ []) (tt, tt)) (adds_one kind.Class (first_of_class prefix i) h.name.token.0 e x ((K ++ H) ++ B) ns (fills_after x (K ++ H) B ns (keep_both K H (keep_prefix h.name.token.0 prefix w) (keep_both (heading_marks h) (interface_marks interface) (keep_heading h) (keep_interface interface q))) p))))
+    let ms : List Text = prefix_texts prefix ++ ns in
+    adds_texts _ (x ∷ ms) _ (sym (class_texts prefix i h interface a e))
+    (adds_as ((P ∷ []) ++ (O ∷ (((K ++ H) ++ B) ++ C))) _ (x ∷ ms) (ap (λ z. P ∷ O ∷ z) (append_assoc (K ++ H) B C))
+    (adds_both (P ∷ []) (O ∷ (((K ++ H) ++ B) ++ C)) [] (x ∷ ms) (adds_kept (P ∷ []) (tt, tt))
+    (adds_one kind.Class (first_of_class prefix i) h.name.token.0 e x ((K ++ H) ++ B) ms
+    (class_prefix_fills prefix w h.name.token.0 x H B ns (keep_both (heading_marks h) (interface_marks interface) (keep_heading h) (keep_interface interface q)) p))))
 
 -- ---- the whole program
 
@@ -461,12 +529,12 @@ mutual
       let x : Text = PrefixedText class arguments ds ss in
       let ns : List Text = declarations_texts ds ++ statements_texts ss in
       let O = Opens kind.Prefixed class.token.0 i in
-      adds_texts _ (x ∷ ns) _ (ap (λ z. x ∷ (z ++ ns)) (sym (no_prefix_texts (Some class) w)))
-      (adds_as (O ∷ ((P ++ (es ++ fs)) ++ Closes e ∷ [])) (prefixed_marks class i ++ (es ++ (fs ++ Closes e ∷ []))) (x ∷ ns)
+      let ms : List Text = standard_texts class.name ++ ns in
+      adds_as (O ∷ ((P ++ (es ++ fs)) ++ Closes e ∷ [])) (prefixed_marks class i ++ (es ++ (fs ++ Closes e ∷ []))) (x ∷ ms)
       (ap (λ z. O ∷ z) (append_assoc P (es ++ fs) (Closes e ∷ []) ∙ ap (λ z. P ++ z) (append_assoc es fs (Closes e ∷ []))))
-      (adds_one kind.Prefixed class.token.0 i e x (P ++ (es ++ fs)) ns
-      (fills_after x P (es ++ fs) ns (keep_prefix_marks i class w)
-      (fills_plain x (es ++ fs) ns (λ f. no_inners ss (back es fs f)) (adds_both es fs (declarations_texts ds) (statements_texts ss) (declarations_add ds p.0) (statements_add ss p.1))))))
+      (adds_one kind.Prefixed class.token.0 i e x (P ++ (es ++ fs)) ms
+      (prefix_fills x i class w (es ++ fs) ns
+      (fills_plain x (es ++ fs) ns (λ f. no_inners ss (back es fs f)) (adds_both es fs (declarations_texts ds) (statements_texts ss) (declarations_add ds p.0) (statements_add ss p.1)))))
 
   block_adds : (b : Block) → PlainBlock b → Adds (block_events declaring b) (block_texts b)
   block_adds (Begin i NoDeclaration ss e) p = statements_add ss p.1
@@ -476,7 +544,7 @@ mutual
       let x : Text = BlockText i (With d ds) ss in
       let ns : List Text = declarations_texts (With d ds) ++ statements_texts ss in
       adds_texts _ (x ∷ ns) _ (ap (λ z. x ∷ z) (append_assoc (declaration_texts d) (declarations_texts ds) (statements_texts ss)))
-      (adds_one kind.SubBlock i i e x (es ++ fs) ns (fills_plain x (es ++ fs) ns (λ f. no_inners ss (back es fs f)) (adds_both es fs (declarations_texts (With d ds)) (statements_texts ss) (declarations_add (With d ds) p.0) (statements_add ss p.1))))
+      (adds_filled kind.SubBlock i i e x (es ++ fs) ns (fills_plain x (es ++ fs) ns (λ f. no_inners ss (back es fs f)) (adds_both es fs (declarations_texts (With d ds)) (statements_texts ss) (declarations_add (With d ds) p.0) (statements_add ss p.1))))
 
   declarations_add : (ds : Declarations) → PlainDeclarations ds → Adds (declarations_events declaring ds) (declarations_texts ds)
   declarations_add NoDeclaration p = adds_kept [] tt
@@ -504,18 +572,18 @@ mutual
   class_body prefix (syntax.Activate i word process schedule) h p one = absurd p
 
 -- the program's block, which is around all
-whole_program : (k : BlockKind) (text first end : ℕ) (x : Text) (es : List Mark) (ns : List Text) → Fills x es ns → all_breaks empty (Opens k text first ∷ (es ++ Closes end ∷ [])) ≡ []
-    → Grown [] None (x ∷ ns) (run marked empty (Opens k text first ∷ (es ++ Closes end ∷ [])))
+whole_program : (es : List Mark) (ns : List Text) → Adds es ns → all_breaks empty es ≡ [] → Grown [] None ns (run marked empty es)
 unfolding Adds
-whole_program k text first end x es ns f e = adds_one k text first end x es ns f empty [] None (record { rows = refl; current = refl }) e
+whole_program es ns p e = p empty [] None (record { rows = refl; current = refl }) e
 
 program_grown : (p : Program) → Plain p → (declared_by p).least ≡ None → Grown [] None (program_texts p.prefix p.block) (declared_by p)
 unfolding declared_by broken_by program_events declaring program_marks
-program_grown p q unbroken = go p.prefix p.block q.prefix q.block (no_fault (broken_by p) (declared_by p).least unbroken (least_declared p))
+program_grown p q unbroken = go p.prefix p.block q.start q.block (no_fault (broken_by p) (declared_by p).least unbroken (least_declared p))
   where
-    go : (prefix : Option Prefix) (b : Block) → prefix ≡ None → PlainBlock b → all_breaks empty (program_marks prefix (begin_of b) ++ whole_events declaring b) ≡ []
+    go : (prefix : Option Prefix) (b : Block) → PlainStart prefix → PlainBlock b → all_breaks empty (program_marks prefix (begin_of b) ++ whole_events declaring b) ≡ []
         → Grown [] None (program_texts prefix b) (run marked empty (program_marks prefix (begin_of b) ++ whole_events declaring b))
-    go (Some x) b e r none = absurd (cc)
+    go (Some x) (Begin i ds ss end) e r none =
+        whole_program (prefixed_marks x.class i ++ whole_events declaring (Begin i ds ss end)) (prefixed_texts x.class x.arguments (Begin i ds ss end)) (prefixed_adds x.class x.arguments (Begin i ds ss end) e.0 r) none
     go None (Begin i ds ss end) e r none =
         let es = declarations_events declaring ds in
         let fs = statements_events declaring Inside ss in
@@ -523,7 +591,8 @@ program_grown p q unbroken = go p.prefix p.block q.prefix q.block (no_fault (bro
         let ns : List Text = declarations_texts ds ++ statements_texts ss in
         let same : Opens kind.Program i i ∷ ((es ++ fs) ++ Closes end ∷ []) ≡ Opens kind.Program i i ∷ (es ++ (fs ++ Closes end ∷ [])) = ap (λ z. Opens kind.Program i i ∷ z) (append_assoc es fs (Closes end ∷ [])) in
         subst (λ z. Grown [] None (x ∷ ns) (run marked empty z)) same
-        (whole_program kind.Program i i end x (es ++ fs) ns (fills_plain x (es ++ fs) ns (λ f. no_inners ss (back es fs f)) (adds_both es fs (declarations_texts ds) (statements_texts ss) (declarations_add ds r.0) (statements_add ss r.1)))
+        (whole_program (Opens kind.Program i i ∷ ((es ++ fs) ++ Closes end ∷ [])) (x ∷ ns)
+        (adds_filled kind.Program i i end x (es ++ fs) ns (fills_plain x (es ++ fs) ns (λ f. no_inners ss (back es fs f)) (adds_both es fs (declarations_texts ds) (statements_texts ss) (declarations_add ds r.0) (statements_add ss r.1))))
         (ap (all_breaks empty) same ∙ none))
 
 -- ---- each text

@@ -1,5 +1,5 @@
 -- Which tokens stand in which blocks of an allowed plain program, and which texts last.
-use Rattle.std.proofs.Common.{◌≡◌, ◌<◌, ◌≤◌, ◌⊎◌, inl, inr, ℕ, zero, suc, Bool, true, false, List, [], ◌∷◌, length, Option, Some, None, refl, sym, ap, ◌∙◌, arith}
+use Rattle.std.proofs.Common.{◌≡◌, ◌<◌, ◌≤◌, ◌⊎◌, inl, inr, ℕ, zero, suc, Bool, true, false, List, [], ◌∷◌, length, Option, Some, None, refl, sym, ap, ◌∙◌, subst, arith}
 use Rattle.std.specs.Prelude.{◌&&◌, ◌||◌, nat_le, nat_lt, not, slice_get}
 use Rattle.std.specs.List.{list_any}
 use Rattle.std.proofs.lemmas.Bool.Decides.{nat_tests}
@@ -7,10 +7,13 @@ use Rattle.std.proofs.lemmas.Option.{slice_get_within}
 use Rattle.sim_tree.specs.Order.{InOrder}
 use Rattle.sim_scope.specs.declared.types.BlockKind.{BlockKind}
 use Rattle.sim_scope.specs.declared.types.BlockKind.TheVariants as kind
-use Rattle.sim_scope.specs.Access.{block_at, encloser, has_text_of_levels, is_connection as is_connection_kind, is_kind, is_so, joined, kind_in}
+use Rattle.sim_scope.specs.declared.types.StandardClass.{StandardClass}
+use Rattle.sim_scope.specs.declared.types.StandardPrefix.{StandardPrefix}
+use Rattle.prefix_bind.specs.Prefixes.{is_prefixed_block}
+use Rattle.sim_scope.specs.Access.{around, block_at, encloser, has_text_of_levels, is_connection as is_connection_kind, is_kind, is_so, joined, kind_in}
 use Rattle.sim_scope.specs.Calls.{inside_block, is_inside}
 use Rattle.sim_scope.specs.Declare.{declared_by}
-use Rattle.sim_scope.specs.Levels.{has_standard, is_standard, standard_in}
+use Rattle.sim_scope.specs.Levels.{is_simulation, is_simulation_block, is_standard_class, standard_in}
 use Rattle.sim_scope.specs.Source.{Source}
 use Rattle.sim_scope.specs.Tables.{BlockOf, Tables}
 use Rattle.sim_meaning.specs.Attributes.{is_connection}
@@ -20,13 +23,17 @@ use Rattle.sim_agree.specs.Plain.{Plain}
 use Rattle.sim_agree.specs.TablesOf.{TablesOf}
 use Rattle.sim_agree.proofs.ClassRows.{levels_of_kind}
 use Rattle.sim_agree.proofs.Depth.{Chain, Deep, IsOpen, beyond, program_deep, same}
-use Rattle.sim_agree.proofs.Fine.{KindIs}
-use Rattle.sim_agree.proofs.Groups.{PlainKind}
+use Rattle.sim_agree.specs.TablesAgree.{is_prefixed_text}
+use Rattle.sim_agree.proofs.Fine.{KindIs, first_or_none, set_first as set_first_of}
+use Rattle.sim_agree.proofs.Completing.{has_base}
+use Rattle.sim_agree.proofs.Groups.{PlainKind, Prefixing}
+use Rattle.sim_agree.proofs.PlainNames.{SetsOrNone}
+use Rattle.sim_agree.proofs.SetBlocks.{standard_text}
 use Rattle.sim_agree.proofs.Laid.{program_held}
 use Rattle.sim_agree.proofs.Spots.{Final}
 use Rattle.sim_agree.proofs.Tables as t
 use Rattle.sim_agree.proofs.Tables.{program_final}
-use Rattle.sim_agree.proofs.Unprefixed.{Extras, extras_in, is_prefixable, no_extras}
+use Rattle.sim_agree.proofs.Unprefixed.{extras_in}
 use Rattle.sim_meaning.specs.Levels.{has_levels}
 
 -- ---- tests
@@ -78,7 +85,7 @@ module _ (s : Source) (of : TablesOf s) (plain : Plain s.program) (order : InOrd
   deep : Deep (declared_by s.program) (program_deep s.program plain order).0
   deep = (program_deep s.program plain order).1
 
-  final : Final (declared_by s.program) (program_held s.program.block)
+  final : Final (declared_by s.program) (program_held s.program.prefix s.program.block)
   final = program_final s.program plain order
 
   none_open : (j : ℕ) → IsOpen (declared_by s.program) j → ⊥
@@ -104,8 +111,8 @@ module _ (s : Source) (of : TablesOf s) (plain : Plain s.program) (order : InOrd
       go (a, inl q) = absurd (none_open j q)
       go (a, inr b) = (a, b)
 
-  first_of : (k : ℕ) (row : BlockOf) → slice_get (declared_by s.program).tables.blocks k ≡ Some row → slice_get (declared_by s.program).tables.places row.first ≡ Some (Some k)
-  first_of k row at = t.first_place s.program plain order k row at
+  first_of : (k : ℕ) (row : BlockOf) → slice_get (declared_by s.program).tables.blocks k ≡ Some row → is_standard_class row.kind ≡ false → slice_get (declared_by s.program).tables.places row.first ≡ Some (Some k)
+  first_of k row at other = t.first_place s.program plain order k row at other
 
   pub inside : (token k j : ℕ) → block_at s.tables token ≡ Some k → is_inside s.tables token j ≡ true → Around s.tables k j
   unfolding block_at is_inside
@@ -139,8 +146,14 @@ module _ (s : Source) (of : TablesOf s) (plain : Plain s.program) (order : InOrd
 
   lasts : (k : ℕ) → Lasts k → is_class_free s k ≡ false
   unfolding is_class_free
-  lasts k l = ap not (ap (λ o. has_class_in o s.tables.blocks) l.at ∙ any_at (λ c. is_class_kind c.kind && nat_le l.row.first c.first && nat_lt c.first l.row.end) s.tables.blocks l.class l.inner l.there (go (is_class_kind l.inner.kind) l.is))
+  lasts k l =
+      ap not (ap (λ o. has_class_in o s.tables.blocks) l.at
+      ∙ or_last (is_class_kind l.row.kind) _ (any_at (λ c. is_class_kind c.kind && nat_le l.row.first c.first && nat_lt c.first l.row.end) s.tables.blocks l.class l.inner l.there (go (is_class_kind l.inner.kind) l.is)))
     where
+      or_last : (a c : Bool) → c ≡ true → (a || c) ≡ true
+      or_last true c e = refl
+      or_last false c e = e
+
       test : (nat_le l.row.first l.inner.first && nat_lt l.inner.first l.row.end) ≡ true
       test = between l.row.first l.row.end l.inner.first l.low l.high
 
@@ -148,18 +161,14 @@ module _ (s : Source) (of : TablesOf s) (plain : Plain s.program) (order : InOrd
       go true e = test
       go false e = absurd (cc)
 
-  lasting : (k : ℕ) → is_class_free s k ≡ false → Lasts k
+  -- a block lasts that is a class or has a prefix, or has one inside
+  lasting : (k : ℕ) → is_class_free s k ≡ false → ((row : BlockOf) × (slice_get s.tables.blocks k ≡ Some row) × (is_class_kind row.kind ≡ true)) ⊎ Lasts k
   unfolding is_class_free
   lasting k h = go (slice_get s.tables.blocks k) refl h
     where
-      go : (o : Option BlockOf) → slice_get s.tables.blocks k ≡ o → not (has_class_in o s.tables.blocks) ≡ false → Lasts k
+      go : (o : Option BlockOf) → slice_get s.tables.blocks k ≡ o → not (has_class_in o s.tables.blocks) ≡ false → ((row : BlockOf) × (o ≡ Some row) × (is_class_kind row.kind ≡ true)) ⊎ Lasts k
       go None at g = absurd (cc)
-      go (Some row) at g =
-          let q = some_at (λ c. is_class_kind c.kind && nat_le row.first c.first && nat_lt c.first row.end) s.tables.blocks (yes (list_any (λ c. is_class_kind c.kind && nat_le row.first c.first && nat_lt c.first row.end) s.tables.blocks) g) in
-          let p = parts (is_class_kind q.1.0.kind && nat_le row.first q.1.0.first) (nat_lt q.1.0.first row.end) q.1.2 in
-          let o = parts (is_class_kind q.1.0.kind) (nat_le row.first q.1.0.first) p.0 in
-          let r = low_high row.first row.end q.1.0.first (ap (λ z. z && nat_lt q.1.0.first row.end) o.1 ∙ p.1) in
-          record { row = row; at = at; class = q.0; inner = q.1.0; there = q.1.1; is = o.0; low = r.0; high = r.1 }
+      go (Some row) at g = own (is_class_kind row.kind) refl (yes (has_class_in (Some row) s.tables.blocks) g)
         where
           yes : (c : Bool) → not c ≡ false → c ≡ true
           yes true e = refl
@@ -170,71 +179,231 @@ module _ (s : Source) (of : TablesOf s) (plain : Plain s.program) (order : InOrd
           parts true false e = absurd (cc)
           parts false b e = absurd (cc)
 
+          inside_it : list_any (λ c. is_class_kind c.kind && nat_le row.first c.first && nat_lt c.first row.end) s.tables.blocks ≡ true → Lasts k
+          inside_it e =
+              let q = some_at (λ c. is_class_kind c.kind && nat_le row.first c.first && nat_lt c.first row.end) s.tables.blocks e in
+              let p = parts (is_class_kind q.1.0.kind && nat_le row.first q.1.0.first) (nat_lt q.1.0.first row.end) q.1.2 in
+              let o = parts (is_class_kind q.1.0.kind) (nat_le row.first q.1.0.first) p.0 in
+              let r = low_high row.first row.end q.1.0.first (ap (λ z. z && nat_lt q.1.0.first row.end) o.1 ∙ p.1) in
+              record { row = row; at = at; class = q.0; inner = q.1.0; there = q.1.1; is = o.0; low = r.0; high = r.1 }
+
+          own : (c : Bool) → is_class_kind row.kind ≡ c → (c || list_any (λ d. is_class_kind d.kind && nat_le row.first d.first && nat_lt d.first row.end) s.tables.blocks) ≡ true
+              → ((found : BlockOf) × (Some row ≡ Some found) × (is_class_kind found.kind ≡ true)) ⊎ Lasts k
+          own true e f = inl (row, refl, e)
+          own false e f = inr (inside_it f)
+
   -- a class and a block with a prefix last
-  of_class_kind : (k : ℕ) (row : BlockOf) (o : Option Text) → KindIs (Some row) o → has_levels o ≡ true → is_class_kind row.kind ≡ true
-  of_class_kind k row None q e = absurd q
-  of_class_kind k row (Some (BlockText i ds ss)) q e = absurd (cc)
-  of_class_kind k row (Some (ProcedureText result h a)) q e = absurd (cc)
-  of_class_kind k row (Some (ClassText prefix h ds ss)) q e = ap is_class_kind q
-  of_class_kind k row (Some ConnectionText) q e = absurd (cc)
-  of_class_kind k row (Some (PrefixedText class es ds ss)) q e = ap is_class_kind q
-  of_class_kind k row (Some (StandardText which)) q e = absurd (cc)
+  of_class_kind : (row : BlockOf) (o : Option Text) → KindIs (Some row) o → has_levels o ≡ true → is_class_kind row.kind ≡ true
+  of_class_kind row None q e = absurd q
+  of_class_kind row (Some (BlockText i ds ss)) q e = absurd (cc)
+  of_class_kind row (Some (ProcedureText result h a)) q e = absurd (cc)
+  of_class_kind row (Some (ClassText prefix h ds ss)) q e = ap is_class_kind q
+  of_class_kind row (Some ConnectionText) q e = absurd (cc)
+  of_class_kind row (Some (PrefixedText class es ds ss)) q e = ap is_class_kind q
+  of_class_kind row (Some (StandardText which)) q e = ap is_class_kind q
 
   pub stays : (k : ℕ) → has_levels (text s k) ≡ true → is_class_free s k ≡ false
-  unfolding text
+  unfolding text is_class_free
   stays k levels = go (slice_get s.tables.blocks k) refl (t.kind_at s of plain order k)
     where
       nothing : (o : Option Text) → KindIs None o → has_levels o ≡ true → ⊥
       nothing None q e = cc
       nothing (Some x) q e = q
 
-      go : (o : Option BlockOf) → slice_get s.tables.blocks k ≡ o → KindIs o (slice_get (t.Ts s of plain order) k) → is_class_free s k ≡ false
+      go : (o : Option BlockOf) → slice_get s.tables.blocks k ≡ o → KindIs o (slice_get (t.Ts s of plain order) k) → not (has_class_in (slice_get s.tables.blocks k) s.tables.blocks) ≡ false
       go None at q = absurd (nothing (slice_get (t.Ts s of plain order) k) q levels)
       go (Some row) at q =
-          let w = t.row_was s of plain order k row at in
-          let x : row.first ≡ w.0.first = ap (λ (z : BlockOf). z.first) w.2 in
-          let y : row.end ≡ w.0.end = ap (λ (z : BlockOf). z.end) w.2 in
-          let r = within w.0.first k k w.0 (first_of k w.0 w.1) w.1 same in
-          let hi : w.0.first < w.0.end = r.1 in
-          lasts k (record { row = row; at = at; class = k; inner = row; there = at; is = of_class_kind k row (slice_get (t.Ts s of plain order) k) q levels; low = omega arith; high = omega (arith, hi, x, y) })
+          ap (λ o. not (has_class_in o s.tables.blocks)) at
+          ∙ ap (λ z. not (z || list_any (λ c. is_class_kind c.kind && nat_le row.first c.first && nat_lt c.first row.end) s.tables.blocks)) (of_class_kind row (slice_get (t.Ts s of plain order) k) q levels)
 
-  -- and so does what is around a text that lasts
-  pub outward : (k u : ℕ) → encloser s.tables k ≡ Some u → is_class_free s k ≡ false → is_class_free s u ≡ false
-  unfolding encloser
-  outward k u e h =
-      let l = lasting k h in
-      let w = t.row_was s of plain order k l.row l.at in
-      let v = t.row_was s of plain order l.class l.inner l.there in
-      let x : l.row.first ≡ w.0.first = ap (λ (z : BlockOf). z.first) w.2 in
-      let y : l.row.end ≡ w.0.end = ap (λ (z : BlockOf). z.end) w.2 in
-      let z : l.inner.first ≡ v.0.first = ap (λ (z : BlockOf). z.first) v.2 in
-      let lo : l.row.first ≤ l.inner.first = l.low in
-      let hi : l.inner.first < l.row.end = l.high in
-      let place : slice_get (declared_by s.program).tables.places v.0.first ≡ Some (Some l.class) = first_of l.class v.0 v.1 in
-      let c = chain_to v.0.first l.class k w.0 place w.1 (omega (arith, lo, x, z)) (omega (arith, hi, y, z)) in
-      let c' = chain_more c (beyond (sym (t.same_around s of plain order k) ∙ e) same) in
-      go l.class l.inner l.there l.is v.0.first z place c' (slice_get s.tables.blocks u) refl
+  -- what is no text with levels is no class of SIMSET
+  no_standard : (row : BlockOf) (o : Option Text) → KindIs (Some row) o → has_levels o ≡ false → is_standard_class row.kind ≡ false
+  no_standard row None q e = absurd q
+  no_standard row (Some (BlockText i ds ss)) q e = go row.kind q
     where
-      chain_more : {i j m : ℕ} → Chain (declared_by s.program).tables.blocks i j → Chain (declared_by s.program).tables.blocks j m → Chain (declared_by s.program).tables.blocks i m
-      chain_more same d = d
-      chain_more (beyond f c) d = beyond f (chain_more c d)
+      go : (k : BlockKind) → PlainKind k → is_standard_class k ≡ false
+      go kind.Program q = refl
+      go kind.SubBlock q = refl
+      go kind.Procedure q = absurd q
+      go kind.Class q = absurd q
+      go kind.Prefixed q = absurd q
+      go kind.Connection q = absurd q
+      go (kind.StandardClass which) q = absurd q
+  no_standard row (Some (ProcedureText result h a)) q e = ap is_standard_class q
+  no_standard row (Some (ClassText prefix h ds ss)) q e = absurd (cc)
+  no_standard row (Some ConnectionText) q e = ap is_standard_class q
+  no_standard row (Some (PrefixedText class es ds ss)) q e = absurd (cc)
+  no_standard row (Some (StandardText which)) q e = absurd (cc)
 
-      go : (class : ℕ) (inner : BlockOf) → slice_get s.tables.blocks class ≡ Some inner → is_class_kind inner.kind ≡ true → (first : ℕ) → inner.first ≡ first → slice_get (declared_by s.program).tables.places first ≡ Some (Some class)
-          → Chain (declared_by s.program).tables.blocks class u → (o : Option BlockOf) → slice_get s.tables.blocks u ≡ o → is_class_free s u ≡ false
-      go class inner there is first f place c None at = absurd (let l = lasting k h in let a : k < length s.tables.blocks = slice_get_within s.tables.blocks k l.row l.at in let b : u < k = t.nesting s of plain order k u e in missing s.tables.blocks u (omega arith) at)
-        where
-          missing : (bs : List BlockOf) (n : ℕ) → n < length bs → slice_get bs n ≡ None → ⊥
-          missing [] n lt g = omega arith
-          missing (b ∷ bs) zero lt g = cc
-          missing (b ∷ bs) (suc n) lt g = missing bs n (let e : length (b ∷ bs) ≡ suc (length bs) = omega arith in omega arith) g
-      go class inner there is first f place c (Some row) at =
-          let w = t.row_was s of plain order u row at in
-          let x : row.first ≡ w.0.first = ap (λ (z : BlockOf). z.first) w.2 in
-          let y : row.end ≡ w.0.end = ap (λ (z : BlockOf). z.end) w.2 in
-          let r = within first class u w.0 place w.1 c in
-          let lo : w.0.first ≤ first = r.0 in
-          let hi : first < w.0.end = r.1 in
-          lasts u (record { row = row; at = at; class = class; inner = inner; there = there; is = is; low = omega (arith, lo, x, f); high = omega (arith, hi, y, f) })
+  -- a class of SIMSET has no text
+  set_first : (k : ℕ) (row : BlockOf) → slice_get s.tables.blocks k ≡ Some row → is_standard_class row.kind ≡ true → row.first ≡ 0
+  set_first k row at is =
+      let w = t.row_was s of plain order k row at in
+      ap (λ (z : BlockOf). z.first) w.2 ∙ of_kind w.0.kind w.0.first (ap (λ (z : BlockOf). is_standard_class z.kind) (sym w.2) ∙ is) (sym (ap first_or_none w.1) ∙ (t.program_agrees s.program plain).fine.textless k)
+    where
+      of_kind : (c : BlockKind) (n : ℕ) → is_standard_class c ≡ true → set_first_of c n ≡ 0 → n ≡ 0
+      of_kind (kind.StandardClass which) n e f = f
+      of_kind kind.Program n e f = absurd (cc)
+      of_kind kind.SubBlock n e f = absurd (cc)
+      of_kind kind.Procedure n e f = absurd (cc)
+      of_kind kind.Class n e f = absurd (cc)
+      of_kind kind.Prefixed n e f = absurd (cc)
+      of_kind kind.Connection n e f = absurd (cc)
+
+  -- and stands in a text with levels
+  hosted : (k u : ℕ) (which : StandardClass) → encloser s.tables k ≡ Some u → text s k ≡ Some (StandardText which) → has_levels (text s u) ≡ true
+  unfolding text encloser
+  hosted k u which e is =
+      let q = (t.program_agrees s.program plain).fine.sets k which is in
+      let there : around (slice_get (declared_by s.program).tables.blocks k) ≡ Some q.block = ap (λ m. around (slice_get (declared_by s.program).tables.blocks m)) q.place ∙ q.group.around which q.is in
+      let same_block : u ≡ q.block = some_number u q.block (sym e ∙ t.same_around s of plain order k ∙ there) in
+      ap (λ m. has_levels (text s m)) same_block ∙ ap has_levels q.group.host.1 ∙ levels q.group.host.0 q.group.host.2
+    where
+      some_number : (m n : ℕ) → Some m ≡ Some n → m ≡ n
+      some_number m n q = cc
+
+      levels : (x : Text) → Prefixing x → has_levels (Some x) ≡ true
+      levels (ClassText prefix h ds ss) q = refl
+      levels (PrefixedText class es ds ss) q = refl
+      levels (BlockText i ds ss) q = absurd q
+      levels (ProcedureText result h a) q = absurd q
+      levels ConnectionText q = absurd q
+      levels (StandardText which) q = absurd q
+
+  module _ (k u : ℕ) (e : encloser s.tables k ≡ Some u) (without : has_levels (text s u) ≡ false) where
+    -- neither is a class of SIMSET
+    inner_other : (row : BlockOf) → slice_get s.tables.blocks k ≡ Some row → is_standard_class row.kind ≡ false
+    unfolding text
+    inner_other row at = go row.kind refl
+      where
+        go : (c : BlockKind) → row.kind ≡ c → is_standard_class c ≡ false
+        go kind.Program f = refl
+        go kind.SubBlock f = refl
+        go kind.Procedure f = refl
+        go kind.Class f = refl
+        go kind.Prefixed f = refl
+        go kind.Connection f = refl
+        go (kind.StandardClass which) f =
+            let is : text s k ≡ Some (StandardText which) = standard_text row (slice_get (t.Ts s of plain order) k) which (subst (λ o. KindIs o (slice_get (t.Ts s of plain order) k)) at (t.kind_at s of plain order k)) f in
+            absurd (let z : true ≡ false = sym (hosted k u which e is) ∙ without in cc)
+
+    outer_other : (row : BlockOf) → slice_get s.tables.blocks u ≡ Some row → is_standard_class row.kind ≡ false
+    unfolding text
+    outer_other row at = no_standard row (slice_get (t.Ts s of plain order) u) (subst (λ o. KindIs o (slice_get (t.Ts s of plain order) u)) at (t.kind_at s of plain order u)) without
+
+    missing : (bs : List BlockOf) (n : ℕ) → n < length bs → slice_get bs n ≡ None → ⊥
+    missing [] n lt g = omega arith
+    missing (b ∷ bs) zero lt g = cc
+    missing (b ∷ bs) (suc n) lt g = missing bs n (let e : length (b ∷ bs) ≡ suc (length bs) = omega arith in omega arith) g
+
+    chain_more : {i j m : ℕ} → Chain (declared_by s.program).tables.blocks i j → Chain (declared_by s.program).tables.blocks j m → Chain (declared_by s.program).tables.blocks i m
+    chain_more same d = d
+    chain_more (beyond f c) d = beyond f (chain_more c d)
+
+    under : Chain (declared_by s.program).tables.blocks k u
+    unfolding encloser
+    under = beyond (sym (t.same_around s of plain order k) ∙ e) same
+
+    -- the row of the text around
+    outer_row : (row : BlockOf) → slice_get s.tables.blocks k ≡ Some row → (outer : BlockOf) × (slice_get s.tables.blocks u ≡ Some outer)
+    outer_row row at = go (slice_get s.tables.blocks u) refl
+      where
+        go : (o : Option BlockOf) → slice_get s.tables.blocks u ≡ o → (outer : BlockOf) × (o ≡ Some outer)
+        go None f = absurd (let a : k < length s.tables.blocks = slice_get_within s.tables.blocks k row at in let b : u < k = t.nesting s of plain order k u e in missing s.tables.blocks u (omega arith) f)
+        go (Some outer) f = (outer, refl)
+
+    -- a class or a block with a prefix inside the one is inside the other
+    from_inner : (row : BlockOf) → slice_get s.tables.blocks k ≡ Some row → (class : ℕ) (inner : BlockOf) → slice_get s.tables.blocks class ≡ Some inner → is_class_kind inner.kind ≡ true → is_standard_class inner.kind ≡ false
+        → Chain (declared_by s.program).tables.blocks class k → is_class_free s u ≡ false
+    from_inner row at class inner there is other c =
+        let v = t.row_was s of plain order class inner there in
+        let o = outer_row row at in
+        let w = t.row_was s of plain order u o.0 o.1 in
+        let z : inner.first ≡ v.0.first = ap (λ (z : BlockOf). z.first) v.2 in
+        let place : slice_get (declared_by s.program).tables.places v.0.first ≡ Some (Some class) = first_of class v.0 v.1 (ap (λ (z : BlockOf). is_standard_class z.kind) (sym v.2) ∙ other) in
+        let x : o.0.first ≡ w.0.first = ap (λ (z : BlockOf). z.first) w.2 in
+        let y : o.0.end ≡ w.0.end = ap (λ (z : BlockOf). z.end) w.2 in
+        let r = within v.0.first class u w.0 place w.1 (chain_more c under) in
+        let lo : w.0.first ≤ v.0.first = r.0 in
+        let hi : v.0.first < w.0.end = r.1 in
+        lasts u (record { row = o.0; at = o.1; class = class; inner = inner; there = there; is = is; low = omega (arith, lo, x, z); high = omega (arith, hi, y, z) })
+
+    -- a class of SIMSET has no text, and is inside no other text than one that begins with the source
+    from_nothing : (row : BlockOf) → slice_get s.tables.blocks k ≡ Some row → row.first ≤ 0 → is_class_free s u ≡ false
+    from_nothing row at le =
+        let w = t.row_was s of plain order k row at in
+        let o = outer_row row at in
+        let v = t.row_was s of plain order u o.0 o.1 in
+        let x : row.first ≡ w.0.first = ap (λ (z : BlockOf). z.first) w.2 in
+        let zero_ : w.0.first ≡ 0 = omega (arith, le, x) in
+        let place : slice_get (declared_by s.program).tables.places w.0.first ≡ Some (Some k) = first_of k w.0 w.1 (ap (λ (z : BlockOf). is_standard_class z.kind) (sym w.2) ∙ inner_other row at) in
+        let r = within w.0.first k u v.0 place v.1 under in
+        let lo : v.0.first ≤ w.0.first = r.0 in
+        let other : slice_get (declared_by s.program).tables.places v.0.first ≡ Some (Some u) = first_of u v.0 v.1 (ap (λ (z : BlockOf). is_standard_class z.kind) (sym v.2) ∙ outer_other o.0 o.1) in
+        let both_zero : v.0.first ≡ w.0.first = omega (arith, lo, zero_) in
+        let one : Some (Some u) ≡ Some (Some k) = sym other ∙ ap (slice_get (declared_by s.program).tables.places) both_zero ∙ place in
+        let lt : u < k = t.nesting s of plain order k u e in
+        absurd (let equal : u ≡ k = cc in omega arith)
+
+    from_kind : (row : BlockOf) → slice_get s.tables.blocks k ≡ Some row → Lasts k → is_class_free s u ≡ false
+    from_kind row at l = go (is_standard_class l.inner.kind) refl
+      where
+        go : (c : Bool) → is_standard_class l.inner.kind ≡ c → is_class_free s u ≡ false
+        go false f =
+            let w = t.row_was s of plain order k l.row l.at in
+            let v = t.row_was s of plain order l.class l.inner l.there in
+            let x : l.row.first ≡ w.0.first = ap (λ (z : BlockOf). z.first) w.2 in
+            let y : l.row.end ≡ w.0.end = ap (λ (z : BlockOf). z.end) w.2 in
+            let z : l.inner.first ≡ v.0.first = ap (λ (z : BlockOf). z.first) v.2 in
+            let lo : l.row.first ≤ l.inner.first = l.low in
+            let hi : l.inner.first < l.row.end = l.high in
+            let place : slice_get (declared_by s.program).tables.places v.0.first ≡ Some (Some l.class) = first_of l.class v.0 v.1 (ap (λ (z : BlockOf). is_standard_class z.kind) (sym v.2) ∙ f) in
+            from_inner l.row l.at l.class l.inner l.there l.is f (chain_to v.0.first l.class k w.0 place w.1 (omega (arith, lo, x, z)) (omega (arith, hi, y, z)))
+        go true f =
+            let le : l.row.first ≤ l.inner.first = l.low in
+            let none : l.inner.first ≡ 0 = set_first l.class l.inner l.there f in
+            from_nothing l.row l.at (omega (arith, le, none))
+
+    pub outward_of : is_class_free s k ≡ false → is_class_free s u ≡ false
+    outward_of h = go (lasting k h)
+      where
+        go : ((row : BlockOf) × (slice_get s.tables.blocks k ≡ Some row) × (is_class_kind row.kind ≡ true)) ⊎ Lasts k → is_class_free s u ≡ false
+        go (inl q) = from_inner q.0 q.1 k q.0 q.1 q.2 (inner_other q.0 q.1) same
+        go (inr l) = from_kind l.row l.at l
+
+  -- what is around a text that lasts lasts too
+  pub outward : (k u : ℕ) → encloser s.tables k ≡ Some u → is_class_free s k ≡ false → is_class_free s u ≡ false
+  outward k u e h = go (has_levels (text s u)) refl
+    where
+      go : (c : Bool) → has_levels (text s u) ≡ c → is_class_free s u ≡ false
+      go true f = stays u f
+      go false f = outward_of k u e f h
+
+  -- ---- which blocks have a prefix
+
+  pub prefixed_kinds : (k : ℕ) → is_kind is_prefixed_block s.tables k ≡ is_prefixed_text (text s k)
+  unfolding is_kind text
+  prefixed_kinds k = go (slice_get s.tables.blocks k) (text s k) (t.kind_at s of plain order k)
+    where
+      plain_kind : (k : BlockKind) → PlainKind k → is_prefixed_block k ≡ false
+      plain_kind kind.Program q = refl
+      plain_kind kind.SubBlock q = refl
+      plain_kind kind.Procedure q = absurd q
+      plain_kind kind.Class q = absurd q
+      plain_kind kind.Prefixed q = absurd q
+      plain_kind kind.Connection q = absurd q
+      plain_kind (kind.StandardClass which) q = absurd q
+
+      go : (o : Option BlockOf) (x : Option Text) → KindIs o x → is_so is_prefixed_block (kind_in o) ≡ is_prefixed_text x
+      go None None q = refl
+      go None (Some x) q = absurd q
+      go (Some row) None q = absurd q
+      go (Some row) (Some (BlockText i ds ss)) q = plain_kind row.kind q
+      go (Some row) (Some (ProcedureText result h a)) q = ap is_prefixed_block q
+      go (Some row) (Some (ClassText prefix h ds ss)) q = ap is_prefixed_block q
+      go (Some row) (Some ConnectionText) q = ap is_prefixed_block q
+      go (Some row) (Some (PrefixedText class es ds ss)) q = ap is_prefixed_block q
+      go (Some row) (Some (StandardText which)) q = ap is_prefixed_block q
 
   -- ---- which blocks are connections
 
@@ -260,14 +429,14 @@ module _ (s : Source) (of : TablesOf s) (plain : Plain s.program) (order : InOrd
       go (Some row) (Some (ClassText prefix h ds ss)) q = ap is_connection_kind q
       go (Some row) (Some ConnectionText) q = ap is_connection_kind q
       go (Some row) (Some (PrefixedText class es ds ss)) q = ap is_connection_kind q
-      go (Some row) (Some (StandardText which)) q = absurd q
+      go (Some row) (Some (StandardText which)) q = ap is_connection_kind q
 
   -- a class and a block with a prefix have levels
   pub level_kinds : (k : ℕ) → is_kind has_text_of_levels s.tables k ≡ true → has_levels (text s k) ≡ true
   unfolding is_kind text
   level_kinds k e = go (slice_get s.tables.blocks k) (text s k) (t.kind_at s of plain order k) e
     where
-      same_kinds : (k : BlockKind) → has_text_of_levels k ≡ true → is_prefixable k ≡ true
+      same_kinds : (k : BlockKind) → has_text_of_levels k ≡ true → has_base k ≡ true
       same_kinds kind.Class e = refl
       same_kinds kind.Prefixed e = refl
       same_kinds kind.Program e = absurd (cc)
@@ -280,16 +449,20 @@ module _ (s : Source) (of : TablesOf s) (plain : Plain s.program) (order : InOrd
       go None x q e = absurd (cc)
       go (Some row) x q e = levels_of_kind row x q (same_kinds row.kind e)
 
-  -- no block has a standard prefix
-  pub not_standard : (k : ℕ) → has_standard s.tables k ≡ false
-  unfolding has_standard
-  not_standard k = go (slice_get s.tables.blocks k) ((t.unprefixed s of plain order).blocks k)
+  -- no block has `simulation` in front
+  pub not_simulation : (k : ℕ) → is_simulation_block s.tables k ≡ false
+  unfolding is_simulation_block
+  not_simulation k = go (slice_get s.tables.blocks k) ((t.shows s of plain order).standards k)
     where
-      go : (o : Option BlockOf) → extras_in o ≡ no_extras → is_standard (standard_in o) ≡ false
-      go None e = refl
-      go (Some row) e = ap is_standard (ap (λ (z : Extras). z.standard) e)
+      simple : (p : Option StandardPrefix) → SetsOrNone p → is_simulation p ≡ false
+      simple p (inl e) = ap is_simulation e
+      simple p (inr e) = ap is_simulation e
+
+      go : (o : Option BlockOf) → SetsOrNone (extras_in o).standard → is_simulation (standard_in o) ≡ false
+      go None q = refl
+      go (Some row) q = simple row.standard q
 
   -- a connection is the text around its first token
-  pub begins : (k : ℕ) (row : BlockOf) → slice_get s.tables.blocks k ≡ Some row → block_at s.tables row.first ≡ Some k
+  pub begins : (k : ℕ) (row : BlockOf) → slice_get s.tables.blocks k ≡ Some row → is_standard_class row.kind ≡ false → block_at s.tables row.first ≡ Some k
   unfolding block_at
-  begins k row at = ap joined (t.begun s of plain order k row at)
+  begins k row at other = ap joined (t.begun s of plain order k row at other)

@@ -1,5 +1,5 @@
 -- The marks of a plain program beside the tokens of its text, with what each text uses.
-use Rattle.std.proofs.Common.{◌≡◌, ℕ, Bool, true, false, List, [], ◌∷◌, ◌++◌, length, map, Option, Some, None, refl, sym, ap, ◌∙◌, subst, append-nil, append_assoc}
+use Rattle.std.proofs.Common.{◌≡◌, inl, inr, ℕ, Bool, true, false, List, [], ◌∷◌, ◌++◌, length, map, Option, Some, None, refl, sym, ap, ◌∙◌, subst, append-nil, append_assoc}
 use Rattle.sim_tree.specs.declared.expr.Identifier.{Identifier}
 use Rattle.sim_tree.specs.declared.stmt.Mode.{Mode as Word}
 use Rattle.sim_tree.specs.declared.stmt.Mode.TheVariants as word
@@ -24,12 +24,13 @@ use Rattle.sim_scope.specs.Bodies.{body_declarations, body_statements}
 use Rattle.sim_scope.specs.Building.{Breaks, Closes, Declares, DeclaresClass, DeclaresProcedure, Headed, Inner, Mark, Moded, Opens, Parameter, Specified, Prefixes, Protects}
 use Rattle.sim_scope.specs.Declare.{array_marks, class_marks, class_prefix_marks, declaring, first_of_class, first_of_procedure, headed_marks, heading_marks, inner_marks, interface_marks, mode_named, mode_part_marks, moded_marks, parameter_marks, procedure_marks, program_marks, qualified_marks, qualified_result, result_named, segment_marks, specification_marks, specified_marks, type_named, variable_marks, is_written, protected_marks, protection_marks, prefix_marks, prefixed_marks}
 use Rattle.sim_scope.specs.Runs.{each}
+use Rattle.sim_scope.specs.Standard.{standard_prefix}
 use Rattle.sim_scope.specs.Walk.{arms_events, begin_of, block_events, declaration_events, declarations_events, program_events, statement_events, statements_events, whole_events}
-use Rattle.sim_meaning.specs.Texts.{BlockText, ClassText, ConnectionText, ProcedureText, Text, arms_texts, block_texts, declaration_texts, declarations_texts, program_texts, statement_texts, statements_texts, prefix_texts, PrefixedText, prefixed_texts}
+use Rattle.sim_meaning.specs.Texts.{BlockText, ClassText, ConnectionText, ProcedureText, Text, arms_texts, block_texts, declaration_texts, declarations_texts, program_texts, statement_texts, statements_texts, prefix_texts, PrefixedText, prefixed_texts, standard_texts}
 use Rattle.sim_tree.specs.Order.{Behind, Spot, Token, in_arms, in_block, in_bounds, in_declaration, in_declarations, in_each, in_element, in_expression, in_name, in_result, in_segment, in_side, in_statement, in_statements, in_type, in_variable, tokens, in_prefix}
-use Rattle.sim_agree.specs.Plain.{Each, Plain, PlainArms, PlainBlock, PlainDeclarations, PlainHeading, PlainInterface, PlainMode, PlainSpecification, PlainStatement, PlainStatements, PlainWord, PlainName, PlainPrefix}
-use Rattle.sim_agree.proofs.Groups.{AreReferences, OfReferences, OwnEntry, PlainFormal, Quals, quals_of_result, quals_of_type, plain_prefix, only_protections}
-use Rattle.sim_agree.proofs.PlainNames.{no_prefix_texts}
+use Rattle.sim_agree.specs.Plain.{Each, Plain, PlainArms, PlainBlock, PlainDeclarations, PlainHeading, PlainInterface, PlainMode, PlainSpecification, PlainStatement, PlainStatements, PlainWord, PlainName, PlainPrefix, PlainStart}
+use Rattle.sim_agree.proofs.Groups.{AreReferences, OfReferences, OwnEntry, PlainFormal, Quals, quals_of_result, quals_of_type, plain_prefix, only_protections, IsSimset, set_prefix, sets_prefix}
+use Rattle.sim_agree.proofs.PlainNames.{SetsOrNone, no_texts, plain_standard, set_texts, texts_of_sets}
 
 -- ---- what a text uses itself: tokens, sub-blocks and prefixed blocks by their first token, and connections by theirs, with what stands in them
 
@@ -119,6 +120,15 @@ abbrev pub used_held : Held → List Part
 used_held (Whole x) = text_used x
 used_held (Joined i a) = statement_used a []
 
+-- whole texts
+abbrev pub all_held : List Text → List Held
+all_held [] = []
+all_held (x ∷ xs) = Whole x ∷ all_held xs
+
+pub held_all : (xs : List Text) → map text_held (all_held xs) ≡ xs
+held_all [] = refl
+held_all (x ∷ xs) = ap (λ z. x ∷ z) (held_all xs)
+
 abbrev mutual
   pub statement_held : Statement → List Held
   statement_held (syntax.Empty i) = []
@@ -143,7 +153,7 @@ abbrev mutual
   arms_held (When i class opening x end more) = Joined opening x ∷ (statement_held x ++ arms_held more)
 
   pub prefixed_held : Identifier → Expressions → Block → List Held
-  prefixed_held class es (Begin i ds ss e) = Whole (PrefixedText class es ds ss) ∷ (declarations_held ds ++ statements_held ss)
+  prefixed_held class es (Begin i ds ss e) = Whole (PrefixedText class es ds ss) ∷ (all_held (standard_texts class.name) ++ (declarations_held ds ++ statements_held ss))
 
   pub block_held : Block → List Held
   block_held (Begin i NoDeclaration ss e) = statements_held ss
@@ -157,11 +167,12 @@ abbrev mutual
   declaration_held (Variables type vs) = []
   declaration_held (Arrays type i segments) = []
   declaration_held (DeclareProcedure result i h a e) = Whole (ProcedureText result h a) ∷ statement_held a
-  declaration_held (DeclareClass prefix i h interface (Compound (Begin j ds ss e)) end) = Whole (ClassText prefix h ds ss) ∷ (declarations_held ds ++ statements_held ss)
-  declaration_held (DeclareClass prefix i h interface a end) = Whole (ClassText prefix h NoDeclaration (Also a NoStatement)) ∷ statement_held a
+  declaration_held (DeclareClass prefix i h interface (Compound (Begin j ds ss e)) end) = Whole (ClassText prefix h ds ss) ∷ (all_held (prefix_texts prefix) ++ (declarations_held ds ++ statements_held ss))
+  declaration_held (DeclareClass prefix i h interface a end) = Whole (ClassText prefix h NoDeclaration (Also a NoStatement)) ∷ (all_held (prefix_texts prefix) ++ statement_held a)
 
-abbrev pub program_held : Block → List Held
-program_held (Begin i ds ss end) = Whole (BlockText i ds ss) ∷ (declarations_held ds ++ statements_held ss)
+abbrev pub program_held : Option Prefix → Block → List Held
+program_held None (Begin i ds ss end) = Whole (BlockText i ds ss) ∷ (declarations_held ds ++ statements_held ss)
+program_held (Some x) b = prefixed_held x.class x.arguments b
 
 -- ---- these are its texts
 
@@ -170,16 +181,15 @@ map_both [] ys ns ks e f = f ∙ ap (λ z. z ++ ks) e
 map_both (x ∷ xs) ys ns ks e f = ap (λ z. text_held x ∷ z) (map_both xs ys (map text_held xs) ks refl f) ∙ ap (λ z. z ++ ks) e
 
 -- the body of a class that is one statement
-held_alone : (prefix : Option Identifier) → PlainPrefix prefix → (h : Heading) (a : Statement) → map text_held (statement_held a) ≡ statement_texts a
-    → map text_held (Whole (ClassText prefix h NoDeclaration (Also a NoStatement)) ∷ statement_held a) ≡ ClassText prefix h NoDeclaration (Also a NoStatement) ∷ (prefix_texts prefix ++ statement_texts a)
-held_alone prefix w h a one =
-    ap (λ z. ClassText prefix h NoDeclaration (Also a NoStatement) ∷ z) one ∙ ap (λ z. ClassText prefix h NoDeclaration (Also a NoStatement) ∷ (z ++ statement_texts a)) (sym (no_prefix_texts prefix w))
+held_alone : (prefix : Option Identifier) (h : Heading) (a : Statement) → map text_held (statement_held a) ≡ statement_texts a
+    → map text_held (Whole (ClassText prefix h NoDeclaration (Also a NoStatement)) ∷ (all_held (prefix_texts prefix) ++ statement_held a)) ≡ ClassText prefix h NoDeclaration (Also a NoStatement) ∷ (prefix_texts prefix ++ statement_texts a)
+held_alone prefix h a one = ap (λ z. ClassText prefix h NoDeclaration (Also a NoStatement) ∷ z) (map_both (all_held (prefix_texts prefix)) (statement_held a) (prefix_texts prefix) (statement_texts a) (held_all (prefix_texts prefix)) one)
 
 mutual
   held_statement : (a : Statement) → PlainStatement a → map text_held (statement_held a) ≡ statement_texts a
   held_statement (syntax.Empty i) p = refl
   held_statement (syntax.Compound b) p = held_block b p
-  held_statement (syntax.Prefixed class es b) p = held_prefixed class es b p.0 p.2
+  held_statement (syntax.Prefixed class es b) p = held_prefixed class es b p.2
   held_statement (syntax.Inner i) p = refl
   held_statement (syntax.Call e) p = refl
   held_statement (syntax.Assign e sides) p = refl
@@ -198,10 +208,11 @@ mutual
   held_arms NoArm p = refl
   held_arms (When i class opening x end more) p = ap (λ z. ConnectionText ∷ z) (map_both (statement_held x) (arms_held more) (statement_texts x) (arms_texts more) (held_statement x p.1) (held_arms more p.2))
 
-  held_prefixed : (class : Identifier) (es : Expressions) (b : Block) → PlainName class → PlainBlock b → map text_held (prefixed_held class es b) ≡ prefixed_texts class es b
-  held_prefixed class es (Begin i ds ss e) w p =
-      ap (λ z. PrefixedText class es ds ss ∷ z) (map_both (declarations_held ds) (statements_held ss) (declarations_texts ds) (statements_texts ss) (held_declarations ds p.0) (held_statements ss p.1))
-      ∙ ap (λ z. PrefixedText class es ds ss ∷ (z ++ (declarations_texts ds ++ statements_texts ss))) (sym (no_prefix_texts (Some class) w))
+  held_prefixed : (class : Identifier) (es : Expressions) (b : Block) → PlainBlock b → map text_held (prefixed_held class es b) ≡ prefixed_texts class es b
+  held_prefixed class es (Begin i ds ss e) p =
+      ap (λ z. PrefixedText class es ds ss ∷ z)
+      (map_both (all_held (standard_texts class.name)) (declarations_held ds ++ statements_held ss) (standard_texts class.name) (declarations_texts ds ++ statements_texts ss) (held_all (standard_texts class.name))
+      (map_both (declarations_held ds) (statements_held ss) (declarations_texts ds) (statements_texts ss) (held_declarations ds p.0) (held_statements ss p.1)))
 
   held_block : (b : Block) → PlainBlock b → map text_held (block_held b) ≡ block_texts b
   held_block (Begin i NoDeclaration ss e) p = held_statements ss p.1
@@ -218,27 +229,31 @@ mutual
   held_declaration (Variables type vs) p = refl
   held_declaration (Arrays type i segments) p = refl
   held_declaration (DeclareProcedure result i h a e) p = ap (λ z. ProcedureText result h a ∷ z) (held_statement a p.2)
-  held_declaration (DeclareClass prefix i h interface a end) p = held_class prefix p.0 i h interface a end p.3 (held_statement a p.3)
+  held_declaration (DeclareClass prefix i h interface a end) p = held_class prefix i h interface a end p.3 (held_statement a p.3)
 
-  held_class : (prefix : Option Identifier) → PlainPrefix prefix → (i : ℕ) (h : Heading) (interface : Interface) (a : Statement) (end : ℕ) → PlainStatement a → map text_held (statement_held a) ≡ statement_texts a → map text_held (declaration_held (DeclareClass prefix i h interface a end)) ≡ declaration_texts (DeclareClass prefix i h interface a end)
-  held_class prefix w i h interface (syntax.Compound (Begin j ds ss e)) end p one =
-      ap (λ z. ClassText prefix h ds ss ∷ z) (map_both (declarations_held ds) (statements_held ss) (declarations_texts ds) (statements_texts ss) (held_declarations ds p.0) (held_statements ss p.1))
-      ∙ ap (λ z. ClassText prefix h ds ss ∷ (z ++ (declarations_texts ds ++ statements_texts ss))) (sym (no_prefix_texts prefix w))
-  held_class prefix w i h interface (syntax.Empty n) end p one = held_alone prefix w h (syntax.Empty n) one
-  held_class prefix w i h interface (syntax.Prefixed x args b) end p one = held_alone prefix w h (syntax.Prefixed x args b) one
-  held_class prefix w i h interface (syntax.Inner n) end p one = held_alone prefix w h (syntax.Inner n) one
-  held_class prefix w i h interface (syntax.Call x) end p one = held_alone prefix w h (syntax.Call x) one
-  held_class prefix w i h interface (syntax.Assign x sides) end p one = held_alone prefix w h (syntax.Assign x sides) one
-  held_class prefix w i h interface (syntax.Choose n c x rest) end p one = held_alone prefix w h (syntax.Choose n c x rest) one
-  held_class prefix w i h interface (syntax.Repeat n c x) end p one = held_alone prefix w h (syntax.Repeat n c x) one
-  held_class prefix w i h interface (syntax.For n y sign m es x) end p one = held_alone prefix w h (syntax.For n y sign m es x) one
-  held_class prefix w i h interface (syntax.Inspect n object d x m rest) end p one = held_alone prefix w h (syntax.Inspect n object d x m rest) one
-  held_class prefix w i h interface (syntax.InspectWhen n object arms rest) end p one = held_alone prefix w h (syntax.InspectWhen n object arms rest) one
-  held_class prefix w i h interface (syntax.Activate n v process schedule) end p one = absurd p
+  held_class : (prefix : Option Identifier) (i : ℕ) (h : Heading) (interface : Interface) (a : Statement) (end : ℕ) → PlainStatement a → map text_held (statement_held a) ≡ statement_texts a → map text_held (declaration_held (DeclareClass prefix i h interface a end)) ≡ declaration_texts (DeclareClass prefix i h interface a end)
+  held_class prefix i h interface (syntax.Compound (Begin j ds ss e)) end p one =
+      ap (λ z. ClassText prefix h ds ss ∷ z)
+      (map_both (all_held (prefix_texts prefix)) (declarations_held ds ++ statements_held ss) (prefix_texts prefix) (declarations_texts ds ++ statements_texts ss) (held_all (prefix_texts prefix))
+      (map_both (declarations_held ds) (statements_held ss) (declarations_texts ds) (statements_texts ss) (held_declarations ds p.0) (held_statements ss p.1)))
+  held_class prefix i h interface (syntax.Empty n) end p one = held_alone prefix h (syntax.Empty n) one
+  held_class prefix i h interface (syntax.Prefixed x args b) end p one = held_alone prefix h (syntax.Prefixed x args b) one
+  held_class prefix i h interface (syntax.Inner n) end p one = held_alone prefix h (syntax.Inner n) one
+  held_class prefix i h interface (syntax.Call x) end p one = held_alone prefix h (syntax.Call x) one
+  held_class prefix i h interface (syntax.Assign x sides) end p one = held_alone prefix h (syntax.Assign x sides) one
+  held_class prefix i h interface (syntax.Choose n c x rest) end p one = held_alone prefix h (syntax.Choose n c x rest) one
+  held_class prefix i h interface (syntax.Repeat n c x) end p one = held_alone prefix h (syntax.Repeat n c x) one
+  held_class prefix i h interface (syntax.For n y sign m es x) end p one = held_alone prefix h (syntax.For n y sign m es x) one
+  held_class prefix i h interface (syntax.Inspect n object d x m rest) end p one = held_alone prefix h (syntax.Inspect n object d x m rest) one
+  held_class prefix i h interface (syntax.InspectWhen n object arms rest) end p one = held_alone prefix h (syntax.InspectWhen n object arms rest) one
+  held_class prefix i h interface (syntax.Activate n v process schedule) end p one = absurd p
 
-pub held_program : (prefix : Option Prefix) (b : Block) → prefix ≡ None → PlainBlock b → map text_held (program_held b) ≡ program_texts prefix b
-held_program (Some x) b e p = absurd (cc)
-held_program None (Begin i ds ss end) e p = ap (λ z. BlockText i ds ss ∷ z) (map_both (declarations_held ds) (statements_held ss) (declarations_texts ds) (statements_texts ss) (held_declarations ds p.0) (held_statements ss p.1))
+pub held_program : (prefix : Option Prefix) (b : Block) → PlainBlock b → map text_held (program_held prefix b) ≡ program_texts prefix b
+held_program (Some x) b p = start b p
+  where
+    start : (b : Block) → PlainBlock b → map text_held (prefixed_held x.class x.arguments b) ≡ program_texts (Some x) b
+    start (Begin i ds ss end) p = held_prefixed x.class x.arguments (Begin i ds ss end) p
+held_program None (Begin i ds ss end) p = ap (λ z. BlockText i ds ss ∷ z) (map_both (declarations_held ds) (statements_held ss) (declarations_texts ds) (statements_texts ss) (held_declarations ds p.0) (held_statements ss p.1))
 
 -- ---- a text that is open, with what is still to come of it
 
@@ -249,15 +264,15 @@ pub record Frame : Type 0 where
 abbrev pub frame : Text → List Part → Frame
 frame x u = record { text = x; left = u }
 
--- the mark of a prefix
+-- the mark of a prefix that is no standard name
 pub data Prefs : List Mark → Type 0 where
   unprefixed : Prefs []
   prefixed : (y : Identifier) → PlainName y → Prefs (Prefixes y ∷ [])
 
-prefs_of : (first : ℕ) (prefix : Option Identifier) → PlainPrefix prefix → Prefs (class_prefix_marks first prefix)
-unfolding class_prefix_marks
-prefs_of first None p = unprefixed
-prefs_of first (Some y) p = subst Prefs (sym (plain_prefix first y p)) (prefixed y p)
+-- a block with a prefix is a part of the text around, or the program
+pub data Stands (i : ℕ) : List Frame → List Frame → Type 0 where
+  among : {os : List Frame} (x : Text) (u : List Part) → Stands i (frame x (Pre i ∷ u) ∷ os) (frame x u ∷ os)
+  outermost : Stands i [] []
 
 pub data Laid : List Frame → List Mark → List Spot → List Held → Type 0 where
   nothing : {os : List Frame} → os ≡ [] → Laid os [] [] []
@@ -277,9 +292,12 @@ pub data Laid : List Frame → List Mark → List Spot → List Held → Type 0 
       → Laid [] (Opens kind.Program text i ∷ ms) (Token i ∷ l) (Whole (BlockText i ds ss) ∷ hs)
   block : {os : List Frame} {ms : List Mark} {l : List Spot} {hs : List Held} (text i : ℕ) (ds : Declarations) (ss : Statements) (x : Text) (u : List Part)
       → Laid (frame (BlockText i ds ss) (text_used (BlockText i ds ss)) ∷ frame x u ∷ os) ms l hs → Laid (frame x (Sub i ∷ u) ∷ os) (Opens kind.SubBlock text i ∷ ms) (Token i ∷ l) (Whole (BlockText i ds ss) ∷ hs)
-  prefixed_block : {os : List Frame} {ms : List Mark} {l : List Spot} {hs : List Held} (text i : ℕ) (class : Identifier) (es : Expressions) (ds : Declarations) (ss : Statements) (x : Text) (u : List Part) → PlainName class
-      → Laid (frame (PrefixedText class es ds ss) (text_used (PrefixedText class es ds ss)) ∷ frame x u ∷ os) ms l hs
-      → Laid (frame x (Pre i ∷ u) ∷ os) (Opens kind.Prefixed text i ∷ Prefixes class ∷ ms) (Token i ∷ l) (Whole (PrefixedText class es ds ss) ∷ hs)
+  prefixed_block : {os : List Frame} {ms : List Mark} {l : List Spot} {hs : List Held} (text i : ℕ) (class : Identifier) (es : Expressions) (ds : Declarations) (ss : Statements) {ps : List Frame} → PlainName class → Stands i ps os
+      → Laid (frame (PrefixedText class es ds ss) (text_used (PrefixedText class es ds ss)) ∷ os) ms l hs
+      → Laid ps (Opens kind.Prefixed text i ∷ Prefixes class ∷ ms) (Token i ∷ l) (Whole (PrefixedText class es ds ss) ∷ hs)
+  sets_block : {os : List Frame} {ms : List Mark} {l : List Spot} {hs : List Held} (text i : ℕ) (class : Identifier) (es : Expressions) (ds : Declarations) (ss : Statements) {ps : List Frame} → PlainName class → IsSimset class → Stands i ps os
+      → Laid (frame (PrefixedText class es ds ss) (text_used (PrefixedText class es ds ss)) ∷ os) ms l hs
+      → Laid ps (Opens kind.Prefixed text i ∷ (set_prefix i class ++ ms)) (Token i ∷ l) (Whole (PrefixedText class es ds ss) ∷ (all_held set_texts ++ hs))
   connects : {os : List Frame} {ms : List Mark} {l : List Spot} {hs : List Held} (text i : ℕ) (a : Statement) (x : Text) (u : List Part)
       → Laid (frame ConnectionText (statement_used a []) ∷ frame x u ∷ os) ms l hs → Laid (frame x (Con i a ∷ u) ∷ os) (Opens kind.Connection text i ∷ ms) (Token i ∷ l) (Joined i a ∷ hs)
   procedure : {o : Frame} {os : List Frame} {ms : List Mark} {l : List Spot} {hs : List Held} (text : ℕ) (quals : List Mark) (result : Option TypeName) (h : Heading) (a : Statement) → Quals (AreReferences (result_named result)) quals
@@ -288,6 +306,9 @@ pub data Laid : List Frame → List Mark → List Spot → List Held → Type 0 
   declares_class : {o : Frame} {os : List Frame} {ms : List Mark} {l : List Spot} {hs : List Held} (text : ℕ) (prefs : List Mark) (prefix : Option Identifier) (h : Heading) (ds : Declarations) (ss : Statements) → Prefs prefs
       → Laid (frame (ClassText prefix h ds ss) (text_used (ClassText prefix h ds ss)) ∷ o ∷ os) ms l hs
       → Laid (o ∷ os) (DeclaresClass h.name ∷ Opens kind.Class text h.name.token.0 ∷ (prefs ++ ms)) (Token h.name.token.0 ∷ l) (Whole (ClassText prefix h ds ss) ∷ hs)
+  sets_class : {o : Frame} {os : List Frame} {ms : List Mark} {l : List Spot} {hs : List Held} (text : ℕ) (y : Identifier) (h : Heading) (ds : Declarations) (ss : Statements) → PlainName y → IsSimset y
+      → Laid (frame (ClassText (Some y) h ds ss) (text_used (ClassText (Some y) h ds ss)) ∷ o ∷ os) ms l hs
+      → Laid (o ∷ os) (DeclaresClass h.name ∷ Opens kind.Class text h.name.token.0 ∷ (set_prefix h.name.token.0 y ++ ms)) (Token h.name.token.0 ∷ l) (Whole (ClassText (Some y) h ds ss) ∷ (all_held set_texts ++ hs))
   closes : {os : List Frame} {ms : List Mark} {l : List Spot} {hs : List Held} (x : Text) (end : ℕ) → Laid os ms l hs → Laid (frame x [] ∷ os) (Closes end ∷ ms) (Behind end ∷ l) hs
 
 -- ---- one part after the other
@@ -463,12 +484,29 @@ begins_block : (i : ℕ) (ds : Declarations) (ss : Statements) (x : Text) (u : L
     → Lays (frame x (Sub i ∷ u) ∷ os) (Opens kind.SubBlock i i ∷ []) (λ l. Token i ∷ l) (Whole (BlockText i ds ss) ∷ []) (frame (BlockText i ds ss) (text_used (BlockText i ds ss)) ∷ frame x u ∷ os)
 begins_block i ds ss x u os = record { before = λ ms l hs h. block i i ds ss x u h }
 
-begins_prefixed : (class : Identifier) → PlainName class → (i : ℕ) (es : Expressions) (ds : Declarations) (ss : Statements) (x : Text) (u : List Part) (os : List Frame)
-    → Lays (frame x (Pre i ∷ u) ∷ os) (prefixed_marks class i) (λ l. Token i ∷ l) (Whole (PrefixedText class es ds ss) ∷ []) (frame (PrefixedText class es ds ss) (text_used (PrefixedText class es ds ss)) ∷ frame x u ∷ os)
+begins_prefixed : (class : Identifier) → PlainName class → (i : ℕ) (es : Expressions) (ds : Declarations) (ss : Statements) (ps os : List Frame) → Stands i ps os
+    → Lays ps (prefixed_marks class i) (λ l. Token i ∷ l) (Whole (PrefixedText class es ds ss) ∷ all_held (standard_texts class.name)) (frame (PrefixedText class es ds ss) (text_used (PrefixedText class es ds ss)) ∷ os)
 unfolding prefixed_marks
-begins_prefixed class w i es ds ss x u os =
-    as_marks (λ l. Token i ∷ l) (Opens kind.Prefixed class.token.0 i ∷ Prefixes class ∷ []) (Opens kind.Prefixed class.token.0 i ∷ prefix_marks i class) (ap (λ z. Opens kind.Prefixed class.token.0 i ∷ z) (sym (plain_prefix i class w)))
-    (record { before = λ ms l hs h. prefixed_block class.token.0 i class es ds ss x u w h })
+begins_prefixed class w i es ds ss ps os stands = go (plain_standard class.name w)
+  where
+    x : Held
+    x = Whole (PrefixedText class es ds ss)
+
+    inner : Frame
+    inner = frame (PrefixedText class es ds ss) (text_used (PrefixedText class es ds ss))
+
+    head : List Mark → List Mark
+    head ms = Opens kind.Prefixed class.token.0 i ∷ ms
+
+    go : SetsOrNone (standard_prefix class.name) → Lays ps (Opens kind.Prefixed class.token.0 i ∷ prefix_marks i class) (λ l. Token i ∷ l) (Whole (PrefixedText class es ds ss) ∷ all_held (standard_texts class.name)) (frame (PrefixedText class es ds ss) (text_used (PrefixedText class es ds ss)) ∷ os)
+    go (inl e) =
+        as_held (λ l. Token i ∷ l) (x ∷ []) (x ∷ all_held (standard_texts class.name)) (ap (λ z. x ∷ all_held z) (sym (no_texts class.name e)))
+        (as_marks (λ l. Token i ∷ l) (head (Prefixes class ∷ [])) (head (prefix_marks i class)) (ap head (sym (plain_prefix i class e)))
+        (record { before = λ ms l hs h. prefixed_block class.token.0 i class es ds ss w stands h }))
+    go (inr e) =
+        as_held (λ l. Token i ∷ l) (x ∷ all_held set_texts) (x ∷ all_held (standard_texts class.name)) (ap (λ z. x ∷ all_held z) (sym (texts_of_sets class.name e)))
+        (as_marks (λ l. Token i ∷ l) (head (set_prefix i class)) (head (prefix_marks i class)) (ap head (sym (sets_prefix i class e)))
+        (record { before = λ ms l hs h. sets_block class.token.0 i class es ds ss w e stands h }))
 
 begins_connection : (i : ℕ) (a : Statement) (x : Text) (u : List Part) (os : List Frame) → Lays (frame x (Con i a ∷ u) ∷ os) (Opens kind.Connection i i ∷ []) (λ l. Token i ∷ l) (Joined i a ∷ []) (frame ConnectionText (statement_used a []) ∷ frame x u ∷ os)
 begins_connection i a x u os = record { before = λ ms l hs h. connects i i a x u h }
@@ -486,9 +524,30 @@ begins_procedure result token h a o os = record {
 }
 
 begins_class : (prefix : Option Identifier) → PlainPrefix prefix → (token : ℕ) (h : Heading) (ds : Declarations) (ss : Statements) (o : Frame) (os : List Frame)
-    → Lays (o ∷ os) (class_marks prefix token h.name) (in_name h.name) (Whole (ClassText prefix h ds ss) ∷ []) (frame (ClassText prefix h ds ss) (text_used (ClassText prefix h ds ss)) ∷ o ∷ os)
-unfolding class_marks
-begins_class prefix w token h ds ss o os = record { before = λ ms l hs k. declares_class (first_of_class prefix token) (class_prefix_marks h.name.token.0 prefix) prefix h ds ss (prefs_of h.name.token.0 prefix w) k }
+    → Lays (o ∷ os) (class_marks prefix token h.name) (in_name h.name) (Whole (ClassText prefix h ds ss) ∷ all_held (prefix_texts prefix)) (frame (ClassText prefix h ds ss) (text_used (ClassText prefix h ds ss)) ∷ o ∷ os)
+unfolding class_marks class_prefix_marks
+begins_class None w token h ds ss o os = record { before = λ ms l hs k. declares_class (first_of_class None token) [] None h ds ss unprefixed k }
+begins_class (Some y) w token h ds ss o os = go (plain_standard y.name w)
+  where
+    first : ℕ
+    first = first_of_class (Some y) token
+
+    x : Held
+    x = Whole (ClassText (Some y) h ds ss)
+
+    head : List Mark → List Mark
+    head ms = DeclaresClass h.name ∷ Opens kind.Class (first_of_class (Some y) token) h.name.token.0 ∷ ms
+
+    go : SetsOrNone (standard_prefix y.name)
+        → Lays (o ∷ os) (DeclaresClass h.name ∷ Opens kind.Class (first_of_class (Some y) token) h.name.token.0 ∷ prefix_marks h.name.token.0 y) (in_name h.name) (Whole (ClassText (Some y) h ds ss) ∷ all_held (standard_texts y.name)) (frame (ClassText (Some y) h ds ss) (text_used (ClassText (Some y) h ds ss)) ∷ o ∷ os)
+    go (inl e) =
+        as_held (in_name h.name) (x ∷ []) (x ∷ all_held (standard_texts y.name)) (ap (λ z. x ∷ all_held z) (sym (no_texts y.name e)))
+        (as_marks (in_name h.name) (head (Prefixes y ∷ [])) (head (prefix_marks h.name.token.0 y)) (ap head (sym (plain_prefix h.name.token.0 y e)))
+        (record { before = λ ms l hs k. declares_class first (Prefixes y ∷ []) (Some y) h ds ss (prefixed y w) k }))
+    go (inr e) =
+        as_held (in_name h.name) (x ∷ all_held set_texts) (x ∷ all_held (standard_texts y.name)) (ap (λ z. x ∷ all_held z) (sym (texts_of_sets y.name e)))
+        (as_marks (in_name h.name) (head (set_prefix h.name.token.0 y)) (head (prefix_marks h.name.token.0 y)) (ap head (sym (sets_prefix h.name.token.0 y e)))
+        (record { before = λ ms l hs k. sets_class first y h ds ss w e k }))
 
 ends : (x : Text) (end : ℕ) (os : List Frame) → Lays (frame x [] ∷ os) (Closes end ∷ []) (λ l. Behind end ∷ l) [] os
 ends x end os = record { before = λ ms l hs h. closes x end h }
@@ -519,18 +578,18 @@ procedure_lays result j h a e o os p body =
 
 -- what is held of a class
 class_held : (prefix : Option Identifier) (j : ℕ) (h : Heading) (i : Interface) (a : Statement) (e : ℕ)
-    → declaration_held (DeclareClass prefix j h i a e) ≡ Whole (ClassText prefix h (body_declarations a) (body_statements a)) ∷ (declarations_held (body_declarations a) ++ statements_held (body_statements a))
+    → declaration_held (DeclareClass prefix j h i a e) ≡ Whole (ClassText prefix h (body_declarations a) (body_statements a)) ∷ (all_held (prefix_texts prefix) ++ (declarations_held (body_declarations a) ++ statements_held (body_statements a)))
 class_held prefix j h i (syntax.Compound (Begin n ds ss m)) e = refl
 class_held prefix j h i (syntax.Empty n) e = refl
-class_held prefix j h i (syntax.Prefixed x args b) e = ap (λ z. Whole (ClassText prefix h NoDeclaration (Also (syntax.Prefixed x args b) NoStatement)) ∷ z) (sym (append-nil (statement_held (syntax.Prefixed x args b))))
+class_held prefix j h i (syntax.Prefixed x args b) e = ap (λ z. Whole (ClassText prefix h NoDeclaration (Also (syntax.Prefixed x args b) NoStatement)) ∷ (all_held (prefix_texts prefix) ++ z)) (sym (append-nil (statement_held (syntax.Prefixed x args b))))
 class_held prefix j h i (syntax.Inner n) e = refl
 class_held prefix j h i (syntax.Call x) e = refl
 class_held prefix j h i (syntax.Assign x sides) e = refl
-class_held prefix j h i (syntax.Choose n c x rest) e = ap (λ z. Whole (ClassText prefix h NoDeclaration (Also (syntax.Choose n c x rest) NoStatement)) ∷ z) (sym (append-nil (statement_held (syntax.Choose n c x rest))))
-class_held prefix j h i (syntax.Repeat n c x) e = ap (λ z. Whole (ClassText prefix h NoDeclaration (Also (syntax.Repeat n c x) NoStatement)) ∷ z) (sym (append-nil (statement_held (syntax.Repeat n c x))))
-class_held prefix j h i (syntax.For n y sign m es x) e = ap (λ z. Whole (ClassText prefix h NoDeclaration (Also (syntax.For n y sign m es x) NoStatement)) ∷ z) (sym (append-nil (statement_held (syntax.For n y sign m es x))))
-class_held prefix j h i (syntax.Inspect n object d x m rest) e = ap (λ z. Whole (ClassText prefix h NoDeclaration (Also (syntax.Inspect n object d x m rest) NoStatement)) ∷ z) (sym (append-nil (statement_held (syntax.Inspect n object d x m rest))))
-class_held prefix j h i (syntax.InspectWhen n object arms rest) e = ap (λ z. Whole (ClassText prefix h NoDeclaration (Also (syntax.InspectWhen n object arms rest) NoStatement)) ∷ z) (sym (append-nil (statement_held (syntax.InspectWhen n object arms rest))))
+class_held prefix j h i (syntax.Choose n c x rest) e = ap (λ z. Whole (ClassText prefix h NoDeclaration (Also (syntax.Choose n c x rest) NoStatement)) ∷ (all_held (prefix_texts prefix) ++ z)) (sym (append-nil (statement_held (syntax.Choose n c x rest))))
+class_held prefix j h i (syntax.Repeat n c x) e = ap (λ z. Whole (ClassText prefix h NoDeclaration (Also (syntax.Repeat n c x) NoStatement)) ∷ (all_held (prefix_texts prefix) ++ z)) (sym (append-nil (statement_held (syntax.Repeat n c x))))
+class_held prefix j h i (syntax.For n y sign m es x) e = ap (λ z. Whole (ClassText prefix h NoDeclaration (Also (syntax.For n y sign m es x) NoStatement)) ∷ (all_held (prefix_texts prefix) ++ z)) (sym (append-nil (statement_held (syntax.For n y sign m es x))))
+class_held prefix j h i (syntax.Inspect n object d x m rest) e = ap (λ z. Whole (ClassText prefix h NoDeclaration (Also (syntax.Inspect n object d x m rest) NoStatement)) ∷ (all_held (prefix_texts prefix) ++ z)) (sym (append-nil (statement_held (syntax.Inspect n object d x m rest))))
+class_held prefix j h i (syntax.InspectWhen n object arms rest) e = ap (λ z. Whole (ClassText prefix h NoDeclaration (Also (syntax.InspectWhen n object arms rest) NoStatement)) ∷ (all_held (prefix_texts prefix) ++ z)) (sym (append-nil (statement_held (syntax.InspectWhen n object arms rest))))
 class_held prefix j h i (syntax.Activate n w process schedule) e = refl
 
 guarded_one : (hides keeps : Bool) (y : Identifier) (os : List Frame) → Lays os (Protects hides keeps y ∷ []) (λ l. l) [] os
@@ -556,7 +615,8 @@ unfolding declaring
 class_lays prefix w j h i a e o os p q body =
     let x : Text = ClassText prefix h (body_declarations a) (body_statements a) in
     let inside : List Held = declarations_held (body_declarations a) ++ statements_held (body_statements a) in
-    as_held (in_declaration (DeclareClass prefix j h i a e)) (Whole x ∷ (inside ++ [])) (declaration_held (DeclareClass prefix j h i a e)) (ap (λ z. Whole x ∷ z) (append-nil inside) ∙ sym (class_held prefix j h i a e))
+    as_held (in_declaration (DeclareClass prefix j h i a e)) (Whole x ∷ ((all_held (prefix_texts prefix) ++ []) ++ (inside ++ []))) (declaration_held (DeclareClass prefix j h i a e))
+    (ap (λ z. Whole x ∷ (z ++ (inside ++ []))) (append-nil (all_held (prefix_texts prefix))) ∙ ap (λ z. Whole x ∷ (all_held (prefix_texts prefix) ++ z)) (append-nil inside) ∙ sym (class_held prefix j h i a e))
     (lead (in_prefix prefix) (λ l. in_name h.name (in_each in_name h.formals (in_statement a (Behind e ∷ l)))) (prefix_lays prefix (o ∷ os))
     (both (λ l. in_name h.name (in_each in_name h.formals l)) (λ l. in_statement a (Behind e ∷ l))
     (both (in_name h.name) (in_each in_name h.formals) (begins_class prefix w j h (body_declarations a) (body_statements a) o os)
@@ -575,7 +635,7 @@ mutual
   statement_lays b (syntax.Empty i) x u os p = none
   statement_lays true (syntax.Compound k) x u os p = block_lays k x u os p
   statement_lays false (syntax.Compound k) x u os p = block_lays k x u os p
-  statement_lays b (syntax.Prefixed y args k) x u os p = lead (in_expression (syntax.Named y args)) (in_block k) (expression_lays x os (syntax.Named y args) (Pre (begin_of k) ∷ u)) (prefixed_lays y args k x u os p.0 p.2)
+  statement_lays b (syntax.Prefixed y args k) x u os p = lead (in_expression (syntax.Named y args)) (in_block k) (expression_lays x os (syntax.Named y args) (Pre (begin_of k) ∷ u)) (prefixed_lays y args k (frame x (Pre (begin_of k) ∷ u) ∷ os) (frame x u ∷ os) (among x u) p.0 p.2)
   statement_lays true (syntax.Inner i) x u os p = record { before = λ ms l hs h. uses x u i (inner_mark i h) }
   statement_lays false (syntax.Inner i) x u os p = record { before = λ ms l hs h. uses x u i (breaks_rule i r.InnerOutOfPlace h) }
   statement_lays b (syntax.Call e) x u os p = expression_lays x os e u
@@ -631,15 +691,14 @@ mutual
   class_body_lays prefix (syntax.InspectWhen i object whens rest) h os p one = as_held (in_statement (syntax.InspectWhen i object whens rest)) (statement_held (syntax.InspectWhen i object whens rest)) (statement_held (syntax.InspectWhen i object whens rest) ++ []) (sym (append-nil (statement_held (syntax.InspectWhen i object whens rest)))) (one (ClassText prefix h NoDeclaration (Also (syntax.InspectWhen i object whens rest) NoStatement)))
   class_body_lays prefix (syntax.Activate i word process schedule) h os p one = absurd p
 
-  prefixed_lays : (class : Identifier) (es : Expressions) (b : Block) (x : Text) (u : List Part) (os : List Frame) → PlainName class → PlainBlock b
-      → Lays (frame x (Pre (begin_of b) ∷ u) ∷ os) (prefixed_marks class (begin_of b) ++ whole_events declaring b) (in_block b) (prefixed_held class es b) (frame x u ∷ os)
-  prefixed_lays class es (Begin i ds ss e) x u os w p =
+  prefixed_lays : (class : Identifier) (es : Expressions) (b : Block) (qs ps : List Frame) → Stands (begin_of b) qs ps → PlainName class → PlainBlock b
+      → Lays qs (prefixed_marks class (begin_of b) ++ whole_events declaring b) (in_block b) (prefixed_held class es b) ps
+  prefixed_lays class es (Begin i ds ss e) qs ps stands w p =
       let y : Text = PrefixedText class es ds ss in
-      let ps : List Frame = frame x u ∷ os in
       let D : List Mark = declarations_events declaring ds in
       let S : List Mark = statements_events declaring Inside ss in
       as_marks (in_block (Begin i ds ss e)) (prefixed_marks class i ++ ((D ++ S) ++ Closes e ∷ [])) (prefixed_marks class i ++ (D ++ (S ++ Closes e ∷ []))) (ap (λ z. prefixed_marks class i ++ z) (append_assoc D S (Closes e ∷ [])))
-      (both (λ l. Token i ∷ l) (λ l. in_declarations ds (in_statements ss (Behind e ∷ l))) (begins_prefixed class w i es ds ss x u os)
+      (both (λ l. Token i ∷ l) (λ l. in_declarations ds (in_statements ss (Behind e ∷ l))) (begins_prefixed class w i es ds ss qs ps stands)
       (inside_block ps y (text_used y) (statements_used ss []) D S (in_declarations ds) (in_statements ss) (declarations_held ds) (statements_held ss) e
       (declarations_lay ds y (statements_used ss []) ps p.0) (statements_lay false ss y [] ps p.1)))
 
@@ -669,12 +728,15 @@ mutual
       (class_lays prefix p.0.0 j h i a e (frame x (declarations_used ds u)) os p.0.1 p.0.2 (class_body_lays prefix a h (frame x (declarations_used ds u) ∷ os) p.0.3 (λ y. statement_lays false a y [] (frame x (declarations_used ds u) ∷ os) p.0.3))) (declarations_lay ds x u os p.1)
 
 -- a plain program
-pub program_laid : (p : Program) → Plain p → Laid [] (program_events declaring p) (in_block p.block []) (program_held p.block)
+pub program_laid : (p : Program) → Plain p → Laid [] (program_events declaring p) (in_block p.block []) (program_held p.prefix p.block)
 unfolding program_events declaring program_marks
-program_laid p q = go p.prefix p.block q.prefix q.block
+program_laid p q = go p.prefix p.block q.start q.block
   where
-    go : (prefix : Option Prefix) (b : Block) → prefix ≡ None → PlainBlock b → Laid [] (declaring.program prefix (begin_of b) ++ whole_events declaring b) (in_block b []) (program_held b)
-    go (Some x) b e r = absurd (cc)
+    go : (prefix : Option Prefix) (b : Block) → PlainStart prefix → PlainBlock b → Laid [] (declaring.program prefix (begin_of b) ++ whole_events declaring b) (in_block b []) (program_held prefix b)
+    go (Some x) b e r =
+        let all : Lays [] (prefixed_marks x.class (begin_of b) ++ whole_events declaring b) (in_block b) (prefixed_held x.class x.arguments b) [] = prefixed_lays x.class x.arguments b [] [] outermost e.0 r in
+        subst (λ z. Laid [] z (in_block b []) (prefixed_held x.class x.arguments b)) (append-nil _)
+        (subst (λ z. Laid [] ((prefixed_marks x.class (begin_of b) ++ whole_events declaring b) ++ []) (in_block b []) z) (append-nil _) (all.before [] [] [] (nothing refl)))
     go None (Begin i ds ss end) e r =
         let x : Text = BlockText i ds ss in
         let D : List Mark = declarations_events declaring ds in

@@ -4,7 +4,7 @@ use Rattle.std.specs.Prelude.{slice_get}
 use Rattle.std.proofs.lemmas.List.{length-append}
 use Rattle.std.proofs.lemmas.Option.{slice_get_within}
 use Rattle.sim_tree.specs.Order.{InOrder}
-use Rattle.sim_tree.specs.Syntax.{Also, Arms, Arrays, Begin, Block, Declaration, Declarations, DeclareClass, DeclareProcedure, NoArm, NoDeclaration, NoStatement, Statement, Statements, Variables, When, With, Expressions}
+use Rattle.sim_tree.specs.Syntax.{Also, Arms, Arrays, Begin, Block, Declaration, Declarations, DeclareClass, DeclareProcedure, NoArm, NoDeclaration, NoStatement, Statement, Statements, Variables, When, With, Expressions, Prefix}
 use Rattle.sim_tree.specs.Syntax as syntax
 use Rattle.sim_scope.specs.declared.types.Position.{Position}
 use Rattle.sim_scope.specs.declared.types.Position.TheVariants.{ClassBody, ClassStatement, Inside}
@@ -15,12 +15,18 @@ use Rattle.sim_scope.specs.Tables.{BlockOf}
 use Rattle.sim_scope.specs.Walk.{arms_events, block_events, declaration_events, declarations_events, program_events, statement_events, statements_events, whole_events, begin_of}
 use Rattle.inspect_types.specs.Connecting.{Connecting, Connects, Looks, Names, connections}
 use Rattle.sim_meaning.specs.Attributes.{first_in}
-use Rattle.sim_meaning.specs.Texts.{BlockText, ClassText, ProcedureText, Text, PrefixedText}
+use Rattle.sim_meaning.specs.Texts.{BlockText, ClassText, ConnectionText, ProcedureText, StandardText, Text, PrefixedText, prefix_texts, standard_texts, text}
+use Rattle.sim_scope.specs.declared.types.BlockKind.{BlockKind}
+use Rattle.sim_scope.specs.declared.types.BlockKind.TheVariants as kind
+use Rattle.sim_scope.specs.Levels.{is_standard_class}
+use Rattle.sim_agree.proofs.Fine.{KindIs}
+use Rattle.sim_agree.proofs.SetBlocks.{standard_text}
+use Rattle.sim_agree.proofs.Tables as tables
 use Rattle.sim_agree.specs.Places.{PlacedElement, PlacedExpression, PlacedName, PlacedSegment, PlacedSide}
 use Rattle.sim_agree.specs.Plain.{Plain, PlainArms, PlainBlock, PlainDeclaration, PlainDeclarations, PlainStatement, PlainStatements}
 use Rattle.sim_agree.specs.TablesOf.{TablesOf}
 use Rattle.sim_agree.proofs.Fitted.{DotsDeclaration, DotsDeclarations, DotsElement, DotsSegment, DotsSide, FittedArms, FittedBlock, FittedStatement, FittedStatements, TextFitted, Whatever, all_whatever, text_fitted, DotsExpressions}
-use Rattle.sim_agree.proofs.Laid.{Con, Held, Joined, Part, Whole, arms_held, arms_used, block_held, block_used, declaration_held, declarations_held, declarations_used, each_used, element_used, program_held, segment_used, side_used, statement_held, statement_used, statements_held, statements_used, text_used, Pre, expression_used, prefixed_held}
+use Rattle.sim_agree.proofs.Laid.{Con, Held, Joined, Part, Whole, arms_held, arms_used, block_held, block_used, declaration_held, declarations_held, declarations_used, each_used, element_used, program_held, all_held, segment_used, side_used, statement_held, statement_used, statements_held, statements_used, text_used, Pre, expression_used, prefixed_held}
 use Rattle.sim_agree.proofs.Placing as p
 use Rattle.sim_agree.proofs.Spots.{Final}
 use Rattle.sim_agree.proofs.Tables.{program_unbroken}
@@ -60,6 +66,14 @@ inside_walk s x xs es n h =
     let le : n ≤ suc n = omega arith in
     subst (LooksTo s n es) same (lower s es n (suc n) (suc n + length xs) le h)
 
+-- and behind the texts that its prefix brings
+past_walk : (s : Source) (x : Held) (ps xs : List Held) (es : List Connecting) (n : ℕ) → LooksTo s (suc n + length ps) es (suc n + length ps + length xs) → LooksTo s n es (n + length (x ∷ (ps ++ xs)))
+past_walk s x ps xs es n h =
+    let e : length (ps ++ xs) ≡ length ps + length xs = length-append ps xs in
+    let same : suc n + length ps + length xs ≡ suc n + length (ps ++ xs) = omega (arith, e) in
+    let le : suc n ≤ suc n + length ps = omega arith in
+    inside_walk s x (ps ++ xs) es n (subst (LooksTo s (suc n) es) same (lower s es (suc n) (suc n + length ps) (suc n + length ps + length xs) le h))
+
 none_walk : (s : Source) (n : ℕ) → LooksTo s n [] (n + length {A = Held} [])
 none_walk s n = let z : n ≤ n + length {A = Held} [] = omega arith in z
 
@@ -84,7 +98,7 @@ module _ (s : Source) (of : TablesOf s) (plain : Plain s.program) (order : InOrd
   -- texts stand in the program from a number on
   abbrev StandFrom : ℕ → List Held → Type 0
   StandFrom n [] = Unit {0}
-  StandFrom n (h ∷ hs) = (slice_get (program_held s.program.block) n ≡ Some h) × StandFrom (suc n) hs
+  StandFrom n (h ∷ hs) = (slice_get (program_held s.program.prefix s.program.block) n ≡ Some h) × StandFrom (suc n) hs
 
   both_stand : (n : ℕ) (xs ys : List Held) → StandFrom n (xs ++ ys) → StandFrom n xs × StandFrom (n + length xs) ys
   both_stand n [] ys h = (tt, (let e : n ≡ n + length {A = Held} [] = omega arith in subst (λ z. StandFrom z ys) e h))
@@ -93,28 +107,29 @@ module _ (s : Source) (of : TablesOf s) (plain : Plain s.program) (order : InOrd
       let l : length (x ∷ xs) ≡ suc (length xs) = omega arith in
       let e : suc n + length xs ≡ n + length (x ∷ xs) = omega (arith, l) in ((h.0, q.0), subst (λ z. StandFrom z ys) e q.1)
 
-  all_stand : (hs : List Held) (n : ℕ) → ((j : ℕ) (h : Held) → slice_get hs j ≡ Some h → slice_get (program_held s.program.block) (n + j) ≡ Some h) → StandFrom n hs
+  all_stand : (hs : List Held) (n : ℕ) → ((j : ℕ) (h : Held) → slice_get hs j ≡ Some h → slice_get (program_held s.program.prefix s.program.block) (n + j) ≡ Some h) → StandFrom n hs
   all_stand [] n f = tt
   all_stand (h ∷ hs) n f =
       let z : n + 0 ≡ n = omega arith in (
-        subst (λ m. slice_get (program_held s.program.block) m ≡ Some h) z (f 0 h refl),
-        all_stand hs (suc n) (λ j x e. (let m : n + suc j ≡ suc n + j = omega arith in subst (λ m. slice_get (program_held s.program.block) m ≡ Some x) m (f (suc j) x e))),
+        subst (λ m. slice_get (program_held s.program.prefix s.program.block) m ≡ Some h) z (f 0 h refl),
+        all_stand hs (suc n) (λ j x e. (let m : n + suc j ≡ suc n + j = omega arith in subst (λ m. slice_get (program_held s.program.prefix s.program.block) m ≡ Some x) m (f (suc j) x e))),
       )
 
-  whole : StandFrom 0 (program_held s.program.block)
-  whole = all_stand (program_held s.program.block) 0 (λ j h e. (let z : j ≡ 0 + j = omega arith in subst (λ m. slice_get (program_held s.program.block) m ≡ Some h) z e))
+  whole : StandFrom 0 (program_held s.program.prefix s.program.block)
+  whole = all_stand (program_held s.program.prefix s.program.block) 0 (λ j h e. (let z : j ≡ 0 + j = omega arith in subst (λ m. slice_get (program_held s.program.prefix s.program.block) m ≡ Some h) z e))
 
   -- a connection is the block around its first token
-  opens : (n i : ℕ) (a : Statement) → slice_get (program_held s.program.block) n ≡ Some (Joined i a) → block_at s.tables i ≡ Some n
+  opens : (n i : ℕ) (a : Statement) → slice_get (program_held s.program.prefix s.program.block) n ≡ Some (Joined i a) → block_at s.tables i ≡ Some n
+  unfolding text
   opens n i a at = go (slice_get (declared_by s.program).tables.blocks n) refl
     where
-      f : Final (declared_by s.program) (program_held s.program.block)
+      f : Final (declared_by s.program) (program_held s.program.prefix s.program.block)
       f = p.final s of plain order
 
       go : (o : Option BlockOf) → slice_get (declared_by s.program).tables.blocks n ≡ o → block_at s.tables i ≡ Some n
       go None none =
-          let lt : n < length (program_held s.program.block) = slice_get_within (program_held s.program.block) n (Joined i a) at in
-          let e : length (declared_by s.program).tables.blocks ≡ length (program_held s.program.block) = f.laid.size in
+          let lt : n < length (program_held s.program.prefix s.program.block) = slice_get_within (program_held s.program.prefix s.program.block) n (Joined i a) at in
+          let e : length (declared_by s.program).tables.blocks ≡ length (program_held s.program.prefix s.program.block) = f.laid.size in
           absurd (within (declared_by s.program).tables.blocks n (omega (arith, lt, e)) none)
         where
           within : (bs : List BlockOf) (n : ℕ) → n < length bs → slice_get bs n ≡ None → ⊥
@@ -123,15 +138,27 @@ module _ (s : Source) (of : TablesOf s) (plain : Plain s.program) (order : InOrd
           within (b ∷ bs) (suc n) lt e = let l : length (b ∷ bs) ≡ suc (length bs) = omega arith in within bs n (omega arith) e
       go (Some row) there =
           let e : row.first ≡ i = sym (ap first_in there) ∙ (f.laid.joins n i a at).0 in
-          subst (λ z. block_at s.tables z ≡ Some n) e (p.at_place s of plain order n row.first (f.laid.firsts n row there))
+          subst (λ z. block_at s.tables z ≡ Some n) e (p.at_place s of plain order n row.first (f.laid.firsts n row there (other row.kind refl)))
+        where
+          joined_kind : KindIs (Some row) (Some ConnectionText)
+          joined_kind = subst (λ o. KindIs o (Some ConnectionText)) there (subst (λ x. KindIs (slice_get (declared_by s.program).tables.blocks n) x) (p.text_at s of plain order n (Joined i a) at) ((tables.program_agrees s.program plain).fine.kinds n))
 
-  fitted : (n : ℕ) (x : Text) → slice_get (program_held s.program.block) n ≡ Some (Whole x) → TextFitted s Whatever x
+          other : (k : BlockKind) → row.kind ≡ k → is_standard_class k ≡ false
+          other kind.Program e = refl
+          other kind.SubBlock e = refl
+          other kind.Procedure e = refl
+          other kind.Class e = refl
+          other kind.Prefixed e = refl
+          other kind.Connection e = refl
+          other (kind.StandardClass which) e = absurd (let z : Some ConnectionText ≡ Some (StandardText which) = standard_text row (Some ConnectionText) which joined_kind e in cc)
+
+  fitted : (n : ℕ) (x : Text) → slice_get (program_held s.program.prefix s.program.block) n ≡ Some (Whole x) → TextFitted s Whatever x
   fitted n x at = text_fitted s Whatever plain order (program_unbroken s.program plain of.unbroken) (all_whatever s None (program_events connections s.program)) n x (p.text_at s of plain order n (Whole x) at)
 
   abbrev Are : ℕ → List Part → Type 0
   Are k u = p.AllAre s of plain order k u
 
-  parts : (n : ℕ) (x : Text) → slice_get (program_held s.program.block) n ≡ Some (Whole x) → Are n (text_used x)
+  parts : (n : ℕ) (x : Text) → slice_get (program_held s.program.prefix s.program.block) n ≡ Some (Whole x) → Are n (text_used x)
   parts n x at = p.held_parts s of plain order n (Whole x) at
 
   further : (k n m : ℕ) → k < n → k < n + m
@@ -218,16 +245,18 @@ module _ (s : Source) (of : TablesOf s) (plain : Plain s.program) (order : InOrd
         let v = p.expression_splits s of plain order k (syntax.Named class es) (Pre i ∷ u) h f in
         let x : Text = PrefixedText class es ds ss in
         let g = fitted n x st.0 in
-        let own : n < suc n = omega arith in
+        let P : List Held = all_held (standard_texts class.name) in
+        let m : ℕ = suc n + length P in
+        let own : n < suc n + length P = omega arith in
         let D : List Held = declarations_held ds in
         let H : List Held = statements_held ss in
         let E : List Connecting = declarations_events connections ds in
         let S : List Connecting = statements_events connections Inside ss in
-        let t = both_stand (suc n) D H st.1 in
-        let one = declarations_look n (suc n) own ds plainly.0 (statements_used ss []) (parts n x st.0) g.0 t.0 in
-        let two = statements_look n (suc n + length D) (further n (suc n) (length D) own) Inside false ss tt plainly.1 [] one.1 g.1 t.1 in
-        let all = both_walk s D H E (S ++ []) (suc n) one.0 (to_none s S (suc n + length D) (suc n + length D + length H) two.0) in
-        (inside_walk s (Whole x) (D ++ H) (E ++ (S ++ [])) n all, v.1.1)
+        let r = both_stand (suc n) P (D ++ H) st.1 in
+        let t = both_stand m D H r.1 in
+        let one = declarations_look n m own ds plainly.0 (statements_used ss []) (parts n x st.0) g.0 t.0 in
+        let two = statements_look n (m + length D) (further n m (length D) own) Inside false ss tt plainly.1 [] one.1 g.1 t.1 in
+        (past_walk s (Whole x) P (D ++ H) (E ++ (S ++ [])) n (both_walk s D H E (S ++ []) m one.0 (to_none s S (m + length D) (m + length D + length H) two.0)), v.1.1)
 
     block_looks : (k n : ℕ) → k < n → (w : Bool) (b : Block) → PlainBlock b → (u : List Part) → Are k (block_used b u) → FittedBlock s Whatever w b → StandFrom n (block_held b) → LooksTo s n (block_events connections b) (n + length (block_held b)) × Are k u
     block_looks k n lt w (Begin i NoDeclaration ss e) plainly u h f st = statements_look k n lt Inside w ss tt plainly.1 u h f st
@@ -269,40 +298,56 @@ module _ (s : Source) (of : TablesOf s) (plain : Plain s.program) (order : InOrd
     declaration_looks n (DeclareClass prefix i g interface (syntax.Compound (Begin j ds ss end)) e) plainly st =
         let x : Text = ClassText prefix g ds ss in
         let f = fitted n x st.0 in
-        let own : n < suc n = omega arith in
+        let P : List Held = all_held (prefix_texts prefix) in
+        let m : ℕ = suc n + length P in
+        let own : n < suc n + length P = omega arith in
         let D : List Held = declarations_held ds in
         let H : List Held = statements_held ss in
         let E : List Connecting = declarations_events connections ds in
         let S : List Connecting = statements_events connections ClassStatement ss in
-        let t = both_stand (suc n) D H st.1 in
-        let one = declarations_look n (suc n) own ds plainly.3.0 (statements_used ss []) (parts n x st.0) f.0 t.0 in
-        let two = statements_look n (suc n + length D) (further n (suc n) (length D) own) ClassStatement true ss tt plainly.3.1 [] one.1 f.1 t.1 in
-        let all = both_walk s D H E S (suc n) one.0 two.0 in
-        inside_walk s (Whole x) (D ++ H) ((E ++ S) ++ []) n (to_none s (E ++ S) (suc n) (suc n + length (D ++ H)) all)
+        let r = both_stand (suc n) P (D ++ H) st.1 in
+        let t = both_stand m D H r.1 in
+        let one = declarations_look n m own ds plainly.3.0 (statements_used ss []) (parts n x st.0) f.0 t.0 in
+        let two = statements_look n (m + length D) (further n m (length D) own) ClassStatement true ss tt plainly.3.1 [] one.1 f.1 t.1 in
+        let all = both_walk s D H E S m one.0 two.0 in
+        past_walk s (Whole x) P (D ++ H) ((E ++ S) ++ []) n (to_none s (E ++ S) m (m + length (D ++ H)) all)
     declaration_looks n (DeclareClass prefix i g interface a e) plainly st =
         let x : Text = ClassText prefix g NoDeclaration (Also a NoStatement) in
         let f = fitted n x st.0 in
-        let own : n < suc n = omega arith in
-        let y = statement_looks n (suc n) own ClassBody true a tt plainly.3 [] (parts n x st.0) f.1.0 st.1 in
+        let P : List Held = all_held (prefix_texts prefix) in
+        let m : ℕ = suc n + length P in
+        let own : n < suc n + length P = omega arith in
+        let r = both_stand (suc n) P (statement_held a) st.1 in
+        let y = statement_looks n m own ClassBody true a tt plainly.3 [] (parts n x st.0) f.1.0 r.1 in
         let A : List Connecting = statement_events connections ClassBody a in
-        inside_walk s (Whole x) (statement_held a) (A ++ []) n (to_none s A (suc n) (suc n + length (statement_held a)) y.0)
+        past_walk s (Whole x) P (statement_held a) (A ++ []) n (to_none s A m (m + length (statement_held a)) y.0)
 
   pub looks : (to : ℕ) × LooksTo s 0 (program_events connections s.program) to
   unfolding program_events connections
-  looks = go s.program.block plain.block whole
+  looks = go s.program.prefix s.program.block plain.block whole
     where
-      go : (b : Block) → PlainBlock b → StandFrom 0 (program_held b) → (to : ℕ) × LooksTo s 0 (whole_events connections b) to
-      go (Begin i ds ss end) plainly st =
-          let x : Text = BlockText i ds ss in
-          let f = fitted 0 x st.0 in
-          let own : 0 < 1 = omega arith in
+      -- the block of the program, whose parts come behind so many texts
+      behind : (x : Text) (m : ℕ) → 0 < m → (ds : Declarations) (ss : Statements) → PlainDeclarations ds → PlainStatements ss → Are 0 (declarations_used ds (statements_used ss [])) → DotsDeclarations ds → FittedStatements s Whatever false ss
+          → StandFrom m (declarations_held ds ++ statements_held ss) → (to : ℕ) × LooksTo s 0 (declarations_events connections ds ++ (statements_events connections Inside ss ++ [])) to
+      behind x m own ds ss p q parts_there dots fits st =
           let D : List Held = declarations_held ds in
           let H : List Held = statements_held ss in
           let E : List Connecting = declarations_events connections ds in
           let S : List Connecting = statements_events connections Inside ss in
-          let t = both_stand 1 D H st.1 in
-          let one = declarations_look 0 1 own ds plainly.0 (statements_used ss []) (parts 0 x st.0) f.0 t.0 in
-          let two = statements_look 0 (1 + length D) (further 0 1 (length D) own) Inside false ss tt plainly.1 [] one.1 f.1 t.1 in
-          let to : ℕ = 1 + length D + length H in
-          let le : 0 ≤ 1 = omega arith in
-          (to, lower s (E ++ (S ++ [])) 0 1 to le (both_look s E (S ++ []) 1 (1 + length D) to one.0 (to_none s S (1 + length D) to two.0)))
+          let t = both_stand m D H st in
+          let one = declarations_look 0 m own ds p (statements_used ss []) parts_there dots t.0 in
+          let two = statements_look 0 (m + length D) (further 0 m (length D) own) Inside false ss tt q [] one.1 fits t.1 in
+          let to : ℕ = m + length D + length H in
+          let le : 0 ≤ m = omega arith in
+          (to, lower s (E ++ (S ++ [])) 0 m to le (both_look s E (S ++ []) m (m + length D) to one.0 (to_none s S (m + length D) to two.0)))
+
+      go : (prefix : Option Prefix) (b : Block) → PlainBlock b → StandFrom 0 (program_held prefix b) → (to : ℕ) × LooksTo s 0 (whole_events connections b) to
+      go None (Begin i ds ss end) plainly st =
+          let x : Text = BlockText i ds ss in
+          let f = fitted 0 x st.0 in behind x 1 (omega arith) ds ss plainly.0 plainly.1 (parts 0 x st.0) f.0 f.1 st.1
+      go (Some c) (Begin i ds ss end) plainly st =
+          let x : Text = PrefixedText c.class c.arguments ds ss in
+          let f = fitted 0 x st.0 in
+          let P : List Held = all_held (standard_texts c.class.name) in
+          let r = both_stand 1 P (declarations_held ds ++ statements_held ss) st.1 in
+          let own : 0 < 1 + length P = omega arith in behind x (1 + length P) own ds ss plainly.0 plainly.1 (parts 0 x st.0) f.0 f.1 r.1

@@ -194,13 +194,26 @@ whole_begins (Begin i ds ss end) p =
     (joined (declarations_events connections ds) (statements_events connections Inside ss ++ []) first (statements_bodies program_around ss (1 + length first)) (declarations_begin ds p.0 program_around 1)
     (nothing_behind (statements_events connections Inside ss) (statements_bodies program_around ss (1 + length first)) (statements_begin false ss p.1 program_around (1 + length first))))
 
+-- with a prefix
+start_begins : (x : Prefix) (b : Block) → PlainBlock b → AllBegin (whole_events connections b) (bodies_of (Some x) b)
+unfolding connections
+start_begins x (Begin i ds ss end) p =
+    let standard : List Body = standard_bodies program_around x.class.name 1 in
+    let first : List Body = declarations_bodies program_around ds (1 + length standard) in
+    let second : List Body = statements_bodies program_around ss (1 + length standard + length first) in
+    let E = declarations_events connections ds in
+    let S = statements_events connections Inside ss in
+    behind (E ++ (S ++ [])) _ (standard ++ (first ++ second))
+    (ahead (E ++ (S ++ [])) standard (first ++ second)
+    (joined E (S ++ []) first second (declarations_begin ds p.0 program_around (1 + length standard)) (nothing_behind S second (statements_begin false ss p.1 program_around (1 + length standard + length first)))))
+
 pub program_begins : (p : Program) → Plain p → AllBegin (program_events connections p) (program_bodies p)
 unfolding connections program_events program_bodies
-program_begins p q = go p.prefix p.block q.prefix q.block
+program_begins p q = go p.prefix p.block q.block
   where
-    go : (prefix : Option Prefix) (b : Block) → prefix ≡ None → PlainBlock b → AllBegin (connections.program prefix (begin_of b) ++ whole_events connections b) (bodies_of prefix b)
-    go (Some x) b e r = absurd (cc)
-    go None b e r = whole_begins b r
+    go : (prefix : Option Prefix) (b : Block) → PlainBlock b → AllBegin (connections.program prefix (begin_of b) ++ whole_events connections b) (bodies_of prefix b)
+    go (Some x) b r = start_begins x b r
+    go None b r = whole_begins b r
 
 -- ---- the blocks that begin so
 

@@ -26,22 +26,23 @@ OwnerIs b owner e = (d : DeclNo) × (row : Declaration) × (owner ≡ Some d) ×
 abbrev pub OwnedText : BuildingOf → (owner : Option DeclNo) → (block : ℕ) → Text → Type 0
 OwnedText b owner n (ProcedureText result h a) = OwnerIs b owner (entry.Procedure (result_named result) n)
 OwnedText b owner n (ClassText prefix h ds ss) = OwnerIs b owner (entry.Class n)
+OwnedText b owner n (StandardText which) = OwnerIs b owner (entry.Class n)
 OwnedText b owner n _ = Unit {0}
 
 abbrev pub Owned : BuildingOf → List Text → Type 0
 Owned b ts = (n : ℕ) (x : Text) → slice_get ts n ≡ Some x → OwnedText b (owner_in (slice_get b.tables.blocks n)) n x
 
 -- what no specification changes
-abbrev Firm : Entry → Type 0
+abbrev pub Firm : Entry → Type 0
 Firm e = (w : Option WrittenMode) → e ≡ entry.Unspecified w → ⊥
 
-text_moves : (b c : BuildingOf) (o p : Option DeclNo) (n : ℕ) (x : Text) → ((e : Entry) → Firm e → OwnerIs b o e → OwnerIs c p e) → OwnedText b o n x → OwnedText c p n x
+pub text_moves : (b c : BuildingOf) (o p : Option DeclNo) (n : ℕ) (x : Text) → ((e : Entry) → Firm e → OwnerIs b o e → OwnerIs c p e) → OwnedText b o n x → OwnedText c p n x
 text_moves b c o p n (ProcedureText result h a) f q = f (entry.Procedure (result_named result) n) (λ w e. cc) q
 text_moves b c o p n (ClassText prefix h ds ss) f q = f (entry.Class n) (λ w e. cc) q
 text_moves b c o p n (BlockText i ds ss) f q = tt
 text_moves b c o p n ConnectionText f q = tt
 text_moves b c o p n (PrefixedText class es ds ss) f q = tt
-text_moves b c o p n (StandardText which) f q = tt
+text_moves b c o p n (StandardText which) f q = f (entry.Class n) (λ w e. cc) q
 
 pub owned_step : (b c : BuildingOf) (New : ℕ → Declaration → Type 0) (ts : List Text) → Step b c New → Owned b ts → Owned c ts
 owned_step b c New ts s v n x is = text_moves b c _ _ n x owner (v n x is)

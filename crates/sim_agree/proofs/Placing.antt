@@ -38,19 +38,19 @@ what_is_held (h ∷ hs) (suc n) x e = what_is_held hs n x e
 
 module _ (s : Source) (of : TablesOf s) (plain : Plain s.program) (order : InOrder s.program) where
   held : List Held
-  held = program_held s.program.block
+  held = program_held s.program.prefix s.program.block
 
-  texts : map text_held (program_held s.program.block) ≡ program_texts s.program.prefix s.program.block
-  texts = held_program s.program.prefix s.program.block plain.prefix plain.block
+  texts : map text_held (program_held s.program.prefix s.program.block) ≡ program_texts s.program.prefix s.program.block
+  texts = held_program s.program.prefix s.program.block plain.block
 
-  pub final : Final (declared_by s.program) (program_held s.program.block)
+  pub final : Final (declared_by s.program) (program_held s.program.prefix s.program.block)
   final = program_final s.program plain order
 
   -- ---- what is used in a text
 
   pub record Joins (k i : ℕ) (a : Statement) : Type 0 where
     pub connection : ConnectionIs s k i
-    pub held_there : slice_get (program_held s.program.block) connection.number ≡ Some (Joined i a)
+    pub held_there : slice_get (program_held s.program.prefix s.program.block) connection.number ≡ Some (Joined i a)
 
   abbrev pub PartIs : (block : ℕ) → Part → Type 0
   PartIs k (Use i) = block_at s.tables i ≡ Some k
@@ -63,11 +63,11 @@ module _ (s : Source) (of : TablesOf s) (plain : Plain s.program) (order : InOrd
   at_place n i (inl q) = ap (λ z. joined (slice_get z i)) (tables.completed_tables s of plain order).places ∙ ap joined q
   at_place n i (inr q) = absurd (let e : None ≡ Some n = sym final.laid.stack ∙ q.2 in cc)
 
-  pub text_at : (n : ℕ) (h : Held) → slice_get (program_held s.program.block) n ≡ Some h → text s n ≡ Some (text_held h)
+  pub text_at : (n : ℕ) (h : Held) → slice_get (program_held s.program.prefix s.program.block) n ≡ Some h → text s n ≡ Some (text_held h)
   unfolding text
-  text_at n h e = ap (λ z. slice_get z n) (sym texts) ∙ held_at (program_held s.program.block) n h e
+  text_at n h e = ap (λ z. slice_get z n) (sym texts) ∙ held_at (program_held s.program.prefix s.program.block) n h e
 
-  part_is : (n : ℕ) (p : Part) → Fact (declared_by s.program) (program_held s.program.block) final.to n p → PartIs n p
+  part_is : (n : ℕ) (p : Part) → Fact (declared_by s.program) (program_held s.program.prefix s.program.block) final.to n p → PartIs n p
   unfolding block_around encloser block_at
   part_is n (Use i) f = at_place n i f
   part_is n (Sub i) f = record {
@@ -108,10 +108,10 @@ module _ (s : Source) (of : TablesOf s) (plain : Plain s.program) (order : InOrd
   all_are k [] h = tt
   all_are k (p ∷ ps) h = (h p here, all_are k ps (λ q a. h q (there a)))
 
-  pub held_parts : (k : ℕ) (x : Held) → slice_get (program_held s.program.block) k ≡ Some x → AllAre k (used_held x)
+  pub held_parts : (k : ℕ) (x : Held) → slice_get (program_held s.program.prefix s.program.block) k ≡ Some x → AllAre k (used_held x)
   held_parts k x at = all_are k (used_held x) (λ p has. one p (final.laid.done k x p at has))
     where
-      one : (p : Part) → Fact (declared_by s.program) (program_held s.program.block) final.to k p ⊎ LeftAt (declared_by s.program).tables.blocks (declared_by s.program).current [] k p → PartIs k p
+      one : (p : Part) → Fact (declared_by s.program) (program_held s.program.prefix s.program.block) final.to k p ⊎ LeftAt (declared_by s.program).tables.blocks (declared_by s.program).current [] k p → PartIs k p
       one p (inl f) = part_is k p f
       one p (inr f) = absurd f
 
@@ -243,9 +243,9 @@ module _ (s : Source) (of : TablesOf s) (plain : Plain s.program) (order : InOrd
   parts_of_text : (k : ℕ) (x : Text) → text s k ≡ Some x → (x ≡ ConnectionText → ⊥) → AllAre k (text_used x)
   unfolding text
   parts_of_text k x at other =
-      let q = what_is_held (program_held s.program.block) k x (ap (λ z. slice_get z k) texts ∙ at) in go q.0 q.1 q.2
+      let q = what_is_held (program_held s.program.prefix s.program.block) k x (ap (λ z. slice_get z k) texts ∙ at) in go q.0 q.1 q.2
     where
-      go : (h : Held) → slice_get (program_held s.program.block) k ≡ Some h → text_held h ≡ x → AllAre k (text_used x)
+      go : (h : Held) → slice_get (program_held s.program.prefix s.program.block) k ≡ Some h → text_held h ≡ x → AllAre k (text_used x)
       go (Whole y) e same = subst (λ z. AllAre k (text_used z)) same (held_parts k (Whole y) e)
       go (Joined i a) e same = absurd (other (sym same))
 

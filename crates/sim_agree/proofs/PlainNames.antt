@@ -1,14 +1,16 @@
--- A name that is not spelt as a standard name that is not built is no standard prefix, and brings no texts.
-use Rattle.std.proofs.Common.{◌≡◌, ℕ, Bool, true, false, List, [], Option, Some, None, refl, sym, ap, ◌∙◌, if◌then◌else◌}
+-- A name that is not spelt as a standard name that is not built is `simset` or no standard prefix, and brings the texts of three classes or none.
+use Rattle.std.proofs.Common.{◌≡◌, ◌⊎◌, inl, inr, ℕ, Bool, true, false, List, [], ◌∷◌, ◌++◌, Option, Some, None, refl, sym, ap, ◌∙◌, subst, if◌then◌else◌}
 use Rattle.std.proofs.lemmas.Slice.Eq.{bytes_eq-Decides}
-use Rattle.std.specs.Prelude.{codes}
+use Rattle.std.specs.Prelude.{codes, map}
 use Rattle.std.specs.Str.{bytes_eq}
-use Rattle.sim_tree.specs.declared.expr.Identifier.{Identifier}
+use Rattle.sim_scope.specs.declared.types.StandardClass.TheVariants as standard
+use Rattle.sim_scope.specs.declared.types.StandardPrefix.{StandardPrefix}
 use Rattle.sim_scope.specs.declared.types.StandardPrefix.TheVariants as prefix
-use Rattle.sim_scope.specs.ClassNames.{is_name_of_classes}
+use Rattle.sim_scope.specs.Bodies.{classes_declared}
 use Rattle.sim_scope.specs.Standard.{standard_prefix}
 use Rattle.sim_static.specs.UnbuiltNames.{is_unbuilt_name}
-use Rattle.sim_meaning.specs.Texts.{prefix_texts, standard_texts}
+use Rattle.sim_meaning.specs.Texts.{StandardText, Text, prefix_texts, standard_texts}
+use Rattle.sim_tree.specs.declared.expr.Identifier.{Identifier}
 use Rattle.sim_agree.specs.Plain.{PlainPrefix}
 
 -- it is not spelt as one of these
@@ -19,25 +21,40 @@ other_name name word plain unbuilt = go (bytes_eq name word) refl
     go false is = is
     go true is = absurd (let same : false ≡ true = sym plain ∙ ap is_unbuilt_name ((bytes_eq-Decides name word).0 is) ∙ unbuilt in cc)
 
-simset_unbuilt : is_unbuilt_name (codes "simset") ≡ true
-unfolding is_unbuilt_name is_name_of_classes
-simset_unbuilt = refl
-
 simulation_unbuilt : is_unbuilt_name (codes "simulation") ≡ true
-unfolding is_unbuilt_name is_name_of_classes
+unfolding is_unbuilt_name
 simulation_unbuilt = refl
 
-pub no_standard_prefix : (name : List ℕ) → is_unbuilt_name name ≡ false → standard_prefix name ≡ None
-unfolding standard_prefix
-no_standard_prefix name plain =
-    go (bytes_eq name (codes "simset")) (bytes_eq name (codes "simulation")) (other_name name (codes "simset") plain simset_unbuilt) (other_name name (codes "simulation") plain simulation_unbuilt)
-  where
-    go : (a b : Bool) → a ≡ false → b ≡ false → (if a then Some prefix.Simset else if b then Some prefix.Simulation else None) ≡ None
-    go true b sets other = absurd (cc)
-    go false true sets other = absurd (cc)
-    go false false sets other = refl
+-- `simset` or no standard prefix
+abbrev pub SetsOrNone : Option StandardPrefix → Type 0
+SetsOrNone o = (o ≡ None) ⊎ (o ≡ Some prefix.Simset)
 
-pub no_prefix_texts : (prefix : Option Identifier) → PlainPrefix prefix → prefix_texts prefix ≡ []
+pub plain_standard : (name : List ℕ) → is_unbuilt_name name ≡ false → SetsOrNone (standard_prefix name)
+unfolding standard_prefix
+plain_standard name plain = go (bytes_eq name (codes "simset")) (bytes_eq name (codes "simulation")) (other_name name (codes "simulation") plain simulation_unbuilt)
+  where
+    go : (a b : Bool) → b ≡ false → SetsOrNone (if a then Some prefix.Simset else if b then Some prefix.Simulation else None)
+    go true b other = inr refl
+    go false true other = absurd (cc)
+    go false false other = inl refl
+
+-- the texts of the classes of SIMSET
+abbrev pub set_texts : List Text
+set_texts = StandardText standard.Linkage ∷ StandardText standard.Link ∷ StandardText standard.Head ∷ []
+
+pub no_texts : (name : List ℕ) → standard_prefix name ≡ None → standard_texts name ≡ []
 unfolding standard_texts
-no_prefix_texts None p = refl
-no_prefix_texts (Some x) p = rw (no_standard_prefix x.name p) refl
+no_texts name e = ap (λ o. map StandardText (classes_declared o)) e
+
+pub texts_of_sets : (name : List ℕ) → standard_prefix name ≡ Some prefix.Simset → standard_texts name ≡ set_texts
+unfolding standard_texts
+texts_of_sets name e = ap (λ o. map StandardText (classes_declared o)) e
+
+-- what is so of texts is so of them behind those that a prefix brings
+pub behind_prefix : (P : List Text → Type 0) (prefix : Option Identifier) → PlainPrefix prefix → (xs : List Text) → P xs → P (set_texts ++ xs) → P (prefix_texts prefix ++ xs)
+behind_prefix P None w xs a b = a
+behind_prefix P (Some y) w xs a b = go (plain_standard y.name w)
+  where
+    go : SetsOrNone (standard_prefix y.name) → P (standard_texts y.name ++ xs)
+    go (inl e) = subst (λ z. P (z ++ xs)) (sym (no_texts y.name e)) a
+    go (inr e) = subst (λ z. P (z ++ xs)) (sym (texts_of_sets y.name e)) b

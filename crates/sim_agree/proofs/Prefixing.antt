@@ -14,28 +14,31 @@ use Rattle.sim_scope.specs.declared.scopes.Qualification.{Qualification}
 use Rattle.sim_scope.specs.declared.types.BlockKind.TheVariants as kind
 use Rattle.sim_scope.specs.declared.types.Entry.TheVariants as entry
 use Rattle.sim_scope.specs.declared.types.StandardPrefix.{StandardPrefix}
+use Rattle.sim_scope.specs.declared.types.StandardPrefix.TheVariants as standard
 use Rattle.sim_scope.specs.Access.{encloser, is_connection, is_kind, is_so, joined, around}
 use Rattle.sim_scope.specs.Along.{first_along, from_next}
-use Rattle.sim_scope.specs.Levels.{base, base_in, class_block, class_block_in, holds}
+use Rattle.sim_scope.specs.Levels.{base, base_in, class_block, class_block_in, holds, standard_in}
 use Rattle.sim_scope.specs.Runs.{run}
-use Rattle.sim_scope.specs.Scopes.{declared_in, lookup, shown, shown_of}
+use Rattle.sim_scope.specs.Scopes.{shown, shown_of}
 use Rattle.sim_scope.specs.Source.{level_in}
 use Rattle.sim_scope.specs.Standard.{standard_prefix}
-use Rattle.sim_scope.specs.Tables.{BlockOf, Tables, with_base_at}
+use Rattle.sim_scope.specs.Tables.{BlockOf, Tables, with_base_at, with_standard_at}
 use Rattle.sim_scope.specs.Walk.{program_events}
 use Rattle.sim_scope.proofs.Kept.{kept_set, set_here, set_other}
 use Rattle.sim_scope.proofs.Walks.{run-append}
 use Rattle.sim_static.specs.UnbuiltNames.{is_unbuilt_name}
+use Rattle.sim_meaning.specs.Entries.{numbers_in}
+use Rattle.sim_sound.specs.Held.{Among}
 use Rattle.prefix_bind.specs.declared.prefixes.PrefixFound.{PrefixFound}
 use Rattle.prefix_bind.specs.declared.prefixes.PrefixFound.TheVariants as found
 use Rattle.prefix_bind.specs.Prefixes.{block_prefixed, class_or_nothing, deepest, home_from, level_prefixed, numbers_to, prefix_found, prefix_from, prefix_of, prefix_of_level, prefix_outside, prefixed, shown_outward, shown_prefix, standard_or_nothing, unless_connection, with_prefix}
 use Rattle.virtual_match.specs.Qualifying.{entry_to, qualified}
 use Rattle.inspect_types.specs.Connecting.{connections}
 use Rattle.sim_static.specs.Check.{completed}
-use Rattle.sim_agree.proofs.Completing.{AllReferences, Completes, HasNext, Requalified, Rows, bare_row, class_was, connections_complete, entry_is_class, kind_in, references_qualified, same_rows}
+use Rattle.sim_agree.proofs.Completing.{AllReferences, Completes, HasNext, Requalified, Rows, bare_row, prefixable_base, class_was, connections_complete, entry_is_class, kind_in, references_qualified, same_rows}
 use Rattle.sim_agree.proofs.Openings.{AllOpened, Opened}
-use Rattle.sim_agree.proofs.PlainNames.{no_standard_prefix}
-use Rattle.sim_agree.proofs.Unprefixed.{Extras, Unprefixed, extras_in, is_wrong, shown_next, is_prefixable}
+use Rattle.sim_agree.proofs.PlainNames.{SetsOrNone, plain_standard}
+use Rattle.sim_agree.proofs.Unprefixed.{NoVirtuals, Showing, StandsIn, brought_of, extras_in, is_wrong, shown_next, is_prefixable}
 
 -- a block and the levels of its prefixes
 pub data Reaches (T : Tables) : (outer level : ℕ) → Type 0 where
@@ -58,8 +61,7 @@ pub record PrefixOf (D T : Tables) (k c : ℕ) : Type 0 where
   pub around : HomeFrom D row.encloser outer
   pub level : ℕ
   pub reaches : Reaches T outer level
-  pub name : List ℕ
-  pub listed : lookup D level name ≡ Some class
+  pub stands : StandsIn D level class
 
 -- the tables so far
 pub record Based (D T : Tables) : Type 0 where
@@ -69,7 +71,11 @@ pub record Based (D T : Tables) : Type 0 where
   pub declarations : T.declarations ≡ D.declarations
   pub qualifications : T.qualifications ≡ D.qualifications
   pub protections : T.protections ≡ D.protections
-  pub bases : (k c : ℕ) → base T k ≡ Some c → PrefixOf D T k c
+  -- by its prefix, or as a class of SIMSET, which has it from the start
+  pub bases : (k c : ℕ) → base T k ≡ Some c → PrefixOf D T k c ⊎ (base D k ≡ Some c)
+  pub standards : (k : ℕ) → SetsOrNone (standard_in (slice_get T.blocks k))
+  pub apart : (k c : ℕ) → base T k ≡ Some c → standard_in (slice_get T.blocks k) ≡ None
+  pub kept : (k c : ℕ) → base D k ≡ Some c → base T k ≡ Some c
 
 -- a level of blocks, and the blocks of it, are still to come
 abbrev Later : Tables → (level block : ℕ) → ℕ → Type 0
@@ -77,7 +83,7 @@ Later D l i k = (l < level_in (slice_get D.blocks k)) ⊎ ((level_in (slice_get 
 
 record So (D T : Tables) (l i : ℕ) : Type 0 where
   based : Based D T
-  later : (k : ℕ) → Later D l i k → base T k ≡ None
+  later : (k : ℕ) → Later D l i k → (base T k ≡ base D k) × (standard_in (slice_get T.blocks k) ≡ None)
 
 -- ---- rows without their bases
 
@@ -96,18 +102,36 @@ kind_bare : (o : Option BlockOf) → kind_in (bare_row o) ≡ kind_in o
 kind_bare None = refl
 kind_bare (Some row) = refl
 
-extras_bare : (o : Option BlockOf) → extras_in (bare_row o) ≡ extras_in o
-extras_bare None = refl
-extras_bare (Some row) = refl
+wrong_bare : (o : Option BlockOf) → (extras_in (bare_row o)).wrong ≡ (extras_in o).wrong
+wrong_bare None = refl
+wrong_bare (Some row) = refl
 
-found_bare : (name : List ℕ) (o : Option BlockOf) → declared_in (bare_row o) name ≡ declared_in o name
-found_bare name None = refl
-found_bare name (Some row) = refl
+numbers_bare : (o : Option BlockOf) → numbers_in (bare_row o) ≡ numbers_in o
+numbers_bare None = refl
+numbers_bare (Some row) = refl
+
+brought_bare : (o : Option BlockOf) → brought_of (bare_row o) ≡ brought_of o
+brought_bare None = refl
+brought_bare (Some row) = refl
+
+standard_extras : (o : Option BlockOf) → (extras_in o).standard ≡ standard_in o
+standard_extras None = refl
+standard_extras (Some row) = refl
+
+-- tables with the same blocks, but for next levels and standard prefixes
+pub showing_kept : (D T : Tables) → Showing D → ((k : ℕ) → bare_row (slice_get T.blocks k) ≡ bare_row (slice_get D.blocks k)) → ((k : ℕ) → SetsOrNone (standard_in (slice_get T.blocks k))) → ((k : ℕ) (d : DeclNo) → StandsIn D k d → StandsIn T k d) → NoVirtuals T.declarations → Showing T
+showing_kept D T w same standards moved virtuals = record {
+  right = λ k. sym (wrong_bare (slice_get T.blocks k)) ∙ ap (λ o. (extras_in o).wrong) (same k) ∙ wrong_bare (slice_get D.blocks k) ∙ w.right k;
+  standards = λ k. subst SetsOrNone (sym (standard_extras (slice_get T.blocks k))) (standards k);
+  virtuals = virtuals;
+  lists = λ k d a. moved k d (w.lists k d (subst (λ z. Among d z) (sym (numbers_bare (slice_get T.blocks k)) ∙ ap numbers_in (same k) ∙ numbers_bare (slice_get D.blocks k)) a));
+  brings = λ k d a. moved k d (w.brings k d (subst (λ z. Among d z) (sym (brought_bare (slice_get T.blocks k)) ∙ ap brought_of (same k) ∙ brought_bare (slice_get D.blocks k)) a));
+}
 
 -- the row before
-row_was : (o : Option BlockOf) (row : BlockOf) → bare_row (Some row) ≡ bare_row o → (old : BlockOf) × (o ≡ Some old) × (record row { base = None } ≡ record old { base = None })
+row_was : (o : Option BlockOf) (row : BlockOf) → bare_row (Some row) ≡ bare_row o → (old : BlockOf) × (o ≡ Some old) × (record row { base = None; standard = None } ≡ record old { base = None; standard = None })
 row_was None row e = absurd (cc)
-row_was (Some old) row e = (old, refl, some_same (record row { base = None }) (record old { base = None }) e)
+row_was (Some old) row e = (old, refl, some_same (record row { base = None; standard = None }) (record old { base = None; standard = None }) e)
 
 reaches_more : (T U : Tables) → ((j b : ℕ) → base T j ≡ Some b → base U j ≡ Some b) → (k l : ℕ) → Reaches T k l → Reaches U k l
 reaches_more T U more k l itself = itself
@@ -124,33 +148,32 @@ prefix_more D T U more k c p = record {
   around = p.around;
   level = p.level;
   reaches = reaches_more T U more p.outer p.level p.reaches;
-  name = p.name;
-  listed = p.listed;
+  stands = p.stands;
 }
 
 -- what a block shows is declared in one of its levels
-pub shown_reaches : (T : Tables) → Unprefixed T → (n : ℕ) (from : Option ℕ) (k : ℕ) (name : List ℕ) (d : DeclNo) → shown_of T n from k name ≡ Some d → (l : ℕ) × Reaches T k l × (lookup T l name ≡ Some d)
+pub shown_reaches : (T : Tables) → Showing T → (n : ℕ) (from : Option ℕ) (k : ℕ) (name : List ℕ) (d : DeclNo) → shown_of T n from k name ≡ Some d → (l : ℕ) × Reaches T k l × StandsIn T l d
 unfolding shown_of
 shown_reaches T w zero from k name d e = absurd (cc)
 shown_reaches T w (suc n) from k name d e = go (shown_next T w n from k name d e) (λ b f. shown_reaches T w n from b name d f)
   where
-    go : (lookup T k name ≡ Some d) ⊎ ((c : ℕ) × (base T k ≡ Some c) × (shown_of T n from c name ≡ Some d)) → ((b : ℕ) → shown_of T n from b name ≡ Some d → (l : ℕ) × Reaches T b l × (lookup T l name ≡ Some d)) → (l : ℕ) × Reaches T k l × (lookup T l name ≡ Some d)
+    go : StandsIn T k d ⊎ ((c : ℕ) × (base T k ≡ Some c) × (shown_of T n from c name ≡ Some d)) → ((b : ℕ) → shown_of T n from b name ≡ Some d → (l : ℕ) × Reaches T b l × StandsIn T l d) → (l : ℕ) × Reaches T k l × StandsIn T l d
     go (inl h) rest = (k, itself, h)
     go (inr h) rest = let q = rest h.0 h.2 in (q.0, through h.1 q.1, q.2)
 
-module _ (D : Tables) (bare : Unprefixed D) where
+-- so far only classes of SIMSET have a next level
+module _ (D : Tables) (bare : Showing D) (bottom : (k : ℕ) (row : BlockOf) → slice_get D.blocks k ≡ Some row → is_prefixable row.kind ≡ true → base D k ≡ None) where
   -- ---- one block
 
   module _ (T : Tables) (s : Based D T) where
-    plainly : Unprefixed T
-    plainly = record {
-      blocks = λ k. sym (extras_bare (slice_get T.blocks k)) ∙ ap extras_in (s.blocks k) ∙ extras_bare (slice_get D.blocks k) ∙ bare.blocks k;
-      virtuals = λ d row at. bare.virtuals d row (ap (λ z. slice_get z d) (sym s.declarations) ∙ at);
-    }
+    stands_same : (k : ℕ) (d : DeclNo) → StandsIn D k d → StandsIn T k d
+    stands_same k d q = (q.0, ap (λ z. slice_get z d.0) s.declarations ∙ q.1, q.2)
 
-    same_lookup : (k : ℕ) (name : List ℕ) → lookup T k name ≡ lookup D k name
-    unfolding lookup
-    same_lookup k name = sym (found_bare name (slice_get T.blocks k)) ∙ ap (λ o. declared_in o name) (s.blocks k) ∙ found_bare name (slice_get D.blocks k)
+    stands_back : (k : ℕ) (d : DeclNo) → StandsIn T k d → StandsIn D k d
+    stands_back k d q = (q.0, ap (λ z. slice_get z d.0) (sym s.declarations) ∙ q.1, q.2)
+
+    plainly : Showing T
+    plainly = showing_kept D T bare s.blocks s.standards stands_same (λ d row at. bare.virtuals d row (ap (λ z. slice_get z d) (sym s.declarations) ∙ at))
 
     same_class : (d : DeclNo) → class_block T d ≡ class_block D d
     unfolding class_block
@@ -189,37 +212,41 @@ module _ (D : Tables) (bare : Unprefixed D) where
     -- what is found
     Says : ℕ → PrefixFound → Type 0
     Says k (found.Class c) = PrefixOf D T k c
-    Says k (found.Standard which) = ⊥
+    Says k (found.Standard which) = (which ≡ standard.Simset) × (base D k ≡ None)
     Says k found.Nothing = Unit {0}
 
-    says_nothing : (k : ℕ) (o : Option StandardPrefix) → o ≡ None → Says k (standard_or_nothing o)
+    says_standard : (k : ℕ) (o : Option StandardPrefix) → SetsOrNone o → base D k ≡ None → Says k (standard_or_nothing o)
     unfolding Says
-    says_nothing k None e = tt
-    says_nothing k (Some which) e = absurd (cc)
+    says_standard k None e none = tt
+    says_standard k (Some which) (inl e) none = absurd (cc)
+    says_standard k (Some which) (inr e) none = ((let same : which ≡ standard.Simset = cc in same), none)
 
     says_found : (k : ℕ) (row : BlockOf) → slice_get T.blocks k ≡ Some row → Says k (prefix_of T row)
     unfolding Says prefix_of shown
     says_found k row at = go row.prefix refl
       where
-        was : (old : BlockOf) × (slice_get D.blocks k ≡ Some old) × (record row { base = None } ≡ record old { base = None })
+        was : (old : BlockOf) × (slice_get D.blocks k ≡ Some old) × (record row { base = None; standard = None } ≡ record old { base = None; standard = None })
         was = row_was (slice_get D.blocks k) row (sym (ap bare_row at) ∙ s.blocks k)
 
         same_kinds : row.kind ≡ (was.0).kind
         same_kinds = ap (λ (z : BlockOf). z.kind) was.2
 
         right : is_wrong row.kind row.prefix ≡ false
-        right = ap (λ (z : Extras). z.wrong) (sym (ap extras_in at) ∙ plainly.blocks k)
+        right = sym (ap (λ o. (extras_in o).wrong) at) ∙ plainly.right k
 
         both : (a b : Bool) → (not a || b) ≡ false → (a ≡ true) × (b ≡ false)
         both true b e = (refl, e)
         both false b e = absurd (cc)
 
-        outside : (x : Identifier) → is_unbuilt_name x.name ≡ false → (o : Option ℕ) → Says k (prefix_outside T x o)
-        outside x plain o = pick (holds (shown_outward T x.token.0 x.name) o)
+        no_base : is_prefixable row.kind ≡ true → base D k ≡ None
+        no_base p = bottom k was.0 was.1 (ap is_prefixable (sym same_kinds) ∙ p)
+
+        outside : (x : Identifier) → is_unbuilt_name x.name ≡ false → is_prefixable row.kind ≡ true → (o : Option ℕ) → Says k (prefix_outside T x o)
+        outside x plain class o = pick (holds (shown_outward T x.token.0 x.name) o)
           where
             pick : (c : Bool) → Says k (if c then found.Nothing else standard_or_nothing (standard_prefix x.name))
             pick true = tt
-            pick false = says_nothing k (standard_prefix x.name) (no_standard_prefix x.name plain)
+            pick false = says_standard k (standard_prefix x.name) (plain_standard x.name plain) (no_base class)
 
         of_class : (u : ℕ) → HomeFrom D row.encloser u → (x : Identifier) (d : DeclNo) → shown_of T (length T.blocks) (Some x.token.0) u x.name ≡ Some d → (o : Option ℕ) → class_block T d ≡ o → is_prefixable row.kind ≡ true → Says k (class_or_nothing o)
         of_class u around x d e None is class = tt
@@ -234,12 +261,11 @@ module _ (D : Tables) (bare : Unprefixed D) where
               around = subst (λ o. HomeFrom D o u) (ap (λ (z : BlockOf). z.encloser) was.2) around;
               level = q.0;
               reaches = q.1;
-              name = x.name;
-              listed = sym (same_lookup q.0 x.name) ∙ q.2;
+              stands = stands_back q.0 d q.2;
             }
 
         of_shown : (u : ℕ) → HomeFrom D row.encloser u → (x : Identifier) → is_unbuilt_name x.name ≡ false → is_prefixable row.kind ≡ true → (o : Option DeclNo) → shown_of T (length T.blocks) (Some x.token.0) u x.name ≡ o → Says k (shown_prefix T x u o)
-        of_shown u around x plain class None e = outside x plain (encloser T u)
+        of_shown u around x plain class None e = outside x plain class (encloser T u)
         of_shown u around x plain class (Some d) e = of_class u around x d e (class_block T d) refl class
 
         go : (p : Option Identifier) → row.prefix ≡ p → Says k (prefix_found T row p)
@@ -249,7 +275,7 @@ module _ (D : Tables) (bare : Unprefixed D) where
             at_home x b.0 b.1 (home_from T row.encloser) refl
           where
             at_home : (x : Identifier) → is_prefixable row.kind ≡ true → is_unbuilt_name x.name ≡ false → (o : Option ℕ) → home_from T row.encloser ≡ o → Says k (prefix_from T x o)
-            at_home x class plain None e = says_nothing k (standard_prefix x.name) (no_standard_prefix x.name plain)
+            at_home x class plain None e = says_standard k (standard_prefix x.name) (plain_standard x.name plain) (no_base class)
             at_home x class plain (Some u) e = of_shown u (home_is row.encloser u e) x plain class (shown_of T (length T.blocks) (Some x.token.0) u x.name) refl
 
   -- one block gets its prefix
@@ -272,6 +298,9 @@ module _ (D : Tables) (bare : Unprefixed D) where
         qualifications = s.based.qualifications;
         protections = s.based.protections;
         bases = λ k d e. bases k d (nat_eq i k) refl e;
+        standards = λ j. subst SetsOrNone (sym (kept_set standard_in T.blocks i row new at refl j)) (s.based.standards j);
+        apart = λ k d e. apart k d (nat_eq i k) refl e;
+        kept = λ k d e. kept k d (nat_eq i k) refl (s.based.kept k d e);
       };
       later = λ k q. later k (nat_eq i k) refl q;
     }
@@ -285,8 +314,19 @@ module _ (D : Tables) (bare : Unprefixed D) where
         own_level : level_in (slice_get D.blocks i) ≡ l
         own_level = sym (same_level T s.based i) ∙ ap level_in at ∙ level
 
+        still : (base_in (slice_get T.blocks i) ≡ base_in (slice_get D.blocks i)) × (standard_in (slice_get T.blocks i) ≡ None)
+        still = s.later i (inr (own_level, (let z : i ≤ i = omega arith in z)))
+
         none : base_in (slice_get T.blocks i) ≡ None
-        none = s.later i (inr (own_level, (let z : i ≤ i = omega arith in z)))
+        none = still.0 ∙ bottom i p.row p.at p.kind
+
+        kept : (k d : ℕ) (z : Bool) → nat_eq i k ≡ z → base_in (slice_get T.blocks k) ≡ Some d → base_in (slice_get (slice_set T.blocks i (record row { base = Some c })) k) ≡ Some d
+        kept k d true z e = let same : i ≡ k = grind (arith, nat_tests) in absurd (let f : None ≡ Some d = sym none ∙ ap (λ m. base_in (slice_get T.blocks m)) same ∙ e in cc)
+        kept k d false z e = ap base_in (set_other T.blocks i k new z) ∙ e
+
+        apart : (k d : ℕ) (z : Bool) → nat_eq i k ≡ z → base_in (slice_get (slice_set T.blocks i (record row { base = Some c })) k) ≡ Some d → standard_in (slice_get (slice_set T.blocks i (record row { base = Some c })) k) ≡ None
+        apart k d true z e = let same : i ≡ k = grind (arith, nat_tests) in kept_set standard_in T.blocks i row new at refl k ∙ subst (λ m. standard_in (slice_get T.blocks m) ≡ None) same still.1
+        apart k d false z e = kept_set standard_in T.blocks i row new at refl k ∙ s.based.apart k d (sym (ap base_in (set_other T.blocks i k new z)) ∙ e)
 
         more : (j b : ℕ) → base T j ≡ Some b → base U j ≡ Some b
         more j b e = pick (nat_eq i j) refl
@@ -295,29 +335,93 @@ module _ (D : Tables) (bare : Unprefixed D) where
             pick true z = let same : i ≡ j = grind (arith, nat_tests) in absurd (let f : None ≡ Some b = sym none ∙ ap (λ m. base_in (slice_get T.blocks m)) same ∙ e in cc)
             pick false z = ap base_in (set_other T.blocks i j new z) ∙ e
 
-        bases : (k d : ℕ) (z : Bool) → nat_eq i k ≡ z → base_in (slice_get (slice_set T.blocks i (record row { base = Some c })) k) ≡ Some d → PrefixOf D U k d
+        bases : (k d : ℕ) (z : Bool) → nat_eq i k ≡ z → base_in (slice_get (slice_set T.blocks i (record row { base = Some c })) k) ≡ Some d → PrefixOf D U k d ⊎ (base_in (slice_get D.blocks k) ≡ Some d)
         bases k d true z e =
             let same : i ≡ k = grind (arith, nat_tests) in
             let is : Some c ≡ Some d = sym (ap base_in (subst (λ m. slice_get (slice_set T.blocks i (record row { base = Some c })) m ≡ Some new) same (set_here T.blocks i row new at))) ∙ e in
-            subst (λ m. PrefixOf D U m d) same (subst (λ m. PrefixOf D U i m) (some_same c d is) (prefix_more D T U more i c p))
-        bases k d false z e = prefix_more D T U more k d (s.based.bases k d (sym (ap base_in (set_other T.blocks i k new z)) ∙ e))
+            inl (subst (λ m. PrefixOf D U m d) same (subst (λ m. PrefixOf D U i m) (some_same c d is) (prefix_more D T U more i c p)))
+        bases k d false z e = go (s.based.bases k d (sym (ap base_in (set_other T.blocks i k new z)) ∙ e))
+          where
+            go : PrefixOf D T k d ⊎ (base_in (slice_get D.blocks k) ≡ Some d) → PrefixOf D U k d ⊎ (base_in (slice_get D.blocks k) ≡ Some d)
+            go (inl q) = inl (prefix_more D T U more k d q)
+            go (inr q) = inr q
 
-        later : (k : ℕ) (z : Bool) → nat_eq i k ≡ z → Later D l (suc i) k → base_in (slice_get (slice_set T.blocks i (record row { base = Some c })) k) ≡ None
+        later : (k : ℕ) (z : Bool) → nat_eq i k ≡ z → Later D l (suc i) k → (base_in (slice_get (slice_set T.blocks i (record row { base = Some c })) k) ≡ base_in (slice_get D.blocks k)) × (standard_in (slice_get (slice_set T.blocks i (record row { base = Some c })) k) ≡ None)
         later k true z q = absurd (beyond (let same : i ≡ k = grind (arith, nat_tests) in same) q)
           where
             beyond : i ≡ k → Later D l (suc i) k → ⊥
             beyond same (inl lt) = let e : level_in (slice_get D.blocks k) ≡ l = subst (λ m. level_in (slice_get D.blocks m) ≡ l) same own_level in omega arith
             beyond same (inr h) = let le : suc i ≤ k = h.1 in omega arith
-        later k false z q = ap base_in (set_other T.blocks i k new z) ∙ s.later k (not_later k q)
+        later k false z q = let w = s.later k (not_later k q) in (ap base_in (set_other T.blocks i k new z) ∙ w.0, kept_set standard_in T.blocks i row new at refl k ∙ w.1)
+
+    -- or it is `simset`
+    brings : (row : BlockOf) → slice_get T.blocks i ≡ Some row → row.level ≡ l → (which : StandardPrefix) → which ≡ standard.Simset → base D i ≡ None → So D (record T { blocks = slice_set T.blocks i (record row { standard = Some which }) }) l (suc i)
+    unfolding base
+    brings row at level which sets none = record {
+      based = record {
+        size = length-set T.blocks i new ∙ s.based.size;
+        blocks = λ j. kept_set bare_row T.blocks i row new at refl j ∙ s.based.blocks j;
+        places = s.based.places;
+        declarations = s.based.declarations;
+        qualifications = s.based.qualifications;
+        protections = s.based.protections;
+        bases = λ k d e. bases k d (s.based.bases k d (was k d e));
+        standards = λ j. standards j (nat_eq i j) refl;
+        apart = λ k d e. apart k d (nat_eq i k) refl e;
+        kept = λ k d e. kept_set base_in T.blocks i row new at refl k ∙ s.based.kept k d e;
+      };
+      later = λ k q. later k (nat_eq i k) refl q;
+    }
+      where
+        new : BlockOf
+        new = record row { standard = Some which }
+
+        U : Tables
+        U = record T { blocks = slice_set T.blocks i (record row { standard = Some which }) }
+
+        own_level : level_in (slice_get D.blocks i) ≡ l
+        own_level = sym (same_level T s.based i) ∙ ap level_in at ∙ level
+
+        was : (k d : ℕ) → base_in (slice_get (slice_set T.blocks i (record row { standard = Some which })) k) ≡ Some d → base_in (slice_get T.blocks k) ≡ Some d
+        was k d e = sym (kept_set base_in T.blocks i row new at refl k) ∙ e
+
+        more : (j b : ℕ) → base T j ≡ Some b → base U j ≡ Some b
+        more j b e = kept_set base_in T.blocks i row new at refl j ∙ e
+
+        bases : (k d : ℕ) → PrefixOf D T k d ⊎ (base_in (slice_get D.blocks k) ≡ Some d) → PrefixOf D U k d ⊎ (base_in (slice_get D.blocks k) ≡ Some d)
+        bases k d (inl q) = inl (prefix_more D T U more k d q)
+        bases k d (inr q) = inr q
+
+        still : base_in (slice_get T.blocks i) ≡ None
+        still = (s.later i (inr (own_level, (let z : i ≤ i = omega arith in z)))).0 ∙ none
+
+        standards : (j : ℕ) (z : Bool) → nat_eq i j ≡ z → SetsOrNone (standard_in (slice_get (slice_set T.blocks i (record row { standard = Some which })) j))
+        standards j true z =
+            let same : i ≡ j = grind (arith, nat_tests) in
+            subst (λ m. SetsOrNone (standard_in (slice_get (slice_set T.blocks i (record row { standard = Some which })) m))) same (subst (λ o. SetsOrNone (standard_in o)) (sym (set_here T.blocks i row new at)) (inr (ap Some sets)))
+        standards j false z = subst (λ o. SetsOrNone (standard_in o)) (sym (set_other T.blocks i j new z)) (s.based.standards j)
+
+        apart : (k d : ℕ) (z : Bool) → nat_eq i k ≡ z → base_in (slice_get (slice_set T.blocks i (record row { standard = Some which })) k) ≡ Some d → standard_in (slice_get (slice_set T.blocks i (record row { standard = Some which })) k) ≡ None
+        apart k d true z e = let same : i ≡ k = grind (arith, nat_tests) in absurd (let f : None ≡ Some d = sym still ∙ ap (λ m. base_in (slice_get T.blocks m)) same ∙ was k d e in cc)
+        apart k d false z e = ap standard_in (set_other T.blocks i k new z) ∙ s.based.apart k d (was k d e)
+
+        later : (k : ℕ) (z : Bool) → nat_eq i k ≡ z → Later D l (suc i) k → (base_in (slice_get (slice_set T.blocks i (record row { standard = Some which })) k) ≡ base_in (slice_get D.blocks k)) × (standard_in (slice_get (slice_set T.blocks i (record row { standard = Some which })) k) ≡ None)
+        later k true z q = absurd (beyond (let same : i ≡ k = grind (arith, nat_tests) in same) q)
+          where
+            beyond : i ≡ k → Later D l (suc i) k → ⊥
+            beyond same (inl lt) = let e : level_in (slice_get D.blocks k) ≡ l = subst (λ m. level_in (slice_get D.blocks m) ≡ l) same own_level in omega arith
+            beyond same (inr h) = let le : suc i ≤ k = h.1 in omega arith
+        later k false z q = let w = s.later k (not_later k q) in (ap base_in (set_other T.blocks i k new z) ∙ w.0, ap standard_in (set_other T.blocks i k new z) ∙ w.1)
 
     block_so : So D (block_prefixed l T i) l (suc i)
-    unfolding block_prefixed with_base_at Says
+    unfolding block_prefixed with_base_at with_standard_at Says
     block_so = go (slice_get T.blocks i) refl
       where
         of_found : (row : BlockOf) → slice_get T.blocks i ≡ Some row → row.level ≡ l → (f : PrefixFound) → Says T s.based i f → So D (with_prefix T i f) l (suc i)
         of_found row at level (found.Class c) p =
             subst (λ o. So D (elim o as (λ z. Tables) [ None ↦ T | Some x ↦ record T { blocks = slice_set T.blocks i (record x { base = Some c }) } ]) l (suc i)) (sym at) (gets row at level c p)
-        of_found row at level (found.Standard which) p = absurd p
+        of_found row at level (found.Standard which) p =
+            subst (λ o. So D (elim o as (λ z. Tables) [ None ↦ T | Some x ↦ record T { blocks = slice_set T.blocks i (record x { standard = Some which }) } ]) l (suc i)) (sym at) (brings row at level which p.0 p.1)
         of_found row at level found.Nothing p = stays
 
         at_level : (row : BlockOf) → slice_get T.blocks i ≡ Some row → (z : Bool) → nat_eq row.level l ≡ z → So D (with_prefix T i (if z then prefix_of T row else found.Nothing)) l (suc i)
@@ -350,11 +454,11 @@ module _ (D : Tables) (bare : Unprefixed D) where
       let T : Tables = run level_prefixed D (numbers_to n) in
       subst (λ z. So D z (suc n) 0) (sym (run-append level_prefixed D (numbers_to n) (n ∷ []))) (next_so n (length T.blocks) (level_prefixed T n) (level_so n T (levels_so n s) (length T.blocks)))
 
-  pub prefixes_based : ((k : ℕ) → base_in (slice_get D.blocks k) ≡ None) → Based D (prefixed D)
+  pub prefixes_based : ((k : ℕ) → standard_in (slice_get D.blocks k) ≡ None) → Based D (prefixed D)
   unfolding prefixed base
-  prefixes_based bottom = (levels_so (deepest D.blocks + 1) (record {
-    based = record { size = refl; blocks = λ k. refl; places = refl; declarations = refl; qualifications = refl; protections = refl; bases = λ k c e. absurd (let f : None ≡ Some c = sym (bottom k) ∙ e in cc) };
-    later = λ k q. bottom k;
+  prefixes_based alone = (levels_so (deepest D.blocks + 1) (record {
+    based = record { size = refl; blocks = λ k. refl; places = refl; declarations = refl; qualifications = refl; protections = refl; bases = λ k c e. inr e; standards = λ k. inl (alone k); apart = λ k c e. alone k; kept = λ k c e. e };
+    later = λ k q. (refl, alone k);
   })).based
 
 -- ---- all together
@@ -364,8 +468,8 @@ refs_same D P same [] a = tt
 refs_same D P same (q ∷ qs) a = ((a.0.0, ap (λ z. slice_get z q.declaration.0) same ∙ a.0.1, a.0.2), refs_same D P same qs a.1)
 
 -- the tables with the prefixes of classes and blocks
-pub prefixed_tables : (D : Tables) → Unprefixed D → ((k : ℕ) → base_in (slice_get D.blocks k) ≡ None) → Based D (prefixed D)
-prefixed_tables D bare bottom = prefixes_based D bare bottom
+pub prefixed_tables : (D : Tables) → Showing D → ((k : ℕ) (row : BlockOf) → slice_get D.blocks k ≡ Some row → is_prefixable row.kind ≡ true → base D k ≡ None) → ((k : ℕ) → standard_in (slice_get D.blocks k) ≡ None) → Based D (prefixed D)
+prefixed_tables D bare bottom alone = prefixes_based D bare bottom alone
 
 -- they are the tables before with other blocks
 abbrev pub with_blocks : Tables → List BlockOf → Tables
@@ -393,11 +497,11 @@ prefixed_is D s = parts (prefixed D) s.places s.declarations s.qualifications s.
 pub references_prefixed : (D : Tables) → Based D (prefixed D) → AllReferences D D.qualifications → Requalified (prefixed D) (qualified (prefixed D))
 references_prefixed D s refs = references_qualified (prefixed D) (refs_same D (prefixed D) s.declarations (prefixed D).qualifications (subst (AllReferences D) (sym s.qualifications) refs))
 
-pub complete : (D : Tables) (p : Program) (IsClass : ℕ → Type 0) → Based D (prefixed D) → AllReferences D D.qualifications → ((d : ℕ) (n : ℕ) (row : Declaration) → slice_get D.declarations d ≡ Some row → row.entry ≡ entry.Class n → IsClass n)
+pub complete : (D : Tables) (p : Program) (IsClass : ℕ → Type 0) → Based D (prefixed D) → AllReferences D D.qualifications → ((d : ℕ) (n : ℕ) (row : Declaration) → slice_get D.declarations d ≡ Some row → row.entry ≡ entry.Class n → IsClass n) → ((k c : ℕ) → base D k ≡ Some c → HasNext D k × IsClass c)
     → ((i k : ℕ) → Opened D.blocks i → joined (slice_get D.places i) ≡ Some k → (row : BlockOf) × (slice_get D.blocks k ≡ Some row) × (row.kind ≡ kind.Connection)) → AllOpened (program_events connections p) D.blocks
     → Completes D (completed D p) IsClass
 unfolding completed class_block entry_to base
-complete D p IsClass s refs classes conn opened =
+complete D p IsClass s refs classes set_bases conn opened =
     connections_complete D (qualified (prefixed D)) IsClass class_is p (record {
       size = ap length q.blocks ∙ s.size;
       blocks = λ k. ap (λ z. bare_row (slice_get z k)) q.blocks ∙ s.blocks k;
@@ -405,6 +509,7 @@ complete D p IsClass s refs classes conn opened =
       rows = rows;
       bases = λ k c e. bases k c (sym (ap (λ z. base_in (slice_get z k)) q.blocks) ∙ e);
       steady = λ k other. ap (λ z. base_in (slice_get z k)) q.blocks;
+      standards = λ k. ap (λ z. standard_in (slice_get z k)) q.blocks;
     }) conn opened
   where
     q : Requalified (prefixed D) (qualified (prefixed D))
@@ -424,4 +529,8 @@ complete D p IsClass s refs classes conn opened =
     class_is d n e = class_there d n (qualified (prefixed D)).declarations rows e
 
     bases : (k c : ℕ) → base_in (slice_get (prefixed D).blocks k) ≡ Some c → HasNext D k × IsClass c
-    bases k c e = let p = s.bases k c e in ((p.row, p.at, inr p.kind), class_there p.class c D.declarations (same_rows D.declarations) p.declares)
+    bases k c e = go (s.bases k c e)
+      where
+        go : PrefixOf D (prefixed D) k c ⊎ (base_in (slice_get D.blocks k) ≡ Some c) → HasNext D k × IsClass c
+        go (inl p) = ((p.row, p.at, inr (prefixable_base p.row.kind p.kind)), class_there p.class c D.declarations (same_rows D.declarations) p.declares)
+        go (inr f) = set_bases k c f

@@ -1,5 +1,5 @@
 -- What the declarations of an allowed plain program may be: where each reference has a qualification, its type is that of a class.
-use Rattle.std.proofs.Common.{◌≡◌, ◌⊎◌, inl, inr, ℕ, true, false, List, Option, Some, None, sym, ap, ◌∙◌, subst}
+use Rattle.std.proofs.Common.{◌≡◌, ◌+◌, ◌⊎◌, inl, inr, ℕ, true, false, List, Option, Some, None, sym, ap, ◌∙◌, subst}
 use Rattle.std.specs.Prelude.{slice_get}
 use Rattle.sim_base.specs.declared.numbering.DeclNo.{DeclNo}
 use Rattle.sim_tree.specs.Order.{InOrder}
@@ -13,21 +13,27 @@ use Rattle.sim_scope.specs.declared.types.Mode.{Mode}
 use Rattle.sim_scope.specs.declared.types.Mode.TheVariants as mode
 use Rattle.sim_scope.specs.declared.types.SimType.{SimType}
 use Rattle.sim_scope.specs.declared.types.SimType.TheVariants as type
-use Rattle.sim_scope.specs.Declare.{declared_by, result_named}
+use Rattle.sim_scope.specs.declared.types.StandardClass.{StandardClass}
+use Rattle.sim_scope.specs.declared.types.StandardClass.TheVariants as standard
+use Rattle.sim_values.specs.declared.standard.StandardType.{StandardType}
+use Rattle.sim_values.specs.declared.standard.StandardType.TheVariants as of_type
+use Rattle.sim_scope.specs.Building.{place_of, typed_or_none}
+use Rattle.sim_scope.specs.Standard.{parameter_of, result_of}
+use Rattle.sim_scope.specs.Declare.{declared_by}
 use Rattle.sim_scope.specs.Levels.{class_block}
 use Rattle.sim_scope.specs.Scopes.{binding, entry_of, found_in, is_virtual}
 use Rattle.sim_scope.specs.Source.{Source}
 use Rattle.virtual_match.specs.Qualifying.{entry_to, type_to}
 use Rattle.sim_static.specs.Check.{second_least}
 use Rattle.sim_meaning.specs.Attributes.{is_connection}
-use Rattle.sim_meaning.specs.Levels.{is_class}
 use Rattle.sim_meaning.specs.Texts.{Text, text}
-use Rattle.sim_agree.specs.Facts.{IsClass, PlainType, ProperEntry, ProperFormal, ProperResult, ProperType}
+use Rattle.sim_agree.specs.Facts.{IsClass, PlainType, ProperEntry, ProperGiven, ProperFormal, ProperResult, ProperType}
 use Rattle.sim_agree.specs.Plain.{Plain}
 use Rattle.sim_agree.specs.TablesOf.{TablesOf}
 use Rattle.sim_agree.proofs.Completing.{Retyped}
-use Rattle.sim_agree.proofs.Fine.{Alike, RowIn, class_row, formal_row, own_row, procedure_row}
-use Rattle.sim_agree.proofs.Groups.{AreReferences, IsReference, OfReferences, OwnEntry, PlainFormal}
+use Rattle.sim_agree.proofs.Fine.{IsSetClass, OfAttribute, SetGroup}
+use Rattle.sim_agree.proofs.SetRows as rows
+use Rattle.sim_agree.proofs.Groups.{AreReferences, IsReference, OfReferences, PlainFormal}
 use Rattle.sim_agree.proofs.Headings as h
 use Rattle.sim_agree.proofs.Qualified as q
 use Rattle.sim_agree.proofs.Steps.{IsParameter, NoName, Parametric}
@@ -122,40 +128,47 @@ formal_proper s m shape.Simple None n p r = absurd p
 formal_proper s m shape.Array None n p r = absurd p
 formal_proper s m shape.Procedure ty n p r = absurd p
 
-abbrev IsAttribute : Entry → Type 0
-IsAttribute (entry.Attribute name given result) = Unit {0}
-IsAttribute _ = ⊥
-
 module _ (s : Source) (of : TablesOf s) (plain : Plain s.program) (order : InOrder s.program)
     (second : second_least s.tables ≡ None)
     (outside : (token found : ℕ) (name : List ℕ) (d : DeclNo) (k : ℕ) → binding s.tables token name ≡ Some (denotation.Declared d) → entry_of s.tables d ≡ Some (entry.Class k) → found_in s.tables token name ≡ Some found → is_connection (text s found) ≡ false)
     (constants : (d : DeclNo) (ty : SimType) → entry_of s.tables d ≡ Some (entry.Constant ty) → PlainType ty) where
-  -- no attribute of a standard class is declared
-  no_attribute : (x : Text) (d : ℕ) (row : Declaration) → RowIn (Bs s of plain order) (Ts s of plain order) x d row → (e : Entry) → row.entry ≡ e → IsAttribute e → ⊥
-  no_attribute x d row (own_row y p) e is a = go p.entry e p.fits (subst (Alike p.entry) is p.alike) a
-    where
-      go : (f e : Entry) → OwnEntry f → Alike f e → IsAttribute e → ⊥
-      go (entry.Variable ty) (entry.Attribute name given result) own k a = k
-      go (entry.Constant ty) (entry.Attribute name given result) own k a = k
-      go (entry.Array ty n) (entry.Attribute name given result) own k a = k
-      go (entry.Procedure result n) e own k a = own
-      go (entry.Class n) e own k a = own
-      go (entry.Virtual result n) e own k a = own
-      go (entry.Formal f) e own k a = own
-      go (entry.Unspecified v) e own k a = own
-      go (entry.Attribute name given result) e own k a = own
-      go f _ own k a = a
-  no_attribute x d row (procedure_row y p) e is a = go e (subst (Alike (entry.Procedure (result_named p.result) p.number)) is p.entry) a
-    where
-      go : (e : Entry) → Alike (entry.Procedure (result_named p.result) p.number) e → IsAttribute e → ⊥
-      go (entry.Attribute name given result) k a = k
-      go _ k a = a
-  no_attribute x d row (class_row y p) e is a = subst IsAttribute (sym is ∙ p.entry) a
-  no_attribute x d row (formal_row y p) e is a = go e (subst Parametric is p) a
-    where
-      go : (e : Entry) → Parametric e → IsAttribute e → ⊥
-      go (entry.Attribute name given result) k a = k
-      go _ k a = a
+  class_is : (c : DeclNo) (n : ℕ) → class_block s.tables c ≡ Some n → IsClass s c
+  class_is c n e =
+      let there = q.class_entry s of plain order c n e in
+      let k = h.classes s of plain order c n there in record { block = n; declares = there; is = k.0.is; owned = k.1 }
+
+  -- a class of SIMSET, and a procedure of one
+  set_class : (block : ℕ) (first : DeclNo) → SetGroup (Bs s of plain order) (Ts s of plain order) block first → (which : StandardClass) → IsSetClass which → IsClass s (record { 0 = first.0 + place_of which })
+  set_class block first g which is = class_is (record { 0 = first.0 + place_of which }) (block + 1 + place_of which) (rows.set_block s of plain order block first g which is)
+
+  given_proper : (block : ℕ) (first : DeclNo) → SetGroup (Bs s of plain order) (Ts s of plain order) block first → (o : Option StandardType) → rows.SetGiven o → ProperGiven s (typed_or_none (Some first) o)
+  given_proper block first g None p = tt
+  given_proper block first g (Some of_type.Linkage) p = set_class block first g standard.Linkage tt
+  given_proper block first g (Some of_type.Link) p = set_class block first g standard.Link tt
+  given_proper block first g (Some of_type.Head) p = set_class block first g standard.Head tt
+  given_proper block first g (Some of_type.Integer) p = absurd p
+  given_proper block first g (Some of_type.Boolean) p = absurd p
+  given_proper block first g (Some of_type.Character) p = absurd p
+  given_proper block first g (Some of_type.Text) p = absurd p
+  given_proper block first g (Some of_type.Reference) p = absurd p
+  given_proper block first g (Some of_type.Process) p = absurd p
+
+  result_proper : (block : ℕ) (first : DeclNo) → SetGroup (Bs s of plain order) (Ts s of plain order) block first → (o : Option StandardType) → rows.SetTyped o → ProperResult s (typed_or_none (Some first) o)
+  result_proper block first g None p = tt
+  result_proper block first g (Some of_type.Linkage) p = set_class block first g standard.Linkage tt
+  result_proper block first g (Some of_type.Link) p = set_class block first g standard.Link tt
+  result_proper block first g (Some of_type.Head) p = set_class block first g standard.Head tt
+  result_proper block first g (Some of_type.Integer) p = tt
+  result_proper block first g (Some of_type.Boolean) p = tt
+  result_proper block first g (Some of_type.Character) p = absurd p
+  result_proper block first g (Some of_type.Text) p = absurd p
+  result_proper block first g (Some of_type.Reference) p = absurd p
+  result_proper block first g (Some of_type.Process) p = absurd p
+
+  attribute_proper : (row : Declaration) → OfAttribute (Bs s of plain order) (Ts s of plain order) row → ProperEntry s row.entry
+  attribute_proper row p =
+      let types = rows.set_types p.name p.is_set in
+      subst (ProperEntry s) (sym p.entry) (p.is_set, given_proper p.block p.first p.group (parameter_of p.name) types.0, result_proper p.block p.first p.group (result_of p.name) types.1)
 
   shaped : (d : ℕ) (row : Declaration) → slice_get s.tables.declarations d ≡ Some row → (e : Entry) → row.entry ≡ e → entry_of s.tables (record { 0 = d }) ≡ Some e → TypesOf s e → ProperEntry s e
   shaped d row at (entry.Variable ty) is en r = r
@@ -164,19 +177,14 @@ module _ (s : Source) (of : TablesOf s) (plain : Plain s.program) (order : InOrd
   shaped d row at (entry.Procedure result k) is en r = r
   shaped d row at (entry.Class k) is en r = tt
   shaped d row at (entry.Virtual result own) is en r =
-      let v : is_virtual row.entry ≡ false = (t.unprefixed s of plain order).virtuals d row at in
+      let v : is_virtual row.entry ≡ false = (t.shows s of plain order).virtuals d row at in
       let w : true ≡ false = sym (ap is_virtual is) ∙ v in absurd (cc)
   shaped d row at (entry.Formal f) is en r =
       let x = t.text_of_row s of plain order d row at in
       let p = subst Parametric is (h.param_in s of plain order x.0 d row x.2 (subst IsParameter (sym is) tt)) in formal_proper s f.mode f.kind f.ty p.0 p.1 r
   shaped d row at (entry.Unspecified w) is en r = absurd (t.specified_row s of plain order d row at w is)
   shaped d row at (entry.Attribute name given result) is en r =
-      let x = t.text_of_row s of plain order d row at in absurd (no_attribute x.0 d row x.2 (entry.Attribute name given result) is tt)
-
-  class_is : (c : DeclNo) (n : ℕ) → class_block s.tables c ≡ Some n → IsClass s c
-  class_is c n e =
-      let there = q.class_entry s of plain order c n e in
-      let k = h.classes s of plain order c n there in record { block = n; declares = there; is = ap is_class k.0.is; owned = k.1 }
+      subst (ProperEntry s) is (attribute_proper row (rows.attribute_is s of plain order d row at name given result is))
 
   typed : (d : ℕ) (row : Declaration) → slice_get s.tables.declarations d ≡ Some row → (e : Entry) → row.entry ≡ e → TypesOf s e
   typed d row at e is = let w = (t.completed_tables s of plain order).rows.was d row at in go w.0 w.1 w.2 (types_or s w.0.entry)

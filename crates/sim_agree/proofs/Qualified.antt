@@ -35,10 +35,14 @@ use Rattle.sim_agree.proofs.Groups.{OfReferences}
 use Rattle.sim_agree.proofs.Insides as ic
 use Rattle.sim_agree.proofs.Prefixing.{prefixed_is, with_blocks}
 use Rattle.sim_agree.proofs.Tables as t
-use Rattle.sim_agree.proofs.Tables.{IsClassText, all_references, class_new, program_agrees, program_clean, virtual_new}
+use Rattle.sim_agree.proofs.Tables.{IsClassText, all_references, program_agrees, program_clean}
+use Rattle.sim_agree.proofs.Retypes.{class_new, virtual_new}
 use Rattle.sim_agree.proofs.Accessible.{rows_stand, standing}
 use Rattle.sim_agree.proofs.Unconnected.{bound_alone}
-use Rattle.sim_agree.proofs.Unprefixed.{Extras, Unprefixed, extras_in, no_extras}
+use Rattle.sim_agree.proofs.Unprefixed.{NoVirtuals}
+use Rattle.sim_agree.proofs.ClassRows.{no_class_connection}
+use Rattle.sim_agree.proofs.PlainNames.{SetsOrNone}
+use Rattle.sim_scope.specs.declared.types.StandardPrefix.{StandardPrefix}
 
 -- ---- no fault
 
@@ -142,13 +146,6 @@ connections_keep (Connects i ∷ es) c =
     let q = connections_keep es (connecting c (Connects i)) in
     let p = connection_keeps c.tables (block_at c.tables i) c.next in (q.0 ∙ p.0, q.1 ∙ p.1)
 
-extras_bare : (o : Option BlockOf) → extras_in (bare_row o) ≡ extras_in o
-extras_bare None = refl
-extras_bare (Some row) = refl
-
-extras_same : (o q : Option BlockOf) → bare_row o ≡ bare_row q → extras_in o ≡ extras_in q
-extras_same o q e = sym (extras_bare o) ∙ ap extras_in e ∙ extras_bare q
-
 module _ (s : Source) (of : TablesOf s) (plain : Plain s.program) (order : InOrder s.program) where
   done : Completes (declared_by s.program).tables s.tables (IsClassText s.program)
   done = t.completed_tables s of plain order
@@ -171,11 +168,11 @@ module _ (s : Source) (of : TablesOf s) (plain : Plain s.program) (order : InOrd
   -- ---- tables in which some references have their classes
 
   module _ (T : Tables) (r : Requalified (with_blocks (declared_by s.program).tables (prefixed (declared_by s.program).tables).blocks) T) where
-    early : Unprefixed T
-    early = record {
-      blocks = λ k. ap (λ z. extras_in (slice_get z k)) r.blocks ∙ extras_same (slice_get (prefixed (declared_by s.program).tables).blocks k) (slice_get (declared_by s.program).tables.blocks k) ((t.P s of plain order).blocks k) ∙ (program_agrees s.program plain).fine.bare.blocks k;
-      virtuals = λ d row at. (let w = r.rows.was d row at in virtual_new w.0.entry row.entry w.2.entry ((program_agrees s.program plain).fine.bare.virtuals d w.0 w.1));
-    }
+    early : NoVirtuals T.declarations
+    early d row at = let w = r.rows.was d row at in virtual_new w.0.entry row.entry w.2.entry ((program_agrees s.program plain).fine.bare.virtuals d w.0 w.1)
+
+    standards_early : (k : ℕ) → standard_in (slice_get T.blocks k) ≡ standard_in (slice_get (prefixed (declared_by s.program).tables).blocks k)
+    standards_early k = ap (λ z. standard_in (slice_get z k)) r.blocks
 
     base_early : (k : ℕ) → base T k ≡ base (prefixed (declared_by s.program).tables) k
     unfolding base
@@ -185,7 +182,7 @@ module _ (s : Source) (of : TablesOf s) (plain : Plain s.program) (order : InOrd
     text_other k e = sym (ic.connections s of plain order k) ∙ e
 
     own_early : (k : ℕ) → is_kind is_connection_kind s.tables k ≡ false → base T k ≡ base s.tables k
-    own_early k e = base_early k ∙ sym (t.own_base s of plain order k (text_other k e))
+    own_early k e = base_early k ∙ sym (t.own_base_of s of plain order k (text_other k e))
 
     none_early : (k : ℕ) → is_kind is_connection_kind s.tables k ≡ true → base T k ≡ None
     none_early k e = base_early k ∙ go (base (prefixed (declared_by s.program).tables) k) refl
@@ -193,11 +190,10 @@ module _ (s : Source) (of : TablesOf s) (plain : Plain s.program) (order : InOrd
         go : (o : Option ℕ) → base (prefixed (declared_by s.program).tables) k ≡ o → o ≡ None
         go None is = refl
         go (Some b) is =
-            absurd (let p = (t.P s of plain order).bases k b is in
-            let q : true ≡ false = sym e ∙ ic.connections s of plain order k ∙ t.prefixed_other s of plain order k p.row p.at p.kind in cc)
+            absurd (let q : true ≡ false = sym e ∙ ic.connections s of plain order k ∙ t.next_there s of plain order k b ((t.P s of plain order).bases k b is) in cc)
 
     next_early : (k c : ℕ) → base s.tables k ≡ Some c → is_kind is_connection_kind s.tables c ≡ false
-    next_early k c e = ic.connections s of plain order c ∙ ap is_connection (t.connects s of plain order k c e).4
+    next_early k c e = ic.connections s of plain order c ∙ no_class_connection (text s c) (t.connects s of plain order k c e)
 
     stand_early : (d : ℕ) → standing (slice_get T.declarations d) ≡ standing (slice_get s.tables.declarations d)
     stand_early d = rows_stand (declared_by s.program).tables.declarations T.declarations r.rows d ∙ sym (rows_stand (declared_by s.program).tables.declarations s.tables.declarations done.rows d)
@@ -220,15 +216,15 @@ module _ (s : Source) (of : TablesOf s) (plain : Plain s.program) (order : InOrd
     unfolding some_level_of is_simulation_block
     none_simulates zero k = refl
     none_simulates (suc n) k =
-        ap (λ z. z || holds (λ b. some_level_of T n (is_simulation_block T) b) (base T k)) (one (slice_get T.blocks k) (early.blocks k)) ∙ further (base T k) (λ b. none_simulates n b)
+        ap (λ z. z || holds (λ b. some_level_of T n (is_simulation_block T) b) (base T k)) (one (standard_in (slice_get T.blocks k)) (subst SetsOrNone (sym (standards_early k)) ((t.P s of plain order).standards k))) ∙ further (base T k) (λ b. none_simulates n b)
       where
         further : (o : Option ℕ) → ((b : ℕ) → some_level_of T n (is_simulation_block T) b ≡ false) → holds (λ b. some_level_of T n (is_simulation_block T) b) o ≡ false
         further None h = refl
         further (Some b) h = h b
 
-        one : (o : Option BlockOf) → extras_in o ≡ no_extras → is_simulation (standard_in o) ≡ false
-        one None e = refl
-        one (Some row) e = let none : row.standard ≡ None = ap (λ (z : Extras). z.standard) e in ap is_simulation none
+        one : (o : Option StandardPrefix) → SetsOrNone o → is_simulation o ≡ false
+        one o (inl e) = ap is_simulation e
+        one o (inr e) = ap is_simulation e
 
     -- what is found through no connection in the complete tables is found in these
     written_early : (x : Qualification) (class : DeclNo) → Written s.tables x class → ((u : ℕ) → found_in s.tables x.class.token.0 x.class.name ≡ Some u → is_kind is_connection_kind s.tables u ≡ false) → class_written T x ≡ Some class
@@ -242,7 +238,7 @@ module _ (s : Source) (of : TablesOf s) (plain : Plain s.program) (order : InOrd
         bound : (n : ℕ) → length T.blocks ≡ n → binding T x.class.token.0 x.class.name ≡ Some (denotation.Declared class)
         bound zero e = absurd (let lt : 0 < length s.tables.blocks = t.some_block s of plain order in omega (arith, lt, size, e))
         bound (suc more) e =
-            bound_alone T s.tables early (t.unprefixed s of plain order) (λ k. done.blocks k ∙ sym ((t.P s of plain order).blocks k) ∙ ap (λ z. bare_row (slice_get z k)) (sym r.blocks)) size (done.places ∙ sym r.places) own_early none_early next_early stand_early more e x.class.token.0 x.class.name class w.binds alone
+            bound_alone T s.tables early (let u = t.shows s of plain order in u.virtuals) (λ k. done.blocks k ∙ sym ((t.P s of plain order).blocks k) ∙ ap (λ z. bare_row (slice_get z k)) (sym r.blocks)) size (done.places ∙ sym r.places) own_early none_early next_early stand_early (λ k. standards_early k ∙ sym (done.standards k)) more e x.class.token.0 x.class.name class w.binds alone
 
   -- ---- a reference has its class
 

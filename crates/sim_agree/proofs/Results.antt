@@ -23,7 +23,8 @@ use Rattle.sim_agree.specs.TablesOf.{TablesOf}
 use Rattle.sim_agree.proofs.Fine.{Alike, AlikeResults, alike_results}
 use Rattle.sim_agree.proofs.Headings as headings
 use Rattle.sim_agree.proofs.Tables as tables
-use Rattle.sim_agree.proofs.Tables.{alike_new, program_owned}
+use Rattle.sim_agree.proofs.Tables.{program_owned}
+use Rattle.sim_agree.proofs.Retypes.{alike_new}
 
 -- the kind of the type that is written
 named_kind : (type : TypeName) → kind_of_type (type_named type) ≡ kind_named type

@@ -25,7 +25,7 @@ use Rattle.sim_scope.specs.Standard.{standard_name}
 use Rattle.sim_scope.specs.Tables.{Tables}
 use Rattle.sim_agree.proofs.Completing.{bare_row}
 use Rattle.sim_agree.proofs.Unprefixed as u
-use Rattle.sim_agree.proofs.Unprefixed.{Unprefixed}
+use Rattle.sim_agree.proofs.Unprefixed.{NoVirtuals}
 use Rattle.sim_agree.proofs.Accessible.{shows_same, standing}
 
 -- The same block: also what it connects.
@@ -44,8 +44,9 @@ pub record Alike (T C : Tables) (Here : ℕ → Type 0) : Type 0 where
   pub outward : (k j : ℕ) → Here k → encloser T k ≡ Some j → Here j
   pub levels : (k j : ℕ) → Settled T C k → base T k ≡ Some j → Settled T C j
   pub bodies : (d : DeclNo) (k : ℕ) → block_in (entry_of T d) ≡ Some k → Settled T C k
-  pub first : Unprefixed T
-  pub last : Unprefixed C
+  pub standards : (k : ℕ) → standard_in (slice_get T.blocks k) ≡ standard_in (slice_get C.blocks k)
+  pub first : NoVirtuals T.declarations
+  pub last : NoVirtuals C.declarations
 
 module _ (T C : Tables) (Here : ℕ → Type 0) (a : Alike T C Here) where
   -- ---- declarations
@@ -223,7 +224,7 @@ module _ (T C : Tables) (Here : ℕ → Type 0) (a : Alike T C Here) where
   -- ---- what a block shows
 
   level_shows_same : (from : Option ℕ) (k : ℕ) (name : List ℕ) → level_shows T from k name ≡ level_shows C from k name
-  level_shows_same from k name = shows_same T C (Settled T C) a.rows a.size a.places (λ d. ap (λ (ds : List Declaration). standing (slice_get ds d)) a.declarations) a.solid base_same a.levels a.first a.last from k name
+  level_shows_same from k name = shows_same T C (Settled T C) a.rows a.size a.places (λ d. ap (λ (ds : List Declaration). standing (slice_get ds d)) a.declarations) a.solid a.standards base_same a.levels from k name
 
   shown_of_same : (n : ℕ) (from : Option ℕ) (k : ℕ) (name : List ℕ) → Settled T C k → shown_of T n from k name ≡ shown_of C n from k name
   unfolding shown_of

@@ -25,14 +25,24 @@ use Rattle.sim_meaning.specs.Entries.{numbers_in}
 use Rattle.sim_sound.specs.Held.{Among}
 use Rattle.sim_scope.specs.Tables.{BlockOf}
 use Rattle.sim_scope.proofs.Kept.{kept_more, kept_set, more_here, more_other, set_here, set_other}
-use Rattle.sim_meaning.specs.Texts.{BlockText, ClassText, ProcedureText, Text, PrefixedText}
+use Rattle.sim_meaning.specs.Texts.{BlockText, ClassText, ProcedureText, Text, PrefixedText, StandardText}
 use Rattle.sim_tree.specs.Order.{Ascends, Spot}
-use Rattle.sim_agree.proofs.Laid.{Con, Frame, Held, Joined, Laid, Part, Sub, Use, Whole, block, breaks_rule, closes, connects, declares, declares_class, frame, headed, inner_mark, leaves, moded, nothing, parameter, passes, procedure, program, specified, text_held, used_held, uses, Prefs, prefixed, unprefixed, text_used, guarded, Pre, prefixed_block}
-use Rattle.sim_agree.proofs.Steps.{AllEven, Changed, Declared, Fixed, Nothing, Step, class_step, declared_step, fixed, headed_step, inner_step, last_cases, met, moded_step, own_unmatched, parameter_step, procedure_unmatched, quals_step, rule_step, specified_met, prefix_step, guards_step}
+use Rattle.sim_agree.proofs.Laid.{Con, Frame, Held, Joined, Laid, Part, Sub, Use, Whole, block, breaks_rule, closes, connects, declares, declares_class, frame, headed, inner_mark, leaves, moded, nothing, parameter, passes, procedure, program, specified, text_held, used_held, uses, Prefs, prefixed, unprefixed, text_used, guarded, Pre, prefixed_block, Stands, all_held, among, outermost, sets_block, sets_class}
+use Rattle.sim_agree.proofs.BroughtFine as sets
+use Rattle.sim_agree.proofs.BroughtKnown.{Added, row_added}
+use Rattle.sim_agree.proofs.BroughtRows.{bringing, set_rows, with_sets}
+use Rattle.sim_agree.proofs.BroughtRuns.{FreshTop, brought_is, opened_top, prefixed_fresh, prefixed_is, prefixed_top}
+use Rattle.sim_agree.proofs.Brought.{parts_get}
+use Rattle.sim_agree.proofs.PlainNames.{set_texts}
+use Rattle.sim_agree.specs.Plain.{PlainName}
+use Rattle.sim_agree.specs.TablesAgree.{IsOwn, is_attribute}
+use Rattle.sim_scope.specs.Levels.{is_standard_class}
+use Rattle.sim_scope.specs.declared.types.StandardClass.TheVariants as standard_class
+use Rattle.sim_agree.proofs.Steps.{AllEven, Becomes, Changed, Declared, Fixed, Nothing, Step, class_step, declared_step, fixed, headed_step, inner_step, last_cases, met, moded_step, own_unmatched, parameter_step, procedure_unmatched, quals_step, rule_step, specified_met, prefix_step, guards_step}
 use Rattle.sim_agree.proofs.Unprefixed.{Unprefixed, extras_in, no_extras, is_prefixable}
 use Rattle.sim_agree.proofs.Fine.{same_around, fresh}
 use Rattle.sim_agree.proofs.FineRuns.{run_both}
-use Rattle.sim_agree.proofs.Groups.{AreReferences, OfReferences}
+use Rattle.sim_agree.proofs.Groups.{AreReferences, OfReferences, set_prefix}
 
 -- ---- the open texts
 
@@ -104,9 +114,16 @@ Fact b hs from n (Sub i) = (ds : Declarations) × (ss : Statements) × Inner b h
 Fact b hs from n (Pre i) = (class : Identifier) × (es : Expressions) × (ds : Declarations) × (ss : Statements) × Inner b hs from n i (Whole (PrefixedText class es ds ss))
 Fact b hs from n (Con i a) = Inner b hs from n i (Joined i a)
 
--- a block begins at its first token
+-- a block begins at its first token, but for the classes of SIMSET, which have no text
 abbrev pub Firsts : BuildingOf → (from : ℕ) → Type 0
-Firsts b from = (k : ℕ) (row : BlockOf) → slice_get b.tables.blocks k ≡ Some row → Here b from k row.first
+Firsts b from = (k : ℕ) (row : BlockOf) → slice_get b.tables.blocks k ≡ Some row → is_standard_class row.kind ≡ false → Here b from k row.first
+
+own_was : (old row : Declaration) → Changed old row → IsOwn row → IsOwn old
+own_was old row c o = (sym c.listed ∙ o.0, go c.entry)
+  where
+    go : Becomes old.entry row.entry → is_attribute old.entry ≡ false
+    go (inl e) = ap is_attribute (sym e) ∙ o.1
+    go (inr q) = ap is_attribute q.1
 
 -- a connection begins at its first token, and stands in a text
 abbrev pub JoinsAt : List BlockOf → List Held → Type 0
@@ -124,7 +141,7 @@ pub record Lays (b : BuildingOf) (hs : List Held) (os : List Frame) (from high :
   pub firsts : Firsts b from
   pub joins : JoinsAt b.tables.blocks hs
   pub below : (d : ℕ) (row : Declaration) → slice_get b.tables.declarations d ≡ Some row → row.token.0 < high
-  pub rising : (d e : ℕ) (row other : Declaration) → slice_get b.tables.declarations d ≡ Some row → slice_get b.tables.declarations e ≡ Some other → d < e → row.token.0 < other.token.0
+  pub rising : (d e : ℕ) (row other : Declaration) → slice_get b.tables.declarations d ≡ Some row → slice_get b.tables.declarations e ≡ Some other → d < e → IsOwn other → row.token.0 < other.token.0
   pub bare : Unprefixed b.tables
 
 abbrev pub Lay : BuildingOf → List Held → List Frame → ℕ → Type 0
@@ -151,7 +168,7 @@ use_laid b ts x u i os from le l = record {
   stack = l.stack;
   reach = (let q : length b.tables.places ≤ from = l.reach in omega arith);
   done = λ n y p at has. done n p (l.done n y p at has);
-  firsts = λ k row at. later k row.first (l.firsts k row at);
+  firsts = λ k row at other. later k row.first (l.firsts k row at other);
   joins = l.joins;
   below = λ d row at. (let lt : row.token.0 < from = l.below d row at in omega arith);
   rising = l.rising;
@@ -178,7 +195,7 @@ later_laid b ts os from high to le up l = record {
   stack = l.stack;
   reach = (let q : length b.tables.places ≤ from = l.reach in omega arith);
   done = λ n y p at has. done n p (l.done n y p at has);
-  firsts = λ k row at. later k row.first (l.firsts k row at);
+  firsts = λ k row at other. later k row.first (l.firsts k row at other);
   joins = l.joins;
   below = λ d row at. (let lt : row.token.0 < high = l.below d row at in omega arith);
   rising = l.rising;
@@ -197,14 +214,14 @@ later_laid b ts os from high to le up l = record {
 
 -- a row is an old one, or the new one
 abbrev RowIs : BuildingOf → (from to : ℕ) → ℕ → Declaration → Type 0
-RowIs b from to d row = ((old : Declaration) × (slice_get b.tables.declarations d ≡ Some old) × (row.token ≡ old.token)) ⊎ ((d ≡ length b.tables.declarations) × (from ≤ row.token.0) × (row.token.0 < to))
+RowIs b from to d row = ((old : Declaration) × (slice_get b.tables.declarations d ≡ Some old) × (row.token ≡ old.token) × (IsOwn row → IsOwn old)) ⊎ ((d ≡ length b.tables.declarations) × (from ≤ row.token.0) × (row.token.0 < to))
 
 row_is : (b c : BuildingOf) (New : ℕ → Declaration → Type 0) → Step b c New → (from to : ℕ) → ((d : ℕ) (row : Declaration) → New d row → (d ≡ length b.tables.declarations) × (from ≤ row.token.0) × (row.token.0 < to))
     → (d : ℕ) (row : Declaration) → slice_get c.tables.declarations d ≡ Some row → RowIs b from to d row
 row_is b c New s from to new d row at = go (s.rows d row at)
   where
     go : ((old : Declaration) × (slice_get b.tables.declarations d ≡ Some old) × Changed old row) ⊎ (New d row × Among (record { 0 = d }) (numbers_in (slice_get c.tables.blocks row.block)) × (AllEven b.tables.blocks → declared_in (slice_get c.tables.blocks row.block) row.name ≡ Some (record { 0 = d }))) → RowIs b from to d row
-    go (inl q) = inl (q.0, q.1, q.2.token)
+    go (inl q) = inl (q.0, q.1, q.2.token, own_was q.0 row q.2)
     go (inr q) = inr (new d row q.0)
 
 step_laid : (b c : BuildingOf) (New : ℕ → Declaration → Type 0) (s : Step b c New) (ts : List Held) (os : List Frame) (from to : ℕ) → from ≤ to
@@ -214,10 +231,10 @@ step_laid b c New s ts os from to le new l = record {
   stack = subst (λ z. Stack c.tables.blocks ts z os) (sym s.current) (stack_kept b.tables.blocks c.tables.blocks ts ts keep os b.current l.stack);
   reach = (let q : length b.tables.places ≤ from = l.reach in let e : length c.tables.places ≡ length b.tables.places = ap length s.places in omega arith);
   done = λ n y p at has. done n p (l.done n y p at has);
-  firsts = λ k row at. first_stays k row (slice_get b.tables.blocks k) refl at;
+  firsts = λ k row at other. first_stays k row (slice_get b.tables.blocks k) refl at other;
   joins = λ n i a is. joins_kept b.tables.blocks c.tables.blocks ts ts keep l.joins n i a is;
   below = λ d row at. below row (row_of d row at);
-  rising = λ d e row other at at' lt. rising d e row other lt (row_of d row at) (row_of e other at');
+  rising = λ d e row other at at' lt o. rising d e row other lt o (row_of d row at) (row_of e other at');
   bare = s.bare l.bare;
 }
   where
@@ -232,12 +249,17 @@ step_laid b c New s ts os from to le new l = record {
     done n p (inl f) = inl (fact_moves b c ts ts from from keep later n p f)
     done n p (inr q) = inr (subst (λ z. LeftAt c.tables.blocks z os n p) (sym s.current) (left_kept b.tables.blocks c.tables.blocks ts ts keep os b.current n p l.stack q))
 
-    first_stays : (k : ℕ) (row : BlockOf) (o : Option BlockOf) → slice_get b.tables.blocks k ≡ o → slice_get c.tables.blocks k ≡ Some row → Here c from k row.first
-    first_stays k row None is at = absurd (let e : fixed (Some row) ≡ None = sym (ap fixed at) ∙ s.fixes k ∙ ap fixed is in cc)
-    first_stays k row (Some old) is at =
+    first_stays : (k : ℕ) (row : BlockOf) (o : Option BlockOf) → slice_get b.tables.blocks k ≡ o → slice_get c.tables.blocks k ≡ Some row → is_standard_class row.kind ≡ false → Here c from k row.first
+    first_stays k row None is at other = absurd (let e : fixed (Some row) ≡ None = sym (ap fixed at) ∙ s.fixes k ∙ ap fixed is in cc)
+    first_stays k row (Some old) is at other =
         let e : first_of (fixed (Some row)) ≡ first_of (fixed (Some old)) = ap first_of (sym (ap fixed at) ∙ s.fixes k ∙ ap fixed is) in
-        subst (λ z. Here c from k z) (sym e) (later k old.first (l.firsts k old is))
+        let same : standard_of (fixed (Some row)) ≡ standard_of (fixed (Some old)) = ap standard_of (sym (ap fixed at) ∙ s.fixes k ∙ ap fixed is) in
+        subst (λ z. Here c from k z) (sym e) (later k old.first (l.firsts k old is (sym same ∙ other)))
       where
+        standard_of : Fixed → Bool
+        standard_of None = false
+        standard_of (Some x) = is_standard_class x.kind
+
         first_of : Fixed → ℕ
         first_of None = 0
         first_of (Some x) = x.first
@@ -249,19 +271,19 @@ step_laid b c New s ts os from to le new l = record {
     below row (inl q) = (let lt : q.0.token.0 < from = l.below _ q.0 q.1 in let e : row.token.0 ≡ q.0.token.0 = ap (λ (z : TokenNo). z.0) q.2 in omega arith)
     below row (inr q) = q.2
 
-    rising : (d e : ℕ) (row other : Declaration) → d < e → RowIs b from to d row → RowIs b from to e other → row.token.0 < other.token.0
-    rising d e row other lt (inl p) (inl q) =
-        let r : p.0.token.0 < q.0.token.0 = l.rising d e p.0 q.0 p.1 q.1 lt in
+    rising : (d e : ℕ) (row other : Declaration) → d < e → IsOwn other → RowIs b from to d row → RowIs b from to e other → row.token.0 < other.token.0
+    rising d e row other lt o (inl p) (inl q) =
+        let r : p.0.token.0 < q.0.token.0 = l.rising d e p.0 q.0 p.1 q.1 lt (q.3 o) in
         let f : row.token.0 ≡ p.0.token.0 = ap (λ (z : TokenNo). z.0) p.2 in
         let g : other.token.0 ≡ q.0.token.0 = ap (λ (z : TokenNo). z.0) q.2 in omega arith
-    rising d e row other lt (inl p) (inr q) =
+    rising d e row other lt o (inl p) (inr q) =
         let r : p.0.token.0 < from = l.below d p.0 p.1 in
         let f : row.token.0 ≡ p.0.token.0 = ap (λ (z : TokenNo). z.0) p.2 in
         let g : from ≤ other.token.0 = q.1 in omega arith
-    rising d e row other lt (inr p) (inl q) =
+    rising d e row other lt o (inr p) (inl q) =
         let f : d ≡ length b.tables.declarations = p.0 in
         let g : e < length b.tables.declarations = slice_get_within b.tables.declarations e q.0 q.1 in absurd (omega arith)
-    rising d e row other lt (inr p) (inr q) = let f : d ≡ length b.tables.declarations = p.0 in let g : e ≡ length b.tables.declarations = q.0 in absurd (omega arith)
+    rising d e row other lt o (inr p) (inr q) = let f : d ≡ length b.tables.declarations = p.0 in let g : e ≡ length b.tables.declarations = q.0 in absurd (omega arith)
 
 -- ---- a block begins
 
@@ -322,7 +344,7 @@ begun_laid b new first ts x os ps from high own le up around_is first_is without
   stack = (length bs, refl, (x, at, refl), subst (λ z. Stack cs us z ps) (sym under) (stack_kept bs cs ts us keep ps b.current stack));
   reach = (let e : length (placed b.tables b.current first).places ≡ first = long in omega arith);
   done = λ n y p is has. done n y p has (last_cases ts x n y is);
-  firsts = λ k row is. firsts k row (last_cases bs new k row is);
+  firsts = λ k row is other. firsts k row other (last_cases bs new k row is);
   joins = λ n i a is. joins n i a (last_cases ts x n (Joined i a) is);
   below = λ d row is. (let lt : row.token.0 < high = l.below d row is in omega arith);
   rising = l.rising;
@@ -367,9 +389,9 @@ begun_laid b new first ts x os ps from high own le up around_is first_is without
     new_here : Here c (first + 1) (length bs) first
     new_here = inr ((let z : length (placed b.tables b.current first).places ≡ first = long in omega arith), (let z : first < first + 1 = omega arith in z), refl)
 
-    firsts : (k : ℕ) (row : BlockOf) → (slice_get bs k ≡ Some row) ⊎ ((k ≡ length bs) × (new ≡ row)) → Here c (first + 1) k row.first
-    firsts k row (inl q) = later k row.first (l.firsts k row q)
-    firsts k row (inr q) = subst (λ z. Here c (first + 1) z row.first) (sym q.0) (subst (λ z. Here c (first + 1) (length bs) z) (sym first_is ∙ ap (λ (z : BlockOf). z.first) q.1) new_here)
+    firsts : (k : ℕ) (row : BlockOf) → is_standard_class row.kind ≡ false → (slice_get bs k ≡ Some row) ⊎ ((k ≡ length bs) × (new ≡ row)) → Here c (first + 1) k row.first
+    firsts k row other (inl q) = later k row.first (l.firsts k row q other)
+    firsts k row other (inr q) = subst (λ z. Here c (first + 1) z row.first) (sym q.0) (subst (λ z. Here c (first + 1) (length bs) z) (sym first_is ∙ ap (λ (z : BlockOf). z.first) q.1) new_here)
 
     joins : (n i : ℕ) (a : Statement) → (slice_get ts n ≡ Some (Joined i a)) ⊎ ((n ≡ length ts) × (x ≡ Joined i a)) → (first_in (slice_get (b.tables.blocks ++ new ∷ []) n) ≡ i) × ((u : ℕ) × (around (slice_get (b.tables.blocks ++ new ∷ []) n) ≡ Some u))
     joins n i a (inl q) = joins_kept b.tables.blocks (b.tables.blocks ++ new ∷ []) ts (ts ++ x ∷ []) keep l.joins n i a q
@@ -451,7 +473,7 @@ closed_row b end n (Some row) ts x os from le cur at found is l = record {
   stack = subst (λ z. Stack cs ts z os) (ap around at) (stack_kept bs cs ts ts keep os (around (slice_get bs n)) (subst (λ z. Stack bs ts (around (slice_get bs z)) os) (some_same l.stack.0 n (sym l.stack.1 ∙ cur)) l.stack.3));
   reach = (let e : length (placed b.tables b.current end).places ≡ end = reached b.tables.places b.current end (let q : length b.tables.places ≤ from = l.reach in omega arith) in omega arith);
   done = λ m y p is has. done m p (l.done m y p is has);
-  firsts = λ k found is. first_stays k found (nat_eq n k) refl is;
+  firsts = λ k found is other. first_stays k found other (nat_eq n k) refl is;
   joins = λ m i a is. joins_kept bs cs ts ts keep l.joins m i a is;
   below = λ d r is. (let lt : r.token.0 < from = l.below d r is in omega arith);
   rising = l.rising;
@@ -476,12 +498,12 @@ closed_row b end n (Some row) ts x os from le cur at found is l = record {
     later : (m j : ℕ) → Here b from m j → Here c end m j
     later m j h = inl (filled_here b from end m j le l.reach h)
 
-    first_stays : (k : ℕ) (found : BlockOf) (z : Bool) → nat_eq n k ≡ z → slice_get (slice_set b.tables.blocks n (record row { end = end })) k ≡ Some found → Here c end k found.first
-    first_stays k found true e is =
+    first_stays : (k : ℕ) (found : BlockOf) → is_standard_class found.kind ≡ false → (z : Bool) → nat_eq n k ≡ z → slice_get (slice_set b.tables.blocks n (record row { end = end })) k ≡ Some found → Here c end k found.first
+    first_stays k found other true e is =
         let same : n ≡ k = grind (arith, nat_tests) in
         let one : new ≡ found = some_same new found (sym (set_here bs n row new at) ∙ subst (λ z. slice_get cs z ≡ Some found) (sym same) is) in
-        later k found.first (subst (λ z. Here b from z found.first) same (subst (λ z. Here b from n z) (ap (λ (z : BlockOf). z.first) one) (l.firsts n row at)))
-    first_stays k found false e is = later k found.first (l.firsts k found (sym (set_other bs n k new e) ∙ is))
+        later k found.first (subst (λ z. Here b from z found.first) same (subst (λ z. Here b from n z) (ap (λ (z : BlockOf). z.first) one) (l.firsts n row at (ap (λ (z : BlockOf). is_standard_class z.kind) one ∙ other))))
+    first_stays k found other false e is = later k found.first (l.firsts k found (sym (set_other bs n k new e) ∙ is) other)
 
     under : Stack b.tables.blocks ts (around (slice_get b.tables.blocks n)) os
     under = subst (λ z. Stack bs ts (around (slice_get bs z)) os) (some_same l.stack.0 n (sym l.stack.1 ∙ cur)) l.stack.3
@@ -495,6 +517,104 @@ closed_row b end n (Some row) ts x os from le cur at found is l = record {
 
 closed_laid : (b : BuildingOf) (end : ℕ) (ts : List Held) (x : Text) (os : List Frame) (from : ℕ) → from ≤ end → (l : Lay b ts (frame x [] ∷ os) from) → (row : BlockOf) → slice_get b.tables.blocks l.stack.0 ≡ Some row → Lay (closed b end b.current) ts os end
 closed_laid b end ts x os from le l row at = subst (λ o. Lay (closed b end o) ts os end) (sym l.stack.1) (closed_row b end l.stack.0 (slice_get b.tables.blocks l.stack.0) ts x os from le l.stack.1 refl row at l)
+
+-- ---- the classes of SIMSET
+
+sets_laid : (b : BuildingOf) (n token : ℕ) (r : BlockOf) → length b.tables.blocks ≡ n + 1 → slice_get b.tables.blocks n ≡ Some r → (ts : List Held) (x : Text) (u : List Part) (os : List Frame) (from : ℕ) → token < from
+    → Lay b ts (frame x u ∷ os) from → Lay (with_sets b n token r) (ts ++ all_held set_texts) (frame x u ∷ os) from
+sets_laid b n token r last at ts x u os from token_lt l = record {
+  size = (let e : length (slice_set b.tables.blocks n (bringing (length b.tables.declarations) r)) ≡ length b.tables.blocks = length-set b.tables.blocks n (bringing (length b.tables.declarations) r) in
+      let s : length b.tables.blocks ≡ length ts = l.size in
+      length-append (slice_set b.tables.blocks n (bringing (length b.tables.declarations) r)) (set_rows n (length b.tables.declarations) r.level) ∙ (let z : length (slice_set b.tables.blocks n (bringing (length b.tables.declarations) r)) + 3 ≡ length ts + 3 = omega arith in z) ∙ sym (length-append ts (all_held set_texts)));
+  stack = stack_kept bs cs ts us keep (frame x u ∷ os) b.current l.stack;
+  reach = l.reach;
+  done = λ m y p is has. done m y p has (parts_get ts (all_held set_texts) m y is);
+  firsts = λ k row is other. firsts k row other is (sets.part b n token r last at [] k);
+  joins = λ m i v is. joins m i v (parts_get ts (all_held set_texts) m (Joined i v) is);
+  below = λ d row is. below row (sets.row_part b n token r last at [] d row is);
+  rising = λ d e row other is to lt o. rising d e row other lt o (sets.row_part b n token r last at [] d row is) (sets.row_part b n token r last at [] e other to);
+  bare = sets.sets_bare b n token r last at [] l.bare;
+}
+  where
+    bs : List BlockOf
+    bs = b.tables.blocks
+
+    cs : List BlockOf
+    cs = (with_sets b n token r).tables.blocks
+
+    us : List Held
+    us = ts ++ all_held set_texts
+
+    keep : Keeps b.tables.blocks (with_sets b n token r).tables.blocks ts (ts ++ all_held set_texts)
+    keep m y is =
+        let lt : m < length ts = slice_get_within ts m y is in
+        let s : length b.tables.blocks ≡ length ts = l.size in
+        let inner : m < length b.tables.blocks = omega arith in
+        (sets.old_same b n token r last at [] around refl m inner, more_at ts (all_held set_texts) m y is, sets.old_same b n token r last at [] first_in refl m inner)
+
+    later : (m j : ℕ) → Here b from m j → Here (with_sets b n token r) from m j
+    later m j h = h
+
+    nothing_used : (i : ℕ) (y : Held) → slice_get (all_held set_texts) i ≡ Some y → used_held y ≡ []
+    nothing_used zero y e = ap used_held (sym (some_same (Whole (StandardText standard_class.Linkage)) y e))
+    nothing_used (suc zero) y e = ap used_held (sym (some_same (Whole (StandardText standard_class.Link)) y e))
+    nothing_used (suc (suc zero)) y e = ap used_held (sym (some_same (Whole (StandardText standard_class.Head)) y e))
+    nothing_used (suc (suc (suc i))) y e = absurd (cc)
+
+    done : (m : ℕ) (y : Held) (p : Part) → Has p (used_held y) → ((m < length ts) × (slice_get ts m ≡ Some y)) ⊎ ((i : ℕ) × (m ≡ length ts + i) × (slice_get (all_held set_texts) i ≡ Some y))
+        → Fact (with_sets b n token r) (ts ++ all_held set_texts) from m p ⊎ LeftAt (with_sets b n token r).tables.blocks b.current (frame x u ∷ os) m p
+    done m y p has (inl q) = go (l.done m y p q.1 has)
+      where
+        go : Fact b ts from m p ⊎ LeftAt b.tables.blocks b.current (frame x u ∷ os) m p → Fact (with_sets b n token r) (ts ++ all_held set_texts) from m p ⊎ LeftAt (with_sets b n token r).tables.blocks b.current (frame x u ∷ os) m p
+        go (inl f) = inl (fact_moves b (with_sets b n token r) ts (ts ++ all_held set_texts) from from keep later m p f)
+        go (inr k) = inr (left_kept b.tables.blocks (with_sets b n token r).tables.blocks ts (ts ++ all_held set_texts) keep (frame x u ∷ os) b.current m p l.stack k)
+    done m y p has (inr q) = absurd (let h : Has p [] = subst (Has p) (nothing_used q.0 y q.2) has in elim h [ ])
+
+    known : Option BlockOf → Option (ℕ × Bool)
+    known None = None
+    known (Some row) = Some (row.first, is_standard_class row.kind)
+
+    same_row : (o : Option BlockOf) (new : BlockOf) → known o ≡ known (Some new) → (old : BlockOf) × (o ≡ Some old) × (old.first ≡ new.first) × (is_standard_class old.kind ≡ is_standard_class new.kind)
+    same_row None new e = absurd (cc)
+    same_row (Some old) new e =
+        let both : (old.first, is_standard_class old.kind) ≡ (new.first, is_standard_class new.kind) = some_same {A = ℕ × Bool} (old.first, is_standard_class old.kind) (new.first, is_standard_class new.kind) e in
+        (old, refl, ap (λ (z : ℕ × Bool). z.0) both, ap (λ (z : ℕ × Bool). z.1) both)
+
+    firsts : (k : ℕ) (row : BlockOf) → is_standard_class row.kind ≡ false → slice_get (with_sets b n token r).tables.blocks k ≡ Some row → (k < length b.tables.blocks) ⊎ ((i : ℕ) × (k ≡ n + 1 + i)) → Here (with_sets b n token r) from k row.first
+    firsts k row other is (inl lt) =
+        let q = same_row (slice_get b.tables.blocks k) row (sym (sets.old_same b n token r last at [] known refl k lt) ∙ ap known is) in
+        subst (λ z. Here (with_sets b n token r) from k z) q.2 (l.firsts k q.0 q.1 (q.3 ∙ other))
+    firsts k row other is (inr q) =
+        let a = row_added n (length b.tables.declarations) token r.level q.0 row (sym (sets.new_get b n token r last at [] q.0) ∙ ap (slice_get (with_sets b n token r).tables.blocks) (sym q.1) ∙ is) in
+        absurd (let z : true ≡ false = sym (ap is_standard_class a.kind) ∙ other in cc)
+
+    joins : (m i : ℕ) (v : Statement) → ((m < length ts) × (slice_get ts m ≡ Some (Joined i v))) ⊎ ((j : ℕ) × (m ≡ length ts + j) × (slice_get (all_held set_texts) j ≡ Some (Joined i v)))
+        → (first_in (slice_get (with_sets b n token r).tables.blocks m) ≡ i) × ((w : ℕ) × (around (slice_get (with_sets b n token r).tables.blocks m) ≡ Some w))
+    joins m i v (inl q) = joins_kept b.tables.blocks (with_sets b n token r).tables.blocks ts (ts ++ all_held set_texts) keep l.joins m i v q.1
+    joins m i v (inr q) = absurd (no_joined q.0 q.2)
+      where
+        no_joined : (j : ℕ) → slice_get (all_held set_texts) j ≡ Some (Joined i v) → ⊥
+        no_joined zero e = cc
+        no_joined (suc zero) e = cc
+        no_joined (suc (suc zero)) e = cc
+        no_joined (suc (suc (suc j))) e = cc
+
+    RowPart : ℕ → Declaration → Type 0
+    RowPart d row = ((d < length b.tables.declarations) × (slice_get b.tables.declarations d ≡ Some row)) ⊎ ((i : ℕ) × (d ≡ length b.tables.declarations + i) × Added n (length b.tables.declarations) token r.level i row)
+
+    added_token : (i : ℕ) (row : Declaration) → Added n (length b.tables.declarations) token r.level i row → row.token.0 ≡ token
+    added_token i row (inl c) = c.token
+    added_token i row (inr c) = c.token
+
+    below : {d : ℕ} (row : Declaration) → RowPart d row → row.token.0 < from
+    below row (inl q) = l.below _ row q.1
+    below row (inr q) = let e : row.token.0 ≡ token = added_token q.0 row q.2 in omega arith
+
+    rising : (d e : ℕ) (row other : Declaration) → d < e → IsOwn other → RowPart d row → RowPart e other → row.token.0 < other.token.0
+    rising d e row other lt o (inl p) (inl q) = l.rising d e row other p.1 q.1 lt o
+    rising d e row other lt o (inr p) (inl q) = let f : d ≡ length b.tables.declarations + p.0 = p.1 in let g : e < length b.tables.declarations = q.0 in absurd (omega arith)
+    rising d e row other lt o p (inr (i, same, inl c)) = absurd (let z : false ≡ true = sym c.listed ∙ o.0 in cc)
+    rising d e row other lt o p (inr (i, same, inr c)) = absurd (let z : true ≡ false = sym (ap is_attribute c.entry) ∙ o.1 in cc)
 
 -- ---- the whole
 
@@ -545,6 +665,26 @@ unfolding run marked
 prefs_laid b [] ts os from unprefixed n cur class l = l
 prefs_laid b ms ts os from (prefixed y p) n cur class l = quiet_laid b _ ts os from (prefix_step b y n cur p class) l
 
+-- a block with a prefix is a part of the text around, or the program
+stands_stack : (bs : List BlockOf) (hs : List Held) (current : Option ℕ) (i : ℕ) (ps os : List Frame) → Stands i ps os → Stack bs hs current ps → Stack bs hs current os
+stands_stack bs hs current i ps os (among x u) s = s
+stands_stack bs hs current i ps os outermost s = s
+
+stands_pops : (b : BuildingOf) (class : Identifier) (es : Expressions) (ds : Declarations) (ss : Statements) (i : ℕ) (ps os : List Frame) → Stands i ps os → Pops b (Whole (PrefixedText class es ds ss)) i ps os
+stands_pops b class es ds ss i ps os (among {os = qs} x u) = pop_part b (Whole (PrefixedText class es ds ss)) i (Pre i) (refl, (class, es, ds, ss, refl)) x u qs
+stands_pops b class es ds ss i ps os outermost = pop_none b (Whole (PrefixedText class es ds ss)) i []
+
+-- `simset` in front of the innermost block, which has just begun
+sets_run : (c : BuildingOf) (top : FreshTop c) (token : ℕ) (y : Identifier) (ts : List Held) (x : Text) (u : List Part) (os : List Frame) (from : ℕ) → PlainName y → token < from → ((row : BlockOf) → slice_get c.tables.blocks top.number ≡ Some row → is_prefixable row.kind ≡ true)
+    → Lay c ts (frame x u ∷ os) from → Lay (run marked c (set_prefix token y)) (ts ++ all_held set_texts) (frame x u ∷ os) from
+sets_run c top token y ts x u os from plain lt class l =
+    subst (λ d. Lay d (ts ++ all_held set_texts) (frame x u ∷ os) from) (sym (brought_is c top token y))
+    (sets_laid (prefixed_top c top y) t.number token t.row t.last t.at ts x u os from lt
+    (subst (λ d. Lay d ts (frame x u ∷ os) from) (prefixed_is c top y) (quiet_laid c _ ts (frame x u ∷ os) from (prefix_step c y top.number top.current plain class) l)))
+  where
+    t : FreshTop (prefixed_top c top y)
+    t = prefixed_fresh c top y
+
 pub run_laid : {os : List Frame} {ms : List Mark} {l : List Spot} {xs : List Held} (b : BuildingOf) (ts : List Held) (from : ℕ) → Laid os ms l xs → Ascends from l → Lay b ts os from → Final (run marked b ms) (ts ++ xs)
 unfolding run marked
 run_laid {os = os} b ts from (nothing e) a f = record { to = from; laid = subst (λ z. Lay b z [] from) (sym (append-nil ts)) (subst (λ z. Lay b ts z from) e f) }
@@ -581,14 +721,24 @@ run_laid b ts from (block {os = os} {ms = ms} {hs = xs} text i ds ss y u g) a f 
     let x : Held = Whole (BlockText i ds ss) in
     let q = run_laid (opened b kind.SubBlock text i) (ts ++ x ∷ []) (i + 1) g a.1 (opened_laid b kind.SubBlock text i ts x (frame y (Sub i ∷ u) ∷ os) (frame y u ∷ os) from from tt a.0 (let le : from ≤ i = a.0 in omega arith) f f.stack (pop_part b x i (Sub i) (refl, (ds, ss, refl)) y u os)) in
     record { to = q.to; laid = subst (λ z. Lay (run marked (opened b kind.SubBlock text i) ms) z [] q.to) (append_assoc ts (x ∷ []) xs) q.laid }
-run_laid b ts from (prefixed_block {os = os} {ms = ms} {hs = xs} text i class es ds ss y u w g) a f =
+run_laid b ts from (prefixed_block {os = os} {ms = ms} {hs = xs} text i class es ds ss {ps = ps} w stands g) a f =
     let x : Held = Whole (PrefixedText class es ds ss) in
     let o : BuildingOf = opened b kind.Prefixed text i in
     let c : BuildingOf = changed o (prefixed_by class) o.current in
-    let l = opened_laid b kind.Prefixed text i ts x (frame y (Pre i ∷ u) ∷ os) (frame y u ∷ os) from from tt a.0 (let le : from ≤ i = a.0 in omega arith) f f.stack (pop_part b x i (Pre i) (refl, (class, es, ds, ss, refl)) y u os) in
+    let l = opened_laid b kind.Prefixed text i ts x ps os from from tt a.0 (let le : from ≤ i = a.0 in omega arith) f (stands_stack b.tables.blocks ts b.current i ps os stands f.stack) (stands_pops b class es ds ss i ps os stands) in
     let q = run_laid c (ts ++ x ∷ []) (i + 1) g a.1
-    (quiet_laid o c (ts ++ x ∷ []) (frame (PrefixedText class es ds ss) (text_used (PrefixedText class es ds ss)) ∷ frame y u ∷ os) (i + 1) (prefix_step o class l.stack.0 l.stack.1 w (λ row at. ap is_prefixable (opened_kind b kind.Prefixed text i l.stack.0 row l.stack.1 at))) l) in
+    (quiet_laid o c (ts ++ x ∷ []) (frame (PrefixedText class es ds ss) (text_used (PrefixedText class es ds ss)) ∷ os) (i + 1) (prefix_step o class l.stack.0 l.stack.1 w (λ row at. ap is_prefixable (opened_kind b kind.Prefixed text i l.stack.0 row l.stack.1 at))) l) in
     record { to = q.to; laid = subst (λ z. Lay (run marked c ms) z [] q.to) (append_assoc ts (x ∷ []) xs) q.laid }
+run_laid b ts from (sets_block {os = os} {ms = ms} {hs = xs} text i class es ds ss {ps = ps} w e stands g) a f =
+    let x : Held = Whole (PrefixedText class es ds ss) in
+    let o : BuildingOf = opened b kind.Prefixed text i in
+    let top = opened_top b kind.Prefixed text i in
+    let k : BuildingOf = run marked o (set_prefix i class) in
+    let l = opened_laid b kind.Prefixed text i ts x ps os from from tt a.0 (let le : from ≤ i = a.0 in omega arith) f (stands_stack b.tables.blocks ts b.current i ps os stands f.stack) (stands_pops b class es ds ss i ps os stands) in
+    let q = run_laid k ((ts ++ x ∷ []) ++ all_held set_texts) (i + 1) g a.1
+    (sets_run o top i class (ts ++ x ∷ []) (PrefixedText class es ds ss) (text_used (PrefixedText class es ds ss)) os (i + 1) w (let z : i < i + 1 = omega arith in z) (λ row at. ap is_prefixable (opened_kind b kind.Prefixed text i top.number row top.current at)) l) in
+    subst (λ z. Final z (ts ++ (x ∷ (all_held set_texts ++ xs)))) (sym (run_both o (set_prefix i class) ms))
+    (record { to = q.to; laid = subst (λ z. Lay (run marked k ms) z [] q.to) (append_assoc (ts ++ x ∷ []) (all_held set_texts) xs ∙ append_assoc ts (x ∷ []) (all_held set_texts ++ xs)) q.laid })
 run_laid b ts from (connects {os = os} {ms = ms} {hs = xs} text i v y u g) a f =
     let x : Held = Joined i v in
     let q = run_laid (opened b kind.Connection text i) (ts ++ x ∷ []) (i + 1) g a.1 (opened_laid b kind.Connection text i ts x (frame y (Con i v ∷ u) ∷ os) (frame y u ∷ os) from from (refl, (f.stack.0, f.stack.1)) a.0 (let le : from ≤ i = a.0 in omega arith) f f.stack (pop_part b x i (Con i v) (refl, refl) y u os)) in
@@ -619,5 +769,19 @@ run_laid b ts from (declares_class {o = o} {os = os} {ms = ms} {hs = xs} text pr
     (prefs_laid c prefs (ts ++ x ∷ []) (frame (ClassText prefix h ds ss) (text_used (ClassText prefix h ds ss)) ∷ o ∷ os) (i + 1) w l.stack.0 l.stack.1 (λ row at. ap is_prefixable (opened_kind c0 kind.Class text i l.stack.0 row l.stack.1 at)) l) in
     subst (λ z. Final z (ts ++ (x ∷ xs))) (sym (run_both c prefs ms))
     (record { to = p.to; laid = subst (λ z. Lay (run marked (run marked c prefs) ms) z [] p.to) (append_assoc ts (x ∷ []) xs) p.laid })
+run_laid b ts from (sets_class {o = o} {os = os} {ms = ms} {hs = xs} text y h ds ss w e g) a f =
+    let x : Held = Whole (ClassText (Some y) h ds ss) in
+    let n : ℕ = f.stack.0 in
+    let i : ℕ = h.name.token.0 in
+    let c0 : BuildingOf = changed (declared b h.name (entry.Class (length b.tables.blocks))) holding_class b.current in
+    let c : BuildingOf = opened c0 kind.Class text i in
+    let top = opened_top c0 kind.Class text i in
+    let j : BuildingOf = run marked c (set_prefix i y) in
+    let k = named_laid b c0 h.name (entry.Class (length b.tables.blocks)) n ts o os from (class_step b h.name (length b.tables.blocks) n f.stack.1) a.0 f in
+    let l = opened_laid c0 kind.Class text i ts x (o ∷ os) (o ∷ os) from (i + 1) tt a.0 (let z : i + 1 ≤ i + 1 = omega arith in z) k k.stack (pop_none c0 x i (o ∷ os)) in
+    let p = run_laid j ((ts ++ x ∷ []) ++ all_held set_texts) (i + 1) g a.1
+    (sets_run c top i y (ts ++ x ∷ []) (ClassText (Some y) h ds ss) (text_used (ClassText (Some y) h ds ss)) (o ∷ os) (i + 1) w (let z : i < i + 1 = omega arith in z) (λ row at. ap is_prefixable (opened_kind c0 kind.Class text i top.number row top.current at)) l) in
+    subst (λ z. Final z (ts ++ (x ∷ (all_held set_texts ++ xs)))) (sym (run_both c (set_prefix i y) ms))
+    (record { to = p.to; laid = subst (λ z. Lay (run marked j ms) z [] p.to) (append_assoc (ts ++ x ∷ []) (all_held set_texts) xs ∙ append_assoc ts (x ∷ []) (all_held set_texts ++ xs)) p.laid })
 run_laid b ts from (closes {os = os} x end g) a f =
     let row = row_of_text b ts (frame x [] ∷ os) from f f.stack.0 f.stack.2.0 f.stack.2.1 in run_laid (closed b end b.current) ts end g a.1 (closed_laid b end ts x os from a.0 f row.0 row.1)

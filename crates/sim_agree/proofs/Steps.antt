@@ -31,7 +31,7 @@ use Rattle.sim_static.specs.UnbuiltNames.{is_unbuilt_name}
 use Rattle.sim_meaning.specs.Entries.{numbers_in}
 use Rattle.sim_sound.specs.Held.{Among, first, later}
 use Rattle.sim_agree.proofs.Groups.{OwnEntry, PlainFormal, Quals, qualifies, unqualified}
-use Rattle.sim_agree.proofs.Unprefixed.{Extras, NoExtras, NoVirtuals, Unprefixed, extras_in, is_wrong, no_extras, is_prefixable}
+use Rattle.sim_agree.proofs.Unprefixed.{Extras, NoExtras, NoVirtuals, Unprefixed, extras_in, is_wrong, no_extras, is_prefixable, brought_of}
 
 -- ---- lists of numbers
 
@@ -183,10 +183,11 @@ pub record Changed (old new : Declaration) : Type 0 where
   pub name : new.name ≡ old.name
   pub token : new.token ≡ old.token
   pub block : new.block ≡ old.block
+  pub listed : new.listed ≡ old.listed
   pub entry : Becomes old.entry new.entry
 
 pub unchanged : (row : Declaration) → Changed row row
-unchanged row = record { name = refl; token = refl; block = refl; entry = inl refl }
+unchanged row = record { name = refl; token = refl; block = refl; listed = refl; entry = inl refl }
 
 -- the declarations of a block: as before, or with the next one
 abbrev pub Listed : (next : ℕ) → List DeclNo → List DeclNo → Type 0
@@ -199,7 +200,7 @@ pub record Step (b c : BuildingOf) (New : ℕ → Declaration → Type 0) : Type
   pub fixes : (j : ℕ) → fixed (slice_get c.tables.blocks j) ≡ fixed (slice_get b.tables.blocks j)
   pub others : (j : ℕ) → (b.current ≡ Some j → ⊥) → slice_get c.tables.blocks j ≡ slice_get b.tables.blocks j
   pub more : (j : ℕ) (d : DeclNo) → Among d (numbers_in (slice_get b.tables.blocks j)) → Among d (numbers_in (slice_get c.tables.blocks j))
-  pub fewer : (j : ℕ) (d : DeclNo) → Among d (numbers_in (slice_get c.tables.blocks j)) → Among d (numbers_in (slice_get b.tables.blocks j)) ⊎ ((row : Declaration) × (slice_get c.tables.declarations d.0 ≡ Some row) × (row.block ≡ j))
+  pub fewer : (j : ℕ) (d : DeclNo) → Among d (numbers_in (slice_get c.tables.blocks j)) → Among d (numbers_in (slice_get b.tables.blocks j)) ⊎ ((row : Declaration) × (slice_get c.tables.declarations d.0 ≡ Some row) × (row.block ≡ j) × (row.listed ≡ true))
   pub lists : (j : ℕ) → Listed (length b.tables.declarations) (numbers_in (slice_get b.tables.blocks j)) (numbers_in (slice_get c.tables.blocks j))
   pub rows : (d : ℕ) (row : Declaration) → slice_get c.tables.declarations d ≡ Some row
       → ((old : Declaration) × (slice_get b.tables.declarations d ≡ Some old) × Changed old row) ⊎ (New d row × Among (record { 0 = d }) (numbers_in (slice_get c.tables.blocks row.block)) × (AllEven b.tables.blocks → declared_in (slice_get c.tables.blocks row.block) row.name ≡ Some (record { 0 = d })))
@@ -208,13 +209,14 @@ pub record Step (b c : BuildingOf) (New : ℕ → Declaration → Type 0) : Type
   pub looks : (j : ℕ) (name : List ℕ) (d : DeclNo) → declared_in (slice_get b.tables.blocks j) name ≡ Some d → declared_in (slice_get c.tables.blocks j) name ≡ Some d
   pub stays : (d : ℕ) (old : Declaration) → slice_get b.tables.declarations d ≡ Some old → (row : Declaration) × (slice_get c.tables.declarations d ≡ Some row) × Changed old row
   pub bare : Unprefixed b.tables → Unprefixed c.tables
+  pub brings : (j : ℕ) → brought_of (slice_get c.tables.blocks j) ≡ brought_of (slice_get b.tables.blocks j)
 
 -- nothing new
 abbrev pub Nothing : ℕ → Declaration → Type 0
 Nothing d row = ⊥
 
 abbrev pub IsRow : Identifier → Entry → ℕ → Declaration → Type 0
-IsRow x e n row = (row.name ≡ x.name) × (row.token ≡ x.token) × (row.block ≡ n) × (row.entry ≡ e)
+IsRow x e n row = (row.name ≡ x.name) × (row.token ≡ x.token) × (row.block ≡ n) × (row.entry ≡ e) × (row.listed ≡ true)
 
 -- ---- steps that change no table
 
@@ -233,11 +235,12 @@ same_step b c New t k = record {
   looks = λ j name d e. subst (λ (s : Tables). declared_in (slice_get s.blocks j) name ≡ Some d) (sym t) e;
   stays = λ d old e. (old, ap (λ (s : Tables). slice_get s.declarations d) t ∙ e, unchanged old);
   bare = λ w. subst Unprefixed (sym t) w;
+  brings = λ j. ap (λ (s : Tables). brought_of (slice_get s.blocks j)) t;
 }
 
 -- a broken rule changes no table
 pub broken_step : (a : Bool) (b c : BuildingOf) (token : ℕ) (rule : Rule) (New : ℕ → Declaration → Type 0) → Step b c New → Step b (broken_if a c token rule) New
-broken_step true b c token rule New h = record { current = h.current; size = h.size; fixes = h.fixes; others = h.others; more = h.more; fewer = h.fewer; lists = h.lists; rows = h.rows; places = h.places; evens = h.evens; looks = h.looks; stays = h.stays; bare = h.bare }
+broken_step true b c token rule New h = record { current = h.current; size = h.size; fixes = h.fixes; others = h.others; more = h.more; fewer = h.fewer; lists = h.lists; rows = h.rows; places = h.places; evens = h.evens; looks = h.looks; stays = h.stays; bare = h.bare; brings = h.brings }
 broken_step false b c token rule New h = h
 
 -- ---- a declaration
@@ -265,6 +268,7 @@ new_step b x e n row plain cur at fresh_name = record {
   looks = λ j name d is. looks j name d (nat_eq n j) refl is;
   stays = λ d old is. (old, more_other ds fresh d (within d old is) ∙ is, unchanged old);
   bare = λ w. record { blocks = λ j. kept_set extras_in bs n row new at refl j ∙ w.blocks j; virtuals = λ d found is. plainly d found w.virtuals (nat_eq d (length ds)) refl is };
+  brings = λ j. kept_set brought_of bs n row new at refl j;
 }
   where
     bs : List BlockOf
@@ -304,12 +308,12 @@ new_step b x e n row plain cur at fresh_name = record {
     more j d false is a = subst (λ z. Among d (numbers_in z)) (sym (set_other bs n j new is)) a
 
     fewer : (j : ℕ) (d : DeclNo) (c : Bool) → nat_eq n j ≡ c → Among d (numbers_in (slice_get (slice_set bs n new) j))
-        → Among d (numbers_in (slice_get bs j)) ⊎ ((found : Declaration) × (slice_get (ds ++ fresh ∷ []) d.0 ≡ Some found) × (found.block ≡ j))
+        → Among d (numbers_in (slice_get bs j)) ⊎ ((found : Declaration) × (slice_get (ds ++ fresh ∷ []) d.0 ≡ Some found) × (found.block ≡ j) × (found.listed ≡ true))
     fewer j d true is a = pick (among_before d number row.numbers (subst (λ z. Among d (numbers_in z)) (here j is) a))
       where
-        pick : Among d row.numbers ⊎ (d ≡ number) → Among d (numbers_in (slice_get bs j)) ⊎ ((found : Declaration) × (slice_get (ds ++ fresh ∷ []) d.0 ≡ Some found) × (found.block ≡ j))
+        pick : Among d row.numbers ⊎ (d ≡ number) → Among d (numbers_in (slice_get bs j)) ⊎ ((found : Declaration) × (slice_get (ds ++ fresh ∷ []) d.0 ≡ Some found) × (found.block ≡ j) × (found.listed ≡ true))
         pick (inl q) = inl (subst (λ z. Among d (numbers_in z)) (sym (old_here j is)) q)
-        pick (inr q) = inr (fresh, ap (slice_get (ds ++ fresh ∷ [])) (number_same d (length ds) q) ∙ more_here ds fresh, (let P : n ≡ j = grind (arith, nat_tests) in P))
+        pick (inr q) = inr (fresh, ap (slice_get (ds ++ fresh ∷ [])) (number_same d (length ds) q) ∙ more_here ds fresh, (let P : n ≡ j = grind (arith, nat_tests) in P), refl)
     fewer j d false is a = inl (subst (λ z. Among d (numbers_in z)) (set_other bs n j new is) a)
 
     lists : (j : ℕ) (c : Bool) → nat_eq n j ≡ c → Listed (length ds) (numbers_in (slice_get bs j)) (numbers_in (slice_get (slice_set bs n new) j))
@@ -332,7 +336,7 @@ new_step b x e n row plain cur at fresh_name = record {
     rows d found true is at' =
         let same : d ≡ length ds = grind (arith, nat_tests) in
         let f : fresh ≡ found = some_same fresh found (sym (more_here ds fresh) ∙ subst (λ z. slice_get (ds ++ fresh ∷ []) z ≡ Some found) same at') in
-        inr ((same, (ap (λ (z : Declaration). z.name) (sym f), ap (λ (z : Declaration). z.token) (sym f), ap (λ (z : Declaration). z.block) (sym f), ap (λ (z : Declaration). z.entry) (sym f))), listed d found same f, λ a. named d found same f (a n))
+        inr ((same, (ap (λ (z : Declaration). z.name) (sym f), ap (λ (z : Declaration). z.token) (sym f), ap (λ (z : Declaration). z.block) (sym f), ap (λ (z : Declaration). z.entry) (sym f), ap (λ (z : Declaration). z.listed) (sym f))), listed d found same f, λ a. named d found same f (a n))
       where
         listed : (d : ℕ) (found : Declaration) → d ≡ length ds → fresh ≡ found → Among (record { 0 = d }) (numbers_in (slice_get (slice_set bs n new) found.block))
         listed d found same f =
@@ -458,6 +462,7 @@ counted_step b c n (Some row) New cur at h = record {
   looks = λ j name d is. kept_set (λ o. declared_in o name) bs n row new at refl j ∙ h.looks j name d is;
   stays = h.stays;
   bare = λ w. let v = h.bare w in record { blocks = λ j. kept_set extras_in bs n row new at refl j ∙ v.blocks j; virtuals = v.virtuals };
+  brings = λ j. kept_set brought_of bs n row new at refl j ∙ h.brings j;
 }
   where
     bs : List BlockOf
@@ -505,6 +510,7 @@ entry_step b d w e (Some row) plain at is fine param = record {
   looks = λ j name f p. p;
   stays = λ f old p. stays f old (nat_eq d.0 f) refl p;
   bare = λ v. record { blocks = v.blocks; virtuals = λ f found p. plainly f found v.virtuals (nat_eq d.0 f) refl p };
+  brings = λ j. refl;
 }
   where
     ds : List Declaration
@@ -514,7 +520,7 @@ entry_step b d w e (Some row) plain at is fine param = record {
     new = record row { entry = e }
 
     change : Changed row new
-    change = record { name = refl; token = refl; block = refl; entry = inr (w, some_same row.entry (entry.Unspecified w) is, fine, param) }
+    change = record { name = refl; token = refl; block = refl; listed = refl; entry = inr (w, some_same row.entry (entry.Unspecified w) is, fine, param) }
 
     here : (f : ℕ) → nat_eq d.0 f ≡ true → slice_get (slice_set ds d.0 new) f ≡ Some new
     here f is = let same : d.0 ≡ f = grind (arith, nat_tests) in subst (λ z. slice_get (slice_set ds d.0 new) z ≡ Some new) same (set_here ds d.0 row new at)
@@ -586,7 +592,7 @@ abbrev pub met : BuildingOf → Option DeclNo → BuildingOf
 met b o = record b { latest = o }
 
 met_step : (b c : BuildingOf) (o : Option DeclNo) → Step (met b o) c Nothing → Step b c Nothing
-met_step b c o h = record { current = h.current; size = h.size; fixes = h.fixes; others = h.others; more = h.more; fewer = h.fewer; lists = h.lists; rows = h.rows; places = h.places; evens = h.evens; looks = h.looks; stays = h.stays; bare = h.bare }
+met_step b c o h = record { current = h.current; size = h.size; fixes = h.fixes; others = h.others; more = h.more; fewer = h.fewer; lists = h.lists; rows = h.rows; places = h.places; evens = h.evens; looks = h.looks; stays = h.stays; bare = h.bare; brings = h.brings }
 
 pub specified_met : (b : BuildingOf) (token : TokenNo) (k : FormalKind) (ty : Option SimType) (o : Option DeclNo) → PlainFormal k ty → Step b (specified (met b o) token k ty o) Nothing
 specified_met b token k ty o p = met_step b (specified (met b o) token k ty o) o (specified_step (met b o) token k ty o p)
@@ -614,6 +620,7 @@ qualified_step b c New x (Some d) h = record {
   looks = h.looks;
   stays = h.stays;
   bare = λ w. let v = h.bare w in record { blocks = v.blocks; virtuals = v.virtuals };
+  brings = h.brings;
 }
 
 pub quals_step : (b c : BuildingOf) (New : ℕ → Declaration → Type 0) (R : Type 0) (quals : List Mark) → Quals R quals → Step b c New → Step b (run marked c quals) New
@@ -622,10 +629,10 @@ quals_step b c New R quals (unqualified free) h = h
 quals_step b c New R quals (qualifies x r) h = qualified_step b c New x c.latest h
 
 -- a row of a block is replaced by one that declares the same
-bare_row_step : (b c : BuildingOf) (New : ℕ → Declaration → Type 0) (n : ℕ) (row new : BlockOf) → b.current ≡ Some n → slice_get c.tables.blocks n ≡ Some row → fixed (Some new) ≡ fixed (Some row) → new.numbers ≡ row.numbers → new.names ≡ row.names
+bare_row_step : (b c : BuildingOf) (New : ℕ → Declaration → Type 0) (n : ℕ) (row new : BlockOf) → b.current ≡ Some n → slice_get c.tables.blocks n ≡ Some row → fixed (Some new) ≡ fixed (Some row) → new.numbers ≡ row.numbers → new.names ≡ row.names → new.brought ≡ row.brought
     → (extras_in (Some row) ≡ no_extras → extras_in (Some new) ≡ no_extras)
     → Step b c New → Step b (record c { tables = record c.tables { blocks = slice_set c.tables.blocks n new } }) New
-bare_row_step b c New n row new cur at alike numbers names extras h = record {
+bare_row_step b c New n row new cur at alike numbers names brought extras h = record {
   current = h.current;
   size = length-set bs n new ∙ h.size;
   fixes = λ j. kept_set fixed bs n row new at alike j ∙ h.fixes j;
@@ -639,6 +646,7 @@ bare_row_step b c New n row new cur at alike numbers names extras h = record {
   looks = λ j name d is. kept_set (λ o. declared_in o name) bs n row new at (named name) j ∙ h.looks j name d is;
   stays = h.stays;
   bare = λ w. let v = h.bare w in record { blocks = λ j. bare_there v.blocks j (nat_eq n j) refl; virtuals = v.virtuals };
+  brings = λ j. kept_set brought_of bs n row new at brought j ∙ h.brings j;
 }
   where
     bs : List BlockOf
@@ -669,14 +677,14 @@ bare_row_step b c New n row new cur at alike numbers names extras h = record {
     listed d found (inl q) = inl q
     listed d found (inr q) = inr (q.0, subst (λ z. Among (record { 0 = d }) z) (sym (kept_set numbers_in bs n row new at numbers found.block)) q.1, λ a. kept_set (λ o. declared_in o found.name) bs n row new at (named found.name) found.block ∙ q.2 a)
 
-pub row_step : (b c : BuildingOf) (New : ℕ → Declaration → Type 0) (n : ℕ) (row new : BlockOf) → b.current ≡ Some n → slice_get c.tables.blocks n ≡ Some row → fixed (Some new) ≡ fixed (Some row) → new.numbers ≡ row.numbers → new.names ≡ row.names → extras_in (Some new) ≡ extras_in (Some row)
+pub row_step : (b c : BuildingOf) (New : ℕ → Declaration → Type 0) (n : ℕ) (row new : BlockOf) → b.current ≡ Some n → slice_get c.tables.blocks n ≡ Some row → fixed (Some new) ≡ fixed (Some row) → new.numbers ≡ row.numbers → new.names ≡ row.names → new.brought ≡ row.brought → extras_in (Some new) ≡ extras_in (Some row)
     → Step b c New → Step b (record c { tables = record c.tables { blocks = slice_set c.tables.blocks n new } }) New
-row_step b c New n row new cur at alike numbers names extras h = bare_row_step b c New n row new cur at alike numbers names (λ e. extras ∙ e) h
+row_step b c New n row new cur at alike numbers names brought extras h = bare_row_step b c New n row new cur at alike numbers names brought (λ e. extras ∙ e) h
 
-changed_at : (b c : BuildingOf) (New : ℕ → Declaration → Type 0) (change : BlockOf → BlockOf) (n : ℕ) (o : Option BlockOf) → ((row : BlockOf) → (fixed (Some (change row)) ≡ fixed (Some row)) × ((change row).numbers ≡ row.numbers) × ((change row).names ≡ row.names) × (extras_in (Some (change row)) ≡ extras_in (Some row)))
+changed_at : (b c : BuildingOf) (New : ℕ → Declaration → Type 0) (change : BlockOf → BlockOf) (n : ℕ) (o : Option BlockOf) → ((row : BlockOf) → (fixed (Some (change row)) ≡ fixed (Some row)) × ((change row).numbers ≡ row.numbers) × ((change row).names ≡ row.names) × ((change row).brought ≡ row.brought) × (extras_in (Some (change row)) ≡ extras_in (Some row)))
     → b.current ≡ Some n → slice_get c.tables.blocks n ≡ o → Step b c New → Step b (changed_row c change n o) New
 changed_at b c New change n None alike cur at h = h
-changed_at b c New change n (Some row) alike cur at h = let q = alike row in row_step b c New n row (change row) cur at q.0 q.1 q.2 q.3 h
+changed_at b c New change n (Some row) alike cur at h = let q = alike row in row_step b c New n row (change row) cur at q.0 q.1 q.2 q.3 q.4 h
 
 -- the innermost block has a class
 pub class_step : (b : BuildingOf) (x : Identifier) (k n : ℕ) → b.current ≡ Some n → Step b (changed (declared b x (entry.Class k)) holding_class b.current) (Declared (length b.tables.declarations) x (entry.Class k) n)
@@ -684,11 +692,11 @@ class_step b x k n cur =
     let c : BuildingOf = declared b x (entry.Class k) in
     let h : Step b c (Declared (length b.tables.declarations) x (entry.Class k) n) = declared_step b x (entry.Class k) n (class_unmatched b.tables k) cur in
     subst (λ o. Step b (changed c holding_class o) (Declared (length b.tables.declarations) x (entry.Class k) n)) (sym cur)
-    (changed_at b c (Declared (length b.tables.declarations) x (entry.Class k) n) holding_class n (slice_get c.tables.blocks n) (λ row. (refl, refl, refl, refl)) cur refl h)
+    (changed_at b c (Declared (length b.tables.declarations) x (entry.Class k) n) holding_class n (slice_get c.tables.blocks n) (λ row. (refl, refl, refl, refl, refl)) cur refl h)
 
 -- `inner` in the innermost block
 inner_row : (b : BuildingOf) (token n : ℕ) (row : BlockOf) (o : Option ℕ) → b.current ≡ Some n → slice_get b.tables.blocks n ≡ Some row → Step b (inner_in b token n row o) Nothing
-inner_row b token n row None cur at = row_step b b Nothing n row (record row { inner = Some token }) cur at refl refl refl refl (same_step b b Nothing refl refl)
+inner_row b token n row None cur at = row_step b b Nothing n row (record row { inner = Some token }) cur at refl refl refl refl refl (same_step b b Nothing refl refl)
 inner_row b token n row (Some other) cur at = same_step b _ Nothing refl refl
 
 inner_found : (b : BuildingOf) (token n : ℕ) (o : Option BlockOf) → b.current ≡ Some n → slice_get b.tables.blocks n ≡ o → Step b (inner_at b token n o) Nothing
@@ -703,7 +711,7 @@ inner_step b token (Some n) cur = inner_found b token n (slice_get b.tables.bloc
 prefix_found : (b : BuildingOf) (x : Identifier) (n : ℕ) (o : Option BlockOf) → b.current ≡ Some n → slice_get b.tables.blocks n ≡ o → is_unbuilt_name x.name ≡ false → ((row : BlockOf) → o ≡ Some row → is_prefixable row.kind ≡ true) → Step b (changed_row b (prefixed_by x) n o) Nothing
 prefix_found b x n None cur at plain class = same_step b b Nothing refl refl
 prefix_found b x n (Some row) cur at plain class =
-    bare_row_step b b Nothing n row (prefixed_by x row) cur at refl refl refl (λ e. ap (λ z. of_row z row) right ∙ ap without e) (same_step b b Nothing refl refl)
+    bare_row_step b b Nothing n row (prefixed_by x row) cur at refl refl refl refl (λ e. ap (λ z. of_row z row) right ∙ ap without e) (same_step b b Nothing refl refl)
   where
     of_row : Bool → BlockOf → Extras
     of_row z row = record { wrong = z; standard = row.standard }
@@ -721,7 +729,7 @@ prefix_step b x n cur plain class = subst (λ o. Step b (changed b (prefixed_by 
 guards_found : (b : BuildingOf) (hides keeps : Bool) (x : Identifier) (n : ℕ) (o : Option BlockOf) → b.current ≡ Some n → slice_get b.tables.blocks n ≡ o → Step b (guards_at b hides keeps x n o) Nothing
 guards_found b hides keeps x n None cur at = same_step b b Nothing refl refl
 guards_found b hides keeps x n (Some row) cur at =
-    let h = row_step b b Nothing n row (protecting hides keeps x.name row) cur at refl refl refl refl (same_step b b Nothing refl refl) in record {
+    let h = row_step b b Nothing n row (protecting hides keeps x.name row) cur at refl refl refl refl refl (same_step b b Nothing refl refl) in record {
       current = h.current;
       size = h.size;
       fixes = h.fixes;
@@ -735,6 +743,7 @@ guards_found b hides keeps x n (Some row) cur at =
       looks = h.looks;
       stays = h.stays;
       bare = λ w. let v = h.bare w in record { blocks = v.blocks; virtuals = v.virtuals };
+      brings = h.brings;
     }
 
 pub guards_step : (b : BuildingOf) (hides keeps : Bool) (x : Identifier) (o : Option ℕ) → b.current ≡ o → Step b (guards b hides keeps x o) Nothing

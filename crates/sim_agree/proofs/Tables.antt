@@ -3,28 +3,27 @@ use Rattle.std.proofs.Common.{◌≡◌, ◌<◌, ◌≤◌, ◌+◌, ◌⊎◌,
 use Rattle.std.specs.Prelude.{slice_get}
 use Rattle.std.proofs.lemmas.Option.{slice_get_within}
 use Rattle.sim_base.specs.declared.numbering.DeclNo.{DeclNo}
-use Rattle.sim_tree.specs.declared.expr.Identifier.{Identifier}
 use Rattle.sim_tree.specs.Order.{InOrder}
-use Rattle.sim_tree.specs.Syntax.{Begin, Block, Declarations, Heading, Prefix, Program, Statements}
+use Rattle.sim_tree.specs.Syntax.{Begin, Block, Prefix, Program}
 use Rattle.sim_scope.specs.declared.scopes.Declaration.{Declaration}
 use Rattle.sim_scope.specs.declared.scopes.Qualification.{Qualification}
 use Rattle.sim_scope.specs.declared.types.BlockKind.{BlockKind}
 use Rattle.sim_scope.specs.declared.types.BlockKind.TheVariants as kind
 use Rattle.sim_scope.specs.declared.types.Entry.{Entry}
 use Rattle.sim_scope.specs.declared.types.Entry.TheVariants as entry
-use Rattle.sim_scope.specs.declared.types.FormalKind.{FormalKind}
 use Rattle.sim_scope.specs.declared.types.FormalKind.TheVariants as shape
-use Rattle.sim_scope.specs.declared.types.SimType.{SimType}
 use Rattle.sim_scope.specs.declared.types.SimType.TheVariants as t
 use Rattle.sim_scope.specs.declared.types.WrittenMode.{WrittenMode}
+use Rattle.sim_scope.specs.declared.types.StandardClass.{StandardClass}
 use Rattle.sim_scope.specs.Access.{around, encloser, joined}
+use Rattle.sim_scope.specs.Building.{attribute_entry, place_of}
 use Rattle.sim_scope.specs.Declare.{declared_by, declaring, empty, result_named}
-use Rattle.sim_scope.specs.Levels.{base, base_in, class_block, class_block_in}
-use Rattle.sim_scope.specs.Scopes.{declared_in, entry_in, entry_of, is_virtual}
+use Rattle.sim_scope.specs.Levels.{base, base_in, class_block, class_block_in, is_standard_class}
+use Rattle.sim_scope.specs.Scopes.{entry_in, entry_of}
 use Rattle.sim_scope.specs.Source.{Source, block_of, block_of_row, level_in, level_of}
 use Rattle.sim_scope.specs.Tables.{BlockOf, Tables, deeper}
 use Rattle.sim_scope.specs.Walk.{program_events}
-use Rattle.virtual_match.specs.Qualifying.{entry_to, type_to}
+use Rattle.virtual_match.specs.Qualifying.{entry_to}
 use Rattle.sim_meaning.specs.Attributes.{first_in, is_connection}
 use Rattle.sim_meaning.specs.Entries.{numbers_in, numbers_of}
 use Rattle.sim_meaning.specs.Texts.{BlockText, ClassText, ConnectionText, PrefixedText, ProcedureText, StandardText, Text, program_texts, text}
@@ -36,20 +35,28 @@ use Rattle.sim_agree.proofs.Clean.{Clean, Counts}
 use Rattle.sim_agree.proofs.Covered.{Covered}
 use Rattle.sim_agree.proofs.Owned.{Owned}
 use Rattle.sim_agree.proofs.CleanRuns.{run_clean}
-use Rattle.sim_agree.proofs.Completing.{AllReferences, Completes, Retyped, bare_row, entry_is_class, kind_in}
-use Rattle.sim_agree.proofs.Prefixing.{Based, PrefixOf, complete, prefix_more, prefixed_tables}
-use Rattle.sim_agree.proofs.Fine.{Agree, Alike, AlikeResults, AlikeTypes, KindIs, Rising, RowIn, RowOf, class_row, deeper_in, formal_row, own_row, owner_in, procedure_row}
+use Rattle.sim_agree.proofs.Completing.{AllReferences, Completes, HasNext, Retyped, bare_row, entry_is_class, has_base, kind_in, prefixable_base}
+use Rattle.sim_agree.proofs.Prefixing.{Based, PrefixOf, complete, prefix_more, prefixed_tables, showing_kept}
+use Rattle.sim_agree.proofs.Fine.{Agree, IsStandard, SetGroup, attribute_row, first_or_none, own_base, KindIs, Rising, RowIn, RowOf, class_row, deeper_in, formal_row, own_row, owner_in, procedure_row}
 use Rattle.sim_agree.proofs.FineRuns.{run_agrees}
-use Rattle.sim_agree.proofs.Groups.{AreReferences, IsReference, NoBreaks, OfReferences, PlainFormal, PlainKind, program_grouped, Declaring}
+use Rattle.sim_agree.proofs.Groups.{NoBreaks, OfReferences, PlainKind, program_grouped, Declaring}
 use Rattle.sim_agree.proofs.Laid.{program_held, program_laid}
 use Rattle.sim_agree.proofs.Openings.{Opened, program_opened}
 use Rattle.sim_agree.proofs.Spots.{Final, Here, Lay, run_laid}
-use Rattle.sim_agree.proofs.Steps.{IsParameter, Parametric}
-use Rattle.sim_agree.proofs.Unprefixed.{Unprefixed, extras_in, nothing_bare, nothing_baseless, is_prefixable}
+use Rattle.sim_agree.proofs.PlainNames.{SetsOrNone}
+use Rattle.sim_agree.proofs.SetBlocks.{no_base, no_standard, set_base, showing}
+use Rattle.sim_agree.proofs.Unprefixed.{Showing, StandsIn, nothing_bare, is_prefixable}
 use Rattle.sim_agree.proofs.ClassRows.{class_entry, class_of_kind, class_stands, levels_of_kind, no_connection}
 use Rattle.sim_meaning.specs.Levels.{has_levels, is_class}
+use Rattle.sim_agree.proofs.Retypes.{alike_new, bare_around, bare_deeper, bare_first, bare_kind, bare_level, bare_numbers, bare_owner, class_new, kind_bare, param_now, param_was, parametric_new, unspecified_was, virtual_new}
 
 -- ---- the whole program, as it is declared
+
+nothing_based : (k : ℕ) → base_in (slice_get empty.tables.blocks k) ≡ own_base (slice_get empty.tables.blocks k)
+nothing_based k = refl
+
+nothing_textless : (k : ℕ) → first_or_none (slice_get empty.tables.blocks k) ≡ 0
+nothing_textless k = refl
 
 nothing_agrees : Agree empty [] []
 nothing_agrees = record {
@@ -59,13 +66,16 @@ nothing_agrees = record {
     nested = λ t u is. absurd (cc);
     levels = λ t u is. absurd (cc);
     kinds = λ t. tt;
-    listed = λ d row is. absurd (cc);
+    listed = λ d row is l. absurd (cc);
     evens = λ j. tt;
-    finds = λ d row is. absurd (cc);
+    finds = λ d row is l. absurd (cc);
     own = λ k d a. absurd (elim a [ ]);
     rising = λ k n m d e at to lt. absurd (cc);
-    baseless = nothing_baseless;
+    based = λ k. nothing_based k;
     bare = nothing_bare;
+    sets = λ k which is. absurd (cc);
+    textless = λ k. nothing_textless k;
+    brought = λ k d a. absurd (elim a [ ]);
   };
   rows = λ d row is. absurd (cc);
 }
@@ -86,10 +96,10 @@ nothing_laid = record {
   stack = refl;
   reach = omega arith;
   done = λ n x p is has. absurd (cc);
-  firsts = λ k row is. absurd (cc);
+  firsts = λ k row is other. absurd (cc);
   joins = λ n i a is. absurd (cc);
   below = λ d row is. absurd (cc);
-  rising = λ d e row other is at lt. absurd (cc);
+  rising = λ d e row other is at lt own. absurd (cc);
   bare = nothing_bare;
 }
 
@@ -121,15 +131,15 @@ pub program_covered : (p : Program) → Plain p → (declared_by p).least ≡ No
 unfolding declared_by
 program_covered p q clean = (run_clean empty [] (program_grouped p q) tt nothing_agrees clean).3 nothing_covered
 
-pub program_final : (p : Program) → Plain p → InOrder p → Final (declared_by p) (program_held p.block)
+pub program_final : (p : Program) → Plain p → InOrder p → Final (declared_by p) (program_held p.prefix p.block)
 unfolding declared_by
 program_final p q order = run_laid empty [] 0 (program_laid p q) order nothing_laid
 
 -- a block begins at its first token
-pub first_place : (p : Program) → Plain p → InOrder p → (k : ℕ) (row : BlockOf) → slice_get (declared_by p).tables.blocks k ≡ Some row → slice_get (declared_by p).tables.places row.first ≡ Some (Some k)
-first_place p q order k row at = go (f.laid.firsts k row at)
+pub first_place : (p : Program) → Plain p → InOrder p → (k : ℕ) (row : BlockOf) → slice_get (declared_by p).tables.blocks k ≡ Some row → is_standard_class row.kind ≡ false → slice_get (declared_by p).tables.places row.first ≡ Some (Some k)
+first_place p q order k row at other = go (f.laid.firsts k row at other)
   where
-    f : Final (declared_by p) (program_held p.block)
+    f : Final (declared_by p) (program_held p.prefix p.block)
     f = program_final p q order
 
     go : Here (declared_by p) f.to k row.first → slice_get (declared_by p).tables.places row.first ≡ Some (Some k)
@@ -140,7 +150,7 @@ first_place p q order k row at = go (f.laid.firsts k row at)
 
 -- a text is a class
 abbrev pub IsClassText : Program → ℕ → Type 0
-IsClassText p n = (prefix : Option Identifier) × (h : Heading) × (ds : Declarations) × (ss : Statements) × (slice_get (program_texts p.prefix p.block) n ≡ Some (ClassText prefix h ds ss))
+IsClassText p n = is_class (slice_get (program_texts p.prefix p.block) n) ≡ true
 
 pub all_references : (D : Tables) (qs : List Qualification) → ((i : ℕ) (x : Qualification) → slice_get qs i ≡ Some x → (row : Declaration) × (slice_get D.declarations x.declaration.0 ≡ Some row) × OfReferences row.entry) → AllReferences D qs
 all_references D [] h = tt
@@ -189,12 +199,16 @@ class_block_at p plain clean k row at e =
 
 -- the tables with the prefixes of classes and blocks
 pub program_prefixed : (p : Program) → Plain p → Based (declared_by p).tables (prefixed (declared_by p).tables)
-program_prefixed p plain = prefixed_tables (declared_by p).tables (program_agrees p plain).fine.bare (program_agrees p plain).fine.baseless
+unfolding base
+program_prefixed p plain =
+    let f = (program_agrees p plain).fine in
+    prefixed_tables (declared_by p).tables (showing (declared_by p) (program_texts p.prefix p.block) [] f) (no_base (declared_by p) (program_texts p.prefix p.block) [] f) (no_standard (declared_by p) (program_texts p.prefix p.block) [] f)
 
 pub completes : (s : Source) → TablesOf s → Plain s.program → InOrder s.program → Completes (declared_by s.program).tables s.tables (IsClassText s.program)
+unfolding base
 completes s of plain order =
     subst (λ z. Completes D z (IsClassText s.program)) (sym of.tables)
-    (complete D s.program (IsClassText s.program) (program_prefixed s.program plain) (all_references D D.qualifications (program_clean s.program plain of.unbroken).refs) classes conn (program_opened s.program plain))
+    (complete D s.program (IsClassText s.program) (program_prefixed s.program plain) (all_references D D.qualifications (program_clean s.program plain of.unbroken).refs) classes set_bases conn (program_opened s.program plain))
   where
     D : Tables
     D = (declared_by s.program).tables
@@ -209,205 +223,19 @@ completes s of plain order =
         go None q = absurd q
         go (Some x) q = class_entry x D.blocks (program_texts s.program.prefix s.program.block) d row n e q
 
+    set_bases : (k c : ℕ) → base D k ≡ Some c → HasNext D k × IsClassText s.program c
+    set_bases k c e =
+        let q = set_base (declared_by s.program) (program_texts s.program.prefix s.program.block) [] agree.fine k c e in
+        ((q.0, q.1, inr (ap has_base q.2.kind)), ap is_class q.2.linkage)
+
     conn : (i k : ℕ) → Opened D.blocks i → joined (slice_get D.places i) ≡ Some k → (row : BlockOf) × (slice_get D.blocks k ≡ Some row) × (row.kind ≡ kind.Connection)
     conn i k o at =
-        let e : slice_get D.places i ≡ Some (Some o.number) = ap (slice_get D.places) (sym o.begins) ∙ first_place s.program plain order o.number o.row o.at in
+        let e : slice_get D.places i ≡ Some (Some o.number) = ap (slice_get D.places) (sym o.begins) ∙ first_place s.program plain order o.number o.row o.at (ap is_standard_class o.is) in
         let same : o.number ≡ k = some_number o.number k (sym (ap joined e) ∙ at) in
         (o.row, subst (λ z. slice_get D.blocks z ≡ Some o.row) same o.at, o.is)
       where
         some_number : (m n : ℕ) → Some m ≡ Some n → m ≡ n
         some_number m n q = cc
-
--- ---- of a source
-
--- what is the same of a block without the class that it connects
-bare_around : (o : Option BlockOf) → around (bare_row o) ≡ around o
-bare_around None = refl
-bare_around (Some row) = refl
-
-bare_first : (o : Option BlockOf) → first_in (bare_row o) ≡ first_in o
-bare_first None = refl
-bare_first (Some row) = refl
-
-bare_numbers : (o : Option BlockOf) → numbers_in (bare_row o) ≡ numbers_in o
-bare_numbers None = refl
-bare_numbers (Some row) = refl
-
-bare_level : (o : Option BlockOf) → level_in (bare_row o) ≡ level_in o
-bare_level None = refl
-bare_level (Some row) = refl
-
-bare_owner : (o : Option BlockOf) → owner_in (bare_row o) ≡ owner_in o
-bare_owner None = refl
-bare_owner (Some row) = refl
-
-bare_extras : (o : Option BlockOf) → extras_in (bare_row o) ≡ extras_in o
-bare_extras None = refl
-bare_extras (Some row) = refl
-
-bare_deeper : (n : ℕ) (o : Option BlockOf) → deeper_in (bare_row o) n ≡ deeper_in o n
-bare_deeper n None = refl
-bare_deeper n (Some row) = refl
-
-bare_found : (name : List ℕ) (o : Option BlockOf) → declared_in (bare_row o) name ≡ declared_in o name
-bare_found name None = refl
-bare_found name (Some row) = refl
-
-bare_kind : (x : Option Text) (o : Option BlockOf) → KindIs (bare_row o) x → KindIs o x
-bare_kind x None k = k
-bare_kind None (Some row) k = absurd k
-bare_kind (Some x) (Some row) k = k
-
-kind_bare : (x : Option Text) (o : Option BlockOf) → KindIs o x → KindIs (bare_row o) x
-kind_bare x None k = k
-kind_bare None (Some row) k = absurd k
-kind_bare (Some x) (Some row) k = k
-
--- entries with the classes of references
-alike_reference : (a b : SimType) (class : DeclNo) → IsReference b → AlikeTypes a b → AlikeTypes a (t.Ref class)
-alike_reference a t.NoneType class r e = e
-alike_reference a (t.Ref d) class r e = e
-alike_reference a t.Integer class r e = absurd r
-alike_reference a t.Boolean class r e = absurd r
-alike_reference a t.Character class r e = absurd r
-alike_reference a t.Text class r e = absurd r
-
-alike_to : (e old : Entry) (class : DeclNo) → OfReferences old → Alike e old → Alike e (entry_to class old)
-unfolding entry_to
-alike_to (entry.Variable a) (entry.Variable b) class r e = alike_reference a b class r e
-alike_to (entry.Constant a) (entry.Constant b) class r e = alike_reference a b class r e
-alike_to (entry.Array a n) (entry.Array b m) class r e = (alike_reference a b class r e.0, e.1)
-alike_to (entry.Procedure (Some a) k) (entry.Procedure (Some b) j) class r e = (alike_reference a b class r e.0, e.1)
-alike_to (entry.Procedure None k) (entry.Procedure (Some b) j) class r e = absurd e.0
-alike_to (entry.Procedure a k) (entry.Procedure None j) class r e = absurd r
-alike_to (entry.Class k) (entry.Class j) class r e = absurd r
-alike_to (entry.Formal f) (entry.Formal g) class r e = (e.0, e.1, of_type f.ty g.ty r e.2)
-  where
-    of_type : (a b : Option SimType) → AreReferences b → AlikeResults a b → AlikeResults a (type_to class b)
-    of_type (Some a) (Some b) r e = alike_reference a b class r e
-    of_type None (Some b) r e = absurd e
-    of_type a None r e = absurd r
-alike_to e (entry.Unspecified w) class r a = absurd r
-alike_to e (entry.Virtual result own) class r a = absurd r
-alike_to e (entry.Attribute name given result) class r a = absurd r
-alike_to _ _ class r a = absurd a
-
-parametric_to : (old : Entry) (class : DeclNo) → Parametric old → Parametric (entry_to class old)
-unfolding entry_to
-parametric_to (entry.Formal f) class p = (p.0, of_kind f.kind f.ty p.1)
-  where
-    of_kind : (k : FormalKind) (ty : Option SimType) → PlainFormal k ty → PlainFormal k (type_to class ty)
-    of_kind shape.Simple (Some ty) q = tt
-    of_kind shape.Array (Some ty) q = tt
-    of_kind shape.Simple None q = q
-    of_kind shape.Array None q = q
-    of_kind shape.Procedure ty q = absurd q
-parametric_to (entry.Unspecified w) class p = p
-parametric_to (entry.Variable ty) class p = absurd p
-parametric_to (entry.Constant ty) class p = absurd p
-parametric_to (entry.Array ty n) class p = absurd p
-parametric_to (entry.Procedure result n) class p = absurd p
-parametric_to (entry.Class n) class p = absurd p
-parametric_to (entry.Virtual result n) class p = absurd p
-parametric_to (entry.Attribute name given result) class p = absurd p
-
-module _ (old new : Entry) (e : (new ≡ old) ⊎ (OfReferences old × ((class : DeclNo) × (new ≡ entry_to class old)))) where
-  pub alike_new : (x : Entry) → Alike x old → Alike x new
-  alike_new x a = go e
-    where
-      go : (new ≡ old) ⊎ (OfReferences old × ((class : DeclNo) × (new ≡ entry_to class old))) → Alike x new
-      go (inl q) = subst (Alike x) (sym q) a
-      go (inr q) = subst (Alike x) (sym q.1.1) (alike_to x old q.1.0 q.0 a)
-
-  parametric_new : Parametric old → Parametric new
-  parametric_new p = go e
-    where
-      go : (new ≡ old) ⊎ (OfReferences old × ((class : DeclNo) × (new ≡ entry_to class old))) → Parametric new
-      go (inl q) = subst Parametric (sym q) p
-      go (inr q) = subst Parametric (sym q.1.1) (parametric_to old q.1.0 p)
-
-  pub class_new : (n : ℕ) → old ≡ entry.Class n → new ≡ entry.Class n
-  class_new n is = go e
-    where
-      go : (new ≡ old) ⊎ (OfReferences old × ((class : DeclNo) × (new ≡ entry_to class old))) → new ≡ entry.Class n
-      go (inl q) = q ∙ is
-      go (inr q) = absurd (subst OfReferences is q.0)
-
-  param_was : IsParameter new → IsParameter old
-  unfolding entry_to
-  param_was p = go e
-    where
-      back : (old : Entry) (class : DeclNo) → IsParameter (entry_to class old) → IsParameter old
-      back (entry.Formal f) class q = tt
-      back (entry.Unspecified w) class q = tt
-      back (entry.Variable ty) class q = q
-      back (entry.Constant ty) class q = q
-      back (entry.Array ty n) class q = q
-      back (entry.Procedure result n) class q = q
-      back (entry.Class n) class q = q
-      back (entry.Virtual result n) class q = q
-      back (entry.Attribute name given result) class q = q
-
-      go : (new ≡ old) ⊎ (OfReferences old × ((class : DeclNo) × (new ≡ entry_to class old))) → IsParameter old
-      go (inl q) = subst IsParameter q p
-      go (inr q) = back old q.1.0 (subst IsParameter q.1.1 p)
-
-  param_now : IsParameter old → IsParameter new
-  unfolding entry_to
-  param_now p = go e
-    where
-      forth : (old : Entry) (class : DeclNo) → IsParameter old → IsParameter (entry_to class old)
-      forth (entry.Formal f) class q = tt
-      forth (entry.Unspecified w) class q = tt
-      forth (entry.Variable ty) class q = q
-      forth (entry.Constant ty) class q = q
-      forth (entry.Array ty n) class q = q
-      forth (entry.Procedure result n) class q = q
-      forth (entry.Class n) class q = q
-      forth (entry.Virtual result n) class q = q
-      forth (entry.Attribute name given result) class q = q
-
-      go : (new ≡ old) ⊎ (OfReferences old × ((class : DeclNo) × (new ≡ entry_to class old))) → IsParameter new
-      go (inl q) = subst IsParameter (sym q) p
-      go (inr q) = subst IsParameter (sym q.1.1) (forth old q.1.0 p)
-
-  unspecified_was : (w : Option WrittenMode) → new ≡ entry.Unspecified w → old ≡ entry.Unspecified w
-  unfolding entry_to
-  unspecified_was w is = go e
-    where
-      back : (old : Entry) (class : DeclNo) → OfReferences old → entry_to class old ≡ entry.Unspecified w → ⊥
-      back (entry.Variable ty) class r q = cc
-      back (entry.Constant ty) class r q = cc
-      back (entry.Array ty n) class r q = cc
-      back (entry.Procedure result n) class r q = cc
-      back (entry.Formal f) class r q = cc
-      back (entry.Class n) class r q = r
-      back (entry.Unspecified v) class r q = r
-      back (entry.Virtual result n) class r q = r
-      back (entry.Attribute name given result) class r q = r
-
-      go : (new ≡ old) ⊎ (OfReferences old × ((class : DeclNo) × (new ≡ entry_to class old))) → old ≡ entry.Unspecified w
-      go (inl q) = sym q ∙ is
-      go (inr q) = absurd (back old q.1.0 q.0 (sym q.1.1 ∙ is))
-
-  pub virtual_new : is_virtual old ≡ false → is_virtual new ≡ false
-  unfolding entry_to
-  virtual_new v = go e
-    where
-      kept : (old : Entry) (class : DeclNo) → OfReferences old → is_virtual (entry_to class old) ≡ false
-      kept (entry.Variable ty) class r = refl
-      kept (entry.Constant ty) class r = refl
-      kept (entry.Array ty n) class r = refl
-      kept (entry.Procedure result n) class r = refl
-      kept (entry.Formal f) class r = refl
-      kept (entry.Class n) class r = absurd r
-      kept (entry.Unspecified w) class r = absurd r
-      kept (entry.Virtual result n) class r = absurd r
-      kept (entry.Attribute name given result) class r = absurd r
-
-      go : (new ≡ old) ⊎ (OfReferences old × ((class : DeclNo) × (new ≡ entry_to class old))) → is_virtual new ≡ false
-      go (inl q) = ap is_virtual q ∙ v
-      go (inr q) = ap is_virtual q.1.1 ∙ kept old q.1.0 q.0
 
 module _ (s : Source) (of : TablesOf s) (plain : Plain s.program) (order : InOrder s.program) where
   abbrev pub Bs : List BlockOf
@@ -438,7 +266,7 @@ module _ (s : Source) (of : TablesOf s) (plain : Plain s.program) (order : InOrd
   pub same_first : (k : ℕ) → first_in (slice_get s.tables.blocks k) ≡ first_in (slice_get (declared_by s.program).tables.blocks k)
   same_first k = sym (bare_first (slice_get s.tables.blocks k)) ∙ ap first_in (C.blocks k) ∙ bare_first (slice_get (declared_by s.program).tables.blocks k)
 
-  same_numbers : (k : ℕ) → numbers_in (slice_get s.tables.blocks k) ≡ numbers_in (slice_get (declared_by s.program).tables.blocks k)
+  pub same_numbers : (k : ℕ) → numbers_in (slice_get s.tables.blocks k) ≡ numbers_in (slice_get (declared_by s.program).tables.blocks k)
   same_numbers k = sym (bare_numbers (slice_get s.tables.blocks k)) ∙ ap numbers_in (C.blocks k) ∙ bare_numbers (slice_get (declared_by s.program).tables.blocks k)
 
   same_level : (k : ℕ) → level_in (slice_get s.tables.blocks k) ≡ level_in (slice_get (declared_by s.program).tables.blocks k)
@@ -451,23 +279,28 @@ module _ (s : Source) (of : TablesOf s) (plain : Plain s.program) (order : InOrd
   same_deeper k n = sym (bare_deeper n (slice_get s.tables.blocks k)) ∙ ap (λ o. deeper_in o n) (C.blocks k) ∙ bare_deeper n (slice_get (declared_by s.program).tables.blocks k)
 
   -- the block of the declared tables
-  pub row_was : (k : ℕ) (row : BlockOf) → slice_get s.tables.blocks k ≡ Some row → (old : BlockOf) × (slice_get (declared_by s.program).tables.blocks k ≡ Some old) × (record row { base = None } ≡ record old { base = None })
+  pub row_was : (k : ℕ) (row : BlockOf) → slice_get s.tables.blocks k ≡ Some row → (old : BlockOf) × (slice_get (declared_by s.program).tables.blocks k ≡ Some old) × (record row { base = None; standard = None } ≡ record old { base = None; standard = None })
   row_was k row at = go (slice_get (declared_by s.program).tables.blocks k) refl (sym (ap bare_row at) ∙ C.blocks k)
     where
-      go : (o : Option BlockOf) → slice_get (declared_by s.program).tables.blocks k ≡ o → Some (record row { base = None }) ≡ bare_row (slice_get (declared_by s.program).tables.blocks k)
-          → (old : BlockOf) × (o ≡ Some old) × (record row { base = None } ≡ record old { base = None })
-      go None is e = absurd (let f : Some (record row { base = None }) ≡ None = e ∙ ap bare_row is in cc)
-      go (Some old) is e = (old, refl, some_row (record row { base = None }) (record old { base = None }) (e ∙ ap bare_row is))
+      go : (o : Option BlockOf) → slice_get (declared_by s.program).tables.blocks k ≡ o → Some (record row { base = None; standard = None }) ≡ bare_row (slice_get (declared_by s.program).tables.blocks k)
+          → (old : BlockOf) × (o ≡ Some old) × (record row { base = None; standard = None } ≡ record old { base = None; standard = None })
+      go None is e = absurd (let f : Some (record row { base = None; standard = None }) ≡ None = e ∙ ap bare_row is in cc)
+      go (Some old) is e = (old, refl, some_row (record row { base = None; standard = None }) (record old { base = None; standard = None }) (e ∙ ap bare_row is))
         where
           some_row : (a b : BlockOf) → Some a ≡ Some b → a ≡ b
           some_row a b q = cc
 
-  -- nothing of prefixes is in them
-  pub unprefixed : Unprefixed s.tables
-  unprefixed = record {
-    blocks = λ k. sym (bare_extras (slice_get s.tables.blocks k)) ∙ ap extras_in (C.blocks k) ∙ bare_extras (slice_get (declared_by s.program).tables.blocks k) ∙ agree.fine.bare.blocks k;
-    virtuals = λ d row at. (let w = C.rows.was d row at in virtual_new w.0.entry row.entry w.2.entry (agree.fine.bare.virtuals d w.0 w.1));
-  }
+  pub P : Based (declared_by s.program).tables (prefixed (declared_by s.program).tables)
+  P = program_prefixed s.program plain
+
+  pub stands_now : (k : ℕ) (d : DeclNo) → StandsIn (declared_by s.program).tables k d → StandsIn s.tables k d
+  stands_now k d q = let n = C.rows.stays d.0 q.0 q.1 in (n.0, n.1, n.2.block ∙ q.2)
+
+  -- what is looked for in them
+  pub shows : Showing s.tables
+  shows =
+      showing_kept (declared_by s.program).tables s.tables (showing (declared_by s.program) (program_texts s.program.prefix s.program.block) [] agree.fine) C.blocks (λ k. subst SetsOrNone (sym (C.standards k)) (P.standards k)) stands_now
+      (λ d row at. (let w = C.rows.was d row at in virtual_new w.0.entry row.entry w.2.entry (agree.fine.bare.virtuals d w.0 w.1)))
 
   pub nesting : (t u : ℕ) → encloser s.tables t ≡ Some u → u < t
   unfolding encloser
@@ -522,7 +355,10 @@ module _ (s : Source) (of : TablesOf s) (plain : Plain s.program) (order : InOrd
     where
       some_row : {a b : BlockOf} → Some a ≡ Some b → a ≡ b
       some_row q = cc
-  connection_of (Some row) (Some (StandardText which)) k n = absurd k
+  connection_of (Some row) (Some (StandardText which)) k n = (λ e found is. ap (λ (z : BlockOf). deeper z.kind n) (sym (some_row is)) ∙ ap (λ z. deeper z n) k ∙ (let q : n + 1 ≡ suc n = omega arith in q), λ e. absurd (cc))
+    where
+      some_row : {a b : BlockOf} → Some a ≡ Some b → a ≡ b
+      some_row q = cc
 
   pub levels : (t u : ℕ) → is_connection (text s t) ≡ false → encloser s.tables t ≡ Some u → level_of s t ≡ suc (level_of s u)
   unfolding encloser text
@@ -536,10 +372,10 @@ module _ (s : Source) (of : TablesOf s) (plain : Plain s.program) (order : InOrd
   unfolding text
   levels_of_connections t u is e = depths t u e ∙ (connection_of (slice_get s.tables.blocks t) (slice_get Ts t) (kind_at t) (level_of s u)).1 is
 
-  pub listed : (d : DeclNo) (row : Declaration) → slice_get s.tables.declarations d.0 ≡ Some row → Among d (numbers_of s row.block)
-  listed d row at =
+  pub listed : (d : DeclNo) (row : Declaration) → slice_get s.tables.declarations d.0 ≡ Some row → row.listed ≡ true → Among d (numbers_of s row.block)
+  listed d row at l =
       let w = C.rows.was d.0 row at in
-      subst (λ z. Among d (numbers_of s z)) (sym w.2.block) (subst (λ ns. Among d ns) (sym (same_numbers w.0.block)) (agree.fine.listed d.0 w.0 w.1))
+      subst (λ z. Among d (numbers_of s z)) (sym w.2.block) (subst (λ ns. Among d ns) (sym (same_numbers w.0.block)) (agree.fine.listed d.0 w.0 w.1 (sym w.2.listed ∙ l)))
 
   pub owned : (k : ℕ) (d : DeclNo) → Among d (numbers_of s k) → (row : Declaration) × (slice_get s.tables.declarations d.0 ≡ Some row) × (row.block ≡ k)
   owned k d a =
@@ -553,8 +389,45 @@ module _ (s : Source) (of : TablesOf s) (plain : Plain s.program) (order : InOrd
   pub rising : (k : ℕ) → Rising (numbers_of s k)
   rising k = subst Rising (sym (same_numbers k)) (agree.fine.rising k)
 
+  -- a class of SIMSET has its next level from the start
+  set_base_stays : (k : ℕ) (which : StandardClass) → text s k ≡ Some (StandardText which) → base_in (slice_get s.tables.blocks k) ≡ base_in (slice_get (declared_by s.program).tables.blocks k)
+  unfolding text base
+  set_base_stays k which is = C.steady k other ∙ go (base_in (slice_get (prefixed (declared_by s.program).tables).blocks k)) refl (base_in (slice_get (declared_by s.program).tables.blocks k)) refl
+    where
+      kind_is : (row : BlockOf) → slice_get (declared_by s.program).tables.blocks k ≡ Some row → row.kind ≡ kind.StandardClass which
+      kind_is row at = subst (λ o. KindIs (Some row) o) is (subst (λ o. KindIs o (slice_get Ts k)) at (agree.fine.kinds k))
+
+      other : kind_in (slice_get (declared_by s.program).tables.blocks k) ≡ Some kind.Connection → ⊥
+      other e = there (slice_get (declared_by s.program).tables.blocks k) refl e
+        where
+          there : (o : Option BlockOf) → slice_get (declared_by s.program).tables.blocks k ≡ o → kind_in o ≡ Some kind.Connection → ⊥
+          there None at f = cc
+          there (Some row) at f = let q : kind.StandardClass which ≡ kind.Connection = sym (kind_is row at) ∙ (let h : row.kind ≡ kind.Connection = cc in h) in cc
+
+      never : (c : ℕ) → PrefixOf (declared_by s.program).tables (prefixed (declared_by s.program).tables) k c → ⊥
+      never c p = let e : false ≡ true = ap is_prefixable (sym (kind_is p.row p.at)) ∙ p.kind in cc
+
+      go : (o : Option ℕ) → base_in (slice_get (prefixed (declared_by s.program).tables).blocks k) ≡ o → (p : Option ℕ) → base_in (slice_get (declared_by s.program).tables.blocks k) ≡ p → o ≡ p
+      go None e None f = refl
+      go (Some c) e p f = pick (P.bases k c e)
+        where
+          pick : PrefixOf (declared_by s.program).tables (prefixed (declared_by s.program).tables) k c ⊎ (base_in (slice_get (declared_by s.program).tables.blocks k) ≡ Some c) → Some c ≡ p
+          pick (inl q) = absurd (never c q)
+          pick (inr q) = sym q ∙ f
+      go None e (Some c) f = absurd (let h : None ≡ Some c = sym e ∙ P.kept k c f in cc)
+
+  pub group_now : (n : ℕ) (first : DeclNo) → SetGroup (declared_by s.program).tables.blocks Ts n first → SetGroup Bs Ts n first
+  unfolding text
+  group_now n first g = record {
+    host = g.host;
+    texts = g.texts;
+    bases = λ which p. set_base_stays (n + 1 + place_of which) which (g.texts which p) ∙ g.bases which p;
+    around = λ which p. same_around (n + 1 + place_of which) ∙ g.around which p;
+    owners = λ which p. same_owner (n + 1 + place_of which) ∙ g.owners which p;
+  }
+
   row_in : (x : Text) (d : ℕ) (old new : Declaration) → Retyped old new → RowIn (declared_by s.program).tables.blocks Ts x d old → RowIn Bs Ts x d new
-  row_in x d old new r (own_row y p) = own_row y (record { entry = p.entry; fits = p.fits; alike = alike_new old.entry new.entry r.entry p.entry p.alike; name = p.name; named = p.named ∙ sym r.name; token = p.token ∙ sym r.token; mark = p.mark })
+  row_in x d old new r (own_row y p) = own_row y (record { entry = p.entry; fits = p.fits; alike = alike_new old.entry new.entry r.entry p.entry p.alike; name = p.name; named = p.named ∙ sym r.name; token = p.token ∙ sym r.token; listed = r.listed ∙ p.listed; mark = p.mark })
   row_in x d old new r (procedure_row y p) =
       procedure_row y (record {
         result = p.result;
@@ -562,13 +435,24 @@ module _ (s : Source) (of : TablesOf s) (plain : Plain s.program) (order : InOrd
         body = p.body;
         number = p.number;
         entry = alike_new old.entry new.entry r.entry (entry.Procedure (result_named p.result) p.number) p.entry;
+        listed = r.listed ∙ p.listed;
         text = p.text;
         around = same_around p.number ∙ p.around ∙ ap Some (sym r.block);
         owner = same_owner p.number ∙ p.owner;
       })
   row_in x d old new r (class_row y p) =
-      class_row y (record { prefix = p.prefix; heading = p.heading; declarations = p.declarations; statements = p.statements; number = p.number; entry = class_new old.entry new.entry r.entry p.number p.entry; text = p.text; around = same_around p.number ∙ p.around ∙ ap Some (sym r.block); owner = same_owner p.number ∙ p.owner })
-  row_in x d old new r (formal_row y p) = formal_row y (parametric_new old.entry new.entry r.entry p)
+      class_row y (record { class = p.class; is = p.is; number = p.number; entry = class_new old.entry new.entry r.entry p.number p.entry; listed = still p.listed; text = p.text; around = same_around p.number ∙ p.around ∙ ap Some (sym r.block); owner = same_owner p.number ∙ p.owner })
+    where
+      still : (old.listed ≡ true) ⊎ IsStandard p.class → (new.listed ≡ true) ⊎ IsStandard p.class
+      still (inl l) = inl (r.listed ∙ l)
+      still (inr q) = inr q
+  row_in x d old new r (formal_row y p l) = formal_row y (parametric_new old.entry new.entry r.entry p) (r.listed ∙ l)
+  row_in x d old new r (attribute_row y p) =
+      attribute_row y (record { name = p.name; class = p.class; owner = p.owner; is_set = p.is_set; block = p.block; first = p.first; group = group_now p.block p.first p.group; is = p.is; entry = go r.entry; listed = r.listed ∙ p.listed; stands = r.block ∙ p.stands })
+    where
+      go : (new.entry ≡ old.entry) ⊎ (OfReferences old.entry × ((class : DeclNo) × (new.entry ≡ entry_to class old.entry))) → new.entry ≡ attribute_entry (Some p.first) p.name
+      go (inl e) = e ∙ p.entry
+      go (inr q) = absurd (subst OfReferences p.entry q.0)
 
   pub row_at : (d : ℕ) (row : Declaration) → slice_get s.tables.declarations d ≡ Some row → RowOf Bs Ts (slice_get Ts row.block) d row
   row_at d row at =
@@ -603,27 +487,27 @@ module _ (s : Source) (of : TablesOf s) (plain : Plain s.program) (order : InOrd
   unfolding block_of
   block_is d row e = ap block_of_row e
 
-  -- the program's block comes first
-  pub starts : (begin : ℕ) × (ds : Declarations) × (ss : Statements) × (text s 0 ≡ Some (BlockText begin ds ss))
+  -- there is a text
+  pub first_text : (x : Text) × (text s 0 ≡ Some x)
   unfolding text
-  starts = go s.program.prefix s.program.block plain.prefix
+  first_text = go s.program.prefix s.program.block
     where
-      go : (prefix : Option Prefix) (b : Block) → prefix ≡ None → (begin : ℕ) × (ds : Declarations) × (ss : Statements) × (slice_get (program_texts prefix b) 0 ≡ Some (BlockText begin ds ss))
-      go None (Begin i ds ss end) e = (i, ds, ss, refl)
-      go (Some p) b e = absurd (cc)
+      go : (prefix : Option Prefix) (b : Block) → (x : Text) × (slice_get (program_texts prefix b) 0 ≡ Some x)
+      go None (Begin i ds ss end) = (BlockText i ds ss, refl)
+      go (Some p) (Begin i ds ss end) = (PrefixedText p.class p.arguments ds ss, refl)
 
   pub some_block : 0 < length s.tables.blocks
   unfolding text
-  some_block = go (slice_get s.tables.blocks 0) refl (subst (λ o. KindIs (slice_get s.tables.blocks 0) o) starts.3 (kind_at 0))
+  some_block = go (slice_get s.tables.blocks 0) refl (subst (λ o. KindIs (slice_get s.tables.blocks 0) o) first_text.1 (kind_at 0))
     where
-      go : (o : Option BlockOf) → slice_get s.tables.blocks 0 ≡ o → KindIs o (Some (BlockText starts.0 starts.1 starts.2)) → 0 < length s.tables.blocks
+      go : (o : Option BlockOf) → slice_get s.tables.blocks 0 ≡ o → KindIs o (Some first_text.0) → 0 < length s.tables.blocks
       go None at q = absurd q
       go (Some row) at q = slice_get_within s.tables.blocks 0 row at
 
   -- ---- what is connected
 
   -- a next level is a class
-  pub connects : (k c : ℕ) → base s.tables k ≡ Some c → (prefix : Option Identifier) × (h : Heading) × (ds : Declarations) × (ss : Statements) × (text s c ≡ Some (ClassText prefix h ds ss))
+  pub connects : (k c : ℕ) → base s.tables k ≡ Some c → is_class (text s c) ≡ true
   unfolding base text
   connects k c e = (C.bases k c e).1
 
@@ -651,7 +535,7 @@ module _ (s : Source) (of : TablesOf s) (plain : Plain s.program) (order : InOrd
           by_text (Some (ClassText prefix h ds ss)) q = absurd (let f : kind.Class ≡ kind.Connection = sym q ∙ is in cc)
           by_text (Some ConnectionText) q = refl
           by_text (Some (PrefixedText class es ds ss)) q = absurd (let f : kind.Prefixed ≡ kind.Connection = sym q ∙ is in cc)
-          by_text (Some (StandardText which)) q = absurd q
+          by_text (Some (StandardText which)) q = absurd (let f : kind.StandardClass which ≡ kind.Connection = sym q ∙ is in cc)
 
       go : (o : Option BlockOf) → slice_get (declared_by s.program).tables.blocks k ≡ o → kind_in o ≡ Some kind.Connection → ⊥
       go None at f = cc
@@ -666,9 +550,9 @@ module _ (s : Source) (of : TablesOf s) (plain : Plain s.program) (order : InOrd
       go (Some row) at f = slice_get_within s.tables.blocks k row at
 
   -- what is no connection has the next level that its prefix gives it
-  pub own_base : (k : ℕ) → is_connection (text s k) ≡ false → base s.tables k ≡ base (prefixed (declared_by s.program).tables) k
+  pub own_base_of : (k : ℕ) → is_connection (text s k) ≡ false → base s.tables k ≡ base (prefixed (declared_by s.program).tables) k
   unfolding base
-  own_base k other = C.steady k (other_kind k other)
+  own_base_of k other = C.steady k (other_kind k other)
 
   -- a class has levels
   pub class_levels : (k : ℕ) → is_class (text s k) ≡ true → has_levels (text s k) ≡ true
@@ -682,52 +566,61 @@ module _ (s : Source) (of : TablesOf s) (plain : Plain s.program) (order : InOrd
       go o (Some (ClassText prefix h ds ss)) q f = refl
       go o (Some ConnectionText) q f = absurd (cc)
       go o (Some (PrefixedText class es ds ss)) q f = refl
-      go None (Some (StandardText which)) q f = absurd q
-      go (Some row) (Some (StandardText which)) q f = absurd q
+      go o (Some (StandardText which)) q f = refl
 
   -- what may have a prefix has levels
-  pub levels_there : (k : ℕ) (row : BlockOf) → slice_get (declared_by s.program).tables.blocks k ≡ Some row → is_prefixable row.kind ≡ true → has_levels (text s k) ≡ true
+  pub levels_there : (k : ℕ) (row : BlockOf) → slice_get (declared_by s.program).tables.blocks k ≡ Some row → has_base row.kind ≡ true → has_levels (text s k) ≡ true
   unfolding text
   levels_there k row at e = levels_of_kind row (slice_get Ts k) (subst (λ o. KindIs o (slice_get Ts k)) at (agree.fine.kinds k)) e
 
   -- and is no connection
-  pub prefixed_other : (k : ℕ) (row : BlockOf) → slice_get (declared_by s.program).tables.blocks k ≡ Some row → is_prefixable row.kind ≡ true → is_connection (text s k) ≡ false
+  pub prefixed_other : (k : ℕ) (row : BlockOf) → slice_get (declared_by s.program).tables.blocks k ≡ Some row → has_base row.kind ≡ true → is_connection (text s k) ≡ false
   prefixed_other k row at e = no_connection (text s k) (levels_there k row at e)
 
-  pub P : Based (declared_by s.program).tables (prefixed (declared_by s.program).tables)
-  P = program_prefixed s.program plain
+  -- what has a next level before connections are made
+  pub next_there : (k b : ℕ) → PrefixOf (declared_by s.program).tables (prefixed (declared_by s.program).tables) k b ⊎ (base (declared_by s.program).tables k ≡ Some b) → is_connection (text s k) ≡ false
+  unfolding base
+  next_there k b (inl p) = prefixed_other k p.row p.at (prefixable_base p.row.kind p.kind)
+  next_there k b (inr e) = let q = set_base (declared_by s.program) (program_texts s.program.prefix s.program.block) [] agree.fine k b e in prefixed_other k q.0 q.1 (ap has_base q.2.kind)
 
   -- what a prefix gives stays
   pub base_stays : (k b : ℕ) → base (prefixed (declared_by s.program).tables) k ≡ Some b → base s.tables k ≡ Some b
-  base_stays k b e = let p = P.bases k b e in own_base k (prefixed_other k p.row p.at p.kind) ∙ e
+  base_stays k b e = own_base_of k (next_there k b (P.bases k b e)) ∙ e
 
-  pub prefix_is : (k b : ℕ) → is_connection (text s k) ≡ false → base s.tables k ≡ Some b → PrefixOf (declared_by s.program).tables s.tables k b
-  prefix_is k b other e = prefix_more (declared_by s.program).tables (prefixed (declared_by s.program).tables) s.tables base_stays k b (P.bases k b (sym (own_base k other) ∙ e))
+  pub prefix_is : (k b : ℕ) → is_connection (text s k) ≡ false → base s.tables k ≡ Some b → PrefixOf (declared_by s.program).tables s.tables k b ⊎ (base (declared_by s.program).tables k ≡ Some b)
+  prefix_is k b other e = go (P.bases k b (sym (own_base_of k other) ∙ e))
+    where
+      go : PrefixOf (declared_by s.program).tables (prefixed (declared_by s.program).tables) k b ⊎ (base (declared_by s.program).tables k ≡ Some b) → PrefixOf (declared_by s.program).tables s.tables k b ⊎ (base (declared_by s.program).tables k ≡ Some b)
+      go (inl p) = inl (prefix_more (declared_by s.program).tables (prefixed (declared_by s.program).tables) s.tables base_stays k b p)
+      go (inr f) = inr f
 
-  -- a connection declares nothing
-  pub nothing_in_connections : (k : ℕ) → is_connection (text s k) ≡ true → (d : DeclNo) → Among d (numbers_of s k) → ⊥
+  -- nothing stands in a connection
+  pub nothing_stands_in_connections : (k : ℕ) → is_connection (text s k) ≡ true → (d : DeclNo) → StandsIn s.tables k d → ⊥
   unfolding text
-  nothing_in_connections k is d a =
-      let r = owned k d a in
+  nothing_stands_in_connections k is d r =
       let w = text_of_row d.0 r.0 r.1 in none w.0 (ap is_connection (sym w.1) ∙ ap (λ z. is_connection (slice_get Ts z)) r.2 ∙ is) w.2
     where
-      none : (x : Text) → is_connection (Some x) ≡ true → RowIn Bs Ts x d.0 (owned k d a).0 → ⊥
+      none : (x : Text) → is_connection (Some x) ≡ true → RowIn Bs Ts x d.0 r.0 → ⊥
       none ConnectionText e (own_row y p) = y
       none ConnectionText e (procedure_row y p) = y
       none ConnectionText e (class_row y p) = y
-      none ConnectionText e (formal_row y p) = y
+      none ConnectionText e (formal_row y p l) = y
+      none ConnectionText e (attribute_row y p) = y
       none (BlockText i ds ss) e q = cc
       none (ProcedureText result h b) e q = cc
       none (ClassText prefix h ds ss) e q = cc
       none (PrefixedText class es ds ss) e q = cc
       none (StandardText which) e q = cc
 
+  pub nothing_in_connections : (k : ℕ) → is_connection (text s k) ≡ true → (d : DeclNo) → Among d (numbers_of s k) → ⊥
+  nothing_in_connections k is d a = nothing_stands_in_connections k is d (owned k d a)
+
   -- ---- places
 
-  pub begun : (k : ℕ) (row : BlockOf) → slice_get s.tables.blocks k ≡ Some row → slice_get s.tables.places row.first ≡ Some (Some k)
-  begun k row at =
+  pub begun : (k : ℕ) (row : BlockOf) → slice_get s.tables.blocks k ≡ Some row → is_standard_class row.kind ≡ false → slice_get s.tables.places row.first ≡ Some (Some k)
+  begun k row at other =
       let w = row_was k row at in
-      ap (λ z. slice_get z row.first) C.places ∙ ap (λ (z : BlockOf). slice_get (declared_by s.program).tables.places z.first) w.2 ∙ first_place s.program plain order k w.0 w.1
+      ap (λ z. slice_get z row.first) C.places ∙ ap (λ (z : BlockOf). slice_get (declared_by s.program).tables.places z.first) w.2 ∙ first_place s.program plain order k w.0 w.1 (ap (λ (z : BlockOf). is_standard_class z.kind) (sym w.2) ∙ other)
 
   -- what is known of parameters: the first declarations of a block, as many as it has
   pub counts : (k : ℕ) (row : BlockOf) → slice_get s.tables.blocks k ≡ Some row → Counts s.tables.declarations row

@@ -16,8 +16,8 @@ use Rattle.sim_meaning.specs.Texts.{BlockText, ClassText, Text, arms_texts, bloc
 use Rattle.sim_sound.specs.Held.{Among, first, later}
 use Rattle.sim_sound.specs.Typed.{Distinct, arrays_in_segments, arrays_named, arrays_of_block, of_option}
 use Rattle.sim_tree.specs.Order.{Ascends, Behind, InOrder, Spot, Token, in_arms, in_block, in_bounds, in_declarations, in_each, in_element, in_expression, in_name, in_result, in_segment, in_side, in_statement, in_statements, in_type, in_variable, tokens, in_prefix}
-use Rattle.sim_agree.specs.Plain.{Plain, PlainArms, PlainBlock, PlainDeclarations, PlainStatement, PlainStatements, PlainPrefix, PlainName}
-use Rattle.sim_agree.proofs.PlainNames.{no_prefix_texts}
+use Rattle.sim_agree.specs.Plain.{Plain, PlainArms, PlainBlock, PlainDeclarations, PlainStatement, PlainStatements, PlainPrefix, PlainName, PlainStart}
+use Rattle.sim_agree.proofs.PlainNames.{behind_prefix}
 
 -- ---- tokens between two
 
@@ -76,9 +76,9 @@ prefix_past : (prefix : Option Identifier) (i : ℕ) (l : List Spot) → Ascends
 prefix_past None i l a = (i, (let z : i ≤ i = omega arith in z), a)
 prefix_past (Some class) i l a = (class.token.0 + 1, (let z : i ≤ class.token.0 = a.0 in let y : i ≤ class.token.0 + 1 = omega arith in y), a.1)
 
--- behind a prefix that brings no texts
+-- behind the texts of a prefix
 past_prefix : (prefix : Option Identifier) → PlainPrefix prefix → (xs : List Text) → AllInOrder xs → AllInOrder (prefix_texts prefix ++ xs)
-past_prefix prefix w xs a = subst (λ z. AllInOrder (z ++ xs)) (sym (no_prefix_texts prefix w)) a
+past_prefix prefix w xs a = behind_prefix AllInOrder prefix w xs a (tt, (tt, (tt, a)))
 
 all_both : (xs ys : List Text) → AllInOrder xs → AllInOrder ys → AllInOrder (xs ++ ys)
 all_both [] ys a b = b
@@ -286,15 +286,17 @@ mutual
 -- each text of a program
 pub text_in_order : (s : Source) → Plain s.program → InOrder s.program → (k : ℕ) (x : Text) → text s k ≡ Some x → TextInOrder x
 unfolding text
-text_in_order s plain order k x at = among (program_texts s.program.prefix s.program.block) k (all s.program.prefix s.program.block plain.prefix plain.block order) at
+text_in_order s plain order k x at = among (program_texts s.program.prefix s.program.block) k (all s.program.prefix s.program.block plain.start plain.block order) at
   where
     among : (xs : List Text) (k : ℕ) → AllInOrder xs → slice_get xs k ≡ Some x → TextInOrder x
     among [] k a at = absurd (cc)
     among (y ∷ xs) zero a at = subst TextInOrder (let e : y ≡ x = cc in e) a.0
     among (y ∷ xs) (suc k) a at = among xs k a.1 at
 
-    all : (prefix : Option Prefix) (b : Block) → prefix ≡ None → PlainBlock b → Ascends 0 (in_block b []) → AllInOrder (program_texts prefix b)
-    all (Some p) b e q a = absurd (cc)
+    all : (prefix : Option Prefix) (b : Block) → PlainStart prefix → PlainBlock b → Ascends 0 (in_block b []) → AllInOrder (program_texts prefix b)
+    all (Some p) (Begin i ds ss end) e q a =
+        let d = declarations_past ds q.0 (i + 1) (in_statements ss (Behind end ∷ [])) a.1 in
+        let r = statements_past ss q.1 d.0 (Behind end ∷ []) d.2 in ((i + 1, d.0, d.1), past_prefix (Some p.class) e.0 (declarations_texts ds ++ statements_texts ss) (all_both (declarations_texts ds) (statements_texts ss) d.3 r.3))
     all None (Begin i ds ss end) e q a =
         let d = declarations_past ds q.0 (i + 1) (in_statements ss (Behind end ∷ [])) a.1 in
         let r = statements_past ss q.1 d.0 (Behind end ∷ []) d.2 in ((i + 1, d.0, d.1), all_both (declarations_texts ds) (statements_texts ss) d.3 r.3)

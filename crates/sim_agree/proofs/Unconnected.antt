@@ -8,11 +8,11 @@ use Rattle.sim_scope.specs.declared.types.BlockKind.{BlockKind}
 use Rattle.sim_scope.specs.declared.types.BlockKind.TheVariants as kind
 use Rattle.sim_scope.specs.Access.{around, block_at, encloser, joined, is_connection, is_kind}
 use Rattle.sim_scope.specs.Along.{first_along, from_next}
-use Rattle.sim_scope.specs.Levels.{base, base_in, level_beyond}
+use Rattle.sim_scope.specs.Levels.{base, base_in, level_beyond, standard_in}
 use Rattle.sim_scope.specs.Scopes.{beyond, binding, declaration_from, declared_or_standard, detach_in, ends_search, found_in, has_detach, if_found, is_connected, is_detach, is_shown, outward, searched, shown, shown_of, shows_detach, standard_at, level_shows}
 use Rattle.sim_scope.specs.Tables.{BlockOf, Tables}
 use Rattle.sim_agree.proofs.Completing.{bare_row}
-use Rattle.sim_agree.proofs.Unprefixed.{Unprefixed, declared_is, or_none, stands_for_itself}
+use Rattle.sim_agree.proofs.Unprefixed.{NoVirtuals, declared_is, or_none, stands_for_itself}
 use Rattle.sim_agree.proofs.Accessible.{shows_same, standing}
 
 bare_around : (o : Option BlockOf) → around (bare_row o) ≡ around o
@@ -27,7 +27,7 @@ detach_stays : (a b : Option BlockOf) → bare_row b ≡ bare_row a → (base_in
 detach_stays None b e none f = refl
 detach_stays (Some x) None e none f = absurd (cc)
 detach_stays (Some x) (Some y) e either f =
-    let kinds : y.kind ≡ x.kind = ap (λ (z : BlockOf). z.kind) (some_row (record y { base = None }) (record x { base = None }) e) in
+    let kinds : y.kind ≡ x.kind = ap (λ (z : BlockOf). z.kind) (some_row (record y { base = None; standard = None }) (record x { base = None; standard = None }) e) in
     by_base either (ap (λ z. has_detach z && is_connected z y.base) (sym kinds) ∙ f)
   where
     go : (k : BlockKind) → (has_detach k && is_connected k y.base) ≡ false → (has_detach k && is_connected k None) ≡ false
@@ -48,10 +48,11 @@ no_first None p e = refl
 no_first (Some d) p e = absurd (cc)
 
 -- the blocks are the same but for what is connected, and in the one tables nothing is connected; what is no connection has a level alike
-module _ (T C : Tables) (w : Unprefixed T) (v : Unprefixed C) (blocks : (k : ℕ) → bare_row (slice_get C.blocks k) ≡ bare_row (slice_get T.blocks k)) (size : length C.blocks ≡ length T.blocks) (places : C.places ≡ T.places) (own : (k : ℕ) → is_kind is_connection C k ≡ false → base T k ≡ base C k)
-    (none_yet : (k : ℕ) → is_kind is_connection C k ≡ true → base T k ≡ None) (next : (k c : ℕ) → base C k ≡ Some c → is_kind is_connection C c ≡ false) (stand : (d : ℕ) → standing (slice_get T.declarations d) ≡ standing (slice_get C.declarations d)) where
+module _ (T C : Tables) (w : NoVirtuals T.declarations) (v : NoVirtuals C.declarations) (blocks : (k : ℕ) → bare_row (slice_get C.blocks k) ≡ bare_row (slice_get T.blocks k)) (size : length C.blocks ≡ length T.blocks) (places : C.places ≡ T.places) (own : (k : ℕ) → is_kind is_connection C k ≡ false → base T k ≡ base C k)
+    (none_yet : (k : ℕ) → is_kind is_connection C k ≡ true → base T k ≡ None) (next : (k c : ℕ) → base C k ≡ Some c → is_kind is_connection C c ≡ false) (stand : (d : ℕ) → standing (slice_get T.declarations d) ≡ standing (slice_get C.declarations d))
+    (standards : (k : ℕ) → standard_in (slice_get T.blocks k) ≡ standard_in (slice_get C.blocks k)) where
   level_same : (from : Option ℕ) (k : ℕ) (name : List ℕ) → level_shows T from k name ≡ level_shows C from k name
-  level_same from k name = shows_same T C (λ j. is_kind is_connection C j ≡ false) (λ j. sym (blocks j)) (sym size) (sym places) stand (λ j e. e) own (λ j c other e. next j c (sym (own j other) ∙ e)) w v from k name
+  level_same from k name = shows_same T C (λ j. is_kind is_connection C j ≡ false) (λ j. sym (blocks j)) (sym size) (sym places) stand (λ j e. e) standards own (λ j c other e. next j c (sym (own j other) ∙ e)) from k name
 
   same_encloser : (k : ℕ) → encloser T k ≡ encloser C k
   unfolding encloser

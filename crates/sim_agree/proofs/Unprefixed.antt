@@ -1,6 +1,6 @@
--- Tables without standard prefixes and virtuals. What is looked for in them is found by the blocks, by the levels of their prefixes, and
--- by the classes that are connected.
-use Rattle.std.proofs.Common.{◌≡◌, ◌⊎◌, inl, inr, ℕ, zero, suc, Bool, true, false, List, [], length, Option, Some, None, refl, sym, ap, ◌∙◌, if◌then◌else◌}
+-- Tables without virtuals. What is looked for in them is found by the blocks, by the levels of their prefixes, and by the classes that are
+-- connected.
+use Rattle.std.proofs.Common.{◌≡◌, ◌⊎◌, inl, inr, ℕ, zero, suc, Bool, true, false, List, [], ◌∷◌, length, Option, Some, None, refl, sym, ap, ◌∙◌, subst, if◌then◌else◌}
 use Rattle.std.specs.Prelude.{◌&&◌, ◌||◌, not, position, slice_get}
 use Rattle.std.specs.Option.{option_or}
 use Rattle.std.specs.Str.{bytes_eq}
@@ -14,11 +14,14 @@ use Rattle.sim_scope.specs.declared.types.BlockKind.TheVariants as kind
 use Rattle.sim_scope.specs.declared.types.StandardPrefix.{StandardPrefix}
 use Rattle.sim_scope.specs.Access.{block_at, encloser, some_around}
 use Rattle.sim_scope.specs.Declare.{empty}
-use Rattle.sim_scope.specs.Levels.{base, base_in}
-use Rattle.sim_scope.specs.Scopes.{beyond, binding, brought_by, brought_in, declaration_from, declared_or_standard, ends_search, entry_in, entry_is, entry_of, is_detach, is_procedure_entry, is_virtual, level_shows, lookup, numbered, or_itself, outward, represented, represented_row, seen, shown_of, shows_detach, standard_at, virtual_among, virtual_of, seen_from}
+use Rattle.sim_scope.specs.Levels.{base}
+use Rattle.sim_scope.specs.Scopes.{beyond, binding, brought_by, brought_in, declaration_from, declared_in, declared_or_standard, ends_search, entry_in, entry_is, entry_of, is_detach, is_procedure_entry, is_virtual, level_shows, lookup, numbered, or_itself, outward, represented, represented_row, seen, shown_of, shows_detach, standard_at, virtual_among, virtual_of, seen_from}
 use Rattle.sim_scope.specs.Standard.{standard_name}
 use Rattle.sim_scope.specs.Tables.{BlockOf, Tables}
 use Rattle.sim_static.specs.UnbuiltNames.{is_unbuilt_name}
+use Rattle.sim_meaning.specs.Entries.{numbers_in}
+use Rattle.sim_sound.specs.Held.{Among, first, later}
+use Rattle.sim_agree.proofs.PlainNames.{SetsOrNone}
 
 -- what may have a prefix: a class or a block
 abbrev pub is_prefixable : BlockKind → Bool
@@ -53,9 +56,22 @@ pub record Unprefixed (s : Tables) : Type 0 where
   pub blocks : NoExtras s.blocks
   pub virtuals : NoVirtuals s.declarations
 
--- no class is connected yet
-abbrev pub Baseless : List BlockOf → Type 0
-Baseless bs = (k : ℕ) → base_in (slice_get bs k) ≡ None
+-- what a standard prefix brings into a block
+abbrev pub brought_of : Option BlockOf → List DeclNo
+brought_of None = []
+brought_of (Some row) = row.brought
+
+-- a declaration of a block
+abbrev pub StandsIn : Tables → (block : ℕ) → DeclNo → Type 0
+StandsIn s k d = (row : Declaration) × (slice_get s.declarations d.0 ≡ Some row) × (row.block ≡ k)
+
+-- What is looked for in tables without virtuals: what a block lists is declared in it, and so is what its standard prefix brings, which is `simset`.
+pub record Showing (s : Tables) : Type 0 where
+  pub right : (k : ℕ) → (extras_in (slice_get s.blocks k)).wrong ≡ false
+  pub standards : (k : ℕ) → SetsOrNone (extras_in (slice_get s.blocks k)).standard
+  pub virtuals : NoVirtuals s.declarations
+  pub lists : (k : ℕ) (d : DeclNo) → Among d (numbers_in (slice_get s.blocks k)) → StandsIn s k d
+  pub brings : (k : ℕ) (d : DeclNo) → Among d (brought_of (slice_get s.blocks k)) → StandsIn s k d
 
 abbrev no_blocks : List BlockOf
 no_blocks = []
@@ -67,32 +83,41 @@ none_there (suc k) = refl
 pub nothing_bare : Unprefixed empty.tables
 nothing_bare = record { blocks = λ k. ap extras_in (none_there k); virtuals = λ d row is. absurd (cc) }
 
-pub nothing_baseless : Baseless empty.tables.blocks
-nothing_baseless k = ap base_in (none_there k)
-
 -- ---- what is looked for
 
 pub or_none : (x : Option DeclNo) → option_or x None ≡ x
 or_none None = refl
 or_none (Some d) = refl
 
-module _ (s : Tables) (w : Unprefixed s) where
-  nothing_brought : (k : ℕ) (name : List ℕ) → brought_by s k name ≡ None
-  unfolding brought_by
-  nothing_brought k name = go (slice_get s.blocks k) (w.blocks k)
+-- what is found at a place stands among the others
+pub numbered_among : (ns : List DeclNo) (o : Option ℕ) (d : DeclNo) → numbered ns o ≡ Some d → Among d ns
+numbered_among ns None d e = absurd (cc)
+numbered_among [] (Some n) d e = absurd (cc)
+numbered_among (m ∷ ns) (Some zero) d e = subst (λ z. Among d (z ∷ ns)) (let f : d ≡ m = cc in f) first
+numbered_among (m ∷ ns) (Some (suc n)) d e = later (numbered_among ns (Some n) d e)
+
+module _ (s : Tables) (w : Showing s) where
+  lookup_stands : (k : ℕ) (name : List ℕ) (d : DeclNo) → lookup s k name ≡ Some d → StandsIn s k d
+  unfolding lookup
+  lookup_stands k name d e = go (slice_get s.blocks k) refl e
     where
-      go : (o : Option BlockOf) → extras_in o ≡ no_extras → brought_in o name ≡ None
-      go None e = refl
-      go (Some row) e =
-          let none : row.standard ≡ None = ap (λ (z : Extras). z.standard) e in
-          ap (λ z. elim z [ None ↦ None | Some which ↦ numbered row.brought (position (bytes_eq name) row.brought_names) ]) none
+      go : (o : Option BlockOf) → slice_get s.blocks k ≡ o → declared_in o name ≡ Some d → StandsIn s k d
+      go None at f = absurd (cc)
+      go (Some row) at f = w.lists k d (subst (λ o. Among d (numbers_in o)) (sym at) (numbered_among row.numbers (position (bytes_eq name) row.names) d f))
 
-  -- a level shows what it declares, where that is accessible
-  pub shows : (from : Option ℕ) (k : ℕ) (name : List ℕ) → level_shows s from k name ≡ seen s from (lookup s k name)
-  unfolding level_shows
-  shows from k name = ap (λ z. option_or (seen s from (lookup s k name)) z) (nothing_brought k name) ∙ or_none (seen s from (lookup s k name))
+  pub brought_stands : (k : ℕ) (name : List ℕ) (d : DeclNo) → brought_by s k name ≡ Some d → StandsIn s k d
+  unfolding brought_by
+  brought_stands k name d e = go (slice_get s.blocks k) refl e
+    where
+      of_row : (row : BlockOf) → slice_get s.blocks k ≡ Some row → (p : Option StandardPrefix) → (elim p [ None ↦ None | Some which ↦ numbered row.brought (position (bytes_eq name) row.brought_names) ]) ≡ Some d → StandsIn s k d
+      of_row row at None f = absurd (cc)
+      of_row row at (Some which) f = w.brings k d (subst (λ o. Among d (brought_of o)) (sym at) (numbered_among row.brought (position (bytes_eq name) row.brought_names) d f))
 
-  seen_there : (from : Option ℕ) (o : Option DeclNo) (d : DeclNo) → seen s from o ≡ Some d → o ≡ Some d
+      go : (o : Option BlockOf) → slice_get s.blocks k ≡ o → brought_in o name ≡ Some d → StandsIn s k d
+      go None at f = absurd (cc)
+      go (Some row) at f = of_row row at row.standard f
+
+  pub seen_there : (from : Option ℕ) (o : Option DeclNo) (d : DeclNo) → seen s from o ≡ Some d → o ≡ Some d
   seen_there from None d e = e
   seen_there from (Some f) d e = go (seen_from s from f) e
     where
@@ -100,37 +125,43 @@ module _ (s : Tables) (w : Unprefixed s) where
       go true h = h
       go false h = absurd (cc)
 
-  shows_there : (from : Option ℕ) (k : ℕ) (name : List ℕ) (d : DeclNo) → level_shows s from k name ≡ Some d → lookup s k name ≡ Some d
-  shows_there from k name d e = seen_there from (lookup s k name) d (sym (shows from k name) ∙ e)
+  -- what a level shows is declared in it
+  shows_there : (from : Option ℕ) (k : ℕ) (name : List ℕ) (d : DeclNo) → level_shows s from k name ≡ Some d → StandsIn s k d
+  unfolding level_shows
+  shows_there from k name d e = go (seen s from (lookup s k name)) refl e
+    where
+      go : (o : Option DeclNo) → seen s from (lookup s k name) ≡ o → option_or o (brought_by s k name) ≡ Some d → StandsIn s k d
+      go (Some f) at h = lookup_stands k name d (seen_there from (lookup s k name) d (at ∙ h))
+      go None at h = brought_stands k name d h
 
   -- what a block shows is declared in it, or shown by its next level
-  pub shown_next : (n : ℕ) (from : Option ℕ) (k : ℕ) (name : List ℕ) (d : DeclNo) → shown_of s (suc n) from k name ≡ Some d → (lookup s k name ≡ Some d) ⊎ ((c : ℕ) × (base s k ≡ Some c) × (shown_of s n from c name ≡ Some d))
+  pub shown_next : (n : ℕ) (from : Option ℕ) (k : ℕ) (name : List ℕ) (d : DeclNo) → shown_of s (suc n) from k name ≡ Some d → StandsIn s k d ⊎ ((c : ℕ) × (base s k ≡ Some c) × (shown_of s n from c name ≡ Some d))
   unfolding shown_of
   shown_next n from k name d e = go (level_shows s from k name) (base s k) refl refl e
     where
       go : (o : Option DeclNo) (b : Option ℕ) → level_shows s from k name ≡ o → base s k ≡ b → option_or o (beyond (λ b. shown_of s n from b name) b) ≡ Some d
-          → (lookup s k name ≡ Some d) ⊎ ((c : ℕ) × (b ≡ Some c) × (shown_of s n from c name ≡ Some d))
+          → StandsIn s k d ⊎ ((c : ℕ) × (b ≡ Some c) × (shown_of s n from c name ≡ Some d))
       go (Some f) b at out h = inl (shows_there from k name d (at ∙ h))
       go None None at out h = absurd (cc)
       go None (Some c) at out h = inr (c, refl, h)
 
   pub shown_levels : (n : ℕ) (from : Option ℕ) (k : ℕ) (name : List ℕ) (d : DeclNo) → shown_of s n from k name ≡ Some d
-      → (lookup s k name ≡ Some d) ⊎ ((c : ℕ) × (m : ℕ) × (base s k ≡ Some c) × (shown_of s m from c name ≡ Some d))
+      → StandsIn s k d ⊎ ((c : ℕ) × (m : ℕ) × (base s k ≡ Some c) × (shown_of s m from c name ≡ Some d))
   unfolding shown_of
   shown_levels zero from k name d e = absurd (cc)
   shown_levels (suc n) from k name d e = go (level_shows s from k name) (base s k) refl refl e
     where
       go : (o : Option DeclNo) (b : Option ℕ) → level_shows s from k name ≡ o → base s k ≡ b → option_or o (beyond (λ b. shown_of s n from b name) b) ≡ Some d
-          → (lookup s k name ≡ Some d) ⊎ ((c : ℕ) × (m : ℕ) × (b ≡ Some c) × (shown_of s m from c name ≡ Some d))
+          → StandsIn s k d ⊎ ((c : ℕ) × (m : ℕ) × (b ≡ Some c) × (shown_of s m from c name ≡ Some d))
       go (Some f) b at out h = inl (shows_there from k name d (at ∙ h))
       go None None at out h = absurd (cc)
       go None (Some c) at out h = inr (c, n, refl, h)
 
   -- one without a next level shows what it declares
-  pub shown_alone : (n : ℕ) (from : Option ℕ) (k : ℕ) (name : List ℕ) (d : DeclNo) → base s k ≡ None → shown_of s n from k name ≡ Some d → lookup s k name ≡ Some d
+  pub shown_alone : (n : ℕ) (from : Option ℕ) (k : ℕ) (name : List ℕ) (d : DeclNo) → base s k ≡ None → shown_of s n from k name ≡ Some d → StandsIn s k d
   shown_alone n from k name d none e = go (shown_levels n from k name d e)
     where
-      go : (lookup s k name ≡ Some d) ⊎ ((c : ℕ) × (m : ℕ) × (base s k ≡ Some c) × (shown_of s m from c name ≡ Some d)) → lookup s k name ≡ Some d
+      go : StandsIn s k d ⊎ ((c : ℕ) × (m : ℕ) × (base s k ≡ Some c) × (shown_of s m from c name ≡ Some d)) → StandsIn s k d
       go (inl q) = q
       go (inr q) = absurd (let f : None ≡ Some q.0 = sym none ∙ q.2 in cc)
 
@@ -139,7 +170,8 @@ module _ (s : Tables) (w : Unprefixed s) where
   unfolding outward ends_search
   goes_outward k name other = ap (λ z. if z && shows_detach s k then None else encloser s k) other
 
-  -- no procedure is a match
+-- no procedure is a match
+module _ (s : Tables) (virtuals : NoVirtuals s.declarations) where
   none_virtual : (o : Option DeclNo) → virtual_among s o ≡ None
   unfolding entry_of
   none_virtual None = refl
@@ -147,7 +179,7 @@ module _ (s : Tables) (w : Unprefixed s) where
     where
       go : (o : Option Declaration) → slice_get s.declarations d.0 ≡ o → entry_is is_virtual (entry_in o) ≡ false
       go None e = refl
-      go (Some row) e = w.virtuals d.0 row e
+      go (Some row) e = virtuals d.0 row e
 
   no_virtual : (n k : ℕ) (name : List ℕ) → virtual_of s n k name ≡ None
   unfolding virtual_of

@@ -3,7 +3,7 @@ use Rattle.std.proofs.Common.{ap}
 use Rattle.sim_tree.specs.Order.{InOrder}
 use Rattle.sim_scope.specs.Source.{Source}
 use Rattle.sim_meaning.specs.Levels.{has_levels}
-use Rattle.sim_meaning.specs.Texts.{BlockText, ClassText, PrefixedText}
+use Rattle.sim_meaning.specs.Texts.{BlockText, ClassText, PrefixedText, StandardText}
 use Rattle.sim_agree.specs.Plain.{Plain}
 use Rattle.sim_agree.specs.TablesAgree.{TablesAgree}
 use Rattle.sim_agree.specs.TablesOf.{TablesOf}
@@ -13,17 +13,16 @@ use Rattle.sim_agree.proofs.Chains as c
 use Rattle.sim_agree.proofs.Findings as f
 use Rattle.sim_agree.proofs.Headings as h
 use Rattle.sim_agree.proofs.Insides as i
+use Rattle.sim_agree.proofs.SetLevels as l
+use Rattle.sim_agree.proofs.SetRows as r
 use Rattle.sim_agree.proofs.Tables as t
 use Rattle.sim_agree.proofs.TextOrder as o
 use Rattle.sim_agree.proofs.Tokens as n
 
 pub tables_agree : (s : Source) → TablesOf s → Plain s.program → InOrder s.program → TablesAgree s
 tables_agree s of plain order =
-    let first = t.starts s of plain order in record {
-      begin = first.0;
-      declarations = first.1;
-      statements = first.2;
-      starts = first.3;
+    record {
+      starts = b.starts s of plain order;
       outermost = t.outermost s of plain order;
       as_many = t.as_many s of plain order;
       some_block = t.some_block s of plain order;
@@ -33,12 +32,14 @@ tables_agree s of plain order =
       begins = i.begins s of plain order;
       inside = i.inside s of plain order;
       connections = i.connections s of plain order;
+      prefixed_kinds = i.prefixed_kinds s of plain order;
       prefixes = c.prefixes s of plain order;
-      not_standard = i.not_standard s of plain order;
-      connects = λ k n e. (let q = t.connects s of plain order k n e in record { prefix = q.0; heading = q.1; declarations = q.2; statements = q.3; class = q.4 });
+      not_simulation = i.not_simulation s of plain order;
+      connects = t.connects s of plain order;
       nothing_in_connections = t.nothing_in_connections s of plain order;
       outward = i.outward s of plain order;
       listed = t.listed s of plain order;
+      unlisted = r.unlisted s of plain order;
       owned = t.owned_block s of plain order;
       tokens = n.token_declared s of plain order;
       different = h.different s of plain order;
@@ -65,7 +66,16 @@ tables_agree s of plain order =
         arrays = record { distinct = o.distinct_prefixed s plain order k class es ds ss is; made = a.made s of plain order k (PrefixedText class es ds ss) is; own = a.own s of plain order k (PrefixedText class es ds ss) is };
         stays = i.stays s of plain order k (ap has_levels is);
       };
+      standard_texts = λ k which is. record {
+        formals = h.class_headings s of plain order k;
+        parameters = h.parameters s of plain order k;
+        arrays = record { distinct = tt; made = a.made s of plain order k (StandardText which) is; own = a.own s of plain order k (StandardText which) is };
+        stays = i.stays s of plain order k (ap has_levels is);
+      };
+      set_classes = r.class_there s of plain order;
+      set_procedures = r.procedure_there s of plain order;
       block_prefixes = b.block_prefix s of plain order;
+      no_set_block = λ k u which class es ds ss is level at. l.no_set_level s of plain order k class es ds ss is u which level at;
       there = f.there s of plain order;
       around = f.around s of plain order;
       attributes = f.attributes s of plain order;

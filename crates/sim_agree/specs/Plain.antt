@@ -1,5 +1,5 @@
--- Programs that have no form that is not built: the program has no prefix itself, no class has virtual procedures, no parameter is called by name or
--- is a procedure, there are no activations, and what is used is not spelt as a standard name that is not built.
+-- Programs that have no form that is not built: no class has virtual procedures, no parameter is called by name or is a procedure, there are no
+-- activations, and what is used is not spelt as a standard name that is not built.
 use Rattle.std.specs.Prelude.{◌≡◌, false, List, [], ◌∷◌, Option, Some, None}
 use Rattle.sim_tree.specs.declared.expr.Identifier.{Identifier}
 use Rattle.sim_tree.specs.declared.stmt.Mode.{Mode as Word}
@@ -8,7 +8,7 @@ use Rattle.sim_tree.specs.declared.stmt.TypeName.{TypeName}
 use Rattle.sim_tree.specs.declared.stmt.TypeName.TheVariants as type_name
 use Rattle.sim_static.specs.UnbuiltNames.{is_unbuilt_name}
 use Rattle.sim_tree.specs.Syntax as s
-use Rattle.sim_tree.specs.Syntax.{Expression, Expressions, Statement, Statements, Arms, Block, Declarations, Declaration, RightSide, Element, BoundPair, Arrayed, Heading, Interface, Moded, Specification, Specified, Program}
+use Rattle.sim_tree.specs.Syntax.{Expression, Expressions, Statement, Statements, Arms, Block, Declarations, Declaration, RightSide, Element, BoundPair, Arrayed, Heading, Interface, Moded, Specification, Specified, Prefix, Program}
 
 -- an identifier that is not spelt as a standard name that is not built
 abbrev pub PlainName : Identifier → Type 0
@@ -54,7 +54,7 @@ abbrev pub PlainResult : Option TypeName → Type 0
 PlainResult None = Unit {0}
 PlainResult (Some t) = PlainType t
 
--- a prefix of a class; `simset` and `simulation` are none
+-- a prefix of a class; `simulation` is none
 abbrev pub PlainPrefix : Option Identifier → Type 0
 PlainPrefix None = Unit {0}
 PlainPrefix (Some x) = PlainName x
@@ -125,6 +125,11 @@ abbrev mutual
   PlainDeclaration (s.DeclareProcedure result i heading x end) = PlainResult result × PlainHeading heading × PlainStatement x
   PlainDeclaration (s.DeclareClass prefix i heading interface x end) = PlainPrefix prefix × PlainHeading heading × PlainInterface interface × PlainStatement x
 
+-- a prefix of the program itself
+abbrev pub PlainStart : Option Prefix → Type 0
+PlainStart None = Unit {0}
+PlainStart (Some x) = PlainName x.class × PlainExpressions x.arguments
+
 pub record Plain (p : Program) : Type 0 where
-  pub prefix : p.prefix ≡ None
+  pub start : PlainStart p.prefix
   pub block : PlainBlock p.block

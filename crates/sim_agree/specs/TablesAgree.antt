@@ -1,5 +1,5 @@
 -- That the tables of a program agree with its texts: what the static rules give, as far as a run rests on tables.
-use Rattle.std.specs.Prelude.{◌≡◌, ◌<◌, ℕ, suc, true, false, List, length, slice_get, Option, Some, None}
+use Rattle.std.specs.Prelude.{◌≡◌, ◌<◌, ◌⊎◌, ℕ, suc, Bool, true, false, List, length, slice_get, Option, Some, None}
 use Rattle.sim_base.specs.declared.numbering.DeclNo.{DeclNo}
 use Rattle.sim_scope.specs.declared.scopes.Declaration.{Declaration}
 use Rattle.sim_scope.specs.declared.scopes.Denotation.TheVariants as denotation
@@ -7,31 +7,35 @@ use Rattle.sim_scope.specs.declared.types.Entry.{Entry}
 use Rattle.sim_scope.specs.declared.types.Entry.TheVariants as entry
 use Rattle.sim_scope.specs.declared.types.Formal.{Formal}
 use Rattle.sim_scope.specs.declared.types.SimType.{SimType}
+use Rattle.sim_scope.specs.declared.types.StandardClass.{StandardClass}
 use Rattle.sim_scope.specs.Calls.{attribute_in, is_inside}
 use Rattle.sim_scope.specs.Access.{block_at, encloser, has_text_of_levels, is_connection as is_connection_kind, is_kind}
-use Rattle.sim_scope.specs.Levels.{base, has_level, has_standard, owner_of_level}
+use Rattle.sim_scope.specs.Levels.{base, has_level, is_simulation_block, is_standard_class, owner_of_level}
 use Rattle.sim_scope.specs.Scopes.{binding, class_formals, entry_of, formals_in}
 use Rattle.sim_scope.specs.Source.{Source, block_of, level_of}
 use Rattle.sim_scope.specs.Tables.{BlockOf}
+use Rattle.prefix_bind.specs.Prefixes.{is_prefixed_block}
 use Rattle.sim_tree.specs.declared.expr.Identifier.{Identifier}
 use Rattle.sim_tree.specs.declared.stmt.TypeName.{TypeName}
-use Rattle.sim_tree.specs.Syntax.{Declarations, Heading, Statement, Statements, Expressions}
+use Rattle.sim_tree.specs.Syntax.{Declarations, Expressions, Heading, NoDeclaration, Statement, Statements}
+use Rattle.sim_values.specs.declared.standard.Standard.{Standard}
+use Rattle.sim_code.specs.Sets.{is_set_name}
 use Rattle.sim_meaning.specs.Attributes.{is_connection}
 use Rattle.sim_meaning.specs.Closing.{class_parameters}
 use Rattle.sim_meaning.specs.Entries.{formals_of, numbers_of}
 use Rattle.sim_meaning.specs.Levels.{is_class, has_levels}
-use Rattle.sim_meaning.specs.Texts.{BlockText, ClassText, ProcedureText, declared_at, is_class_free, program_texts, text, PrefixedText}
+use Rattle.sim_meaning.specs.Texts.{BlockText, ClassText, ProcedureText, StandardText, Text, declared_at, is_class_free, program_texts, text, PrefixedText}
 use Rattle.sim_sound.specs.Held.{Among, Around, IsFormal}
-use Rattle.sim_sound.specs.Typed.{ClassThere, Distinct, FormalsAre, NoFormals, Prefixes, ProcedureThere, arrays_of_block}
-use Rattle.sim_agree.specs.Facts.{Found, BlockPrefix}
+use Rattle.sim_sound.specs.Typed.{ClassThere, Distinct, FormalsAre, NoFormals, Prefixes, ProcedureThere, SetClassThere, SetProcedureThere, Starts, arrays_of_block}
+use Rattle.sim_agree.specs.Facts.{BlockPrefix, Found, SetPrefix}
 
--- A next level is a class.
-pub record IsLevel (s : Source) (c : ℕ) : Type 0 where
-  pub prefix : Option Identifier
-  pub heading : Heading
-  pub declarations : Declarations
-  pub statements : Statements
-  pub class : text s c ≡ Some (ClassText prefix heading declarations statements)
+-- what the program declares itself: no class of SIMSET, and none of their attributes
+abbrev pub is_attribute : Entry → Bool
+is_attribute (entry.Attribute name parameter result) = true
+is_attribute _ = false
+
+abbrev pub IsOwn : Declaration → Type 0
+IsOwn row = (row.listed ≡ true) × (is_attribute row.entry ≡ false)
 
 -- The arrays of a block or a class are those that its table has, each once.
 pub record ArraysAgree (s : Source) (k : ℕ) (ds : Declarations) : Type 0 where
@@ -51,12 +55,14 @@ pub record ClassAgrees (s : Source) (k : ℕ) (ds : Declarations) : Type 0 where
   pub arrays : ArraysAgree s k ds
   pub stays : is_class_free s k ≡ false
 
+-- whether a text is a block with a prefix
+abbrev pub is_prefixed_text : Option Text → Bool
+is_prefixed_text (Some (PrefixedText class es ds ss)) = true
+is_prefixed_text _ = false
+
 pub record TablesAgree (s : Source) : Type 0 where
   -- the program's block comes first, and nothing is around it
-  pub begin : ℕ
-  pub declarations : Declarations
-  pub statements : Statements
-  pub starts : text s 0 ≡ Some (BlockText begin declarations statements)
+  pub starts : Starts s
   pub outermost : encloser s.tables 0 ≡ None
   -- Block k is text k. Each has a greater number than the one around it, and is one level deeper, but for connections.
   pub as_many : length s.tables.blocks ≡ length (program_texts s.program.prefix s.program.block)
@@ -64,21 +70,26 @@ pub record TablesAgree (s : Source) : Type 0 where
   pub nesting : (t u : ℕ) → encloser s.tables t ≡ Some u → u < t
   pub levels : (t u : ℕ) → is_connection (text s t) ≡ false → encloser s.tables t ≡ Some u → level_of s t ≡ suc (level_of s u)
   pub levels_of_connections : (t u : ℕ) → is_connection (text s t) ≡ true → encloser s.tables t ≡ Some u → level_of s t ≡ level_of s u
-  -- a block is the text around its first token; one whose text has a token is around the token's block
-  pub begins : (k : ℕ) (row : BlockOf) → slice_get s.tables.blocks k ≡ Some row → block_at s.tables row.first ≡ Some k
+  -- A block is the text around its first token, but for the classes of SIMSET, which have none. One whose text has a token is around the token's
+  -- block.
+  pub begins : (k : ℕ) (row : BlockOf) → slice_get s.tables.blocks k ≡ Some row → is_standard_class row.kind ≡ false → block_at s.tables row.first ≡ Some k
   pub inside : (token k j : ℕ) → block_at s.tables token ≡ Some k → is_inside s.tables token j ≡ true → Around s.tables k j
   -- A class may have a prefix for its next level, a connection has the class that it connects. A connection declares nothing.
   pub connections : (k : ℕ) → is_kind is_connection_kind s.tables k ≡ is_connection (text s k)
+  -- the blocks with a prefix
+  pub prefixed_kinds : (k : ℕ) → is_kind is_prefixed_block s.tables k ≡ is_prefixed_text (text s k)
   pub prefixes : Prefixes s
-  pub not_standard : (k : ℕ) → has_standard s.tables k ≡ false
-  pub connects : (k c : ℕ) → base s.tables k ≡ Some c → IsLevel s c
+  pub not_simulation : (k : ℕ) → is_simulation_block s.tables k ≡ false
+  pub connects : (k c : ℕ) → base s.tables k ≡ Some c → is_class (text s c) ≡ true
   pub nothing_in_connections : (k : ℕ) → is_connection (text s k) ≡ true → (d : DeclNo) → Among d (numbers_of s k) → ⊥
   -- what is around a text that lasts lasts too
   pub outward : (t u : ℕ) → encloser s.tables t ≡ Some u → is_class_free s t ≡ false → is_class_free s u ≡ false
-  -- a block lists what is declared in it, each once, at tokens of their own
-  pub listed : (d : DeclNo) (row : Declaration) → slice_get s.tables.declarations d.0 ≡ Some row → Among d (numbers_of s row.block)
+  -- A block lists what is declared in it, each once, at tokens of their own. The classes of SIMSET are not listed, and they and their attributes
+  -- have no tokens of their own.
+  pub listed : (d : DeclNo) (row : Declaration) → slice_get s.tables.declarations d.0 ≡ Some row → row.listed ≡ true → Among d (numbers_of s row.block)
+  pub unlisted : (d : DeclNo) (row : Declaration) → slice_get s.tables.declarations d.0 ≡ Some row → row.listed ≡ false → (k : ℕ) × (row.entry ≡ entry.Class k)
   pub owned : (k : ℕ) (d : DeclNo) → Among d (numbers_of s k) → block_of s d ≡ k
-  pub tokens : (d : DeclNo) (row : Declaration) → slice_get s.tables.declarations d.0 ≡ Some row → declared_at s row.token.0 ≡ Some d
+  pub tokens : (d : DeclNo) (row : Declaration) → slice_get s.tables.declarations d.0 ≡ Some row → IsOwn row → declared_at s row.token.0 ≡ Some d
   pub different : (k : ℕ) → Distinct (numbers_of s k)
   -- the first of these are its formal parameters, as many as it has
   pub parameters : (k n : ℕ) (d : DeclNo) → slice_get (formals_in (slice_get s.tables.blocks k)) n ≡ Some d → (f : Formal) × (entry_of s.tables d ≡ Some (entry.Formal f))
@@ -93,9 +104,15 @@ pub record TablesAgree (s : Source) : Type 0 where
   pub bodies : (k : ℕ) (result : Option TypeName) (h : Heading) (a : Statement) → text s k ≡ Some (ProcedureText result h a) → FormalsAre s (numbers_of s k) (formals_of s k)
   pub class_texts : (k : ℕ) (prefix : Option Identifier) (h : Heading) (ds : Declarations) (ss : Statements) → text s k ≡ Some (ClassText prefix h ds ss) → ClassAgrees s k ds
   pub prefixed_texts : (k : ℕ) (class : Identifier) (es : Expressions) (ds : Declarations) (ss : Statements) → text s k ≡ Some (PrefixedText class es ds ss) → ClassAgrees s k ds
-  -- the prefix of a block is a declared class
-  pub block_prefixes : (k : ℕ) (class : Identifier) (es : Expressions) (ds : Declarations) (ss : Statements) → text s k ≡ Some (PrefixedText class es ds ss) → BlockPrefix s k
+  pub standard_texts : (k : ℕ) (which : StandardClass) → text s k ≡ Some (StandardText which) → ClassAgrees s k NoDeclaration
+  -- the classes of SIMSET, and their attributes
+  pub set_classes : (k : ℕ) (which : StandardClass) → text s k ≡ Some (StandardText which) → SetClassThere s k which
+  pub set_procedures : (d : DeclNo) (name : Standard) (parameter result : Option SimType) → entry_of s.tables d ≡ Some (entry.Attribute name parameter result) → (is_set_name name ≡ true) × SetProcedureThere s d name parameter result
+  -- the prefix of a block is a declared class, or `simset`
+  pub block_prefixes : (k : ℕ) (class : Identifier) (es : Expressions) (ds : Declarations) (ss : Statements) → text s k ≡ Some (PrefixedText class es ds ss) → BlockPrefix s k ⊎ SetPrefix s k
   -- What an identifier denotes is declared in a block around it, or in a class that is connected there; what it denotes behind a dot, in the class.
   pub there : (token : ℕ) (name : List ℕ) (d : DeclNo) → binding s.tables token name ≡ Some (denotation.Declared d) → (e : Entry) × (entry_of s.tables d ≡ Some e)
   pub around : (token k : ℕ) (name : List ℕ) (d : DeclNo) → block_at s.tables token ≡ Some k → binding s.tables token name ≡ Some (denotation.Declared d) → Found s token k name d
   pub attributes : (token block : ℕ) (name : List ℕ) (d : DeclNo) → attribute_in s.tables token block name ≡ Some (denotation.Declared d) → (e : Entry) × (entry_of s.tables d ≡ Some e) × (has_level s.tables block (block_of s d) ≡ true)
+  -- no block has a class of SIMSET among its levels
+  pub no_set_block : (k u : ℕ) (which : StandardClass) (class : Identifier) (es : Expressions) (ds : Declarations) (ss : Statements) → text s k ≡ Some (PrefixedText class es ds ss) → has_level s.tables k u ≡ true → text s u ≡ Some (StandardText which) → ⊥

@@ -1,6 +1,7 @@
 -- The tables of an allowed plain program agree with its texts as far as its being typed rests on them: from the agreement of tables alone, where
 -- the parts of each text stand in it.
-use Rattle.std.proofs.Common.{◌≡◌, ℕ, Bool, true, false, List, [], ◌∷◌, Option, Some, None, refl, sym, ap, ◌∙◌, if◌then◌else◌}
+use Rattle.std.proofs.Common.{◌≡◌, ℕ, ◌+◌, Bool, true, false, List, [], ◌∷◌, Option, Some, None, refl, sym, ap, ◌∙◌, arith, if◌then◌else◌}
+use Rattle.std.proofs.lemmas.Bool.{false≢true}
 use Rattle.std.specs.List.{list_any}
 use Rattle.std.specs.Prelude.{slice_get}
 use Rattle.sim_base.specs.declared.numbering.DeclNo.{DeclNo}
@@ -8,26 +9,37 @@ use Rattle.prefix_bind.specs.Prefixes.{least_of, prefix_faults, prefixed}
 use Rattle.inspect_types.specs.Connecting.{connections}
 use Rattle.sim_scope.specs.declared.found.Fault.{Fault}
 use Rattle.sim_scope.specs.declared.scopes.Denotation.TheVariants as denotation
+use Rattle.sim_scope.specs.declared.scopes.Declaration.{Declaration}
+use Rattle.sim_scope.specs.declared.types.BlockKind.{BlockKind}
+use Rattle.sim_scope.specs.declared.types.BlockKind.TheVariants as block_kind
 use Rattle.sim_scope.specs.declared.types.Entry.{Entry}
 use Rattle.sim_scope.specs.declared.types.Entry.TheVariants as entry
 use Rattle.sim_scope.specs.declared.types.SimType.{SimType}
 use Rattle.sim_scope.specs.declared.types.SimType.TheVariants as t
-use Rattle.sim_scope.specs.Access.{around as around_in, block_at, encloser, joined}
+use Rattle.sim_scope.specs.declared.types.StandardClass.{StandardClass}
+use Rattle.sim_scope.specs.declared.types.StandardClass.TheVariants as standard
+use Rattle.sim_scope.specs.Access.{around as around_in, block_at, encloser, is_connection as is_connection_kind, is_kind, is_so, joined, kind_in}
 use Rattle.sim_scope.specs.Declare.{declared_by}
 use Rattle.sim_scope.specs.Found.{lesser_of, precedes}
-use Rattle.sim_scope.specs.Scopes.{binding, entry_of, found_in}
-use Rattle.sim_scope.specs.Source.{Source, block_around}
+use Rattle.sim_scope.specs.Levels.{is_standard_class}
+use Rattle.sim_scope.specs.Scopes.{binding, class_formals, entry_of, found_in}
+use Rattle.sim_scope.specs.Source.{Source, block_around, block_of}
 use Rattle.sim_scope.specs.Tables.{BlockOf}
 use Rattle.sim_scope.specs.Walk.{program_events}
 use Rattle.sim_tree.specs.declared.expr.Identifier.{Identifier}
 use Rattle.sim_tree.specs.declared.stmt.TypeName.{TypeName}
 use Rattle.sim_tree.specs.Syntax.{Declarations, Heading, Statement, Statements, Expressions}
+use Rattle.sim_values.specs.declared.standard.Owner.{Owner}
+use Rattle.sim_values.specs.declared.standard.Owner.TheVariants as owner
+use Rattle.sim_values.specs.declared.standard.Standard.{Standard}
+use Rattle.sim_values.specs.Standard.{row_of}
 use Rattle.sim_meaning.specs.Attributes.{first_in, is_connection}
+use Rattle.sim_meaning.specs.Closing.{class_parameters}
 use Rattle.sim_meaning.specs.Entries.{formals_of, is_held, numbers_of}
 use Rattle.sim_meaning.specs.Levels.{is_class, qualification}
-use Rattle.sim_meaning.specs.Texts.{BlockText, ClassText, ConnectionText, ProcedureText, is_class_free, text, PrefixedText}
+use Rattle.sim_meaning.specs.Texts.{BlockText, ClassText, ConnectionText, ProcedureText, StandardText, Text, is_class_free, text, PrefixedText}
 use Rattle.sim_sound.specs.Held.{Among, ArrayOf, Holds, entry_holds, first, held_by, later, reference_to}
-use Rattle.sim_sound.specs.Typed.{ConnectionTyped, NoFormal, NoFormals}
+use Rattle.sim_sound.specs.Typed.{ConnectionTyped, FormalsAre, NoFormal, NoFormals, SetClasses, SetProcedureThere, owner_place}
 use Rattle.sim_agree.specs.Facts.{Tabled}
 use Rattle.sim_agree.specs.Plain.{Plain}
 use Rattle.sim_agree.specs.TablesAgree.{TablesAgree}
@@ -107,6 +119,63 @@ lesser_other (Some f) (Some g) e = go (precedes g f) e
     go true e = e
     go false e = absurd (cc)
 
+-- a connection is no class of SIMSET
+no_standard : (k : BlockKind) → is_connection_kind k ≡ true → is_standard_class k ≡ false
+no_standard block_kind.Connection e = refl
+no_standard block_kind.Program e = refl
+no_standard block_kind.SubBlock e = refl
+no_standard block_kind.Procedure e = refl
+no_standard block_kind.Class e = refl
+no_standard block_kind.Prefixed e = refl
+no_standard (block_kind.StandardClass which) e = absurd (false≢true e)
+
+-- a class has no cell, and all else is listed
+class_no_cell : (s : Source) (e : Entry) (k : ℕ) (h : Holds) → e ≡ entry.Class k → entry_holds s true (Some e) ≡ Some h → ⊥
+class_no_cell s e k h is holds = let none : None ≡ Some h = sym (ap (λ z. entry_holds s true (Some z)) is) ∙ holds in cc
+
+cells_listed : (s : Source) → TablesAgree s → (d : DeclNo) (row : Declaration) (h : Holds) → slice_get s.tables.declarations d.0 ≡ Some row → entry_holds s true (Some row.entry) ≡ Some h → Among d (numbers_of s row.block)
+cells_listed s g d row h at holds = go row.listed refl
+  where
+    go : (b : Bool) → row.listed ≡ b → Among d (numbers_of s row.block)
+    go true is = g.listed d row at is
+    go false is = let q = g.unlisted d row at is in absurd (class_no_cell s row.entry q.0 h q.1 holds)
+
+-- the class of SIMSET in which an attribute is declared
+class_of_sets : (s : Source) (linkage : ℕ) → SetClasses s linkage → (o : Owner) (place : ℕ) → owner_place o ≡ Some place → is_class (text s (linkage + place)) ≡ true
+class_of_sets s linkage c o place e = go o place e
+  where
+    at : (k : ℕ) (which : StandardClass) (n : ℕ) → k ≡ n → text s n ≡ Some (StandardText which) → is_class (text s k) ≡ true
+    at k which n same is = ap (λ z. is_class (text s z)) same ∙ ap is_class is
+
+    go : (o : Owner) (place : ℕ) → owner_place o ≡ Some place → is_class (text s (linkage + place)) ≡ true
+    go owner.Linkage place e = let zero : 0 ≡ place = cc in at (linkage + place) standard.Linkage linkage (omega (arith, zero)) c.linkage_is
+    go owner.Link place e = let one : 1 ≡ place = cc in at (linkage + place) standard.Link (linkage + 1) (omega (arith, one)) c.link_is
+    go owner.Head place e = let two : 2 ≡ place = cc in at (linkage + place) standard.Head (linkage + 2) (omega (arith, two)) c.head_is
+    go owner.Environment place e = absurd (cc)
+    go owner.Text place e = absurd (cc)
+    go owner.Sysin place e = absurd (cc)
+    go owner.Sysout place e = absurd (cc)
+    go owner.Images place e = absurd (cc)
+    go owner.Object place e = absurd (cc)
+    go owner.Process place e = absurd (cc)
+    go owner.Simulation place e = absurd (cc)
+
+attribute_class : (s : Source) (d : DeclNo) (name : Standard) (parameter result : Option SimType) → SetProcedureThere s d name parameter result → is_class (text s (block_of s d)) ≡ true
+attribute_class s d name parameter result p = ap (λ z. is_class (text s z)) p.declared ∙ class_of_sets s p.linkage p.classes (row_of name).owner p.place p.placed
+
+-- the parameters of a class
+class_heading_is : (s : Source) → TablesAgree s → (k : ℕ) → is_class (text s k) ≡ true → FormalsAre s (class_formals s.tables k) (class_parameters s (Some k))
+class_heading_is s g k class = go (text s k) refl class
+  where
+    go : (o : Option Text) → text s k ≡ o → is_class o ≡ true → FormalsAre s (class_formals s.tables k) (class_parameters s (Some k))
+    go (Some (ClassText prefix h ds ss)) at e = (g.class_texts k prefix h ds ss at).formals
+    go (Some (StandardText which)) at e = (g.standard_texts k which at).formals
+    go (Some (BlockText i ds ss)) at e = absurd (false≢true e)
+    go (Some (ProcedureText r h a)) at e = absurd (false≢true e)
+    go (Some (PrefixedText c es ds ss)) at e = absurd (false≢true e)
+    go (Some ConnectionText) at e = absurd (false≢true e)
+    go None at e = absurd (false≢true e)
+
 module _ (s : Source) (a : AllowedIs s) (plain : Plain s.program) where
   pub tables_of : TablesOf s
   tables_of = record {
@@ -132,28 +201,31 @@ module _ (s : Source) (a : AllowedIs s) (plain : Plain s.program) where
     proper = proper s tables_of plain a.order a.second not_found_outside (constant_plain s tables_of plain a.filled a.order a.says);
     headings = λ d result k e. (let p = g.procedures d result k e in g.bodies k p.given p.heading p.body p.is);
     owned = λ d result k e. (g.procedures d result k e).owned;
-    class_headings = λ d k e. (let c = (g.classes d k e).0 in (g.class_texts k c.prefix c.heading c.declarations c.statements c.is).formals);
-    classes = λ d k e. (let c = g.classes d k e in (ap is_class c.0.is, c.1));
+    class_headings = λ d k e. (let c = (g.classes d k e).0 in class_heading_is s g k c.is);
+    classes = λ d k e. (let c = g.classes d k e in (c.0.is, c.1));
     owners = g.owners;
     constants = constant_is s tables_of plain a.filled a.order a.says;
+    attribute_owners = λ d name parameter result e. attribute_class s d name parameter result (g.set_procedures d name parameter result e).1;
     around = g.around;
     inside = g.inside;
     outside = not_found_outside;
     block_prefixes = g.block_prefixes;
     class_levels = g.class_levels;
     level_kinds = g.level_kinds;
-    connects = λ k c e. ap is_class (g.connects k c e).class;
+    connects = g.connects;
     connections = g.connections;
     prefixes = g.prefixes;
   }
 
   module _ (written : Written s) where
-    -- a block is the text around its first token
-    begins_at : (k : ℕ) (row : BlockOf) → slice_get s.tables.blocks k ≡ Some row → joined (slice_get s.tables.places row.first) ≡ Some k
-    unfolding block_at
-    begins_at k row at = agrees.begins k row at
+    -- a connection is the text around its first token
+    begins_at : (k : ℕ) (row : BlockOf) → slice_get s.tables.blocks k ≡ Some row → is_connection (text s k) ≡ true → joined (slice_get s.tables.places row.first) ≡ Some k
+    unfolding block_at is_kind
+    begins_at k row at is =
+        let kind : is_connection_kind row.kind ≡ true = sym (ap (λ o. is_so is_connection_kind (kind_in o)) at) ∙ agrees.connections k ∙ is in
+        agrees.begins k row at (no_standard row.kind kind)
 
-    -- a connection is, and stands in another text
+    -- it stands in another text
     connection_typed : (k : ℕ) → text s k ≡ Some ConnectionText → ConnectionTyped s k
     unfolding block_around encloser
     connection_typed k is = record {
@@ -165,21 +237,20 @@ module _ (s : Source) (a : AllowedIs s) (plain : Plain s.program) where
         out = connection_enclosed s tables_of plain a.order k is
 
         begins : (o : Option BlockOf) → slice_get s.tables.blocks k ≡ o → joined (slice_get s.tables.places (first_in o)) ≡ Some k
-        begins (Some row) at = begins_at k row at
+        begins (Some row) at = begins_at k row at (ap is_connection is)
         begins None at = absurd (let f : None ≡ Some out.0 = sym (ap around_in at) ∙ out.1 in cc)
 
     pub agreed_where : Agreed s
     agreed_where = let g = agrees in record {
       tabled = tabled;
-      begin = g.begin;
-      declarations = g.declarations;
-      statements = g.statements;
       starts = g.starts;
       outermost = g.outermost;
       levels = g.levels;
-      listed = g.listed;
+      listed = cells_listed s g;
       procedures = g.procedures;
       classes = λ d k e. (g.classes d k e).0;
+      set_classes = g.set_classes;
+      set_procedures = λ d name parameter result e. (g.set_procedures d name parameter result e).1;
       blocks = λ k i ds ss is. (let b = g.blocks k i ds ss is in let p = block_placed s tables_of plain a.order connects k i ds ss is in record {
         no_formals = b.no_formals;
         distinct = b.arrays.distinct;
@@ -201,7 +272,7 @@ module _ (s : Source) (a : AllowedIs s) (plain : Plain s.program) where
         arrays = p.0;
         statements = p.1;
         stays = b.stays;
-        not_standard = g.not_standard k;
+        not_simulation = g.not_simulation k;
       });
       prefixed_bodies = λ k class es ds ss is. (let b = g.prefixed_texts k class es ds ss is in let p = prefixed_placed s tables_of plain a.order connects k class es ds ss is in record {
         formals = b.formals;
@@ -214,9 +285,23 @@ module _ (s : Source) (a : AllowedIs s) (plain : Plain s.program) where
         arrays = p.0;
         statements = p.1;
         stays = b.stays;
-        not_standard = g.not_standard k;
+        not_simulation = g.not_simulation k;
+      });
+      standard_bodies = λ k which is. (let b = g.standard_texts k which is in record {
+        formals = b.formals;
+        parameters = b.parameters;
+        different = g.different k;
+        distinct = b.arrays.distinct;
+        made = b.arrays.made;
+        own = b.arrays.own;
+        named = tt;
+        arrays = tt;
+        statements = tt;
+        stays = b.stays;
+        not_simulation = g.not_simulation k;
       });
       connections = connection_typed;
       not_class_free = g.outward;
+      no_set_block = g.no_set_block;
       keeps_none = written.keeps_none;
     }

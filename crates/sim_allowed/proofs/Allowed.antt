@@ -14,12 +14,12 @@ use Rattle.sim_scope.specs.Tables.{Tables}
 use Rattle.sim_scope.specs.Walk.{program_events}
 use Rattle.sim_tree.specs.declared.program.Program.{Program as Tree}
 use Rattle.sim_tree.specs.Filled.{Filled}
-use Rattle.sim_tree.specs.Order.{AllBelow, Behind, InOrder, Spot, Token, in_block}
+use Rattle.sim_tree.specs.Order.{AllBelow, Ascends, Behind, InOrder, Spot, Token}
 use Rattle.sim_tree.specs.Syntax.{Program}
 use Rattle.sim_tree.specs.SyntaxOfProgram.{program_syntax}
 use Rattle.sim_tree.specs.Tree.{IsTree, line}
 use Rattle.sim_tree.proofs.Filled.{filled as program_filled}
-use Rattle.sim_tree.proofs.Order.{in_order, in_text}
+use Rattle.sim_tree.proofs.Order.{in_order}
 use Rattle.sim_static.specs.Check.{Allowed, answer, check_of, completed, first_answer, first_least, judged, last_answer, second_answer, second_least}
 use Rattle.sim_sound.specs.Typed.{Typed}
 use Rattle.sim_agree.specs.Plain.{Plain}
@@ -28,6 +28,7 @@ use Rattle.sim_allowed.proofs.LastRound.{round_says}
 use Rattle.sim_allowed.proofs.ToldProgram.{Fills, among}
 use Rattle.sim_allowed.proofs.ToldStatements.{program_fills, told_once}
 use Rattle.sim_allowed.proofs.Said.{AllSay}
+use Rattle.sim_allowed.proofs.StartOrder.{in_whole, whole_ascends, whole_within}
 use Rattle.sim_allowed.proofs.Whole.{Agreed, said_typed}
 
 -- what an allowed program's check says: no round finds a broken rule, and what the last one tells is the source's
@@ -84,9 +85,9 @@ below n t (Token x ∷ l) a le = go (λ le. below n t l a.1 le) (nat_eq t x) ref
     go deep false e le = deep (omega (arith, le))
 below n t (Behind x ∷ l) a le = below n t l a le
 
-within_text : (s : Tables) (p : Program) (n : ℕ) → Plain p → AllBelow n (in_block p.block []) → (k : About) (i : ℕ) → 1 ≤ told k i (program_events (judging s) p) → i < n
+within_text : (s : Tables) (p : Program) (n : ℕ) → Plain p → AllBelow n (in_whole p) → (k : About) (i : ℕ) → 1 ≤ told k i (program_events (judging s) p) → i < n
 unfolding Fills
-within_text s p n plain all k i le = let most = program_fills s p plain k i in below n i (in_block p.block []) all (omega (arith, most, le))
+within_text s p n plain all k i le = let most = program_fills s p plain k i in below n i (in_whole p) all (omega (arith, most, le))
 
 -- What is known of an allowed program, beside what its tables say.
 pub record AllowedIs (s : Source) : Type 0 where
@@ -103,15 +104,16 @@ allowed_says ws tree s is same allowed plain =
     let n = length tree.lines.items in
     let x = subst (λ z. Passed s n z) (sym same) (passed n (program_syntax tree) s allowed) in
     let order = subst InOrder (sym same) (in_order ws tree is) in
+    let ascends = subst (λ z. Ascends 0 (in_whole z)) (sym same) (whole_ascends ws tree is) in
     let lines : n ≡ length ws = ap length is.lines ∙ length-map ws line in
-    let inside = subst (λ z. AllBelow z (in_block s.program.block [])) (sym lines) (subst (λ (z : Program). AllBelow (length ws) (in_block z.block [])) (sym same) (in_text ws tree is)) in
+    let inside = subst (λ z. AllBelow z (in_whole s.program)) (sym lines) (subst (λ z. AllBelow (length ws) (in_whole z)) (sym same) (whole_within ws tree is)) in
     record {
       tables = x.tables_are;
       first = x.first;
       second = x.second;
       order = order;
       filled = subst Filled (sym same) (program_filled ws tree is);
-      says = round_says s n (program_events (judging s.tables) s.program) x.clean x.uses_are x.places_are x.types_are (told_once s.tables s.program plain order) (within_text s.tables s.program n plain inside);
+      says = round_says s n (program_events (judging s.tables) s.program) x.clean x.uses_are x.places_are x.types_are (told_once s.tables s.program plain ascends) (within_text s.tables s.program n plain inside);
     }
 
 -- an allowed program is typed where its tables agree with its texts

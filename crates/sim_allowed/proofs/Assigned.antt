@@ -1,5 +1,5 @@
 -- What left sides and assignments are.
-use Rattle.std.proofs.Common.{◌≡◌, ◌||◌, not, ℕ, Bool, true, false, List, [], ◌∷◌, Option, Some, None, refl, sym, ap, ◌∙◌, subst, if◌then◌else◌}
+use Rattle.std.proofs.Common.{◌≡◌, inl, inr, ◌||◌, not, ℕ, Bool, true, false, List, [], ◌∷◌, Option, Some, None, refl, sym, ap, ◌∙◌, subst, if◌then◌else◌}
 use Rattle.std.proofs.lemmas.Bool.{false≢true}
 use Rattle.sim_base.specs.declared.numbering.DeclNo.{DeclNo}
 use Rattle.sim_base.specs.declared.numbering.TokenNo.{TokenNo}
@@ -43,7 +43,7 @@ use Rattle.sim_agree.specs.Facts.{ProperType, Tabled}
 use Rattle.sim_allowed.proofs.Actuals.{Known, both_true, neither}
 use Rattle.sim_allowed.proofs.Calls.{called_means}
 use Rattle.sim_allowed.proofs.Classes.{class_held, class_qualifies, simply}
-use Rattle.sim_allowed.proofs.Meant.{Means, ProcedureIs, StandardIs, TypeThere, ValueIs}
+use Rattle.sim_allowed.proofs.Meant.{Means, ProcedureIs, SetIs, StandardIs, TypeThere, ValueIs}
 use Rattle.sim_allowed.proofs.Operators.{no_misfit}
 use Rattle.sim_allowed.proofs.Said.{AllSay, next_says}
 use Rattle.sim_allowed.proofs.Uses.{left_there}
@@ -223,11 +223,18 @@ module _ (s : Source) (known : Tabled s) (k : ℕ) (e : Expression) (sign : Assi
 
       there : entry_of s.tables q ≡ Some (entry.Procedure p.result p.block)
       there = ap (entry_of s.tables) same ∙ p.declared
-  procedure_is d token None p said = result_is (is.Procedure d token None) p p.inside (result_in (entry_of s.tables d)) said
+  procedure_is d token None p said = result_is (is.Procedure d token None) (inl p) p.inside (result_in (entry_of s.tables d)) said
+
+  -- a procedure of SIMSET is no left side
+  set_is : (d : DeclNo) (token : TokenNo) (own : Option DeclNo) → SetIs s (In k) e d own
+      → AllSay s (procedure_assigned s.tables sign first (is.Procedure d token own) d own).events → TargetIs s k sign e (procedure_assigned s.tables sign first (is.Procedure d token own) d own).value
+  set_is d token (Some q) p said = absurd (let f : Some q ≡ None = p.no_own in cc)
+  set_is d token None p said = result_is (is.Procedure d token None) (inr p) p.unowned (result_in (entry_of s.tables d)) said
 
   pub target_is : (o : Outcome) → Means true s (In k) e o → AllSay s (target s.tables sign first o).events → TargetIs s k sign e (target s.tables sign first o).value
   unfolding target assigned_to no_target gives telling
-  target_is (is.Procedure d token own) m said = procedure_is d token own m said
+  target_is (is.Procedure d token own) (inl p) said = procedure_is d token own p said
+  target_is (is.Procedure d token own) (inr p) said = set_is d token own p said
   target_is (is.Standard name token) m said = standard_is name token m said
   target_is (is.Variable ty) m said = variable_left ty m.0 m.1 m.2 m.3 said
   target_is (is.Value ty) m said = text_value ty m.0 m.1 said

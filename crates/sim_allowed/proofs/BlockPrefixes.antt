@@ -1,5 +1,5 @@
 -- The actual parameters of a block prefix fit the parameters of its class.
-use Rattle.std.proofs.Common.{◌≡◌, ℕ, Bool, true, false, length, ◌+◌, Option, Some, None, refl, sym, ap, ◌∙◌, subst, arith, if◌then◌else◌}
+use Rattle.std.proofs.Common.{◌≡◌, ◌⊎◌, inl, inr, ℕ, Bool, true, false, [], length, ◌+◌, Option, Some, None, refl, sym, ap, ◌∙◌, subst, arith, if◌then◌else◌}
 use Rattle.std.proofs.lemmas.Bool.{false≢true}
 use Rattle.std.proofs.lemmas.Bool.Decides.{nat_tests}
 use Rattle.std.specs.Prelude.{nat_eq, slice_get}
@@ -9,6 +9,8 @@ use Rattle.sim_scope.specs.declared.outcome.Actuals.{Actuals}
 use Rattle.sim_scope.specs.declared.outcome.Extent.TheVariants as extent
 use Rattle.sim_scope.specs.declared.scopes.Denotation.{Denotation}
 use Rattle.sim_scope.specs.declared.scopes.Denotation.TheVariants as denotation
+use Rattle.sim_scope.specs.declared.standard.StandardName.TheVariants as standard
+use Rattle.sim_scope.specs.declared.types.StandardPrefix.TheVariants as standard_prefix
 use Rattle.sim_scope.specs.Access.{block_at}
 use Rattle.sim_scope.specs.Actuals.{formal_or_none, no_actuals, parameter_at, parameter_of}
 use Rattle.sim_scope.specs.Assignments.{fine, told, wrong}
@@ -19,11 +21,11 @@ use Rattle.sim_scope.specs.Scopes.{class_formals}
 use Rattle.sim_scope.specs.Source.{Source, block_around}
 use Rattle.sim_scope.specs.Statements.{prefix_applied, prefix_at, prefix_of_block, prefix_used, prefixed_events, prefixed_with}
 use Rattle.sim_tree.specs.declared.expr.Identifier.{Identifier}
-use Rattle.sim_tree.specs.Syntax.{Expressions}
-use Rattle.sim_meaning.specs.Closing.{class_parameters}
+use Rattle.sim_tree.specs.Syntax.{Expressions, NoMore, Then}
+use Rattle.sim_meaning.specs.Closing.{class_parameters, formals_from}
 use Rattle.sim_sound.specs.Held.{In}
 use Rattle.sim_sound.specs.Expressions.{ActualsFit}
-use Rattle.sim_agree.specs.Facts.{BlockPrefix, Tabled}
+use Rattle.sim_agree.specs.Facts.{BlockPrefix, SetPrefix, Tabled}
 use Rattle.sim_allowed.proofs.Actuals.{AllActuals, AllKnown, actuals_are, all_formals, size}
 use Rattle.sim_allowed.proofs.Classes.{class_row}
 use Rattle.sim_allowed.proofs.Headings.{class_heading}
@@ -72,10 +74,54 @@ module _ (s : Source) (known : Tabled s) (k : ℕ) (class : Identifier) (es : Ex
       typed true is said = number_fits (nat_eq (formal_count s.tables d) a.count) refl said
       typed false is said = absurd (false≢true (sym is ∙ are.typed refl))
 
-  pub prefix_fits : AllSay s (prefixed_events s.tables class es begin) → ActualsFit s (In k) es (class_parameters s (Some number))
+  class_fits : AllSay s (prefixed_events s.tables class es begin) → ActualsFit s (In k) es (class_parameters s (Some number))
   unfolding prefixed_events telling
-  prefix_fits said =
+  class_fits said =
       let events = subst (λ o. AllSay s (next (prefix_used class.token.0 o) (λ d. next (actuals s.tables extent.Statement d no_actuals es) (prefixed_with s.tables class.token.0 d))).events) denotes said in
       let parts = next_says s (prefix_used class.token.0 (Some (denotation.Declared prefix.declaration))) (λ d. next (actuals s.tables extent.Statement d no_actuals es) (prefixed_with s.tables class.token.0 d)) events in
       let more = next_says s (actuals s.tables extent.Statement (Some (denotation.Declared prefix.declaration)) no_actuals es) (prefixed_with s.tables class.token.0 (Some (denotation.Declared prefix.declaration))) parts.1 in
       fits (actuals_are s known (In k) extent.Statement (Some (denotation.Declared prefix.declaration)) es all no_actuals more.0) more.1
+
+-- `simset` in front of a block has no parameters
+module _ (s : Source) (known : Tabled s) (k : ℕ) (class : Identifier) (es : Expressions) (begin number : ℕ) (placed : block_around s begin ≡ Some number) (prefix : SetPrefix s number) (all : AllKnown s (In k) extent.Statement es) where
+  abbrev simset : Denotation
+  simset = denotation.Standard (standard.Prefix standard_prefix.Simset)
+
+  set_denotes : prefix_at s.tables begin ≡ Some simset
+  unfolding prefix_at block_around block_at
+  set_denotes = ap (prefix_of_block s.tables) placed ∙ prefix.denoted
+
+  abbrev given : Actuals
+  given = (actuals s.tables extent.Statement (Some simset) no_actuals es).value
+
+  nothing_given : (es : Expressions) → size es ≡ 0 → ActualsFit s (In k) es []
+  nothing_given NoMore none = tt
+  nothing_given (Then e es) none = absurd (omega (arith, none))
+
+  nothing_fits : AllActuals s (In k) (Some simset) es no_actuals given → AllSay s (prefixed_with s.tables class.token.0 (Some simset) given).events → ActualsFit s (In k) es (class_parameters s (Some number))
+  unfolding prefixed_with fine wrong telling gives
+  nothing_fits are said = subst (λ ds. ActualsFit s (In k) es (formals_from s ds)) (sym prefix.parameters) (nothing_given es (none (typed given.typed refl said)))
+    where
+      counted : (b : Bool) → nat_eq 0 given.count ≡ b → AllSay s (if b then told given.misfit else wrong class.token.0 r.WrongNumber).events → given.count ≡ 0
+      counted true same said = grind (arith, nat_tests)
+      counted false same said = absurd said.0
+
+      typed : (b : Bool) → given.typed ≡ b → AllSay s (if b then prefix_applied s.tables class.token.0 simset given else fine).events → given.count ≡ 0
+      typed true is said = counted (nat_eq 0 given.count) refl said
+      typed false is said = absurd (false≢true (sym is ∙ are.typed refl))
+
+      none : given.count ≡ 0 → size es ≡ 0
+      none zero = let count = are.count in omega (arith, zero, count)
+
+  set_fits : AllSay s (prefixed_events s.tables class es begin) → ActualsFit s (In k) es (class_parameters s (Some number))
+  unfolding prefixed_events telling
+  set_fits said =
+      let events = subst (λ o. AllSay s (next (prefix_used class.token.0 o) (λ d. next (actuals s.tables extent.Statement d no_actuals es) (prefixed_with s.tables class.token.0 d))).events) set_denotes said in
+      let parts = next_says s (prefix_used class.token.0 (Some simset)) (λ d. next (actuals s.tables extent.Statement d no_actuals es) (prefixed_with s.tables class.token.0 d)) events in
+      let more = next_says s (actuals s.tables extent.Statement (Some simset) no_actuals es) (prefixed_with s.tables class.token.0 (Some simset)) parts.1 in
+      nothing_fits (actuals_are s known (In k) extent.Statement (Some simset) es all no_actuals more.0) more.1
+
+pub prefix_fits : (s : Source) → Tabled s → (k : ℕ) (class : Identifier) (es : Expressions) (begin number : ℕ) → block_around s begin ≡ Some number → BlockPrefix s number ⊎ SetPrefix s number → AllKnown s (In k) extent.Statement es
+    → AllSay s (prefixed_events s.tables class es begin) → ActualsFit s (In k) es (class_parameters s (Some number))
+prefix_fits s known k class es begin number placed (inl prefix) all said = class_fits s known k class es begin number placed prefix all said
+prefix_fits s known k class es begin number placed (inr prefix) all said = set_fits s known k class es begin number placed prefix all said

@@ -1,5 +1,5 @@
 -- Calls without actuals, values and operands.
-use Rattle.std.proofs.Common.{◌≡◌, ℕ, Bool, true, false, List, [], ◌∷◌, length, Option, Some, None, refl, sym, ap, subst, arith, if◌then◌else◌}
+use Rattle.std.proofs.Common.{◌≡◌, inl, inr, ℕ, Bool, true, false, List, [], ◌∷◌, length, Option, Some, None, refl, sym, ap, subst, arith, if◌then◌else◌}
 use Rattle.std.proofs.lemmas.Bool.Decides.{nat_tests}
 use Rattle.std.specs.Prelude.{nat_eq}
 use Rattle.sim_base.specs.declared.rule.Rule.TheVariants as r
@@ -9,6 +9,7 @@ use Rattle.sim_scope.specs.declared.outcome.Outcome.{Outcome}
 use Rattle.sim_scope.specs.declared.outcome.Outcome.TheVariants as is
 use Rattle.sim_scope.specs.declared.outcome.Side.{Side}
 use Rattle.sim_scope.specs.declared.standard.StandardName.{StandardName}
+use Rattle.sim_scope.specs.declared.types.Entry.TheVariants as entry
 use Rattle.sim_scope.specs.declared.types.Formal.{Formal}
 use Rattle.sim_scope.specs.declared.types.SimType.{SimType}
 use Rattle.sim_scope.specs.Judged.{Judged, gives, next, telling}
@@ -29,7 +30,7 @@ use Rattle.sim_sound.specs.Statements.{OrTransferIs, is_given}
 use Rattle.sim_agree.specs.Facts.{Tabled}
 use Rattle.sim_allowed.proofs.Headings.{HeadingIs, heading}
 use Rattle.sim_allowed.proofs.Classes.{proper_value}
-use Rattle.sim_allowed.proofs.Meant.{CallsFor, DotAs, Means, NamedAs, ProcedureIs, StandardIs, Takes, TypeThere, Unowned, ValueIs}
+use Rattle.sim_allowed.proofs.Meant.{CallsFor, DotAs, Means, NamedAs, ProcedureIs, SetIs, StandardIs, Takes, TypeThere, Unowned, ValueIs}
 use Rattle.sim_allowed.proofs.Said.{AllSay, next_says}
 
 -- ---- calls
@@ -83,6 +84,18 @@ procedure_means s known from e d token own alone p none said =
     go true zero said = call_means s from e p.result p.typed (p.calls (fit (grind (arith, nat_tests)))) alone none
     go false other said = absurd said.0
 
+set_means : (s : Source) (from : Place) (e : Expression) (d : DeclNo) (token : TokenNo) (own : Option DeclNo) (alone : Bool) (p : SetIs s from e d own) → Unowned alone s e
+    → AllSay s (called s.tables (is.Procedure d token own)).events → Means alone s from e (called s.tables (is.Procedure d token own)).value
+unfolding called breaks gives telling
+set_means s from e d token own alone p none said =
+    subst (λ z. Means alone s from e (procedure_called token.0 (length (formals_of s.tables d)) z).value) (sym p.declared)
+    (go p.parameter refl (subst (λ z. AllSay s (procedure_called token.0 (length (formals_of s.tables d)) z).events) p.declared said))
+  where
+    go : (w : Option SimType) → p.parameter ≡ w → AllSay s (procedure_called token.0 (length (formals_of s.tables d)) (Some (entry.Attribute p.name w p.result))).events
+        → Means alone s from e (procedure_called token.0 (length (formals_of s.tables d)) (Some (entry.Attribute p.name w p.result))).value
+    go None is said = call_means s from e p.result p.typed (p.calls is) alone none
+    go (Some ty) is said = absurd said.0
+
 standard_means : (s : Source) (from : Place) (e : Expression) (name : StandardName) (token : TokenNo) (alone : Bool) → StandardIs s from e name → Unowned alone s e
     → AllSay s (called s.tables (is.Standard name token)).events → Means alone s from e (called s.tables (is.Standard name token)).value
 unfolding called breaks gives telling
@@ -109,7 +122,8 @@ called_means s known from e (is.Called ty) m said = (m.0, m.1, tt)
 called_means s known from e (is.Variable ty) m said = (m.0, m.1, m.2, tt)
 called_means s known from e (is.Constant ty) m said = m
 called_means s known from e (is.Array ty) m said = m
-called_means s known from e (is.Procedure d token own) m said = procedure_means s known from e d token own false m tt said
+called_means s known from e (is.Procedure d token own) (inl p) said = procedure_means s known from e d token own false p tt said
+called_means s known from e (is.Procedure d token own) (inr p) said = set_means s from e d token own false p tt said
 called_means s known from e (is.Standard name token) m said = standard_means s from e name token false m tt said
 called_means s known from e is.Class m said = tt
 called_means s known from e (is.Barred b) m said = absurd m

@@ -18,7 +18,7 @@ use Rattle.sim_tree.specs.Syntax.{Expression}
 use Rattle.sim_values.specs.declared.kind.Kind.{Kind}
 use Rattle.sim_values.specs.declared.kind.Kind.TheVariants as kind
 use Rattle.sim_meaning.specs.Attributes.{is_connection}
-use Rattle.sim_meaning.specs.Levels.{class_text, is_class, qualification}
+use Rattle.sim_meaning.specs.Levels.{class_text, has_levels, is_class, qualification}
 use Rattle.sim_meaning.specs.Texts.{BlockText, ClassText, ConnectionText, PrefixedText, ProcedureText, StandardText, Text, kind_of_type, text}
 use Rattle.sim_sound.specs.Held.{ArrayOf, Fits, Holds, Place, Refers, Simply, held_by, reference_to}
 use Rattle.sim_sound.specs.Expressions.{ExprIs, IsReference}
@@ -200,6 +200,11 @@ level_both s known a b c solid x y =
 level_class : (s : Source) → Tabled s → (k l : ℕ) → is_class (text s k) ≡ true → Reaches s.tables k l → is_class (text s l) ≡ true
 level_class s known k l class itself = class
 level_class s known k l class (through {b = b} e x) = level_class s known b l (known.connects k b e) x
+
+-- what is no connection and has a class among its levels has levels
+pub levels_here : (s : Source) → Tabled s → (b block : ℕ) → is_connection (text s b) ≡ false → is_class (text s block) ≡ true → Reaches s.tables b block → has_levels (text s b) ≡ true
+levels_here s known b block other class itself = known.class_levels b class
+levels_here s known b block other class (through {b = c} e x) = (known.prefixes.prefixed_by b c other e).has
 
 -- where an object of a class may stand what has the class among its levels may stand
 pub fits_inside : (s : Source) → Tabled s → (a q : ℕ) → is_connection (text s a) ≡ false → has_level s.tables a q ≡ true → (h : Holds) → Fits s (Refers q) h → Fits s (Refers a) h

@@ -1,5 +1,5 @@
 -- What an expression is that uses a declaration: an identifier, or an attribute of an object, alone or with operands.
-use Rattle.std.proofs.Common.{◌≡◌, ℕ, Bool, true, false, length, Option, Some, None, refl, sym, ap, ◌∙◌, subst, arith, if◌then◌else◌}
+use Rattle.std.proofs.Common.{◌≡◌, inl, inr, ℕ, Bool, true, false, length, Option, Some, None, refl, sym, ap, ◌∙◌, subst, arith, if◌then◌else◌}
 use Rattle.std.proofs.lemmas.Bool.Decides.{nat_tests}
 use Rattle.std.specs.Prelude.{◌+◌, nat_eq}
 use Rattle.sim_base.specs.declared.numbering.DeclNo.{DeclNo}
@@ -19,8 +19,8 @@ use Rattle.sim_scope.specs.declared.types.Mode.{Mode}
 use Rattle.sim_scope.specs.declared.types.Mode.TheVariants as mode
 use Rattle.sim_scope.specs.declared.types.SimType.{SimType}
 use Rattle.sim_scope.specs.declared.types.SimType.TheVariants as t
-use Rattle.sim_scope.specs.Actuals.{formal_or_none, of_formal_procedure, parameter_at, parameter_of}
-use Rattle.sim_scope.specs.Calls.{declared_alone, declared_applied, element_of, formal_alone, is_undotted, own_undotted, procedure_alone, resulting, typed_if}
+use Rattle.sim_scope.specs.Actuals.{attribute_parameter, formal_or_none, of_formal_procedure, parameter_at, parameter_of}
+use Rattle.sim_scope.specs.Calls.{attribute_count, declared_alone, declared_applied, element_of, formal_alone, is_undotted, own_undotted, procedure_alone, resulting, typed_if}
 use Rattle.sim_scope.specs.Found.{Typed}
 use Rattle.sim_scope.specs.Judged.{Judged, gives, telling}
 use Rattle.sim_scope.specs.Outcomes.{breaks, call_of, varies}
@@ -28,16 +28,19 @@ use Rattle.sim_scope.specs.Scopes.{entry_of, formals_of, result_in, result_of}
 use Rattle.sim_scope.specs.Source.{Source, type_at}
 use Rattle.sim_tree.specs.declared.expr.Identifier.{Identifier}
 use Rattle.sim_tree.specs.Syntax.{Expression, Expressions, NoMore, Then}
+use Rattle.sim_values.specs.declared.standard.Standard.{Standard}
+use Rattle.sim_code.specs.Sets.{is_set_name}
+use Rattle.sim_meaning.specs.Attributes.{attribute_formals}
 use Rattle.sim_meaning.specs.Closing.{has_type, is_text, is_text_type, result_meant, stream_of, typed_token}
 use Rattle.sim_meaning.specs.Entries.{formals_of as meant_formals}
 use Rattle.sim_meaning.specs.Levels.{qualification}
-use Rattle.sim_meaning.specs.Statements.{denoted_leaves}
+use Rattle.sim_meaning.specs.Statements.{denoted_leaves, entry_leaves}
 use Rattle.sim_meaning.specs.Texts.{kind_of_type}
 use Rattle.sim_sound.specs.Held.{ArrayOf, Fits, Holds, Place, Simply, formal_holds, held_by, reference_to}
 use Rattle.sim_sound.specs.Expressions.{ActualsFit, AreIntegers, DeclaredGives, ExprIs, HeldNames}
 use Rattle.sim_sound.specs.Statements.{LeftHeld, PlaceDeclared, is_given}
 use Rattle.sim_agree.specs.Facts.{ProperEntry, ProperFormal, ProperResult, ProperType, Tabled}
-use Rattle.sim_allowed.proofs.Actuals.{AllFit, all_formals, all_integers, size}
+use Rattle.sim_allowed.proofs.Actuals.{AllFit, FitsAs, all_formals, all_integers, size}
 use Rattle.sim_allowed.proofs.Calls.{call_means}
 use Rattle.sim_allowed.proofs.Classes.{plain_proper, plain_value, proper_takes, proper_value}
 use Rattle.sim_allowed.proofs.Headings.{heading}
@@ -101,7 +104,10 @@ typed_is token (Some type) o = refl
 -- whether a call leaves a value
 leaves_result : (s : Source) (d : DeclNo) (result : Option SimType) (k : ℕ) → entry_of s.tables d ≡ Some (entry.Procedure result k) → denoted_leaves s (Some (denotation.Declared d)) ≡ has_type result
 unfolding result_of
-leaves_result s d result k e = ap (λ z. has_type (result_in z)) e
+leaves_result s d result k e = ap (entry_leaves s d) e ∙ ap (λ z. has_type (result_in z)) e
+
+set_leaves : (s : Source) (d : DeclNo) (name : Standard) (w result : Option SimType) → entry_of s.tables d ≡ Some (entry.Attribute name w result) → denoted_leaves s (Some (denotation.Declared d)) ≡ has_type result
+set_leaves s d name w result e = ap (entry_leaves s d) e
 
 -- ---- formal parameters
 
@@ -190,6 +196,17 @@ module _ (s : Source) (known : Tabled s) (from : Place) (e : Expression) (naming
   given (Some type) k p there fit = λ h f.
       it.call (Some h) (subst (λ z. DeclaredGives s Known d NoMore (AreIntegers s from NoMore) (λ fs. ActualsFit s from NoMore fs) z (Some h)) (sym there) (proper_takes s type h p f, sees, fit)) (leaves_result s d (Some type) k there)
 
+  -- what a procedure of SIMSET gives
+  set_given : (name : Standard) (w result : Option SimType) → is_set_name name ≡ true → ProperResult s result → entry_of s.tables d ≡ Some (entry.Attribute name w result) → w ≡ None → GivenFor s (CallGiven s from e) result
+  set_given name w None set p there none =
+      it.call None
+      (subst (λ z. DeclaredGives s Known d NoMore (AreIntegers s from NoMore) (λ fs. ActualsFit s from NoMore fs) z None) (sym there)
+      (set, tt, sees, subst (λ z. ActualsFit s from NoMore (attribute_formals z)) (sym none) tt)) (set_leaves s d name w None there)
+  set_given name w (Some type) set p there none = λ h f.
+      it.call (Some h)
+      (subst (λ z. DeclaredGives s Known d NoMore (AreIntegers s from NoMore) (λ fs. ActualsFit s from NoMore fs) z (Some h)) (sym there)
+      (set, proper_takes s type h p f, sees, subst (λ z. ActualsFit s from NoMore (attribute_formals z)) (sym none) tt)) (set_leaves s d name w (Some type) there)
+
   type_there : (result : Option SimType) (o : Outcome) → ProperResult s result → AllSay s (typed_if naming result o).events → TypeThere s e result
   unfolding telling gives is_text
   type_there None o p said = tt
@@ -208,12 +225,24 @@ module _ (s : Source) (known : Tabled s) (from : Place) (e : Expression) (naming
   alone_means x (entry.Procedure result k) there p own said =
       let o = procedure_alone d x (own_undotted s.tables x (is_undotted naming x) (Some d)) in
       subst (λ z. Means true s from e z) (sym (typed_is naming result o))
-      (record { result = result; block = k; declared = there; typed = type_there result o p said; calls = λ fit. it.calls result (given result k p there fit); inside = own result k there })
+      (inl (record { result = result; block = k; declared = there; typed = type_there result o p said; calls = λ fit. it.calls result (given result k p there fit); inside = own result k there }))
   alone_means x (entry.Class k) there p own said = tt
   alone_means x (entry.Virtual result o) there p own said = absurd p
   alone_means x (entry.Formal f) there p own said = formal_means f there p (procedure_alone d x None) said
   alone_means x (entry.Unspecified w) there p own said = absurd p
-  alone_means x (entry.Attribute name w result) there p own said = absurd p
+  alone_means x (entry.Attribute name w result) there p own said =
+      let o = procedure_alone d x None in
+      subst (λ z. Means true s from e z) (sym (typed_is naming result o))
+      (inr (record {
+        name = name;
+        parameter = w;
+        result = result;
+        declared = there;
+        typed = type_there result o p.2 said;
+        calls = λ none. it.calls result (set_given name w result p.0 p.2 there none);
+        no_own = refl;
+        unowned = it.unowned (subst (λ z. NoResult z NoMore) (sym there) tt);
+      }))
 
 -- ---- with operands
 
@@ -270,6 +299,33 @@ module _ (s : Source) (known : Tabled s) (from : Place) (e : Expression) (naming
       subst (λ z. Means true s from e z) (sym (typed_is naming result (call_of result)))
       (call_means s from e result (result_there result (call_of result) p said) (it.calls result (call_given result k p there fit)) true (it.unowned (subst (λ z. NoResult z Them) (sym there) tt)))
 
+  -- a procedure of SIMSET, with the actual parameter of its formal parameter
+  set_fits : (name : Standard) (w result : Option SimType) → entry_of s.tables d ≡ Some (entry.Attribute name w result) → attribute_count w ≡ size Them → AllFit s from (Some (denotation.Declared d)) 0 Them → ActualsFit s from Them (attribute_formals w)
+  set_fits name None result there same fit = absurd (omega (arith, same))
+  set_fits name (Some type) result there same fit = go rest (omega (arith, same))
+    where
+      one : FitsAs s from first (attribute_parameter (Some type) 0)
+      one = subst (λ p. FitsAs s from first p) (declared_parameters s d (entry.Attribute name (Some type) result) there 0) fit.0
+
+      go : (more : Expressions) → size more ≡ 0 → ActualsFit s from (Then first more) (attribute_formals (Some type))
+      go NoMore none = (one, tt)
+      go (Then other more) none = absurd (omega (arith, none))
+
+  set_call_given : (name : Standard) (w result : Option SimType) → is_set_name name ≡ true → ProperResult s result → entry_of s.tables d ≡ Some (entry.Attribute name w result) → ActualsFit s from Them (attribute_formals w) → GivenFor s (CallGiven s from e) result
+  set_call_given name w None set p there fit =
+      it.call None (subst (λ z. DeclaredGives s Known d Them (AreIntegers s from Them) (λ fs. ActualsFit s from Them fs) z None) (sym there) (set, tt, sees, fit)) (set_leaves s d name w None there)
+  set_call_given name w (Some type) set p there fit = λ h f.
+      it.call (Some h) (subst (λ z. DeclaredGives s Known d Them (AreIntegers s from Them) (λ fs. ActualsFit s from Them fs) z (Some h)) (sym there) (set, proper_takes s type h p f, sees, fit)) (set_leaves s d name w (Some type) there)
+
+  set_with : (name : Standard) (w result : Option SimType) → entry_of s.tables d ≡ Some (entry.Attribute name w result) → ProperEntry s (entry.Attribute name w result) → attribute_count w ≡ a.count
+      → (m : Option Fault) → a.misfit ≡ m → AllSay s (resulting naming m result).events → Means true s from e (resulting naming m result).value
+  unfolding resulting breaks telling
+  set_with name w result there p same (Some f) is said = absurd said.0
+  set_with name w result there p same None is said =
+      let fit = set_fits name w result there (same ∙ count) (fits is) in
+      subst (λ z. Means true s from e z) (sym (typed_is naming result (call_of result)))
+      (call_means s from e result (result_there result (call_of result) p.2 said) (it.calls result (set_call_given name w result p.0 p.2 there fit)) true (it.unowned (subst (λ z. NoResult z Them) (sym there) tt)))
+
   abbrev element_judged : Option SimType → Judged Outcome
   element_judged result = (elim result as (λ z. Judged Outcome) [ None ↦ gives is.Refused | Some element ↦ element_of naming a.misfit element ])
 
@@ -312,5 +368,9 @@ module _ (s : Source) (known : Tabled s) (from : Place) (e : Expression) (naming
   with_means token (entry.Class k) there p said = absurd said.0
   with_means token (entry.Virtual result own) there p said = absurd p
   with_means token (entry.Unspecified w) there p said = absurd p
-  with_means token (entry.Attribute name w result) there p said = absurd p
+  with_means token (entry.Attribute name w result) there p said = go (nat_eq (attribute_count w) a.count) refl said
+    where
+      go : (b : Bool) → nat_eq (attribute_count w) a.count ≡ b → AllSay s (if b then resulting naming a.misfit result else breaks token r.WrongNumber).events → Means true s from e (if b then resulting naming a.misfit result else breaks token r.WrongNumber).value
+      go true same said = set_with name w result there p (grind (arith, nat_tests)) a.misfit refl said
+      go false same said = absurd said.0
   with_means token (entry.Formal f) there p said = formal_with token f there p said

@@ -1,8 +1,9 @@
 -- What each expression is.
-use Rattle.std.proofs.Common.{◌≡◌, ℕ, true, false, List, [], ◌∷◌, ◌++◌, Some, None, refl, ap, ◌∙◌, subst, if◌then◌else◌}
+use Rattle.std.proofs.Common.{◌≡◌, ◌⊎◌, inl, inr, ℕ, true, false, List, [], ◌∷◌, ◌++◌, Some, None, refl, ap, ◌∙◌, subst, if◌then◌else◌}
 use Rattle.std.specs.Prelude.{nat_eq}
 use Rattle.sim_scope.specs.declared.outcome.Extent.{Extent}
 use Rattle.sim_scope.specs.declared.outcome.Occurrence.{Occurrence}
+use Rattle.sim_scope.specs.declared.outcome.Side.{Side}
 use Rattle.sim_scope.specs.declared.types.SimType.TheVariants as t
 use Rattle.sim_scope.specs.Access.{block_at}
 use Rattle.sim_scope.specs.Actuals.{no_actuals}
@@ -32,10 +33,10 @@ use Rattle.sim_allowed.proofs.Classes.{plain_value}
 use Rattle.sim_allowed.proofs.Meant.{Means}
 use Rattle.sim_allowed.proofs.Named.{AttributeIs, attribute_is, dot_alone, dot_with, from_zero, named_alone, named_with}
 use Rattle.sim_allowed.proofs.Operators.{not_means, signed_means, three_means, two_means}
-use Rattle.sim_allowed.proofs.References.{ClassIs, class_means, member_means, new_means, qualified_means}
+use Rattle.sim_allowed.proofs.References.{ClassIs, PrefixIs, class_means, member_means, member_refused, new_means, new_refused, qualified_means, qualified_refused}
 use Rattle.sim_allowed.proofs.Said.{AllSay, next_says}
 use Rattle.sim_allowed.proofs.Sights.{Sight, text_of}
-use Rattle.sim_allowed.proofs.This.{extent_of, this_means}
+use Rattle.sim_allowed.proofs.This.{extent_of, this_means, this_refused}
 use Rattle.sim_allowed.proofs.Uses.{BoundIs, bound_is}
 
 -- ---- text constants
@@ -130,41 +131,60 @@ module _ (s : Source) (known : Tabled s) (from : Place) (sight : Sight s from (e
       let parts = next_says s (judge s.tables X a) (in_parentheses s.tables (first_of a)) said in
       parentheses_mean s known from a i (first_of a) (judge s.tables X a).value (h parts.0) parts.1
 
-  compared : (m : _) (i : ℕ) (a : Expression) (class : Identifier) → PlainName class → Known s from X a → Known s from X (syntax.Member m i a class)
+  compared : (m : _) (i : ℕ) (a : Expression) (class : Identifier) → Known s from X a → Known s from X (syntax.Member m i a class)
   unfolding judge next
-  compared m i a class plain h said =
+  compared m i a class h said =
       let parts = next_says s (judge_side s.tables X a) (λ y. next (class_named s.tables X class) (member s.tables i y class)) said in
       let y = (judge_side s.tables X a).value in
       let more = next_says s (class_named s.tables X class) (member s.tables i y class) parts.1 in
-      member_means s known from X a y (operand a h parts.0) class (class_named s.tables X class).value (class_means s known X class plain more.0) m i more.1
+      go y (operand a h parts.0) (class_means s known X class more.0) more.1
+    where
+      go : (y : Side) → OperandIs s from a y → ClassIs s X class (class_named s.tables X class).value ⊎ PrefixIs (class_named s.tables X class).value → AllSay s (member s.tables i y class (class_named s.tables X class).value).events
+          → Means true s from (syntax.Member m i a class) (member s.tables i y class (class_named s.tables X class).value).value
+      go y p (inl c) said = member_means s known from X a y p class (class_named s.tables X class).value c m i said
+      go y p (inr c) said = absurd (member_refused s i y class (class_named s.tables X class).value c said)
 
-  qualifying : (i : ℕ) (a : Expression) (class : Identifier) → PlainName class → Known s from X a → Known s from X (syntax.Qua i a class)
+  qualifying : (i : ℕ) (a : Expression) (class : Identifier) → Known s from X a → Known s from X (syntax.Qua i a class)
   unfolding judge next
-  qualifying i a class plain h said =
+  qualifying i a class h said =
       let parts = next_says s (judge_side s.tables X a) (λ y. next (class_named s.tables X class) (qualified s.tables i y class)) said in
       let y = (judge_side s.tables X a).value in
       let more = next_says s (class_named s.tables X class) (qualified s.tables i y class) parts.1 in
-      qualified_means s known from X a y (operand a h parts.0) class (class_named s.tables X class).value (class_means s known X class plain more.0) i more.1
+      go y (operand a h parts.0) (class_means s known X class more.0) more.1
+    where
+      go : (y : Side) → OperandIs s from a y → ClassIs s X class (class_named s.tables X class).value ⊎ PrefixIs (class_named s.tables X class).value → AllSay s (qualified s.tables i y class (class_named s.tables X class).value).events
+          → Means true s from (syntax.Qua i a class) (qualified s.tables i y class (class_named s.tables X class).value).value
+      go y p (inl c) said = qualified_means s known from X a y p class (class_named s.tables X class).value c i said
+      go y p (inr c) said = absurd (qualified_refused s i y class (class_named s.tables X class).value c said)
 
-  this_one : (i : ℕ) (class : Identifier) → PlainName class → block_at s.tables class.token.0 ≡ Some (text_of from) → Known s from X (syntax.This i class)
+  this_one : (i : ℕ) (class : Identifier) → block_at s.tables class.token.0 ≡ Some (text_of from) → Known s from X (syntax.This i class)
   unfolding judge next
-  this_one i class plain placed said =
+  this_one i class placed said =
       let parts = next_says s (class_named s.tables X class) (this_object s.tables X i class) said in
-      this_means s known from i class (class_named s.tables X class).value (class_means s known X class plain parts.0) placed parts.1
+      go (class_means s known X class parts.0) parts.1
+    where
+      go : ClassIs s X class (class_named s.tables X class).value ⊎ PrefixIs (class_named s.tables X class).value → AllSay s (this_object s.tables X i class (class_named s.tables X class).value).events
+          → Means true s from (syntax.This i class) (this_object s.tables X i class (class_named s.tables X class).value).value
+      go (inl c) said = this_means s known from i class (class_named s.tables X class).value c placed said
+      go (inr c) said = absurd (this_refused s X i class (class_named s.tables X class).value c said)
 
-  generated : (i : ℕ) (class : Identifier) (es : Expressions) → PlainName class → block_at s.tables class.token.0 ≡ Some (text_of from) → AllKnown s from X es → Known s from X (syntax.New i class es)
+  generated : (i : ℕ) (class : Identifier) (es : Expressions) → block_at s.tables class.token.0 ≡ Some (text_of from) → AllKnown s from X es → Known s from X (syntax.New i class es)
   unfolding judge next
-  generated i class es plain placed all said =
+  generated i class es placed all said =
       let parts = next_says s (class_named s.tables X class) (λ o. next (actuals s.tables X o.denotes no_actuals es) (new_object s.tables i class o)) said in
-      let o = (class_named s.tables X class).value in
-      let c = class_means s known X class plain parts.0 in
-      let more = next_says s (actuals s.tables X o.denotes no_actuals es) (new_object s.tables i class o) parts.1 in
-      let a = actuals_are s known from X o.denotes es all no_actuals more.0 in
-      let b = c.found in
-      let here = sight class.token.0 class.name c.declaration placed (b.binds ∙ ap Some c.same) (let open_to = b.open_to in subst (λ z. is_barred s.tables X class.token.0 z ≡ false) c.same open_to) b.found in
-      let seen = subst (λ z. KnownAt s from z c.declaration) (class_unconnected s known X class o c (text_of from) placed) here in
-      let y = (actuals s.tables X o.denotes no_actuals es).value in
-      new_means s known from X class o c seen es y (from_zero y.count (size es) a.count) (a.typed refl) (λ h. subst (λ (z : Occurrence). AllFit s from z.denotes 0 es) c.is (a.fits h).1) i more.1
+      let more = next_says s (actuals s.tables X (class_named s.tables X class).value.denotes no_actuals es) (new_object s.tables i class (class_named s.tables X class).value) parts.1 in
+      go (class_named s.tables X class).value (class_means s known X class parts.0) more.0 more.1
+    where
+      go : (o : Occurrence) → ClassIs s X class o ⊎ PrefixIs o → AllSay s (actuals s.tables X o.denotes no_actuals es).events → AllSay s (new_object s.tables i class o (actuals s.tables X o.denotes no_actuals es).value).events
+          → Means true s from (syntax.New i class es) (new_object s.tables i class o (actuals s.tables X o.denotes no_actuals es).value).value
+      go o (inr c) given said = absurd (new_refused s i class o c (actuals s.tables X o.denotes no_actuals es).value said)
+      go o (inl c) given said =
+          let a = actuals_are s known from X o.denotes es all no_actuals given in
+          let b = c.found in
+          let here = sight class.token.0 class.name c.declaration placed (b.binds ∙ ap Some c.same) (let open_to = b.open_to in subst (λ z. is_barred s.tables X class.token.0 z ≡ false) c.same open_to) b.found in
+          let seen = subst (λ z. KnownAt s from z c.declaration) (class_unconnected s known X class o c (text_of from) placed) here.0 in
+          let y = (actuals s.tables X o.denotes no_actuals es).value in
+          new_means s known from X class o c seen es y (from_zero y.count (size es) a.count) (a.typed refl) (λ h. subst (λ (z : Occurrence). AllFit s from z.denotes 0 es) c.is (a.fits h).1) i said
 
   named : (name : Identifier) (es : Expressions) → PlainName name → PlacedExpression s.tables (text_of from) (syntax.Named name es) → AllKnown s from X es → Known s from X (syntax.Named name es)
   unfolding judge next actuals gives
@@ -226,10 +246,10 @@ module _ (s : Source) (known : Tabled s) (from : Place) (sight : Sight s from (e
     expression_known (syntax.Constant literal' i) p l there = literal i literal' there
     expression_known (syntax.Named name es) p l there = named name es p.0 l (expressions_known es p.1 l.1 there)
     expression_known (syntax.Parentheses i a) p l there = in_brackets i a (expression_known a p l there)
-    expression_known (syntax.Member m i a class) p l there = compared m i a class p.1 (expression_known a p.0 l.0 there)
-    expression_known (syntax.Qua i a class) p l there = qualifying i a class p.1 (expression_known a p.0 l.0 there)
-    expression_known (syntax.This i class) p l there = this_one i class p l
-    expression_known (syntax.New i class es) p l there = generated i class es p.0 l.0 (expressions_known es p.1 l.1 there)
+    expression_known (syntax.Member m i a class) p l there = compared m i a class (expression_known a p.0 l.0 there)
+    expression_known (syntax.Qua i a class) p l there = qualifying i a class (expression_known a p.0 l.0 there)
+    expression_known (syntax.This i class) p l there = this_one i class l
+    expression_known (syntax.New i class es) p l there = generated i class es l.0 (expressions_known es p.1 l.1 there)
 
     pub expressions_known : (es : Expressions) → PlainExpressions es → PlacedExpressions s.tables (text_of from) es → AllThere s (expressions_constants es) → AllKnown s from X es
     expressions_known NoMore p l there = tt

@@ -24,6 +24,8 @@ pub mod TextsOf
 pub mod Counts
 pub mod Told
 pub mod ToldProgram
+pub mod NamedExpressions
+pub mod StartOrder
 pub mod ToldStatements
 pub mod LastRound
 pub mod Constants

@@ -1,5 +1,5 @@
 -- What the outcome of an expression says of it.
-use Rattle.std.proofs.Common.{◌≡◌, ℕ, Bool, true, false, [], Option, Some, None}
+use Rattle.std.proofs.Common.{◌≡◌, ◌⊎◌, ℕ, Bool, true, false, [], Option, Some, None}
 use Rattle.sim_base.specs.declared.numbering.DeclNo.{DeclNo}
 use Rattle.sim_scope.specs.declared.outcome.Outcome.{Outcome}
 use Rattle.sim_scope.specs.declared.outcome.Outcome.TheVariants as is
@@ -14,16 +14,17 @@ use Rattle.sim_scope.specs.Standard.{signature}
 use Rattle.sim_tree.specs.declared.expr.Identifier.{Identifier}
 use Rattle.sim_tree.specs.Syntax.{Expression, Expressions, NoMore}
 use Rattle.sim_tree.specs.Syntax as syntax
-use Rattle.sim_meaning.specs.Attributes.{connection_at, transfer_at}
+use Rattle.sim_meaning.specs.Attributes.{connection_at, own_attribute, transfer_at}
 use Rattle.sim_meaning.specs.Closing.{is_text, is_text_type, result_meant, stream_of, typed_token}
 use Rattle.sim_meaning.specs.Entries.{formals_of}
 use Rattle.sim_meaning.specs.Names.{stream_named}
 use Rattle.sim_meaning.specs.Statements.{leaves}
 use Rattle.sim_sound.specs.Held.{ArrayOf, Fits, Holds, In, InBound, Place, Refers, Simply, held_by}
-use Rattle.sim_sound.specs.Expressions.{ActualsFit, AreIntegers, AreOf, DotGives, ExprIs, IsReference, NamedGives}
+use Rattle.sim_sound.specs.Expressions.{ActualsFit, AreIntegers, AreOf, DotGives, ExprIs, IdentifierGives, IsReference}
 use Rattle.sim_sound.specs.Statements.{LeftIs, OrTransferIs, PlaceIs, ResultIs, TransferIs, is_given}
 use Rattle.sim_agree.specs.Facts.{ProperType}
 use Rattle.sim_values.specs.declared.kind.Kind.TheVariants as kind
+use Rattle.sim_values.specs.declared.standard.Standard.{Standard}
 
 -- the types of values: those of variables, and that of `none`
 abbrev pub ValueType : Source → SimType → Type 0
@@ -54,7 +55,8 @@ GivesNone Transfers None = Transfers
 GivesNone Transfers (Some h) = ⊥
 
 abbrev pub NamedAs : Source → Place → Identifier → Expressions → Option Holds → Type 0
-NamedAs s from name es h = NamedGives s from (connection_at s name.token.0) (denoted s name.token.0) es (AreIntegers s from es) (λ ks. AreOf s from es ks) (λ fs. ActualsFit s from es fs) h
+NamedAs s from name es h =
+    IdentifierGives s from name.token.0 (connection_at s name.token.0) (own_attribute s name.token.0) es (AreIntegers s from es) (λ ks. AreOf s from es ks) (λ fs. ActualsFit s from es fs) h
 
 abbrev pub DotAs : Source → Place → Expression → Identifier → Expressions → Option Holds → Type 0
 DotAs s from a name es h =
@@ -106,6 +108,19 @@ pub record ProcedureIs (s : Source) (from : Place) (e : Expression) (d : DeclNo)
   -- as a left side it is the result inside the text of the procedure
   pub inside : OwnResult s from e own d result block
 
+-- the identifier of a procedure of SIMSET alone
+pub record SetIs (s : Source) (from : Place) (e : Expression) (d : DeclNo) (own : Option DeclNo) : Type 0 where
+  pub name : Standard
+  pub parameter : Option SimType
+  pub result : Option SimType
+  pub declared : entry_of s.tables d ≡ Some (entry.Attribute name parameter result)
+  pub typed : TypeThere s e result
+  -- where it has no parameter it is a call
+  pub calls : parameter ≡ None → CallsFor s from e result
+  -- it has no text from whose inside it is a left side
+  pub no_own : own ≡ None
+  pub unowned : result_meant s e ≡ None
+
 -- a standard name alone
 pub record StandardIs (s : Source) (from : Place) (e : Expression) (standard : StandardName) : Type 0 where
   pub calls : is_stream standard ≡ false → (signature standard).first ≡ None → CallsFor s from e (signature standard).result
@@ -128,7 +143,7 @@ Means alone s from e (is.Called type) = ValueIs s from e type × CallsFor s from
 Means alone s from e (is.Variable type) = ValueIs s from e type × ProperType s type × Varies s from e type × Unowned alone s e
 Means alone s from e (is.Constant type) = ValueIs s from e type
 Means alone s from e (is.Array type) = ProperType s type × ExprIs s from e (ArrayOf (held_by s type))
-Means alone s from e (is.Procedure d token own) = Only alone (ProcedureIs s from e d own)
+Means alone s from e (is.Procedure d token own) = Only alone (ProcedureIs s from e d own ⊎ SetIs s from e d own)
 Means alone s from e (is.Standard name token) = Only alone (StandardIs s from e name)
 Means alone s from e is.Class = Unit {0}
 Means alone s from e (is.Barred b) = ⊥

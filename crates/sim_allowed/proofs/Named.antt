@@ -26,7 +26,7 @@ use Rattle.sim_scope.specs.Levels.{class_block, has_classes}
 use Rattle.sim_scope.specs.Outcomes.{side}
 use Rattle.sim_scope.specs.Scopes.{binding, block_in, declared_or_standard, entry_of, formals_of, found_in, is_detach, result_in, result_of, shown}
 use Rattle.sim_scope.specs.Source.{Source, denoted, found_at}
-use Rattle.sim_scope.specs.Standard.{is_standard_class, signature, sysin_attribute, sysout_attribute, text_attribute}
+use Rattle.sim_scope.specs.Standard.{signature, sysin_attribute, sysout_attribute, text_attribute}
 use Rattle.sim_static.specs.UnbuiltNames.{is_unbuilt_name}
 use Rattle.sim_tree.specs.declared.expr.Identifier.{Identifier}
 use Rattle.sim_tree.specs.Syntax.{Expression, Expressions, NoMore, Then}
@@ -34,7 +34,7 @@ use Rattle.sim_tree.specs.Syntax as syntax
 use Rattle.sim_values.specs.declared.kind.Kind.TheVariants as kind
 use Rattle.sim_values.specs.declared.standard.Standard.TheVariants as detach
 use Rattle.sim_code.specs.Transfers.{Detaching}
-use Rattle.sim_meaning.specs.Attributes.{connection_at, connection_in, is_connection, transfer_named}
+use Rattle.sim_meaning.specs.Attributes.{connection_at, connection_in, is_connection, own_attribute, transfer_named}
 use Rattle.sim_meaning.specs.Closing.{block_if, own_block, own_block_denoted, own_result, result_meant, stream_denoted, stream_of, unless_connected}
 use Rattle.sim_meaning.specs.Names.{procedure_named, stream_named}
 use Rattle.sim_meaning.specs.Statements.{denoted_leaves}
@@ -49,11 +49,11 @@ use Rattle.sim_allowed.proofs.Classes.{class_held, class_row, own_level, simply}
 use Rattle.sim_allowed.proofs.Declared.{alone_means, with_means}
 use Rattle.sim_allowed.proofs.Detached.{detach_stands}
 use Rattle.sim_allowed.proofs.Meant.{CallGiven, CallsFor, InText, Means, OwnResult, ValueIs}
-use Rattle.sim_allowed.proofs.Names.{IsProcedure, OfTexts, alone_no_class, alone_proper, attribute_gives, attribute_no_class, attribute_proper, attribute_transfers_none, detach_alone, given_by, kinds_of, procedure_no_class, procedure_proper, procedure_transfers_none, standard_gives, standard_left, sysin_name, sysout_name, text_name}
+use Rattle.sim_allowed.proofs.Names.{IsProcedure, OfTexts, alone_proper, attribute_gives, attribute_proper, attribute_transfers_none, detach_alone, given_by, kinds_of, procedure_proper, procedure_transfers_none, standard_gives, standard_left, sysin_name, sysout_name, text_name}
 use Rattle.sim_allowed.proofs.Nowhere.{is_nowhere}
 use Rattle.sim_allowed.proofs.Said.{AllSay, next_says}
 use Rattle.sim_allowed.proofs.Sights.{Sight, text_of}
-use Rattle.sim_allowed.proofs.Uses.{BoundIs, bound_name, dot_calls, dot_detaches, dot_given, dot_use, named_use, plain_given, standard_call, standard_transfers, standard_with, standard_without, unconnected_none}
+use Rattle.sim_allowed.proofs.Uses.{BoundIs, KnownHere, bound_name, dot_calls, dot_detaches, dot_given, dot_use, known_here, named_use, own_declared, plain_given, standard_call, standard_transfers, standard_with, standard_without, unconnected_none}
 
 pub from_zero : (n m : ℕ) → n ≡ 0 + m → n ≡ m
 from_zero n m e = omega (arith, e)
@@ -156,6 +156,16 @@ standard_owner s x (Then e es) name says = unconnected_none (connection_at s x.t
 -- ---- an identifier
 
 module _ (s : Source) (known : Tabled s) (from : Place) (e : Extent) (sight : Sight s from e) (x : Identifier) (placed : block_at s.tables x.token.0 ≡ Some (text_of from)) (plain : is_unbuilt_name x.name ≡ false) where
+  -- what it denotes is known where it stands
+  abbrev Here : DeclNo → Type 0
+  Here d = KnownHere s from x.token.0 (connection_at s x.token.0) (own_attribute s x.token.0) d
+
+  here : (d : DeclNo) → denoted s x.token.0 ≡ Some (denotation.Declared d) → binding s.tables x.token.0 x.name ≡ Some (denotation.Declared d) → is_barred s.tables e x.token.0 (denotation.Declared d) ≡ false
+      → ((block : ℕ) → found_in s.tables x.token.0 x.name ≡ Some block → found_at s x.token.0 ≡ Some block) → Here d
+  here d says binds open_to at =
+      let seen = sight x.token.0 x.name d placed binds open_to at in
+      known_here s from x.token.0 d (connection_at s x.token.0) (own_attribute s x.token.0) (own_declared s x.token.0 d says) seen.0 seen.1
+
   -- `detach` is found around
   detach_seen : (name : StandardName) → binding s.tables x.token.0 x.name ≡ Some (denotation.Standard name) → ((block : ℕ) → found_in s.tables x.token.0 x.name ≡ Some block → found_at s x.token.0 ≡ Some block)
       → name ≡ found.Procedure detach.Detach → InText from (λ t. ThisFound s (In t) (found_at s x.token.0) (Simply kind.Reference))
@@ -169,12 +179,12 @@ module _ (s : Source) (known : Tabled s) (from : Place) (e : Extent) (sight : Si
       go (denotation.Declared d) is says binds open_to said =
           let t = known.there x.token.0 x.name d binds in
           subst (λ z. Means true s from (syntax.Named x NoMore) (declared_alone s.tables x.token.0 x d z).value) (sym t.1)
-          (alone_means s known from (syntax.Named x NoMore) x.token.0 d (KnownAt s from (connection_at s x.token.0) d) (sight x.token.0 x.name d placed binds open_to b.found) (named_use s from x NoMore d says) x t.0 t.1 (known.proper d t.0 t.1)
+          (alone_means s known from (syntax.Named x NoMore) x.token.0 d (Here d) (here d says binds open_to b.found) (named_use s from x NoMore d says) x t.0 t.1 (known.proper d t.0 t.1)
           (λ result k there. own_means s known from x placed d says binds b.found result k there) (subst (λ z. AllSay s (declared_alone s.tables x.token.0 x d z).events) t.1 said))
       go (denotation.Standard name) is says binds open_to said =
           let alone = bound_name s x.token.0 x.name name plain binds in
-          standard_without s from (syntax.Named x NoMore) name x.token.0 refl (ap stream_denoted says) (standard_owner s x NoMore name says) (alone_no_class name alone) (alone_proper name alone) x.token
-          (λ other are. standard_call s from x NoMore name says (unconnected s e x o b name is) (detach_seen name binds b.found) alone other (alone_proper name alone) are) said
+          standard_without s from (syntax.Named x NoMore) name x.token.0 refl (ap stream_denoted says) (standard_owner s x NoMore name says) (alone_proper name alone) x.token
+          (λ other class are. standard_call s from x NoMore name says (unconnected s e x o b name is) (detach_seen name binds b.found) alone other class (alone_proper name alone) are) said
 
   pub named_with : (first : Expression) (rest : Expressions) (o : Occurrence) → BoundIs s e x o → (a : Actuals) → AllActuals s from o.denotes (Then first rest) no_actuals a → AllSay s (used s.tables x.token.0 x o a).events
       → Means true s from (syntax.Named x (Then first rest)) (used s.tables x.token.0 x o a).value
@@ -199,12 +209,12 @@ module _ (s : Source) (known : Tabled s) (from : Place) (e : Extent) (sight : Si
       go (denotation.Declared d) is says binds open_to fits said =
           let t = known.there x.token.0 x.name d binds in
           subst (λ z. Means true s from (syntax.Named x (Then first rest)) (declared_applied x.token.0 x.token.0 z (length (formals_of s.tables d)) a).value) (sym t.1)
-          (with_means s known from (syntax.Named x (Then first rest)) x.token.0 d (KnownAt s from (connection_at s x.token.0) d) (sight x.token.0 x.name d placed binds open_to b.found) first rest (named_use s from x (Then first rest) d says) a (from_zero a.count (suc (size rest)) all.count) fits
+          (with_means s known from (syntax.Named x (Then first rest)) x.token.0 d (Here d) (here d says binds open_to b.found) first rest (named_use s from x (Then first rest) d says) a (from_zero a.count (suc (size rest)) all.count) fits
           x.token.0 t.0 t.1 (known.proper d t.0 t.1) (subst (λ z. AllSay s (declared_applied x.token.0 x.token.0 z (length (formals_of s.tables d)) a).events) t.1 said))
       go (denotation.Standard name) is says binds open_to fits said =
           let alone = bound_name s x.token.0 x.name name plain binds in
-          standard_with s from (syntax.Named x (Then first rest)) name x.token.0 refl (ap stream_denoted says) (standard_owner s x (Then first rest) name says) (alone_no_class name alone) (alone_proper name alone) (Then first rest)
-          (λ other are. standard_call s from x (Then first rest) name says (unconnected s e x o b name is) (detach_seen name binds b.found) alone other (alone_proper name alone) are) a (from_zero a.count (suc (size rest)) all.count) fits x.token.0 said
+          standard_with s from (syntax.Named x (Then first rest)) name x.token.0 refl (ap stream_denoted says) (standard_owner s x (Then first rest) name says) (alone_proper name alone) (Then first rest)
+          (λ other class are. standard_call s from x (Then first rest) name says (unconnected s e x o b name is) (detach_seen name binds b.found) alone other class (alone_proper name alone) are) a (from_zero a.count (suc (size rest)) all.count) fits x.token.0 said
 
 -- ---- attributes behind dots
 
@@ -304,14 +314,6 @@ attribute_none (found.Procedure x) p = refl
 attribute_none _ p = absurd p
 
 module _ (s : Source) (from : Place) (i : ℕ) (a : Expression) (x : Identifier) (name : StandardName) (says : denoted s x.token.0 ≡ Some (denotation.Standard name)) (which : OfWhich s from a name) where
-  dot_no_class : is_standard_class name ≡ false
-  dot_no_class = go which
-    where
-      go : OfWhich s from a name → is_standard_class name ≡ false
-      go (inl y) = procedure_no_class name y.2
-      go (inr (inl y)) = attribute_no_class name y.1
-      go (inr (inr y)) = ap is_standard_class y.0 ∙ alone_no_class (found.Procedure detach.Detach) detach_alone
-
   dot_proper : PlainGiven (signature name).result
   dot_proper = go which
     where
@@ -353,13 +355,13 @@ module _ (s : Source) (from : Place) (i : ℕ) (a : Expression) (x : Identifier)
 
   standard_alone : AllSay s (alone s.tables i x (denotation.Standard name)).events → Means true s from (syntax.Dot i a x NoMore) (alone s.tables i x (denotation.Standard name)).value
   unfolding alone stream_of result_meant
-  standard_alone said = standard_without s from (syntax.Dot i a x NoMore) name i refl (sym dot_none) refl dot_no_class dot_proper x.token (λ other are. dot_call NoMore are) said
+  standard_alone said = standard_without s from (syntax.Dot i a x NoMore) name i refl (sym dot_none) refl dot_proper x.token (λ other class are. dot_call NoMore are) said
 
   standard_applies : (first : Expression) (rest : Expressions) (y : Actuals) → y.count ≡ size (Then first rest) → (y.misfit ≡ None → AllFit s from (Some (denotation.Standard name)) 0 (Then first rest))
       → AllSay s (applied s.tables i x.token.0 (denotation.Standard name) y).events → Means true s from (syntax.Dot i a x (Then first rest)) (applied s.tables i x.token.0 (denotation.Standard name) y).value
   unfolding applied stream_of result_meant
   standard_applies first rest y count fits said =
-      standard_with s from (syntax.Dot i a x (Then first rest)) name i refl (sym dot_none) refl dot_no_class dot_proper (Then first rest) (λ other are. dot_call (Then first rest) are) y count fits x.token.0 said
+      standard_with s from (syntax.Dot i a x (Then first rest)) name i refl (sym dot_none) refl dot_proper (Then first rest) (λ other class are. dot_call (Then first rest) are) y count fits x.token.0 said
 
 -- ---- behind a dot: any attribute
 

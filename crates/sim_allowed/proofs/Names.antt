@@ -1,5 +1,5 @@
 -- The standard names, as the rules and as the meaning have them.
-use Rattle.std.proofs.Common.{◌≡◌, ◌⊎◌, inl, inr, ℕ, Bool, true, false, List, [], ◌∷◌, Option, Some, None, refl, sym, ap, ◌∙◌, subst, if◌then◌else◌}
+use Rattle.std.proofs.Common.{◌≡◌, ◌⊎◌, inl, inr, ℕ, Bool, true, false, List, [], ◌∷◌, Option, Some, None, refl, subst, if◌then◌else◌}
 use Rattle.std.proofs.lemmas.Bool.{false≢true}
 use Rattle.std.proofs.lemmas.Slice.Eq.{bytes_eq-Decides}
 use Rattle.std.specs.Prelude.{◌||◌, ◌&&◌, codes}
@@ -11,9 +11,8 @@ use Rattle.sim_scope.specs.declared.standard.StandardName.{StandardName}
 use Rattle.sim_scope.specs.declared.standard.StandardName.TheVariants as found
 use Rattle.sim_scope.specs.declared.types.SimType.{SimType}
 use Rattle.sim_scope.specs.declared.types.StandardPrefix.{StandardPrefix}
-use Rattle.sim_scope.specs.ClassNames.{is_name_of_classes}
 use Rattle.sim_scope.specs.Scopes.{is_detach}
-use Rattle.sim_scope.specs.Standard.{first_named, is_seen, is_standard_class, named_beside, plain_or_none, prefix_or_none, procedure_or, signature, standard_name, standard_prefix, sysin_attribute, sysout_attribute, text_attribute}
+use Rattle.sim_scope.specs.Standard.{first_named, is_seen, named_beside, plain_or_none, prefix_or_none, procedure_or, signature, standard_name, standard_prefix, sysin_attribute, sysout_attribute, text_attribute}
 use Rattle.sim_static.specs.UnbuiltNames.{is_unbuilt_name}
 use Rattle.sim_values.specs.declared.kind.Kind.{Kind}
 use Rattle.sim_values.specs.declared.kind.Kind.TheVariants as kind
@@ -31,7 +30,6 @@ use Rattle.sim_sound.specs.Held.{Holds, Simply}
 use Rattle.sim_sound.specs.Expressions.{AttributeGives, StandardGives}
 use Rattle.sim_sound.specs.Statements.{is_given}
 use Rattle.sim_agree.specs.Facts.{PlainGiven}
-use Rattle.sim_agree.proofs.PlainNames.{no_standard_prefix}
 
 -- the kinds of the parameters of a name, and what it gives
 abbrev pub second_kind : Option SimType → List Kind
@@ -58,7 +56,7 @@ abbrev pub NoAttribute : StandardName → Type 0
 NoAttribute (found.Procedure x) = IsAlone x
 NoAttribute found.Sysin = Unit {0}
 NoAttribute found.Sysout = Unit {0}
-NoAttribute (found.Prefix which) = ⊥
+NoAttribute (found.Prefix which) = Unit {0}
 
 -- an attribute of texts
 abbrev pub OfTexts : StandardName → Type 0
@@ -90,23 +88,24 @@ found_behind P place name k all e = go (first_named place name STANDARD_NAMES) r
     go None is e = absurd (cc)
     go (Some x) is e = let same : found.Procedure x ≡ k = cc in subst P same (all x (first_seen place name x STANDARD_NAMES is).0)
 
-no_prefix : (name : List ℕ) (k : StandardName) → is_unbuilt_name name ≡ false → prefix_or_none (standard_prefix name) ≡ Some k → NoAttribute k
-no_prefix name k plain e = absurd (let f : None ≡ Some k = sym (ap prefix_or_none (no_standard_prefix name plain)) ∙ e in cc)
+prefix_name : (o : Option StandardPrefix) (k : StandardName) → prefix_or_none o ≡ Some k → NoAttribute k
+prefix_name None k e = absurd (cc)
+prefix_name (Some which) k e = let same : found.Prefix which ≡ k = cc in subst NoAttribute same tt
 
-beside_name : (name : List ℕ) (k : StandardName) → is_unbuilt_name name ≡ false → named_beside name ≡ Some k → NoAttribute k
-beside_name name k plain e = go (bytes_eq name (codes "sysin")) (bytes_eq name (codes "sysout")) e
+beside_name : (name : List ℕ) (k : StandardName) → named_beside name ≡ Some k → NoAttribute k
+beside_name name k e = go (bytes_eq name (codes "sysin")) (bytes_eq name (codes "sysout")) e
   where
     go : (a b : Bool) → (if a then Some found.Sysin else if b then Some found.Sysout else prefix_or_none (standard_prefix name)) ≡ Some k → NoAttribute k
     go true b e = let same : found.Sysin ≡ k = cc in subst NoAttribute same tt
     go false true e = let same : found.Sysout ≡ k = cc in subst NoAttribute same tt
-    go false false e = no_prefix name k plain e
+    go false false e = prefix_name (standard_prefix name) k e
 
 pub alone_name : (name : List ℕ) (k : StandardName) → is_unbuilt_name name ≡ false → standard_name name ≡ Some k → NoAttribute k
 unfolding standard_name
 alone_name name k plain e = go (first_named place.Alone name STANDARD_NAMES) refl e
   where
     go : (o : Option Standard) → first_named place.Alone name STANDARD_NAMES ≡ o → procedure_or o (named_beside name) ≡ Some k → NoAttribute k
-    go None is e = beside_name name k plain e
+    go None is e = beside_name name k e
     go (Some x) is e =
         let seen = first_seen place.Alone name x STANDARD_NAMES is in
         let same : found.Procedure x ≡ k = cc in
@@ -118,7 +117,7 @@ text_name name k e = found_behind OfTexts place.Text name k (λ x seen. seen) e
 
 -- the names of sysin and sysout are seen alone
 sysin_alone : (x : Standard) → is_seen place.Sysin (row_of x).owner ≡ true → IsProcedure (found.Procedure x)
-unfolding row_of is_unbuilt_name is_name_of_classes
+unfolding row_of is_unbuilt_name
 sysin_alone name.Inimage seen = ((refl, refl), refl)
 sysin_alone name.Inchar seen = ((refl, refl), refl)
 sysin_alone name.Inint seen = ((refl, refl), refl)
@@ -133,7 +132,7 @@ sysin_alone name.Length seen = ((refl, refl), refl)
 sysin_alone _ seen = absurd (false≢true seen)
 
 sysout_alone : (x : Standard) → is_seen place.Sysout (row_of x).owner ≡ true → IsProcedure (found.Procedure x)
-unfolding row_of is_unbuilt_name is_name_of_classes
+unfolding row_of is_unbuilt_name
 sysout_alone name.Outimage seen = ((refl, refl), refl)
 sysout_alone name.Outchar seen = ((refl, refl), refl)
 sysout_alone name.Outtext seen = ((refl, refl), refl)
@@ -155,40 +154,40 @@ sysout_name name k e = found_behind IsProcedure place.Sysout name k sysout_alone
 
 -- what a name alone, or behind `sysin` or `sysout`, gives
 row_gives : (x : Standard) → IsProcedure (found.Procedure x) → (Operands : List Kind → Type 0) → Operands (kinds_of (signature (found.Procedure x))) → StandardGives (Some x) Operands (given_by (signature (found.Procedure x)).result)
-unfolding signature row_of is_unbuilt_name is_name_of_classes
-row_gives name.Abs p Operands a = ((refl, refl), a)
-row_gives name.Sign p Operands a = ((refl, refl), a)
-row_gives name.Min p Operands a = ((refl, refl), a)
-row_gives name.Max p Operands a = ((refl, refl), a)
-row_gives name.Mod p Operands a = ((refl, refl), a)
-row_gives name.Rem p Operands a = ((refl, refl), a)
-row_gives name.Maxint p Operands a = ((refl, refl), a)
-row_gives name.Minint p Operands a = ((refl, refl), a)
-row_gives name.Char p Operands a = ((refl, refl), a)
-row_gives name.Rank p Operands a = ((refl, refl), a)
-row_gives name.Isochar p Operands a = ((refl, refl), a)
-row_gives name.Isorank p Operands a = ((refl, refl), a)
-row_gives name.Digit p Operands a = ((refl, refl), a)
-row_gives name.Letter p Operands a = ((refl, refl), a)
-row_gives name.Blanks p Operands a = ((refl, refl), a)
-row_gives name.Copy p Operands a = ((refl, refl), a)
-row_gives name.Upcase p Operands a = ((refl, refl), a)
-row_gives name.Lowcase p Operands a = ((refl, refl), a)
-row_gives name.Inimage p Operands a = ((refl, refl), a)
-row_gives name.Inchar p Operands a = ((refl, refl), a)
-row_gives name.Inint p Operands a = ((refl, refl), a)
-row_gives name.Intext p Operands a = ((refl, refl), a)
-row_gives name.Lastitem p Operands a = ((refl, refl), a)
-row_gives name.Endfile p Operands a = ((refl, refl), a)
-row_gives name.Outimage p Operands a = ((refl, refl), a)
-row_gives name.Outchar p Operands a = ((refl, refl), a)
-row_gives name.Outtext p Operands a = ((refl, refl), a)
-row_gives name.Outint p Operands a = ((refl, refl), a)
+unfolding signature row_of is_unbuilt_name
+row_gives name.Abs p Operands a = (((refl, refl), refl), a)
+row_gives name.Sign p Operands a = (((refl, refl), refl), a)
+row_gives name.Min p Operands a = (((refl, refl), refl), a)
+row_gives name.Max p Operands a = (((refl, refl), refl), a)
+row_gives name.Mod p Operands a = (((refl, refl), refl), a)
+row_gives name.Rem p Operands a = (((refl, refl), refl), a)
+row_gives name.Maxint p Operands a = (((refl, refl), refl), a)
+row_gives name.Minint p Operands a = (((refl, refl), refl), a)
+row_gives name.Char p Operands a = (((refl, refl), refl), a)
+row_gives name.Rank p Operands a = (((refl, refl), refl), a)
+row_gives name.Isochar p Operands a = (((refl, refl), refl), a)
+row_gives name.Isorank p Operands a = (((refl, refl), refl), a)
+row_gives name.Digit p Operands a = (((refl, refl), refl), a)
+row_gives name.Letter p Operands a = (((refl, refl), refl), a)
+row_gives name.Blanks p Operands a = (((refl, refl), refl), a)
+row_gives name.Copy p Operands a = (((refl, refl), refl), a)
+row_gives name.Upcase p Operands a = (((refl, refl), refl), a)
+row_gives name.Lowcase p Operands a = (((refl, refl), refl), a)
+row_gives name.Inimage p Operands a = (((refl, refl), refl), a)
+row_gives name.Inchar p Operands a = (((refl, refl), refl), a)
+row_gives name.Inint p Operands a = (((refl, refl), refl), a)
+row_gives name.Intext p Operands a = (((refl, refl), refl), a)
+row_gives name.Lastitem p Operands a = (((refl, refl), refl), a)
+row_gives name.Endfile p Operands a = (((refl, refl), refl), a)
+row_gives name.Outimage p Operands a = (((refl, refl), refl), a)
+row_gives name.Outchar p Operands a = (((refl, refl), refl), a)
+row_gives name.Outtext p Operands a = (((refl, refl), refl), a)
+row_gives name.Outint p Operands a = (((refl, refl), refl), a)
 row_gives name.Image p Operands a = (refl, a)
-row_gives name.Pos p Operands a = ((refl, refl), [], refl, a)
-row_gives name.Setpos p Operands a = ((refl, refl), kind.Integer ∷ [], refl, a)
-row_gives name.More p Operands a = ((refl, refl), [], refl, a)
-row_gives name.Length p Operands a = ((refl, refl), [], refl, a)
+row_gives name.Pos p Operands a = (((refl, refl), refl), [], refl, a)
+row_gives name.Setpos p Operands a = (((refl, refl), refl), kind.Integer ∷ [], refl, a)
+row_gives name.More p Operands a = (((refl, refl), refl), [], refl, a)
+row_gives name.Length p Operands a = (((refl, refl), refl), [], refl, a)
 row_gives name.Detach p Operands a = absurd (let f : Some Detaching ≡ None = p.1 in cc)
 row_gives name.Call p Operands a = absurd (let f : Some Calling ≡ None = p.1 in cc)
 row_gives name.Resume p Operands a = absurd (let f : Some Resuming ≡ None = p.1 in cc)
@@ -201,19 +200,19 @@ standard_gives _ p Operands a = absurd p
 -- what an attribute of texts gives
 row_of_text_gives : (x : Standard) → OfTexts (found.Procedure x) → (Object : Type 0) → Object → (Operands : List Kind → Type 0) → Operands (kinds_of (signature (found.Procedure x))) → AttributeGives (Some x) Object Operands (given_by (signature (found.Procedure x)).result)
 unfolding signature row_of
-row_of_text_gives name.TextConstant p Object t Operands a = (t, ((refl, refl), [], refl, a))
-row_of_text_gives name.TextStart p Object t Operands a = (t, ((refl, refl), [], refl, a))
-row_of_text_gives name.TextLength p Object t Operands a = (t, ((refl, refl), [], refl, a))
-row_of_text_gives name.TextPos p Object t Operands a = (t, ((refl, refl), [], refl, a))
-row_of_text_gives name.TextMore p Object t Operands a = (t, ((refl, refl), [], refl, a))
-row_of_text_gives name.TextMain p Object t Operands a = (t, ((refl, refl), [], refl, a))
-row_of_text_gives name.TextSetpos p Object t Operands a = (t, ((refl, refl), kind.Integer ∷ [], refl, a))
-row_of_text_gives name.TextGetchar p Object t Operands a = (t, ((refl, refl), [], refl, a))
-row_of_text_gives name.TextPutchar p Object t Operands a = (t, ((refl, refl), kind.Character ∷ [], refl, a))
-row_of_text_gives name.TextSub p Object t Operands a = (t, ((refl, refl), kind.Integer ∷ kind.Integer ∷ [], refl, a))
-row_of_text_gives name.TextStrip p Object t Operands a = (t, ((refl, refl), [], refl, a))
-row_of_text_gives name.TextGetint p Object t Operands a = (t, ((refl, refl), [], refl, a))
-row_of_text_gives name.TextPutint p Object t Operands a = (t, ((refl, refl), kind.Integer ∷ [], refl, a))
+row_of_text_gives name.TextConstant p Object t Operands a = (t, (((refl, refl), refl), [], refl, a))
+row_of_text_gives name.TextStart p Object t Operands a = (t, (((refl, refl), refl), [], refl, a))
+row_of_text_gives name.TextLength p Object t Operands a = (t, (((refl, refl), refl), [], refl, a))
+row_of_text_gives name.TextPos p Object t Operands a = (t, (((refl, refl), refl), [], refl, a))
+row_of_text_gives name.TextMore p Object t Operands a = (t, (((refl, refl), refl), [], refl, a))
+row_of_text_gives name.TextMain p Object t Operands a = (t, (((refl, refl), refl), [], refl, a))
+row_of_text_gives name.TextSetpos p Object t Operands a = (t, (((refl, refl), refl), kind.Integer ∷ [], refl, a))
+row_of_text_gives name.TextGetchar p Object t Operands a = (t, (((refl, refl), refl), [], refl, a))
+row_of_text_gives name.TextPutchar p Object t Operands a = (t, (((refl, refl), refl), kind.Character ∷ [], refl, a))
+row_of_text_gives name.TextSub p Object t Operands a = (t, (((refl, refl), refl), kind.Integer ∷ kind.Integer ∷ [], refl, a))
+row_of_text_gives name.TextStrip p Object t Operands a = (t, (((refl, refl), refl), [], refl, a))
+row_of_text_gives name.TextGetint p Object t Operands a = (t, (((refl, refl), refl), [], refl, a))
+row_of_text_gives name.TextPutint p Object t Operands a = (t, (((refl, refl), refl), kind.Integer ∷ [], refl, a))
 row_of_text_gives _ p Object t Operands a = absurd (false≢true p)
 
 pub attribute_gives : (k : StandardName) → OfTexts k → (Object : Type 0) → Object → (Operands : List Kind → Type 0) → Operands (kinds_of (signature k)) → AttributeGives (procedure_named k) Object Operands (given_by (signature k).result)
@@ -268,22 +267,6 @@ unfolding signature
 attribute_proper (found.Procedure x) p = row_proper x (seen_second _ _ p)
 attribute_proper _ p = absurd p
 
--- a procedure and an attribute of texts are no classes
-pub procedure_no_class : (k : StandardName) → IsProcedure k → is_standard_class k ≡ false
-unfolding is_standard_class
-procedure_no_class (found.Procedure x) p = refl
-procedure_no_class _ p = absurd p
-
-pub alone_no_class : (k : StandardName) → NoAttribute k → is_standard_class k ≡ false
-unfolding is_standard_class
-alone_no_class (found.Prefix which) p = absurd p
-alone_no_class _ p = refl
-
-pub attribute_no_class : (k : StandardName) → OfTexts k → is_standard_class k ≡ false
-unfolding is_standard_class
-attribute_no_class (found.Procedure x) p = refl
-attribute_no_class _ p = absurd p
-
 -- ---- transfers of control
 
 -- a name is `detach`, `call` or `resume`, or no transfer of control
@@ -336,7 +319,7 @@ unfolding signature row_of
 resume_result = refl
 
 pub detach_alone : NoAttribute (found.Procedure name.Detach)
-unfolding row_of is_unbuilt_name is_name_of_classes
+unfolding row_of is_unbuilt_name
 detach_alone = (refl, refl)
 
 -- `detach` is spelt so

@@ -40,7 +40,7 @@ use Rattle.sim_agree.specs.Plain.{Plain, PlainArms, PlainBlock, PlainDeclaration
 use Rattle.sim_agree.specs.TablesAgree.{TablesAgree}
 use Rattle.sim_agree.specs.TablesOf.{TablesOf}
 use Rattle.sim_agree.proofs.Connected.{AllMet, connects_met}
-use Rattle.sim_agree.proofs.Holding.{class_in_block}
+use Rattle.sim_agree.proofs.ClassBlocks.{found_class_held}
 use Rattle.sim_allowed.proofs.Said.{AllSay, both_say, next_says}
 use Rattle.sim_allowed.proofs.Uses.{bound_is}
 
@@ -239,7 +239,7 @@ unfolding found_in has_level has_classes
 outside s of plain order agrees said token found name d k binds is at = go (is_connection (text s found)) refl
   where
     declares : holds_class s.tables (block_of s d) ≡ true
-    declares = class_in_block s of plain order d k is
+    declares = found_class_held s of plain order token name d k binds is
 
     no_class : is_connection (text s found) ≡ true → (c : ℕ) → base s.tables found ≡ Some c → some_level_of s.tables (length s.tables.blocks) (λ x. nat_eq x (block_of s d)) c ≡ true → ⊥
     no_class is_one c connects level =

@@ -1,5 +1,5 @@
 -- Classes in expressions: behind `new`, `this`, `qua`, `is` and `in`.
-use Rattle.std.proofs.Common.{◌≡◌, ℕ, Bool, true, false, length, Option, Some, None, refl, sym, ap, ◌∙◌, subst, arith, if◌then◌else◌}
+use Rattle.std.proofs.Common.{◌≡◌, ◌⊎◌, inl, inr, ℕ, Bool, true, false, length, Option, Some, None, refl, sym, ap, ◌∙◌, subst, arith, if◌then◌else◌}
 use Rattle.std.proofs.lemmas.Bool.{false≢true}
 use Rattle.std.proofs.lemmas.Bool.Decides.{nat_tests}
 use Rattle.std.specs.Prelude.{◌||◌, ◌&&◌, ◌+◌, nat_eq, not, slice_get}
@@ -28,7 +28,6 @@ use Rattle.sim_scope.specs.References.{as_class, class_barred, class_compared, c
 use Rattle.sim_scope.specs.Scopes.{class_formals}
 use Rattle.sim_scope.specs.Source.{Source, denoted, type_at}
 use Rattle.sim_scope.specs.Standard.{is_standard_class}
-use Rattle.sim_static.specs.UnbuiltNames.{is_unbuilt_name}
 use Rattle.sim_tree.specs.declared.expr.Identifier.{Identifier}
 use Rattle.sim_tree.specs.declared.expr.Membership.{Membership}
 use Rattle.sim_tree.specs.Syntax.{Expression, Expressions}
@@ -45,9 +44,8 @@ use Rattle.sim_allowed.proofs.Calls.{OperandIs}
 use Rattle.sim_allowed.proofs.Classes.{class_held, class_is, class_row, plain_value, simply}
 use Rattle.sim_allowed.proofs.Headings.{class_heading}
 use Rattle.sim_allowed.proofs.Meant.{Means, Takes}
-use Rattle.sim_allowed.proofs.Names.{alone_no_class}
 use Rattle.sim_allowed.proofs.Said.{AllSay, next_says}
-use Rattle.sim_allowed.proofs.Uses.{BoundIs, bound_is, bound_name}
+use Rattle.sim_allowed.proofs.Uses.{BoundIs, bound_is}
 
 -- ---- a class that is named
 
@@ -61,33 +59,36 @@ pub record ClassIs (s : Source) (x : Extent) (name : Identifier) (o : Occurrence
   pub found : BoundIs s x name (occurs (Some (denotation.Declared declaration)) false)
   pub same : found.denotation ≡ denotation.Declared declaration
 
-pub class_means : (s : Source) → Tabled s → (x : Extent) (name : Identifier) → is_unbuilt_name name.name ≡ false → AllSay s (class_named s.tables x name).events → ClassIs s x name (class_named s.tables x name).value
+-- or it is `simset`, which is only for prefixing
+pub record PrefixIs (o : Occurrence) : Type 0 where
+  pub name : StandardName
+  pub is : o ≡ occurs (Some (denotation.Standard name)) false
+
+pub class_means : (s : Source) → Tabled s → (x : Extent) (name : Identifier) → AllSay s (class_named s.tables x name).events → ClassIs s x name (class_named s.tables x name).value ⊎ PrefixIs (class_named s.tables x name).value
 unfolding class_named as_class next gives telling
-class_means s known x name plain said =
+class_means s known x name said =
     let parts = next_says s (bound s.tables x name) (as_class s.tables name.token.0) said in
     go (bound s.tables x name).value (bound_is s x name parts.0) parts.1
   where
-    declared : (d : DeclNo) → BoundIs s x name (occurs (Some (denotation.Declared d)) false) → (o : Option ℕ) → class_block s.tables d ≡ o → AllSay s (declared_class name.token.0 d false o).events → ClassIs s x name (declared_class name.token.0 d false o).value
+    declared : (d : DeclNo) → BoundIs s x name (occurs (Some (denotation.Declared d)) false) → (o : Option ℕ) → class_block s.tables d ≡ o → AllSay s (declared_class name.token.0 d false o).events → ClassIs s x name (declared_class name.token.0 d false o).value ⊎ PrefixIs (declared_class name.token.0 d false o).value
     declared d b None is said = absurd said.0
-    declared d b (Some block) is said = record { declaration = d; is = refl; class = class_is s known d block is; found = b; same = same b.denotation b.is }
+    declared d b (Some block) is said = inl (record { declaration = d; is = refl; class = class_is s known d block is; found = b; same = same b.denotation b.is })
       where
         same : (c : Denotation) → occurs (Some (denotation.Declared d)) false ≡ occurs (Some c) false → c ≡ denotation.Declared d
         same c e = denotes_same c (denotation.Declared d) e
 
-    standard : (k : StandardName) → (b : Bool) → is_standard_class k ≡ b → b ≡ false → AllSay s (if b then gives (occurs (Some (denotation.Standard k)) false) else no_class name.token.0).events → ClassIs s x name (if b then gives (occurs (Some (denotation.Standard k)) false) else no_class name.token.0).value
-    standard k true is other said = absurd (false≢true (sym other))
-    standard k false is other said = absurd said.0
+    standard : (k : StandardName) (b : Bool) → AllSay s (if b then gives (occurs (Some (denotation.Standard k)) false) else no_class name.token.0).events
+        → ClassIs s x name (if b then gives (occurs (Some (denotation.Standard k)) false) else no_class name.token.0).value ⊎ PrefixIs (if b then gives (occurs (Some (denotation.Standard k)) false) else no_class name.token.0).value
+    standard k true said = inr (record { name = k; is = refl })
+    standard k false said = absurd said.0
 
-    of : (d : Denotation) → BoundIs s x name (occurs (Some d) false) → AllSay s (class_denoted s.tables name.token.0 (Some d) false).events → ClassIs s x name (class_denoted s.tables name.token.0 (Some d) false).value
+    of : (d : Denotation) → BoundIs s x name (occurs (Some d) false) → AllSay s (class_denoted s.tables name.token.0 (Some d) false).events → ClassIs s x name (class_denoted s.tables name.token.0 (Some d) false).value ⊎ PrefixIs (class_denoted s.tables name.token.0 (Some d) false).value
     of (denotation.Declared d) b said = declared d b (class_block s.tables d) refl said
-    of (denotation.Standard k) b said = standard k (is_standard_class k) refl (alone_no_class k (bound_name s name.token.0 name.name k plain (b.binds ∙ ap Some (same b.denotation b.is)))) said
-      where
-        same : (c : Denotation) → occurs (Some (denotation.Standard k)) false ≡ occurs (Some c) false → c ≡ denotation.Standard k
-        same c e = denotes_same c (denotation.Standard k) e
+    of (denotation.Standard k) b said = standard k (is_standard_class k) said
 
-    go : (o : Occurrence) → BoundIs s x name o → AllSay s (class_denoted s.tables name.token.0 o.denotes o.barred).events → ClassIs s x name (class_denoted s.tables name.token.0 o.denotes o.barred).value
+    go : (o : Occurrence) → BoundIs s x name o → AllSay s (class_denoted s.tables name.token.0 o.denotes o.barred).events → ClassIs s x name (class_denoted s.tables name.token.0 o.denotes o.barred).value ⊎ PrefixIs (class_denoted s.tables name.token.0 o.denotes o.barred).value
     go o b said =
-        subst (λ (z : Occurrence). ClassIs s x name (class_denoted s.tables name.token.0 z.denotes z.barred).value) (sym b.is)
+        subst (λ (z : Occurrence). ClassIs s x name (class_denoted s.tables name.token.0 z.denotes z.barred).value ⊎ PrefixIs (class_denoted s.tables name.token.0 z.denotes z.barred).value) (sym b.is)
         (of b.denotation (subst (λ z. BoundIs s x name z) b.is b) (subst (λ (z : Occurrence). AllSay s (class_denoted s.tables name.token.0 z.denotes z.barred).events) b.is said))
 
 -- what its identifier denotes
@@ -106,6 +107,47 @@ pub kept : (s : Source) (b : Bool) (token : ℕ) (rule : Rule) → AllSay s (bar
 unfolding bars telling gives
 kept s true token rule said = absurd said.0
 kept s false token rule said = (refl, refl)
+
+-- what is only for prefixing is behind none of these
+module _ (s : Source) (token : ℕ) (o : Occurrence) (p : PrefixIs o) where
+  pub only : is_only_prefix s.tables (denotation.Standard p.name) ≡ true
+  unfolding is_only_prefix
+  only = refl
+
+  only_there : only_prefix s.tables o.denotes ≡ true
+  only_there = ap (λ (z : Occurrence). only_prefix s.tables z.denotes) p.is ∙ only
+
+  pub fits_refused : (ty : Option SimType) → AllSay s (class_fits s.tables token o.denotes ty).events → ⊥
+  unfolding class_fits next gives
+  fits_refused ty said =
+      let chain = next_says s (bars (other_chain s.tables o.denotes ty) token r.DifferentChains) (λ a. next (bars (only_prefix s.tables o.denotes) token r.OnlyForPrefixing) (λ b. gives (a || b))) said in
+      let other = next_says s (bars (only_prefix s.tables o.denotes) token r.OnlyForPrefixing) (λ b. gives ((bars (other_chain s.tables o.denotes ty) token r.DifferentChains).value || b)) chain.1 in
+      false≢true (sym (kept s (only_prefix s.tables o.denotes) token r.OnlyForPrefixing other.0).0 ∙ only_there)
+
+  compared_refused : (naming : ℕ) (y : Side) (type : Denotation → SimType) → AllSay s (class_compared s.tables naming y token o type).events → ⊥
+  unfolding next gives
+  compared_refused naming y type said =
+      let parts = next_says s (class_barred s.tables y token o) (λ b. class_value naming b y.ty o.denotes type) said in
+      let first = next_says s (bars (is_no_reference y.ty) y.first.0 r.WrongType) (λ a. next (class_fits s.tables token o.denotes y.ty) (λ b. gives (a || b || o.barred))) parts.0 in
+      let fits = next_says s (class_fits s.tables token o.denotes y.ty) (λ b. gives ((bars (is_no_reference y.ty) y.first.0 r.WrongType).value || b || o.barred)) first.1 in
+      fits_refused y.ty fits.0
+
+pub member_refused : (s : Source) (naming : ℕ) (y : Side) (class : Identifier) (o : Occurrence) → PrefixIs o → AllSay s (member s.tables naming y class o).events → ⊥
+unfolding member
+member_refused s naming y class o p said = compared_refused s class.token.0 o p naming y truth_of said
+
+pub qualified_refused : (s : Source) (naming : ℕ) (y : Side) (class : Identifier) (o : Occurrence) → PrefixIs o → AllSay s (qualified s.tables naming y class o).events → ⊥
+unfolding qualified
+qualified_refused s naming y class o p said = compared_refused s class.token.0 o p naming y class_type said
+
+pub new_refused : (s : Source) (naming : ℕ) (class : Identifier) (o : Occurrence) → PrefixIs o → (a : Actuals) → AllSay s (new_object s.tables naming class o a).events → ⊥
+unfolding new_object next gives
+new_refused s naming class o p a said =
+    let d = denotation.Standard p.name in
+    let events = subst (λ (z : Occurrence). AllSay s (new_of_class s.tables naming class.token.0 z.denotes z.barred a).events) p.is said in
+    let first = next_says s (bars (wrong_number s.tables d a) class.token.0 r.WrongNumber) (λ p. next (bars (is_only_prefix s.tables d) class.token.0 r.OnlyForPrefixing) (λ q. generated naming d a (p || q || false))) events in
+    let second = next_says s (bars (is_only_prefix s.tables d) class.token.0 r.OnlyForPrefixing) (λ q. generated naming d a ((bars (wrong_number s.tables d a) class.token.0 r.WrongNumber).value || q || false)) first.1 in
+    false≢true (sym (kept s (is_only_prefix s.tables d) class.token.0 r.OnlyForPrefixing second.0).0 ∙ only s class.token.0 o p)
 
 -- ---- `is`, `in` and `qua`
 

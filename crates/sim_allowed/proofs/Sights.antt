@@ -1,5 +1,5 @@
 -- What is seen from where an expression stands.
-use Rattle.std.proofs.Common.{◌≡◌, ℕ, Bool, true, false, Option, Some, None, refl, sym, ap, ◌∙◌, subst, if◌then◌else◌}
+use Rattle.std.proofs.Common.{◌≡◌, ℕ, Bool, true, false, length, Option, Some, None, refl, sym, ap, ◌∙◌, subst, if◌then◌else◌}
 use Rattle.std.proofs.lemmas.Bool.{false≢true}
 use Rattle.std.specs.Prelude.{◌&&◌, List, not, slice_get}
 use Rattle.sim_base.specs.declared.numbering.DeclNo.{DeclNo}
@@ -14,31 +14,80 @@ use Rattle.sim_scope.specs.Calls.{barred_declaration, is_barred, is_fixed, is_ow
 use Rattle.sim_scope.specs.Levels.{has_level}
 use Rattle.sim_scope.specs.Scopes.{binding, entry_in, entry_of, found_in}
 use Rattle.sim_scope.specs.Source.{Source, block_of, block_of_row, found_at}
-use Rattle.sim_meaning.specs.Attributes.{connection_at, connection_in, is_connection}
+use Rattle.sim_meaning.specs.Attributes.{connection_at, connection_in, is_connection, is_standard_attribute}
+use Rattle.sim_meaning.specs.Levels.{has_levels, is_class}
 use Rattle.sim_meaning.specs.Texts.{text}
-use Rattle.sim_sound.specs.Held.{Around, In, InBound, IsFixed, Place, from_around, further, itself, own_fixed}
-use Rattle.sim_sound.specs.Expressions.{KnownAt}
+use Rattle.sim_sound.specs.Held.{Around, In, InBound, IsFixed, Place, Refers, StandsAround, from_around, further, itself, own_fixed}
+use Rattle.sim_sound.specs.Expressions.{KnownAt, OwnKnown, ThisFound, ThisIs}
 use Rattle.sim_agree.specs.Facts.{FoundThrough, Tabled}
+use Rattle.sim_allowed.proofs.Classes.{level_reached, levels_here, own_level}
 
 -- the text in which an expression stands
 abbrev pub text_of : Place → ℕ
 text_of (In t) = t
 text_of (InBound t) = t
 
+-- a procedure of SIMSET that is seen without a connection is one of the object around
+abbrev pub OwnSeen : Source → Place → (token : ℕ) → DeclNo → Type 0
+OwnSeen s from token d = is_standard_attribute (entry_of s.tables d) ≡ true → connection_at s token ≡ None → OwnKnown s from token d
+
 -- what is used is seen where it is found
 abbrev pub Sight : Source → Place → Extent → Type 0
 Sight s from x = (token : ℕ) (name : List ℕ) (d : DeclNo) → block_at s.tables token ≡ Some (text_of from) → binding s.tables token name ≡ Some (denotation.Declared d) → is_barred s.tables x token (denotation.Declared d) ≡ false
-    → ((block : ℕ) → found_in s.tables token name ≡ Some block → found_at s token ≡ Some block) → KnownAt s from (connection_at s token) d
+    → ((block : ℕ) → found_in s.tables token name ≡ Some block → found_at s token ≡ Some block) → KnownAt s from (connection_at s token) d × OwnSeen s from token d
+
+-- ---- procedures of SIMSET
+
+owner_class : (s : Source) → Tabled s → (d : DeclNo) → is_standard_attribute (entry_of s.tables d) ≡ true → is_class (text s (block_of s d)) ≡ true
+owner_class s known d e = go (entry_of s.tables d) refl e
+  where
+    go : (o : Option Entry) → entry_of s.tables d ≡ o → is_standard_attribute o ≡ true → is_class (text s (block_of s d)) ≡ true
+    go (Some (entry.Attribute name w result)) there e = known.attribute_owners d name w result there
+    go (Some (entry.Variable type)) there e = absurd (false≢true e)
+    go (Some (entry.Constant type)) there e = absurd (false≢true e)
+    go (Some (entry.Array type n)) there e = absurd (false≢true e)
+    go (Some (entry.Procedure result n)) there e = absurd (false≢true e)
+    go (Some (entry.Class n)) there e = absurd (false≢true e)
+    go (Some (entry.Virtual result own)) there e = absurd (false≢true e)
+    go (Some (entry.Formal f)) there e = absurd (false≢true e)
+    go (Some (entry.Unspecified w)) there e = absurd (false≢true e)
+    go None there e = absurd (false≢true e)
+
+-- the object in which it is found has its class among its levels
+own_known : (s : Source) → Tabled s → (from : Place) (token : ℕ) (d : DeclNo) (b : ℕ) → found_at s token ≡ Some b → is_connection (text s b) ≡ false → StandsAround s from b → has_level s.tables b (block_of s d) ≡ true → is_class (text s (block_of s d)) ≡ true
+    → OwnKnown s from token d
+unfolding has_level
+own_known s known from token d b at other stands level class =
+    let k = block_of s d in (
+      k,
+      class,
+      own_level s.tables k known.some_block,
+      subst (λ z. ThisFound s from z (Refers k)) (sym at)
+          (subst (λ z. ThisIs s from z (has_levels (text s b)) b (Refers k)) (sym other)
+          (subst (λ z. ThisIs s from false z b (Refers k)) (sym (levels_here s known b k other class (level_reached s.tables (length s.tables.blocks) b k level))) (stands, level))),
+    )
+
+-- what is found through a connection is seen through it
+not_connected : (s : Source) (token b : ℕ) → found_at s token ≡ Some b → is_connection (text s b) ≡ true → connection_at s token ≡ None → ⊥
+unfolding connection_at
+not_connected s token b at is none = cc (ap (connection_in s) at, ap (λ z. if z then Some b else None) is)
 
 pub statement_sight : (s : Source) → Tabled s → (k : ℕ) → Sight s (In k) extent.Statement
 unfolding connection_at
 statement_sight s known k token name d placed binds open_to found =
     let f = known.around token k name d placed binds in
-    subst (λ z. KnownAt s (In k) (connection_in s z) d) (sym (found f.found f.at)) (go f.found f.around (is_connection (text s f.found)) refl f.through)
+    let at = found f.found f.at in (
+      subst (λ z. KnownAt s (In k) (connection_in s z) d) (sym at) (go f.found f.around (is_connection (text s f.found)) refl f.through),
+      λ e none. own e none f.found at f.around (is_connection (text s f.found)) refl f.through,
+    )
   where
     go : (b : ℕ) → Around s.tables k b → (c : Bool) → is_connection (text s b) ≡ c → FoundThrough s c b (block_of s d) → KnownAt s (In k) (if c then Some b else None) d
     go b around true is t = record { around = around; is = is; class = t.0; is_class = known.connects b t.0 t.1; connects = t.1; level = t.2 }
     go b around false is level = record { found = b; around = around; instance = is; level = level }
+
+    own : is_standard_attribute (entry_of s.tables d) ≡ true → connection_at s token ≡ None → (b : ℕ) → found_at s token ≡ Some b → Around s.tables k b → (c : Bool) → is_connection (text s b) ≡ c → FoundThrough s c b (block_of s d) → OwnKnown s (In k) token d
+    own e none b at around true is t = absurd (not_connected s token b at is none)
+    own e none b at around false is level = own_known s known (In k) token d b at is around level (owner_class s known d e)
 
 -- what a bound uses of its own text is a formal parameter or a constant
 own_is_fixed : (s : Source) (k token : ℕ) (d : DeclNo) → block_at s.tables token ≡ Some k → is_barred s.tables extent.Bound token (denotation.Declared d) ≡ false → has_level s.tables k (block_of s d) ≡ true
@@ -71,10 +120,32 @@ unfolding connection_at
 bound_sight s known k instance token name d placed binds open_to found =
     let f = known.around token k name d placed binds in
     let there = known.there token name d binds in
-    subst (λ z. KnownAt s (InBound k) (connection_in s z) d) (sym (found f.found f.at)) (go there.0 there.1 f.found f.around (is_connection (text s f.found)) refl f.through)
+    let at = found f.found f.at in (
+      subst (λ z. KnownAt s (InBound k) (connection_in s z) d) (sym at) (go there.0 there.1 f.found f.around (is_connection (text s f.found)) refl f.through),
+      λ e none. own there.0 there.1 e none f.found at f.around (is_connection (text s f.found)) refl f.through,
+    )
   where
     go : (e : Entry) → entry_of s.tables d ≡ Some e → (b : ℕ) → Around s.tables k b → (c : Bool) → is_connection (text s b) ≡ c → FoundThrough s c b (block_of s d) → KnownAt s (InBound k) (if c then Some b else None) d
     go e there b itself true is t = absurd (false≢true (sym instance ∙ is))
     go e there b itself false is level = own_fixed (own_is_fixed s k token d placed open_to level e there) level
     go e there b (further {u = u} out a) true is t = record { around = u; stands_in = out; seen = record { around = a; is = is; class = t.0; is_class = known.connects b t.0 t.1; connects = t.1; level = t.2 } }
     go e there b (further {u = u} out a) false is level = from_around out (record { found = b; around = a; instance = is; level = level })
+
+    -- the array's own block has no class of SIMSET among its levels from where its procedures may be used
+    no_fixed : (o : Option Entry) → is_standard_attribute o ≡ true → IsFixed o → ⊥
+    no_fixed (Some (entry.Formal f)) e fixed = false≢true e
+    no_fixed (Some (entry.Constant type)) e fixed = false≢true e
+    no_fixed (Some (entry.Attribute name w result)) e fixed = fixed
+    no_fixed (Some (entry.Variable type)) e fixed = fixed
+    no_fixed (Some (entry.Array type n)) e fixed = fixed
+    no_fixed (Some (entry.Procedure result n)) e fixed = fixed
+    no_fixed (Some (entry.Class n)) e fixed = fixed
+    no_fixed (Some (entry.Virtual result own)) e fixed = fixed
+    no_fixed (Some (entry.Unspecified w)) e fixed = fixed
+    no_fixed None e fixed = fixed
+
+    own : (e : Entry) → entry_of s.tables d ≡ Some e → is_standard_attribute (entry_of s.tables d) ≡ true → connection_at s token ≡ None → (b : ℕ) → found_at s token ≡ Some b → Around s.tables k b → (c : Bool) → is_connection (text s b) ≡ c → FoundThrough s c b (block_of s d)
+        → OwnKnown s (InBound k) token d
+    own e there is_one none b at around true is t = absurd (not_connected s token b at is none)
+    own e there is_one none b at itself false is level = absurd (no_fixed (entry_of s.tables d) is_one (own_is_fixed s k token d placed open_to level e there))
+    own e there is_one none b at (further {u = u} out a) false is level = own_known s known (InBound k) token d b at is (record { next = u; stands_in = out; around = a }) level (owner_class s known d is_one)

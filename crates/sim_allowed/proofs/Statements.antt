@@ -1,5 +1,5 @@
 -- What the statements of an allowed program are.
-use Rattle.std.proofs.Common.{◌≡◌, ℕ, Bool, true, false, List, [], ◌∷◌, ◌++◌, Option, Some, None, refl, sym, ap, ◌∙◌, subst, if◌then◌else◌}
+use Rattle.std.proofs.Common.{◌≡◌, ◌⊎◌, inl, inr, ℕ, Bool, true, false, List, [], ◌∷◌, ◌++◌, Option, Some, None, refl, sym, ap, ◌∙◌, subst, if◌then◌else◌}
 use Rattle.std.proofs.lemmas.Bool.{false≢true}
 use Rattle.sim_base.specs.declared.numbering.DeclNo.{DeclNo}
 use Rattle.sim_base.specs.declared.rule.Rule.{Rule}
@@ -30,10 +30,10 @@ use Rattle.sim_scope.specs.Judged.{gives, next, telling}
 use Rattle.sim_scope.specs.Operators.{is_same, misfit_of}
 use Rattle.sim_scope.specs.Outcomes.{called}
 use Rattle.sim_scope.specs.Runs.{each}
-use Rattle.sim_scope.specs.References.{class_named}
+use Rattle.sim_scope.specs.References.{class_fits, class_named}
 use Rattle.sim_scope.specs.Scopes.{binding, entry_of, found_in}
 use Rattle.sim_scope.specs.Source.{Source, denoted, found_at, type_at}
-use Rattle.sim_scope.specs.Statements.{arm_events, arm_fits, assignment_events, call_alone, call_events, connected_by, control_events, controlled, element_events, entry_controlled, first_step, first_value, formal_controlled, inspect_events, inspect_when_events, integer_from, judging, moded_controlled, needs, needs_reference, reference_needed, required, simple, stands, starts, taken_by, told_unless, type_connected, type_needed, type_taken, variable_controlled, prefixed_events}
+use Rattle.sim_scope.specs.Statements.{arm_connected, arm_events, arm_fits, assignment_events, call_alone, call_events, connected_by, control_events, controlled, element_events, entry_controlled, first_step, first_value, formal_controlled, inspect_events, inspect_when_events, integer_from, judging, moded_controlled, needs, needs_reference, reference_needed, required, simple, stands, starts, taken_by, told_unless, type_connected, type_needed, type_taken, variable_controlled, prefixed_events}
 use Rattle.sim_scope.specs.Walk.{arm_classes, arms_events, block_events, statement_events, statements_events, begin_of as first_token, whole_events}
 use Rattle.sim_tree.specs.declared.expr.Identifier.{Identifier}
 use Rattle.sim_tree.specs.declared.stmt.Assignment.{Assignment}
@@ -43,17 +43,17 @@ use Rattle.sim_tree.specs.Syntax as syntax
 use Rattle.sim_values.specs.declared.kind.Kind.{Kind}
 use Rattle.sim_values.specs.declared.kind.Kind.TheVariants as kind
 use Rattle.sim_code.specs.Transfers.{Transfer}
-use Rattle.sim_meaning.specs.Attributes.{connection_at, transfer_at}
+use Rattle.sim_meaning.specs.Attributes.{connection_at, own_attribute, transfer_at}
 use Rattle.sim_meaning.specs.Closing.{is_text, is_text_type, class_parameters}
 use Rattle.sim_meaning.specs.Constants.{arms_constants, block_constants, element_constants, elements_constants, expression_constants, right_constants, statement_constants, statements_constants, expressions_constants}
 use Rattle.sim_meaning.specs.Levels.{class_at, qualification}
 use Rattle.sim_meaning.specs.Texts.{kind_of_type}
 use Rattle.sim_sound.specs.Held.{Fits, Holds, In, Place, Refers, Simply, formal_holds, held_by, reference_to as holds_reference}
-use Rattle.sim_sound.specs.Expressions.{ActualsFit, AreIntegers, AreOf, DeclaredGives, ExprIs, HeldNames, KnownAt}
+use Rattle.sim_sound.specs.Expressions.{ActualsFit, AreIntegers, AreOf, DeclaredGives, ExprIs, HeldNames}
 use Rattle.sim_sound.specs.Statements.{ArmsAre, CallIs, CompoundIs, ControlIs, ElementIs, ElementsAre, LeftHeld, OrTransferIs, PlaceDeclared, PlaceIs, ReferenceAt, StatementIs, StatementsAre, TextLeft, TransferIs, PrefixedIs, is_given}
 use Rattle.sim_agree.specs.Facts.{PlainType, ProperEntry, ProperFormal, ProperType, Tabled}
 use Rattle.sim_agree.specs.Places.{PlacedArms, PlacedBlock, PlacedElement, PlacedExpression, PlacedName, PlacedSide, PlacedStatement, PlacedStatements, class_of_name, class_of_type, PlacedPrefixed}
-use Rattle.sim_agree.specs.Plain.{Each, PlainArms, PlainBlock, PlainElement, PlainExpression, PlainName, PlainSide, PlainStatement, PlainStatements}
+use Rattle.sim_agree.specs.Plain.{Each, PlainArms, PlainBlock, PlainElement, PlainExpression, PlainSide, PlainStatement, PlainStatements}
 use Rattle.sim_allowed.proofs.Actuals.{Known}
 use Rattle.sim_allowed.proofs.Assigned.{Assignable, TargetsKnown, lefts_are, place_is_left}
 use Rattle.sim_allowed.proofs.Calls.{called_means}
@@ -62,11 +62,11 @@ use Rattle.sim_allowed.proofs.Declared.{NoResult, UseIs, formal_type, never_proc
 use Rattle.sim_allowed.proofs.Expressions.{AllThere, both_there, expression_known, operand, expressions_known}
 use Rattle.sim_allowed.proofs.Meant.{CallGiven, CallsFor, DotAs, Means, NamedAs, ValueIs}
 use Rattle.sim_allowed.proofs.Operators.{no_misfit, same_type}
-use Rattle.sim_allowed.proofs.References.{class_means, class_meets}
+use Rattle.sim_allowed.proofs.References.{ClassIs, PrefixIs, class_means, class_meets, fits_refused}
 use Rattle.sim_allowed.proofs.Said.{AllSay, both_say, next_says}
 use Rattle.sim_allowed.proofs.Sights.{Sight, statement_sight}
 use Rattle.sim_allowed.proofs.This.{extent_of}
-use Rattle.sim_allowed.proofs.Uses.{BoundIs, bound_is, named_use}
+use Rattle.sim_allowed.proofs.Uses.{BoundIs, KnownHere, bound_is, known_here, named_use, own_declared}
 use Rattle.sim_meaning.specs.Statements.{begin_of, leaves}
 use Rattle.sim_allowed.proofs.BlockPrefixes.{prefix_fits}
 
@@ -255,25 +255,29 @@ module _ (s : Source) (known : Tabled s) (k : ℕ) (sight : Sight s (In k) exten
     formal_is m shape.Array w p left said = absurd said.0
     formal_is m shape.Procedure w p left said = absurd (never_procedure s m w p)
 
-    module _ (d : DeclNo) (says : denoted s x.token.0 ≡ Some (denotation.Declared d)) (seen : KnownAt s (In k) (connection_at s x.token.0) d) where
-      use_is : UseIs s (In k) (syntax.Named x NoMore) x.token.0 d NoMore (KnownAt s (In k) (connection_at s x.token.0) d)
+    -- how the controlled variable is known
+    abbrev Here : DeclNo → Type 0
+    Here d = KnownHere s (In k) x.token.0 (connection_at s x.token.0) (own_attribute s x.token.0) d
+
+    module _ (d : DeclNo) (says : denoted s x.token.0 ≡ Some (denotation.Declared d)) (seen : Here d) where
+      use_is : UseIs s (In k) (syntax.Named x NoMore) x.token.0 d NoMore (Here d)
       use_is = named_use s (In k) x NoMore d says
 
       -- a variable, which holds what its type does
       assigns : (e : Entry) → entry_of s.tables d ≡ Some e → NoResult (Some e) NoMore → (ty : SimType) → ProperType s ty
-          → PlaceDeclared s (KnownAt s (In k) (connection_at s x.token.0) d) NoMore (AreIntegers s (In k) NoMore) (Some e) (held_by s ty)
-          → ((h : Holds) → Fits s (held_by s ty) h → DeclaredGives s (KnownAt s (In k) (connection_at s x.token.0) d) d NoMore (AreIntegers s (In k) NoMore) (λ fs. ActualsFit s (In k) NoMore fs) (Some e) (Some h))
+          → PlaceDeclared s (Here d) NoMore (AreIntegers s (In k) NoMore) (Some e) (held_by s ty)
+          → ((h : Holds) → Fits s (held_by s ty) h → DeclaredGives s (Here d) d NoMore (AreIntegers s (In k) NoMore) (λ fs. ActualsFit s (In k) NoMore fs) (Some e) (Some h))
           → type_at s x.token.0 ≡ Some ty → Assignable s k (syntax.Named x NoMore) ty
       assigns e there none ty p a g typed =
           let it = use_is in
           let own = it.unowned (subst (λ z. NoResult z NoMore) (sym there) none) in
-          let place = it.place ty (subst (λ z. PlaceDeclared s (KnownAt s (In k) (connection_at s x.token.0) d) NoMore (AreIntegers s (In k) NoMore) z (held_by s ty)) (sym there) a) in
+          let place = it.place ty (subst (λ z. PlaceDeclared s (Here d) NoMore (AreIntegers s (In k) NoMore) z (held_by s ty)) (sym there) a) in
           record {
             proper = p;
             typed = typed;
             left = place_is_left s k (syntax.Named x NoMore) (held_by s ty) place;
             text = λ is. subst (λ z. TextLeft s k (syntax.Named x NoMore) z) (sym own)
-                (it.value (Simply kind.Text) (subst (λ z. DeclaredGives s (KnownAt s (In k) (connection_at s x.token.0) d) d NoMore (AreIntegers s (In k) NoMore) (λ fs. ActualsFit s (In k) NoMore fs) z (Some (Simply kind.Text))) (sym there)
+                (it.value (Simply kind.Text) (subst (λ z. DeclaredGives s (Here d) d NoMore (AreIntegers s (In k) NoMore) (λ fs. ActualsFit s (In k) NoMore fs) z (Some (Simply kind.Text))) (sym there)
                 (g (Simply kind.Text) (subst (λ z. Fits s (held_by s z) (Simply kind.Text)) (sym is) refl))));
             reference = λ c is class held. subst (λ z. ReferenceAt s k (syntax.Named x NoMore) z class) (sym own) (subst (λ z. PlaceIs s k (syntax.Named x NoMore) z) (ap (held_by s) is ∙ held) place);
           }
@@ -281,19 +285,19 @@ module _ (s : Source) (known : Tabled s) (k : ℕ) (sight : Sight s (In k) exten
       entry_is : (e : Entry) → entry_of s.tables d ≡ Some e → ProperEntry s e → AllSay s (entry_controlled sign x.token.0 (Some e)).events → ControlledIs s k sign x (entry_controlled sign x.token.0 (Some e)).value
       unfolding telling gives
       entry_is (entry.Variable ty) there p said =
-          variable_is ty (assigns (entry.Variable ty) there tt ty p (variable_left s (KnownAt s (In k) (connection_at s x.token.0) d) (AreIntegers s (In k) NoMore) ty seen)
-          (λ h f. variable_names s (KnownAt s (In k) (connection_at s x.token.0) d) (AreIntegers s (In k) NoMore) ty h f seen)) said
+          variable_is ty (assigns (entry.Variable ty) there tt ty p (variable_left s (Here d) (AreIntegers s (In k) NoMore) ty seen)
+          (λ h f. variable_names s (Here d) (AreIntegers s (In k) NoMore) ty h f seen)) said
       entry_is (entry.Formal f) there p said =
           formal_is f.mode f.kind f.ty p
           (λ ty kinds types proper typed.
           let held : formal_holds s f.mode f.kind f.ty ≡ Some (held_by s ty) =
           ap (λ z. formal_holds s f.mode z f.ty) kinds ∙ ap (λ z. formal_holds s f.mode shape.Simple z) types ∙ simple_held s f.mode ty (subst (λ z. ProperFormal s f.mode shape.Simple z) types (subst (λ z. ProperFormal s f.mode z f.ty) kinds p)) in
           assigns (entry.Formal f) there tt ty proper
-          (subst (λ z. LeftHeld (KnownAt s (In k) (connection_at s x.token.0) d) NoMore (AreIntegers s (In k) NoMore) z (held_by s ty)) (sym held) (variable_left s (KnownAt s (In k) (connection_at s x.token.0) d) (AreIntegers s (In k) NoMore) ty seen))
-          (λ h g. subst (λ z. HeldNames s (KnownAt s (In k) (connection_at s x.token.0) d) NoMore (AreIntegers s (In k) NoMore) z h) (sym held) (variable_names s (KnownAt s (In k) (connection_at s x.token.0) d) (AreIntegers s (In k) NoMore) ty h g seen))
+          (subst (λ z. LeftHeld (Here d) NoMore (AreIntegers s (In k) NoMore) z (held_by s ty)) (sym held) (variable_left s (Here d) (AreIntegers s (In k) NoMore) ty seen))
+          (λ h g. subst (λ z. HeldNames s (Here d) NoMore (AreIntegers s (In k) NoMore) z h) (sym held) (variable_names s (Here d) (AreIntegers s (In k) NoMore) ty h g seen))
           typed) said
       entry_is (entry.Unspecified w) there p said = absurd p
-      entry_is (entry.Attribute name parameter result) there p said = absurd p
+      entry_is (entry.Attribute name parameter result) there p said = absurd said.0
       entry_is (entry.Constant ty) there p said = absurd said.0
       entry_is (entry.Array element n) there p said = absurd said.0
       entry_is (entry.Procedure result j) there p said = absurd said.0
@@ -312,8 +316,10 @@ module _ (s : Source) (known : Tabled s) (k : ℕ) (sight : Sight s (In k) exten
             → ControlledIs s k sign x (simple s.tables sign x.token.0 (Some d)).value
         denotes (denotation.Declared d) says binds open_to found said =
             let there = known.there x.token.0 x.name d binds in
+            let both = sight x.token.0 x.name d placed binds open_to found in
+            let here = known_here s (In k) x.token.0 d (connection_at s x.token.0) (own_attribute s x.token.0) (own_declared s x.token.0 d says) both.0 both.1 in
             subst (λ z. ControlledIs s k sign x (entry_controlled sign x.token.0 z).value) (sym there.1)
-            (entry_is d says (sight x.token.0 x.name d placed binds open_to found) there.0 there.1 (known.proper d there.0 there.1) (subst (λ z. AllSay s (entry_controlled sign x.token.0 z).events) there.1 said))
+            (entry_is d says here there.0 there.1 (known.proper d there.0 there.1) (subst (λ z. AllSay s (entry_controlled sign x.token.0 z).events) there.1 said))
         denotes (denotation.Standard name) says binds open_to found said = absurd said.0
 
         go : (o : Occurrence) → BoundIs s extent.Statement x o → AllSay s (simple s.tables sign x.token.0 o.denotes).events → ControlledIs s k sign x (simple s.tables sign x.token.0 o.denotes).value
@@ -444,15 +450,19 @@ module _ (s : Source) (known : Tabled s) (k : ℕ) (sight : Sight s (In k) exten
       subst (λ z. ExprIs s (In k) e (Simply z)) (reference_type x v.ty (subst (λ z. AllSay s (reference_needed x z).events) v.is parts.1)) (simply s (In k) e v.ty v.value)
 
   -- the class of an arm
-  arm_is : (token : ℕ) (x : Side) (class : Identifier) → PlainName class → AllSay s (arm_events s.tables token x class) → (c : ℕ) × (class_at s class.token.0 ≡ Some c) × (class_of_name s.tables (binding s.tables class.token.0 class.name) ≡ Some c)
-  unfolding arm_events
-  arm_is token x class plain said =
+  arm_is : (token : ℕ) (x : Side) (class : Identifier) → AllSay s (arm_events s.tables token x class) → (c : ℕ) × (class_at s class.token.0 ≡ Some c) × (class_of_name s.tables (binding s.tables class.token.0 class.name) ≡ Some c)
+  unfolding arm_events arm_fits
+  arm_is token x class said =
       let parts = next_says s (class_named s.tables extent.Statement class) (arm_fits s.tables token x class) said in
-      let o = (class_named s.tables extent.Statement class).value in
-      let c = class_means s known extent.Statement class plain parts.0 in
-      let b = c.found in
-      let row = class_row s.tables c.declaration c.class.block c.class.declares in
-      (c.class.block, class_meets s extent.Statement class o c, ap (class_of_name s.tables) (b.binds ∙ ap Some c.same) ∙ row)
+      go (class_named s.tables extent.Statement class).value (class_means s known extent.Statement class parts.0) parts.1
+    where
+      go : (o : Occurrence) → ClassIs s extent.Statement class o ⊎ PrefixIs o → AllSay s (arm_fits s.tables token x class o).events
+          → (c : ℕ) × (class_at s class.token.0 ≡ Some c) × (class_of_name s.tables (binding s.tables class.token.0 class.name) ≡ Some c)
+      go o (inr p) said = absurd (fits_refused s class.token.0 o p x.ty (next_says s (class_fits s.tables class.token.0 o.denotes x.ty) (λ b. arm_connected s.tables token o.denotes) said).0)
+      go o (inl c) said =
+          let b = c.found in
+          let row = class_row s.tables c.declaration c.class.block c.class.declares in
+          (c.class.block, class_meets s extent.Statement class o c, ap (class_of_name s.tables) (b.binds ∙ ap Some c.same) ∙ row)
 
   inspect_when_parts : (token : ℕ) (e : Expression) (classes : List Identifier) → AllSay s (inspect_when_events s.tables token e classes)
       → AllSay s (next (judge_side s.tables extent.Statement e) needs_reference).events × AllSay s (each (arm_events s.tables token (judge_side s.tables extent.Statement e).value) classes)
@@ -546,7 +556,7 @@ module _ (s : Source) (known : Tabled s) where
         let parts = both_say s (statement_events v Inside a ++ []) (arms_events v more) said in
         let inside = both_say s (statement_events v Inside a) [] parts.0 in
         let connection = l.0 in
-        let c = arm_is s known k (statement_sight s known k) token x class p.0 first.0 in
+        let c = arm_is s known k (statement_sight s known k) token x class first.0 in
         (connection.connection, c.0, c.1, connection.connects ∙ c.2, statement_typed connection.connection.number Inside a tt p.1 l.1 b.0 inside.0, arms_typed k token x more p.2 l.2 b.1 first.1 parts.1)
 
     pub statements_typed : (k : ℕ) (q : Position) (ss : Statements) → NoBody q → PlainStatements ss → PlacedStatements s k ss → AllThere s (statements_constants ss) → AllSay s (statements_events (judging s.tables) q ss) → StatementsAre s k ss

@@ -1,5 +1,5 @@
 -- The texts of a program, with what the last round says of them.
-use Rattle.std.proofs.Common.{◌≡◌, ℕ, zero, suc, Bool, true, false, List, [], ◌∷◌, ◌++◌, ◌⊎◌, inl, inr, Option, Some, None, refl, sym, subst, arith, if◌then◌else◌, ap}
+use Rattle.std.proofs.Common.{◌≡◌, ℕ, zero, suc, Bool, true, false, List, [], ◌∷◌, ◌++◌, ◌⊎◌, inl, inr, Option, Some, None, refl, sym, subst, arith, if◌then◌else◌}
 use Rattle.std.proofs.lemmas.Bool.Decides.{nat_tests}
 use Rattle.std.specs.Prelude.{◌==◌, slice_get}
 use Rattle.sim_scope.specs.declared.types.Position.{Position}
@@ -10,18 +10,18 @@ use Rattle.sim_scope.specs.Statements.{judging, prefixed_events}
 use Rattle.sim_scope.specs.Walk.{arm_classes, arms_events, begin_of, block_events, class_events, declaration_events, declarations_events, program_events, statement_events, statements_events, whole_events}
 use Rattle.sim_tree.specs.declared.expr.Identifier.{Identifier}
 use Rattle.sim_tree.specs.Filled.{Filled, FilledArms, FilledBlock, FilledDeclaration, FilledDeclarations, FilledStatement, FilledStatements}
-use Rattle.sim_tree.specs.Syntax.{Also, Arms, Arrays, Begin, Block, Declaration, Declarations, DeclareClass, DeclareProcedure, Heading, Interface, NoArm, NoDeclaration, NoStatement, Statement, Statements, Variables, When, With, Expressions}
+use Rattle.sim_tree.specs.Syntax.{Also, Arms, Arrays, Begin, Block, Declaration, Declarations, DeclareClass, DeclareProcedure, Heading, Interface, NoArm, NoDeclaration, NoStatement, Prefix, Statement, Statements, Variables, When, With, Expressions}
 use Rattle.sim_tree.specs.Syntax as syntax
 use Rattle.sim_values.specs.declared.kind.Kind.TheVariants as kind
 use Rattle.sim_values.specs.Plain.{Plain as Value, kind_of}
 use Rattle.sim_code.specs.Rows.{text_value}
 use Rattle.sim_meaning.specs.Constants.{TextConstant, arms_constants, block_constants, constant_from, declaration_constants, declarations_constants, elements_constants, expression_constants, prefix_constants, statement_constants, statements_constants, text_constant, text_constants, expressions_constants}
-use Rattle.sim_meaning.specs.Texts.{BlockText, ClassText, ConnectionText, ProcedureText, Text, arms_texts, block_texts, declaration_texts, declarations_texts, program_texts, statement_texts, statements_texts, text, PrefixedText, prefixed_texts}
-use Rattle.sim_agree.specs.Plain.{Plain, PlainArms, PlainBlock, PlainDeclaration, PlainDeclarations, PlainStatement, PlainStatements, PlainPrefix, PlainName}
+use Rattle.sim_meaning.specs.Texts.{BlockText, ClassText, ConnectionText, ProcedureText, StandardText, Text, arms_texts, block_texts, declaration_texts, declarations_texts, prefix_texts, program_texts, statement_texts, statements_texts, text, PrefixedText, prefixed_texts}
+use Rattle.sim_agree.specs.Plain.{Plain, PlainArms, PlainBlock, PlainDeclaration, PlainDeclarations, PlainStatement, PlainStart, PlainStatements, PlainPrefix, PlainName}
 use Rattle.sim_allowed.proofs.Expressions.{AllThere, IsThere, both_there}
 use Rattle.sim_allowed.proofs.Said.{AllSay, both_say}
 use Rattle.sim_allowed.proofs.Statements.{InClass, NoBody, in_class}
-use Rattle.sim_agree.proofs.PlainNames.{no_prefix_texts}
+use Rattle.sim_agree.proofs.PlainNames.{behind_prefix}
 
 -- what is known of a text: it is plain, its text constants are there, and its events are as the source says
 abbrev pub StatementFine : Source → Statement → Type 0
@@ -37,7 +37,7 @@ TextFine s (ProcedureText result h a) = StatementFine s a
 TextFine s (ClassText prefix h ds ss) = BlockFine s ClassStatement ds ss
 TextFine s (PrefixedText class es ds ss) = BlockFine s Inside ds ss
 TextFine s ConnectionText = Unit {0}
-TextFine s _ = ⊥
+TextFine s (StandardText which) = Unit {0}
 
 abbrev AllFine : Source → List Text → Type 0
 AllFine s [] = Unit {0}
@@ -46,6 +46,10 @@ AllFine s (x ∷ xs) = TextFine s x × AllFine s xs
 both_fine : (s : Source) (xs ys : List Text) → AllFine s xs → AllFine s ys → AllFine s (xs ++ ys)
 both_fine s [] ys a b = b
 both_fine s (x ∷ xs) ys a b = (a.0, both_fine s xs ys a.1 b)
+
+-- and so are the texts that a prefix brings
+behind_fine : (s : Source) (prefix : Option Identifier) → PlainPrefix prefix → (xs : List Text) → AllFine s xs → AllFine s (prefix_texts prefix ++ xs)
+behind_fine s prefix w xs a = behind_prefix (AllFine s) prefix w xs a (tt, (tt, (tt, a)))
 
 -- where a statement stands makes no difference to what is told of it, but for the body of a class
 body_events : (s : Source) (a : Statement) → InClass ClassBody a → statement_events (judging s.tables) ClassBody a ≡ statement_events (judging s.tables) ClassStatement a
@@ -72,24 +76,27 @@ all_say_none s [] a = tt
 all_say_none s (x ∷ xs) a = (a.0, all_say_none s xs a.1)
 
 -- a class whose body is no block
-alone_fine : (s : Source) (prefix : Option Identifier) (h : Heading) (a : Statement) → InClass ClassBody a → PlainStatement a → FilledStatement a → AllThere s (statement_constants a) → AllSay s (statement_events (judging s.tables) ClassBody a) → AllFine s (statement_texts a)
-    → AllFine s (ClassText prefix h NoDeclaration (Also a NoStatement) ∷ statement_texts a)
-alone_fine s prefix h a c p q there said all =
-    (((tt, tt, tt), ((p, tt), all_none s (statement_constants a) there, all_say_none s (statement_events (judging s.tables) ClassStatement a) (subst (λ z. AllSay s z) (body_events s a c) said)), tt), all)
+alone_fine : (s : Source) (prefix : Option Identifier) (h : Heading) (a : Statement) → PlainPrefix prefix → InClass ClassBody a → PlainStatement a → FilledStatement a → AllThere s (statement_constants a) → AllSay s (statement_events (judging s.tables) ClassBody a)
+    → AllFine s (statement_texts a) → AllFine s (ClassText prefix h NoDeclaration (Also a NoStatement) ∷ (prefix_texts prefix ++ statement_texts a))
+alone_fine s prefix h a w c p q there said all = (
+  ((tt, tt, tt), ((p, tt), all_none s (statement_constants a) there, all_say_none s (statement_events (judging s.tables) ClassStatement a) (subst (λ z. AllSay s z) (body_events s a c) said)), tt),
+  behind_fine s prefix w (statement_texts a) all,
+)
 
-alone_texts : (prefix : Option Identifier) → PlainPrefix prefix → (a : Statement) → InClass ClassBody a → (i : ℕ) (h : Heading) (interface : Interface) (end : ℕ) → declaration_texts (DeclareClass prefix i h interface a end) ≡ ClassText prefix h NoDeclaration (Also a NoStatement) ∷ statement_texts a
-alone_texts prefix w (syntax.Compound b) c i h interface end = absurd c
-alone_texts prefix w (syntax.Empty j) c i h interface end = ap (λ z. ClassText prefix h NoDeclaration (Also (syntax.Empty j) NoStatement) ∷ (z ++ statement_texts (syntax.Empty j))) (no_prefix_texts prefix w)
-alone_texts prefix w (syntax.Prefixed class es b) c i h interface end = ap (λ z. ClassText prefix h NoDeclaration (Also (syntax.Prefixed class es b) NoStatement) ∷ (z ++ statement_texts (syntax.Prefixed class es b))) (no_prefix_texts prefix w)
-alone_texts prefix w (syntax.Inner j) c i h interface end = ap (λ z. ClassText prefix h NoDeclaration (Also (syntax.Inner j) NoStatement) ∷ (z ++ statement_texts (syntax.Inner j))) (no_prefix_texts prefix w)
-alone_texts prefix w (syntax.Call e) c i h interface end = ap (λ z. ClassText prefix h NoDeclaration (Also (syntax.Call e) NoStatement) ∷ (z ++ statement_texts (syntax.Call e))) (no_prefix_texts prefix w)
-alone_texts prefix w (syntax.Assign e parts) c i h interface end = ap (λ z. ClassText prefix h NoDeclaration (Also (syntax.Assign e parts) NoStatement) ∷ (z ++ statement_texts (syntax.Assign e parts))) (no_prefix_texts prefix w)
-alone_texts prefix w (syntax.Choose j e a b) c i h interface end = ap (λ z. ClassText prefix h NoDeclaration (Also (syntax.Choose j e a b) NoStatement) ∷ (z ++ statement_texts (syntax.Choose j e a b))) (no_prefix_texts prefix w)
-alone_texts prefix w (syntax.Repeat j e a) c i h interface end = ap (λ z. ClassText prefix h NoDeclaration (Also (syntax.Repeat j e a) NoStatement) ∷ (z ++ statement_texts (syntax.Repeat j e a))) (no_prefix_texts prefix w)
-alone_texts prefix w (syntax.For j x sign k es a) c i h interface end = ap (λ z. ClassText prefix h NoDeclaration (Also (syntax.For j x sign k es a) NoStatement) ∷ (z ++ statement_texts (syntax.For j x sign k es a))) (no_prefix_texts prefix w)
-alone_texts prefix w (syntax.Inspect j e k a m b) c i h interface end = ap (λ z. ClassText prefix h NoDeclaration (Also (syntax.Inspect j e k a m b) NoStatement) ∷ (z ++ statement_texts (syntax.Inspect j e k a m b))) (no_prefix_texts prefix w)
-alone_texts prefix w (syntax.InspectWhen j e arms b) c i h interface end = ap (λ z. ClassText prefix h NoDeclaration (Also (syntax.InspectWhen j e arms b) NoStatement) ∷ (z ++ statement_texts (syntax.InspectWhen j e arms b))) (no_prefix_texts prefix w)
-alone_texts prefix w (syntax.Activate j word e schedule) c i h interface end = ap (λ z. ClassText prefix h NoDeclaration (Also (syntax.Activate j word e schedule) NoStatement) ∷ (z ++ statement_texts (syntax.Activate j word e schedule))) (no_prefix_texts prefix w)
+alone_texts : (prefix : Option Identifier) (a : Statement) → InClass ClassBody a → (i : ℕ) (h : Heading) (interface : Interface) (end : ℕ)
+    → declaration_texts (DeclareClass prefix i h interface a end) ≡ ClassText prefix h NoDeclaration (Also a NoStatement) ∷ (prefix_texts prefix ++ statement_texts a)
+alone_texts prefix (syntax.Compound b) c i h interface end = absurd c
+alone_texts prefix (syntax.Empty j) c i h interface end = refl
+alone_texts prefix (syntax.Prefixed class es b) c i h interface end = refl
+alone_texts prefix (syntax.Inner j) c i h interface end = refl
+alone_texts prefix (syntax.Call e) c i h interface end = refl
+alone_texts prefix (syntax.Assign e parts) c i h interface end = refl
+alone_texts prefix (syntax.Choose j e a b) c i h interface end = refl
+alone_texts prefix (syntax.Repeat j e a) c i h interface end = refl
+alone_texts prefix (syntax.For j x sign k es a) c i h interface end = refl
+alone_texts prefix (syntax.Inspect j e k a m b) c i h interface end = refl
+alone_texts prefix (syntax.InspectWhen j e arms b) c i h interface end = refl
+alone_texts prefix (syntax.Activate j word e schedule) c i h interface end = refl
 
 class_alone_fine : (s : Source) (prefix : Option Identifier) (i : ℕ) (h : Heading) (interface : Interface) (a : Statement) (end : ℕ) → InClass ClassBody a → PlainDeclaration (DeclareClass prefix i h interface a end) → FilledStatement a → AllThere s (statement_constants a)
     → AllSay s (declaration_events (judging s.tables) (DeclareClass prefix i h interface a end))
@@ -99,7 +106,7 @@ class_alone_fine s prefix i h interface a end c p q there said deep =
     let v = judging s.tables in
     let x = both_say s (v.class prefix i h interface) (statement_events v ClassBody a ++ v.leave end) said in
     let y = both_say s (statement_events v ClassBody a) (v.leave end) x.1 in
-    subst (λ z. AllFine s z) (sym (alone_texts prefix p.0 a c i h interface end)) (alone_fine s prefix h a c p.3 q there y.0 (deep p.3 q there y.0))
+    subst (λ z. AllFine s z) (sym (alone_texts prefix a c i h interface end)) (alone_fine s prefix h a p.0 c p.3 q there y.0 (deep p.3 q there y.0))
 
 mutual
   unfolding judging
@@ -172,7 +179,7 @@ mutual
       let x = both_say s (declarations_events v ds) (statements_events v Inside ss ++ v.leave end) said in
       let y = both_say s (statements_events v Inside ss) (v.leave end) x.1 in (
         ((p.0, c.0, x.0), (p.1, c.1, y.0), q.0),
-        subst (λ z. AllFine s (z ++ (declarations_texts ds ++ statements_texts ss))) (sym (no_prefix_texts (Some class) w)) (both_fine s (declarations_texts ds) (statements_texts ss) (declarations_fine s ds p.0 q.0 c.0 x.0) (statements_fine s Inside ss tt p.1 q.1 c.1 y.0)),
+        behind_fine s (Some class) w (declarations_texts ds ++ statements_texts ss) (both_fine s (declarations_texts ds) (statements_texts ss) (declarations_fine s ds p.0 q.0 c.0 x.0) (statements_fine s Inside ss tt p.1 q.1 c.1 y.0)),
       )
 
   block_fine : (s : Source) (b : Block) → PlainBlock b → FilledBlock b → AllThere s (block_constants b) → AllSay s (block_events (judging s.tables) b) → AllFine s (block_texts b)
@@ -221,7 +228,7 @@ mutual
       let c = both_there s (declarations_constants ds) (statements_constants ss) there in
       let x = both_say s (declarations_events v ds) (statements_events v ClassStatement ss) said in (
         ((p.0, c.0, x.0), (p.1, c.1, x.1), q.0),
-        subst (λ z. AllFine s (z ++ (declarations_texts ds ++ statements_texts ss))) (sym (no_prefix_texts prefix w)) (both_fine s (declarations_texts ds) (statements_texts ss) (declarations_fine s ds p.0 q.0 c.0 x.0) (statements_fine s ClassStatement ss tt p.1 q.1 c.1 x.1)),
+        behind_fine s prefix w (declarations_texts ds ++ statements_texts ss) (both_fine s (declarations_texts ds) (statements_texts ss) (declarations_fine s ds p.0 q.0 c.0 x.0) (statements_fine s ClassStatement ss tt p.1 q.1 c.1 x.1)),
       )
 
 program_fine : (s : Source) (b : Block) → PlainBlock b → FilledBlock b → AllThere s (block_constants b) → AllSay s (whole_events (judging s.tables) b) → AllFine s (program_texts None b)
@@ -231,6 +238,10 @@ program_fine s (Begin i ds ss end) p q there said =
     let x = both_say s (declarations_events v ds) (statements_events v Inside ss ++ v.leave end) said in
     let y = both_say s (statements_events v Inside ss) (v.leave end) x.1 in
     (((p.0, h.0, x.0), (p.1, h.1, y.0), q.0), both_fine s (declarations_texts ds) (statements_texts ss) (declarations_fine s ds p.0 q.0 h.0 x.0) (statements_fine s Inside ss tt p.1 q.1 h.1 y.0))
+
+start_fine : (s : Source) (o : Option Prefix) (b : Block) → PlainStart o → PlainBlock b → FilledBlock b → AllThere s (block_constants b) → AllSay s (whole_events (judging s.tables) b) → AllFine s (program_texts o b)
+start_fine s None b w p q there said = program_fine s b p q there said
+start_fine s (Some x) (Begin i ds ss end) w p q there said = prefixed_fine s x.class x.arguments (Begin i ds ss end) w.0 p q there said
 
 fine_at : (s : Source) (xs : List Text) (k : ℕ) (x : Text) → AllFine s xs → slice_get xs k ≡ Some x → TextFine s x
 fine_at s [] k x a e = absurd (cc)
@@ -244,7 +255,7 @@ text_fine s p q there said k x e =
     let b = s.program.block in
     let c = both_there s (prefix_constants s.program.prefix) (block_constants b) there in
     let y = both_say s (v.program s.program.prefix (begin_of b)) (whole_events v b) said in
-    fine_at s (program_texts None b) k x (program_fine s b p.block q c.1 y.1) (subst (λ z. slice_get (program_texts z b) k ≡ Some x) p.prefix e)
+    fine_at s (program_texts s.program.prefix b) k x (start_fine s s.program.prefix b p.start p.block q c.1 y.1) e
 
 -- ---- text constants
 

@@ -28,13 +28,12 @@ use Rattle.sim_meaning.specs.Texts.{text}
 use Rattle.sim_sound.specs.Held.{Around, Fits, Holds, In, InBound, Place, Refers, StandsAround, further, itself, reference_to}
 use Rattle.sim_sound.specs.Expressions.{ThisFound, ThisIs}
 use Rattle.sim_agree.specs.Facts.{IsClass, Tabled}
-use Rattle.sim_allowed.proofs.Classes.{class_held, class_row, fits_inside, level_more, level_reached, no_connection}
+use Rattle.sim_allowed.proofs.Classes.{class_held, class_row, fits_inside, level_more, level_reached, levels_here, no_connection}
 use Rattle.sim_allowed.proofs.Meant.{Means, Takes}
-use Rattle.sim_allowed.proofs.References.{ClassIs, kept}
+use Rattle.sim_allowed.proofs.References.{ClassIs, PrefixIs, kept, only}
 use Rattle.sim_allowed.proofs.Said.{AllSay, next_says}
 use Rattle.sim_allowed.proofs.Sights.{text_of}
 use Rattle.sim_allowed.proofs.Uses.{located_says}
-use Rattle.sim_agree.proofs.Prefixing.{Reaches, itself as at_once, through}
 
 -- statements stand in a text, and only bounds in a bound
 abbrev pub extent_of : Place → Extent
@@ -87,11 +86,6 @@ connects_it s known b block connection class e = go (length s.tables.blocks) e
     go : (n : ℕ) → some_level_of s.tables n (λ z. nat_eq z block) b ≡ true → (c : ℕ) × (base s.tables b ≡ Some c) × (some_level_of s.tables n (λ z. nat_eq z block) c ≡ true)
     go zero e = absurd (false≢true e)
     go (suc n) e = tested n (nat_eq b block) refl e
-
--- what is no connection and has a class among its levels has levels
-levels_here : (s : Source) → Tabled s → (b block : ℕ) → is_connection (text s b) ≡ false → is_class (text s block) ≡ true → Reaches s.tables b block → has_levels (text s b) ≡ true
-levels_here s known b block other class at_once = known.class_levels b class
-levels_here s known b block other class (through {b = c} e x) = (known.prefixes.prefixed_by b c other e).has
 
 -- ---- where it stands
 
@@ -169,3 +163,18 @@ this_means s known from i class o c placed said =
             let there = found b e in
             subst (λ z. ThisFound s from z h) (sym (at b refl))
             (this_is s known from c.declaration c.class b (this_level s c.declaration c.class b there.1) (stands s from token b placed there.0 open_to) h (subst (λ z. Fits s z h) (class_held s c.declaration c.class) f))
+
+-- `this simset` stands nowhere
+pub this_refused : (s : Source) (x : Extent) (i : ℕ) (class : Identifier) (o : Occurrence) → PrefixIs o → AllSay s (this_object s.tables x i class o).events → ⊥
+unfolding this_object next gives this_fits
+this_refused s x i class o p said =
+    let d = denotation.Standard p.name in
+    let token = class.token.0 in
+    let block = this_block s.tables token d in
+    let events = subst (λ (z : Occurrence). AllSay s (this_of_class s.tables x i token z.denotes z.barred).events) p.is said in
+    let first = next_says s (located i block) (λ n. next (this_fits s.tables x token d block) (λ b. this_value i d (b || false))) events in
+    let last = next_says s (this_fits s.tables x token d block) (λ b. this_value i d (b || false)) first.1 in
+    let one = next_says s (bars (is_nowhere block) token r.ThisOutsideItsClass) (λ a. next (bars (is_only_prefix s.tables d) token r.OnlyForPrefixing) (λ b. next (bars (this_barred s.tables x token block) token r.BoundDependsOnItsBlock) (λ c. gives (a || b || c)))) last.0 in
+    let a = (bars (is_nowhere block) token r.ThisOutsideItsClass).value in
+    let two = next_says s (bars (is_only_prefix s.tables d) token r.OnlyForPrefixing) (λ b. next (bars (this_barred s.tables x token block) token r.BoundDependsOnItsBlock) (λ c. gives (a || b || c))) one.1 in
+    false≢true (sym (kept s (is_only_prefix s.tables d) token r.OnlyForPrefixing two.0).0 ∙ only s token o p)

@@ -1,5 +1,5 @@
 -- What the statements and declarations of a program tell of a token is told once.
-use Rattle.std.proofs.Common.{Bool, List, None, Option, Some, [], arith, false, if◌then◌else◌, refl, subst, sym, true, ℕ, ◌++◌, ◌+◌, ◌<◌, ◌∷◌, ◌≡◌, ◌≤◌}
+use Rattle.std.proofs.Common.{Bool, List, None, Option, Some, [], arith, false, if◌then◌else◌, refl, true, ℕ, ◌++◌, ◌+◌, ◌<◌, ◌∷◌, ◌≡◌, ◌≤◌}
 use Rattle.std.proofs.lemmas.Bool.Decides.{nat_tests}
 use Rattle.std.specs.Prelude.{nat_eq}
 use Rattle.sim_base.specs.declared.rule.Rule.{Rule}
@@ -37,12 +37,13 @@ use Rattle.sim_tree.specs.declared.stmt.Constant.{Constant}
 use Rattle.sim_tree.specs.declared.stmt.TypeName.{TypeName}
 use Rattle.sim_tree.specs.declared.stmt.TypeName.TheVariants as type_name
 use Rattle.sim_tree.specs.declared.stmt.Variable.{Variable}
-use Rattle.sim_tree.specs.Order.{Ascends, Behind, InOrder, Spot, Token, in_block, in_arms, in_bounds, in_declaration, in_declarations, in_each, in_element, in_expression, in_name, in_result, in_segment, in_statement, in_statements, in_type, in_variable, in_prefix, tokens}
-use Rattle.sim_tree.specs.Syntax.{Also, Arms, Arrayed, Arrays, Begin, Block, BoundPair, Declaration, Declarations, DeclareClass, DeclareProcedure, Element, Expression, Heading, NoArm, NoDeclaration, NoStatement, Program, Statement, Statements, Variables, When, With, Expressions}
+use Rattle.sim_tree.specs.Order.{Ascends, Behind, Spot, Token, in_block, in_arms, in_bounds, in_declaration, in_declarations, in_each, in_element, in_expression, in_name, in_result, in_segment, in_statement, in_statements, in_type, in_variable, in_prefix, tokens}
+use Rattle.sim_tree.specs.Syntax.{Also, Arms, Arrayed, Arrays, Begin, Block, BoundPair, Declaration, Declarations, DeclareClass, DeclareProcedure, Element, Expression, Heading, NoArm, NoDeclaration, NoStatement, Prefix, Program, Statement, Statements, Variables, When, With, Expressions}
 use Rattle.sim_tree.specs.Syntax as syntax
 use Rattle.sim_agree.specs.Plain.{Plain, PlainArms, PlainBlock, PlainDeclaration, PlainDeclarations, PlainStatement, PlainStatements}
 use Rattle.sim_allowed.proofs.Counts.{About, Binding, Silent, Typing, binding_then_silent, bound_binds, class_binds, class_fits_silent, here, silent_break, silent_next, silent_none, told, told_both, typing_one, typing_silent, used_in_binds, binding_one}
 use Rattle.sim_allowed.proofs.Nowhere.{nowhere}
+use Rattle.sim_allowed.proofs.StartOrder.{in_start, in_whole}
 use Rattle.sim_allowed.proofs.Told.{any_of}
 use Rattle.sim_allowed.proofs.ToldProgram.{Fills, among, assign_fills, call_fills, fills_both, fills_end, fills_more, fills_names, fills_silent, fills_then, required_fills, side_fills, actuals_fill}
 use Rattle.sim_tree.specs.Named.{all_named}
@@ -448,9 +449,15 @@ module _ (s : Tables) where
         let m = in_each in_name h.formals (in_statement a u) in
         fills_both (class_prefix_events s prefix h.name.token.0) (statement_events v ClassBody a ++ []) l (Token h.name.token.0 ∷ m) (in_prefix prefix (Token h.name.token.0 ∷ m)) (prefix_fills s prefix h.name.token.0 (Token h.name.token.0 ∷ m)) (headed_fills h end (statement_events v ClassBody a) l (in_statement a u) (statement_fills ClassBody a p.3 u))
 
-  pub program_fills : (p : Program) → Plain p → Fills (program_events (judging s) p) [] (in_block p.block [])
-  unfolding judging program_events program_prefix_events
-  program_fills p plain = subst (λ z. Fills (program_prefix_events s z (begin_of p.block) ++ whole_events (judging s) p.block) [] (in_block p.block [])) (sym plain.prefix) (whole_fills p.block plain.block [])
+  start_fills : (o : Option Prefix) (b : Block) → PlainBlock b → Fills (program_prefix_events s o (begin_of b) ++ whole_events (judging s) b) [] (in_start o (in_block b []))
+  unfolding program_prefix_events
+  start_fills None b plain = whole_fills b plain []
+  start_fills (Some x) b plain =
+      fills_both (prefixed_events s x.class x.arguments (begin_of b)) (whole_events (judging s) b) [] (in_block b []) (in_expression (syntax.Named x.class x.arguments) (in_block b [])) (block_prefix_fills s x.class x.arguments (begin_of b) (in_block b [])) (whole_fills b plain [])
+
+  pub program_fills : (p : Program) → Plain p → Fills (program_events (judging s) p) [] (in_whole p)
+  unfolding judging program_events
+  program_fills p plain = start_fills p.prefix p.block plain.block
 
 -- ---- each token stands once
 
@@ -468,6 +475,6 @@ few i t (Token x ∷ l) a = go (few (x + 1) t l a.1) (nat_eq t x) refl
         (omega (arith, one), λ h. (let none = rest.1 (omega (arith, h, low)) in omega (arith, none)))
 few i t (Behind x ∷ l) a = let rest = few x t l a.1 in let low = a.0 in (rest.0, λ h. rest.1 (omega (arith, low, h)))
 
-pub told_once : (s : Tables) (p : Program) → Plain p → InOrder p → (k : About) (t : ℕ) → told k t (program_events (judging s) p) ≤ 1
+pub told_once : (s : Tables) (p : Program) → Plain p → Ascends 0 (in_whole p) → (k : About) (t : ℕ) → told k t (program_events (judging s) p) ≤ 1
 unfolding Fills
-told_once s p plain order k t = let a = program_fills s p plain k t in let b = few 0 t (in_block p.block []) order in let c = b.0 in omega (arith, a, c)
+told_once s p plain order k t = let a = program_fills s p plain k t in let b = few 0 t (in_whole p) order in let c = b.0 in omega (arith, a, c)

@@ -32,12 +32,12 @@ use Rattle.sim_tree.specs.Syntax as syntax
 use Rattle.sim_values.specs.declared.kind.Kind.TheVariants as kind
 use Rattle.sim_values.specs.declared.standard.Standard.TheVariants as name_of
 use Rattle.sim_code.specs.Transfers.{Calling, Detaching, Resuming, Transfer}
-use Rattle.sim_meaning.specs.Attributes.{connection_at, transfer_at, transfer_denoted, transfer_named}
+use Rattle.sim_meaning.specs.Attributes.{attribute_denoted, attribute_if, connection_at, is_standard_attribute, own_attribute, transfer_at, transfer_denoted, transfer_named}
 use Rattle.sim_meaning.specs.Closing.{is_text, is_text_type, own_block, own_block_denoted, own_result, result_meant, stream_denoted, stream_of, typed_token, unless_connected}
 use Rattle.sim_meaning.specs.Names.{procedure_named, stream_named}
 use Rattle.sim_meaning.specs.Statements.{denoted_leaves, leaves}
 use Rattle.sim_sound.specs.Held.{Holds, In, InBound, Place, Refers, Simply, held_by}
-use Rattle.sim_sound.specs.Expressions.{ActualsFit, AreIntegers, AreOf, DotGives, ExprIs, KnownAt, NamedGives, ObjectHas, ThisFound}
+use Rattle.sim_sound.specs.Expressions.{ActualsFit, AreIntegers, AreOf, DeclaredGives, DotGives, ExprIs, IdentifierGives, KnownAt, NamedGives, ObjectHas, OwnKnown, ThisFound}
 use Rattle.sim_sound.specs.Statements.{LeftDeclared, LeftDot, NoText, OrTransferIs, PlaceDeclared, PlaceNamed, TransferIs, is_given}
 use Rattle.sim_agree.specs.Facts.{PlainGiven}
 use Rattle.sim_agree.proofs.Unprefixed.{standard_is as standard_found}
@@ -105,17 +105,18 @@ no_stream found.Sysin e = absurd (false≢true (sym e))
 no_stream found.Sysout e = absurd (false≢true (sym e))
 no_stream _ e = refl
 
-is_procedure : (name : StandardName) → NoAttribute name → is_stream name ≡ false → transfer_named (procedure_named name) ≡ None → IsProcedure name
-is_procedure found.Sysin a e none = absurd (false≢true (sym e))
-is_procedure found.Sysout a e none = absurd (false≢true (sym e))
-is_procedure (found.Prefix which) a e none = absurd a
-is_procedure (found.Procedure x) a e none = (a, none)
+is_procedure : (name : StandardName) → NoAttribute name → is_stream name ≡ false → is_standard_class name ≡ false → transfer_named (procedure_named name) ≡ None → IsProcedure name
+unfolding is_standard_class
+is_procedure found.Sysin a e class none = absurd (false≢true (sym e))
+is_procedure found.Sysout a e class none = absurd (false≢true (sym e))
+is_procedure (found.Prefix which) a e class none = absurd (false≢true (sym class))
+is_procedure (found.Procedure x) a e class none = (a, none)
 
 no_parameters : (first second : Option SimType) → first ≡ None → parameter_kinds first second ≡ []
 no_parameters None second e = refl
 no_parameters (Some a) second e = absurd (cc)
 
-module _ (s : Source) (from : Place) (e : Expression) (name : StandardName) (naming : ℕ) (at : typed_token e ≡ naming) (stream : stream_of s e ≡ stream_named name) (unowned : result_meant s e ≡ None) (no_class : is_standard_class name ≡ false) (proper : PlainGiven (signature name).result) where
+module _ (s : Source) (from : Place) (e : Expression) (name : StandardName) (naming : ℕ) (at : typed_token e ≡ naming) (stream : stream_of s e ≡ stream_named name) (unowned : result_meant s e ≡ None) (proper : PlainGiven (signature name).result) where
   type_there : (o : Outcome) → AllSay s (typed_if naming (signature name).result o).events → is_stream name ≡ false → TypeThere s e (signature name).result
   unfolding telling gives is_text
   type_there o said other = go (signature name).result proper said
@@ -125,47 +126,51 @@ module _ (s : Source) (from : Place) (e : Expression) (name : StandardName) (nam
       go (Some type) p said = let typed = ap (type_at s) at ∙ said.0 in (plain_proper s type p, ap is_text_type typed, stream ∙ no_stream name other, typed)
 
   -- without any
-  pub standard_without : (token : TokenNo) → (is_stream name ≡ false → AreOf s from NoMore (kinds_of (signature name)) → CallsFor s from e (signature name).result)
+  pub standard_without : (token : TokenNo) → (is_stream name ≡ false → is_standard_class name ≡ false → AreOf s from NoMore (kinds_of (signature name)) → CallsFor s from e (signature name).result)
       → AllSay s (if is_standard_class name then gives is.Class else typed_if naming (signature name).result (is.Standard name token)).events
       → Means true s from e (if is_standard_class name then gives is.Class else typed_if naming (signature name).result (is.Standard name token)).value
-  standard_without token calls said =
-      subst (λ b. Means true s from e (if b then gives is.Class else typed_if naming (signature name).result (is.Standard name token)).value) (sym no_class)
-      (typed (subst (λ b. AllSay s (if b then gives is.Class else typed_if naming (signature name).result (is.Standard name token)).events) no_class said))
+  unfolding gives
+  standard_without token calls said = go (is_standard_class name) refl said
     where
-      typed : AllSay s (typed_if naming (signature name).result (is.Standard name token)).events → Means true s from e (typed_if naming (signature name).result (is.Standard name token)).value
-      typed said = subst (λ z. Means true s from e z) (sym (typed_is naming (signature name).result (is.Standard name token))) (record {
-        calls = λ other none. calls other (subst (λ ks. AreOf s from NoMore ks) (sym (no_parameters (signature name).first (signature name).second none)) tt);
+      typed : is_standard_class name ≡ false → AllSay s (typed_if naming (signature name).result (is.Standard name token)).events → Means true s from e (typed_if naming (signature name).result (is.Standard name token)).value
+      typed class said = subst (λ z. Means true s from e z) (sym (typed_is naming (signature name).result (is.Standard name token))) (record {
+        calls = λ other none. calls other class (subst (λ ks. AreOf s from NoMore ks) (sym (no_parameters (signature name).first (signature name).second none)) tt);
         typed = type_there (is.Standard name token) said;
         stream = stream;
         unowned = unowned;
       })
 
+      go : (b : Bool) → is_standard_class name ≡ b → AllSay s (if b then gives is.Class else typed_if naming (signature name).result (is.Standard name token)).events
+          → Means true s from e (if b then gives is.Class else typed_if naming (signature name).result (is.Standard name token)).value
+      go true is said = tt
+      go false is said = typed is said
+
   -- with operands
-  pub standard_with : (es : Expressions) → (is_stream name ≡ false → AreOf s from es (kinds_of (signature name)) → CallsFor s from e (signature name).result)
+  pub standard_with : (es : Expressions) → (is_stream name ≡ false → is_standard_class name ≡ false → AreOf s from es (kinds_of (signature name)) → CallsFor s from e (signature name).result)
       → (a : Actuals) → a.count ≡ size es → (a.misfit ≡ None → AllFit s from (Some (denotation.Standard name)) 0 es) → (token : ℕ) → AllSay s (standard_applied naming token name (signature name) a).events → Means true s from e (standard_applied naming token name (signature name) a).value
   unfolding resulting breaks telling
   standard_with es calls a count fits token said = go (is_stream name) refl said
     where
-      result : is_stream name ≡ false → parameter_count (signature name) ≡ a.count → (m : Option Fault) → a.misfit ≡ m → AllSay s (resulting naming m (signature name).result).events → Means true s from e (resulting naming m (signature name).result).value
-      result other same (Some f) is said = absurd said.0
-      result other same None is said =
+      result : is_stream name ≡ false → is_standard_class name ≡ false → parameter_count (signature name) ≡ a.count → (m : Option Fault) → a.misfit ≡ m → AllSay s (resulting naming m (signature name).result).events → Means true s from e (resulting naming m (signature name).result).value
+      result other class same (Some f) is said = absurd said.0
+      result other class same None is said =
           subst (λ z. Means true s from e z) (sym (typed_is naming (signature name).result (call_of (signature name).result)))
-          (call_means s from e (signature name).result (type_there (call_of (signature name).result) said other) (calls other (all_operands s from name es (same ∙ count) (fits is))) true unowned)
+          (call_means s from e (signature name).result (type_there (call_of (signature name).result) said other) (calls other class (all_operands s from name es (same ∙ count) (fits is))) true unowned)
 
-      counted : is_stream name ≡ false → (b : Bool) → nat_eq (parameter_count (signature name)) a.count ≡ b → AllSay s (if b then resulting naming a.misfit (signature name).result else breaks token r.WrongNumber).events
+      counted : is_stream name ≡ false → is_standard_class name ≡ false → (b : Bool) → nat_eq (parameter_count (signature name)) a.count ≡ b → AllSay s (if b then resulting naming a.misfit (signature name).result else breaks token r.WrongNumber).events
           → Means true s from e (if b then resulting naming a.misfit (signature name).result else breaks token r.WrongNumber).value
-      counted other true same said = result other (grind (arith, nat_tests)) a.misfit refl said
-      counted other false same said = absurd said.0
+      counted other class true same said = result other class (grind (arith, nat_tests)) a.misfit refl said
+      counted other class false same said = absurd said.0
 
-      tested : is_stream name ≡ false → (c : Bool) → AllSay s (if c then breaks token r.WrongKind else if nat_eq (parameter_count (signature name)) a.count then resulting naming a.misfit (signature name).result else breaks token r.WrongNumber).events
+      tested : is_stream name ≡ false → (c : Bool) → is_standard_class name ≡ c → AllSay s (if c then breaks token r.WrongKind else if nat_eq (parameter_count (signature name)) a.count then resulting naming a.misfit (signature name).result else breaks token r.WrongNumber).events
           → Means true s from e (if c then breaks token r.WrongKind else if nat_eq (parameter_count (signature name)) a.count then resulting naming a.misfit (signature name).result else breaks token r.WrongNumber).value
-      tested other true said = absurd said.0
-      tested other false said = counted other (nat_eq (parameter_count (signature name)) a.count) refl said
+      tested other true is said = absurd said.0
+      tested other false is said = counted other is (nat_eq (parameter_count (signature name)) a.count) refl said
 
       go : (b : Bool) → is_stream name ≡ b → AllSay s (if b then breaks token r.StandardNameLeftOut else if is_standard_class name then breaks token r.WrongKind else if nat_eq (parameter_count (signature name)) a.count then resulting naming a.misfit (signature name).result else breaks token r.WrongNumber).events
           → Means true s from e (if b then breaks token r.StandardNameLeftOut else if is_standard_class name then breaks token r.WrongKind else if nat_eq (parameter_count (signature name)) a.count then resulting naming a.misfit (signature name).result else breaks token r.WrongNumber).value
       go true is said = absurd said.0
-      go false is said = tested is (is_standard_class name) said
+      go false is said = tested is (is_standard_class name) refl said
 
 -- ---- calls of standard names
 
@@ -181,10 +186,23 @@ pub dot_calls : (s : Source) (from : Place) (i : ℕ) (a : Expression) (x : Iden
 dot_calls s from i a x es None g = g
 dot_calls s from i a x es (Some type) g = g
 
+-- an identifier, with the connection through which it is seen, or as a procedure of SIMSET
+abbrev IdentifierAs : Source → Place → Identifier → Expressions → (connection : Option ℕ) → (own : Option DeclNo) → Option Holds → Type 0
+IdentifierAs s from x es c own h = IdentifierGives s from x.token.0 c own es (AreIntegers s from es) (λ ks. AreOf s from es ks) (λ fs. ActualsFit s from es fs) h
+
 -- whether an identifier denotes a transfer of control
 pub standard_transfers : (s : Source) (token : ℕ) (name : StandardName) → denoted s token ≡ Some (denotation.Standard name) → transfer_at s token ≡ transfer_named (procedure_named name)
 unfolding transfer_at
 standard_transfers s token name says = ap transfer_denoted says
+
+-- whether it denotes a procedure of SIMSET
+own_standard : (s : Source) (token : ℕ) (name : StandardName) → denoted s token ≡ Some (denotation.Standard name) → own_attribute s token ≡ None
+unfolding own_attribute
+own_standard s token name says = ap (attribute_denoted s) says
+
+pub own_declared : (s : Source) (token : ℕ) (d : DeclNo) → denoted s token ≡ Some (denotation.Declared d) → own_attribute s token ≡ attribute_if (is_standard_attribute (entry_of s.tables d)) d
+unfolding own_attribute
+own_declared s token d says = ap (attribute_denoted s) says
 
 declared_transfers : (s : Source) (token : ℕ) (d : DeclNo) → denoted s token ≡ Some (denotation.Declared d) → transfer_at s token ≡ None
 unfolding transfer_at
@@ -214,9 +232,9 @@ dot_detaches s from i a x es says object are =
 
 -- an expression that names a standard procedure, with its operands
 pub standard_call : (s : Source) (from : Place) (x : Identifier) (es : Expressions) (name : StandardName) → denoted s x.token.0 ≡ Some (denotation.Standard name) → (transfer_named (procedure_named name) ≡ None → connection_at s x.token.0 ≡ None)
-    → (name ≡ found.Procedure name_of.Detach → InText from (λ t. ThisFound s (In t) (found_at s x.token.0) (Simply kind.Reference))) → NoAttribute name → is_stream name ≡ false → PlainGiven (signature name).result
+    → (name ≡ found.Procedure name_of.Detach → InText from (λ t. ThisFound s (In t) (found_at s x.token.0) (Simply kind.Reference))) → NoAttribute name → is_stream name ≡ false → is_standard_class name ≡ false → PlainGiven (signature name).result
     → AreOf s from es (kinds_of (signature name)) → CallsFor s from (syntax.Named x es) (signature name).result
-standard_call s from x es name says unconnected around alone other proper are = go (which_transfer name)
+standard_call s from x es name says unconnected around alone other class proper are = go (which_transfer name)
   where
     transfers : (k : StandardName) → name ≡ k → transfer_at s x.token.0 ≡ transfer_named (procedure_named k)
     transfers k is = standard_transfers s x.token.0 name says ∙ ap (λ z. transfer_named (procedure_named z)) is
@@ -243,9 +261,10 @@ standard_call s from x es name says unconnected around alone other proper are = 
     done none =
         named_calls s from x es (signature name).result (plain_given s (CallGiven s from (syntax.Named x es)) (signature name).result proper (
         named_given s from x es (given_by (signature name).result) (standard_transfers s x.token.0 name says ∙ none)
-        (subst (λ c. NamedGives s from c (denoted s x.token.0) es (AreIntegers s from es) (λ ks. AreOf s from es ks) (λ fs. ActualsFit s from es fs) (given_by (signature name).result)) (sym (unconnected none))
+        (subst (λ c. IdentifierAs s from x es c (own_attribute s x.token.0) (given_by (signature name).result)) (sym (unconnected none))
+        (subst (λ o. IdentifierAs s from x es None o (given_by (signature name).result)) (sym (own_standard s x.token.0 name says))
         (subst (λ z. NamedGives s from None z es (AreIntegers s from es) (λ ks. AreOf s from es ks) (λ fs. ActualsFit s from es fs) (given_by (signature name).result)) (sym says)
-        (standard_gives name (is_procedure name alone other none) (λ ks. AreOf s from es ks) are)))
+        (standard_gives name (is_procedure name alone other class none) (λ ks. AreOf s from es ks) are))))
         (ap (denoted_leaves s) says ∙ sym (standard_left name))
         ))
 
@@ -309,21 +328,75 @@ no_own s x d NoMore says none = ap (own_block_denoted s x.token.0) says ∙ go (
     go (Some (entry.Unspecified w)) n = refl
     go (Some (entry.Attribute name w result)) n = refl
 
-pub named_use : (s : Source) (from : Place) (x : Identifier) (es : Expressions) (d : DeclNo) → denoted s x.token.0 ≡ Some (denotation.Declared d) → UseIs s from (syntax.Named x es) x.token.0 d es (KnownAt s from (connection_at s x.token.0) d)
+-- how what an identifier denotes is known where it stands
+abbrev pub KnownHere : Source → Place → (token : ℕ) → (connection : Option ℕ) → (own : Option DeclNo) → DeclNo → Type 0
+KnownHere s from token None (Some q) d = OwnKnown s from token d
+KnownHere s from token None None d = KnownAt s from None d
+KnownHere s from token (Some k) own d = KnownAt s from (Some k) d
+
+-- a procedure of SIMSET is what is denoted
+record IsOwn (s : Source) (q d : DeclNo) : Type 0 where
+  is : is_standard_attribute (entry_of s.tables d) ≡ true
+  same : d ≡ q
+
+own_is : (s : Source) (q d : DeclNo) → Some q ≡ attribute_if (is_standard_attribute (entry_of s.tables d)) d → IsOwn s q d
+own_is s q d e = go (is_standard_attribute (entry_of s.tables d)) refl e
+  where
+    go : (b : Bool) → is_standard_attribute (entry_of s.tables d) ≡ b → Some q ≡ attribute_if b d → IsOwn s q d
+    go true is e = record { is = is; same = cc }
+    go false is e = absurd (cc)
+
+pub known_here : (s : Source) (from : Place) (token : ℕ) (d : DeclNo) (c : Option ℕ) (own : Option DeclNo) → own ≡ attribute_if (is_standard_attribute (entry_of s.tables d)) d → KnownAt s from c d
+    → (is_standard_attribute (entry_of s.tables d) ≡ true → c ≡ None → OwnKnown s from token d) → KnownHere s from token c own d
+known_here s from token d (Some k) own e at seen = at
+known_here s from token d None None e at seen = at
+known_here s from token d None (Some q) e at seen = seen (own_is s q d e).is refl
+
+identifier_gives : (s : Source) (from : Place) (x : Identifier) (es : Expressions) (d : DeclNo) → denoted s x.token.0 ≡ Some (denotation.Declared d) → (c : Option ℕ) (own : Option DeclNo) → own ≡ attribute_if (is_standard_attribute (entry_of s.tables d)) d → (h : Option Holds)
+    → DeclaredGives s (KnownHere s from x.token.0 c own d) d es (AreIntegers s from es) (λ fs. ActualsFit s from es fs) (entry_of s.tables d) h → IdentifierAs s from x es c own h
+identifier_gives s from x es d says (Some k) own e h a = subst (λ z. NamedGives s from (Some k) z es (AreIntegers s from es) (λ ks. AreOf s from es ks) (λ fs. ActualsFit s from es fs) h) (sym says) a
+identifier_gives s from x es d says None None e h a = subst (λ z. NamedGives s from None z es (AreIntegers s from es) (λ ks. AreOf s from es ks) (λ fs. ActualsFit s from es fs) h) (sym says) a
+identifier_gives s from x es d says None (Some q) e h a =
+    subst (λ z. DeclaredGives s (OwnKnown s from x.token.0 z) z es (AreIntegers s from es) (λ fs. ActualsFit s from es fs) (entry_of s.tables z) h) (own_is s q d e).same a
+
+-- it is no place
+attribute_no_place : (s : Source) (Known Indices : Type 0) (es : Expressions) (o : Option Entry) (h : Holds) → is_standard_attribute o ≡ true → PlaceDeclared s Known es Indices o h → ⊥
+attribute_no_place s K I NoMore (Some (entry.Attribute name w result)) h e a = a
+attribute_no_place s K I (Then x xs) (Some (entry.Attribute name w result)) h e a = a
+attribute_no_place s K I es (Some (entry.Variable type)) h e a = false≢true e
+attribute_no_place s K I es (Some (entry.Constant type)) h e a = false≢true e
+attribute_no_place s K I es (Some (entry.Array type n)) h e a = false≢true e
+attribute_no_place s K I es (Some (entry.Procedure result n)) h e a = false≢true e
+attribute_no_place s K I es (Some (entry.Class n)) h e a = false≢true e
+attribute_no_place s K I es (Some (entry.Virtual result own)) h e a = false≢true e
+attribute_no_place s K I es (Some (entry.Formal f)) h e a = false≢true e
+attribute_no_place s K I es (Some (entry.Unspecified w)) h e a = false≢true e
+attribute_no_place s K I es None h e a = false≢true e
+
+identifier_place : (s : Source) (from : Place) (token : ℕ) (es : Expressions) (Indices : Type 0) (d : DeclNo) (c : Option ℕ) (own : Option DeclNo) → own ≡ attribute_if (is_standard_attribute (entry_of s.tables d)) d → (h : Holds)
+    → PlaceDeclared s (KnownHere s from token c own d) es Indices (entry_of s.tables d) h → PlaceDeclared s (KnownAt s from c d) es Indices (entry_of s.tables d) h
+identifier_place s from token es I d (Some k) own e h a = a
+identifier_place s from token es I d None None e h a = a
+identifier_place s from token es I d None (Some q) e h a = absurd (attribute_no_place s (OwnKnown s from token d) I es (entry_of s.tables d) h (own_is s q d e).is a)
+
+pub named_use : (s : Source) (from : Place) (x : Identifier) (es : Expressions) (d : DeclNo) → denoted s x.token.0 ≡ Some (denotation.Declared d) → UseIs s from (syntax.Named x es) x.token.0 d es (KnownHere s from x.token.0 (connection_at s x.token.0) (own_attribute s x.token.0) d)
 unfolding stream_of result_meant
 named_use s from x es d says = record {
   at = refl;
   stream = ap stream_denoted says;
-  value = λ h a. subst (λ z. NamedGives s from (connection_at s x.token.0) z es (AreIntegers s from es) (λ ks. AreOf s from es ks) (λ fs. ActualsFit s from es fs) (Some h)) (sym says) a;
-  call = λ h a left. named_given s from x es h (declared_transfers s x.token.0 d says) (subst (λ z. NamedGives s from (connection_at s x.token.0) z es (AreIntegers s from es) (λ ks. AreOf s from es ks) (λ fs. ActualsFit s from es fs) h) (sym says) a) (ap (denoted_leaves s) says ∙ left);
+  value = λ h a. identifier_gives s from x es d says (connection_at s x.token.0) (own_attribute s x.token.0) (own_declared s x.token.0 d says) (Some h) a;
+  call = λ h a left.
+      named_given s from x es h (declared_transfers s x.token.0 d says) (identifier_gives s from x es d says (connection_at s x.token.0) (own_attribute s x.token.0) (own_declared s x.token.0 d says) h a) (ap (denoted_leaves s) says ∙ left);
   calls = λ result g. named_calls s from x es result g;
   place = λ type a. place from type a;
   unowned = λ none. ap (unless_connected (connection_at s x.token.0)) (no_own s x d es says none) ∙ unconnected_none (connection_at s x.token.0);
 }
   where
-    place : (from : Place) (type : SimType) → PlaceDeclared s (KnownAt s from (connection_at s x.token.0) d) es (AreIntegers s from es) (entry_of s.tables d) (held_by s type) → Varies s from (syntax.Named x es) type
+    place : (from : Place) (type : SimType) → PlaceDeclared s (KnownHere s from x.token.0 (connection_at s x.token.0) (own_attribute s x.token.0) d) es (AreIntegers s from es) (entry_of s.tables d) (held_by s type) → Varies s from (syntax.Named x es) type
     place (InBound t) type a = tt
-    place (In t) type a = subst (λ z. PlaceNamed s t (connection_at s x.token.0) z es (AreIntegers s (In t) es) (held_by s type)) (sym says) a
+    place (In t) type a =
+        subst (λ z. PlaceNamed s t (connection_at s x.token.0) z es (AreIntegers s (In t) es) (held_by s type)) (sym says)
+        (identifier_place s (In t) x.token.0 es (AreIntegers s (In t) es) d (connection_at s x.token.0) (own_attribute s x.token.0) (own_declared s x.token.0 d says) (held_by s type) a)
 
 pub dot_use : (s : Source) (from : Place) (i : ℕ) (b : Expression) (x : Identifier) (es : Expressions) (d : DeclNo) → denoted s x.token.0 ≡ Some (denotation.Declared d) → UseIs s from (syntax.Dot i b x es) i d es (ObjectHas s (λ c. ExprIs s from b (Refers c)) d)
 unfolding stream_of result_meant

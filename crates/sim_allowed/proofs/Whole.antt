@@ -1,5 +1,5 @@
 -- An allowed program is typed, where its tables agree with its texts.
-use Rattle.std.proofs.Common.{◌≡◌, ℕ, suc, false, Option, Some, None, ap}
+use Rattle.std.proofs.Common.{◌≡◌, ℕ, suc, true, false, Option, Some, None, ap}
 use Rattle.std.specs.Prelude.{slice_get}
 use Rattle.std.specs.List.{list_any}
 use Rattle.sim_base.specs.declared.numbering.DeclNo.{DeclNo}
@@ -7,8 +7,9 @@ use Rattle.sim_scope.specs.declared.scopes.Declaration.{Declaration}
 use Rattle.sim_scope.specs.declared.types.Entry.TheVariants as entry
 use Rattle.sim_scope.specs.declared.types.Position.TheVariants.{ClassStatement, Inside}
 use Rattle.sim_scope.specs.declared.types.SimType.{SimType}
+use Rattle.sim_scope.specs.declared.types.StandardClass.{StandardClass}
 use Rattle.sim_scope.specs.Access.{encloser}
-use Rattle.sim_scope.specs.Levels.{has_standard}
+use Rattle.sim_scope.specs.Levels.{has_level, is_simulation_block}
 use Rattle.sim_scope.specs.Scopes.{class_formals, entry_of}
 use Rattle.sim_scope.specs.Source.{Source, level_of}
 use Rattle.sim_scope.specs.Statements.{judging}
@@ -16,13 +17,14 @@ use Rattle.sim_scope.specs.Walk.{program_events}
 use Rattle.sim_tree.specs.declared.expr.Identifier.{Identifier}
 use Rattle.sim_tree.specs.declared.stmt.TypeName.{TypeName}
 use Rattle.sim_tree.specs.Filled.{Filled}
-use Rattle.sim_tree.specs.Syntax.{Declarations, Heading, Statement, Statements, Expressions}
+use Rattle.sim_tree.specs.Syntax.{Declarations, Expressions, Heading, NoDeclaration, NoStatement, Statement, Statements}
 use Rattle.sim_meaning.specs.Attributes.{is_connection}
+use Rattle.sim_values.specs.declared.standard.Standard.{Standard}
 use Rattle.sim_meaning.specs.Closing.{class_parameters}
 use Rattle.sim_meaning.specs.Entries.{formals_of, is_held, numbers_of}
 use Rattle.sim_meaning.specs.Texts.{BlockText, ClassText, ConnectionText, PrefixedText, ProcedureText, StandardText, Text, is_class_free, text}
 use Rattle.sim_sound.specs.Held.{Among, ArrayOf, Holds, IsFormal, entry_holds, result_holds}
-use Rattle.sim_sound.specs.Typed.{BlockTyped, ClassThere, ClassTyped, ConnectionTyped, Distinct, FormalsAre, NoFormals, ProcedureThere, ResultWritten, TextTyped, Typed, arrays_of_block}
+use Rattle.sim_sound.specs.Typed.{BlockTyped, ClassThere, ClassTyped, ConnectionTyped, Distinct, FormalsAre, NoFormals, ProcedureThere, ResultWritten, SetClassThere, SetProcedureThere, Starts, TextTyped, Typed, arrays_of_block}
 use Rattle.sim_agree.specs.Facts.{Tabled}
 use Rattle.sim_agree.specs.Places.{PlacedArrays, PlacedStatement, PlacedStatements}
 use Rattle.sim_agree.specs.Plain.{Plain}
@@ -59,25 +61,26 @@ pub record ClassIs (s : Source) (k : ℕ) (ds : Declarations) (ss : Statements) 
   pub arrays : PlacedArrays s.tables k ds
   pub statements : PlacedStatements s k ss
   pub stays : is_class_free s k ≡ false
-  pub not_standard : has_standard s.tables k ≡ false
+  pub not_simulation : is_simulation_block s.tables k ≡ false
 
 pub record Agreed (s : Source) : Type 0 where
   pub tabled : Tabled s
-  pub begin : ℕ
-  pub declarations : Declarations
-  pub statements : Statements
-  pub starts : text s 0 ≡ Some (BlockText begin declarations statements)
+  pub starts : Starts s
   pub outermost : encloser s.tables 0 ≡ None
   pub levels : (t u : ℕ) → is_connection (text s t) ≡ false → encloser s.tables t ≡ Some u → level_of s t ≡ suc (level_of s u)
-  pub listed : (d : DeclNo) (row : Declaration) → slice_get s.tables.declarations d.0 ≡ Some row → Among d (numbers_of s row.block)
+  pub listed : (d : DeclNo) (row : Declaration) (h : Holds) → slice_get s.tables.declarations d.0 ≡ Some row → entry_holds s true (Some row.entry) ≡ Some h → Among d (numbers_of s row.block)
   pub procedures : (d : DeclNo) (result : Option SimType) (k : ℕ) → entry_of s.tables d ≡ Some (entry.Procedure result k) → ProcedureThere s d k
   pub classes : (d : DeclNo) (k : ℕ) → entry_of s.tables d ≡ Some (entry.Class k) → ClassThere s d k
+  pub set_classes : (k : ℕ) (which : StandardClass) → text s k ≡ Some (StandardText which) → SetClassThere s k which
+  pub set_procedures : (d : DeclNo) (name : Standard) (parameter result : Option SimType) → entry_of s.tables d ≡ Some (entry.Attribute name parameter result) → SetProcedureThere s d name parameter result
   pub blocks : (k i : ℕ) (ds : Declarations) (ss : Statements) → text s k ≡ Some (BlockText i ds ss) → BlockIs s k ds ss
   pub bodies : (k : ℕ) (result : Option TypeName) (h : Heading) (a : Statement) → text s k ≡ Some (ProcedureText result h a) → ProcedureIs s k result a
   pub class_bodies : (k : ℕ) (prefix : Option Identifier) (h : Heading) (ds : Declarations) (ss : Statements) → text s k ≡ Some (ClassText prefix h ds ss) → ClassIs s k ds ss
   pub prefixed_bodies : (k : ℕ) (class : Identifier) (es : Expressions) (ds : Declarations) (ss : Statements) → text s k ≡ Some (PrefixedText class es ds ss) → ClassIs s k ds ss
+  pub standard_bodies : (k : ℕ) (which : StandardClass) → text s k ≡ Some (StandardText which) → ClassIs s k NoDeclaration NoStatement
   pub connections : (k : ℕ) → text s k ≡ Some ConnectionText → ConnectionTyped s k
   pub not_class_free : (t u : ℕ) → encloser s.tables t ≡ Some u → is_class_free s t ≡ false → is_class_free s u ≡ false
+  pub no_set_block : (k u : ℕ) (which : StandardClass) (class : Identifier) (es : Expressions) (ds : Declarations) (ss : Statements) → text s k ≡ Some (PrefixedText class es ds ss) → has_level s.tables k u ≡ true → text s u ≡ Some (StandardText which) → ⊥
   pub keeps_none : (k : ℕ) (result : Option TypeName) (h : Heading) (a : Statement) → text s k ≡ Some (ProcedureText result h a) → is_class_free s k ≡ false → list_any is_held (formals_of s k) ≡ false
 
 module _ (s : Source) (agreed : Agreed s) (plain : Plain s.program) (filled : Filled s.program) (said : AllSay s (program_events (judging s.tables) s.program)) where
@@ -109,7 +112,7 @@ module _ (s : Source) (agreed : Agreed s) (plain : Plain s.program) (filled : Fi
         own = b.own;
         statements = statements_typed s agreed.tabled k q ss no_body fine.1.0 b.statements fine.1.1 fine.1.2;
         stays = b.stays;
-        not_standard = b.not_standard;
+        not_simulation = b.not_simulation;
       }
 
   texts_typed : (k : ℕ) (x : Text) → text s k ≡ Some x → TextTyped s k x
@@ -121,13 +124,10 @@ module _ (s : Source) (agreed : Agreed s) (plain : Plain s.program) (filled : Fi
   texts_typed k (ClassText prefix h ds ss) at = class_typed k ClassStatement tt ds ss (ap is_connection at) (fine_text k (ClassText prefix h ds ss) at) (agreed.class_bodies k prefix h ds ss at)
   texts_typed k ConnectionText at = agreed.connections k at
   texts_typed k (PrefixedText class es ds ss) at = class_typed k Inside tt ds ss (ap is_connection at) (fine_text k (PrefixedText class es ds ss) at) (agreed.prefixed_bodies k class es ds ss at)
-  texts_typed k (StandardText which) at = absurd (fine_text k (StandardText which) at)
+  texts_typed k (StandardText which) at = class_typed k Inside tt NoDeclaration NoStatement (ap is_connection at) ((tt, tt, tt), (tt, tt, tt), tt) (agreed.standard_bodies k which at)
 
   pub said_typed : Typed s
   said_typed = let tabled = agreed.tabled in record {
-    begin = agreed.begin;
-    declarations = agreed.declarations;
-    statements = agreed.statements;
     starts = agreed.starts;
     some_block = tabled.some_block;
     outermost = agreed.outermost;
@@ -135,8 +135,11 @@ module _ (s : Source) (agreed : Agreed s) (plain : Plain s.program) (filled : Fi
     listed = agreed.listed;
     procedures = agreed.procedures;
     classes = agreed.classes;
+    set_classes = agreed.set_classes;
+    set_procedures = λ d name parameter result e set. agreed.set_procedures d name parameter result e;
     texts = texts_typed;
     not_class_free = agreed.not_class_free;
     prefixes = tabled.prefixes;
+    no_set_block = agreed.no_set_block;
     keeps_none = agreed.keeps_none;
   }

@@ -152,6 +152,7 @@ module _ (s : Source) (ok : Typed s) (laid : Laid s) where
     levels = λ t u e c. ok.levels t u (sym (laid.connected t) ∙ c) e;
     same_level = same_level;
     begun = λ k c. (connection_typed k c).around;
+    prefixed = laid.prefixed;
     prefixes = front_there;
     ends = all_end;
     owned = λ k n d e. laid.owned k d (among_at (numbers_of s k) n d e);

@@ -1,5 +1,5 @@
 -- What is declared and known is built: seen in a text around, or an attribute of an object.
-use Rattle.std.proofs.Common.{◌≡◌, ℕ, Bool, true, false, List, Option, Some, None, sym, ap, subst}
+use Rattle.std.proofs.Common.{◌≡◌, ℕ, Bool, true, false, List, length, Option, Some, None, sym, ap, subst}
 use Rattle.sim_base.specs.declared.numbering.DeclNo.{DeclNo}
 use Rattle.sim_scope.specs.declared.types.Entry.{Entry}
 use Rattle.sim_scope.specs.declared.types.Entry.TheVariants as entry
@@ -12,20 +12,23 @@ use Rattle.sim_scope.specs.declared.types.SimType.{SimType}
 use Rattle.sim_scope.specs.Scopes.{entry_of}
 use Rattle.sim_scope.specs.Source.{Source, block_of}
 use Rattle.sim_tree.specs.Syntax.{Expressions, NoMore, Then}
-use Rattle.sim_meaning.specs.Attributes.{is_connection}
-use Rattle.sim_meaning.specs.Closing.{formals_at}
+use Rattle.sim_values.specs.declared.standard.Standard.{Standard}
+use Rattle.sim_meaning.specs.Attributes.{attribute_formals, is_connection, is_standard_attribute}
+use Rattle.sim_meaning.specs.Closing.{formals_at, formals_declared}
 use Rattle.sim_meaning.specs.Entries.{formals_of}
 use Rattle.sim_meaning.specs.Pending.{Declared}
 use Rattle.sim_meaning.specs.Texts.{constant_of, kind_of_type, text}
 use Rattle.sim_sound.specs.Held.{ArrayOf, Holds, Simply, entry_holds, formal_holds, held_by}
-use Rattle.sim_sound.specs.Expressions.{ArrayNames, ConstantNames, DeclaredGives, HeldNames}
+use Rattle.sim_sound.specs.Expressions.{ArrayNames, ConstantNames, DeclaredGives, HeldNames, SetGives}
 use Rattle.sim_sound.specs.Statements.{LeftHeld, PlaceDeclared}
 use Rattle.sim_sound.specs.Typed.{Typed}
 use Rattle.sim_sound.proofs.Closing.{formals_same}
 use Rattle.codegen_expr.specs.Built.{AreBuilt, ArrayBuilt, ArrayOfBuilt, ArrayPlaceBuilt, ArrayPlaceOfBuilt, CellBuilt, ConstantBuilt, ConstantOfBuilt, DeclaredBuilt, DeclaredPlaceBuilt, FormalBuilt, FormalPlaceBuilt, HasBuilt, OfObjectBuilt, ParameterOfBuilt, ParameterPlaceOfBuilt, PlaceOfObjectBuilt, StandsIn, VariableBuilt, VariableOfBuilt}
+use Rattle.codegen_expr.specs.CodeExpr.{SetNamed, operands}
 use Rattle.sim_built.specs.Laid.{Laid}
 use Rattle.sim_built.proofs.Cells.{constant_built, declared_has}
 use Rattle.sim_built.proofs.Lists.{Alone, Indexed, left_alone, left_indexed, left_none, names_alone, no_array}
+use Rattle.sim_built.proofs.SetNames.{set_named}
 
 constant_is_built : (s : Source) (Known : Type 0) (d : DeclNo) (es : Expressions) (h : Holds) → ConstantNames s Known d es h → ConstantBuilt (constant_of s d) es
 constant_is_built s Known d NoMore h a = subst (λ z. ConstantBuilt z NoMore) (sym a.1) (constant_built s d a.0 a.1)
@@ -81,19 +84,21 @@ module _ (s : Source) (ok : Typed s) (laid : Laid s) (t : ℕ) (d : DeclNo) (Kno
     formal_place_built mode.ByReference shape.Array (Some ty) h e a = element_built (held_by s ty) e (left_indexed s Known Indices es (held_by s ty) h a)
     formal_place_built _ _ _ h e a = absurd (left_none s Known Indices es h a)
 
-    pub declared_built : (Actuals Given : List Formal → Type 0) (y : Option Entry) (h : Option Holds) → entry_of s.tables d ≡ y → ((fs : List Formal) → Actuals fs → Given fs) → DeclaredGives s Known d es Indices Actuals y h → DeclaredBuilt s t d y es (AreBuilt s t es) Given
-    declared_built Actuals Given (Some (entry.Procedure result k)) h e g a = (seen a.1, subst Given (sym (formals_same s d result k e)) (g (formals_of s k) a.2))
-    declared_built Actuals Given None h e g a = absurd a
-    declared_built Actuals Given (Some (entry.Variable ty)) None e g a = absurd a
-    declared_built Actuals Given (Some (entry.Variable ty)) (Some h) e g a = variable_built (held_by s ty) (ap (entry_holds s false) e) (names_alone s Known Indices es (held_by s ty) h (no_array s ty) a)
-    declared_built Actuals Given (Some (entry.Constant ty)) None e g a = absurd a
-    declared_built Actuals Given (Some (entry.Constant ty)) (Some h) e g a = constant_is_built s Known d es h a
-    declared_built Actuals Given (Some (entry.Array ty n)) None e g a = absurd a
-    declared_built Actuals Given (Some (entry.Array ty n)) (Some h) e g a = array_built (held_by s ty) h (ap (entry_holds s false) e) a
-    declared_built Actuals Given (Some (entry.Formal f)) None e g a = absurd a
-    declared_built Actuals Given (Some (entry.Formal f)) (Some h) e g a = formal_built f.mode f.kind f.ty h (ap (entry_holds s false) e) a
-    declared_built Actuals Given (Some _) None e g a = absurd a
-    declared_built Actuals Given (Some _) (Some h) e g a = absurd a
+    -- no procedure of SIMSET, which is one of the object around
+    pub declared_built : (Actuals Given : List Formal → Type 0) (y : Option Entry) (h : Option Holds) → entry_of s.tables d ≡ y → is_standard_attribute y ≡ false → ((fs : List Formal) → Actuals fs → Given fs) → DeclaredGives s Known d es Indices Actuals y h → DeclaredBuilt s t d y es (AreBuilt s t es) Given
+    declared_built Actuals Given (Some (entry.Procedure result k)) h e o g a = (seen a.1, subst Given (sym (formals_same s d result k e)) (g (formals_of s k) a.2))
+    declared_built Actuals Given (Some (entry.Attribute name parameter result)) h e o g a = absurd (cc)
+    declared_built Actuals Given None h e o g a = absurd a
+    declared_built Actuals Given (Some (entry.Variable ty)) None e o g a = absurd a
+    declared_built Actuals Given (Some (entry.Variable ty)) (Some h) e o g a = variable_built (held_by s ty) (ap (entry_holds s false) e) (names_alone s Known Indices es (held_by s ty) h (no_array s ty) a)
+    declared_built Actuals Given (Some (entry.Constant ty)) None e o g a = absurd a
+    declared_built Actuals Given (Some (entry.Constant ty)) (Some h) e o g a = constant_is_built s Known d es h a
+    declared_built Actuals Given (Some (entry.Array ty n)) None e o g a = absurd a
+    declared_built Actuals Given (Some (entry.Array ty n)) (Some h) e o g a = array_built (held_by s ty) h (ap (entry_holds s false) e) a
+    declared_built Actuals Given (Some (entry.Formal f)) None e o g a = absurd a
+    declared_built Actuals Given (Some (entry.Formal f)) (Some h) e o g a = formal_built f.mode f.kind f.ty h (ap (entry_holds s false) e) a
+    declared_built Actuals Given (Some _) None e o g a = absurd a
+    declared_built Actuals Given (Some _) (Some h) e o g a = absurd a
 
     pub declared_place_built : (y : Option Entry) (h : Holds) → entry_of s.tables d ≡ y → PlaceDeclared s Known es Indices y h → DeclaredPlaceBuilt s t d y es (AreBuilt s t es)
     declared_place_built (Some (entry.Variable ty)) h e a = variable_built (held_by s ty) (ap (entry_holds s false) e) (left_alone s Known Indices es (held_by s ty) h (no_array s ty) a)
@@ -145,19 +150,30 @@ module _ (s : Source) (ok : Typed s) (laid : Laid s) (t : ℕ) (d : DeclNo) (Kno
     parameter_place_of mode.ByReference shape.Array (Some ty) h e a = element_of (held_by s ty) e (left_indexed s Known Indices es (held_by s ty) h a)
     parameter_place_of _ _ _ h e a = absurd (left_none s Known Indices es h a)
 
-    pub of_object_built : (Actuals Given : List Formal → Type 0) (y : Option Entry) (h : Option Holds) → entry_of s.tables d ≡ y → ((fs : List Formal) → Actuals fs → Given fs) → DeclaredGives s Known d es Indices Actuals y h → OfObjectBuilt s d y es Object (AreBuilt s t es) (Given (formals_at s d))
-    of_object_built Actuals Given (Some (entry.Procedure result k)) h e g a = (object a.1, subst Given (sym (formals_same s d result k e)) (g (formals_of s k) a.2))
-    of_object_built Actuals Given None h e g a = absurd a
-    of_object_built Actuals Given (Some (entry.Variable ty)) None e g a = absurd a
-    of_object_built Actuals Given (Some (entry.Variable ty)) (Some h) e g a = variable_of (held_by s ty) (ap (entry_holds s false) e) (names_alone s Known Indices es (held_by s ty) h (no_array s ty) a)
-    of_object_built Actuals Given (Some (entry.Constant ty)) None e g a = absurd a
-    of_object_built Actuals Given (Some (entry.Constant ty)) (Some h) e g a = constant_of_object ty h e a
-    of_object_built Actuals Given (Some (entry.Array ty n)) None e g a = absurd a
-    of_object_built Actuals Given (Some (entry.Array ty n)) (Some h) e g a = array_of (held_by s ty) h (ap (entry_holds s false) e) a
-    of_object_built Actuals Given (Some (entry.Formal f)) None e g a = absurd a
-    of_object_built Actuals Given (Some (entry.Formal f)) (Some h) e g a = parameter_of f.mode f.kind f.ty h (ap (entry_holds s false) e) a
-    of_object_built Actuals Given (Some _) None e g a = absurd a
-    of_object_built Actuals Given (Some _) (Some h) e g a = absurd a
+    -- a procedure of SIMSET, with its actual parameter, if it takes one
+    set_procedure_built : (Actuals Given : List Formal → Type 0) (name : Standard) (parameter result : Option SimType) (h : Option Holds) → entry_of s.tables d ≡ Some (entry.Attribute name parameter result) → ((fs : List Formal) → Actuals fs → Given fs) → ((fs : List Formal) → Actuals fs → operands es ≡ length fs) → SetGives s Known name parameter result Actuals h
+        → Object × SetNamed name result (operands es) × Given (formals_at s d)
+    set_procedure_built Actuals Given name parameter result h e g n a =
+        let there = ok.set_procedures d name parameter result e a.0 in (
+          object a.2,
+          set_named s name parameter result there.linkage es a.0 (n (attribute_formals parameter) a.3) there.parameter_is there.result_is,
+          subst Given (sym (ap (formals_declared s d) e)) (g (attribute_formals parameter) a.3),
+        )
+
+    pub of_object_built : (Actuals Given : List Formal → Type 0) (y : Option Entry) (h : Option Holds) → entry_of s.tables d ≡ y → ((fs : List Formal) → Actuals fs → Given fs) → ((fs : List Formal) → Actuals fs → operands es ≡ length fs) → DeclaredGives s Known d es Indices Actuals y h → OfObjectBuilt s d y es Object (AreBuilt s t es) (Given (formals_at s d))
+    of_object_built Actuals Given (Some (entry.Procedure result k)) h e g n a = (object a.1, subst Given (sym (formals_same s d result k e)) (g (formals_of s k) a.2))
+    of_object_built Actuals Given (Some (entry.Attribute name parameter result)) h e g n a = set_procedure_built Actuals Given name parameter result h e g n a
+    of_object_built Actuals Given None h e g n a = absurd a
+    of_object_built Actuals Given (Some (entry.Variable ty)) None e g n a = absurd a
+    of_object_built Actuals Given (Some (entry.Variable ty)) (Some h) e g n a = variable_of (held_by s ty) (ap (entry_holds s false) e) (names_alone s Known Indices es (held_by s ty) h (no_array s ty) a)
+    of_object_built Actuals Given (Some (entry.Constant ty)) None e g n a = absurd a
+    of_object_built Actuals Given (Some (entry.Constant ty)) (Some h) e g n a = constant_of_object ty h e a
+    of_object_built Actuals Given (Some (entry.Array ty m)) None e g n a = absurd a
+    of_object_built Actuals Given (Some (entry.Array ty m)) (Some h) e g n a = array_of (held_by s ty) h (ap (entry_holds s false) e) a
+    of_object_built Actuals Given (Some (entry.Formal f)) None e g n a = absurd a
+    of_object_built Actuals Given (Some (entry.Formal f)) (Some h) e g n a = parameter_of f.mode f.kind f.ty h (ap (entry_holds s false) e) a
+    of_object_built Actuals Given (Some _) None e g n a = absurd a
+    of_object_built Actuals Given (Some _) (Some h) e g n a = absurd a
 
     pub place_of_built : (y : Option Entry) (h : Holds) → entry_of s.tables d ≡ y → PlaceDeclared s Known es Indices y h → PlaceOfObjectBuilt s d y es Object (AreBuilt s t es)
     place_of_built (Some (entry.Variable ty)) h e a = variable_of (held_by s ty) (ap (entry_holds s false) e) (left_alone s Known Indices es (held_by s ty) h (no_array s ty) a)

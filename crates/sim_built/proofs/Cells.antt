@@ -275,8 +275,8 @@ module _ (s : Source) (ok : Typed s) (laid : Laid s) where
   key_in_text u d h c (ProcedureText result g b) solid typed e a = behind_result result (Declared d.0) (cells_from s (numbers_of s u)) (listed_key s (numbers_of s u) d c h e a)
   key_in_text u d h c (ClassText prefix g ds ss) solid typed e a = listed_key s (numbers_of s u) d c h e a
   key_in_text u d h c (PrefixedText class es ds ss) solid typed e a = listed_key s (numbers_of s u) d c h e a
+  key_in_text u d h c (texts.StandardText which) solid typed e a = listed_key s (numbers_of s u) d c h e a
   key_in_text u d h c ConnectionText solid typed e a = absurd (cc)
-  key_in_text u d h c _ solid typed e a = absurd typed
 
   -- what is declared in a text has a cell in it
   pub slot_listed : (u : ℕ) (d : DeclNo) (h : Holds) (c : Bool) → is_connection (text s u) ≡ false → entry_holds s c (entry_of s.tables d) ≡ Some h → Among d (numbers_of s u) → is_there (slot_in s u (Declared d.0)) ≡ true
@@ -300,11 +300,7 @@ module _ (s : Source) (ok : Typed s) (laid : Laid s) where
   result_typed d type k e = result_has d (Some type) k (held_by s type) e (holds_result s ok d (Some type) k e)
 
   among_held : (d : DeclNo) (h : Holds) (c : Bool) → entry_holds s c (entry_of s.tables d) ≡ Some h → Among d (numbers_of s (block_of s d))
-  among_held d h c e = by_entry (entry_of s.tables d) refl e
-    where
-      by_entry : (y : Option Entry) → entry_of s.tables d ≡ y → entry_holds s c y ≡ Some h → Among d (numbers_of s (block_of s d))
-      by_entry None is f = absurd (cc)
-      by_entry (Some y) is f = among_block s ok d y is
+  among_held d h c e = among_block s ok d c h e
 
   -- what holds something has a cell where it is declared
   pub declared_has : (d : DeclNo) (h : Holds) (c : Bool) → is_connection (text s (block_of s d)) ≡ false → entry_holds s c (entry_of s.tables d) ≡ Some h → HasBuilt s (block_of s d) (Declared d.0)

@@ -22,17 +22,18 @@ use Rattle.sim_values.specs.declared.kind.Kind.TheVariants as kind
 use Rattle.sim_values.specs.declared.standard.Standard.{Standard}
 use Rattle.sim_values.specs.declared.standard.StandardType.{StandardType}
 use Rattle.sim_values.specs.Standard.{is_image, moves_position, on_image, operands_of, row_of}
-use Rattle.sim_meaning.specs.Attributes.{connection_at, is_connection}
-use Rattle.sim_meaning.specs.Closing.{class_parameters, is_attribute, is_attribute_denoted, is_image_behind, is_variable, is_variable_denoted, stream_of}
+use Rattle.sim_meaning.specs.Attributes.{attribute_denoted, attribute_if, connection_at, is_connection, is_standard_attribute, own_attribute}
+use Rattle.sim_meaning.specs.Closing.{class_parameters, formals_at, is_attribute, is_attribute_denoted, is_image_behind, is_variable, is_variable_denoted, is_variable_entry, stream_of}
 use Rattle.sim_meaning.specs.Levels.{class_at, class_denoted, class_text, has_levels, is_class}
 use Rattle.sim_meaning.specs.Names.{procedure_named}
 use Rattle.sim_meaning.specs.Statements.{has_value, standard_leaves}
 use Rattle.sim_meaning.specs.Texts.{text}
 use Rattle.sim_sound.specs.Held.{ArrayOf, Holds, Place, Refers, Sees, SeesConnected, Simply, StandsAround, held_by}
-use Rattle.sim_sound.specs.Expressions.{ActualFits, ActualsFit, AreIntegers, AreOf, AttributeGives, ClassNamed, DeclaredGives, DotGives, ExprIs, Generates, LiteralIs, NameGives, NamedGives, ObjectHas, OfText, StandardGives, ThisFound, ThisIs, passed, some_holds, standard_kind}
+use Rattle.sim_sound.specs.Expressions.{ActualFits, ActualsFit, AreIntegers, AreOf, AttributeGives, ClassNamed, DeclaredGives, DotGives, ExprIs, Generates, IdentifierGives, LiteralIs, NameGives, NamedGives, ObjectHas, OfText, OwnKnown, StandardGives, ThisFound, ThisIs, passed, some_holds, standard_kind}
 use Rattle.sim_sound.specs.Statements.{is_given}
 use Rattle.sim_sound.specs.Typed.{Typed}
-use Rattle.codegen_expr.specs.Built.{ActualBuilt, ActualsBuilt, AreBuilt, AttributeBuilt, ClassBuilt, ConnectedBuilt, ConnectedNameBuilt, ConstantBuilt, DotBuilt, GenerationBuilt, ImageNameBuilt, IsBuilt, LiteralBuilt, NameBuilt, NamedBuilt, NamedPlaceBuilt, NothingMore, ObjectBuilt, PlaceBehindBuilt, PlaceBuilt, StandardBuilt, StandsIn, StreamBuilt, ThisFoundBuilt, ThisOfBuilt, ThroughBuilt}
+use Rattle.sim_sound.proofs.Calls.{not_own, own_denoted, own_is_attribute}
+use Rattle.codegen_expr.specs.Built.{ActualBuilt, ActualsBuilt, AreBuilt, AttributeBuilt, ClassBuilt, ConnectedBuilt, ConnectedNameBuilt, ConstantBuilt, DotBuilt, GenerationBuilt, ImageNameBuilt, IsBuilt, LiteralBuilt, NameBuilt, NamedBuilt, NamedPlaceBuilt, NothingMore, ObjectBuilt, OfObjectBuilt, OwnBuilt, PlaceBehindBuilt, PlaceBuilt, StandardBuilt, StandsIn, StreamBuilt, ThisFoundBuilt, ThisOfBuilt, ThroughBuilt}
 use Rattle.codegen_expr.specs.CodeExpr.{gives, gives_entry, operands}
 use Rattle.sim_built.specs.Laid.{Laid}
 use Rattle.sim_built.proofs.Attributes.{declared_built, declared_place_built, of_object_built, place_of_built}
@@ -60,19 +61,30 @@ declared_gives s Known d es Indices Actuals (Some (entry.Procedure None k)) None
 declared_gives s Known d es Indices Actuals (Some (entry.Procedure None k)) (Some h) a = absurd a.0
 declared_gives s Known d es Indices Actuals (Some (entry.Procedure (Some t) k)) None a = absurd a.0
 declared_gives s Known d es Indices Actuals (Some (entry.Procedure (Some t) k)) (Some h) a = refl
+declared_gives s Known d es Indices Actuals (Some (entry.Attribute name parameter None)) None a = refl
+declared_gives s Known d es Indices Actuals (Some (entry.Attribute name parameter None)) (Some h) a = absurd a.1
+declared_gives s Known d es Indices Actuals (Some (entry.Attribute name parameter (Some t))) None a = absurd a.1
+declared_gives s Known d es Indices Actuals (Some (entry.Attribute name parameter (Some t))) (Some h) a = refl
 declared_gives s Known d es Indices Actuals None h a = absurd a
 declared_gives s Known d es Indices Actuals (Some (entry.Constant t)) None a = absurd a
 declared_gives s Known d es Indices Actuals (Some (entry.Constant t)) (Some h) a = refl
 declared_gives s Known d es Indices Actuals (Some _) None a = absurd a
 declared_gives s Known d es Indices Actuals (Some _) (Some h) a = refl
 
-pub named_gives : (s : Source) (from : Place) (c : Option ℕ) (x : Option Denotation) (es : Expressions) (Indices : Type 0) (Operands : List Kind → Type 0) (Actuals : List Formal → Type 0) (h : Option Holds) → NamedGives s from c x es Indices Operands Actuals h → gives s x ≡ is_given h
+named_gives : (s : Source) (from : Place) (c : Option ℕ) (x : Option Denotation) (es : Expressions) (Indices : Type 0) (Operands : List Kind → Type 0) (Actuals : List Formal → Type 0) (h : Option Holds) → NamedGives s from c x es Indices Operands Actuals h → gives s x ≡ is_given h
 named_gives s from None None es Indices Operands Actuals h a = absurd a
 named_gives s from (Some k) None es Indices Operands Actuals h a = absurd a
 named_gives s from None (Some (denotation.Declared d)) es Indices Operands Actuals h a = declared_gives s (Sees s from d) d es Indices Actuals (entry_of s.tables d) h a
 named_gives s from (Some k) (Some (denotation.Declared d)) es Indices Operands Actuals h a = declared_gives s (SeesConnected s from k d) d es Indices Actuals (entry_of s.tables d) h a
 named_gives s from None (Some (denotation.Standard n)) es Indices Operands Actuals h a = standard_gives (procedure_named n) Operands h a
 named_gives s from (Some k) (Some (denotation.Standard n)) es Indices Operands Actuals h a = absurd a
+
+-- an identifier, which may be a procedure of SIMSET of the object around
+pub identifier_gives : (s : Source) (from : Place) (token : ℕ) (c : Option ℕ) (own : Option DeclNo) (es : Expressions) (Indices : Type 0) (Operands : List Kind → Type 0) (Actuals : List Formal → Type 0) (h : Option Holds) → own_attribute s token ≡ own → IdentifierGives s from token c own es Indices Operands Actuals h → gives s (denoted s token) ≡ is_given h
+identifier_gives s from token None None es Indices Operands Actuals h e a = named_gives s from None (denoted s token) es Indices Operands Actuals h a
+identifier_gives s from token (Some k) own es Indices Operands Actuals h e a = named_gives s from (Some k) (denoted s token) es Indices Operands Actuals h a
+identifier_gives s from token None (Some d) es Indices Operands Actuals h e a =
+    ap (gives s) (own_denoted s token d e) ∙ declared_gives s (OwnKnown s from token d) d es Indices Actuals (entry_of s.tables d) h a
 
 attribute_gives : (n : Option Standard) (Object : Type 0) (Operands : List Kind → Type 0) (h : Option Holds) → AttributeGives n Object Operands h → standard_leaves n ≡ is_given h
 attribute_gives None Object Operands h a = absurd a
@@ -119,9 +131,31 @@ counted s from NoMore (k ∷ ks) a = absurd a
 counted s from (Then e es) [] a = absurd a
 counted s from (Then e es) (k ∷ ks) a = ap suc (counted s from es ks a.1)
 
+-- as many actual parameters as formal ones
+pub fitted : (s : Source) (from : Place) (es : Expressions) (fs : List Formal) → ActualsFit s from es fs → operands es ≡ length fs
+fitted s from NoMore [] a = refl
+fitted s from NoMore (f ∷ fs) a = absurd a
+fitted s from (Then e es) [] a = absurd a
+fitted s from (Then e es) (f ∷ fs) a = ap suc (fitted s from es fs a.1)
+
 nothing_more : (s : Source) (from : Place) (es : Expressions) → AreOf s from es [] → NothingMore es
 nothing_more s from NoMore a = tt
 nothing_more s from (Then e es) a = absurd a
+
+-- ---- procedures of SIMSET
+
+not_attribute : (b : Bool) (d : DeclNo) → attribute_if b d ≡ None → b ≡ false
+not_attribute false d e = refl
+not_attribute true d e = absurd (cc)
+
+-- such a procedure is no variable
+own_no_variable : (y : Option Entry) (es : Expressions) → is_standard_attribute y ≡ true → is_variable_entry y es ≡ true → ⊥
+own_no_variable (Some (entry.Attribute n parameter result)) es f v = cc
+own_no_variable None es f v = cc
+own_no_variable (Some (entry.Variable ty)) es f v = cc
+own_no_variable (Some (entry.Array ty n)) es f v = cc
+own_no_variable (Some (entry.Formal g)) es f v = cc
+own_no_variable (Some _) es f v = cc
 
 -- ---- classes
 
@@ -131,11 +165,8 @@ named_class s token c = subst ClassBuilt (sym c.is) tt
 -- a class that is declared is denoted as that
 class_there : (s : Source) → Typed s → (d : DeclNo) (k : ℕ) → entry_of s.tables d ≡ Some (entry.Class k) → class_text s (class_block s.tables d) ≡ Some k
 unfolding class_block entry_of
-class_there s ok d k e = ap (λ z. class_text s (class_block_in z)) e ∙ is_text (is_class (text s k)) (is_there)
+class_there s ok d k e = ap (λ z. class_text s (class_block_in z)) e ∙ is_text (is_class (text s k)) (ok.classes d k e).is
   where
-    is_there : is_class (text s k) ≡ true
-    is_there = let c = ok.classes d k e in ap is_class c.is
-
     is_text : (b : Bool) → b ≡ true → (if b then Some k else None) ≡ Some k
     is_text true e = refl
     is_text false e = absurd (cc)
@@ -152,15 +183,24 @@ module _ (s : Source) (ok : Typed s) (laid : Laid s) (t : ℕ) (from : Place) (s
   pub object_solid : (Object : ℕ → Type 0) (d : DeclNo) → ObjectHas s Object d → is_connection (text s (block_of s d)) ≡ false
   object_solid Object d a = level_solid s ok laid a.0 (block_of s d) (class_is_solid (text s a.0) a.1) a.2
 
+  this_of : (k : ℕ) (connection levels : Bool) (h : Holds) → is_connection (text s k) ≡ connection → ThisIs s from connection levels k h → ThisOfBuilt s t k connection
+  this_of k true levels h e a = record { has = connection_has s ok laid k e; inside = stands.around k a.0 }
+  this_of k false true h e a = stands.around k a.0
+  this_of k false false h e a = absurd a
+
+  pub this_built : (found : Option ℕ) (h : Holds) → ThisFound s from found h → ThisFoundBuilt s t found
+  this_built None h a = absurd a
+  this_built (Some k) h a = this_of k (is_connection (text s k)) (has_levels (text s k)) h refl a
+
   -- ---- standard names
 
   behind_text : (es : Expressions) (n : Standard) (h : Option Holds) → OfText n (λ ks. AreOf s from es ks) h → NameBuilt n (suc (operands es))
-  behind_text es n h a = record { runs = (a.0).0; as_many = ap suc (counted s from es a.1 a.3) ∙ sym (ap length a.2) }
+  behind_text es n h a = record { runs = ((a.0).0).0; as_many = ap suc (counted s from es a.1 a.3) ∙ sym (ap length a.2) }
 
   name_built : (es : Expressions) (Built : Type 0) (image : Bool) (on : Option Standard) (n : Standard) (h : Option Holds) → ((ks : List Kind) → AreOf s from es ks → Built) → NameGives image on n (λ ks. AreOf s from es ks) h → ImageNameBuilt image on n es Built
   name_built es Built true on n h f a = nothing_more s from es a.1
   name_built es Built false (Some m) n h f a = (behind_text es m h a, f a.1 a.3)
-  name_built es Built false None n h f a = (record { runs = (a.0).0; as_many = counted s from es (operands_of (row_of n).function) a.1 }, f (operands_of (row_of n).function) a.1)
+  name_built es Built false None n h f a = (record { runs = ((a.0).0).0; as_many = counted s from es (operands_of (row_of n).function) a.1 }, f (operands_of (row_of n).function) a.1)
 
   standard_built : (es : Expressions) (Built : Type 0) (n : Option Standard) (h : Option Holds) → ((ks : List Kind) → AreOf s from es ks → Built) → StandardGives n (λ ks. AreOf s from es ks) h → StandardBuilt n es Built
   standard_built es Built None h f a = absurd a
@@ -181,21 +221,31 @@ module _ (s : Source) (ok : Typed s) (laid : Laid s) (t : ℕ) (from : Place) (s
 
   -- ---- identifiers, with their operands
 
-  module _ (es : Expressions) (integers : AreIntegers s from es → AreBuilt s t es) (operand : (ks : List Kind) → AreOf s from es ks → AreBuilt s t es) (Actuals Given : List Formal → Type 0) (given : (fs : List Formal) → Actuals fs → Given fs) where
-    pub named_built : (c : Option ℕ) (x : Option Denotation) (h : Option Holds) → NamedGives s from c x es (AreIntegers s from es) (λ ks. AreOf s from es ks) Actuals h → ThroughBuilt c (λ k. ConnectedNameBuilt s t k x es (AreBuilt s t es) Given) (NamedBuilt s t x es (AreBuilt s t es) Given)
-    named_built None None h a = absurd a
-    named_built (Some k) None h a = absurd a
-    named_built None (Some (denotation.Declared d)) h a =
-        declared_built s ok laid t d (Sees s from d) (λ z. stands.solid d z) es (AreIntegers s from es) integers (λ z. stands.seen d z) Actuals Given (entry_of s.tables d) h refl given a
-    named_built (Some k) (Some (denotation.Declared d)) h a =
-        of_object_built s ok laid t d (SeesConnected s from k d) (λ z. stands.behind k d z) es (AreIntegers s from es) integers (ConnectedBuilt s t k) (λ z. stands.connected k d z) Actuals Given (entry_of s.tables d) h refl given a
-    named_built None (Some (denotation.Standard n)) h a = standard_built es (AreBuilt s t es) (procedure_named n) h operand a
-    named_built (Some k) (Some (denotation.Standard n)) h a = absurd a
+  module _ (es : Expressions) (integers : AreIntegers s from es → AreBuilt s t es) (operand : (ks : List Kind) → AreOf s from es ks → AreBuilt s t es) (Actuals Given : List Formal → Type 0) (given : (fs : List Formal) → Actuals fs → Given fs) (count : (fs : List Formal) → Actuals fs → operands es ≡ length fs) where
+    named_built : (x : Option Denotation) (h : Option Holds) → attribute_denoted s x ≡ None → NamedGives s from None x es (AreIntegers s from es) (λ ks. AreOf s from es ks) Actuals h → NamedBuilt s t x es (AreBuilt s t es) Given
+    named_built None h o a = absurd a
+    named_built (Some (denotation.Declared d)) h o a =
+        declared_built s ok laid t d (Sees s from d) (λ z. stands.solid d z) es (AreIntegers s from es) integers (λ z. stands.seen d z) Actuals Given (entry_of s.tables d) h refl (not_attribute (is_standard_attribute (entry_of s.tables d)) d o) given a
+    named_built (Some (denotation.Standard n)) h o a = standard_built es (AreBuilt s t es) (procedure_named n) h operand a
+
+    connected_name_built : (k : ℕ) (x : Option Denotation) (h : Option Holds) → NamedGives s from (Some k) x es (AreIntegers s from es) (λ ks. AreOf s from es ks) Actuals h → ConnectedNameBuilt s t k x es (AreBuilt s t es) Given
+    connected_name_built k None h a = absurd a
+    connected_name_built k (Some (denotation.Declared d)) h a =
+        of_object_built s ok laid t d (SeesConnected s from k d) (λ z. stands.behind k d z) es (AreIntegers s from es) integers (ConnectedBuilt s t k) (λ z. stands.connected k d z) Actuals Given (entry_of s.tables d) h refl given count a
+    connected_name_built k (Some (denotation.Standard n)) h a = absurd a
+
+    -- an identifier, which may be a procedure of SIMSET of the object around
+    pub identifier_built : (token : ℕ) (c : Option ℕ) (own : Option DeclNo) (h : Option Holds) → own_attribute s token ≡ own → IdentifierGives s from token c own es (AreIntegers s from es) (λ ks. AreOf s from es ks) Actuals h
+        → ThroughBuilt c (λ k. ConnectedNameBuilt s t k (denoted s token) es (AreBuilt s t es) Given) (OwnBuilt own (λ d. OfObjectBuilt s d (entry_of s.tables d) es (ThisFoundBuilt s t (found_at s token)) (AreBuilt s t es) (Given (formals_at s d))) (NamedBuilt s t (denoted s token) es (AreBuilt s t es) Given))
+    identifier_built token None None h e a = named_built (denoted s token) h (not_own s token e) a
+    identifier_built token (Some k) own h e a = connected_name_built k (denoted s token) h a
+    identifier_built token None (Some d) h e a =
+        of_object_built s ok laid t d (OwnKnown s from token d) (λ z. object_solid (λ c. ThisFound s from (found_at s token) (Refers c)) d z) es (AreIntegers s from es) integers (ThisFoundBuilt s t (found_at s token)) (λ z. this_built (found_at s token) (Refers z.0) z.3) Actuals Given (entry_of s.tables d) h refl given count a
 
     pub dot_built : (Text Place Value : Type 0) (Object : ℕ → Type 0) (x : Option Denotation) (stream : Option ℕ) (is_variable : Bool) (h : Option Holds) → (is_variable ≡ true → Text → Place) → (Text → Value) → ((c : ℕ) → Object c → Value) → DotGives s x stream Text Object es (AreIntegers s from es) (λ ks. AreOf s from es ks) Actuals h → DotBuilt s x stream is_variable es Place Value (AreBuilt s t es) Given
     dot_built Text Place Value Object None stream is_variable h p v o a = absurd a
     dot_built Text Place Value Object (Some (denotation.Declared d)) stream is_variable h p v o a =
-        of_object_built s ok laid t d (ObjectHas s Object d) (λ z. object_solid Object d z) es (AreIntegers s from es) integers Value (λ z. o z.0 z.3) Actuals Given (entry_of s.tables d) h refl given a
+        of_object_built s ok laid t d (ObjectHas s Object d) (λ z. object_solid Object d z) es (AreIntegers s from es) integers Value (λ z. o z.0 z.3) Actuals Given (entry_of s.tables d) h refl given count a
     dot_built Text Place Value Object (Some (denotation.Standard n)) (Some image) is_variable h p v o a = standard_built es (AreBuilt s t es) (procedure_named n) h operand a
     dot_built Text Place Value Object (Some (denotation.Standard n)) None is_variable h p v o a = attribute_built es Text Place Value (AreBuilt s t es) (procedure_named n) is_variable h p v operand a
 
@@ -212,6 +262,12 @@ module _ (s : Source) (ok : Typed s) (laid : Laid s) (t : ℕ) (from : Place) (s
     named_place_built None (Some (denotation.Standard n)) v b a = tt
     named_place_built (Some k) (Some (denotation.Standard n)) v b a = absurd a
 
+    identifier_place_built : (token : ℕ) (c : Option ℕ) (own : Option DeclNo) (v : Kind) → own_attribute s token ≡ own → is_variable_denoted s (denoted s token) es ≡ true → IdentifierGives s from token c own es (AreIntegers s from es) (λ ks. AreOf s from es ks) Actuals (Some (Simply v))
+        → ThroughBuilt c (λ k. PlaceBehindBuilt s (denoted s token) es (ConnectedBuilt s t k) (AreBuilt s t es)) (NamedPlaceBuilt s t (denoted s token) es (AreBuilt s t es))
+    identifier_place_built token None None v e b a = named_place_built None (denoted s token) v b a
+    identifier_place_built token (Some k) own v e b a = named_place_built (Some k) (denoted s token) v b a
+    identifier_place_built token None (Some d) v e b a = absurd (own_no_variable (entry_of s.tables d) es (own_is_attribute s token d e) (ap (λ z. is_variable_denoted s z es) (sym (own_denoted s token d e)) ∙ b))
+
     dot_place_built : (Text Value : Type 0) (Object : ℕ → Type 0) (x : Option Denotation) (stream : Option ℕ) (v : Kind) → (is_image_behind stream x || is_attribute_denoted s x es) ≡ true → ((c : ℕ) → Object c → Value) → DotGives s x stream Text Object es (AreIntegers s from es) (λ ks. AreOf s from es ks) Actuals (Some (Simply v)) → StreamBuilt stream (PlaceBehindBuilt s x es Value (AreBuilt s t es))
     dot_place_built Text Value Object x (Some image) v b o a = tt
     dot_place_built Text Value Object None None v b o a = absurd a
@@ -221,15 +277,6 @@ module _ (s : Source) (ok : Typed s) (laid : Laid s) (t : ℕ) (from : Place) (s
         place_of_built s ok laid t d (ObjectHas s Object d) (λ z. object_solid Object d z) es (AreIntegers s from es) integers Value (λ z. o z.0 z.3) (entry_of s.tables d) z.0 refl z.1
 
   -- ---- objects
-
-  this_of : (k : ℕ) (connection levels : Bool) (h : Holds) → is_connection (text s k) ≡ connection → ThisIs s from connection levels k h → ThisOfBuilt s t k connection
-  this_of k true levels h e a = record { has = connection_has s ok laid k e; inside = stands.around k a.0 }
-  this_of k false true h e a = stands.around k a.0
-  this_of k false false h e a = absurd a
-
-  pub this_built : (found : Option ℕ) (h : Holds) → ThisFound s from found h → ThisFoundBuilt s t found
-  this_built None h a = absurd a
-  this_built (Some k) h a = this_of k (is_connection (text s k)) (has_levels (text s k)) h refl a
 
   generation_built : (token : ℕ) (Actuals Given : List Formal → Type 0) → ((fs : List Formal) → Actuals fs → Given fs) → Generates s from token Actuals → GenerationBuilt s t (denoted s token) (class_at s token) (Given (class_parameters s (class_at s token)))
   unfolding class_at
@@ -263,15 +310,16 @@ module _ (s : Source) (ok : Typed s) (laid : Laid s) (t : ℕ) (from : Place) (s
     is_built (syntax.Member m i a c) h x = (named_class s c.token.0 x.1, is_built a (Simply kind.Reference) x.2)
     is_built (syntax.Dot i a name es) h x = (
       dot_gives s (denoted s name.token.0) (stream_of s a) (ExprIs s from a (Simply kind.Text)) (λ c. ExprIs s from a (Refers c)) es (AreIntegers s from es) (λ ks. AreOf s from es ks) (λ fs. ActualsFit s from es fs) (Some h) x,
-      dot_built es (λ y. integers_built es y) (λ ks y. are_built es ks y) (λ fs. ActualsFit s from es fs) (λ fs. ActualsBuilt s t es fs) (λ fs y. actuals_built es fs y)
+      dot_built es (λ y. integers_built es y) (λ ks y. are_built es ks y) (λ fs. ActualsFit s from es fs) (λ fs. ActualsBuilt s t es fs) (λ fs y. actuals_built es fs y) (λ fs y. fitted s from es fs y)
           (ExprIs s from a (Simply kind.Text)) (PlaceBuilt s t a) (IsBuilt s t a) (λ c. ExprIs s from a (Refers c)) (denoted s name.token.0) (stream_of s a) (is_variable s a || is_attribute s a) (Some h)
           (λ b y. text_place a b y) (λ y. is_built a (Simply kind.Text) y) (λ c y. is_built a (Refers c) y) x,
     )
     is_built (syntax.Qua i a c) h x = (named_class s c.token.0 x.0, is_built a (Simply kind.Reference) x.2)
     is_built (syntax.Constant literal i) h x = literal_built i literal h x
     is_built (syntax.Named name es) h x = (
-      named_gives s from (connection_at s name.token.0) (denoted s name.token.0) es (AreIntegers s from es) (λ ks. AreOf s from es ks) (λ fs. ActualsFit s from es fs) (Some h) x,
-      named_built es (λ y. integers_built es y) (λ ks y. are_built es ks y) (λ fs. ActualsFit s from es fs) (λ fs. ActualsBuilt s t es fs) (λ fs y. actuals_built es fs y) (connection_at s name.token.0) (denoted s name.token.0) (Some h) x,
+      identifier_gives s from name.token.0 (connection_at s name.token.0) (own_attribute s name.token.0) es (AreIntegers s from es) (λ ks. AreOf s from es ks) (λ fs. ActualsFit s from es fs) (Some h) refl x,
+      identifier_built es (λ y. integers_built es y) (λ ks y. are_built es ks y) (λ fs. ActualsFit s from es fs) (λ fs. ActualsBuilt s t es fs) (λ fs y. actuals_built es fs y) (λ fs y. fitted s from es fs y)
+          name.token.0 (connection_at s name.token.0) (own_attribute s name.token.0) (Some h) refl x,
     )
     is_built (syntax.This i c) h x = this_built (found_at s i) h x
     is_built (syntax.New i c es) h x = generation_built c.token.0 (λ fs. ActualsFit s from es fs) (λ fs. ActualsBuilt s t es fs) (λ fs y. actuals_built es fs y) x.0
@@ -279,9 +327,10 @@ module _ (s : Source) (ok : Typed s) (laid : Laid s) (t : ℕ) (from : Place) (s
 
     pub text_place : (e : Expression) → (is_variable s e || is_attribute s e) ≡ true → ExprIs s from e (Simply kind.Text) → PlaceBuilt s t e
     text_place (syntax.Named name es) b x =
-        named_place_built es (λ y. integers_built es y) (λ ks y. are_built es ks y) (λ fs. ActualsFit s from es fs) (λ fs. ActualsBuilt s t es fs) (λ fs y. actuals_built es fs y) (connection_at s name.token.0) (denoted s name.token.0) kind.Text (variable_form s (syntax.Named name es) b) x
+        identifier_place_built es (λ y. integers_built es y) (λ ks y. are_built es ks y) (λ fs. ActualsFit s from es fs) (λ fs. ActualsBuilt s t es fs) (λ fs y. actuals_built es fs y) (λ fs y. fitted s from es fs y)
+        name.token.0 (connection_at s name.token.0) (own_attribute s name.token.0) kind.Text refl (variable_form s (syntax.Named name es) b) x
     text_place (syntax.Dot i a name es) b x =
-        dot_place_built es (λ y. integers_built es y) (λ ks y. are_built es ks y) (λ fs. ActualsFit s from es fs) (λ fs. ActualsBuilt s t es fs) (λ fs y. actuals_built es fs y)
+        dot_place_built es (λ y. integers_built es y) (λ ks y. are_built es ks y) (λ fs. ActualsFit s from es fs) (λ fs. ActualsBuilt s t es fs) (λ fs y. actuals_built es fs y) (λ fs y. fitted s from es fs y)
         (ExprIs s from a (Simply kind.Text)) (IsBuilt s t a) (λ c. ExprIs s from a (Refers c)) (denoted s name.token.0) (stream_of s a) kind.Text (variable_form s (syntax.Dot i a name es) b) (λ c y. is_built a (Refers c) y) x
     text_place (syntax.If i c a d) b x = absurd (variable_form s (syntax.If i c a d) b)
     text_place (syntax.Binary op i a d) b x = absurd (variable_form s (syntax.Binary op i a d) b)

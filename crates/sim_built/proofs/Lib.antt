@@ -9,5 +9,6 @@ pub mod Lists
 pub mod Lying
 pub mod Names
 pub mod Programs
+pub mod SetNames
 pub mod Standing
 pub mod Statements

@@ -2,6 +2,8 @@
 use Rattle.std.proofs.Common.{◌≡◌, ℕ, zero, suc, ◌+◌, Bool, true, false, List, [], ◌∷◌, ◌++◌, Option, Some, None, refl, sym, ap, ◌∙◌, subst, arith}
 use Rattle.std.specs.Prelude.{slice_get}
 use Rattle.sim_base.specs.declared.numbering.DeclNo.{DeclNo}
+use Rattle.sim_scope.specs.declared.types.StandardClass.{StandardClass}
+use Rattle.sim_scope.specs.declared.types.StandardClass.TheVariants as standard
 use Rattle.sim_scope.specs.Source.{Source}
 use Rattle.sim_tree.specs.declared.expr.Identifier.{Identifier}
 use Rattle.sim_tree.specs.Filled.{Filled, FilledArms, FilledBlock, FilledDeclaration, FilledDeclarations, FilledStatement, FilledStatements}
@@ -11,18 +13,18 @@ use Rattle.sim_values.specs.declared.kind.Kind.TheVariants as kind
 use Rattle.sim_meaning.specs.Attributes.{is_connection}
 use Rattle.sim_meaning.specs.Entries.{numbers_of}
 use Rattle.sim_meaning.specs.Levels.{writes_inner}
-use Rattle.sim_meaning.specs.Texts.{BlockText, ClassText, ConnectionText, PrefixedText, ProcedureText, Text, arms_texts, block_texts, declaration_texts, declarations_texts, declared_at, prefix_texts, prefixed_texts, program_texts, statement_texts, statements_texts, text}
+use Rattle.sim_meaning.specs.Texts.{BlockText, ClassText, ConnectionText, PrefixedText, ProcedureText, StandardText, Text, arms_texts, block_texts, declaration_texts, declarations_texts, declared_at, prefix_texts, prefixed_texts, program_texts, statement_texts, statements_texts, text}
 use Rattle.sim_agree.specs.Inners.{InnersIn}
-use Rattle.sim_agree.specs.Plain.{Each, Plain, PlainArms, PlainBlock, PlainDeclaration, PlainDeclarations, PlainPrefix, PlainStatement, PlainStatements}
-use Rattle.sim_agree.proofs.PlainNames.{no_prefix_texts}
+use Rattle.sim_agree.specs.Plain.{Each, Plain, PlainArms, PlainBlock, PlainDeclaration, PlainDeclarations, PlainPrefix, PlainStart, PlainStatement, PlainStatements}
+use Rattle.sim_agree.proofs.PlainNames.{behind_prefix}
 use Rattle.sim_sound.specs.Held.{Among, ArrayOf, Holds, InBound, Simply, entry_holds, first, held_by, later}
 use Rattle.sim_sound.specs.Statements.{StatementsAre}
-use Rattle.sim_sound.specs.Typed.{ArraysAre, ArraysTyped, BoundsAre, SegmentsAre, SomeName, TextTyped, Typed, arrays_in_segments, arrays_named, arrays_of_block, of_option}
+use Rattle.sim_sound.specs.Typed.{ArraysAre, ArraysTyped, BoundsAre, SegmentsAre, SomeName, Starts, TextTyped, Typed, arrays_in_segments, arrays_named, arrays_of_block, as_block, as_prefixed, of_option, set_place}
 use Rattle.codegen_expr.specs.Sites.{is_constant}
-use Rattle.codegen.specs.BuiltProgram.{ArraysBuilt, BoundsBuilt, KeptBuilt, LevelBuilt, MadeBuilt, NamesBuilt, ProgramBuilt, SegmentsBuilt, TextBuilt, TextsBuilt, texts_of}
+use Rattle.codegen.specs.BuiltProgram.{ArraysBuilt, BoundsBuilt, KeptBuilt, LevelBuilt, MadeBuilt, NamesBuilt, OnlyLevel, ProgramBuilt, SegmentsBuilt, SetClass, StatementsBuilt, TextBuilt, TextsBuilt, texts_of}
 use Rattle.sim_built.specs.Laid.{Laid}
 use Rattle.sim_built.proofs.Agreeing.{agrees}
-use Rattle.sim_built.proofs.Cells.{slot_listed}
+use Rattle.sim_built.proofs.Cells.{front_is, slot_listed}
 use Rattle.sim_built.proofs.Expressions.{Stands, is_built}
 use Rattle.sim_built.proofs.Standing.{stands_in_bound}
 use Rattle.sim_built.proofs.Statements.{statement_built, statements_built, with_inner}
@@ -88,15 +90,15 @@ Fit (ProcedureText result h a) = FilledStatement a
 Fit (ClassText prefix h ds ss) = FilledStatements ss
 Fit (PrefixedText class es ds ss) = FilledStatements ss
 Fit ConnectionText = Unit {0}
-Fit _ = ⊥
+Fit (StandardText which) = Unit {0}
 
 both_each : (xs ys : List Text) → Each Fit xs → Each Fit ys → Each Fit (xs ++ ys)
 both_each [] ys a b = b
 both_each (x ∷ xs) ys a b = (a.0, both_each xs ys a.1 b)
 
--- a prefix brings no texts
+-- a prefix brings the texts of the classes of SIMSET, or none
 fit_prefix : (prefix : Option Identifier) → PlainPrefix prefix → (xs : List Text) → Each Fit xs → Each Fit (prefix_texts prefix ++ xs)
-fit_prefix prefix p xs a = subst (λ z. Each Fit (z ++ xs)) (sym (no_prefix_texts prefix p)) a
+fit_prefix prefix p xs a = behind_prefix (λ z. Each Fit z) prefix p xs a (tt, (tt, (tt, a)))
 
 mutual
   statement_fit : (a : Statement) → PlainStatement a → FilledStatement a → Each Fit (statement_texts a)
@@ -152,9 +154,10 @@ mutual
   declaration_fit (DeclareClass prefix i h interface (syntax.Prefixed class arguments b) end) p f = ((f, tt), fit_prefix prefix p.0 (statement_texts (syntax.Prefixed class arguments b)) (statement_fit (syntax.Prefixed class arguments b) p.3 f))
   declaration_fit (DeclareClass prefix i h interface (syntax.Activate j word e schedule) end) p f = absurd p.3
 
-program_fit : (prefix : Option Prefix) (b : Block) → prefix ≡ None → PlainBlock b → FilledBlock b → Each Fit (program_texts prefix b)
-program_fit None (Begin i ds ss end) e p f = (f.1, both_each (declarations_texts ds) (statements_texts ss) (declarations_fit ds p.0 f.0) (statements_fit ss p.1 f.1))
-program_fit (Some x) b e p f = absurd (cc)
+program_fit : (prefix : Option Prefix) (b : Block) → PlainStart prefix → PlainBlock b → FilledBlock b → Each Fit (program_texts prefix b)
+program_fit None (Begin i ds ss end) n p f = (f.1, both_each (declarations_texts ds) (statements_texts ss) (declarations_fit ds p.0 f.0) (statements_fit ss p.1 f.1))
+program_fit (Some x) (Begin i ds ss end) n p f =
+    (f.1, fit_prefix (Some x.class) n.0 (declarations_texts ds ++ statements_texts ss) (both_each (declarations_texts ds) (statements_texts ss) (declarations_fit ds p.0 f.0) (statements_fit ss p.1 f.1)))
 
 module _ (s : Source) (ok : Typed s) (laid : Laid s) where
   level_built : (k : ℕ) (prefix : Option Identifier) (h : Heading) (ds : Declarations) (ss : Statements) → text s k ≡ Some (ClassText prefix h ds ss) → (written : Bool) → InnersIn written (ClassText prefix h ds ss) → FilledStatements ss → StatementsAre s k ss → LevelBuilt s k written ss
@@ -167,21 +170,45 @@ module _ (s : Source) (ok : Typed s) (laid : Laid s) where
     level_built k prefix h ds ss e (writes_inner s k) (laid.inners k (ClassText prefix h ds ss) e) f a.statements,
   )
 
+  prefixed_built : (k : ℕ) (class : Identifier) (es : Expressions) (ds : Declarations) (ss : Statements) → text s k ≡ Some (PrefixedText class es ds ss) → Fit (PrefixedText class es ds ss) → TextTyped s k (PrefixedText class es ds ss) → ArraysBuilt s k ds × StatementsBuilt s k ss
+  prefixed_built k class es ds ss e f a = (
+    arrays_built s ok laid k (PrefixedText class es ds ss) e (ap is_connection e) ds a.own a.arrays,
+    statements_built s ok laid k (PrefixedText class es ds ss) e ss (laid.inners k (PrefixedText class es ds ss) e) f a.statements,
+  )
+
+  -- the program's block is no class, and its prefix gives no level
+  no_first_class : (prefix : Option Identifier) (h : Heading) (ds : Declarations) (ss : Statements) → text s 0 ≡ Some (ClassText prefix h ds ss) → Starts s → ⊥
+  no_first_class prefix h ds ss e (as_block block) = cc
+  no_first_class prefix h ds ss e (as_prefixed block none bare) = cc
+
+  no_first_standard : (which : StandardClass) → text s 0 ≡ Some (StandardText which) → Starts s → ⊥
+  no_first_standard which e (as_block block) = cc
+  no_first_standard which e (as_prefixed block none bare) = cc
+
+  only_level : (class : Identifier) (es : Expressions) (ds : Declarations) (ss : Statements) → text s 0 ≡ Some (PrefixedText class es ds ss) → Starts s → OnlyLevel s
+  only_level class es ds ss e (as_block block) = absurd (cc)
+  only_level class es ds ss e (as_prefixed block none bare) = front_is s ok laid 0 (ap is_connection e) ∙ none
+
+  -- no class of SIMSET is a process
+  set_class : (which : StandardClass) (place : ℕ) → set_place which ≡ Some place → SetClass which
+  set_class standard.Linkage place e = tt
+  set_class standard.Link place e = tt
+  set_class standard.Head place e = tt
+  set_class standard.Process place e = absurd (cc)
+
   text_built : (k : ℕ) (x : Text) → text s k ≡ Some x → Fit x → TextTyped s k x → TextBuilt s k x
   text_built k (BlockText begin ds ss) e f a = (
     arrays_built s ok laid k (BlockText begin ds ss) e (ap is_connection e) ds a.own a.arrays,
     statements_built s ok laid k (BlockText begin ds ss) e ss (laid.inners k (BlockText begin ds ss) e) f a.statements,
   )
   text_built k (ProcedureText result h b) e f a = statement_built s ok laid k (ProcedureText result h b) e b (laid.inners k (ProcedureText result h b) e) f a.body
-  text_built zero (ClassText prefix h ds ss) e f a = let block = ok.starts in absurd (cc)
+  text_built zero (ClassText prefix h ds ss) e f a = absurd (no_first_class prefix h ds ss e ok.starts)
   text_built (suc k) (ClassText prefix h ds ss) e f a = class_built (suc k) prefix h ds ss e f a
-  text_built zero (PrefixedText class es ds ss) e f a = let block = ok.starts in absurd (cc)
-  text_built (suc k) (PrefixedText class es ds ss) e f a = (
-    arrays_built s ok laid (suc k) (PrefixedText class es ds ss) e (ap is_connection e) ds a.own a.arrays,
-    statements_built s ok laid (suc k) (PrefixedText class es ds ss) e ss (laid.inners (suc k) (PrefixedText class es ds ss) e) f a.statements,
-  )
+  text_built zero (PrefixedText class es ds ss) e f a = let built = prefixed_built zero class es ds ss e f a in (only_level class es ds ss e ok.starts, built.0, built.1)
+  text_built (suc k) (PrefixedText class es ds ss) e f a = prefixed_built (suc k) class es ds ss e f a
   text_built k ConnectionText e f a = tt
-  text_built k _ e f a = absurd f
+  text_built zero (StandardText which) e f a = absurd (no_first_standard which e ok.starts)
+  text_built (suc k) (StandardText which) e f a = let there = ok.set_classes (suc k) which e in set_class which there.place there.placed
 
   texts_built : (k : ℕ) (xs : List Text) → ((i : ℕ) (x : Text) → slice_get xs i ≡ Some x → text s (k + i) ≡ Some x) → Each Fit xs → TextsBuilt s k xs
   texts_built k [] at f = tt
@@ -195,7 +222,7 @@ module _ (s : Source) (ok : Typed s) (laid : Laid s) where
   pub program_built : Plain s.program → Filled s.program → ProgramBuilt s
   unfolding texts_of text
   program_built p f =
-      let fit = program_fit s.program.prefix s.program.block p.prefix p.block f in
+      let fit = program_fit s.program.prefix s.program.block p.start p.block f in
       record {
         texts = texts_built 0 (program_texts s.program.prefix s.program.block) (λ i x e. ap (slice_get (program_texts s.program.prefix s.program.block)) (omega arith) ∙ e) fit;
         agrees = agrees s ok laid;

@@ -1,9 +1,10 @@
 -- Typed statements are built.
 use Rattle.std.proofs.Common.{◌≡◌, ℕ, zero, suc, true, List, [], ◌∷◌, Option, Some, None, refl, sym, ap, ◌∙◌, subst}
-use Rattle.std.specs.Prelude.{◌&&◌, ◌||◌, not}
+use Rattle.std.specs.Prelude.{◌||◌}
 use Rattle.sim_scope.specs.Assignments.{last_value, left_sides}
 use Rattle.sim_scope.specs.Access.{encloser}
 use Rattle.sim_scope.specs.Levels.{base}
+use Rattle.sim_scope.specs.Scopes.{entry_of}
 use Rattle.sim_scope.specs.Source.{Source, block_around, denoted, found_at, line_at}
 use Rattle.sim_tree.specs.Filled.{FilledArms, FilledStatement, FilledStatements, SomeElement, SomeSide}
 use Rattle.sim_tree.specs.Syntax.{Also, Arms, Begin, Element, Expression, Expressions, NoArm, NoDeclaration, NoMore, NoStatement, RightSide, Statement, Statements, Then, When, With}
@@ -11,28 +12,26 @@ use Rattle.sim_tree.specs.Syntax as syntax
 use Rattle.sim_values.specs.declared.kind.Kind.{Kind}
 use Rattle.sim_values.specs.declared.kind.Kind.TheVariants as kind
 use Rattle.sim_code.specs.Transfers.{Calling, Detaching, Resuming, Transfer}
-use Rattle.sim_meaning.specs.Attributes.{cell_of_connection, connection_at, is_connection, transfer_at}
-use Rattle.sim_meaning.specs.Closing.{class_parameters, is_attribute, is_text, is_variable, stream_of}
-use Rattle.sim_meaning.specs.Levels.{is_class}
+use Rattle.sim_meaning.specs.Attributes.{cell_of_connection, connection_at, is_connection, own_attribute, transfer_at}
+use Rattle.sim_meaning.specs.Closing.{class_parameters, formals_at, is_attribute, is_text, is_variable, stream_of}
 use Rattle.sim_meaning.specs.Pending.{Connection}
 use Rattle.sim_meaning.specs.Statements.{begin_of, leaves}
 use Rattle.sim_meaning.specs.Texts.{ConnectionText, PrefixedText, Text, text}
 use Rattle.sim_agree.specs.Inners.{NoInner, NoInnerArms, NoInners, OneInner, behind, here}
 use Rattle.sim_sound.specs.Held.{Holds, In, Refers, Simply, reference_to}
-use Rattle.sim_sound.specs.Expressions.{ActualsFit, AreIntegers, AreOf, DotGives, ExprIs, NamedGives}
+use Rattle.sim_sound.specs.Expressions.{ActualsFit, AreIntegers, AreOf, DotGives, ExprIs, IdentifierGives}
 use Rattle.sim_sound.specs.Statements.{ArmsAre, BlockIs, CallIs, ConnectionIs, ElementIs, ElementsAre, LeftsAre, OrTransferIs, PrefixedIs, StatementIs, StatementsAre, TransferIs, is_given}
 use Rattle.sim_sound.specs.Typed.{Typed}
-use Rattle.codegen_expr.specs.Built.{ActualsBuilt, AreBuilt, ClassBuilt, ConnectedNameBuilt, DotBuilt, IsBuilt, NamedBuilt, PlaceBuilt, ThisFoundBuilt, ThroughBuilt, is_there, slot_in}
+use Rattle.codegen_expr.specs.Built.{ActualsBuilt, AreBuilt, ClassBuilt, ConnectedNameBuilt, DotBuilt, IsBuilt, NamedBuilt, OfObjectBuilt, OwnBuilt, PlaceBuilt, ThisFoundBuilt, ThroughBuilt, is_there, slot_in}
 use Rattle.codegen_expr.specs.CodeExpr.{gives}
 use Rattle.codegen_expr.specs.Sites.{frame_text}
-use Rattle.codegen.specs.Agrees.{stands_behind}
 use Rattle.codegen.specs.BuiltProgram.{ArmsBuilt, AssignBuilt, CalledBuilt, ConnectsBuilt, ElementBuilt, ElementsBuilt, EnterBuilt, ForBuilt, InnerOrBuilt, LeftsBuilt, ListBuilt, OrTransferBuilt, PrefixBuilt, StatementBuilt, StatementsBuilt, StepsBuilt, TransferBuilt, WithInnerBuilt}
 use Rattle.codegen.specs.CodeFor.{Variable, assigned_by, variable_of}
 use Rattle.codegen.specs.CodeLeft.{each_stored}
 use Rattle.codegen.specs.CodeStm.{inner_of}
 use Rattle.sim_built.specs.Laid.{Laid}
-use Rattle.sim_built.proofs.Cells.{connection_has, front_is}
-use Rattle.sim_built.proofs.Expressions.{Stands, actuals_built, are_built, dot_built, dot_gives, integers_built, named_built, named_gives, text_place, this_built}
+use Rattle.sim_built.proofs.Cells.{connection_has}
+use Rattle.sim_built.proofs.Expressions.{Stands, actuals_built, are_built, dot_built, dot_gives, fitted, identifier_built, identifier_gives, integers_built, text_place, this_built}
 use Rattle.sim_built.proofs.LeftSides.{Controls, built, controls, side_built}
 use Rattle.sim_built.proofs.Standing.{stands_here}
 
@@ -98,14 +97,15 @@ module _ (s : Source) (ok : Typed s) (laid : Laid s) (t : ℕ) (x : Text) (there
   call_built : (e : Expression) → CallIs s t e → CalledBuilt s t e
   call_built (syntax.Named name es) a =
       or_built (transfer_at s name.token.0) (λ c. TransferIs s t c (found_at s name.token.0) es) (λ c. TransferBuilt c es (ThisFoundBuilt s t (found_at s name.token.0)) (AreBuilt s t es))
-      ((h : Option Holds) × NamedGives s (In t) (connection_at s name.token.0) (denoted s name.token.0) es (AreIntegers s (In t) es) (λ ks. AreOf s (In t) es ks) (λ fs. ActualsFit s (In t) es fs) h × (leaves s (syntax.Named name es) ≡ is_given h))
+      ((h : Option Holds) × IdentifierGives s (In t) name.token.0 (connection_at s name.token.0) (own_attribute s name.token.0) es (AreIntegers s (In t) es) (λ ks. AreOf s (In t) es ks) (λ fs. ActualsFit s (In t) es fs) h × (leaves s (syntax.Named name es) ≡ is_given h))
       ((leaves s (syntax.Named name es) ≡ gives s (denoted s name.token.0))
-      × ThroughBuilt (connection_at s name.token.0) (λ k. ConnectedNameBuilt s t k (denoted s name.token.0) es (AreBuilt s t es) (λ fs. ActualsBuilt s t es fs)) (NamedBuilt s t (denoted s name.token.0) es (AreBuilt s t es) (λ fs. ActualsBuilt s t es fs)))
+      × ThroughBuilt (connection_at s name.token.0) (λ k. ConnectedNameBuilt s t k (denoted s name.token.0) es (AreBuilt s t es) (λ fs. ActualsBuilt s t es fs))
+      (OwnBuilt (own_attribute s name.token.0) (λ d. OfObjectBuilt s d (entry_of s.tables d) es (ThisFoundBuilt s t (found_at s name.token.0)) (AreBuilt s t es) (ActualsBuilt s t es (formals_at s d))) (NamedBuilt s t (denoted s name.token.0) es (AreBuilt s t es) (λ fs. ActualsBuilt s t es fs))))
       (λ c y. transfer_built c (found_at s name.token.0) es y)
       (λ y. (
-        y.2 ∙ sym (named_gives s (In t) (connection_at s name.token.0) (denoted s name.token.0) es (AreIntegers s (In t) es) (λ ks. AreOf s (In t) es ks) (λ fs. ActualsFit s (In t) es fs) y.0 y.1),
-        named_built s ok laid t (In t) standing es (λ z. integers_built s ok laid t (In t) standing es z) (λ ks z. are_built s ok laid t (In t) standing es ks z) (λ fs. ActualsFit s (In t) es fs) (λ fs. ActualsBuilt s t es fs) (λ fs z. actuals_built s ok laid t (In t) standing es fs z)
-            (connection_at s name.token.0) (denoted s name.token.0) y.0 y.1,
+        y.2 ∙ sym (identifier_gives s (In t) name.token.0 (connection_at s name.token.0) (own_attribute s name.token.0) es (AreIntegers s (In t) es) (λ ks. AreOf s (In t) es ks) (λ fs. ActualsFit s (In t) es fs) y.0 refl y.1),
+        identifier_built s ok laid t (In t) standing es (λ z. integers_built s ok laid t (In t) standing es z) (λ ks z. are_built s ok laid t (In t) standing es ks z) (λ fs. ActualsFit s (In t) es fs) (λ fs. ActualsBuilt s t es fs) (λ fs z. actuals_built s ok laid t (In t) standing es fs z) (λ fs z. fitted s (In t) es fs z)
+            name.token.0 (connection_at s name.token.0) (own_attribute s name.token.0) y.0 refl y.1,
       )) a
   call_built (syntax.Dot i b name es) a =
       or_built (transfer_at s name.token.0) (λ c. ExprIs s (In t) b (Simply kind.Reference) × AreOf s (In t) es []) (λ c. TransferBuilt Detaching es (IsBuilt s t b) (AreBuilt s t es))
@@ -115,7 +115,7 @@ module _ (s : Source) (ok : Typed s) (laid : Laid s) (t : ℕ) (x : Text) (there
       (λ c y. detach_built b es y)
       (λ y. (
         y.2 ∙ sym (dot_gives s (denoted s name.token.0) (stream_of s b) (ExprIs s (In t) b (Simply kind.Text)) (λ c. ExprIs s (In t) b (Refers c)) es (AreIntegers s (In t) es) (λ ks. AreOf s (In t) es ks) (λ fs. ActualsFit s (In t) es fs) y.0 y.1),
-        dot_built s ok laid t (In t) standing es (λ z. integers_built s ok laid t (In t) standing es z) (λ ks z. are_built s ok laid t (In t) standing es ks z) (λ fs. ActualsFit s (In t) es fs) (λ fs. ActualsBuilt s t es fs) (λ fs z. actuals_built s ok laid t (In t) standing es fs z)
+        dot_built s ok laid t (In t) standing es (λ z. integers_built s ok laid t (In t) standing es z) (λ ks z. are_built s ok laid t (In t) standing es ks z) (λ fs. ActualsFit s (In t) es fs) (λ fs. ActualsBuilt s t es fs) (λ fs z. actuals_built s ok laid t (In t) standing es fs z) (λ fs z. fitted s (In t) es fs z)
             (ExprIs s (In t) b (Simply kind.Text)) (PlaceBuilt s t b) (IsBuilt s t b) (λ c. ExprIs s (In t) b (Refers c)) (denoted s name.token.0) (stream_of s b) (is_variable s b || is_attribute s b) y.0
             (λ v z. text_place s ok laid t (In t) standing b v z) (λ z. value b (Simply kind.Text) z) (λ c z. value b (Refers c) z) y.1,
       )) a
@@ -141,13 +141,9 @@ module _ (s : Source) (ok : Typed s) (laid : Laid s) (t : ℕ) (x : Text) (there
   prefixed_built : (es : Expressions) (token : ℕ) → PrefixedIs s t token (λ fs. ActualsFit s (In t) es fs) → PrefixBuilt s t es (block_around s token)
   prefixed_built es token a = subst (PrefixBuilt s t es) (sym a.around) (by_number a.number a.stands_in a.is a.actuals)
     where
-      behind_class : (k : ℕ) → text s k ≡ Some (PrefixedText a.class a.arguments a.declarations a.statements) → stands_behind s k ≡ true
-      behind_class k is =
-          ap (λ z. is_there z && not (is_class (text s k))) (front_is s ok laid k (ap is_connection is)) ∙ ap (λ z. z && not (is_class (text s k))) (laid.behind k a.class a.arguments a.declarations a.statements is) ∙ ap (λ z. not (is_class z)) is
-
       by_number : (k : ℕ) → encloser s.tables k ≡ Some t → text s k ≡ Some (PrefixedText a.class a.arguments a.declarations a.statements) → ActualsFit s (In t) es (class_parameters s (Some k)) → PrefixBuilt s t es (Some k)
       by_number zero e is fit = let none = ok.outermost in absurd (cc)
-      by_number (suc k) e is fit = (behind_class (suc k) is, e, actuals_built s ok laid t (In t) standing es (class_parameters s (Some (suc k))) fit)
+      by_number (suc k) e is fit = (laid.with_prefix (suc k) a.class a.arguments a.declarations a.statements is, e, actuals_built s ok laid t (In t) standing es (class_parameters s (Some (suc k))) fit)
 
   -- a connection is that which begins at its token
   connects_built : (opening : ℕ) (Body : ℕ → Type 0) → (c : ConnectionIs s t opening) → Body c.number → ConnectsBuilt s t opening (block_around s opening) Body

@@ -20,6 +20,7 @@ use Rattle.sim_values.specs.Words.{array_words, is_exhausted}
 use Rattle.sim_code.specs.Outcome.{ArrayOf, Ending, Ended, Going, Run, World, after, next}
 use Rattle.sim_code.specs.Events.{answering, applying_one, applying_two, assigning, choosing, computing, entering, having, integer_in, no_rule, performing, pop_integers, pop_many, pop_object, pop_operands, pop_plain, pop_text, pop_truth, popping, putting_back, referring, stopping, taking, testing_step, text_val, ticking, truth_in, when, with_texts}
 use Rattle.sim_code.specs.Arrays.{copying_array, element_place, finding_element, keeping_array, live_array, making_array}
+use Rattle.sim_code.specs.Sets.{SetEffect, linkage_given, linkage_named, performing_set, pop_given, set_effect, takes_linkage}
 use Rattle.sim_code.specs.Growing.{Grown, written}
 
 -- ---- lists that grow
@@ -345,6 +346,17 @@ module _ (S : Type 0) where
     pub grows_object : (line : ℕ) (vals : List V) (o : World) (go : ℕ → List V → Run S) → ((j : ℕ) (rest : List V) → Grows o.store.written (go j rest)) → Grows o.store.written (pop_object plain line vals o go)
     unfolding pop_object
     grows_object line vals o go h = grows_plain vals o _ (λ p rest. grows_referring line p o _ (λ j. h j rest))
+
+    grows_given : (takes : Bool) (vals : List V) (o : World) (go : Option ℕ → List V → Run S) → ((x : Option ℕ) (rest : List V) → Grows o.store.written (go x rest)) → Grows o.store.written (pop_given plain takes vals o go)
+    unfolding pop_given
+    grows_given false vals o go h = h None vals
+    grows_given true vals o go h = grows_plain vals o _ (λ p rest. grows_having (Option ℕ) (linkage_given o.members p) o _ (λ x _. h x rest))
+
+    pub grows_set : (name : Standard) (vals : List V) (o : World) (go : World → Option Plain → List V → Run S) → ((p : World) (value : Option Plain) (rest : List V) → Grows p.store.written (go p value rest)) → Grows o.store.written (performing_set plain name vals o go)
+    unfolding performing_set
+    grows_set name vals o go h =
+        grows_given (takes_linkage name) vals o _ (λ given rest. grows_plain rest o _ (λ p rest. grows_having ℕ (linkage_named o.members p) o _ (λ x _.
+        grows_having SetEffect (set_effect name o.members x given) o _ (λ effect _. h (record o { members = effect.members }) effect.value rest))))
 
     pub grows_assigning : (line : ℕ) (vals : List V) (o : World) (go : World → List V → Run S) → ((p : World) (rest : List V) → Grows p.store.written (go p rest)) → Grows o.store.written (assigning plain line vals o go)
     unfolding assigning

@@ -12,6 +12,7 @@ use Rattle.sim_values.specs.declared.value.TextVal.{TextVal}
 use Rattle.sim_values.specs.Plain.{Plain, Text}
 use Rattle.sim_values.specs.Store.{Store, image_at, with_image}
 use Rattle.sim_values.specs.Texts.{same_text}
+use Rattle.simset.specs.Sets.{Linkage}
 use Rattle.sim_chains.specs.Chains.{Cut, cut_at}
 use Rattle.sim_chains.specs.Components.{AttachedObject, Components, DetachedObject, NoObject, ResumedObject, Standing, TerminatedObject}
 use Rattle.sim_code.specs.declared.code.BlockKind.{BlockKind}
@@ -25,13 +26,14 @@ use Rattle.sim_code.specs.Outcome.{ArrayOf, Going, Run, World}
 use Rattle.sim_code.specs.Events.{image_moved, image_set, no_rule, text_val}
 use Rattle.sim_code.specs.Arrays.{element, element_set, element_set_in, giving_back, handed_over, live_array, owned_by, with_array}
 use Rattle.sim_code.specs.Instances.{CellPlace, ElementPlace, ImagePlace, Place, at_level, ended_as, going_below, is_given_at_end, is_live, main_goes_on, object_ended, system_head}
+use Rattle.sim_code.specs.Sets.{enrolled, is_set_name}
 use Rattle.sim_code.specs.Transfers.{Calling, Detaching, Resuming, Transfer, component_in, transferred, transferring}
 use Rattle.sim_code.specs.Machine.{Activation, Address, ArrayValue, Cells, Frames, Link, Machine, Of, ProcedureValue, ThunkValue, Value, arrays_among, arrays_by_value, variable_in, words_of_block, array_in, block_at, cell, cell_at, cell_set, frame_in, index, jumping, leaving, level, link_in, number, operand, own_block, owner, place_in, plain, pushing, pushing_any, same_kind, value_at, with_result}
 use Rattle.sim_code.specs.Classes.{admitting, class_named, in_class, is_in, is_of, may_stand, qualifying}
-use Rattle.sim_code.specs.Levels.{after_declarations, at_inner, at_stage, class_at_level, declarations_done, ended_by_kind, entering_prefixed, generating, inner_reached, leading, level_ended, levelled, objects_of, outermost_ended, own_levels}
-use Rattle.sim_code.specs.Rows.{class_at, code_of, comparison_of, element_kind, entering_procedure, first_stage, mstep, mrun, no_class, on_chain, one_row, opening, pushed, put_back, putting, qualified, row, standard_of, storing, truth_of, two_row, without_class}
+use Rattle.sim_code.specs.Levels.{after_declarations, at_inner, at_stage, class_at_level, declarations_done, ended_by_kind, entering_prefixed, generating, inner_reached, leading, level_ended, levelled, linkage_of_class, objects_of, outermost_ended, own_levels}
+use Rattle.sim_code.specs.Rows.{class_at, code_of, comparison_of, element_kind, entering_procedure, first_stage, mstep, mrun, no_class, on_chain, one_row, opening, pushed, put_back, putting, qualified, row, standard_of, standard_row, storing, truth_of, two_row, without_class}
 use Rattle.sim_code.specs.Growing.{Grown, OutputGrows, written}
-use Rattle.sim_code.proofs.Growing.{Grows, after_grows, after_more, grown_same, grows_assigning, grows_choosing, grows_computing, grows_copying, grows_entering, grows_finding, grows_having, grows_if, grows_integers, grows_keeping, grows_making, grows_many, grows_no_rule, grows_object, grows_one, grows_performing, grows_plain, grows_popping, grows_step, grows_stopping, grows_ticking, grows_truth, grows_two, grows_when}
+use Rattle.sim_code.proofs.Growing.{Grows, after_grows, after_more, grown_same, grows_assigning, grows_choosing, grows_computing, grows_copying, grows_entering, grows_finding, grows_having, grows_if, grows_integers, grows_keeping, grows_making, grows_many, grows_no_rule, grows_object, grows_one, grows_performing, grows_plain, grows_popping, grows_set, grows_step, grows_stopping, grows_ticking, grows_truth, grows_two, grows_when}
 
 -- going on here writes nothing
 abbrev Here : World → Run Machine → Type 0
@@ -94,6 +96,10 @@ handed_same owner (n ∷ rest) o = handed_same owner rest _ ∙ owned_same (slic
     owned_same : (a : Option ArrayOf) (n owner : ℕ) (o : World) → (owned_by owner a o n).store.written ≡ o.store.written
     owned_same None n owner o = refl
     owned_same (Some a) n owner o = refl
+
+enrolled_same : (object : ℕ) (linkage : Option Linkage) (o : World) → (enrolled object linkage o).store.written ≡ o.store.written
+enrolled_same object None o = refl
+enrolled_same object (Some linkage) o = refl
 
 leaving_grows : (b : BlockOf) (below : List Activation) (v : Option Value) (j : ℕ) (o : World) (m : Frames) → Here o (leaving b below v j o m)
 unfolding leaving
@@ -198,7 +204,8 @@ new_grows : (code : CodeOf) (l : Limits) (o : World) (m : Frames) (a : Activatio
 new_grows code l o m a below line z n =
     index_grows n o _ (λ n. grows_many Machine Value plain n [] a.stack o _ (λ values stack. grows_popping Machine Value plain stack o _ (λ v stack. grows_having Machine ℕ (link_in v) o _ (λ parent _. grows_when Machine (is_live m parent) o _ (
     objects_grow code z o _ (λ k b start. grows_having Machine Cells _ o _ (λ cells _. pushed_grows a.room stack _ o _ (λ stack. grows_entering Machine l line (words_of_block b) o _ (λ p.
-    record { more = subst (λ w. Grown p.store.written w) (sym (handed_same (length m.instances) (arrays_among values) p)) (grown_same p.store.written) })))))))))
+    let j = length m.instances in
+    record { more = subst (λ w. Grown p.store.written w) (sym (enrolled_same j (linkage_of_class code b.class) (handed_over j (arrays_among values) p) ∙ handed_same j (arrays_among values) p)) (grown_same p.store.written) })))))))))
 
 prefixed_grows : (code : CodeOf) (l : Limits) (o : World) (m : Frames) (a : Activation) (below : List Activation) (line : ℕ) (z n : ℤ) → Here o (entering_prefixed code l o m a below line z n)
 prefixed_grows code l o m a below line z n =
@@ -273,6 +280,12 @@ level_ends code l o m a below zero =
     grows_having Machine ℕ (owner a) o _ (λ j _. grows_having Machine ℕ _ o _ (λ k _. grows_choosing Machine (k == 0) o _ _ (grows_stopping Machine _ o) (outermost_grows code l o m a below j k)))
 level_ends code l o m a below (suc n) = own_levels_grow code m a _ o _ (λ cs. grows_having Machine ClassOf _ o _ (λ x _. stage_grows code o m a below _ x.after_inner))
 
+standard_grows : (l : Limits) (o : World) (m : Frames) (a : Activation) (below : List Activation) (line : ℕ) (name : Standard) → Here o (standard_row l o m a below line name)
+standard_grows l o m a below line name =
+    grows_choosing Machine (is_set_name name) o _ _
+    (grows_set Machine Value plain name a.stack o _ (λ p value stack. going p _))
+    (grows_when Machine _ o _ (grows_performing Machine Value Frames operand put_back back_grows l line name a.stack o m _ (λ p m value stack. going p _)))
+
 row_grows : (code : CodeOf) (l : Limits) (o : World) (m : Frames) (a : Activation) (below : List Activation) (line : ℕ) (x : Instr) → Here o (row code l o m a below line x)
 row_grows code l o m a below line i.Halt = grows_stopping Machine _ o
 row_grows code l o m a below line (i.Int z) = push_grows o m a below _
@@ -338,7 +351,7 @@ row_grows code l o m a below line (i.Array z n) = grows_having Machine Kind (ele
 row_grows code l o m a below line i.CopyArr = grows_popping Machine Value plain a.stack o _ (λ v stack. grows_having Machine ℕ (array_in v) o _ (λ array _. grows_copying Machine l line a.home array o _ (λ copy p. going p _)))
 row_grows code l o m a below line i.Keep = grows_popping Machine Value plain a.stack o _ (λ v stack. grows_having Machine ℕ (array_in v) o _ (λ array _. grows_keeping Machine array o _ (λ p. going p _)))
 row_grows code l o m a below line i.AssignT = grows_assigning Machine Value plain line a.stack o _ (λ p stack. going p _)
-row_grows code l o m a below line (i.Std z) = grows_having Machine Standard (standard_of z) o _ (λ name _. grows_when Machine _ o _ (grows_performing Machine Value Frames operand put_back back_grows l line name a.stack o m _ (λ p m value stack. going p _)))
+row_grows code l o m a below line (i.Std z) = grows_having Machine Standard (standard_of z) o _ (λ name _. standard_grows l o m a below line name)
 row_grows code l o m a below line (i.Act z) = none o
 row_grows code l o m a below line i.Detach = grows_plain Machine Value plain a.stack o _ (λ v stack. transfer_grows Detaching line o _ m v)
 row_grows code l o m a below line i.Attach = grows_plain Machine Value plain a.stack o _ (λ v stack. transfer_grows Calling line o _ m v)

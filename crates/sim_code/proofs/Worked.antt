@@ -15,6 +15,10 @@ use Rattle.sim_code.specs.Events.{pop_object, referring}
 use Rattle.sim_code.specs.ClassExamples.{Worked as WorkedClasses}
 use Rattle.sim_code.specs.CoroutineExamples.{Worked as WorkedCoroutines}
 use Rattle.sim_code.specs.Transfers.{transferring}
+use Rattle.simset.specs.Sets.{cardinal_of, clear, follow, head_of, into, out, precede, pred_of, prev_of, suc_of}
+use Rattle.sim_code.specs.Levels.{linkage_with}
+use Rattle.sim_code.specs.Sets.{performing_set, pop_given}
+use Rattle.sim_code.specs.SetExamples.{Worked as WorkedSets}
 
 pub worked : Worked
 unfolding digits element_place making_array copying_array keeping_array finding_element giving_back handed_over stopping no_rule ticking taking entering having when computing choosing popping pop_many pop_plain pop_truth pop_integers pop_operands pop_text answering applying_one applying_two testing_step performing putting_back assigning making_text joining at_level kept_on pushing index level_of_machine cell_at jumping block_at own_block leaving with_result putting put_back calculate compare compare_as_texts connect same_objects same_texts two_of one_of step_test take_integer take_character take_text take_nothing row_of standard_effect
@@ -39,7 +43,7 @@ worked = record {
 }
 
 pub worked_classes : WorkedClasses
-unfolding digits element_place making_array copying_array keeping_array finding_element giving_back handed_over stopping no_rule ticking taking entering having when computing choosing popping pop_many pop_plain pop_truth pop_integers pop_operands pop_text answering applying_one applying_two testing_step performing putting_back assigning making_text joining at_level kept_on pushing index level_of_machine cell_at jumping block_at own_block leaving with_result putting put_back calculate compare compare_as_texts connect same_objects same_texts two_of one_of step_test take_integer take_character take_text take_nothing row_of standard_effect levels pop_object referring parameter_cell leading levelled objects_of own_levels object_ended
+unfolding digits element_place making_array copying_array keeping_array finding_element giving_back handed_over stopping no_rule ticking taking entering having when computing choosing popping pop_many pop_plain pop_truth pop_integers pop_operands pop_text answering applying_one applying_two testing_step performing putting_back assigning making_text joining at_level kept_on pushing index level_of_machine cell_at jumping block_at own_block leaving with_result putting put_back calculate compare compare_as_texts connect same_objects same_texts two_of one_of step_test take_integer take_character take_text take_nothing row_of standard_effect levels pop_object referring parameter_cell leading levelled objects_of own_levels object_ended linkage_with
 worked_classes = record {
   outermost_first = refl;
   without_prefix = refl;
@@ -78,7 +82,7 @@ worked_classes = record {
 }
 
 pub worked_coroutines : WorkedCoroutines
-unfolding digits element_place making_array copying_array keeping_array finding_element giving_back handed_over stopping no_rule ticking taking entering having when computing choosing popping pop_many pop_plain pop_truth pop_integers pop_operands pop_text answering applying_one applying_two testing_step performing putting_back assigning making_text joining at_level kept_on pushing index level_of_machine cell_at jumping block_at own_block leaving with_result putting put_back calculate compare compare_as_texts connect same_objects same_texts two_of one_of step_test take_integer take_character take_text take_nothing row_of standard_effect levels pop_object referring parameter_cell leading levelled objects_of own_levels object_ended transferring system_head
+unfolding digits element_place making_array copying_array keeping_array finding_element giving_back handed_over stopping no_rule ticking taking entering having when computing choosing popping pop_many pop_plain pop_truth pop_integers pop_operands pop_text answering applying_one applying_two testing_step performing putting_back assigning making_text joining at_level kept_on pushing index level_of_machine cell_at jumping block_at own_block leaving with_result putting put_back calculate compare compare_as_texts connect same_objects same_texts two_of one_of step_test take_integer take_character take_text take_nothing row_of standard_effect levels pop_object referring parameter_cell leading levelled objects_of own_levels object_ended transferring system_head linkage_with
 worked_coroutines = record {
   both_end = refl;
   terminated = refl;
@@ -98,4 +102,32 @@ worked_coroutines = record {
   in_turn = refl;
   resumed_calls_itself = refl;
   system_away = refl;
+}
+
+pub worked_sets : WorkedSets
+unfolding digits element_place making_array copying_array keeping_array finding_element giving_back handed_over stopping no_rule ticking taking entering having when computing choosing popping pop_many pop_plain pop_truth pop_integers pop_operands pop_text answering applying_one applying_two testing_step performing putting_back assigning making_text joining at_level kept_on pushing index level_of_machine cell_at jumping block_at own_block leaving with_result putting put_back calculate compare compare_as_texts connect same_objects same_texts two_of one_of step_test take_integer take_character take_text take_nothing row_of standard_effect levels pop_object referring parameter_cell leading levelled objects_of own_levels object_ended transferring system_head linkage_with pop_given performing_set head_of suc_of pred_of prev_of cardinal_of out follow precede into clear
+worked_sets = record {
+  of_linkage = refl;
+  with_link_in_front = refl;
+  of_head_itself = refl;
+  with_head_in_front = refl;
+  no_linkage = refl;
+  without_levels = refl;
+  number_of_object = refl;
+  no_number = refl;
+  none_given = refl;
+  linkage_as_given = refl;
+  other_given = refl;
+  first_is_object = refl;
+  before_is_head = refl;
+  none_after = refl;
+  number_of_links = refl;
+  in_and_out_done = refl;
+  placed_done = refl;
+  other_object = refl;
+  no_head = refl;
+  no_link = refl;
+  no_object = refl;
+  no_head_given = refl;
+  no_linkage_given = refl;
 }

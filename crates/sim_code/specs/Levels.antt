@@ -1,6 +1,8 @@
 -- Objects and prefixed blocks: how they are entered with their parameters, how they go from stage to stage, and how they end.
 use Rattle.std.specs.Prelude.{ℕ, zero, suc, ◌+◌, ◌-◌, Bool, true, false, ◌==◌, nat_lt, if◌then◌else◌, ℤ, List, [], ◌∷◌, length, slice_get, Option, Some, None}
+use Rattle.std.specs.List.{list_any}
 use Rattle.sim_base.specs.declared.limits.Limits.{Limits}
+use Rattle.simset.specs.Sets.{Linkage}
 use Rattle.sim_values.specs.Plain.{Object}
 use Rattle.sim_code.specs.declared.code.BlockKind.{BlockKind}
 use Rattle.sim_code.specs.declared.code.BlockKind.TheVariants as block
@@ -11,6 +13,7 @@ use Rattle.sim_code.specs.Outcome.{Normal, Run, World}
 use Rattle.sim_code.specs.Events.{choosing, entering, having, no_rule, pop_many, popping, stopping, ticking, when}
 use Rattle.sim_code.specs.Arrays.{handed_over}
 use Rattle.sim_code.specs.Instances.{is_live, object_ended}
+use Rattle.sim_code.specs.Sets.{enrolled, linkage_by}
 use Rattle.sim_code.specs.Classes.{class_named, class_numbered, class_of, levels, levels_in}
 use Rattle.sim_code.specs.Machine.{Activation, Cells, Frames, Machine, Of, Value, arrays_among, at, first_cells, in_object, in_prefixed, index, leaving, link_in, on, owner, pushing, put_in, same_kind, text_in, waiting, words_of_block}
 
@@ -74,6 +77,26 @@ filled_by place k (v ∷ vs) (Some cells) = filled_by place (suc k) vs (put_at (
 abbrev pub supplied : CodeOf → (class : ℕ) → BlockOf → List Value → Option Cells
 supplied code c b values = if length values == length b.formals then filled_by (parameter_cell code c) 0 values (Some (first_cells b)) else None
 
+-- ---- linkages
+
+-- The block of the objects of a class that `simset` or `simulation` brings has a mark in the field of the entry, which tells which class that is.
+abbrev pub linkage_mark : ℕ
+linkage_mark = 1
+
+abbrev pub head_mark : ℕ
+head_mark = 3
+
+abbrev pub is_marked_in : (mark : ℕ) → Option BlockOf → Bool
+is_marked_in mark None = false
+is_marked_in mark (Some b) = b.entry == mark
+
+abbrev pub is_marked : CodeOf → (mark class : ℕ) → Bool
+is_marked code mark c = is_marked_in mark (block_in_record code (class_numbered code c))
+
+-- what an object with these levels is made as, if it is a linkage
+unfoldable pub linkage_with : CodeOf → (levels : List ℕ) → Option Linkage
+linkage_with code cs = linkage_by (list_any (is_marked code head_mark) cs) (list_any (is_marked code linkage_mark) cs)
+
 -- ---- entries
 
 -- a block of this kind, and where the declarations of its level 0 begin
@@ -82,6 +105,14 @@ levelled code kind k o go =
     having (slice_get code.blocks k) o (λ b. when (same_kind b.kind kind) o (
     having (levels code b.class) o (λ cs. having (class_at_level code cs 0) o (λ x. leading code x.declarations o (go b x.declarations)))))
 
+-- what the objects of a class are made as, if they are linkages
+abbrev pub linkage_in : CodeOf → Option (List ℕ) → Option Linkage
+linkage_in code None = None
+linkage_in code (Some cs) = linkage_with code cs
+
+abbrev pub linkage_of_class : CodeOf → (class : ℕ) → Option Linkage
+linkage_of_class code c = linkage_in code (levels code c)
+
 -- the block of the objects of a class, which has this class
 unfoldable pub objects_of : {S : Type 0} → CodeOf → (class : ℤ) → World → (ℕ → BlockOf → (start : ℕ) → Run S) → Run S
 objects_of code z o go =
@@ -89,7 +120,7 @@ objects_of code z o go =
     levelled code block.Object x.block o (λ b start. when (b.class == c) o (go x.block b start))))
 
 -- The values of an object's parameters, and the link to the frame in which its class is declared, are taken. The frame that generates the
--- object gets the reference at once, and waits. The arrays among the values go over to the object.
+-- object gets the reference at once, and waits. The arrays among the values go over to the object, which becomes a linkage if its class is one.
 abbrev pub generating : CodeOf → Limits → World → Frames → Activation → List Activation → (line : ℕ) → (class values : ℤ) → Run Machine
 generating code l o m a below line z n =
     index n o (λ n. pop_many n [] a.stack o (λ values stack.
@@ -98,7 +129,7 @@ generating code l o m a below line z n =
     having (supplied code b.class b values) o (λ cells.
     pushing a.room stack (Of (Object (length m.instances))) o (λ stack.
     entering l line (words_of_block b) o (λ p.
-    in_object (handed_over (length m.instances) (arrays_among values) p) m k b start parent cells (waiting a stack ∷ below))))))))))
+    in_object (enrolled (length m.instances) (linkage_of_class code b.class) (handed_over (length m.instances) (arrays_among values) p)) m k b start parent cells (waiting a stack ∷ below))))))))))
 
 -- the same of a prefixed block, whose encloser is the frame on top
 abbrev pub entering_prefixed : CodeOf → Limits → World → Frames → Activation → List Activation → (line : ℕ) → (block values : ℤ) → Run Machine

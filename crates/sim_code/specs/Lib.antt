@@ -3,6 +3,7 @@ pub mod Outcome
 pub mod Events
 pub mod Arrays
 pub mod Instances
+pub mod Sets
 pub mod Transfers
 pub mod Machine
 pub mod Classes
@@ -14,3 +15,4 @@ pub mod Growing
 pub mod Examples
 pub mod ClassExamples
 pub mod CoroutineExamples
+pub mod SetExamples

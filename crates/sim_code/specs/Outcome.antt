@@ -3,7 +3,7 @@ use Rattle.std.specs.Prelude.{ℕ, zero, suc, Bool, ℤ, List, [], Option, Some,
 use Rattle.sim_base.specs.declared.run_error.RunError.{RunError}
 use Rattle.sim_base.specs.declared.limits.Limits.{Limits}
 use Rattle.notices.specs.declared.notice.Notice.{Notice}
-use Rattle.simset.specs.Sets.{Linkage}
+use Rattle.simset.specs.Instances.{Memberships}
 use Rattle.sim_values.specs.Plain.{Plain}
 use Rattle.sim_values.specs.Store.{Store, first_store}
 use Rattle.sim_code.specs.declared.ending.Ending.{Ending as Answer}
@@ -27,13 +27,13 @@ pub record ArrayOf : Type 0 where
   pub given_back : Bool
 
 -- What every step gets and hands on: the ticks taken, the words in use, the texts with both images, the input left and the output so
--- far, the arrays, the sets, and the event notices of each simulation block.
+-- far, the arrays, the linkages with their sets, and the event notices of each simulation block.
 pub record World : Type 0 where
   pub ticks : ℕ
   pub words : ℕ
   pub store : Store
   pub arrays : List ArrayOf
-  pub sets : List Linkage
+  pub members : Memberships
   pub notices : List (List Notice)
 
 -- a run that goes on from a state, or has ended
@@ -67,7 +67,7 @@ shown (Ended o e) = shown_world o (Some e)
 
 -- the world before the first step, with these text constants and this input
 abbrev pub first_world : (constants : List (List ℕ)) → Limits → (input : List ℕ) → World
-first_world constants l input = record { ticks = 0; words = 0; store = first_store constants l.in_length l.out_length input; arrays = []; sets = []; notices = [] }
+first_world constants l input = record { ticks = 0; words = 0; store = first_store constants l.in_length l.out_length input; arrays = []; members = record { instances = []; sets = [] }; notices = [] }
 
 -- how the machine says that a run has ended; `at` is the place where it has no rule
 abbrev pub answer_of : Ending → (at : ℕ) → Answer

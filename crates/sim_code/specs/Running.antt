@@ -1,5 +1,5 @@
--- What of the table the machine that is built does: all but what is of classes, names of components, sets and simulations, and names of
--- both images, which have no row.
+-- What of the table the machine that is built does: all but the names of components and simulations, and those of both images, which have no
+-- row.
 use Rattle.std.specs.Prelude.{◌≡◌, ℕ, Bool, true, false, List, slice_get, Option, Some, None}
 use Rattle.sim_values.specs.declared.standard.Standard.{Standard}
 use Rattle.sim_values.specs.declared.standard.Standard.TheVariants as name
@@ -8,7 +8,7 @@ use Rattle.sim_code.specs.declared.instr.Instr.TheVariants as i
 use Rattle.sim_code.specs.declared.instr.Lined.{Lined}
 use Rattle.sim_code.specs.Rows.{standard_of}
 
--- the names of numbers, characters, texts, the input and the output
+-- the names of numbers, characters, texts, the input, the output and sets
 abbrev pub name_runs : Standard → Bool
 name_runs name.Abs = true
 name_runs name.Sign = true
@@ -51,6 +51,18 @@ name_runs name.Outimage = true
 name_runs name.Outchar = true
 name_runs name.Outtext = true
 name_runs name.Outint = true
+name_runs name.Suc = true
+name_runs name.Pred = true
+name_runs name.Prev = true
+name_runs name.Out = true
+name_runs name.Follow = true
+name_runs name.Precede = true
+name_runs name.Into = true
+name_runs name.First = true
+name_runs name.Last = true
+name_runs name.Empty = true
+name_runs name.Cardinal = true
+name_runs name.Clear = true
 name_runs _ = false
 
 abbrev pub standard_runs : Option Standard → Bool

@@ -3,6 +3,7 @@ ghost use Rattle.std.specs.Prelude.{◌≡◌, ℕ, List, Option, Some};
 ghost use Rattle.sim_code.specs.Examples.{Worked};
 ghost use Rattle.sim_code.specs.ClassExamples.{Worked as WorkedClasses};
 ghost use Rattle.sim_code.specs.CoroutineExamples.{Worked as WorkedCoroutines};
+ghost use Rattle.sim_code.specs.SetExamples.{Worked as WorkedSets};
 ghost use Rattle.sim_code.specs.Growing.{OutputGrows};
 ghost use Rattle.sim_code.specs.Instances.{Memory};
 ghost use Rattle.sim_code.specs.Outcome.{World};
@@ -22,6 +23,11 @@ pub fn worked_classes()
 /// The same of codes with coroutines: what goes on behind `detach`, `call` and `resume`, and what is refused.
 pub fn worked_coroutines()
     ensures { WorkedCoroutines }
+{}
+
+/// The same of codes with sets: which objects are linkages, what the procedures of SIMSET do, and of which objects they are none.
+pub fn worked_sets()
+    ensures { WorkedSets }
 {}
 
 /// What a run has written stays written: later output begins with it.

@@ -23,7 +23,7 @@ use Rattle.sim_values.specs.Plain.{Plain}
 use Rattle.sim_values.specs.Standard.{is_image, moves_position, on_image}
 use Rattle.sim_meaning.specs.Closing.{actual_term, array_place, array_term, attribute_term, behind_dot, class_parameters, close, close_actuals, close_all, close_place, constant_term, declared_place, declared_term, dot_term, formal_place, formal_term, formals_at, given_term, home_of, home_of_class, image_place, in_instance, is_attribute, is_text, is_text_type, is_variable, Joining, Lazily, literal_term, name_term, named_place, named_term, Negated, object_term, Plainly, signed_term, Sort, sort_of, standard_term, stream_of, sysout, two_term, variable_place, variable_term}
 use Rattle.sim_code.specs.Instances.{at_level}
-use Rattle.sim_meaning.specs.Attributes.{array_attribute, attribute, attribute_place, connected_object, connection_at, connection_in, declared_attribute, element_at, entry_at, entry_attribute, fitting, generation, if_any, kept_if, membership_term, parameter_at, parameter_attribute, parameter_qualification, place_of_attribute, qua_term, this_instance, this_term, transfer_at, transfer_term, variable_at, variable_attribute, with_arrays_kept}
+use Rattle.sim_meaning.specs.Attributes.{array_attribute, attribute, attribute_place, connected_object, connection_at, connection_in, declared_attribute, element_at, entry_at, entry_attribute, fitting, generation, if_any, kept_if, membership_term, own_attribute, parameter_at, parameter_attribute, parameter_qualification, place_of_attribute, qua_term, this_instance, this_term, transfer_at, transfer_term, variable_at, variable_attribute, with_arrays_kept}
 use Rattle.sim_code.specs.Transfers.{Calling, Detaching, Resuming, Transfer}
 use Rattle.sim_meaning.specs.Constants.{text_constant}
 use Rattle.sim_meaning.specs.Levels.{class_at}
@@ -223,18 +223,18 @@ module _ (s : Source) (line : ℕ) (object : Term) (terms : Terms) (n : ℕ) (mo
   attribute_place_small : (es : Expressions) (d : DeclNo) → term_weight (place_of_attribute s line object es terms d) ≤ n
   attribute_place_small es d = entry_at_small d (entry_of s.tables d) es
 
-  module _ (actuals : DeclNo → Terms) (few : (d : DeclNo) → 3 + (term_weight object + terms_weight (actuals d)) ≤ n) where
+  module _ (actuals : DeclNo → Terms) (few : (d : DeclNo) → 4 + (term_weight object + terms_weight (actuals d)) ≤ n) where
     entry_attribute_small : (d : DeclNo) (e : Option Entry) (es : Expressions) → term_weight (entry_attribute s line d e object es terms (actuals d)) ≤ n
     entry_attribute_small d None es = omega (arith, most)
     entry_attribute_small d (Some (entry.Variable t)) es = variable_attribute_small d es
     entry_attribute_small d (Some (entry.Constant t)) es = variable_attribute_small d es
     entry_attribute_small d (Some (entry.Array t k)) es = array_attribute_small d es
-    entry_attribute_small d (Some (entry.Procedure result k)) es = few d
+    entry_attribute_small d (Some (entry.Procedure result k)) es = omega (arith, few d)
     entry_attribute_small d (Some (entry.Class k)) es = omega (arith, most)
     entry_attribute_small d (Some (entry.Virtual result own)) es = omega (arith, most)
     entry_attribute_small d (Some (entry.Formal f)) es = parameter_attribute_small d f.kind es
     entry_attribute_small d (Some (entry.Unspecified w)) es = omega (arith, most)
-    entry_attribute_small d (Some (entry.Attribute name parameter result)) es = omega (arith, most)
+    entry_attribute_small d (Some (entry.Attribute name parameter result)) es = omega (arith, few d)
 
     attribute_of_small : (es : Expressions) (d : DeclNo) → term_weight (attribute s line object es terms actuals d) ≤ n
     attribute_of_small es d = entry_attribute_small d (entry_of s.tables d) es
@@ -326,8 +326,11 @@ mutual
       (attribute_of_small s line (connected_object s m i k) (close_all s m i es) (9 + expressions_weight es) (omega (arith, connected_small s m i k, close_all_small s m i es))
       (λ d. close_actuals s m i line es (formals_at s d)) (λ d. omega (arith, connected_small s m i k, close_actuals_small s m i line es (formals_at s d))) es)
       (omega arith))
+      (if_small (own_attribute s name.token.0) _ _ (9 + expressions_weight es)
+      (attribute_of_small s line (this_term s m i (found_at s name.token.0)) (close_all s m i es) (9 + expressions_weight es) (omega (arith, this_small s m i (found_at s name.token.0), close_all_small s m i es))
+      (λ d. close_actuals s m i line es (formals_at s d)) (λ d. omega (arith, this_small s m i (found_at s name.token.0), close_actuals_small s m i line es (formals_at s d))) es)
       (named_small s m i (9 + expressions_weight es) (omega arith) line (close_all s m i es) (omega (arith, close_all_small s m i es))
-      (λ fs. close_actuals s m i line es fs) (λ fs. omega (arith, close_actuals_small s m i line es fs)) (denoted s name.token.0) es))
+      (λ fs. close_actuals s m i line es fs) (λ fs. omega (arith, close_actuals_small s m i line es fs)) (denoted s name.token.0) es)))
   close_small s m i (syntax.This token class) = this_small s m i (found_at s token)
   close_small s m i (syntax.New token class es) =
       let line = line_at s class.token.0 in

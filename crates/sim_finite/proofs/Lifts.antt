@@ -15,6 +15,7 @@ use Rattle.sim_values.specs.Words.{array_words, is_exhausted}
 use Rattle.sim_code.specs.Outcome.{Ended, Ending, Going, Run, World}
 use Rattle.sim_values.specs.Texts.{Making, assign, concatenated}
 use Rattle.sim_code.specs.Events.{answering, applying_one, applying_two, assigning, choosing, computing, entering, having, integer_in, joining, making_text, no_rule, performing, pop_integers, pop_object, pop_many, pop_operands, pop_plain, pop_text, pop_truth, popping, putting_back, qualifying, referring, stopping, taking, testing_step, text_val, ticking, truth_in, when, with_texts}
+use Rattle.sim_code.specs.Sets.{linkage_given, linkage_named, performing_set, pop_given, set_effect, takes_linkage}
 use Rattle.sim_code.specs.Arrays.{copying_array, finding_element, keeping_array, live_array, making_array, words_of_array}
 
 -- where it goes on, this holds
@@ -137,6 +138,17 @@ module _ {S : Type 0} (P : World → S → Type 0) where
       pub plain_goes : (stack : List V) (o : World) (f : Plain → List V → Run S) → ((p : Plain) (rest : List V) → Goes P (f p rest)) → Goes P (pop_plain plain stack o f)
       unfolding pop_plain
       plain_goes stack o f x = popping_goes stack o _ (λ v rest. having_goes (plain v) o _ (λ p. x p rest))
+
+      given_goes : (takes : Bool) (stack : List V) (o : World) (f : Option ℕ → List V → Run S) → ((x : Option ℕ) (rest : List V) → Goes P (f x rest)) → Goes P (pop_given plain takes stack o f)
+      unfolding pop_given
+      given_goes false stack o f x = x None stack
+      given_goes true stack o f x = plain_goes stack o _ (λ p rest. having_goes (linkage_given o.members p) o _ (λ y. x y rest))
+
+      pub linkage_goes : (name : Standard) (stack : List V) (o : World) (f : World → Option Plain → List V → Run S) → ((p : World) (value : Option Plain) (rest : List V) → p.ticks ≡ o.ticks → Goes P (f p value rest)) → Goes P (performing_set plain name stack o f)
+      unfolding performing_set
+      linkage_goes name stack o f x =
+          given_goes (takes_linkage name) stack o _ (λ given rest. plain_goes rest o _ (λ p rest. having_goes (linkage_named o.members p) o _ (λ y.
+          having_goes (set_effect name o.members y given) o _ (λ effect. x (record o { members = effect.members }) effect.value rest refl))))
 
       pub object_goes : (line : ℕ) (stack : List V) (o : World) (f : ℕ → List V → Run S) → ((j : ℕ) (rest : List V) → Goes P (f j rest)) → Goes P (pop_object plain line stack o f)
       unfolding pop_object

@@ -2,7 +2,7 @@
 use Rattle.std.proofs.Common.{◌≡◌, ◌≤◌, ◌<◌, ℕ, zero, suc, ◌+◌, true, false, List, [], ◌∷◌, length, Option, Some, None, refl, ◌∙◌, arith}
 use Rattle.std.specs.Prelude.{◌==◌}
 use Rattle.sim_base.specs.declared.limits.Limits.{Limits}
-use Rattle.sim_scope.specs.Source.{Source, line_at}
+use Rattle.sim_scope.specs.Source.{Source}
 use Rattle.sim_code.specs.Outcome.{Ended, Ending, Going, Run, World, after, first_world}
 use Rattle.sim_code.specs.Instances.{no_instances}
 use Rattle.sim_meaning.specs.Constants.{constants_of}
@@ -12,7 +12,7 @@ use Rattle.sim_meaning.specs.Levels.{levels}
 use Rattle.sim_meaning.specs.Texts.{BlockText, PrefixedText, ProcedureText, Text, text}
 use Rattle.sim_finite.specs.Coming.{ComesToAnEnd}
 use Rattle.sim_finite.proofs.Lifts.{Goes, entering_goes, having_goes, none, stops, when_goes}
-use Rattle.sim_finite.proofs.Operators.{leaving_falls, object_ended_falls, op_falls, prefixed_goes}
+use Rattle.sim_finite.proofs.Operators.{leaving_falls, object_ended_falls, op_falls}
 use Rattle.sim_finite.proofs.Weights.{Lower, chain_weight, item_weight, kept_weight, lighter, ticked, weight, work_weight}
 
 -- ---- one step
@@ -40,7 +40,7 @@ module _ (s : Source) (l : Limits) (o : World) where
   program_falls m (Some (BlockText begin ds ss)) = entering_goes (From (0 + kept_weight m)) l _ _ o _ (λ p more most. ticked (omega (arith, more)) most)
   program_falls m (Some (ProcedureText result h a)) = none (From (0 + kept_weight m)) o
   program_falls m (Some (PrefixedText class arguments ds ss)) =
-      having_goes (From (0 + kept_weight m)) (levels s 0) o _ (λ xs. prefixed_goes (From (0 + kept_weight m)) s l o m [] 0 (line_at s class.token.0) [] None EndProgram xs (λ p c more most. ticked more most))
+      having_goes (From (0 + kept_weight m)) (levels s 0) o _ (λ xs. entering_goes (From (0 + kept_weight m)) l _ _ o _ (λ p more most. ticked (omega (arith, more)) most))
   program_falls m (Some _) = none (From (0 + kept_weight m)) o
 
   chain_falls : (m : Instances) (chain : List Activation) → Goes (From (chain_weight chain + kept_weight m)) (do_chain s l o m chain)

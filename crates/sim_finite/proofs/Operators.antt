@@ -6,6 +6,7 @@ use Rattle.sim_base.specs.declared.numbering.DeclNo.{DeclNo}
 use Rattle.sim_base.specs.declared.run_error.RunError.{RunError}
 use Rattle.sim_chains.specs.Chains.{Cut, cut_at}
 use Rattle.sim_chains.specs.Components.{AttachedObject, Components, DetachedObject, NoObject, ResumedObject, Standing, TerminatedObject}
+use Rattle.simset.specs.Sets.{Linkage}
 use Rattle.sim_scope.specs.Scopes.{class_formals}
 use Rattle.sim_scope.specs.Source.{Source, block_around, line_at}
 use Rattle.sim_tree.specs.declared.expr.Identifier.{Identifier}
@@ -22,13 +23,14 @@ use Rattle.sim_code.specs.Outcome.{ArrayOf, Run, World}
 use Rattle.sim_code.specs.Events.{computing, having, image_moved, text_val, ticking}
 use Rattle.sim_code.specs.Arrays.{element, element_set_in, giving_back, handed_over, live_array, owned_by, pairs}
 use Rattle.sim_code.specs.Instances.{CellPlace, ElementPlace, ImagePlace, Instance, Place, cells_of, cells_put, ended_as, given, given_in, going_below, is_given_at_end, is_live, live, main_goes_on, object_ended, system_head, with_instance}
+use Rattle.sim_code.specs.Sets.{enrolled}
 use Rattle.sim_code.specs.Transfers.{Transfer, component_in, transferred, transferring}
 use Rattle.sim_meaning.specs.Connections.{arm_tried, arms_tried, connected, object_connected}
-use Rattle.sim_meaning.specs.Levels.{class_at, has_procedure, is_in, levels, text_at}
+use Rattle.sim_meaning.specs.Levels.{class_at, has_procedure, is_in, levels, linkage_of_text, text_at}
 use Rattle.sim_meaning.specs.Objects.{cells_of_levels, filled_in, generated, inner_done, is_member, object_entered, prefix_done, prefixed_entered, putting_reference, with_inner}
 use Rattle.sim_meaning.specs.Entries.{arrays_among, arrays_by_value, arrays_declared, arrays_of, bounds_of, filled_behind, first_array, further_arrays, segments_of, first_cells, formals_of, words_of_cells}
 use Rattle.sim_meaning.specs.Meaning.{called, do_op, leaving, procedure_entered, sub_block_entered}
-use Rattle.sim_meaning.specs.Pending.{Activation, Address, AgainOp, array_in, ArrayOp, AttributeOf, AttributeOp, BackOp, BranchOp, CallOf, CallOp, Cell, cell, cell_made, cell_set, ChooseOp, Configuration, Connection, ConnectOp, CopyOf, CopyOp, DeclareOp, Do, DropOp, Either, ElementOf, ElementOp, ElementsOp, EndLevel, EndPrefixed, EnterOp, Eval, Exec, Execs, FetchOp, FitsOf, FitsOp, Further, Given, GiveOp, Held, IfOp, ImageOf, InnerOp, instance_in, Instances, Item, Joined, JoinOp, KeepOp, KeptOf, Key, Level, LevelOp, Link, made_in, MemberOf, MemberOp, NewOf, NewOp, NoTerm, NotNoneOf, NotNoneOp, ObjectOp, Of, One, OneOp, Op, owner, PastOp, place_in, PlaceOf, plain, PrefixedOp, ProcedureValue, put_in, QualifiedElementOf, QualifiedElementOp, QualifiedPlaceOf, QuaOf, QuaOp, RaiseOp, ReferOp, RemoteCallOf, ShareOp, StandardOf, StandardOp, StepOp, StepTestOp, StoreOp, SwapOp, Target, Term, Terms, TestOp, ToAddress, ToCell, ToPlace, ToReference, ToReferenceAt, ToText, ToTextAt, ToTextOf, TransferOf, TransferOp, Tree, Two, TwoOp, Unbuilt, Val, ValueAt, WhenOp, WhileElementOp, variable_in}
+use Rattle.sim_meaning.specs.Pending.{Activation, Address, AgainOp, array_in, ArrayOp, AttributeOf, AttributeOp, BackOp, BranchOp, CallOf, CallOp, Cell, cell, cell_made, cell_set, ChooseOp, Configuration, Connection, ConnectOp, CopyOf, CopyOp, DeclareOp, Do, DropOp, Either, ElementOf, ElementOp, ElementsOp, EndLevel, EndPrefixed, EnterOp, Eval, Exec, Execs, FetchOp, FitsOf, FitsOp, Further, Given, GiveOp, Held, IfOp, ImageOf, InnerOp, instance_in, Instances, Item, Joined, JoinOp, KeepOp, KeptOf, Key, Level, LevelOp, Link, made_in, MemberOf, MemberOp, NewOf, NewOp, NoTerm, NotNoneOf, NotNoneOp, ObjectOp, Of, One, OneOp, Op, owner, PastOp, place_in, PlaceOf, plain, PrefixedOp, ProcedureValue, put_in, QualifiedElementOf, QualifiedElementOp, QualifiedPlaceOf, QuaOf, QuaOp, RaiseOp, ReferOp, RemoteCallOf, SetOf, SetOp, ShareOp, StandardOf, StandardOp, StepOp, StepTestOp, StoreOp, SwapOp, Target, Term, Terms, TestOp, ToAddress, ToCell, ToPlace, ToReference, ToReferenceAt, ToText, ToTextAt, ToTextOf, TransferOf, TransferOp, Tree, Two, TwoOp, Unbuilt, Val, ValueAt, WhenOp, WhileElementOp, variable_in}
 use Rattle.sim_meaning.specs.Pending as pending
 use Rattle.sim_meaning.specs.Statements as statement
 use Rattle.sim_meaning.specs.Statements.{assigned, begin_of, compound, elements, entered_at, exec, execs, first_branch, inner_begun, levels_of_instance, looping, prefix_begun, raised, reading}
@@ -36,7 +38,7 @@ use Rattle.sim_meaning.specs.Steps.{count, each, eval, put_back, putting, stored
 use Rattle.sim_meaning.specs.Texts.{BlockText, ProcedureText, declared_at, kind_named}
 use Rattle.sim_meaning.specs.Texts as texts
 use Rattle.sim_finite.proofs.Closing.{close_small}
-use Rattle.sim_finite.proofs.Lifts.{Goes, assigning_goes, choosing_goes, copying_goes, entering_goes, finding_goes, having_goes, having_knows, integers_goes, joining_goes, keeping_goes, making_goes, many_goes, none, object_goes, one_goes, performing_goes, plain_goes, popping_goes, qualifying_goes, step_goes, stops, ticking_goes, truth_goes, two_goes, when_goes}
+use Rattle.sim_finite.proofs.Lifts.{Goes, assigning_goes, choosing_goes, copying_goes, entering_goes, finding_goes, having_goes, having_knows, integers_goes, joining_goes, keeping_goes, making_goes, many_goes, none, object_goes, one_goes, performing_goes, plain_goes, popping_goes, linkage_goes, qualifying_goes, step_goes, stops, ticking_goes, truth_goes, two_goes, when_goes}
 use Rattle.sim_finite.proofs.Transfers.{NotMore, NotMoreIn, transfer_small}
 use Rattle.sim_finite.proofs.Weights.{Lower, arms_weight, bounds_weight, chain_weight, declarations_weight, elements_weight, expression_weight, kept_weight, levels_weight, lighter, names_weight, op_weight, segments_weight, standings_weight, statements_weight, target_weight, term_weight, terms_weight, ticked, work_weight}
 
@@ -55,6 +57,10 @@ handed_ticks owner (n ∷ rest) o = handed_ticks owner rest _ ∙ owned_ticks (s
     owned_ticks : (a : Option ArrayOf) → (owned_by owner a o n).ticks ≡ o.ticks
     owned_ticks None = refl
     owned_ticks (Some a) = refl
+
+enrolled_ticks : (object : ℕ) (linkage : Option Linkage) (o : World) → (enrolled object linkage o).ticks ≡ o.ticks
+enrolled_ticks object None o = refl
+enrolled_ticks object (Some linkage) o = refl
 
 -- ---- memories that keep the same chains
 
@@ -229,6 +235,7 @@ module _ (s : Source) (l : Limits) (o : World) (m : Instances) (i : ℕ) (w : Li
   eval_falls (KeptOf a) = lighter refl (omega arith)
   eval_falls (NotNoneOf line a) = lighter refl (omega arith)
   eval_falls (TransferOf t line a) = lighter refl (omega arith)
+  eval_falls (SetOf name ts) = lighter refl (omega (arith, each_weight ts (Do (SetOp name) ∷ w)))
   eval_falls Unbuilt = none (From 1) o
 
   store_falls : (t : Target) → Falls (target_weight t) (stored o m i w vals rest t)
@@ -265,7 +272,8 @@ module _ (s : Source) (l : Limits) (o : World) (m : Instances) (i : ℕ) (w : Li
   object_falls : (vals : List Val) (k line : ℕ) (values : List Val) (j : ℕ) (xs : List Level) → Falls 1 (object_entered s l o m i w vals rest k line values j xs)
   object_falls vals k line values j xs =
       having_goes (From 1) (filled_in values (Some (cells_of_levels s xs)) (class_formals s.tables k)) o _ (λ filled. entering_goes (From 1) l line (words_of_cells (cells_of_levels s xs)) o _ (λ p more most.
-      let same = handed_ticks (length m.instances) (arrays_among values) p in ticked (omega (arith, more, same)) (omega (arith, most, same))))
+      let j = length m.instances in
+      let same = enrolled_ticks j (linkage_of_text s k) (handed_over j (arrays_among values) p) ∙ handed_ticks j (arrays_among values) p in ticked (omega (arith, more, same)) (omega (arith, most, same))))
 
   generation_falls : (k n line : ℕ) → Falls 1 (generated s l o m i w vals rest k n line)
   generation_falls k n line =
@@ -404,6 +412,7 @@ module _ (s : Source) (l : Limits) (o : World) (m : Instances) (i : ℕ) (w : Li
   op_falls KeepOp = popping_goes (From 1) vals o _ (λ v vals. having_goes (From 1) (array_in v) o _ (λ a. keeping_goes (From 1) a o _ (λ p same. lighter same (omega arith))))
   op_falls (NotNoneOp line) = object_goes (From 1) plain line vals o _ (λ j vals. lighter refl (omega arith))
   op_falls (TransferOp t line) = plain_goes (From 1) plain vals o _ (λ p vals. transfer_falls vals t line p)
+  op_falls (SetOp name) = linkage_goes (From 1) plain name vals o _ (λ p value vals same. lighter same (omega arith))
   op_falls DropOp = popping_goes (From 1) vals o _ (λ v vals. lighter refl (omega arith))
   op_falls AgainOp = popping_goes (From 1) vals o _ (λ v vals. lighter refl (omega arith))
   op_falls SwapOp = popping_goes (From 1) vals o _ (λ v vals. popping_goes (From 1) vals o _ (λ u vals. lighter refl (omega arith)))

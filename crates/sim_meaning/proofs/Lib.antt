@@ -1,4 +1,5 @@
 pub mod Worked
 pub mod WorkedClasses
 pub mod WorkedCoroutines
+pub mod WorkedSets
 pub mod TextsOfBodies

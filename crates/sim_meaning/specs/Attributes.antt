@@ -1,6 +1,6 @@
 -- The closed trees of what objects have: of attributes behind a dot, and of those that are seen in a connection; of the classes that are
 -- named in expressions; and of references, which have a qualification.
-use Rattle.std.specs.Prelude.{ℕ, Bool, true, false, if◌then◌else◌, List, ◌∷◌, slice_get, Option, Some, None}
+use Rattle.std.specs.Prelude.{ℕ, Bool, true, false, if◌then◌else◌, List, [], ◌∷◌, slice_get, Option, Some, None}
 use Rattle.sim_base.specs.declared.numbering.DeclNo.{DeclNo}
 use Rattle.sim_scope.specs.declared.scopes.Denotation.{Denotation}
 use Rattle.sim_scope.specs.declared.scopes.Denotation.TheVariants as denotation
@@ -25,7 +25,7 @@ use Rattle.sim_code.specs.Transfers.{Calling, Detaching, Resuming, Transfer}
 use Rattle.sim_meaning.specs.Names.{procedure_named}
 use Rattle.sim_meaning.specs.Levels.{qualification}
 use Rattle.sim_meaning.specs.Texts.{ConnectionText, Text, text}
-use Rattle.sim_meaning.specs.Pending.{AttributeOf, Cell, Connection, Declared, ElementOf, FitsOf, Further, Given, Instances, KeptOf, Key, MemberOf, NewOf, NoTerm, NotNoneOf, PlaceOf, QuaOf, QualifiedElementOf, QualifiedPlaceOf, RemoteCallOf, Term, Terms, TransferOf, Unbuilt, ValueAt}
+use Rattle.sim_meaning.specs.Pending.{AttributeOf, Cell, Connection, Declared, ElementOf, FitsOf, Further, Given, Instances, KeptOf, Key, MemberOf, NewOf, NoTerm, NotNoneOf, PlaceOf, QuaOf, QualifiedElementOf, QualifiedPlaceOf, RemoteCallOf, SetOf, Term, Terms, TransferOf, Unbuilt, ValueAt}
 
 -- what is there, or else another tree
 abbrev pub if_any : {A : Type 0} → Option A → (A → Term) → Term → Term
@@ -77,12 +77,14 @@ parameter_attribute line shape.Simple place es terms = variable_attribute place 
 parameter_attribute line shape.Array place es terms = array_attribute line place es terms
 parameter_attribute line shape.Procedure place es terms = Unbuilt
 
+-- A procedure of SIMSET is done on the object: E6 of none, before its actual parameter.
 abbrev pub entry_attribute : Source → (line : ℕ) → DeclNo → Option Entry → (object : Term) → Expressions → Terms → (actuals : Terms) → Term
 entry_attribute s line d (Some (entry.Variable type)) object es terms actuals = variable_attribute (attribute_place s line d object) es
 entry_attribute s line d (Some (entry.Constant type)) object es terms actuals = variable_attribute (attribute_place s line d object) es
 entry_attribute s line d (Some (entry.Array element dimensions)) object es terms actuals = array_attribute line (attribute_place s line d object) es terms
 entry_attribute s line d (Some (entry.Formal f)) object es terms actuals = parameter_attribute line f.kind (attribute_place s line d object) es terms
 entry_attribute s line d (Some (entry.Procedure result block)) object es terms actuals = RemoteCallOf object block actuals line
+entry_attribute s line d (Some (entry.Attribute name parameter result)) object es terms actuals = SetOf name (Further (NotNoneOf line object) actuals)
 entry_attribute s line d _ object es terms actuals = Unbuilt
 
 -- the attribute of an object, with its operands, as they are closed for themselves and for formal parameters
@@ -139,6 +141,29 @@ this_instance (Some j) = Given (Object j)
 abbrev pub this_term : Source → Instances → ℕ → (found : Option ℕ) → Term
 this_term s m i None = Unbuilt
 this_term s m i (Some k) = if_any (connection_in s (Some k)) (λ c. connected_object s m i c) (this_instance (at_level m (level_of s k) i))
+
+-- ---- procedures of SIMSET
+
+-- one that is seen without a dot, by its declaration
+abbrev pub is_standard_attribute : Option Entry → Bool
+is_standard_attribute (Some (entry.Attribute name parameter result)) = true
+is_standard_attribute _ = false
+
+abbrev pub attribute_if : Bool → DeclNo → Option DeclNo
+attribute_if true d = Some d
+attribute_if false d = None
+
+abbrev pub attribute_denoted : Source → Option Denotation → Option DeclNo
+attribute_denoted s (Some (denotation.Declared d)) = attribute_if (is_standard_attribute (entry_of s.tables d)) d
+attribute_denoted s _ = None
+
+unfoldable pub own_attribute : Source → (token : ℕ) → Option DeclNo
+own_attribute s token = attribute_denoted s (denoted s token)
+
+-- the formal parameter of a procedure of SIMSET, if it has one: a reference
+abbrev pub attribute_formals : Option SimType → List Formal
+attribute_formals None = []
+attribute_formals (Some type) = record { mode = mode.ByReference; kind = shape.Simple; ty = Some type } ∷ []
 
 -- ---- transfers of control
 

@@ -39,7 +39,7 @@ use Rattle.sim_values.specs.Plain.{Character, Integer, Nothing, Plain, Text, Tru
 use Rattle.sim_values.specs.Standard.{is_image, moves_position, on_image}
 use Rattle.sim_values.specs.Texts.{notext}
 use Rattle.sim_code.specs.Instances.{at_level}
-use Rattle.sim_meaning.specs.Attributes.{attribute, connected_object, connection_at, declared_attribute, detach_term, fitting, generation, if_any, membership_term, parameter_qualification, place_of_attribute, qua_term, qualified_place, this_term, transfer_at, transfer_term, with_arrays_kept}
+use Rattle.sim_meaning.specs.Attributes.{attribute, attribute_formals, connected_object, connection_at, declared_attribute, detach_term, fitting, generation, if_any, membership_term, own_attribute, parameter_qualification, place_of_attribute, qua_term, qualified_place, this_term, transfer_at, transfer_term, with_arrays_kept}
 use Rattle.sim_meaning.specs.Constants.{text_constant}
 use Rattle.sim_meaning.specs.Levels.{class_at, qualification}
 use Rattle.sim_meaning.specs.Names.{is_image_in, procedure_named, stream_named}
@@ -179,8 +179,12 @@ formals_from s [] = []
 formals_from s (d ∷ ds) = formal_before (formal_declared s.tables (Some d)) (formals_from s ds)
 
 -- the formal parameters of a procedure
+abbrev pub formals_declared : Source → DeclNo → Option Entry → List Formal
+formals_declared s d (Some (entry.Attribute name parameter result)) = attribute_formals parameter
+formals_declared s d e = formals_from s (formals_of s.tables d)
+
 abbrev pub formals_at : Source → DeclNo → List Formal
-formals_at s d = formals_from s (formals_of s.tables d)
+formals_at s d = formals_declared s d (entry_of s.tables d)
 
 -- an identifier that is declared, with its operands, as they are closed for themselves and for formal parameters
 abbrev pub declared_term : Source → Instances → ℕ → (line : ℕ) → DeclNo → Option Entry → Expressions → Terms → (List Formal → Terms) → Term
@@ -345,7 +349,9 @@ abbrev mutual
       (λ k. if_any (declared_attribute (denoted s name.token.0))
       (attribute s (line_at s name.token.0) (connected_object s m i k) es (close_all s m i es) (λ d. close_actuals s m i (line_at s name.token.0) es (formals_at s d)))
       Unbuilt)
-      (named_term s m i (line_at s name.token.0) (denoted s name.token.0) es (close_all s m i es) (λ formals. close_actuals s m i (line_at s name.token.0) es formals)))
+      (if_any (own_attribute s name.token.0)
+      (attribute s (line_at s name.token.0) (this_term s m i (found_at s name.token.0)) es (close_all s m i es) (λ d. close_actuals s m i (line_at s name.token.0) es (formals_at s d)))
+      (named_term s m i (line_at s name.token.0) (denoted s name.token.0) es (close_all s m i es) (λ formals. close_actuals s m i (line_at s name.token.0) es formals))))
   close s m i (syntax.This token class) = this_term s m i (found_at s token)
   close s m i (syntax.New token class es) =
       generation (home_of_class s m i (denoted s class.token.0)) (class_at s class.token.0)

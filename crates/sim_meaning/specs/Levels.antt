@@ -1,17 +1,23 @@
 -- Classes and their levels. A class has the attributes and the statements of its prefix, of the prefix of that, and so on: these are its
 -- levels, the outermost prefix first and the class itself last. So has a prefixed block. An object is in each of the levels of its class.
 use Rattle.std.specs.Prelude.{ℕ, zero, suc, Bool, true, false, not, ◌==◌, if◌then◌else◌, List, [], ◌∷◌, ◌++◌, length, slice_get, Option, Some, None}
+use Rattle.std.specs.List.{list_any}
 use Rattle.sim_scope.specs.declared.scopes.Denotation.{Denotation}
 use Rattle.sim_scope.specs.declared.scopes.Denotation.TheVariants as denotation
 use Rattle.sim_scope.specs.declared.types.SimType.{SimType}
 use Rattle.sim_scope.specs.declared.types.SimType.TheVariants as t
+use Rattle.sim_scope.specs.declared.types.StandardClass.{StandardClass}
+use Rattle.sim_scope.specs.declared.types.StandardClass.TheVariants as standard
 use Rattle.sim_scope.specs.Access.{encloser}
-use Rattle.sim_scope.specs.Levels.{base, class_block, has_level, has_standard}
+use Rattle.sim_scope.specs.Levels.{base, class_block, has_level, is_simulation_block}
 use Rattle.sim_scope.specs.Source.{Source, denoted}
 use Rattle.sim_scope.specs.Tables.{BlockOf, Tables}
 use Rattle.sim_tree.specs.declared.expr.Membership.{Membership}
 use Rattle.sim_tree.specs.declared.expr.Membership.TheVariants as membership
+use Rattle.sim_tree.specs.Syntax.{NoDeclaration, NoStatement}
+use Rattle.simset.specs.Sets.{Linkage}
 use Rattle.sim_code.specs.Instances.{Instance}
+use Rattle.sim_code.specs.Sets.{linkage_by}
 use Rattle.sim_meaning.specs.Pending.{Held, Instances, Level}
 use Rattle.sim_meaning.specs.Texts.{ClassText, PrefixedText, StandardText, Text, text}
 
@@ -43,14 +49,20 @@ is_written (Some token) = true
 abbrev pub writes_inner : Source → (text : ℕ) → Bool
 writes_inner s k = is_written (written_in (slice_get s.tables.blocks k))
 
-abbrev pub unless_standard : (standard : Bool) → Level → Option Level
-unless_standard true x = None
-unless_standard false x = Some x
+abbrev pub unless_simulation : (simulation : Bool) → Level → Option Level
+unless_simulation true x = None
+unless_simulation false x = Some x
 
--- Levels with `simset` or `simulation` in front, and standard classes, are not built.
+-- the classes of SIMSET have no declarations and no statements of their own
+abbrev pub standard_level : (text : ℕ) → StandardClass → Option Level
+standard_level k standard.Process = None
+standard_level k _ = Some (record { text = k; declarations = NoDeclaration; statements = NoStatement; inner_last = true })
+
+-- Levels with `simulation` in front, and processes, are not built. `simset` in front gives no level of its own.
 abbrev pub level_made : Source → (text : ℕ) → Option Text → Option Level
-level_made s k (Some (ClassText prefix h ds ss)) = unless_standard (has_standard s.tables k) (record { text = k; declarations = ds; statements = ss; inner_last = not (writes_inner s k) })
-level_made s k (Some (PrefixedText class arguments ds ss)) = unless_standard (has_standard s.tables k) (record { text = k; declarations = ds; statements = ss; inner_last = true })
+level_made s k (Some (ClassText prefix h ds ss)) = unless_simulation (is_simulation_block s.tables k) (record { text = k; declarations = ds; statements = ss; inner_last = not (writes_inner s k) })
+level_made s k (Some (PrefixedText class arguments ds ss)) = unless_simulation (is_simulation_block s.tables k) (record { text = k; declarations = ds; statements = ss; inner_last = true })
+level_made s k (Some (StandardText which)) = standard_level k which
 level_made s k _ = None
 
 abbrev pub both : Option Level → Option (List Level) → Option (List Level)
@@ -73,6 +85,7 @@ levels_inside k (x ∷ xs) = if x.text == k then xs else levels_inside k xs
 abbrev pub has_levels : Option Text → Bool
 has_levels (Some (ClassText prefix h ds ss)) = true
 has_levels (Some (PrefixedText class arguments ds ss)) = true
+has_levels (Some (StandardText which)) = true
 has_levels _ = false
 
 -- ---- the class of an object
@@ -137,3 +150,25 @@ class_at s token = class_denoted s (denoted s token)
 unfoldable pub qualification : Source → Option SimType → Option ℕ
 qualification s (Some (t.Ref d)) = class_text s (class_block s.tables d)
 qualification s _ = None
+
+-- ---- linkages
+
+abbrev pub is_standard_text : (StandardClass → Bool) → Option Text → Bool
+is_standard_text test (Some (StandardText which)) = test which
+is_standard_text test _ = false
+
+abbrev pub is_linkage_class : StandardClass → Bool
+is_linkage_class standard.Linkage = true
+is_linkage_class _ = false
+
+abbrev pub is_head_class : StandardClass → Bool
+is_head_class standard.Head = true
+is_head_class _ = false
+
+-- whether a standard class of a kind is one of the levels of a class
+abbrev pub has_standard_class : Source → (StandardClass → Bool) → (text : ℕ) → Bool
+has_standard_class s test k = list_any (λ level. is_standard_text test (text s level)) (levels_of s k)
+
+-- what the objects of a class are made as, if they are linkages
+unfoldable pub linkage_of_text : Source → (text : ℕ) → Option Linkage
+linkage_of_text s k = linkage_by (has_standard_class s is_head_class k) (has_standard_class s is_linkage_class k)

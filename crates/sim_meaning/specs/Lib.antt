@@ -16,3 +16,4 @@ pub mod Examples
 pub mod TextExamples
 pub mod ClassExamples
 pub mod CoroutineExamples
+pub mod SetExamples

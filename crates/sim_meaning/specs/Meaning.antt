@@ -8,14 +8,15 @@ use Rattle.sim_code.specs.Outcome.{Going, Normal, Run, World, after, first_world
 use Rattle.sim_code.specs.Events.{applying_one, applying_two, choosing, entering, having, joining, no_rule, performing, pop_integers, pop_many, pop_truth, popping, stopping, testing_step, ticking, when}
 use Rattle.sim_code.specs.Arrays.{giving_back, handed_over, making_array, pairs}
 use Rattle.sim_code.specs.Instances.{Instance, given, is_given_at_end, is_live, no_instances, object_ended}
-use Rattle.sim_meaning.specs.Pending.{Activation, AgainOp, ArrayOp, ArrayValue, AttributeOp, BackOp, BranchOp, CallOp, ChooseOp, Configuration, ConnectOp, CopyOp, DeclareOp, Do, DropOp, ElementOp, ElementsOp, EndBlock, EndLevel, EndObject, EndPrefixed, EndProcedure, EndProgram, EnterOp, Eval, Exec, Execs, FetchOp, FitsOp, GiveOp, Held, IfOp, InnerOp, Instances, Item, JoinOp, KeepOp, LevelOp, MemberOp, NewOp, NotNoneOp, ObjectOp, Of, OneOp, Op, PastOp, PrefixedOp, QuaOp, QualifiedElementOp, RaiseOp, ReferOp, Result, ShareOp, StandardOp, StepOp, StepTestOp, StoreOp, SwapOp, TestOp, TransferOp, TwoOp, Val, WhenOp, WhileElementOp, cell, instance_in, owner, plain}
+use Rattle.sim_code.specs.Sets.{performing_set}
+use Rattle.sim_meaning.specs.Pending.{Activation, AgainOp, ArrayOp, ArrayValue, AttributeOp, BackOp, BranchOp, CallOp, ChooseOp, Configuration, ConnectOp, CopyOp, DeclareOp, Do, DropOp, ElementOp, ElementsOp, EndBlock, EndLevel, EndObject, EndPrefixed, EndProcedure, EndProgram, EnterOp, Eval, Exec, Execs, FetchOp, FitsOp, GiveOp, Held, IfOp, InnerOp, Instances, Item, JoinOp, KeepOp, LevelOp, MemberOp, NewOp, NotNoneOp, ObjectOp, Of, OneOp, Op, PastOp, PrefixedOp, QuaOp, QualifiedElementOp, RaiseOp, ReferOp, Result, SetOp, ShareOp, StandardOp, StepOp, StepTestOp, StoreOp, SwapOp, TestOp, TransferOp, TwoOp, Val, WhenOp, WhileElementOp, cell, instance_in, owner, plain}
 use Rattle.sim_meaning.specs.Constants.{constants_of}
 use Rattle.sim_meaning.specs.Texts.{BlockText, PrefixedText, ProcedureText, Text, text}
 use Rattle.sim_meaning.specs.Levels.{levels}
 use Rattle.sim_meaning.specs.Closing.{close}
 use Rattle.sim_meaning.specs.Steps.{copied, element_found, eval, fetched, given_to, go, operand, put_back, stored, with_value}
 use Rattle.sim_meaning.specs.Statements.{elements, exec, execs, first_branch, raised, step_tested, while_element}
-use Rattle.sim_meaning.specs.Objects.{attribute_found, fitted, generated, inner_done, kept, member_tested, not_none, object_found, prefix_done, prefixed_entered, qua_tested, qualified_element_found, referred, transfer_done}
+use Rattle.sim_meaning.specs.Objects.{attribute_found, cells_of_levels, fitted, generated, inner_done, kept, member_tested, levels_work, not_none, object_found, prefix_done, qua_tested, qualified_element_found, referred, transfer_done}
 use Rattle.sim_meaning.specs.Connections.{inspected, inspected_when}
 use Rattle.sim_meaning.specs.Entries.{arrays_by_value, arrays_declared, filled_behind, first_cells, formals_of, in_instance, instances_kept, words_of_cells}
 
@@ -105,6 +106,7 @@ do_op s l o m i w vals rest (FitsOp k line) = fitted s o m i w vals rest k line
 do_op s l o m i w vals rest KeepOp = kept o m i w vals rest
 do_op s l o m i w vals rest (NotNoneOp line) = not_none o m i w vals rest line
 do_op s l o m i w vals rest (TransferOp t line) = transfer_done o m i w vals rest t line
+do_op s l o m i w vals rest (SetOp name) = performing_set plain name vals o (λ p value vals. go p m i w (with_value value vals) rest)
 -- values in hand, and assignments
 do_op s l o m i w vals rest DropOp = popping vals o (λ v vals. go o m i w vals rest)
 do_op s l o m i w vals rest AgainOp = popping vals o (λ v vals'. go o m i w (v ∷ vals) rest)
@@ -152,13 +154,15 @@ do_work s l o m i vals rest [] = no_rule o
 do_work s l o m i vals rest (x ∷ w) = do_item s l o m i w vals rest x
 
 -- The first step enters the program's block. Behind it stands that control goes on, so that the code has an instruction there. A prefix of the
--- program's block can only be `simset` or `simulation`, whose levels are not built yet.
+-- program's block can only be `simset` or `simulation`, which has no parameters.
 abbrev pub program_entered : Source → Limits → World → Instances → Option Text → Run Configuration
 program_entered s l o m (Some (BlockText begin ds ss)) =
     let cells = first_cells s 0 (BlockText begin ds ss) in
     entering l (line_at s begin) (words_of_cells cells) o (λ p.
     in_instance s p m 0 None cells (λ now. Do PastOp ∷ block_work s now (length m.instances) ds ss EndProgram) [])
-program_entered s l o m (Some (PrefixedText class arguments ds ss)) = having (levels s 0) o (λ xs. prefixed_entered s l o m [] 0 (line_at s class.token.0) [] None EndProgram xs)
+program_entered s l o m (Some (PrefixedText class arguments ds ss)) =
+    having (levels s 0) o (λ xs. entering l (line_at s class.token.0) (words_of_cells (cells_of_levels s xs)) o (λ p.
+    in_instance s p m 0 None (cells_of_levels s xs) (λ now. Do PastOp ∷ levels_work xs EndProgram) []))
 program_entered s l o m _ = no_rule o
 
 abbrev pub first_step : Source → Limits → World → Instances → Run Configuration

@@ -14,8 +14,9 @@ use Rattle.sim_code.specs.Outcome.{Going, Run, World}
 use Rattle.sim_code.specs.Events.{entering, having, no_rule, pop_many, pop_object, pop_plain, popping, qualifying, when}
 use Rattle.sim_code.specs.Arrays.{element_set, finding_element, handed_over, keeping_array}
 use Rattle.sim_code.specs.Instances.{CellPlace, ElementPlace, Place, entered, is_live}
+use Rattle.sim_code.specs.Sets.{enrolled}
 use Rattle.sim_code.specs.Transfers.{Transfer, transferring}
-use Rattle.sim_meaning.specs.Levels.{belongs, has_procedure, is_in, levels}
+use Rattle.sim_meaning.specs.Levels.{belongs, has_procedure, is_in, levels, linkage_of_text}
 use Rattle.sim_meaning.specs.Pending.{Activation, Address, ArrayValue, Configuration, Declared, DeclareOp, Do, EndLevel, EndObject, EndPrefixed, Execs, Held, InnerOp, Instances, Item, Key, Level, LevelOp, Link, Of, Val, array_in, cell_set, held_set, instance_in, owner, place_in, plain}
 use Rattle.sim_meaning.specs.Texts.{constant_of}
 use Rattle.sim_meaning.specs.Steps.{go}
@@ -145,13 +146,13 @@ abbrev pub in_object : Source → World → Instances → (text encloser : ℕ) 
 in_object s o m k encloser cells xs rest =
     Going o (record { chain = record { instance = length m.instances; work = levels_work xs EndObject; values = [] } ∷ rest; memory = entered m (new_instance s k (Some encloser) cells) AttachedObject })
 
--- The actuals were evaluated, and now the object is made. The instance that generates it has its reference in hand, and waits until control
--- first returns.
+-- The actuals were evaluated, and now the object is made, as a linkage if its class is one. The instance that generates it has its reference in
+-- hand, and waits until control first returns.
 abbrev pub object_entered : Source → Limits → World → Instances → ℕ → List Item → List Val → List Activation → (text line : ℕ) → List Val → (encloser : ℕ) → List Level → Run Configuration
 object_entered s l o m i w vals rest k line values j xs =
     having (filled_in values (Some (cells_of_levels s xs)) (class_formals s.tables k)) o (λ filled.
     entering l line (words_of_cells (cells_of_levels s xs)) o (λ p.
-    in_object s (arrays_given (length m.instances) values p) m k j filled xs (record { instance = i; work = w; values = Of (Object (length m.instances)) ∷ vals } ∷ rest)))
+    in_object s (enrolled (length m.instances) (linkage_of_text s k) (arrays_given (length m.instances) values p)) m k j filled xs (record { instance = i; work = w; values = Of (Object (length m.instances)) ∷ vals } ∷ rest)))
 
 abbrev pub generated : Source → Limits → World → Instances → ℕ → List Item → List Val → List Activation → (text actuals line : ℕ) → Run Configuration
 generated s l o m i w vals rest k n line =

@@ -55,6 +55,8 @@ mutual
     -- a reference that is not none; `detach`, `call` and `resume` of the object that a reference names
     NotNoneOf : (line : ℕ) → (object : Term) → Term
     TransferOf : Transfer → (line : ℕ) → (object : Term) → Term
+    -- a procedure of SIMSET: of an object, and with its actual parameter, if it has one
+    SetOf : Standard → (operands : Terms) → Term
     -- a form that is not built
     Unbuilt : Term
 
@@ -138,6 +140,7 @@ pub data Op : Type 0 where
   KeepOp : Op
   NotNoneOp : (line : ℕ) → Op
   TransferOp : Transfer → (line : ℕ) → Op
+  SetOp : Standard → Op
   -- the value in hand is dropped, or there once more; the last two change places
   DropOp : Op
   AgainOp : Op

@@ -1,15 +1,18 @@
 -- What a statement does when it begins, and what is pending of it then.
 use Rattle.std.specs.Prelude.{ℕ, Bool, true, false, List, [], ◌∷◌, ◌++◌, reverse, Option, Some, None}
 use Rattle.sim_base.specs.declared.limits.Limits.{Limits}
+use Rattle.sim_base.specs.declared.numbering.DeclNo.{DeclNo}
 use Rattle.sim_scope.specs.declared.scopes.Denotation.{Denotation}
 use Rattle.sim_scope.specs.declared.scopes.Denotation.TheVariants as denotation
 use Rattle.sim_scope.specs.Assignments.{LeftSide, last_value, left_sides}
-use Rattle.sim_scope.specs.Scopes.{result_of}
+use Rattle.sim_scope.specs.declared.types.Entry.{Entry}
+use Rattle.sim_scope.specs.declared.types.Entry.TheVariants as entry
+use Rattle.sim_scope.specs.Scopes.{entry_of, result_of}
 use Rattle.sim_scope.specs.Source.{Source, block_around, denoted, line_at}
 use Rattle.sim_tree.specs.declared.expr.Identifier.{Identifier}
 use Rattle.sim_tree.specs.declared.stmt.Assignment.{Assignment}
 use Rattle.sim_tree.specs.declared.stmt.Assignment.TheVariants as assignment
-use Rattle.sim_tree.specs.Syntax.{Also, Begin, Block, Element, Expression, Expressions, NoDeclaration, NoMore, NoStatement, RightSide, Statement, Statements, With}
+use Rattle.sim_tree.specs.Syntax.{Also, Begin, Block, Element, Expression, Expressions, NoDeclaration, NoMore, NoStatement, Statement, Statements, With}
 use Rattle.sim_tree.specs.Syntax as syntax
 use Rattle.sim_values.specs.declared.operators.Calculation.TheVariants as calculation
 use Rattle.sim_values.specs.declared.operators.Dyadic.TheVariants as dyadic
@@ -34,9 +37,13 @@ abbrev pub standard_leaves : Option Standard → Bool
 standard_leaves None = false
 standard_leaves (Some name) = has_value (row_of name).result
 
+abbrev pub entry_leaves : Source → DeclNo → Option Entry → Bool
+entry_leaves s d (Some (entry.Attribute name parameter result)) = has_type result
+entry_leaves s d e = has_type (result_of s.tables d)
+
 abbrev pub denoted_leaves : Source → Option Denotation → Bool
 denoted_leaves s None = false
-denoted_leaves s (Some (denotation.Declared d)) = has_type (result_of s.tables d)
+denoted_leaves s (Some (denotation.Declared d)) = entry_leaves s d (entry_of s.tables d)
 denoted_leaves s (Some (denotation.Standard name)) = standard_leaves (procedure_named name)
 
 -- whether a call that stands as a statement leaves a value, which is dropped

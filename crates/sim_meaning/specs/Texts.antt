@@ -1,6 +1,6 @@
 -- The texts of a program: what its bodies are made of, in their order. A text's number is its place, so text k is that of body k, and of
 -- block k of the tables of scopes.
-use Rattle.std.specs.Prelude.{ℕ, ◌+◌, Bool, true, false, not, ◌&&◌, ◌==◌, nat_le, nat_lt, if◌then◌else◌, ℤ, neg_ℤ, List, [], ◌∷◌, ◌++◌, map, slice_get, Option, Some, None}
+use Rattle.std.specs.Prelude.{ℕ, ◌+◌, Bool, true, false, not, ◌&&◌, ◌||◌, ◌==◌, nat_le, nat_lt, if◌then◌else◌, ℤ, neg_ℤ, List, [], ◌∷◌, ◌++◌, map, slice_get, Option, Some, None}
 use Rattle.std.specs.List.{list_any}
 use Rattle.sim_base.specs.declared.numbering.DeclNo.{DeclNo}
 use Rattle.sim_scope.specs.declared.scopes.Declaration.{Declaration as Row}
@@ -22,7 +22,7 @@ use Rattle.sim_tree.specs.declared.stmt.Constant.TheVariants as constant
 use Rattle.sim_tree.specs.declared.stmt.TypeName.{TypeName}
 use Rattle.sim_tree.specs.declared.stmt.TypeName.TheVariants as type_name
 use Rattle.sim_tree.specs.declared.stmt.Variable.{Variable}
-use Rattle.sim_tree.specs.Syntax.{Arms, Begin, Block, Compound, Declaration, Declarations, DeclareClass, DeclareProcedure, Arrays, Variables, Expressions, Heading, NoArm, NoDeclaration, NoStatement, Also, Prefix, Program, Statement, Statements, When, With}
+use Rattle.sim_tree.specs.Syntax.{Arms, Begin, Block, Compound, Declaration, Declarations, DeclareClass, DeclareProcedure, Arrays, Variables, Expressions, Heading, NoArm, NoDeclaration, NoStatement, Also, Prefix, Statement, Statements, When, With}
 use Rattle.sim_tree.specs.Syntax as syntax
 use Rattle.sim_values.specs.declared.kind.Kind.{Kind}
 use Rattle.sim_values.specs.declared.kind.Kind.TheVariants as kind
@@ -122,9 +122,9 @@ is_class_kind _ = false
 
 abbrev pub has_class_in : Option BlockOf → List BlockOf → Bool
 has_class_in None blocks = false
-has_class_in (Some b) blocks = list_any (λ c. is_class_kind c.kind && nat_le b.first c.first && nat_lt c.first b.end) blocks
+has_class_in (Some b) blocks = is_class_kind b.kind || list_any (λ c. is_class_kind c.kind && nat_le b.first c.first && nat_lt c.first b.end) blocks
 
--- a text that has no class declaration and no prefixed block
+-- a text that is no class and no prefixed block, and has none inside
 unfoldable pub is_class_free : Source → ℕ → Bool
 is_class_free s k = not (has_class_in (slice_get s.tables.blocks k) s.tables.blocks)
 

@@ -1,8 +1,8 @@
 -- A program of a derivation without names that are not built, and without forms that are not built, is plain.
-use Rattle.std.proofs.Common.{◌≡◌, ℕ, Bool, true, false, ◌||◌, List, [], ◌∷◌, ◌++◌, Option, Some, None, map, refl, sym, ap}
+use Rattle.std.proofs.Common.{◌≡◌, ℕ, Bool, true, false, ◌||◌, List, [], ◌∷◌, ◌++◌, Option, Some, None, map, refl, sym}
 use Rattle.std.proofs.lemmas.Bool.{false≢true}
 use Rattle.std.specs.List.{list_any}
-use Rattle.std.specs.Prelude.{is_some, not, option_map}
+use Rattle.std.specs.Prelude.{not, option_map}
 use Rattle.sim_base.specs.declared.token.Token.{Token}
 use Rattle.sim_base.specs.declared.token.TokenKind.TheVariants as k
 use Rattle.sim_tree.specs.declared.expr.Expr.{Expr}
@@ -54,7 +54,7 @@ use Rattle.sim_scope.specs.Walk.{arms_events, block_events, declaration_events, 
 use Rattle.sim_static.specs.UnbuiltForms.{forms, has_code, has_some, has_unbuilt_form, is_by_name, is_name, is_of_procedures, is_procedure, yes}
 use Rattle.sim_static.specs.UnbuiltNames.{has_unbuilt_name, is_dot}
 use Rattle.sim_plain.specs.Clean.{Clean, CleanBehind}
-use Rattle.sim_agree.specs.Plain.{Each, Plain, PlainArms, PlainBlock, PlainBounds, PlainDeclaration, PlainDeclarations, PlainElement, PlainExpression, PlainHeading, PlainInterface, PlainMode, PlainName, PlainPrefix, PlainResult, PlainSegment, PlainSide, PlainSpecification, PlainSpecified, PlainStatement, PlainStatements, PlainType, PlainWord}
+use Rattle.sim_agree.specs.Plain.{Each, Plain, PlainArms, PlainBlock, PlainBounds, PlainDeclaration, PlainDeclarations, PlainElement, PlainExpression, PlainHeading, PlainInterface, PlainMode, PlainName, PlainPrefix, PlainResult, PlainSegment, PlainSide, PlainSpecification, PlainSpecified, PlainStart, PlainStatement, PlainStatements, PlainType, PlainWord}
 use Rattle.sim_plain.proofs.Expressions.{operand_plain, plain_expr, valued, arguments_given}
 use Rattle.sim_plain.proofs.Tokens.{none_spells, reads_clean}
 
@@ -409,9 +409,13 @@ plain_block = induction.each_block Says Declares Blocks Classes Procedures Arms 
 
 -- ---- a program
 
-no_prefix : (x : Option BlockPrefix) → is_some (option_map t.prefix_syntax x) ≡ false → x ≡ None
-no_prefix None h = refl
-no_prefix (Some x) h = absurd (no h)
+-- what a program's own prefix says, and its block
+abbrev start_of : Option BlockPrefix → Type 0
+start_of x = PlainStart (option_map t.prefix_syntax x)
+
+start_plain : (x : Option BlockPrefix) (f : Forest) → Full (d.prefixed x f) → Clean (d.prefixed x f) → start_of x × Full f × Clean f
+start_plain None f full c = (tt, full, c)
+start_plain (Some x) f full c = let given = arguments_given x.arguments.items f full c.1 in ((c.0, given.0), given.1, given.2)
 
 pub plain_program : (ws : List Token) (p : ProgramTree) → IsTree ws p → has_unbuilt_name ws ≡ false → has_unbuilt_form (program_syntax p) ≡ false → Plain (program_syntax p)
 unfolding program_syntax has_unbuilt_form program_events
@@ -419,16 +423,5 @@ plain_program ws p tree free h =
     let f = node g.Program (program_derivation p) done in
     let full = is_full-Full f (reads_full tree.reads) in
     let c = reads_clean (none_spells false ws free) tree.reads in
-    let both = free_first (is_some (option_map t.prefix_syntax p.prefix)) (whole_events forms (block_syntax p.block)) h in
-    let none = no_prefix p.prefix both.0 in
-    record {
-      prefix = ap (option_map t.prefix_syntax) none;
-      block = go p.prefix none full.1 c.0 (free_whole (block_syntax p.block) both.1);
-    }
-  where
-    go : (x : Option BlockPrefix) → x ≡ None → Full (d.prefixed x (node g.Compound (block_derivation p.block) done)) → Clean (d.prefixed x (node g.Compound (block_derivation p.block) done)) → FreeBlock Inside (block_syntax p.block) → PlainBlock (block_syntax p.block)
-    go None is full c free = plain_block p.block full.1 c.0 Inside free
-    go (Some x) is full c free = absurd (other is)
-      where
-        other : Some x ≡ None → ⊥
-        other e = cc
+    let parts = start_plain p.prefix (node g.Compound (block_derivation p.block) done) full.1 c.0 in
+    record { start = parts.0; block = plain_block p.block parts.1.1 parts.2.0 Inside (free_whole (block_syntax p.block) h) }

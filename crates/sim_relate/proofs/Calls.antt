@@ -6,17 +6,18 @@ use Rattle.sim_scope.specs.Source.{Source}
 use Rattle.sim_values.specs.declared.standard.Standard.{Standard}
 use Rattle.sim_values.specs.declared.standard.StandardType.{StandardType}
 use Rattle.sim_values.specs.Plain.{Plain, Text}
-use Rattle.sim_values.specs.Standard.{operands_of, row_of, standard_effect}
+use Rattle.sim_values.specs.Standard.{Function, applied, elsewhere, operands_of, row_of, standard_effect}
 use Rattle.sim_code.specs.declared.instr.Instr.TheVariants as i
 use Rattle.sim_code.specs.Code.{CodeOf}
 use Rattle.sim_code.specs.Outcome.{Run, World}
-use Rattle.sim_code.specs.Events.{no_rule, when, computing, having, image_set, image_value, only_text, performing, putting_back, taking}
+use Rattle.sim_code.specs.Events.{choosing, no_rule, when, computing, having, image_set, image_value, only_text, performing, pop_operands, putting_back, taking}
 use Rattle.sim_code.specs.Machine.{Frames, Machine, Value}
 use Rattle.sim_code.specs.Machine as machine
 use Rattle.sim_code.specs.Rows.{has_room, on_top, room_for, standard_of}
 use Rattle.sim_code.specs.Rows as rows
+use Rattle.sim_code.specs.Sets.{is_set_name}
 use Rattle.sim_code.proofs.Lifts.{alike_found, Both, alike_having, alike_no_rule, alike_same, alike_stopping, alike_taking}
-use Rattle.sim_code.proofs.Simulation.{Alike}
+use Rattle.sim_code.proofs.Simulation.{Alike, unruled}
 use Rattle.sim_meaning.specs.Meaning.{do_op}
 use Rattle.sim_meaning.specs.Pending.{Activation, Configuration, Instances, Item, StandardOp, Val, Key, cell, cell_set}
 use Rattle.sim_meaning.specs.Pending as meaning
@@ -29,6 +30,7 @@ use Rattle.sim_relate.proofs.Relation.{ChainAt, Changed, OpAt, StateAt, WorkAt}
 use Rattle.sim_relate.proofs.Hands.{stack_length, FirstAt, hand_operands}
 use Rattle.sim_relate.proofs.Here.{Here, act, at_row, kinds_as}
 use Rattle.sim_relate.proofs.Operators.{chosen, onward, same_plain}
+use Rattle.sim_relate.proofs.SetNames.{set_elsewhere}
 use Rattle.sim_relate.proofs.Standards.{is_some, standard_valued}
 use Rattle.sim_base.specs.declared.run_error.RunError.{RunError}
 use Rattle.sim_values.specs.Store.{Effect}
@@ -122,7 +124,7 @@ module _ (s : Source) (code : CodeOf) (l : Limits) (o : World) (m : Instances) (
 
   -- ---- the value that it leaves, if it leaves one
 
-  left_with : (value : Option Plain) (result : Option StandardType) (left : List Kind) (vals' : List Val) (stack' : List Value) → is_some value ≡ has_value result → ks' ≡ given (has_value result) left → StackAt (HandAt s code m) left vals' stack' → StackAt (HandAt s code m) ks' (with_value value vals') (rows.with_value value stack')
+  pub left_with : (value : Option Plain) (result : Option StandardType) (left : List Kind) (vals' : List Val) (stack' : List Value) → is_some value ≡ has_value result → ks' ≡ given (has_value result) left → StackAt (HandAt s code m) left vals' stack' → StackAt (HandAt s code m) ks' (with_value value vals') (rows.with_value value stack')
   left_with None result left vals' stack' e out h = kinds_as s code (sym (out ∙ ap (λ g. given g left) (sym e))) h
   left_with (Some v) result left vals' stack' e out h = kinds_as s code (sym (out ∙ ap (λ g. given g left) (sym e))) (more_at plain_at h)
 
@@ -166,10 +168,20 @@ module _ (s : Source) (code : CodeOf) (l : Limits) (o : World) (m : Instances) (
         hand_operands Configuration Machine R Val Value (HandAt s code m) (operand o m) (machine.operand o fs) reads_same (length (operands_of (row_of name).function)) ks left None None vals stack o _ _ tt r here.values
         (λ ps f f' vals' stack' b2 h. effected ps (standard_effect name ps o.store) f f' vals' stack' b2 h refl)
 
+  -- a name that is done on linkages has no rule as another standard name
+  by_name : (name : Standard) (line : ℕ) (c : Bool) → is_set_name name ≡ c → (x y : Run Machine) → Alike R (do_op s l o m inst w vals rest (StandardOp name line)) y → Alike R (do_op s l o m inst w vals rest (StandardOp name line)) (choosing c x y)
+  unfolding choosing performing pop_operands standard_effect having no_rule
+  by_name name line false e x y h = h
+  by_name name line true e x y h = refused (row_of name).function (set_elsewhere name e)
+    where
+      refused : (f : Function) → f ≡ elsewhere → Alike R (pop_operands (operand o m) (length (operands_of f)) None vals o (λ vs first rest'. having (applied f vs o.store) o (λ effect. taking l line effect.wanted o (λ p. computing line effect.answer (record p { store = effect.store }) (λ value. putting_back put_back first effect.moved (record p { store = effect.store }) m (λ p m. go p m inst w (with_value value rest') rest)))))) x
+      refused f same = subst (λ f. Alike R (pop_operands (operand o m) (length (operands_of f)) None vals o (λ vs first rest'. having (applied f vs o.store) o (λ effect. taking l line effect.wanted o (λ p. computing line effect.answer (record p { store = effect.store }) (λ value. putting_back put_back first effect.moved (record p { store = effect.store }) m (λ p m. go p m inst w (with_value value rest') rest)))))) x) (sym same) unruled
+
   pub standard : (name : Standard) (line : ℕ) → OpAt s code m fs inst (site_at t b u) (StandardOp name line) pc q ks ks' → Alike R (do_op s l o m inst w vals rest (StandardOp name line)) (on_top code l o fs a_top below)
   standard name line a =
       let x = a.is in
       at_row s code l o fs a_top below _ (i.Std (pos x.number)) line q x.is
       (alike_found Configuration Machine R Standard (standard_of (pos x.number)) name o _ _ x.numbered
+      (by_name name line (is_set_name name) refl _ _
       (whenever (room_for name a_top) _ _ (roomy name a.many a.left x.as_many a.«in» x.fits)
-      (performed name line a.left a.out x.is.on (subst (λ n. AllRead n ks a.left) x.as_many a.«in»))))
+      (performed name line a.left a.out x.is.on (subst (λ n. AllRead n ks a.left) x.as_many a.«in»)))))

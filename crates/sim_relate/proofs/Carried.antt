@@ -9,7 +9,7 @@ use Rattle.sim_code.specs.declared.stage.Stage.{Stage}
 use Rattle.sim_code.specs.Code.{BlockOf, CodeOf}
 use Rattle.sim_code.specs.Machine.{Frames, Value}
 use Rattle.sim_code.specs.Machine as machine
-use Rattle.sim_meaning.specs.Pending.{Activation, AttributeOf, BackOp, BranchOp, CallOf, Cell, CopyOf, Do, Either, ElementOf, ElementsOp, EndBlock, EndLevel, EndObject, EndPrefixed, EndProcedure, EndProgram, Eval, FitsOf, Further, Given, GiveOp, IfOp, ImageOf, Instances, Item, Joined, KeptOf, Key, MemberOf, NewOf, NoTerm, NotNoneOf, One, Op, PlaceOf, QuaOf, QualifiedElementOf, QualifiedPlaceOf, RaiseOp, RemoteCallOf, ShareOp, StandardOf, StepTestOp, StoreOp, Target, Term, Terms, ToAddress, ToCell, ToPlace, ToReference, ToReferenceAt, ToText, ToTextAt, ToTextOf, TransferOf, Two, Unbuilt, Val, ValueAt, WhileElementOp}
+use Rattle.sim_meaning.specs.Pending.{Activation, AttributeOf, BackOp, BranchOp, CallOf, Cell, CopyOf, Do, Either, ElementOf, ElementsOp, EndBlock, EndLevel, EndObject, EndPrefixed, EndProcedure, EndProgram, Eval, FitsOf, Further, Given, GiveOp, IfOp, ImageOf, Instances, Item, Joined, KeptOf, Key, MemberOf, NewOf, NoTerm, NotNoneOf, One, Op, PlaceOf, QuaOf, QualifiedElementOf, QualifiedPlaceOf, RaiseOp, RemoteCallOf, SetOf, ShareOp, StandardOf, StepTestOp, StoreOp, Target, Term, Terms, ToAddress, ToCell, ToPlace, ToReference, ToReferenceAt, ToText, ToTextAt, ToTextOf, TransferOf, Two, Unbuilt, Val, ValueAt, WhileElementOp}
 use Rattle.sim_meaning.specs.Sane.{AllKept, AllOf, KeptOf as KeptChains}
 use Rattle.codegen_expr.specs.Sites.{Site, class_number, frame_text, own_end}
 use Rattle.codegen.specs.CodeFor.{OfCell, OfPlace, OfReference, Variable}
@@ -23,7 +23,7 @@ end_later s code Below Below' f t b (Do op) p ks a = absurd a
 end_later s code Below Below' f t b EndBlock p ks a = (a.0, let x = a.1 in record { last = x.last; at = x.at; heads = x.heads; none = x.none; below = f false x.below })
 end_later s code Below Below' f t b (EndProcedure v) p ks a =
     record { result = a.result; heading = a.heading; body = a.body; is = a.is; same = a.same; ends = let x = a.ends in record { last = x.last; at = x.at; heads = x.heads; none = x.none; below = f v x.below } }
-end_later s code Below Below' f t b EndProgram p ks a = (a.0, let x = a.1 in record { last = x.last; at = x.at; heads = x.heads; none = x.none; below = f false x.below })
+end_later s code Below Below' f t b EndProgram p ks a = record { first = a.first; last = a.last; at = a.at; none = a.none; below = f false a.below }
 end_later s code Below Below' f t b EndObject p ks a =
     record { levels = a.levels; not_first = a.not_first; was = a.was; block = a.block; found = a.found; ends = let x = a.ends in record { last = x.last; at = x.at; heads = x.heads; none = x.none; below = f false x.below } }
 end_later s code Below Below' f t b EndPrefixed p ks a =
@@ -165,6 +165,7 @@ module _ (s : Source) (code : CodeOf) (m m' : Instances) (e : Later s m m') wher
       term_later site n (KeptOf x) p q a = (a.0, (term_later site n x p a.0 (a.1).0, (a.1).1), a.2)
       term_later site n (NotNoneOf line x) p q a = (a.0, (term_later site n x p a.0 (a.1).0, (a.1).1), a.2)
       term_later site n (TransferOf t line x) p q a = (a.0, (term_later site n x p a.0 (a.1).0, (a.1).1), a.2)
+      term_later site n (SetOf name ts) p q a = (a.0, terms_later site n ts p a.0 a.1, a.2)
       term_later site n Unbuilt p q a = a
 
       pub terms_later : (site : Site) (n : ℕ) (xs : Terms) (p q : ℕ) → TermsAt s code m inst site n xs p q → TermsAt s code m' inst site n xs p q

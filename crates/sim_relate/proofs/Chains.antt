@@ -73,7 +73,7 @@ module _ (s : Source) (code : CodeOf) where
     work_below Below inst t b used (Do op ∷ w) p ks a = work_below Below inst (a.5).text (a.5).runs (a.5).used w a.2 a.3 a.11
     work_below Below inst t b used (EndBlock ∷ w) p ks a = ((a.2).1).below
     work_below Below inst t b used (EndProcedure leaves ∷ w) p ks a = ((a.2).ends).below
-    work_below Below inst t b used (EndProgram ∷ w) p ks a = ((a.2).1).below
+    work_below Below inst t b used (EndProgram ∷ w) p ks a = (a.2).below
     work_below Below inst t b used (EndObject ∷ w) p ks a = ((a.2).ends).below
     work_below Below inst t b used (EndPrefixed ∷ w) p ks a = ((a.2).ends).below
     work_below Below inst t b used (EndLevel k ∷ w) p ks a = work_below Below inst (a.2).text (a.2).runs (a.2).used w a.1 [] a.5
@@ -87,7 +87,7 @@ module _ (s : Source) (code : CodeOf) where
         let e = a.2 in
         let x = e.ends in
         (a.0, a.1, record { result = e.result; heading = e.heading; body = e.body; is = e.is; same = e.same; ends = record { last = x.last; at = x.at; heads = x.heads; none = x.none; below = f } })
-    work_on Below Below' inst t b used (EndProgram ∷ w) p ks f a = let e = a.2 in let x = e.1 in (a.0, a.1, (e.0, record { last = x.last; at = x.at; heads = x.heads; none = x.none; below = f }))
+    work_on Below Below' inst t b used (EndProgram ∷ w) p ks f a = let x = a.2 in (a.0, a.1, record { first = x.first; last = x.last; at = x.at; none = x.none; below = f })
     work_on Below Below' inst t b used (EndObject ∷ w) p ks f a =
         let e = a.2 in
         let x = e.ends in

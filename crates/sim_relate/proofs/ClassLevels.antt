@@ -23,7 +23,7 @@ use Rattle.sim_meaning.specs.Texts.{BlockText, ClassText, ConnectionText, Prefix
 use Rattle.codegen_expr.specs.Sites.{LevelOf, block_in_front, block_number, block_of_text, blocks_before, class_in, class_number, counted_unless, innermost, is_connected, outer, prefix_of}
 use Rattle.codegen_expr.specs.Sites as sites
 use Rattle.codegen.specs.Agrees.{Ends, before, last}
-use Rattle.codegen.specs.Compiled.{CodeHas, Compiled, TextCode}
+use Rattle.codegen.specs.Compiled.{Compiled}
 use Rattle.sim_relate.proofs.ClassTexts.{ClassHas, class_has, of_levels}
 use Rattle.sim_relate.proofs.LevelLists.{has_level_is, level_has, level_place, levels_behind, levels_first, levels_some, place_level, solid_level}
 use Rattle.sim_relate.proofs.Lists.{there_get}
@@ -122,15 +122,7 @@ module _ (s : Source) (code : CodeOf) (compiled : Compiled s code) where
   class_by k (Some (ClassText prefix h' ds ss)) e h = refl
   class_by k (Some (PrefixedText class arguments ds ss)) e h = absurd (cc)
   class_by k (Some ConnectionText) e h = absurd (cc)
-  class_by k (Some (StandardText which)) e h = absurd (standard_uncoded (slice_get code.blocks (block_number s k)) (compiled.each k (StandardText which) e))
-    where
-      standard_uncoded : (o : Option BlockOf) → CodeHas s code k (StandardText which) o → ⊥
-      standard_uncoded None a = a
-      standard_uncoded (Some b) a = uncoded k b a
-        where
-          uncoded : (k : ℕ) (b : BlockOf) → TextCode s code k (StandardText which) b → ⊥
-          uncoded zero b a = a
-          uncoded (suc k) b a = a
+  class_by k (Some (StandardText which)) e h = refl
 
   -- a class that is named has levels
   pub class_levels : (k : ℕ) → is_class (text s k) ≡ true → has_levels (text s k) ≡ true
@@ -165,6 +157,22 @@ module _ (s : Source) (code : CodeOf) (compiled : Compiled s code) where
       let n = compiled.agrees.as_many in
       let y = there_get s.tables.blocks k (omega (arith, lt, n)) in
       record { row = y.0; there = y.1; unconnected = sym (ap sites.connects y.1) ∙ compiled.agrees.connected k ∙ unconnected (text s k) h }
+
+  -- block 0 is that of the program
+  pub later_block : (k : ℕ) → has_levels (text s k) ≡ true → is_connection (text s 0) ≡ false → k ≢ 0 → block_number s k ≢ 0
+  unfolding block_number is_connected
+  later_block k h program later zero_is =
+      let x = row_there k h in
+      let lt = slice_get_within s.tables.blocks k x.row x.there in
+      let some : 0 < length s.tables.blocks = omega (arith, lt) in
+      let first = there_get s.tables.blocks 0 some in
+      let solid : sites.is_connection (first.0).kind ≡ false = sym (ap sites.connects first.1) ∙ compiled.agrees.connected 0 ∙ program in
+      let less = fewer_before 0 k s.tables.blocks first.0 first.1 solid (⊎_elim (λ e. absurd (later e)) (λ other. above k other) (cases_eq k 0)) in
+      omega (arith, less, zero_is)
+    where
+      above : (k : ℕ) → k ≢ 0 → 0 < k
+      above zero other = absurd (other refl)
+      above (suc k) other = omega arith
 
   one_number : (t k : ℕ) → has_levels (text s t) ≡ true → has_levels (text s k) ≡ true → block_number s t ≡ block_number s k → t < k → ⊥
   unfolding block_number

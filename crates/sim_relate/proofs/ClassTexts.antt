@@ -1,9 +1,11 @@
 -- What code has of a class or a prefixed block: the record of its block, and that of its class.
 use Rattle.std.proofs.Common.{◌≡◌, ◌≢◌, ℕ, zero, suc, Bool, true, false, Option, Some, None, refl, sym, ap, ◌∙◌}
 use Rattle.std.specs.Prelude.{not, slice_get}
-use Rattle.sim_scope.specs.Levels.{has_standard}
+use Rattle.sim_scope.specs.declared.types.StandardClass.{StandardClass}
+use Rattle.sim_scope.specs.declared.types.StandardClass.TheVariants as standard
+use Rattle.sim_scope.specs.Levels.{is_simulation_block}
 use Rattle.sim_scope.specs.Source.{Source}
-use Rattle.sim_tree.specs.Syntax.{Declarations, Statements}
+use Rattle.sim_tree.specs.Syntax.{Declarations, NoDeclaration, NoStatement, Statements}
 use Rattle.sim_code.specs.declared.code.BlockKind.{BlockKind}
 use Rattle.sim_code.specs.declared.code.BlockKind.TheVariants as block_kind
 use Rattle.sim_code.specs.Code.{BlockOf, CodeOf}
@@ -11,10 +13,11 @@ use Rattle.sim_code.specs.Machine as machine
 use Rattle.sim_meaning.specs.Closing.{class_parameters}
 use Rattle.sim_meaning.specs.Entries.{cells_from, numbers_of}
 use Rattle.sim_meaning.specs.Entries as entries
-use Rattle.sim_meaning.specs.Levels.{has_levels, is_class, level_made, unless_standard, writes_inner}
+use Rattle.sim_meaning.specs.Levels.{has_levels, is_class, level_made, standard_level, unless_simulation, writes_inner}
+use Rattle.sim_meaning.specs.Pending.{Level}
 use Rattle.sim_meaning.specs.Texts.{BlockText, ClassText, ConnectionText, PrefixedText, ProcedureText, StandardText, Text, text}
 use Rattle.codegen_expr.specs.Sites.{block_number, cells_in}
-use Rattle.codegen.specs.Compiled.{ClassTextOf, CodeHas, Compiled, parameters_of}
+use Rattle.codegen.specs.Compiled.{ClassTextOf, CodeHas, Compiled, StandardTextOf, parameters_of}
 
 -- the kinds of blocks that have levels
 abbrev pub of_levels : BlockKind → Bool
@@ -32,14 +35,31 @@ pub record ClassHas (s : Source) (code : CodeOf) (k : ℕ) : Type 0 where
   pub written : Bool
   pub declarations : Declarations
   pub statements : Statements
-  pub made : level_made s k (text s k) ≡ unless_standard (has_standard s.tables k) (record { text = k; declarations = declarations; statements = statements; inner_last = not written })
+  pub made : (x : Level) → level_made s k (text s k) ≡ Some x → record { text = k; declarations = declarations; statements = statements; inner_last = not written } ≡ x
   pub cells : cells_in s k (text s k) ≡ cells_from s (numbers_of s k)
   pub parameters : parameters_of s k (text s k) ≡ class_parameters s (Some k)
   pub passes : (free : Bool) → entries.passes (text s k) free ≡ machine.passes kind free
-  pub not_first : k ≢ 0
+  pub not_first : kind ≡ block_kind.Object → k ≢ 0
   pub block : BlockOf
   pub found : slice_get code.blocks (block_number s k) ≡ Some block
   pub has : ClassTextOf s code k kind written declarations statements block
+
+unless_is : (c : Bool) (y x : Level) → unless_simulation c y ≡ Some x → y ≡ x
+unless_is true y x e = absurd (cc)
+unless_is false y x e = cc (e)
+
+standard_is : (k : ℕ) (which : StandardClass) (x : Level) → standard_level k which ≡ Some x → record { text = k; declarations = NoDeclaration; statements = NoStatement; inner_last = true } ≡ x
+standard_is k standard.Process x e = absurd (cc)
+standard_is k standard.Linkage x e = cc (e)
+standard_is k standard.Link x e = cc (e)
+standard_is k standard.Head x e = cc (e)
+
+-- a class of SIMSET has the code of a class with nothing of its own
+pub standard_code : (s : Source) (code : CodeOf) (k : ℕ) (which : StandardClass) (b : BlockOf) → StandardTextOf s code k which b → ClassTextOf s code k block_kind.Object false NoDeclaration NoStatement b
+standard_code s code k standard.Process b h = absurd h
+standard_code s code k standard.Linkage b h = h
+standard_code s code k standard.Link b h = h
+standard_code s code k standard.Head b h = h
 
 pub class_has : (s : Source) (code : CodeOf) → Compiled s code → (k : ℕ) → has_levels (text s k) ≡ true → ClassHas s code k
 class_has s code compiled k e = by k (text s k) refl e (slice_get code.blocks (block_number s k)) refl (λ y f. compiled.each k y f)
@@ -49,7 +69,26 @@ class_has s code compiled k e = by k (text s k) refl e (slice_get code.blocks (b
     by k (Some (BlockText begin ds ss)) is e o found has = absurd (cc)
     by k (Some (ProcedureText result h' body)) is e o found has = absurd (cc)
     by k (Some ConnectionText) is e o found has = absurd (cc)
-    by k (Some (StandardText which)) is e o found has = absurd (cc)
+    by k (Some (StandardText which)) is e None found has = absurd (has (StandardText which) is)
+    by zero (Some (StandardText which)) is e (Some c) found has = absurd (has (StandardText which) is)
+    by (suc k) (Some (StandardText which)) is e (Some c) found has = record {
+      levels = ap has_levels is;
+      kind = block_kind.Object;
+      levelled = refl;
+      of_class = λ class. refl;
+      of_block = λ none. (let other : true ≡ false = sym (ap is_class is) ∙ none in absurd (cc (other)));
+      written = false;
+      declarations = NoDeclaration;
+      statements = NoStatement;
+      made = λ x m. standard_is (suc k) which x (sym (ap (level_made s (suc k)) is) ∙ m);
+      cells = ap (cells_in s (suc k)) is;
+      parameters = ap (parameters_of s (suc k)) is;
+      passes = λ free. ap (λ z. entries.passes z free) is;
+      not_first = λ object zero_is. absurd (cc (zero_is));
+      block = c;
+      found = found;
+      has = standard_code s code (suc k) which c (has (StandardText which) is);
+    }
     by k (Some (ClassText prefix h' ds ss)) is e None found has = absurd (has (ClassText prefix h' ds ss) is)
     by zero (Some (ClassText prefix h' ds ss)) is e (Some c) found has = absurd (has (ClassText prefix h' ds ss) is)
     by (suc k) (Some (ClassText prefix h' ds ss)) is e (Some c) found has = record {
@@ -61,17 +100,36 @@ class_has s code compiled k e = by k (text s k) refl e (slice_get code.blocks (b
       written = writes_inner s (suc k);
       declarations = ds;
       statements = ss;
-      made = ap (level_made s (suc k)) is;
+      made = λ x m. unless_is (is_simulation_block s.tables (suc k)) _ x (sym (ap (level_made s (suc k)) is) ∙ m);
       cells = ap (cells_in s (suc k)) is;
       parameters = ap (parameters_of s (suc k)) is;
       passes = λ free. ap (λ z. entries.passes z free) is;
-      not_first = λ zero_is. absurd (cc (zero_is));
+      not_first = λ object zero_is. absurd (cc (zero_is));
       block = c;
       found = found;
       has = has (ClassText prefix h' ds ss) is;
     }
     by k (Some (PrefixedText class arguments ds ss)) is e None found has = absurd (has (PrefixedText class arguments ds ss) is)
-    by zero (Some (PrefixedText class arguments ds ss)) is e (Some c) found has = absurd (has (PrefixedText class arguments ds ss) is)
+    by zero (Some (PrefixedText class arguments ds ss)) is e (Some c) found has =
+        let program = has (PrefixedText class arguments ds ss) is in
+        record {
+          levels = ap has_levels is;
+          kind = block_kind.Prefixed;
+          levelled = refl;
+          of_class = λ class. (let other : false ≡ true = sym (ap is_class is) ∙ class in absurd (cc (other)));
+          of_block = λ none. refl;
+          written = false;
+          declarations = ds;
+          statements = ss;
+          made = λ x m. unless_is (is_simulation_block s.tables 0) _ x (sym (ap (level_made s 0) is) ∙ m);
+          cells = ap (cells_in s 0) is;
+          parameters = ap (parameters_of s 0) is;
+          passes = λ free. ap (λ z. entries.passes z free) is;
+          not_first = λ object. absurd (cc (object));
+          block = c;
+          found = found;
+          has = record { heads = program.heads; marked = tt; class = program.class; is = program.is; level = program.level };
+        }
     by (suc k) (Some (PrefixedText class arguments ds ss)) is e (Some c) found has = record {
       levels = ap has_levels is;
       kind = block_kind.Prefixed;
@@ -81,11 +139,11 @@ class_has s code compiled k e = by k (text s k) refl e (slice_get code.blocks (b
       written = false;
       declarations = ds;
       statements = ss;
-      made = ap (level_made s (suc k)) is;
+      made = λ x m. unless_is (is_simulation_block s.tables (suc k)) _ x (sym (ap (level_made s (suc k)) is) ∙ m);
       cells = ap (cells_in s (suc k)) is;
       parameters = ap (parameters_of s (suc k)) is;
       passes = λ free. ap (λ z. entries.passes z free) is;
-      not_first = λ zero_is. absurd (cc (zero_is));
+      not_first = λ object zero_is. absurd (cc (zero_is));
       block = c;
       found = found;
       has = has (PrefixedText class arguments ds ss) is;

@@ -32,25 +32,26 @@ use Rattle.sim_code.specs.declared.instr.Instr.TheVariants as i
 use Rattle.sim_code.specs.Code.{CodeOf}
 use Rattle.sim_code.specs.Instances.{at_level}
 use Rattle.sim_code.specs.Transfers.{Transfer}
-use Rattle.sim_meaning.specs.Attributes.{array_attribute, attribute, attribute_place, cell_of_connection, connected_object, connection_at, declared_attribute, detach_term, entry_at, entry_attribute, fitting, generation, if_any, is_connection, kept_if, membership_term, parameter_at, parameter_attribute, parameter_qualification, place_of_attribute, qua_term, qualified, qualified_place, this_instance, this_term, transfer_at, transfer_term, variable_attribute, with_arrays_kept}
+use Rattle.sim_meaning.specs.Attributes.{array_attribute, attribute, attribute_place, cell_of_connection, connected_object, connection_at, declared_attribute, detach_term, entry_at, entry_attribute, fitting, generation, if_any, is_connection, kept_if, membership_term, own_attribute, parameter_at, parameter_attribute, parameter_qualification, place_of_attribute, qua_term, qualified, qualified_place, this_instance, this_term, transfer_at, transfer_term, variable_attribute, with_arrays_kept}
 use Rattle.sim_meaning.specs.Attributes as attributes
 use Rattle.sim_meaning.specs.Closing.{Joining, Lazily, Negated, Plainly, Sort, actual_term, array_place, array_term, attribute_term, behind_dot, class_parameters, close, close_actuals, close_all, close_parameters, close_place, constant_term, declared_place, declared_term, dot_term, formal_place, formal_term, formals_at, given_term, home_of, home_of_class, image_place, in_instance, is_attribute, is_text, is_text_type, is_variable, literal_term, name_term, named_place, named_term, object_term, reference_place, result_meant, result_place, signed_term, sort_of, standard_term, stream_denoted, stream_of, sysout, two_term, typed_token, variable_place, variable_term}
 use Rattle.sim_meaning.specs.Constants.{text_constant}
 use Rattle.sim_meaning.specs.Levels.{class_at, class_denoted, qualification}
 use Rattle.sim_meaning.specs.Names.{procedure_named, stream_named}
-use Rattle.sim_meaning.specs.Pending.{CallOf, Cell, Declared, ElementOf, Further, ImageOf, Instances, Key, NoTerm, PlaceOf, RemoteCallOf, Result, Term, Terms, Unbuilt, ValueAt}
+use Rattle.sim_meaning.specs.Pending.{CallOf, Cell, Declared, ElementOf, Further, ImageOf, Instances, Key, NoTerm, NotNoneOf, PlaceOf, RemoteCallOf, Result, SetOf, Term, Terms, Unbuilt, ValueAt}
 use Rattle.sim_meaning.specs.Statements.{has_value, standard_leaves}
 use Rattle.sim_meaning.specs.Steps.{count}
 use Rattle.sim_meaning.specs.Texts.{constant_of, text}
 use Rattle.codegen_expr.specs.Sites.{At, HasCell, Inside, Is, LevelOf, Pushes, Site, block_number, class_number, frame_text, is_constant, slot_of}
-use Rattle.codegen_expr.specs.CodeExpr.{ActualAt, ActualsAt, ArrayAt, ArrayOfAt, ArrayPlaceAt, ArrayPlaceOfAt, AttributeAt, AttributePlaceAt, BehindDotAt, CallAt, CellAt, ConnectedAt, ConnectedNameAt, ConstantAt, ConstantAttributeAt, DeclaredAt, DeclaredPlaceAt, DotAt, ElementAt, ElementOfAt, ExprAt, ExprsAt, FittingAt, FormalAt, FormalPlaceAt, GenerationAt, GivenAt, LiteralAt, MemberAt, NameAt, NamedAt, NamedPlaceAt, ObjectAt, OfObjectAt, ParameterOfAt, ParameterPlaceOfAt, PlaceAt, PlaceBehindAt, PlaceOfObjectAt, PlaceOrResultAt, PlainAt, QuaAt, QualifiedPlaceAt, ReferencePlaceAt, RemoteCallAt, SignedAt, StandardAt, StandardIs, StreamPlaceAt, ThisFoundAt, ThisOfAt, ThroughAt, TwoAt, VariableAt, VariableOfAt, VariablePlaceAt, VariablePlaceOfAt, gives_entry, operands}
+use Rattle.codegen_expr.specs.CodeExpr.{ActualAt, ActualsAt, ArrayAt, ArrayOfAt, ArrayPlaceAt, ArrayPlaceOfAt, AttributeAt, AttributePlaceAt, BehindDotAt, CallAt, CellAt, ConnectedAt, ConnectedNameAt, ConstantAt, ConstantAttributeAt, DeclaredAt, DeclaredPlaceAt, DotAt, ElementAt, ElementOfAt, ExprAt, ExprsAt, FittingAt, FormalAt, FormalPlaceAt, GenerationAt, GivenAt, LiteralAt, MemberAt, NameAt, NamedAt, NamedPlaceAt, ObjectAt, OfObjectAt, OwnAt, ParameterOfAt, ParameterPlaceOfAt, PlaceAt, PlaceBehindAt, PlaceOfObjectAt, PlaceOrResultAt, PlainAt, QuaAt, QualifiedPlaceAt, ReferencePlaceAt, RemoteCallAt, SetAt, SignedAt, StandardAt, StandardIs, StreamPlaceAt, ThisFoundAt, ThisOfAt, ThroughAt, TwoAt, VariableAt, VariableOfAt, VariablePlaceAt, VariablePlaceOfAt, gives_entry, operands}
 use Rattle.codegen_expr.specs.CodeExpr as code_gives
 use Rattle.codegen.specs.Agrees.{Agrees}
 use Rattle.sim_relate.proofs.ClassNames.{class_found, class_is, declared_class, denoted_classed, parameter_classed, qualification_classed}
 use Rattle.sim_relate.proofs.Formals.{actuals_counted, formals_same}
 use Rattle.sim_relate.proofs.Frames.{frame_idem, frame_level, own_frame}
 use Rattle.sim_relate.proofs.Known.{Any, Finds, FixedOf, IsImage, Kind, LeavesIs, Located, Refers, Stands, attribute_kind, gives, inside, is_read, kind_unless, of_input, of_output, outermost, read_given, reads, seen_at, text_gives}
-use Rattle.sim_relate.proofs.Roomy.{FitsWhere, connected_fits, expression_fits}
+use Rattle.sim_relate.proofs.Roomy.{FitsWhere, connected_fits, expression_fits, this_fits}
+use Rattle.sim_relate.proofs.OwnNames.{own_denoted}
 use Rattle.sim_relate.proofs.TransferNames.{no_transfer}
 use Rattle.sim_relate.proofs.Trees.{Classed, CellIs, CellPlaceIs, FoundIs, GivenIs, OperandAt, ReadsAt, TermAt, TermsAt, empty, listed}
 
@@ -426,6 +427,19 @@ module _ (s : Source) (code : CodeOf) (m : Instances) (inst : ℕ) (site : Site)
         ap text_gives y.is ∙ y.same,
       )
 
+  set_at : (d : DeclNo) (line n : ℕ) (name : Standard) (parameter result : Option SimType) (es : Expressions) (Base Actuals : ℕ → ℕ → Type 0) (x : Term) (terms : Terms) → ObjectIs n Base x → ActualsAre n es d Actuals terms → (p q : ℕ) → SetAt code line name result es Base Actuals p q
+      → NamedIs n (gives_entry (Some (entry.Attribute name parameter result))) (SetOf name (Further (NotNoneOf line x) terms)) p q
+  set_at d line n name parameter result es Base Actuals x terms f h p q a =
+      let inner = h a.y a.z a.actuals in
+      let named = a.named in (
+        (
+          a.z,
+          (a.y, ((a.x, f p a.x a.object, a.there), refl), inner.0),
+          record { is_name = named.is_name; as_many = ap suc (sym inner.1 ∙ named.as_many); number = a.number; numbered = a.numbered; done = record { line = line; is = a.done } },
+        ),
+        sym named.leaves,
+      )
+
   of_object_at : (d : DeclNo) (line n : ℕ) (o : Option Entry) (es : Expressions) (Base Inner Actuals : ℕ → ℕ → Type 0) (x : Term) (terms actuals : Terms) → ObjectIs n Base x → FitsWhere s code site n Base → ((p q : ℕ) → Inner p q → TermsAt s code m inst site (suc n) terms p q) → operands es ≡ count terms → ActualsAre n es d Actuals actuals
       → (p q : ℕ) → entry_of s.tables d ≡ o → OfObjectAt s code site n line d o es Base Inner Actuals p q → NamedIs n (gives_entry o) (entry_attribute s line d o x es terms actuals) p q
   of_object_at d line n (Some (entry.Variable type)) es Base Inner Actuals x terms actuals f fits g counts h p q is a = variable_of_at d es line n Base x f p q (ap is_constant is) a
@@ -436,7 +450,7 @@ module _ (s : Source) (code : CodeOf) (m : Instances) (inst : ℕ) (site : Site)
   of_object_at d line n (Some (entry.Class block)) es Base Inner Actuals x terms actuals f fits g counts h p q is a = absurd a
   of_object_at d line n (Some (entry.Virtual result own)) es Base Inner Actuals x terms actuals f fits g counts h p q is a = absurd a
   of_object_at d line n (Some (entry.Unspecified written)) es Base Inner Actuals x terms actuals f fits g counts h p q is a = absurd a
-  of_object_at d line n (Some (entry.Attribute name parameter result)) es Base Inner Actuals x terms actuals f fits g counts h p q is a = absurd a
+  of_object_at d line n (Some (entry.Attribute name parameter result)) es Base Inner Actuals x terms actuals f fits g counts h p q is a = set_at d line n name parameter result es Base Actuals x actuals f h p q a
   of_object_at d line n None es Base Inner Actuals x terms actuals f fits g counts h p q is a = absurd a
 
   -- where they lie
@@ -510,12 +524,11 @@ module _ (s : Source) (code : CodeOf) (m : Instances) (inst : ℕ) (site : Site)
   connected_name_at t None line n es Inner Actuals terms actuals g counts ha p q a = absurd a
 
   -- what is seen through a connection, or else is seen without one
-  through_at : (c : Option ℕ) (u : Option Denotation) (line n : ℕ) (es : Expressions) (Operands Inner : ℕ → ℕ → Type 0) (Actuals : List Formal → ℕ → ℕ → Type 0) (terms : Terms) (actuals : List Formal → Terms) → ((p q : ℕ) → Operands p q → TermsAt s code m inst site n terms p q) → ((p q : ℕ) → Inner p q → TermsAt s code m inst site (suc n) terms p q) → operands es ≡ count terms
-      → ((fs : List Formal) (p q : ℕ) → Actuals fs p q → TermsAt s code m inst site (suc n) (actuals fs) p q × (operands es ≡ count (actuals fs)) × (operands es ≡ length fs))
-      → (p q : ℕ) → ThroughAt c (λ t. ConnectedNameAt s code site n line t u es Inner Actuals) (NamedAt s code site n line u es Operands Inner Actuals) p q
-      → NamedIs n (code_gives.gives s u) (if_any c (λ t. if_any (declared_attribute u) (attribute s line (connected_object s m inst t) es terms (λ d. actuals (formals_at s d))) Unbuilt) (named_term s m inst line u es terms actuals)) p q
-  through_at None u line n es Operands Inner Actuals terms actuals f0 f counts g p q a = named_at u line n es Operands Inner Actuals terms actuals f0 f counts g p q a
-  through_at (Some t) u line n es Operands Inner Actuals terms actuals f0 f counts g p q a = connected_name_at t u line n es Inner Actuals terms (λ d. actuals (formals_at s d)) f counts (λ d. g (formals_at s d)) p q a
+  through_at : (c : Option ℕ) (u : Option Denotation) (line n : ℕ) (es : Expressions) (Inner Direct : ℕ → ℕ → Type 0) (Actuals : List Formal → ℕ → ℕ → Type 0) (terms : Terms) (actuals : List Formal → Terms) (other : Term) → ((p q : ℕ) → Inner p q → TermsAt s code m inst site (suc n) terms p q) → operands es ≡ count terms
+      → ((fs : List Formal) (p q : ℕ) → Actuals fs p q → TermsAt s code m inst site (suc n) (actuals fs) p q × (operands es ≡ count (actuals fs)) × (operands es ≡ length fs)) → ((p q : ℕ) → Direct p q → NamedIs n (code_gives.gives s u) other p q)
+      → (p q : ℕ) → ThroughAt c (λ t. ConnectedNameAt s code site n line t u es Inner Actuals) Direct p q → NamedIs n (code_gives.gives s u) (if_any c (λ t. if_any (declared_attribute u) (attribute s line (connected_object s m inst t) es terms (λ d. actuals (formals_at s d))) Unbuilt) other) p q
+  through_at None u line n es Inner Direct Actuals terms actuals other f counts g h p q a = h p q a
+  through_at (Some t) u line n es Inner Direct Actuals terms actuals other f counts g h p q a = connected_name_at t u line n es Inner Actuals terms (λ d. actuals (formals_at s d)) f counts (λ d. g (formals_at s d)) p q a
 
   place_through : (c : Option ℕ) (o : Option Qualified) (u : Option Denotation) (line n : ℕ) (es : Expressions) (Inner : ℕ → ℕ → Type 0) (terms : Terms) → ((p q : ℕ) → Inner p q → TermsAt s code m inst site (suc n) terms p q) → operands es ≡ count terms → (p q : ℕ) → ThroughAt c (λ t. PlaceBehindAt s code line (class_given o) u es (ConnectedAt s code site n t) Inner) (NamedPlaceAt s code site n line (class_given o) u es Inner) p q
       → PlacedAt o n (if_any c (λ t. if_any (declared_attribute u) (place_of_attribute s line (connected_object s m inst t) es terms) Unbuilt) (named_place s m inst line u es terms)) p q
@@ -533,6 +546,16 @@ module _ (s : Source) (code : CodeOf) (m : Instances) (inst : ℕ) (site : Site)
   pub this_at : (found : Option ℕ) (n p q : ℕ) → ThisFoundAt s code site n found p q → OperandAt s code m inst site n (this_term s m inst found) p q
   this_at None n p q a = absurd a
   this_at (Some t) n p q a = this_by t n p q (is_connection (text s t)) a
+
+  -- a procedure of SIMSET that is seen without a dot is one of the object around
+  own_at : (own : Option DeclNo) (u : Option Denotation) (found : Option ℕ) (line n : ℕ) (es : Expressions) (Operands Inner : ℕ → ℕ → Type 0) (Actuals : List Formal → ℕ → ℕ → Type 0) (terms : Terms) (actuals : List Formal → Terms) → ((d : DeclNo) → own ≡ Some d → u ≡ Some (denotation.Declared d))
+      → ((p q : ℕ) → Operands p q → TermsAt s code m inst site n terms p q) → ((p q : ℕ) → Inner p q → TermsAt s code m inst site (suc n) terms p q) → operands es ≡ count terms → ((fs : List Formal) (p q : ℕ) → Actuals fs p q → TermsAt s code m inst site (suc n) (actuals fs) p q × (operands es ≡ count (actuals fs)) × (operands es ≡ length fs))
+      → (p q : ℕ) → OwnAt own (λ d. OfObjectAt s code site n line d (entry_of s.tables d) es (ThisFoundAt s code site n found) Inner (Actuals (formals_at s d))) (NamedAt s code site n line u es Operands Inner Actuals) p q
+      → NamedIs n (code_gives.gives s u) (if_any own (attribute s line (this_term s m inst found) es terms (λ d. actuals (formals_at s d))) (named_term s m inst line u es terms actuals)) p q
+  own_at None u found line n es Operands Inner Actuals terms actuals is f0 f counts g p q a = named_at u line n es Operands Inner Actuals terms actuals f0 f counts g p q a
+  own_at (Some d) u found line n es Operands Inner Actuals terms actuals is f0 f counts g p q a =
+      subst (λ z. NamedIs n (code_gives.gives s z) (attribute s line (this_term s m inst found) es terms (λ d. actuals (formals_at s d)) d) p q) (sym (is d refl))
+      (of_object_at d line n (entry_of s.tables d) es (ThisFoundAt s code site n found) Inner (Actuals (formals_at s d)) (this_term s m inst found) terms (actuals (formals_at s d)) (λ p q. this_at found n p q) (λ p q. this_fits s code site found n p q) f counts (g (formals_at s d)) p q refl a)
 
   member_at : (member : Membership) (u : Option Denotation) (class : Option ℕ) → class_denoted s u ≡ class → (A : ℕ → ℕ → Type 0) (n : ℕ) (x : Term) → ObjectIs n A x → (p q : ℕ) → MemberAt s code member class A p q → OperandAt s code m inst site n (membership_term member class x) p q
   member_at member u None e A n x f p q a = absurd a
@@ -625,21 +648,30 @@ module _ (s : Source) (code : CodeOf) (m : Instances) (inst : ℕ) (site : Site)
 
   -- ---- calls that are no transfers of control
 
+  -- what is seen without a dot and without a connection
+  abbrev pub direct_tree : Identifier → Expressions → Term
+  direct_tree name es =
+      if_any (own_attribute s name.token.0) (attribute s (line_at s name.token.0) (this_term s m inst (found_at s name.token.0)) es (close_all s m inst es) (λ d. close_actuals s m inst (line_at s name.token.0) es (formals_at s d)))
+      (named_term s m inst (line_at s name.token.0) (denoted s name.token.0) es (close_all s m inst es) (λ fs. close_actuals s m inst (line_at s name.token.0) es fs))
+
   abbrev pub named_tree : Identifier → Expressions → Term
   named_tree name es =
       if_any (connection_at s name.token.0)
-      (λ k. if_any (declared_attribute (denoted s name.token.0)) (attribute s (line_at s name.token.0) (connected_object s m inst k) es (close_all s m inst es) (λ d. close_actuals s m inst (line_at s name.token.0) es (formals_at s d))) Unbuilt)
-      (named_term s m inst (line_at s name.token.0) (denoted s name.token.0) es (close_all s m inst es) (λ fs. close_actuals s m inst (line_at s name.token.0) es fs))
+      (λ k. if_any (declared_attribute (denoted s name.token.0)) (attribute s (line_at s name.token.0) (connected_object s m inst k) es (close_all s m inst es) (λ d. close_actuals s m inst (line_at s name.token.0) es (formals_at s d))) Unbuilt) (direct_tree name es)
 
   abbrev pub dot_tree : Expression → Identifier → Expressions → Term
   dot_tree x name es =
       if_any (declared_attribute (denoted s name.token.0)) (attribute s (line_at s name.token.0) (close s m inst x) es (close_all s m inst es) (λ d. close_actuals s m inst (line_at s name.token.0) es (formals_at s d)))
       (dot_term (denoted s name.token.0) (stream_of s x) (is_variable s x || is_attribute s x) (line_at s name.token.0) (close_place s m inst x) (close s m inst x) (close_all s m inst es))
 
+  abbrev pub DirectCallAt : Identifier → Expressions → (n p q : ℕ) → Type 0
+  DirectCallAt name es n p q =
+      OwnAt (own_attribute s name.token.0) (λ d. OfObjectAt s code site n (line_at s name.token.0) d (entry_of s.tables d) es (ThisFoundAt s code site n (found_at s name.token.0)) (ExprsAt s code site (suc n) es) (ActualsAt s code site (suc n) (line_at s name.token.0) false es (formals_at s d)))
+      (NamedAt s code site n (line_at s name.token.0) (denoted s name.token.0) es (ExprsAt s code site n es) (ExprsAt s code site (suc n) es) (λ fs. ActualsAt s code site (suc n) (line_at s name.token.0) false es fs)) p q
+
   abbrev pub NamedCallAt : Identifier → Expressions → (n p q : ℕ) → Type 0
   NamedCallAt name es n p q =
-      ThroughAt (connection_at s name.token.0) (λ t. ConnectedNameAt s code site n (line_at s name.token.0) t (denoted s name.token.0) es (ExprsAt s code site (suc n) es) (λ fs. ActualsAt s code site (suc n) (line_at s name.token.0) false es fs))
-      (NamedAt s code site n (line_at s name.token.0) (denoted s name.token.0) es (ExprsAt s code site n es) (ExprsAt s code site (suc n) es) (λ fs. ActualsAt s code site (suc n) (line_at s name.token.0) false es fs)) p q
+      ThroughAt (connection_at s name.token.0) (λ t. ConnectedNameAt s code site n (line_at s name.token.0) t (denoted s name.token.0) es (ExprsAt s code site (suc n) es) (λ fs. ActualsAt s code site (suc n) (line_at s name.token.0) false es fs)) (DirectCallAt name es n) p q
 
   abbrev pub DotCallAt : Expression → Identifier → Expressions → (n p q : ℕ) → Type 0
   DotCallAt x name es n p q =
@@ -648,9 +680,13 @@ module _ (s : Source) (code : CodeOf) (m : Instances) (inst : ℕ) (site : Site)
   pub named_call : (name : Identifier) (es : Expressions) → ((n p q : ℕ) → ExprsAt s code site n es p q → TermsAt s code m inst site n (close_all s m inst es) p q) → ((fs : List Formal) (n p q : ℕ) → ActualsAt s code site n (line_at s name.token.0) false es fs p q → TermsAt s code m inst site n (close_actuals s m inst (line_at s name.token.0) es fs) p q)
       → (n p q : ℕ) → NamedCallAt name es n p q → NamedIs n (code_gives.gives s (denoted s name.token.0)) (named_tree name es) p q
   named_call name es f g n p q a =
-      through_at (connection_at s name.token.0) (denoted s name.token.0) (line_at s name.token.0) n es (ExprsAt s code site n es) (ExprsAt s code site (suc n) es) (λ fs. ActualsAt s code site (suc n) (line_at s name.token.0) false es fs)
-      (close_all s m inst es) (λ fs. close_actuals s m inst (line_at s name.token.0) es fs) (λ p q. f n p q) (λ p q. f (suc n) p q) (count_close es)
-      (λ fs p q b. (g fs (suc n) p q b, count_actuals (line_at s name.token.0) (suc n) false es fs p q b, actuals_counted s code site (line_at s name.token.0) (suc n) false es fs p q b)) p q a
+      let line = line_at s name.token.0 in
+      let Actuals : List Formal → ℕ → ℕ → Type 0 = λ fs. ActualsAt s code site (suc n) line false es fs in
+      let actuals : List Formal → Terms = λ fs. close_actuals s m inst line es fs in
+      let with_actuals : (fs : List Formal) (p q : ℕ) → Actuals fs p q → TermsAt s code m inst site (suc n) (actuals fs) p q × (operands es ≡ count (actuals fs)) × (operands es ≡ length fs) =
+      λ fs p q b. (g fs (suc n) p q b, count_actuals line (suc n) false es fs p q b, actuals_counted s code site line (suc n) false es fs p q b) in
+      through_at (connection_at s name.token.0) (denoted s name.token.0) line n es (ExprsAt s code site (suc n) es) (DirectCallAt name es n) Actuals (close_all s m inst es) actuals (direct_tree name es) (λ p q. f (suc n) p q) (count_close es) with_actuals
+      (λ p q b. own_at (own_attribute s name.token.0) (denoted s name.token.0) (found_at s name.token.0) line n es (ExprsAt s code site n es) (ExprsAt s code site (suc n) es) Actuals (close_all s m inst es) actuals (own_denoted s name.token.0) (λ p q. f n p q) (λ p q. f (suc n) p q) (count_close es) with_actuals p q b) p q a
 
   pub dot_call : (x : Expression) (name : Identifier) (es : Expressions) (n : ℕ) → ((p q : ℕ) → PlaceAt s code site n 0 x p q → ReadAt n (close_place s m inst x) p q) → ((p q : ℕ) → ExprAt s code site n x p q → OperandAt s code m inst site n (close s m inst x) p q) → ((n p q : ℕ) → ExprsAt s code site n es p q → TermsAt s code m inst site n (close_all s m inst es) p q)
       → ((fs : List Formal) (n p q : ℕ) → ActualsAt s code site n (line_at s name.token.0) false es fs p q → TermsAt s code m inst site n (close_actuals s m inst (line_at s name.token.0) es fs) p q) → (p q : ℕ) → DotCallAt x name es n p q → NamedIs n (code_gives.gives s (denoted s name.token.0)) (dot_tree x name es) p q

@@ -83,7 +83,7 @@ levels_stay (Some (ProcedureText result h' a)) free h = absurd (cc)
 levels_stay (Some (ClassText prefix h' ds ss)) free h = refl
 levels_stay (Some (PrefixedText class arguments ds ss)) free h = refl
 levels_stay (Some ConnectionText) free h = absurd (cc)
-levels_stay (Some (StandardText which)) free h = absurd (cc)
+levels_stay (Some (StandardText which)) free h = refl
 
 -- the program's block is no class
 first_plain : (s : Source) (code : CodeOf) → Compiled s code → is_class (text s 0) ≡ false
@@ -91,7 +91,7 @@ first_plain s code compiled = by (is_class (text s 0)) refl
   where
     by : (c : Bool) → is_class (text s 0) ≡ c → is_class (text s 0) ≡ false
     by false e = e
-    by true e = absurd ((class_has s code compiled 0 (class_levels s code compiled 0 e)).not_first refl)
+    by true e = let x = class_has s code compiled 0 (class_levels s code compiled 0 e) in absurd (x.not_first (x.of_class e) refl)
 
 -- the words of a text are those of its block
 pub words_agree : (s : Source) (code : CodeOf) (t : ℕ) (b : BlockOf) (x : Text) → text s t ≡ Some x → own_cells s t x ≡ first_cells s t x → block_in_front s code t ≡ None → b.cells ≡ cells_of_block (block_in_front s code t) + length (cells_in s t (text s t)) → words_of_text s t (text s t) ≡ words_of_block b
@@ -296,9 +296,8 @@ module _ (s : Source) (code : CodeOf) (compiled : Compiled s code) (l : Limits) 
   pub end_program : EndFollows EndProgram
   unfolding choosing
   end_program a =
-      let x = a.1 in
-      let first : b.own ≡ 0 = own_is (ap (λ k. is_class (text s k)) a.0 ∙ first_plain s code compiled) ∙ a.0 in
-      at_row s code l o fs top below _ (i.EndLevel (pos 0)) x.at.line x.last x.at.is
+      let first : b.own ≡ 0 = own_is (ap (λ k. is_class (text s k)) a.first ∙ first_plain s code compiled) ∙ a.first in
+      at_row s code l o fs top below _ (i.EndLevel (pos 0)) a.at.line a.last a.at.is
       (level_alike _ (chosen (λ q. Alike Related (stopping Normal o) q) (block_number s b.own == 0) (stopping Normal o) _ (first_number first) (alike_stopping Configuration Machine Related Normal o)))
 
   -- ---- the end of an object

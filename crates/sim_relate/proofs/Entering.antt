@@ -111,11 +111,11 @@ module _ (s : Source) (code : CodeOf) where
       (chosen (λ q. Alike R r q) (same_kind b.kind kind) (having (slice_get code.instrs b.entry) o (λ x. go n b x)) (no_rule o) is
       (alike_found Configuration Machine R Lined (slice_get code.instrs b.entry) x.0 o r _ x.1 (h x.0 x.1))))
 
-  pub program_alike : (o : World) (b : BlockOf) → slice_get code.blocks 0 ≡ Some b → first_stage b.kind ≡ Some stage.NoStage → b.entry < length code.instrs → (r : Run Configuration) (go : BlockOf → Stage → Lined → Run Machine) → ((x : Lined) → slice_get code.instrs b.entry ≡ Some x → Alike R r (go b stage.NoStage x)) → Alike R r (program_block code o go)
-  program_alike o b found is lt r go h =
+  pub program_alike : (o : World) (b : BlockOf) → slice_get code.blocks 0 ≡ Some b → (z : Stage) → first_stage b.kind ≡ Some z → b.entry < length code.instrs → (r : Run Configuration) (go : BlockOf → Stage → Lined → Run Machine) → ((x : Lined) → slice_get code.instrs b.entry ≡ Some x → Alike R r (go b z x)) → Alike R r (program_block code o go)
+  program_alike o b found z is lt r go h =
       let x = there_get code.instrs b.entry lt in
       alike_found Configuration Machine R BlockOf (slice_get code.blocks 0) b o r _ found
-      (alike_found Configuration Machine R Stage (first_stage b.kind) stage.NoStage o r _ is
+      (alike_found Configuration Machine R Stage (first_stage b.kind) z o r _ is
       (alike_found Configuration Machine R Lined (slice_get code.instrs b.entry) x.0 o r _ x.1 (h x.0 x.1)))
 
   pub block_refused : (o : World) (kind : BlockKind) (n : ℕ) (b : BlockOf) → slice_get code.blocks n ≡ Some b → same_kind b.kind kind ≡ false → (go : ℕ → BlockOf → Lined → Run Machine) → Alike R (no_rule o) (block_at code kind (pos n) o go)

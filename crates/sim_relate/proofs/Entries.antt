@@ -53,6 +53,7 @@ use Rattle.sim_relate.proofs.Here.{Here, act, at_row, goes, kinds_as, with_value
 use Rattle.sim_relate.proofs.Laying.{laid}
 use Rattle.sim_relate.proofs.Living.{new_lives, new_lives_inside}
 use Rattle.sim_relate.proofs.Pending.{ends_at, pends}
+use Rattle.sim_relate.proofs.PrefixedProgram.{first_prefixed}
 use Rattle.sim_relate.proofs.Known.{Any, Every, FixedOf, HandAt, IsLink, Kind, LinkTo, Located, OwnerOf, Refers, Runs, StackAt, Stands, ValAt, anys, array_at, element_at, given, image_at, link_at, more_at, plain_at, site_at}
 use Rattle.sim_relate.proofs.Waiting.{GetsIs}
 use Rattle.sim_relate.proofs.Relation.{CallOpIs, ChainAt, Changed, EndAt, OpAt, StandingsAt, StateAt, StoreAt, WorkAt, straight}
@@ -121,7 +122,7 @@ module _ (s : Source) (code : CodeOf) (compiled : Compiled s code) (l : Limits) 
       let body = h.body in
       let agrees = compiled.agrees in
       let cells = first_cells s 0 (BlockText begin ds ss) in
-      program_alike s code o b found (ap rows.first_stage heads.is_kind) (slice_get_within code.instrs b.entry _ (h.enter).at) _ _ (λ x ex.
+      program_alike s code o b found stage.NoStage (ap rows.first_stage heads.is_kind) (slice_get_within code.instrs b.entry _ (h.enter).at) _ _ (λ x ex.
       alike_entering Configuration Machine R l (line_at s begin) x.line.0 (words_of_cells cells) (words_of_block b) o _ _ (same_line x ex (h.enter).at) (words_same s code agrees 0 (BlockText begin ds ss) b is refl refl heads.cells) (λ p.
       let new = new_instance s 0 None cells in
       let frame = new_frame s code 0 b None (machine.first_cells b) in
@@ -137,7 +138,7 @@ module _ (s : Source) (code : CodeOf) (compiled : Compiled s code) (l : Limits) 
       let start = body.there in
       let ahead : b.entry < h.start = omega (arith, next) in
       let work = block_pends s code compiled m' fs' Below (length m.instances) 0 b stands refl lives ds ss EndProgram h.start (body.body).0 body.stop (body.body).1 (body.body).2
-      (ends_at s code m' fs' Below (length m.instances) 0 (plainly 0 b) (own_end s code 0) EndProgram [] body.stop [] (refl, record { last = body.last; at = body.ends; heads = heads; none = refl; below = record { still = refl; is = refl } })) in
+      (ends_at s code m' fs' Below (length m.instances) 0 (plainly 0 b) (own_end s code 0) EndProgram [] body.stop [] (record { first = refl; last = body.last; at = body.ends; none = refl; below = record { still = refl; is = refl } })) in
       let pair = instance_at s code agrees 0 single block_kind.SubBlock type.Nothing b heads found (ap (λ z. passes z (is_class_free s 0)) is) refl (laid s code compiled 0 (BlockText begin ds ss) is refl) None cells (machine.first_cells b) (block_first s code agrees 0 begin ds ss block_kind.SubBlock type.Nothing b is heads) (ap (λ z. map key_of (cells_in s 0 z)) (sym is)) (first_size s code agrees 0 single block_kind.SubBlock type.Nothing b heads) (first_none s code agrees 0 single block_kind.SubBlock type.Nothing b heads) in
       going (enters s code m fs a new frame (NoObject None) (NoObject None) refl (parked_entered s code m fs a new frame (NoObject None) (NoObject None) refl tt parked) [] [] 0 (plainly 0 b) pair
       found stands stands refl room (Do PastOp ∷ block_work s m' (length m.instances) ds ss EndProgram) (own_end s code 0) b.entry
@@ -155,7 +156,7 @@ module _ (s : Source) (code : CodeOf) (compiled : Compiled s code) (l : Limits) 
   first_some m fs a parked (BlockText begin ds ss) is = let c = code_there s code compiled 0 (BlockText begin ds ss) is refl in first_block m fs a parked begin ds ss is c.block c.found c.has
   first_some m fs a parked (ProcedureText result h body) is = unruled
   first_some m fs a parked (ClassText prefix h ds ss) is = unruled
-  first_some m fs a parked (PrefixedText class arguments ds ss) is = absurd ((code_there s code compiled 0 (PrefixedText class arguments ds ss) is refl).has)
+  first_some m fs a parked (PrefixedText class arguments ds ss) is = let c = code_there s code compiled 0 (PrefixedText class arguments ds ss) is refl in first_prefixed s code compiled l o m fs a parked class arguments ds ss is c.block c.found c.has
   first_some m fs a parked ConnectionText is = unruled
   first_some m fs a parked (StandardText which) is = unruled
 

@@ -43,7 +43,7 @@ block_same s k (Some b) e = rw e (from_same s (take b.formals b.numbers))
 
 pub formals_same : (s : Source) (d : DeclNo) (result : Option SimType) (k : ℕ) → entry_of s.tables d ≡ Some (entry.Procedure result k) → closing.formals_at s d ≡ formals_of s k
 unfolding scopes.formals_of
-formals_same s d result k e = ap (λ o. closing.formals_from s (scopes.formals_at s.tables (scopes.block_in o))) e ∙ block_same s k (slice_get s.tables.blocks k) refl
+formals_same s d result k e = ap (λ o. closing.formals_declared s d o) e ∙ ap (λ o. closing.formals_from s (scopes.formals_at s.tables (scopes.block_in o))) e ∙ block_same s k (slice_get s.tables.blocks k) refl
 
 -- ---- formal parameters have cells
 

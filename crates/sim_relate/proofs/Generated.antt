@@ -13,14 +13,15 @@ use Rattle.sim_code.specs.Classes.{class_named, class_numbered, if_there}
 use Rattle.sim_code.specs.Code.{BlockOf, ClassOf, CodeOf}
 use Rattle.sim_code.specs.Events.{entering, having, no_rule, when}
 use Rattle.sim_code.specs.Instances.{is_live}
-use Rattle.sim_code.specs.Levels.{levelled, objects_of, supplied}
+use Rattle.sim_code.specs.Levels.{levelled, linkage_of_class, objects_of, supplied}
 use Rattle.sim_code.specs.Machine.{Cells, Frames, Machine, Value, in_object, link_in, pushing, waiting, words_of_block}
 use Rattle.sim_code.specs.Machine as machine
 use Rattle.sim_code.specs.Outcome.{Run, World}
 use Rattle.sim_code.specs.Rows.{on_top}
+use Rattle.sim_code.specs.Sets.{enrolled}
 use Rattle.sim_code.proofs.Lifts.{EachAt, alike_found}
 use Rattle.sim_code.proofs.Simulation.{Alike}
-use Rattle.sim_meaning.specs.Levels.{levels}
+use Rattle.sim_meaning.specs.Levels.{levels, linkage_of_text}
 use Rattle.sim_meaning.specs.Meaning.{do_op}
 use Rattle.sim_meaning.specs.Objects.{object_entered}
 use Rattle.sim_meaning.specs.Pending.{Activation, Configuration, EndObject, Instances, Item, NewOp, Op, Val, instance_in}
@@ -29,13 +30,14 @@ use Rattle.codegen_expr.specs.Sites.{block_number, class_number, frame_text, own
 use Rattle.codegen.specs.Compiled.{Compiled, RecordOf}
 use Rattle.sim_relate.proofs.Actuals.{counted_many}
 use Rattle.sim_relate.proofs.ClassLevels.{class_levels, number_is}
-use Rattle.sim_relate.proofs.ClassTexts.{ClassHas, class_has, of_levels}
+use Rattle.sim_relate.proofs.ClassTexts.{ClassHas, class_has}
 use Rattle.sim_relate.proofs.Ends.{chosen}
 use Rattle.sim_relate.proofs.Entries.{call_row, found_left, same_hand, waits, when_equal}
 use Rattle.sim_relate.proofs.Hands.{hand_popping, stack_length}
 use Rattle.sim_relate.proofs.Here.{Here, act, at_row, kinds_as}
 use Rattle.sim_relate.proofs.Known.{Any, HandAt, Kind, LinkTo, Runs, StackAt, Stands, ValAt, more_at, plain_at, site_at}
 use Rattle.sim_relate.proofs.LevelEntries.{entry_alike, not_first}
+use Rattle.sim_relate.proofs.Linkages.{linkage_same}
 use Rattle.sim_relate.proofs.Reach.{equal_numbers}
 use Rattle.sim_relate.proofs.Relation.{ChainAt, NewOpIs, OpAt, StateAt, WorkAt}
 use Rattle.sim_relate.proofs.Stores.{is_live_same}
@@ -74,7 +76,7 @@ module _ (s : Source) (code : CodeOf) (compiled : Compiled s code) (l : Limits) 
         having (supplied code b'.class b' values') o (λ cells.
         pushing b.room stack2 (machine.Of (Object (length fs.instances))) o (λ stack.
         entering l line (words_of_block b') o (λ p.
-        in_object (handed_over (length fs.instances) (machine.arrays_among values') p) fs c b' start j cells (waiting top stack ∷ below))))
+        in_object (enrolled (length fs.instances) (linkage_of_class code b'.class) (handed_over (length fs.instances) (machine.arrays_among values') p)) fs c b' start j cells (waiting top stack ∷ below))))
 
     abbrev OfClass : BlockOf → (start : ℕ) → Run Machine
     OfClass b' start = when (b'.class == x.block.class) o (NewGoes (block_number s g) b' start)
@@ -91,7 +93,7 @@ module _ (s : Source) (code : CodeOf) (compiled : Compiled s code) (l : Limits) 
     abbrev Filled : (start : ℕ) → Cells → Run Machine
     Filled start cells =
         entering l line (words_of_block x.block) o (λ p.
-        in_object (handed_over (length fs.instances) (machine.arrays_among values') p) fs (block_number s g) x.block start j cells under)
+        in_object (enrolled (length fs.instances) (linkage_of_class code x.block.class) (handed_over (length fs.instances) (machine.arrays_among values') p)) fs (block_number s g) x.block start j cells under)
 
     follows : (start : ℕ) (cells : Cells) (y : Run Configuration) → supplied code x.block.class x.block values' ≡ Some cells → Alike Related y (Filled start cells) → Alike Related y (OfClass x.block start)
     unfolding when
@@ -113,13 +115,17 @@ module _ (s : Source) (code : CodeOf) (compiled : Compiled s code) (l : Limits) 
         (subst (λ z. Alike Related y (levelled code block_kind.Object z o (λ b' start. when (b'.class == x.block.class) o (NewGoes z b' start)))) (sym x.has.is.of_block)
         (subst (λ z. Alike Related y (levelled code z (block_number s g) o OfClass)) object h))))
 
+    -- it becomes the same linkage on both sides, if it is one
+    enrolled_same : (p : World) → enrolled (length fs.instances) (linkage_of_class code x.block.class) p ≡ enrolled (length m.instances) (linkage_of_text s g) p
+    enrolled_same p = ap (λ n. enrolled n (linkage_of_class code x.block.class) p) (sym (here.store).as_many) ∙ ap (λ z. enrolled (length m.instances) z p) (linkage_same s code compiled g x a.class)
+
     new_alike : Alike Related (having (levels s g) o (λ xs. object_entered s l o m inst w vals2 rest g line values j xs)) (objects_of code (pos (class_number s code g)) o NewGoes)
     new_alike =
         objects_alike _
-        (entry_alike s code compiled l o m fs here.store here.parked g line x values values' each j a.text a.stands_in link EndObject AttachedObject AttachedObject refl chain under (λ m' fs' number is. record { own = g; is = is; class = a.class }) under_there
+        (entry_alike s code compiled l o m fs here.store here.parked g line x values values' each j a.text a.stands_in link (enrolled (length m.instances) (linkage_of_text s g)) (enrolled (length fs.instances) (linkage_of_class code x.block.class)) enrolled_same EndObject AttachedObject AttachedObject refl chain under (λ m' fs' number is. record { own = g; is = is; class = a.class }) under_there
         (λ m' fs' there block t' p last at. record {
           levels = x.levels;
-          not_first = not_first s code compiled g x.block x.found (ap of_levels x.has.heads.is_kind ∙ x.levelled);
+          not_first = not_first s code compiled g a.text x.levels a.stands_in;
           was = refl;
           block = x.block;
           found = x.found;
@@ -132,7 +138,7 @@ module _ (s : Source) (code : CodeOf) (compiled : Compiled s code) (l : Limits) 
       having (supplied code b'.class b' values') o (λ cells.
       pushing b.room stack2 (machine.Of (Object (length fs.instances))) o (λ stack.
       entering l line (words_of_block b') o (λ p.
-      in_object (handed_over (length fs.instances) (machine.arrays_among values') p) fs c b' start parent cells (waiting top stack ∷ below))))))))
+      in_object (enrolled (length fs.instances) (linkage_of_class code b'.class) (handed_over (length fs.instances) (machine.arrays_among values') p)) fs c b' start parent cells (waiting top stack ∷ below))))))))
   made_at k n line a values values' each v x vals2 stack2 link h =
       let j = link.instance in
       found_left s code compiled l o m inst w vals rest fs t b pc stack below ks here u q ks' low work ℕ (instance_in v) j _ _ (ap instance_in link.is_val)

@@ -13,7 +13,7 @@ use Rattle.sim_code.specs.Instances as instances
 use Rattle.sim_code.specs.Machine.{Frames, Value, Cells}
 use Rattle.sim_code.specs.Machine as machine
 use Rattle.sim_code.proofs.Lifts.{Both}
-use Rattle.sim_meaning.specs.Pending.{AttributeOf, CallOf, Connection, Declared, Held, Instances, Key, PlaceOf, QualifiedElementOf, QualifiedPlaceOf, RemoteCallOf, StandardOf, Target, Term, ToCell, ToPlace, ToTextAt, ToTextOf, TransferOf, Unbuilt, Val}
+use Rattle.sim_meaning.specs.Pending.{AttributeOf, CallOf, Connection, Declared, Held, Instances, Key, PlaceOf, QualifiedElementOf, QualifiedPlaceOf, RemoteCallOf, SetOf, StandardOf, Target, Term, ToCell, ToPlace, ToTextAt, ToTextOf, TransferOf, Unbuilt, Val}
 use Rattle.sim_meaning.specs.Pending as meaning
 use Rattle.sim_meaning.specs.Levels.{text_at}
 use Rattle.sim_meaning.specs.Meaning.{has_result}
@@ -72,6 +72,7 @@ abbrev pub gives : Source → Term → Bool
 gives s (CallOf j k ts line) = text_gives (text s k)
 gives s (RemoteCallOf a k ts line) = text_gives (text s k)
 gives s (StandardOf name ts line) = has_value (row_of name).result
+gives s (SetOf name ts) = has_value (row_of name).result
 gives s (PlaceOf j key) = false
 gives s (AttributeOf text key class line a) = false
 gives s (QualifiedPlaceOf j key k) = false

@@ -21,6 +21,7 @@ use Rattle.sim_meaning.specs.Texts.{BlockText, ClassText, ConnectionText, Prefix
 use Rattle.codegen_expr.specs.Sites.{HasCell, LevelOf, block_in_front, block_number, block_of_text, cells_in, connects, frame_text, hidden_before, hidden_from, hidden_in, innermost, is_connected, is_connection, outer, own_end, own_part, place_of, prefix_of, room_of_block, slot_of, start_of, types_in}
 use Rattle.codegen.specs.Agrees.{Agrees}
 use Rattle.codegen.specs.Compiled.{CodeHas, Compiled, RecordOf, type_of_cell}
+use Rattle.sim_relate.proofs.ClassTexts.{standard_code}
 use Rattle.sim_relate.proofs.Reach.{alone, level_cases, level_either, same_some}
 use Rattle.sim_relate.proofs.Relation.{Laid}
 use Rattle.sim_relate.proofs.Slots.{place_injective, same_is}
@@ -118,7 +119,7 @@ module _ (s : Source) where
     cells_among (Some (ClassText prefix h' ds ss)) p h t e = declared_among p h e
     cells_among (Some (PrefixedText class arguments ds ss)) p h t e = declared_among p h e
     cells_among (Some ConnectionText) p h t e = absurd (cc)
-    cells_among (Some (StandardText which)) p h t e = absurd (cc)
+    cells_among (Some (StandardText which)) p h t e = declared_among p h e
 
     hidden_one : (c : Bool) (b : scope.BlockOf) (hs : List Held) (n p : ℕ) (h : Held) → (is_connection b.kind && frame_text s n == k) ≡ c → slice_get s.tables.blocks n ≡ Some b → slice_get (hidden_before c b hs) p ≡ Some h → ((p : ℕ) → slice_get hs p ≡ Some h → Among k h.key) → Among k h.key
     hidden_one false b hs n p h ec eb e f = f p e
@@ -202,11 +203,11 @@ module _ (s : Source) (code : CodeOf) (compiled : Compiled s code) where
   by_code zero (ClassText prefix h' ds ss) (Some b) e c a = absurd a
   by_code (suc k) (ClassText prefix h' ds ss) (Some b) e c a = of_record (suc k) b e a.heads
   by_code k (PrefixedText class arguments ds ss) None e c a = absurd a
-  by_code zero (PrefixedText class arguments ds ss) (Some b) e c a = absurd a
+  by_code zero (PrefixedText class arguments ds ss) (Some b) e c a = of_record 0 b e a.heads
   by_code (suc k) (PrefixedText class arguments ds ss) (Some b) e c a = of_record (suc k) b e a.heads
   by_code k (StandardText which) None e c a = absurd a
   by_code zero (StandardText which) (Some b) e c a = absurd a
-  by_code (suc k) (StandardText which) (Some b) e c a = absurd a
+  by_code (suc k) (StandardText which) (Some b) e c a = let class = standard_code s code (suc k) which b a in of_record (suc k) b e class.heads
 
   -- each text but connections has a record
   pub recorded : (k : ℕ) (x : Text) → text s k ≡ Some x → is_connection_text (Some x) ≡ false → Recorded k
@@ -231,7 +232,7 @@ module _ (s : Source) (code : CodeOf) (compiled : Compiled s code) where
   levels_by_text k (Some (ClassText prefix h ds ss)) e c = recorded k (ClassText prefix h ds ss) e refl
   levels_by_text k (Some (PrefixedText class arguments ds ss)) e c = recorded k (PrefixedText class arguments ds ss) e refl
   levels_by_text k (Some ConnectionText) e c = absurd (cc)
-  levels_by_text k (Some (StandardText which)) e c = absurd (cc)
+  levels_by_text k (Some (StandardText which)) e c = recorded k (StandardText which) e refl
 
   pub levels_recorded : (k : ℕ) → has_levels (text s k) ≡ true → Recorded k
   levels_recorded k c = levels_by_text k (text s k) refl c

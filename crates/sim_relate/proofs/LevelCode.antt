@@ -1,13 +1,12 @@
 -- The code of the levels of an instance, as the code of its program has it, and the work of a level.
 use Rattle.std.proofs.Common.{◌≡◌, ◌<◌, ◌≤◌, ℕ, zero, suc, Bool, true, false, List, [], ◌∷◌, length, Option, Some, None, refl, sym, ap, ◌∙◌, subst, arith}
 use Rattle.std.specs.Prelude.{drop, not, pos, slice_get}
-use Rattle.sim_scope.specs.Levels.{has_standard}
 use Rattle.sim_scope.specs.Source.{Source}
 use Rattle.sim_code.specs.declared.instr.Instr.TheVariants as i
 use Rattle.sim_code.specs.declared.stage.Stage.TheVariants as stage
 use Rattle.sim_code.specs.Code.{BlockOf, ClassOf, CodeOf}
 use Rattle.sim_code.specs.Machine.{Frames}
-use Rattle.sim_meaning.specs.Levels.{both, has_levels, level_made, levels_made, levels_of, unless_standard}
+use Rattle.sim_meaning.specs.Levels.{both, has_levels, level_made, levels_made, levels_of}
 use Rattle.sim_meaning.specs.Objects.{level_work, with_inner}
 use Rattle.sim_meaning.specs.Pending.{Do, Execs, InnerOp, Instances, Item, Level}
 use Rattle.sim_meaning.specs.Texts.{text}
@@ -54,10 +53,6 @@ module _ (s : Source) where
   pub none_made : (ks : List ℕ) → levels_made s ks ≡ Some [] → ks ≡ []
   none_made [] e = refl
   none_made (k ∷ ks) e = absurd (both_none (level_made s k (text s k)) (levels_made s ks) e)
-
-  made_text : (c : Bool) (y x : Level) → unless_standard c y ≡ Some x → y ≡ x
-  made_text true y x e = absurd (cc)
-  made_text false y x e = cc (e)
 
 -- what stands in a list behind so many
 pub dropped_at : {A : Type 0} (n : ℕ) (xs : List A) (k : A) (rest : List A) → drop n xs ≡ k ∷ rest → (slice_get xs n ≡ Some k) × (drop (suc n) xs ≡ rest)
@@ -152,7 +147,7 @@ module _ (s : Source) (code : CodeOf) (compiled : Compiled s code) where
         let r = level_is k n e in
         let a = r.0 in
         let here = a.has.level in
-        let same = made_text s (has_standard s.tables k) (record { text = k; declarations = a.declarations; statements = a.statements; inner_last = not a.written }) x (sym a.made ∙ made) in
+        let same = a.made x made in
         let placed : here.place ≡ n = let p = here.placed in let q = at.1 in omega (arith, p, q) in
         subst (λ z. LevelCode b k n z) same (record {
           block = a.block;

@@ -32,15 +32,15 @@ use Rattle.sim_meaning.specs.Entries.{arrays_among, new_instance, words_of_cells
 use Rattle.sim_meaning.specs.Levels.{has_levels, level_made, levels, levels_made, levels_of, text_at, text_in}
 use Rattle.sim_meaning.specs.Objects.{arrays_given, cells_of_levels, filled_in, levels_work}
 use Rattle.sim_meaning.specs.Pending.{Activation, Configuration, Held, Instances, Item, Level, Val}
-use Rattle.sim_meaning.specs.Texts.{BlockText, ClassText, ConnectionText, PrefixedText, ProcedureText, StandardText, Text, is_class_free, program_texts, text}
+use Rattle.sim_meaning.specs.Texts.{Text, is_class_free, program_texts, text}
 use Rattle.codegen_expr.specs.Sites.{Is, LevelOf, block_number, class_number, frame_text, is_connected, own_end}
 use Rattle.codegen.specs.Agrees.{Agrees}
-use Rattle.codegen.specs.Compiled.{CodeHas, Compiled, RecordOf}
+use Rattle.codegen.specs.Compiled.{Compiled, RecordOf}
 use Rattle.sim_relate.proofs.Actuals.{among_same, each_length}
-use Rattle.sim_relate.proofs.ClassLevels.{levels_numbers, levels_solid, number_is}
-use Rattle.sim_relate.proofs.ClassTexts.{ClassHas, of_levels}
+use Rattle.sim_relate.proofs.ClassLevels.{later_block, levels_numbers, levels_solid, number_is}
+use Rattle.sim_relate.proofs.ClassTexts.{ClassHas}
 use Rattle.sim_relate.proofs.Ends.{chosen}
-use Rattle.sim_relate.proofs.Entering.{chain_entered, enters, first_text, instance_of, later_fs, later_m, new_frame, parked_entered}
+use Rattle.sim_relate.proofs.Entering.{chain_entered, enters, instance_of, later_fs, later_m, new_frame, parked_entered}
 use Rattle.sim_relate.proofs.FirstCells.{all_attributes, attributes_count, first_cells_of, made_cells}
 use Rattle.sim_relate.proofs.Known.{Runs, Stands, ValAt}
 use Rattle.sim_relate.proofs.Laying.{laid}
@@ -63,35 +63,12 @@ module _ (s : Source) (code : CodeOf) (compiled : Compiled s code) where
   first_has None (Begin token ds ss end) = refl
   first_has (Some p) (Begin token ds ss end) = refl
 
-  not_program : (x : Text) (o : Option BlockOf) → is_connection (Some x) ≡ false → CodeHas s code 0 x o → (b : BlockOf) → o ≡ Some b → of_levels b.kind ≡ true → ⊥
-  not_program ConnectionText o own h b e is = absurd (cc (own))
-  not_program (BlockText begin ds ss) None own h b e is = h
-  not_program (BlockText begin ds ss) (Some c) own h b e is = let same : c ≡ b = cc (e) in let kind = h.heads.is_kind in no_kind c.kind kind (ap (λ z. of_levels z.kind) same ∙ is)
-    where
-      no_kind : (x : BlockKind) → x ≡ block_kind.SubBlock → of_levels x ≡ true → ⊥
-      no_kind x e f = let none = ap of_levels e in absurd (cc (none, f))
-  not_program (ProcedureText result h' a) None own h b e is = h
-  not_program (ProcedureText result h' a) (Some c) own h b e is = let same : c ≡ b = cc (e) in let kind = h.heads.is_kind in no_kind c.kind kind (ap (λ z. of_levels z.kind) same ∙ is)
-    where
-      no_kind : (x : BlockKind) → x ≡ block_kind.Procedure → of_levels x ≡ true → ⊥
-      no_kind x e f = let none = ap of_levels e in absurd (cc (none, f))
-  not_program (ClassText prefix h' ds ss) None own h b e is = h
-  not_program (ClassText prefix h' ds ss) (Some c) own h b e is = h
-  not_program (PrefixedText class arguments ds ss) None own h b e is = h
-  not_program (PrefixedText class arguments ds ss) (Some c) own h b e is = h
-  not_program (StandardText which) None own h b e is = h
-  not_program (StandardText which) (Some c) own h b e is = h
-
-  number_zero : block_number s 0 ≡ 0
-  unfolding block_number
-  number_zero = refl
-
-  pub not_first : (k : ℕ) (b : BlockOf) → slice_get code.blocks (block_number s k) ≡ Some b → of_levels b.kind ≡ true → block_number s k ≢ 0
+  -- what stands in another text is not the program's block
+  pub not_first : (k u : ℕ) → has_levels (text s k) ≡ true → encloser s.tables k ≡ Some u → block_number s k ≢ 0
   unfolding text
-  not_first k b found is e =
-      let x = first_text s.program.prefix s.program.block in
-      not_program x.0 (slice_get code.blocks (block_number s 0)) (ap is_connection (sym x.1) ∙ first_has s.program.prefix s.program.block) (compiled.each 0 x.0 x.1) b
-      (ap (slice_get code.blocks) (number_zero ∙ sym e) ∙ found) is
+  not_first k u h e =
+      later_block s code compiled k h (first_has s.program.prefix s.program.block)
+      (λ zero_is. (let none = compiled.agrees.outermost in let inside = ap (encloser s.tables) (sym zero_is) ∙ e in absurd (cc (none, inside))))
 
   -- how its frames are laid out
   pub levels_laid : (k : ℕ) → has_levels (text s k) ≡ true → Laid s code k
@@ -169,21 +146,21 @@ module _ (s : Source) (code : CodeOf) (compiled : Compiled s code) (l : Limits) 
     in_world : (p p' : World) (c : Configuration) (y : Machine) → p' ≡ p → Related c y → Alike Related (Going p c) (Going p' y)
     in_world p p' c y e z = subst (λ v. Alike Related (Going p c) (Going v y)) (sym e) (going z)
 
-    -- How it stands as a component, what is below on the chain, and its end.
-    module _ (end : Item) (standing : Standing Activation) (frame_standing : Standing machine.Activation) (plain : suspends standing ≡ None) (chain : List Activation) (under : List machine.Activation)
+    -- What else happens to the world, how it stands as a component, what is below on the chain, and its end.
+    module _ (grow frame_grow : World → World) (grown : (p : World) → frame_grow p ≡ grow p) (end : Item) (standing : Standing Activation) (frame_standing : Standing machine.Activation) (plain : suspends standing ≡ None) (chain : List Activation) (under : List machine.Activation)
         (stands_alike : (m' : Instances) (fs' : Frames) (number : ℕ) → text_at m' number ≡ Some g → StandingAt s code m' fs' number standing frame_standing) (under_there : ChainAt s code m fs chain false under)
         (ends : (m' : Instances) (fs' : Frames) → ChainAt s code m' fs' chain false under → (block : BlockOf) (t p last : ℕ) → Is code (i.EndLevel (pos 0)) p last → EndAt s code (λ v. ChainAt s code m' fs' chain v under) t (record { own = g; room = new_block.room; block = block; stage = stage.Behind 0 }) end p []) where
       -- what the machine does when the cells are filled
       abbrev pub Fresh : (start : ℕ) → Cells → Run Machine
       Fresh start cells =
           entering l line (words_of_block new_block) o (λ p.
-          machine.in_new (handed_over (length fs.instances) (machine.arrays_among values') p) fs (block_number s g) new_block start (stage.Declaring 0) frame_standing (Some j) cells under)
+          machine.in_new (frame_grow (handed_over (length fs.instances) (machine.arrays_among values') p)) fs (block_number s g) new_block start (stage.Declaring 0) frame_standing (Some j) cells under)
 
       abbrev From : List Level → List Held → Option (List Held) → Run Configuration
       From xs hs filled =
           having filled o (λ filled.
           entering l line (words_of_cells hs) o (λ p.
-          Going (arrays_given (length m.instances) values p) (record { chain = record { instance = length m.instances; work = levels_work xs end; values = [] } ∷ chain; memory = entered m (new_instance s g (Some j) filled) standing })))
+          Going (grow (arrays_given (length m.instances) values p)) (record { chain = record { instance = length m.instances; work = levels_work xs end; values = [] } ∷ chain; memory = entered m (new_instance s g (Some j) filled) standing })))
 
       module _ (Goes : BlockOf → (start : ℕ) → Run Machine) (follows : (start : ℕ) (cells : Cells) (y : Run Configuration) → supplied code new_block.class new_block values' ≡ Some cells → Alike Related y (Fresh start cells) → Alike Related y (Goes new_block start)) where
         abbrev Levelled : Run Machine
@@ -219,7 +196,7 @@ module _ (s : Source) (code : CodeOf) (compiled : Compiled s code) (l : Limits) 
             pending : WorkAt s code new_m new_fs (λ v. ChainAt s code new_m new_fs chain v under) (length m.instances) k0 begins (own_end s code k0) (levels_work (x0 ∷ xs) end) outermost.class.declarations []
             pending =
                 levels_pend s code compiled new_m new_fs (λ v. ChainAt s code new_m new_fs chain v under) (length m.instances) runs new_block x.found enough_room x.levels end k0 more x0 xs outermost levels_are rest_made
-                (λ block t p last at. ends new_m new_fs (chain_entered s code m fs store new frame standing frame_standing plain chain false under under_there) block t p last at)
+                (λ p last at. ends new_m new_fs (chain_entered s code m fs store new frame standing frame_standing plain chain false under under_there) outermost.block (frame_text s k0) p last at)
 
             stands_own : Stands s new_m (length m.instances) g
             stands_own = new_inside s m g j around new standing (sym own) refl refl (ap (encloser s.tables) own ∙ stands_in) link
@@ -253,11 +230,11 @@ module _ (s : Source) (code : CodeOf) (compiled : Compiled s code) (l : Limits) 
                 (alike_found Configuration Machine Related ClassOf (class_at_level code (map (class_number s code) (levels_of s g)) 0) outermost.class o y _ (ap (λ z. class_at_level code (map (class_number s code) z) 0) levels_are ∙ outermost.level.numbered)
                 (let lead = there_get code.instrs outermost.class.declarations outermost.declared_there in alike_found Configuration Machine Related Lined (slice_get code.instrs outermost.class.declarations) lead.0 o y _ lead.1 h))))
 
-            enters_so : Alike Related (entering l line (words_of_cells attributes) o (λ p. Going (arrays_given (length m.instances) values p) (record { chain = record { instance = length m.instances; work = levels_work (x0 ∷ xs) end; values = [] } ∷ chain; memory = new_m }))) Levelled
+            enters_so : Alike Related (entering l line (words_of_cells attributes) o (λ p. Going (grow (arrays_given (length m.instances) values p)) (record { chain = record { instance = length m.instances; work = levels_work (x0 ∷ xs) end; values = [] } ∷ chain; memory = new_m }))) Levelled
             enters_so =
                 levelled_alike _
                 (follows outermost.class.declarations r.frame _ supplied_is
-                (alike_entering Configuration Machine Related l line line (words_of_cells attributes) (words_of_block new_block) o _ _ refl words (λ p. in_world _ _ _ _ (worlds_same p) entered_state)))
+                (alike_entering Configuration Machine Related l line line (words_of_cells attributes) (words_of_block new_block) o _ _ refl words (λ p. in_world _ _ _ _ (ap frame_grow (worlds_same p) ∙ grown (arrays_given (length m.instances) values p)) entered_state)))
 
           from_filling : MayFill s code g parameter values values' formals 0 attributes (machine.first_cells new_block) → Alike Related (From (x0 ∷ xs) attributes (filled_in values (Some attributes) formals)) Levelled
           unfolding having no_rule

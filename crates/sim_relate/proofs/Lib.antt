@@ -29,7 +29,9 @@ pub mod LevelFormals
 pub mod FirstCells
 pub mod ObjectWork
 pub mod Assigns
+pub mod SetNames
 pub mod Calls
+pub mod Sets
 pub mod Lefts
 pub mod Statements
 pub mod Loops
@@ -38,8 +40,11 @@ pub mod DeclaredArrays
 pub mod Ends
 pub mod Stages
 pub mod LevelEntries
+pub mod Linkages
 pub mod Generated
+pub mod PrefixedProgram
 pub mod PrefixedEntries
+pub mod OwnNames
 pub mod Roomy
 pub mod References
 pub mod Fitting
@@ -74,4 +79,5 @@ pub mod ExampleBlock
 pub mod ExampleTexts
 pub mod ExampleObjects
 pub mod ExamplePrefix
+pub mod ExampleSets
 pub mod Examples

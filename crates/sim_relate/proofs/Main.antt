@@ -14,7 +14,7 @@ use Rattle.sim_code.specs.Machine as machine
 use Rattle.sim_code.specs.Rows.{mstep, on_top}
 use Rattle.sim_code.proofs.Simulation.{Alike, unruled}
 use Rattle.sim_meaning.specs.Meaning.{do_op, has_result, step}
-use Rattle.sim_meaning.specs.Pending.{Activation, AgainOp, ArrayOp, AttributeOf, AttributeOp, BackOp, BranchOp, CallOf, CallOp, Cell, ChooseOp, Configuration, ConnectOp, CopyOf, CopyOp, DeclareOp, Do, DropOp, Either, ElementOf, ElementOp, ElementsOp, EndBlock, EndLevel, EndObject, EndPrefixed, EndProcedure, EndProgram, EnterOp, Eval, Exec, Execs, FetchOp, FitsOf, FitsOp, GiveOp, Given, IfOp, ImageOf, Instances, Item, JoinOp, Joined, KeepOp, KeptOf, MemberOf, MemberOp, NewOf, NewOp, NotNoneOf, NotNoneOp, ObjectOp, One, OneOp, Op, PastOp, PlaceOf, PrefixedOp, QuaOf, QuaOp, QualifiedElementOf, QualifiedElementOp, QualifiedPlaceOf, RaiseOp, ReferOp, RemoteCallOf, ShareOp, StandardOf, StandardOp, StepOp, StepTestOp, StoreOp, SwapOp, Target, Term, Terms, TestOp, ToAddress, ToCell, ToPlace, ToReference, ToReferenceAt, ToText, ToTextAt, ToTextOf, TransferOf, TransferOp, Two, TwoOp, Unbuilt, Val, ValueAt, WhenOp, WhileElementOp}
+use Rattle.sim_meaning.specs.Pending.{Activation, AgainOp, ArrayOp, AttributeOf, AttributeOp, BackOp, BranchOp, CallOf, CallOp, Cell, ChooseOp, Configuration, ConnectOp, CopyOf, CopyOp, DeclareOp, Do, DropOp, Either, ElementOf, ElementOp, ElementsOp, EndBlock, EndLevel, EndObject, EndPrefixed, EndProcedure, EndProgram, EnterOp, Eval, Exec, Execs, FetchOp, FitsOf, FitsOp, GiveOp, Given, IfOp, ImageOf, Instances, Item, JoinOp, Joined, KeepOp, KeptOf, MemberOf, MemberOp, NewOf, NewOp, NotNoneOf, NotNoneOp, ObjectOp, One, OneOp, Op, PastOp, PlaceOf, PrefixedOp, QuaOf, QuaOp, QualifiedElementOf, QualifiedElementOp, QualifiedPlaceOf, RaiseOp, ReferOp, RemoteCallOf, SetOf, SetOp, ShareOp, StandardOf, StandardOp, StepOp, StepTestOp, StoreOp, SwapOp, Target, Term, Terms, TestOp, ToAddress, ToCell, ToPlace, ToReference, ToReferenceAt, ToText, ToTextAt, ToTextOf, TransferOf, TransferOp, Two, TwoOp, Unbuilt, Val, ValueAt, WhenOp, WhileElementOp}
 use Rattle.sim_meaning.specs.Entries.{arrays_declared}
 use Rattle.sim_meaning.specs.Steps.{count}
 use Rattle.sim_meaning.specs.Sane.{NamesOn, Sane, SaneOn}
@@ -45,6 +45,7 @@ use Rattle.sim_relate.proofs.Known.{Any, FixedOf, Kind, LinkTo, Located, OwnerOf
 use Rattle.sim_relate.proofs.Relation.{BeginsAt, ChainAt, ChainNow, InStage, NowAt, OpAt, StandingsAt, StateAt, StateNow, StoreAt, WorkAt, WithInnerIs, declares, inner_here, inner_last, stays, with_inner}
 use Rattle.sim_relate.proofs.References as references
 use Rattle.sim_relate.proofs.Settle.{as_act}
+use Rattle.sim_relate.proofs.Sets as sets
 use Rattle.sim_relate.proofs.Statements as statements
 use Rattle.sim_relate.proofs.Transfers as transfers
 use Rattle.sim_relate.proofs.Ranked.{InEach, Meets, at_once, in_steps}
@@ -130,6 +131,9 @@ module _ (s : Source) (code : CodeOf) (compiled : Compiled s code) (l : Limits) 
   eval_moves (KeptOf x) a = quiet _ refl (stands_so _ (quiet_steps.kept_opened s code m fs Below inst t b u low w pc q ks ks' k x a)) (omega arith)
   eval_moves (NotNoneOf line x) a = quiet _ refl (stands_so _ (quiet_steps.not_none_opened s code m fs Below inst t b u low w pc q ks ks' k line x a)) (omega arith)
   eval_moves (TransferOf way line x) a = quiet _ refl (stands_so _ (quiet_steps.transfer_opened s code m fs Below inst t b u low w pc q ks ks' k way line x a)) (omega arith)
+  eval_moves (SetOf name ts) a =
+      let e = each_weight s m inst ts (Do (SetOp name) ∷ w) refl in
+      quiet _ refl (stands_so _ (quiet_steps.set_opened s code m fs Below inst t b u low w pc q ks ks' k name ts a)) (omega (arith, e))
   eval_moves Unbuilt a = both unruled
 
   statement_moves : (x : Statement) → Follows (Exec x)
@@ -223,6 +227,7 @@ module _ (s : Source) (code : CodeOf) (compiled : Compiled s code) (l : Limits) 
   op_moves KeepOp a = both (references.keep s code compiled l o m inst w vals rest fs t b pc stack below ks here u q ks' low k a)
   op_moves (NotNoneOp line) a = both (references.not_none s code compiled l o m inst w vals rest fs t b pc stack below ks here u q ks' low k line a)
   op_moves (TransferOp way line) a = both (transfers.transfer s code compiled l o m inst w vals rest fs t b pc stack below ks here u q ks' low k way line a)
+  op_moves (SetOp name) a = both (sets.set_op s code l o m inst w vals rest fs t b pc stack below ks here u q ks' low k name a)
   op_moves SwapOp a = both (references.swap s code compiled l o m inst w vals rest fs t b pc stack below ks here u q ks' low k a)
   op_moves (ReferOp line) a = both (references.refer s code compiled l o m inst w vals rest fs t b pc stack below ks here u q ks' low k line a)
   op_moves (ConnectOp c x other) a = followed (connections.connect_op s code compiled l o m inst w vals rest fs t b pc stack below ks here u q ks' low k c x other a)

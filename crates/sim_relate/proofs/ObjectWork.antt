@@ -73,10 +73,10 @@ module _ (s : Source) (code : CodeOf) (compiled : Compiled s code) (m : Instance
 
   -- What is pending at the beginning of an object or a prefixed block. Its levels are those that are made of this list.
   pub levels_pend : (end : Item) (k : ℕ) (ks : List ℕ) (x : Level) (xs : List Level) (a : Code k 0 x) → levels_of s b.own ≡ k ∷ ks → levels_made s ks ≡ Some xs
-      → ((block : BlockOf) (t p last : ℕ) → Is code (i.EndLevel (pos 0)) p last → EndAt s code Below t (record b { block = block; stage = stage.Behind 0 }) end p []) → Pends k (declaring a) (levels_work (x ∷ xs) end) a.class.declarations
+      → ((p last : ℕ) → Is code (i.EndLevel (pos 0)) p last → EndAt s code Below (frame_text s k) (record b { block = a.block; stage = stage.Behind 0 }) end p []) → Pends k (declaring a) (levels_work (x ∷ xs) end) a.class.declarations
   levels_pend end k ks x xs a is made ends =
       declared_pends k x a (level_work x xs (end ∷ []))
       (level_begins s code compiled m fs Below inst b k 0 x a xs (end ∷ []) (ap (λ z. levels_made s (drop 1 z)) is ∙ made)
       (ends_at s code m fs Below inst k (record b { block = a.block; stage = stage.Behind 0 }) (own_end s code k) end [] a.stop []
-      (ends a.block (frame_text s k) a.stop a.behind a.ends)))
+      (ends a.stop a.behind a.ends)))
       ks k 0 x xs a is made

@@ -1,5 +1,5 @@
 -- The entry of a prefixed block.
-use Rattle.std.proofs.Common.{◌≡◌, ◌≤◌, ℕ, false, List, [], ◌∷◌, length, Some, None, refl, ap, ◌∙◌, subst, arith}
+use Rattle.std.proofs.Common.{◌≡◌, ◌≤◌, ℕ, false, List, [], ◌∷◌, length, Some, None, refl, subst, arith}
 use Rattle.std.specs.Prelude.{pos}
 use Rattle.sim_base.specs.declared.limits.Limits.{Limits}
 use Rattle.sim_chains.specs.Components.{NoObject}
@@ -24,7 +24,7 @@ use Rattle.sim_meaning.specs.Pending.{Activation, Configuration, EndPrefixed, In
 use Rattle.codegen_expr.specs.Sites.{block_number, frame_text, own_end}
 use Rattle.codegen.specs.Compiled.{Compiled, RecordOf}
 use Rattle.sim_relate.proofs.Actuals.{counted_many}
-use Rattle.sim_relate.proofs.ClassTexts.{ClassHas, class_has, of_levels}
+use Rattle.sim_relate.proofs.ClassTexts.{ClassHas, class_has}
 use Rattle.sim_relate.proofs.Entries.{call_row, waits}
 use Rattle.sim_relate.proofs.Here.{Here, act, at_row, kinds_as}
 use Rattle.sim_relate.proofs.Known.{HandAt, Kind, Runs, StackAt, ValAt, site_at}
@@ -72,10 +72,10 @@ module _ (s : Source) (code : CodeOf) (compiled : Compiled s code) (l : Limits) 
     prefixed_alike : Alike Related (having (levels s g) o (λ xs. prefixed_entered s l o m chain g line values (Some inst) EndPrefixed xs)) (levelled code block_kind.Prefixed (block_number s g) o Goes)
     prefixed_alike =
         subst (λ z. Alike Related (having (levels s g) o (λ xs. prefixed_entered s l o m chain g line values (Some inst) EndPrefixed xs)) (levelled code z (block_number s g) o Goes)) (x.of_block a.no_class)
-        (entry_alike s code compiled l o m fs here.store here.parked g line x values values' each inst t a.stands_in here.stands EndPrefixed (NoObject None) (NoObject None) refl chain under (λ m' fs' number is. tt) under_there
+        (entry_alike s code compiled l o m fs here.store here.parked g line x values values' each inst t a.stands_in here.stands (λ p. p) (λ p. p) (λ p. refl) EndPrefixed (NoObject None) (NoObject None) refl chain under (λ m' fs' number is. tt) under_there
         (λ m' fs' there block t' p last at. record {
           levels = x.levels;
-          not_first = not_first s code compiled g x.block x.found (ap of_levels x.has.heads.is_kind ∙ x.levelled);
+          not_first = not_first s code compiled g t x.levels a.stands_in;
           was = refl;
           block = x.block;
           found = x.found;

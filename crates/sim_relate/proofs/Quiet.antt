@@ -14,7 +14,7 @@ use Rattle.sim_code.specs.Machine.{Frames}
 use Rattle.sim_code.specs.Transfers.{Transfer}
 use Rattle.sim_meaning.specs.Closing.{close}
 use Rattle.sim_meaning.specs.Entries.{arrays_declared, arrays_of, bounds_of, segments_of}
-use Rattle.sim_meaning.specs.Pending.{Activation, DeclareOp, AttributeOf, AttributeOp, CallOp, FitsOf, FitsOp, KeepOp, KeptOf, Key, MemberOf, MemberOp, NotNoneOf, NotNoneOp, ObjectOp, QuaOf, QuaOp, QualifiedElementOf, QualifiedElementOp, ReferOp, RemoteCallOf, StoreOp, SwapOp, ToAddress, ToPlace, ToReference, ToReferenceAt, CallOf, Cell, Configuration, CopyOf, CopyOp, Do, Either, ElementOf, ElementOp, ElementsOp, Eval, Exec, Execs, FetchOp, Further, GiveOp, Given, IfOp, ImageOf, Instances, Item, JoinOp, Joined, NoTerm, One, OneOp, Op, PlaceOf, RaiseOp, StandardOf, StandardOp, Target, Term, Terms, TransferOf, TransferOp, Two, TwoOp, Val, ValueAt}
+use Rattle.sim_meaning.specs.Pending.{Activation, DeclareOp, AttributeOf, AttributeOp, CallOp, FitsOf, FitsOp, KeepOp, KeptOf, Key, MemberOf, MemberOp, NotNoneOf, NotNoneOp, ObjectOp, QuaOf, QuaOp, QualifiedElementOf, QualifiedElementOp, ReferOp, RemoteCallOf, SetOf, SetOp, StoreOp, SwapOp, ToAddress, ToPlace, ToReference, ToReferenceAt, CallOf, Cell, Configuration, CopyOf, CopyOp, Do, Either, ElementOf, ElementOp, ElementsOp, Eval, Exec, Execs, FetchOp, Further, GiveOp, Given, IfOp, ImageOf, Instances, Item, JoinOp, Joined, NoTerm, One, OneOp, Op, PlaceOf, RaiseOp, StandardOf, StandardOp, Target, Term, Terms, TransferOf, TransferOp, Two, TwoOp, Val, ValueAt}
 use Rattle.sim_meaning.specs.Steps.{count, each}
 use Rattle.sim_meaning.specs.Texts.{kind_named, text}
 use Rattle.codegen_expr.specs.Sites.{frame_text, own_end}
@@ -50,6 +50,7 @@ abbrev mutual
   opened (KeptOf a) = suc (opened a)
   opened (NotNoneOf line a) = suc (opened a)
   opened (TransferOf t line a) = suc (opened a)
+  opened (SetOf name ts) = suc (opened_first ts)
   opened _ = 0
 
   pub opened_first : Terms → ℕ
@@ -256,6 +257,13 @@ module _ (s : Source) (code : CodeOf) (m : Instances) (fs : Frames) (Below : Boo
 
   pub transfer_opened : (way : Transfer) (line : ℕ) (x : Term) → Becomes (Do (Eval x) ∷ Do (TransferOp way line) ∷ w) (Eval (TransferOf way line x))
   transfer_opened way line x a = let y = a.0 in opens x (TransferOp way line) y.0 y.1 (record { is = y.2; left = ks; «in» = refl; out = a.1 })
+
+  -- ---- sets
+
+  pub set_opened : (name : Standard) (ts : Terms) → Becomes (each ts (Do (SetOp name) ∷ w)) (Eval (SetOf name ts))
+  set_opened name ts a =
+      let y = a.0 in
+      each_pends s code m fs Below inst t b u low (Do (SetOp name) ∷ w) ts p y.0 ks y.1 (puts w (SetOp name) y.0 q (anys (count ts) ks) ks' (record { left = ks; many = count ts; is = y.2; «in» = refl; out = a.1 }) k)
 
   -- ---- stores
 

@@ -62,7 +62,7 @@ levels_no_connection (Some (ProcedureText result h a)) e = absurd (cc)
 levels_no_connection (Some (ClassText prefix h ds ss)) e = refl
 levels_no_connection (Some (PrefixedText class arguments ds ss)) e = refl
 levels_no_connection (Some ConnectionText) e = absurd (cc)
-levels_no_connection (Some (StandardText which)) e = absurd (cc)
+levels_no_connection (Some (StandardText which)) e = refl
 
 module _ (s : Source) (agrees : Agrees s) where
   -- a text that is no class is a level of itself alone

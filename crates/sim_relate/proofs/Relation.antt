@@ -26,7 +26,7 @@ use Rattle.sim_code.specs.Machine.{Frames, Machine, Value, Cells, joined}
 use Rattle.sim_code.specs.Machine as machine
 use Rattle.sim_code.proofs.Lifts.{Both}
 use Rattle.sim_meaning.specs.Levels.{has_levels, is_class, levels_made, levels_of, text_at}
-use Rattle.sim_meaning.specs.Pending.{Activation, AgainOp, ArrayOp, AttributeOp, BackOp, BranchOp, CallOp, ChooseOp, Configuration, ConnectOp, CopyOp, DeclareOp, Do, DropOp, ElementOp, ElementsOp, EndBlock, EndLevel, EndObject, EndPrefixed, EndProcedure, EndProgram, EnterOp, Eval, Exec, Execs, FetchOp, FitsOp, GiveOp, Held, IfOp, InnerOp, Instances, Item, JoinOp, KeepOp, Key, Level, LevelOp, MemberOp, NewOp, NotNoneOp, ObjectOp, OneOp, Op, PastOp, PrefixedOp, QuaOp, QualifiedElementOp, RaiseOp, ReferOp, ShareOp, StandardOp, StepOp, StepTestOp, StoreOp, SwapOp, Target, Term, TestOp, ToAddress, ToCell, ToPlace, ToReference, ToReferenceAt, ToText, ToTextAt, ToTextOf, TransferOp, TwoOp, Val, WhenOp, WhileElementOp, held}
+use Rattle.sim_meaning.specs.Pending.{Activation, AgainOp, ArrayOp, AttributeOp, BackOp, BranchOp, CallOp, ChooseOp, Configuration, ConnectOp, CopyOp, DeclareOp, Do, DropOp, ElementOp, ElementsOp, EndBlock, EndLevel, EndObject, EndPrefixed, EndProcedure, EndProgram, EnterOp, Eval, Exec, Execs, FetchOp, FitsOp, GiveOp, Held, IfOp, InnerOp, Instances, Item, JoinOp, KeepOp, Key, Level, LevelOp, MemberOp, NewOp, NotNoneOp, ObjectOp, OneOp, Op, PastOp, PrefixedOp, QuaOp, QualifiedElementOp, RaiseOp, ReferOp, SetOp, ShareOp, StandardOp, StepOp, StepTestOp, StoreOp, SwapOp, Target, Term, TestOp, ToAddress, ToCell, ToPlace, ToReference, ToReferenceAt, ToText, ToTextAt, ToTextOf, TransferOp, TwoOp, Val, WhenOp, WhileElementOp, held}
 use Rattle.sim_meaning.specs.Entries.{formals_of, passes}
 use Rattle.sim_meaning.specs.Meaning.{has_result}
 use Rattle.sim_meaning.specs.Statements.{has_value}
@@ -40,7 +40,7 @@ use Rattle.codegen.specs.CodeStm.{ArmsAt, ConnectsAt, StmAt, StmsAt, WithInnerAt
 use Rattle.codegen.specs.Compiled.{RecordOf, type_of_name}
 use Rattle.sim_relate.proofs.Known.{AllRead, Any, HandAt, IsLink, IsRead, IsTemp, Keeps, Kind, Later, LinkTo, OwnerOf, Reaches, Refers, Runs, SameFrame, SlotAt, Spot, StackAt, Stands, ValAt, anys, at_stage, attribute_kind, given, is_declared, is_fixed, place_target, placed, reads, site_at, spot, variable_target, LeavesIs}
 use Rattle.sim_relate.proofs.Waiting.{GetsIs, demand, suspended}
-use Rattle.sim_relate.proofs.Trees.{Classed, JoinsIs, ProcedureIs, FoundIs, FetchesAt, FitsIs, TermAt, OperandAt, transfer_instr}
+use Rattle.sim_relate.proofs.Trees.{Classed, JoinsIs, ProcedureIs, FoundIs, FetchesAt, FitsIs, SetIs, TermAt, OperandAt, transfer_instr}
 
 module _ (s : Source) (code : CodeOf) where
   -- ---- operators: `before` are the kinds of the values in hand before it, `behind` those behind it
@@ -160,6 +160,14 @@ module _ (s : Source) (code : CodeOf) where
     pub many : ℕ
     pub is : StandardIs code site (length left) line name many p q
     pub «in» : AllRead many before left
+    pub out : behind ≡ given (has_value (row_of name).result) left
+
+  -- a procedure of SIMSET takes its object and its actual parameter, if it has one
+  pub record SetOpIs (name : Standard) (p q : ℕ) (before behind : List Kind) : Type 0 where
+    pub left : List Kind
+    pub many : ℕ
+    pub is : SetIs s code name many p q
+    pub «in» : before ≡ anys many left
     pub out : behind ≡ given (has_value (row_of name).result) left
 
   pub record JoinOpIs (site : Site) (line p q : ℕ) (before behind : List Kind) : Type 0 where
@@ -419,6 +427,7 @@ module _ (s : Source) (code : CodeOf) where
   OpAt m fs inst site (CopyOp line) p q before behind = Works i.CopyArr line 1 true p q before behind
   OpAt m fs inst site (CallOp k n line) p q before behind = CallOpIs site k n line p q before behind
   OpAt m fs inst site (StandardOp name line) p q before behind = StandardOpIs site name line p q before behind
+  OpAt m fs inst site (SetOp name) p q before behind = SetOpIs name p q before behind
   OpAt m fs inst site (JoinOp line) p q before behind = JoinOpIs site line p q before behind
   OpAt m fs inst site DropOp p q before behind = WorksAnyLine i.Pop 1 false p q before behind
   OpAt m fs inst site AgainOp p q before behind = AgainIs site p q before behind
@@ -577,6 +586,14 @@ module _ (s : Source) (code : CodeOf) where
     pub same : has_result result ≡ leaves
     pub ends : Ends result
 
+  -- the end of the program, whose block may have a prefix
+  pub record ProgramEnds (t p : ℕ) (before : List Kind) (Below : Type 0) : Type 0 where
+    pub first : t ≡ 0
+    pub last : ℕ
+    pub at : Is code (i.EndLevel (pos 0)) p last
+    pub none : before ≡ []
+    pub below : Below
+
   -- the end of an object or a prefixed block
   pub record OutermostEnds (kind : BlockKind) (b : Runs) (p : ℕ) (before : List Kind) (Below : Type 0) : Type 0 where
     pub levels : has_levels (text s b.own) ≡ true
@@ -606,7 +623,7 @@ module _ (s : Source) (code : CodeOf) where
   EndAt Below t b (Do op) p before = ⊥
   EndAt Below t b EndBlock p before = BlockEnds t × EndIs i.Leave block_kind.SubBlock type.Nothing t b.block p before (Below false)
   EndAt Below t b (EndProcedure leaves) p before = ProcedureEnds t leaves (λ result. EndIs i.Return block_kind.Procedure (type_of_name result) t b.block p before (Below leaves))
-  EndAt Below t b EndProgram p before = (t ≡ 0) × EndIs (i.EndLevel (pos 0)) block_kind.SubBlock type.Nothing t b.block p before (Below false)
+  EndAt Below t b EndProgram p before = ProgramEnds t p before (Below false)
   EndAt Below t b EndObject p before = OutermostEnds block_kind.Object b p before (Below false)
   EndAt Below t b EndPrefixed p before = OutermostEnds block_kind.Prefixed b p before (Below false)
   EndAt Below t b _ p before = ⊥

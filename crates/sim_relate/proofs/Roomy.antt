@@ -22,7 +22,7 @@ use Rattle.sim_values.specs.declared.standard.Standard.{Standard}
 use Rattle.sim_values.specs.Plain.{Plain, Character, Integer, Nothing, Object, Text, Truth}
 use Rattle.sim_values.specs.Standard.{is_image, on_image, row_of}
 use Rattle.sim_code.specs.Code.{CodeOf}
-use Rattle.sim_meaning.specs.Attributes.{connection_at, is_connection}
+use Rattle.sim_meaning.specs.Attributes.{connection_at, is_connection, own_attribute}
 use Rattle.sim_meaning.specs.Closing.{Joining, Lazily, Negated, Plainly, Sort, formals_at, is_attribute, is_text, is_variable, sort_of, stream_of, sysout}
 use Rattle.sim_meaning.specs.Constants.{text_constant}
 use Rattle.sim_meaning.specs.Levels.{class_at}
@@ -30,7 +30,7 @@ use Rattle.sim_meaning.specs.Names.{procedure_named}
 use Rattle.sim_meaning.specs.Statements.{has_value, standard_leaves}
 use Rattle.sim_meaning.specs.Texts.{constant_of, text}
 use Rattle.codegen_expr.specs.Sites.{Site}
-use Rattle.codegen_expr.specs.CodeExpr.{ActualsAt, ArrayAt, ArrayOfAt, AttributeAt, BehindDotAt, ConnectedAt, ConnectedNameAt, ConstantAt, ConstantAttributeAt, DeclaredAt, DotAt, ExprAt, ExprsAt, FormalAt, GenerationAt, GivenAt, LiteralAt, MemberAt, NameAt, NamedAt, OfObjectAt, ParameterOfAt, PlaceAt, PlainAt, QuaAt, SignedAt, StandardAt, ThisFoundAt, ThisOfAt, ThroughAt, TwoAt, VariableAt, VariableOfAt, gives}
+use Rattle.codegen_expr.specs.CodeExpr.{ActualsAt, ArrayAt, ArrayOfAt, AttributeAt, BehindDotAt, ConnectedAt, ConnectedNameAt, ConstantAt, ConstantAttributeAt, DeclaredAt, DotAt, ExprAt, ExprsAt, FormalAt, GenerationAt, GivenAt, LiteralAt, MemberAt, NameAt, NamedAt, OfObjectAt, OwnAt, ParameterOfAt, PlaceAt, PlainAt, QuaAt, SignedAt, StandardAt, ThisFoundAt, ThisOfAt, ThroughAt, TwoAt, VariableAt, VariableOfAt, gives}
 
 module _ (s : Source) (code : CodeOf) (site : Site) where
   -- one value more has room
@@ -151,7 +151,7 @@ module _ (s : Source) (code : CodeOf) (site : Site) where
   of_object_fits d line n (Some (entry.Class block)) es Base Inner Actuals p q f a = absurd a
   of_object_fits d line n (Some (entry.Virtual result own)) es Base Inner Actuals p q f a = absurd a
   of_object_fits d line n (Some (entry.Unspecified written)) es Base Inner Actuals p q f a = absurd a
-  of_object_fits d line n (Some (entry.Attribute name parameter result)) es Base Inner Actuals p q f a = absurd a
+  of_object_fits d line n (Some (entry.Attribute name parameter result)) es Base Inner Actuals p q f a = f p a.x a.object
   of_object_fits d line n None es Base Inner Actuals p q f a = absurd a
 
   attribute_fits : (name : Option Standard) (is : Bool) (line n : ℕ) (es : Expressions) (Place Value Inner : ℕ → ℕ → Type 0) (p q : ℕ) → standard_leaves name ≡ true → AttributeAt code site n line name is es Place Value Inner p q → Fits n
@@ -175,17 +175,23 @@ module _ (s : Source) (code : CodeOf) (site : Site) where
   connected_name_fits t (Some (denotation.Standard name)) line n es Inner Actuals p q a = absurd a
   connected_name_fits t None line n es Inner Actuals p q a = absurd a
 
-  through_fits : (c : Option ℕ) (u : Option Denotation) (line n : ℕ) (es : Expressions) (Operands Inner : ℕ → ℕ → Type 0) (Actuals : List Formal → ℕ → ℕ → Type 0) (p q : ℕ) → gives s u ≡ true → ThroughAt c (λ t. ConnectedNameAt s code site n line t u es Inner Actuals) (NamedAt s code site n line u es Operands Inner Actuals) p q → Fits n
-  through_fits None u line n es Operands Inner Actuals p q g a = named_fits u line n es Operands Inner Actuals p q g a
-  through_fits (Some t) u line n es Operands Inner Actuals p q g a = connected_name_fits t u line n es Inner Actuals p q a
-
   this_of_fits : (t n p q : ℕ) (c : Bool) → ThisOfAt s code site n t c p q → Fits n
   this_of_fits t n p q true a = (a.load).fits
   this_of_fits t n p q false a = (a.push).fits
 
-  this_fits : (found : Option ℕ) (n p q : ℕ) → ThisFoundAt s code site n found p q → Fits n
+  pub this_fits : (found : Option ℕ) (n p q : ℕ) → ThisFoundAt s code site n found p q → Fits n
   this_fits None n p q a = absurd a
   this_fits (Some t) n p q a = this_of_fits t n p q (is_connection (text s t)) a
+
+  -- a procedure of SIMSET, seen without a dot
+  own_fits : (own : Option DeclNo) (u : Option Denotation) (found : Option ℕ) (line n : ℕ) (es : Expressions) (Operands Inner : ℕ → ℕ → Type 0) (Actuals : List Formal → ℕ → ℕ → Type 0) (p q : ℕ) → gives s u ≡ true
+      → OwnAt own (λ d. OfObjectAt s code site n line d (entry_of s.tables d) es (ThisFoundAt s code site n found) Inner (Actuals (formals_at s d))) (NamedAt s code site n line u es Operands Inner Actuals) p q → Fits n
+  own_fits None u found line n es Operands Inner Actuals p q g a = named_fits u line n es Operands Inner Actuals p q g a
+  own_fits (Some d) u found line n es Operands Inner Actuals p q g a = of_object_fits d line n (entry_of s.tables d) es (ThisFoundAt s code site n found) Inner (Actuals (formals_at s d)) p q (λ p q. this_fits found n p q) a
+
+  through_fits : (c : Option ℕ) (u : Option Denotation) (line n : ℕ) (es : Expressions) (Inner Direct : ℕ → ℕ → Type 0) (Actuals : List Formal → ℕ → ℕ → Type 0) → FitsWhere n Direct → (p q : ℕ) → ThroughAt c (λ t. ConnectedNameAt s code site n line t u es Inner Actuals) Direct p q → Fits n
+  through_fits None u line n es Inner Direct Actuals f p q a = f p q a
+  through_fits (Some t) u line n es Inner Direct Actuals f p q a = connected_name_fits t u line n es Inner Actuals p q a
 
   member_fits : (member : Membership) (class : Option ℕ) (A : ℕ → ℕ → Type 0) (n p q : ℕ) → FitsWhere n A → MemberAt s code member class A p q → Fits n
   member_fits member None A n p q f a = absurd a
@@ -212,7 +218,10 @@ module _ (s : Source) (code : CodeOf) (site : Site) where
   expression_fits (syntax.Qua token x class) n p q a = qua_fits (line_at s token) (class_at s class.token.0) (ExprAt s code site n x) n p q (λ p q. expression_fits x n p q) a
   expression_fits (syntax.Constant x token) n p q a = literal_fits token x n p q a
   expression_fits (syntax.Named name es) n p q a =
-      through_fits (connection_at s name.token.0) (denoted s name.token.0) (line_at s name.token.0) n es (ExprsAt s code site n es) (ExprsAt s code site (suc n) es) (λ fs. ActualsAt s code site (suc n) (line_at s name.token.0) false es fs) p q a.0 a.1
+      let line = line_at s name.token.0 in
+      let Actuals : List Formal → ℕ → ℕ → Type 0 = λ fs. ActualsAt s code site (suc n) line false es fs in
+      through_fits (connection_at s name.token.0) (denoted s name.token.0) line n es (ExprsAt s code site (suc n) es) _ Actuals
+      (λ p q. own_fits (own_attribute s name.token.0) (denoted s name.token.0) (found_at s name.token.0) line n es (ExprsAt s code site n es) (ExprsAt s code site (suc n) es) Actuals p q a.0) p q a.1
   expression_fits (syntax.This token class) n p q a = this_fits (found_at s token) n p q a
   expression_fits (syntax.New token class es) n p q a = generation_fits (denoted s class.token.0) (class_at s class.token.0) (line_at s token) n es (ActualsAt s code site (suc n) (line_at s class.token.0) true es _) p q a
   expression_fits (syntax.Parentheses token x) n p q a = expression_fits x n p q a

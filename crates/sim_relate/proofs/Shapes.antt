@@ -20,7 +20,7 @@ use Rattle.sim_values.specs.Plain.{Plain}
 use Rattle.sim_values.specs.Standard.{is_image, on_image}
 use Rattle.std.specs.Prelude.{◌||◌}
 use Rattle.sim_code.specs.Transfers.{Calling, Detaching, Resuming, Transfer}
-use Rattle.sim_meaning.specs.Attributes.{array_attribute, attribute, attribute_place, connected_object, connection_at, declared_attribute, entry_attribute, generation, if_any, parameter_attribute, this_term, transfer_at, transfer_term, variable_attribute}
+use Rattle.sim_meaning.specs.Attributes.{array_attribute, attribute, attribute_place, connected_object, connection_at, declared_attribute, entry_attribute, generation, if_any, own_attribute, parameter_attribute, this_term, transfer_at, transfer_term, variable_attribute}
 use Rattle.sim_meaning.specs.Closing.{formals_at, is_attribute, array_term, behind_dot, close, close_actuals, close_all, close_place, constant_term, declared_term, dot_term, formal_term, home_of, home_of_class, in_instance, is_variable, name_term, named_term, standard_term, stream_of, sysout, variable_term}
 use Rattle.sim_meaning.specs.Levels.{class_at}
 use Rattle.sim_meaning.specs.Names.{procedure_named}
@@ -143,7 +143,8 @@ module _ (s : Source) (m : Instances) (i : ℕ) where
       any_leaves (transfer_at s name.token.0) _ _ (λ way. transfer_leaves way line (this_term s m i (found_at s name.token.0)) (close_all s m i es))
       (any_leaves (connection_at s name.token.0) _ _
       (λ k. any_leaves (declared_attribute (denoted s name.token.0)) _ _ (attribute_leaves line (connected_object s m i k) es (close_all s m i es) (λ d. close_actuals s m i line es (formals_at s d))) (λ ks. refl))
-      (named_leaves line (denoted s name.token.0) es (close_all s m i es) (λ fs. close_actuals s m i line es fs)))
+      (any_leaves (own_attribute s name.token.0) _ _ (attribute_leaves line (this_term s m i (found_at s name.token.0)) es (close_all s m i es) (λ d. close_actuals s m i line es (formals_at s d)))
+      (named_leaves line (denoted s name.token.0) es (close_all s m i es) (λ fs. close_actuals s m i line es fs))))
 
   pub dot_call_leaves : (token : ℕ) (e : Expression) (name : Identifier) (es : Expressions) → Leaves (close s m i (syntax.Dot token e name es))
   dot_call_leaves token e name es =

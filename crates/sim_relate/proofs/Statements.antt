@@ -1,6 +1,6 @@
 -- Statements.
 use Rattle.std.proofs.Common.{◌≡◌, ◌≤◌, ℕ, zero, suc, Bool, true, false, List, ◌∷◌, length, Option, Some, None, refl, sym, ap, ◌∙◌, subst}
-use Rattle.std.specs.Prelude.{◌&&◌, not, pos}
+use Rattle.std.specs.Prelude.{pos}
 use Rattle.sim_base.specs.declared.limits.Limits.{Limits}
 use Rattle.sim_scope.specs.Source.{Source, block_around, line_at}
 use Rattle.sim_tree.specs.declared.expr.Identifier.{Identifier}
@@ -16,16 +16,13 @@ use Rattle.sim_code.specs.Rows.{on_top}
 use Rattle.sim_code.proofs.Lifts.{alike_choosing, alike_ticking}
 use Rattle.sim_code.proofs.Simulation.{Alike}
 use Rattle.sim_meaning.specs.Closing.{class_parameters, close, close_parameters}
-use Rattle.sim_meaning.specs.Levels.{has_levels, is_class}
 use Rattle.sim_meaning.specs.Meaning.{do_op}
 use Rattle.sim_meaning.specs.Pending.{Activation, BackOp, BranchOp, ChooseOp, Configuration, ConnectOp, Do, DropOp, EnterOp, Eval, Exec, Execs, Instances, Item, Op, PastOp, PrefixedOp, TestOp, Val, WhenOp, plain}
 use Rattle.sim_meaning.specs.Statements.{assigned, assigning, begin_of, compound, dropping, entered_at, leaves, lefts, prefix_begun}
 use Rattle.sim_meaning.specs.Steps.{count, each, go}
-use Rattle.sim_meaning.specs.Texts.{text}
-use Rattle.codegen_expr.specs.Built.{is_there}
-use Rattle.codegen_expr.specs.Sites.{Ahead, At, Inside, Is, block_number, frame_text, own_end, prefix_of}
+use Rattle.codegen_expr.specs.Sites.{Ahead, At, Inside, Is, block_number, frame_text, own_end}
 use Rattle.codegen_expr.specs.CodeExpr.{ExprAt}
-use Rattle.codegen.specs.Agrees.{Agrees, stands_behind}
+use Rattle.codegen.specs.Agrees.{Agrees}
 use Rattle.codegen.specs.CodeLeft.{AssignAt, GoesAt, each_stored}
 use Rattle.codegen.specs.CodeStm.{BlockAt, CalledAt, DropsAt, EnterAt, PrefixedAt, StmAt, StmsAt}
 use Rattle.sim_relate.proofs.Known.{Any, Finds, HandAt, Kind, anys, given, site_at, gives, leaves_as, Runs}
@@ -154,22 +151,13 @@ module _ (s : Source) (code : CodeOf) (l : Limits) (agrees : Agrees s) (o : Worl
   pub compound_statement : (x : Block) → FollowsStatement (syntax.Compound x)
   compound_statement x a = let y = a.0 in ticks _ y.0 y.1 (λ p. block_at p x y.0 y.2 a.1)
 
-  -- what stands behind a class, and is none, is a prefixed block
-  behind_levels : (c : ℕ) → stands_behind s c ≡ true → (has_levels (text s c) ≡ true) × (is_class (text s c) ≡ false)
-  behind_levels c h = by (prefix_of s.tables c) refl (is_class (text s c)) refl h
-    where
-      by : (front : Option ℕ) → prefix_of s.tables c ≡ front → (class : Bool) → is_class (text s c) ≡ class → (is_there front && not class) ≡ true → (has_levels (text s c) ≡ true) × (is_class (text s c) ≡ false)
-      by None e class f h = absurd (cc)
-      by (Some v) e true f h = absurd (cc)
-      by (Some v) e false f h = ((agrees.prefixes c v e).has, f)
-
   -- a block prefix: its actual parameters, then the entry
   prefixed : (p : World) (class : Identifier) (es : Expressions) (o' : Option ℕ) (y : ℕ) → PrefixedAt s code (site_at t b u) (length ks) (line_at s class.token.0) es o' y q → ks' ≡ ks → Alike R (prefix_begun s p m inst w vals rest class es o') (Going p (record { chain = act inst y stack b ∷ below; memory = fs }))
   prefixed p class es None y a e = absurd a
   prefixed p class es (Some zero) y a e = absurd a
   prefixed p class es (Some (suc n)) y a e =
       let line = line_at s class.token.0 in
-      let behind = behind_levels (suc n) a.is in
+      let behind = agrees.prefixed (suc n) a.is in
       let fs' = class_parameters s (Some (suc n)) in
       let terms = close_parameters s m inst line es fs' in
       let r = close_parameters_at s code m inst (site_at t b u) agrees reaching line es fs' (length ks) y a.x a.actuals in

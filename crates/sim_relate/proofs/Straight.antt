@@ -17,7 +17,7 @@ use Rattle.sim_code.specs.declared.instr.Instr.{Instr}
 use Rattle.sim_code.specs.declared.instr.Instr.TheVariants as i
 use Rattle.sim_code.specs.Code.{CodeOf}
 use Rattle.sim_code.specs.Outcome.{Going, Run, RunFault, StorageExhausted, World}
-use Rattle.sim_code.specs.Events.{answering, applying_two, assigning, computing, having, no_rule, performing, pop_operands, pop_plain, pop_text, popping, putting_back, stopping, taking, when, with_texts}
+use Rattle.sim_code.specs.Events.{answering, applying_two, assigning, choosing, computing, having, no_rule, performing, pop_operands, pop_plain, pop_text, popping, putting_back, stopping, taking, when, with_texts}
 use Rattle.sim_code.specs.Instances.{at_level}
 use Rattle.sim_code.specs.Machine.{Frames, Machine, Of, Value, cell, cell_at, cell_set, index, level, on, operand, pushing}
 use Rattle.sim_code.specs.Machine as machine
@@ -143,10 +143,12 @@ module _ (code : CodeOf) (l : Limits) (line inst : ℕ) (runs : Runs) (below : L
   length_room pc v stack lt = grind (arith, lt)
 
   pub length_row : (fs : Frames) (o : World) (pc : ℕ) (t : TextVal) (stack : List Value) → is_exhausted l.storage o.words 0 ≡ false → length stack < runs.room → RowIs (i.Std (pos 20)) pc o (Of (Text t) ∷ stack) fs (Going o (st (suc pc) (Of (Integer (pos t.length)) ∷ stack) fs))
+  unfolding choosing
   length_row fs o pc t stack fits lt =
       found Standard (standard_of (pos 20)) name.TextLength o _ _ refl (tested (room_for name.TextLength (act inst pc (Of (Text t) ∷ stack) runs)) o _ _ (length_room pc (Of (Text t)) stack lt) (performs_length t stack o fs _ fits))
 
   pub length_full : (fs : Frames) (o : World) (pc : ℕ) (t : TextVal) (stack : List Value) → is_exhausted l.storage o.words 0 ≡ true → length stack < runs.room → RowIs (i.Std (pos 20)) pc o (Of (Text t) ∷ stack) fs (stopping (StorageExhausted line o.words 0) o)
+  unfolding choosing
   length_full fs o pc t stack full lt =
       found Standard (standard_of (pos 20)) name.TextLength o _ _ refl (tested (room_for name.TextLength (act inst pc (Of (Text t) ∷ stack) runs)) o _ _ (length_room pc (Of (Text t)) stack lt) (length_stops t stack o fs _ full))
 
@@ -167,10 +169,12 @@ module _ (code : CodeOf) (l : Limits) (line inst : ℕ) (runs : Runs) (below : L
   blanks_room pc v stack lt = grind (arith, lt)
 
   pub blanks_row : (fs : Frames) (o : World) (pc n : ℕ) (stack : List Value) → is_exhausted l.storage o.words (blanks o.store.frames (pos n)).wanted ≡ false → length stack < runs.room → RowIs (i.Std (pos 14)) pc o (Of (Integer (pos n)) ∷ stack) fs (Going (made o n) (st (suc pc) (Of (Text (new_text o.store.frames (length (spaces n)))) ∷ stack) fs))
+  unfolding choosing
   blanks_row fs o pc n stack fits lt =
       found Standard (standard_of (pos 14)) name.Blanks o _ _ refl (tested (room_for name.Blanks (act inst pc (Of (Integer (pos n)) ∷ stack) runs)) o _ _ (blanks_room pc (Of (Integer (pos n))) stack lt) (performs_blanks n stack o fs _ fits))
 
   pub blanks_full : (fs : Frames) (o : World) (pc n : ℕ) (stack : List Value) → is_exhausted l.storage o.words (blanks o.store.frames (pos n)).wanted ≡ true → length stack < runs.room → RowIs (i.Std (pos 14)) pc o (Of (Integer (pos n)) ∷ stack) fs (stopping (StorageExhausted line o.words (blanks o.store.frames (pos n)).wanted) o)
+  unfolding choosing
   blanks_full fs o pc n stack full lt =
       found Standard (standard_of (pos 14)) name.Blanks o _ _ refl (tested (room_for name.Blanks (act inst pc (Of (Integer (pos n)) ∷ stack) runs)) o _ _ (blanks_room pc (Of (Integer (pos n))) stack lt) (blanks_stop n stack o fs _ full))
 
@@ -192,6 +196,7 @@ module _ (code : CodeOf) (l : Limits) (line inst : ℕ) (runs : Runs) (below : L
   sub_room pc v x y stack lt = grind (arith, lt)
 
   pub sub_row : (fs : Frames) (o : World) (pc k n : ℕ) (t part : TextVal) (stack : List Value) → sub t (pos k) (pos n) ≡ Ok part → is_exhausted l.storage o.words 0 ≡ false → length stack < runs.room → RowIs (i.Std (pos 27)) pc o (Of (Integer (pos n)) ∷ Of (Integer (pos k)) ∷ Of (Text t) ∷ stack) fs (Going o (st (suc pc) (Of (Text part) ∷ stack) fs))
+  unfolding choosing
   sub_row fs o pc k n t part stack e fits lt =
       found Standard (standard_of (pos 27)) name.TextSub o _ _ refl
       (tested (room_for name.TextSub (act inst pc (Of (Integer (pos n)) ∷ Of (Integer (pos k)) ∷ Of (Text t) ∷ stack) runs)) o _ _ (sub_room pc (Of (Integer (pos n))) (Of (Integer (pos k))) (Of (Text t)) stack lt) (performs_sub t part k n stack o fs _ e fits))

@@ -1,20 +1,23 @@
 -- The code of closed trees.
 use Rattle.std.proofs.Common.{◌≡◌, ◌<◌, ◌≤◌, ℕ, suc, Bool, true, false, List, ◌∷◌, length, Option, Some}
-use Rattle.std.specs.Prelude.{⊤, pos}
+use Rattle.std.specs.Prelude.{⊤, pos, slice_get}
 use Rattle.sim_scope.specs.Access.{encloser}
 use Rattle.sim_scope.specs.Source.{Source, level_of}
 use Rattle.sim_tree.specs.declared.stmt.TypeName.{TypeName}
 use Rattle.sim_tree.specs.Syntax.{Statement}
 use Rattle.sim_tree.specs.Syntax as syntax
+use Rattle.sim_values.specs.declared.standard.Standard.{Standard}
 use Rattle.sim_values.specs.declared.value.TextVal.{TextVal}
 use Rattle.sim_values.specs.Plain.{Nothing, Object, Plain, Text as PlainText}
 use Rattle.sim_values.specs.Texts.{notext}
 use Rattle.sim_code.specs.declared.instr.Instr.{Instr}
 use Rattle.sim_code.specs.declared.instr.Instr.TheVariants as i
 use Rattle.sim_code.specs.Code.{CodeOf}
+use Rattle.sim_code.specs.Names.{standard_names}
+use Rattle.sim_code.specs.Sets.{is_set_name, parameter_count}
 use Rattle.sim_code.specs.Transfers.{Calling, Detaching, Resuming, Transfer}
 use Rattle.sim_meaning.specs.Levels.{is_class}
-use Rattle.sim_meaning.specs.Pending.{AttributeOf, CallOf, Cell, CopyOf, Either, ElementOf, FitsOf, Further, Given, ImageOf, Instances, Joined, KeptOf, Key, MemberOf, NewOf, NoTerm, NotNoneOf, One, PlaceOf, QuaOf, QualifiedElementOf, QualifiedPlaceOf, RemoteCallOf, StandardOf, Term, Terms, TransferOf, Two, Unbuilt, ValueAt}
+use Rattle.sim_meaning.specs.Pending.{AttributeOf, CallOf, Cell, CopyOf, Either, ElementOf, FitsOf, Further, Given, ImageOf, Instances, Joined, KeptOf, Key, MemberOf, NewOf, NoTerm, NotNoneOf, One, PlaceOf, QuaOf, QualifiedElementOf, QualifiedPlaceOf, RemoteCallOf, SetOf, StandardOf, Term, Terms, TransferOf, Two, Unbuilt, ValueAt}
 use Rattle.sim_meaning.specs.Entries.{formals_of}
 use Rattle.sim_meaning.specs.Steps.{count}
 use Rattle.sim_meaning.specs.Texts.{ProcedureText, constant_of, text}
@@ -181,6 +184,14 @@ module _ (s : Source) (code : CodeOf) where
     pub put : At code i.Put line y z
     pub again : Pushes code site n (i.Load (pos (level_of s site.text)) (pos temp)) z q
 
+  -- a procedure of SIMSET, behind its object and its actual parameter, if it has one
+  pub record SetIs (name : Standard) (count p q : ℕ) : Type 0 where
+    pub is_name : is_set_name name ≡ true
+    pub as_many : count ≡ suc (parameter_count name)
+    pub number : ℕ
+    pub numbered : slice_get standard_names number ≡ Some name
+    pub done : Is code (i.Std (pos number)) p q
+
   abbrev mutual
     -- the code from p to q, run for an instance, evaluates the closed tree on n values
     pub TermAt : Instances → (inst : ℕ) → Site → (n : ℕ) → Term → ℕ → ℕ → Type 0
@@ -214,6 +225,7 @@ module _ (s : Source) (code : CodeOf) where
     TermAt m inst site n (KeptOf a) p q = (x : ℕ) × (TermAt m inst site n a p x × (gives s a ≡ true)) × Is code i.Keep x q
     TermAt m inst site n (NotNoneOf line a) p q = (x : ℕ) × (TermAt m inst site n a p x × (gives s a ≡ true)) × At code i.NotNone line x q
     TermAt m inst site n (TransferOf t line a) p q = (x : ℕ) × (TermAt m inst site n a p x × (gives s a ≡ true)) × At code (transfer_instr t) line x q
+    TermAt m inst site n (SetOf name ts) p q = (x : ℕ) × TermsAt m inst site n ts p x × SetIs name (count ts) x q
     TermAt m inst site n Unbuilt p q = ⊤
 
     -- one value after the other

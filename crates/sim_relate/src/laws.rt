@@ -20,8 +20,9 @@ pub fn compiled_code_runs_as_meant()
     ensures { (s : Source) (code : CodeOf) → HasRules s → NamesObjects s → StaysSane s → Compiled s code → SameRuns s code }
 {}
 
-/// There is code that stands for a program: six worked codes do, of a `for` list, of a procedure that calls itself, of a sub-block with
-/// arrays, of a program with texts, of one that makes objects, and of one with a prefixed block. So no part of what is asked of code speaks against another.
+/// There is code that stands for a program: seven worked codes do, of a `for` list, of a procedure that calls itself, of a sub-block with
+/// arrays, of a program with texts, of one that makes objects, of one with a prefixed block, and of one with a set. So no part of what is
+/// asked of code speaks against another.
 #[tactic(auto, using(crate::proofs::Examples::worked_codes))]
 pub fn worked_codes_stand_for_their_programs()
     ensures { WorkedCodes }

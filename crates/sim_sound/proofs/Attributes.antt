@@ -1,6 +1,6 @@
 -- The closed trees of what objects have are fine: an attribute of the object that a tree gives, by the class that declares it.
 use Rattle.std.proofs.Common.{◌≡◌, ℕ, Bool, true, false, List, Option, Some, None, refl, sym, ap, ◌∙◌, subst}
-use Rattle.std.specs.Prelude.{not}
+use Rattle.std.specs.Prelude.{not, ◌+◌}
 use Rattle.sim_base.specs.declared.numbering.DeclNo.{DeclNo}
 use Rattle.sim_scope.specs.declared.types.Entry.{Entry}
 use Rattle.sim_scope.specs.declared.types.Entry.TheVariants as entry
@@ -11,26 +11,30 @@ use Rattle.sim_scope.specs.declared.types.Mode.{Mode}
 use Rattle.sim_scope.specs.declared.types.Mode.TheVariants as mode
 use Rattle.sim_scope.specs.declared.types.SimType.{SimType}
 use Rattle.sim_scope.specs.declared.types.SimType.TheVariants as type
-use Rattle.sim_scope.specs.Levels.{has_level, has_standard}
+use Rattle.sim_scope.specs.declared.types.StandardClass.{StandardClass}
+use Rattle.sim_scope.specs.declared.types.StandardClass.TheVariants as standard
+use Rattle.sim_scope.specs.Levels.{has_level, is_simulation_block}
 use Rattle.sim_scope.specs.Scopes.{entry_of, result_in, result_of}
 use Rattle.sim_scope.specs.Source.{Source, block_of}
-use Rattle.sim_tree.specs.Syntax.{Declarations, Expressions, NoMore, Statements, Then}
+use Rattle.sim_tree.specs.Syntax.{Declarations, Expressions, NoDeclaration, NoMore, NoStatement, Statements, Then}
 use Rattle.sim_values.specs.declared.kind.Kind.TheVariants as kind
+use Rattle.sim_values.specs.declared.standard.Standard.{Standard}
 use Rattle.sim_values.specs.Plain.{Plain, kind_of}
-use Rattle.sim_meaning.specs.Attributes.{array_attribute, attribute_place, element_at, entry_at, entry_attribute, parameter_at, parameter_attribute, variable_at, variable_attribute}
+use Rattle.sim_code.specs.Sets.{is_set_name}
+use Rattle.sim_meaning.specs.Attributes.{array_attribute, attribute_formals, attribute_place, element_at, entry_at, entry_attribute, parameter_at, parameter_attribute, variable_at, variable_attribute}
 use Rattle.sim_meaning.specs.Entries.{formals_of, numbers_of}
-use Rattle.sim_meaning.specs.Levels.{has_levels, level_made, qualification, unless_standard, writes_inner}
+use Rattle.sim_meaning.specs.Levels.{has_levels, level_made, qualification, standard_level, unless_simulation, writes_inner}
 use Rattle.sim_meaning.specs.Objects.{attributes_from}
-use Rattle.sim_meaning.specs.Pending.{Declared, Instances, Term, Terms}
-use Rattle.sim_meaning.specs.Texts.{ClassText, PrefixedText, Text, constant_of, kind_of_type, text}
+use Rattle.sim_meaning.specs.Pending.{Declared, Further, Instances, Level, NotNoneOf, SetOf, Term, Terms}
+use Rattle.sim_meaning.specs.Texts.{ClassText, PrefixedText, StandardText, Text, constant_of, kind_of_type, text}
 use Rattle.sim_sound.specs.Held.{ArrayOf, Fits, FitsIn, Holds, Refers, Simply, entry_holds, formal_holds, given_by, held_by, key_holds, reference_to, result_declared, result_holds}
 use Rattle.sim_sound.specs.Expressions.{ArrayNames, ConstantNames, DeclaredGives, HeldNames, VariableNames}
 use Rattle.sim_sound.specs.Statements.{LeftHeld}
-use Rattle.sim_sound.specs.Typed.{ClassTyped, Typed}
+use Rattle.sim_sound.specs.Typed.{ClassTyped, Typed, set_place}
 use Rattle.sim_sound.proofs.Lists.{same_some}
 use Rattle.sim_sound.proofs.Prefixes.{levels_solid}
 use Rattle.sim_sound.proofs.Reach.{among_block, key_there}
-use Rattle.sim_sound.proofs.Sound.{AddressOf, AttributeFine, GivesResult, IntegersFine, IsPlain, KeyAmong, Kinds, ProcedureIn, TermFine, TermsFine, Value, formal_kinds, held_kinds, keys_in, own_cells}
+use Rattle.sim_sound.proofs.Sound.{AddressOf, AttributeFine, GivesResult, IntegersFine, IsPlain, KeyAmong, Kinds, ObjectIn, ProcedureIn, TermFine, TermsFine, Value, formal_kinds, held_kinds, keys_in, own_cells}
 
 -- ---- what is declared
 
@@ -84,6 +88,7 @@ module _ (s : Source) (Known : Type 0) (d : DeclNo) where
 
   pub known_of : (es : Expressions) (Indices : Type 0) (Actuals : List Formal → Type 0) (e : Option Entry) (h : Option Holds) → DeclaredGives s Known d es Indices Actuals e h → Known
   known_of es Indices Actuals (Some (entry.Procedure result q)) h a = a.1
+  known_of es Indices Actuals (Some (entry.Attribute n parameter result)) h a = a.2
   known_of es Indices Actuals (Some (entry.Constant ty)) (Some g) a = constant_known es g a
   known_of es Indices Actuals (Some (entry.Variable ty)) (Some g) a = held_known es Indices (Some (held_by s ty)) g a
   known_of es Indices Actuals (Some (entry.Array ty n)) (Some g) a = held_known es Indices (Some (ArrayOf (held_by s ty))) g a
@@ -134,11 +139,26 @@ module _ (s : Source) (ok : Typed s) where
     pub typed : ClassTyped s u declarations statements
     pub own : own_cells s u words ≡ attributes_from s (numbers_of s u)
     pub last : Bool
-    pub made : level_made s u (Some words) ≡ unless_standard (has_standard s.tables u) (record { text = u; declarations = declarations; statements = statements; inner_last = last })
+    pub made : level_made s u (Some words) ≡ Some (record { text = u; declarations = declarations; statements = statements; inner_last = last })
+
+  -- a level that has no `simulation` in front
+  made_level : (x : Level) (b : Bool) → b ≡ false → unless_simulation b x ≡ Some x
+  made_level x false e = refl
+  made_level x true e = absurd (cc)
+
+  -- processes are no classes of SIMSET
+  set_level : (u p : ℕ) (which : StandardClass) → set_place which ≡ Some p → standard_level u which ≡ Some (record { text = u; declarations = NoDeclaration; statements = NoStatement; inner_last = true })
+  set_level u p standard.Linkage e = refl
+  set_level u p standard.Link e = refl
+  set_level u p standard.Head e = refl
+  set_level u p standard.Process e = absurd (cc)
 
   leveled_as : (u : ℕ) (x : Option Text) → text s u ≡ x → has_levels x ≡ true → Leveled u
-  leveled_as u (Some (ClassText p h ds ss)) e has = record { words = ClassText p h ds ss; is = e; declarations = ds; statements = ss; typed = ok.texts u (ClassText p h ds ss) e; own = refl; last = not (writes_inner s u); made = refl }
-  leveled_as u (Some (PrefixedText c es ds ss)) e has = record { words = PrefixedText c es ds ss; is = e; declarations = ds; statements = ss; typed = ok.texts u (PrefixedText c es ds ss) e; own = refl; last = _; made = refl }
+  leveled_as u (Some (ClassText p h ds ss)) e has = record { words = ClassText p h ds ss; is = e; declarations = ds; statements = ss; typed = ok.texts u (ClassText p h ds ss) e; own = refl; last = not (writes_inner s u); made = made_level _ (is_simulation_block s.tables u) (ok.texts u (ClassText p h ds ss) e).not_simulation }
+  leveled_as u (Some (PrefixedText c es ds ss)) e has = record { words = PrefixedText c es ds ss; is = e; declarations = ds; statements = ss; typed = ok.texts u (PrefixedText c es ds ss) e; own = refl; last = true; made = made_level _ (is_simulation_block s.tables u) (ok.texts u (PrefixedText c es ds ss) e).not_simulation }
+  leveled_as u (Some (StandardText which)) e has =
+      let there = ok.set_classes u which e in
+      record { words = StandardText which; is = e; declarations = NoDeclaration; statements = NoStatement; typed = ok.texts u (StandardText which) e; own = refl; last = true; made = set_level u there.place which there.placed }
   leveled_as u None e has = absurd (cc)
   leveled_as u (Some _) e has = absurd (cc)
 
@@ -165,8 +185,7 @@ module _ (s : Source) (ok : Typed s) where
     there_in : (h : Holds) → (has_levels (text s (block_of s d)) ≡ true → key_holds s (block_of s d) (Declared d.0) ≡ Some h) → has_levels (text s (block_of s d)) ≡ true → KeyAmong (Declared d.0) (keys_in s (block_of s d) (text s (block_of s d)))
     there_in h is has =
         let w = leveled (block_of s d) has in
-        let x = entry_there s (entry_of s.tables d) (has_levels (text s (block_of s d))) h (is has) in
-        key_there s ok (block_of s d) w.words d h (has_levels (text s (block_of s d))) (levels_solid (text s (block_of s d)) has) w.is (is has) (among_block s ok d x.0 x.1)
+        key_there s ok (block_of s d) w.words d h (has_levels (text s (block_of s d))) (levels_solid (text s (block_of s d)) has) w.is (is has) (among_block s ok d (has_levels (text s (block_of s d))) h (is has))
 
     -- a variable, an array or a parameter
     holding : (h : Holds) → entry_holds s true (entry_of s.tables d) ≡ Some h → has_levels (text s (block_of s d)) ≡ true → key_holds s (block_of s d) (Declared d.0) ≡ Some h
@@ -180,7 +199,7 @@ module _ (s : Source) (ok : Typed s) where
     constant_held ty v e is has =
         let w = leveled (block_of s d) has in
         let holds : key_holds s (block_of s d) (Declared d.0) ≡ Some (Simply (kind_of_type ty)) = holding (Simply (kind_of_type ty)) (ap (entry_holds s true) e) has in
-        let known = (w.typed).constants d ty (among_block s ok d (entry.Constant ty) e) e in
+        let known = (w.typed).constants d ty (among_block s ok d true (Simply (kind_of_type ty)) (ap (entry_holds s true) e)) e in
         let same : v ≡ known.value = same_some (constant_of s d) v known.value is known.is in
         holds ∙ ap (λ z. Some (Simply z)) (sym (ap kind_of same ∙ known.of_type))
 
@@ -218,16 +237,30 @@ module _ (s : Source) (ok : Typed s) where
       constant_fine Known ty NoMore h e a = (h, AddressOf (Simply (kind_of a.0)), subst (Fits s (Simply (kind_of a.0))) a.2 refl, refl, lies_fine (Simply (kind_of a.0)) (constant_is ty a.0 e a.1))
       constant_fine Known ty (Then x es) h e a = absurd a
 
+      -- a procedure of SIMSET, of the object
+      set_fine : (n : Standard) (parameter result : Option SimType) (acts : Terms) (h : Option Holds) → entry_of s.tables d ≡ Some (entry.Attribute n parameter result) → is_set_name n ≡ true → FitsIn s (given_by s result) h → TermsFine s m i t todo acts (formal_kinds s (attribute_formals parameter)) → Fine (SetOf n (Further (NotNoneOf line object) acts)) (held_kinds h)
+      set_fine n parameter result acts h e named fits fine_acts =
+          let there = ok.set_procedures d n parameter result e named in
+          let class = there.linkage + there.place in (
+            record { declaration = d; parameter = parameter; result = result; named = named; there = there },
+            h,
+            fits,
+            refl,
+            (ObjectIn class, formal_kinds s (attribute_formals parameter), refl, (Refers c, ObjectIn class, subst (λ z. has_level s.tables c z ≡ true) there.declared level, refl, fine), fine_acts),
+          )
+
       pub entry_fine : (Known : Type 0) (es : Expressions) (ts acts : Terms) (Indices : Type 0) (Actuals : List Formal → Type 0) (e : Option Entry) (h : Option Holds) → entry_of s.tables d ≡ e → (Indices → IntegersFine s m i t todo ts)
-          → ((result : Option SimType) (k : ℕ) → e ≡ Some (entry.Procedure result k) → Actuals (formals_of s k) → TermsFine s m i t todo acts (formal_kinds s (formals_of s k))) → DeclaredGives s Known d es Indices Actuals e h → Fine (entry_attribute s line d e object es ts acts) (held_kinds h)
-      entry_fine Known es ts acts Indices Actuals (Some (entry.Procedure result k)) h e ints go a = (c, block_of s d, level, procedure_in d result k e, gives_result d result k h e a.0, fine, go result k refl a.2)
-      entry_fine Known es ts acts Indices Actuals (Some (entry.Constant ty)) (Some h) e ints go a = constant_fine Known ty es h e a
-      entry_fine Known es ts acts Indices Actuals (Some (entry.Variable ty)) (Some h) e ints go a = variable_fine Known es (held_by s ty) h (attribute_is (held_by s ty) (ap (entry_holds s true) e)) (names_variable s Known es Indices (held_by s ty) h (held_plain s ty) a)
-      entry_fine Known es ts acts Indices Actuals (Some (entry.Array ty n)) (Some h) e ints go a = array_fine Known es ts Indices (held_by s ty) h (attribute_is (ArrayOf (held_by s ty)) (ap (entry_holds s true) e)) ints a
-      entry_fine Known es ts acts Indices Actuals (Some (entry.Formal f)) (Some h) e ints go a = formal_fine Known f.mode f.kind f.ty es ts Indices h (ap (entry_holds s true) e) ints a
-      entry_fine Known es ts acts Indices Actuals None h e ints go a = absurd a
-      entry_fine Known es ts acts Indices Actuals (Some _) None e ints go a = absurd a
-      entry_fine Known es ts acts Indices Actuals (Some _) (Some h) e ints go a = absurd a
+          → ((result : Option SimType) (k : ℕ) → e ≡ Some (entry.Procedure result k) → Actuals (formals_of s k) → TermsFine s m i t todo acts (formal_kinds s (formals_of s k)))
+          → ((n : Standard) (parameter result : Option SimType) → e ≡ Some (entry.Attribute n parameter result) → Actuals (attribute_formals parameter) → TermsFine s m i t todo acts (formal_kinds s (attribute_formals parameter))) → DeclaredGives s Known d es Indices Actuals e h → Fine (entry_attribute s line d e object es ts acts) (held_kinds h)
+      entry_fine Known es ts acts Indices Actuals (Some (entry.Procedure result k)) h e ints go set a = (c, block_of s d, level, procedure_in d result k e, gives_result d result k h e a.0, fine, go result k refl a.2)
+      entry_fine Known es ts acts Indices Actuals (Some (entry.Attribute n parameter result)) h e ints go set a = set_fine n parameter result acts h e a.0 a.1 (set n parameter result refl a.3)
+      entry_fine Known es ts acts Indices Actuals (Some (entry.Constant ty)) (Some h) e ints go set a = constant_fine Known ty es h e a
+      entry_fine Known es ts acts Indices Actuals (Some (entry.Variable ty)) (Some h) e ints go set a = variable_fine Known es (held_by s ty) h (attribute_is (held_by s ty) (ap (entry_holds s true) e)) (names_variable s Known es Indices (held_by s ty) h (held_plain s ty) a)
+      entry_fine Known es ts acts Indices Actuals (Some (entry.Array ty n)) (Some h) e ints go set a = array_fine Known es ts Indices (held_by s ty) h (attribute_is (ArrayOf (held_by s ty)) (ap (entry_holds s true) e)) ints a
+      entry_fine Known es ts acts Indices Actuals (Some (entry.Formal f)) (Some h) e ints go set a = formal_fine Known f.mode f.kind f.ty es ts Indices h (ap (entry_holds s true) e) ints a
+      entry_fine Known es ts acts Indices Actuals None h e ints go set a = absurd a
+      entry_fine Known es ts acts Indices Actuals (Some _) None e ints go set a = absurd a
+      entry_fine Known es ts acts Indices Actuals (Some _) (Some h) e ints go set a = absurd a
 
       -- ---- where they lie
 

@@ -129,7 +129,7 @@ leveled_key s u (Some (PrefixedText c arguments ds ss)) key has a = attributes_d
 leveled_key s u None key has a = absurd (cc)
 leveled_key s u (Some (BlockText begin ds ss)) key has a = absurd (cc)
 leveled_key s u (Some (ProcedureText result h b)) key has a = absurd (cc)
-leveled_key s u (Some (StandardText which)) key has a = absurd (cc)
+leveled_key s u (Some (StandardText which)) key has a = attributes_declared s key (numbers_of s u) a
 leveled_key s u (Some ConnectionText) key has a = absurd (cc)
 
 pub key_level : (s : Source) → Typed s → {k u : ℕ} → is_connection (text s k) ≡ false → LevelOf s k u → (key : Key) → KeyAmong key (keys_in s u (text s u)) → key_holds s k key ≡ key_holds s u key

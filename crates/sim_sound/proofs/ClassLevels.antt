@@ -10,7 +10,7 @@ use Rattle.sim_scope.specs.Source.{Source}
 use Rattle.sim_scope.specs.Tables.{BlockOf}
 use Rattle.sim_code.specs.Instances.{Instance, live}
 use Rattle.sim_meaning.specs.Entries.{numbers_in, numbers_of}
-use Rattle.sim_meaning.specs.Levels.{both, has_levels, level_made, levels, levels_beyond, levels_from, levels_inside, levels_made, levels_of, unless_standard}
+use Rattle.sim_meaning.specs.Levels.{both, has_levels, level_made, levels, levels_beyond, levels_from, levels_inside, levels_made, levels_of}
 use Rattle.sim_meaning.specs.Objects.{attributes_from, cells_of_levels, with_attribute}
 use Rattle.sim_meaning.specs.Pending.{Held, Instances, Key, Level}
 use Rattle.sim_meaning.specs.Texts.{Text, text}
@@ -222,7 +222,7 @@ module _ (s : Source) (ok : Typed s) where
   own_is k has w = record { level = same_level; has = has; words = w.words; is = w.is; own = w.own; typed = w.typed }
 
   own_made : (k : ℕ) (w : Leveled s ok k) → level_made s k (text s k) ≡ Some (own k w)
-  own_made k w = ap (level_made s k) w.is ∙ w.made ∙ ap (λ z. unless_standard z (own k w)) (w.typed).not_standard
+  own_made k w = ap (level_made s k) w.is ∙ w.made
 
   pub record AllLevels (n k : ℕ) : Type 0 where
     pub list : List Level

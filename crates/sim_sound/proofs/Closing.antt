@@ -37,7 +37,7 @@ use Rattle.sim_tree.specs.declared.expr.Membership.{Membership}
 use Rattle.sim_values.specs.Plain.{Nothing, Object}
 use Rattle.sim_code.specs.Instances.{at_level}
 use Rattle.sim_code.specs.Transfers.{Calling, Detaching, Resuming, Transfer}
-use Rattle.sim_meaning.specs.Attributes.{attribute, cell_of_connection, connected_object, connection_at, declared_attribute, detach_term, fitting, generation, if_any, is_connection, kept_if, membership_term, parameter_qualification, place_of_attribute, qua_term, this_instance, this_term, transfer_at, transfer_term, with_arrays_kept}
+use Rattle.sim_meaning.specs.Attributes.{attribute, attribute_denoted, attribute_formals, attribute_if, cell_of_connection, connected_object, connection_at, declared_attribute, detach_term, fitting, generation, if_any, is_connection, is_standard_attribute, kept_if, membership_term, own_attribute, parameter_qualification, place_of_attribute, qua_term, this_instance, this_term, transfer_at, transfer_term, with_arrays_kept}
 use Rattle.sim_meaning.specs.Closing.{Joining, Lazily, Negated, Plainly, Sort, actual_term, array_place, array_term, behind_dot, class_parameters, close, close_actuals, close_all, close_place, constant_term, declared_place, declared_term, dot_term, formal_place, formal_term, home_of, home_of_class, image_place, in_instance, is_attribute, is_attribute_denoted, is_image_behind, is_text, is_text_type, is_variable, is_variable_denoted, is_variable_entry, literal_term, name_term, named_place, named_term, object_term, signed_term, sort_of, standard_term, stream_denoted, stream_of, sysout, two_term, variable_place, variable_term}
 use Rattle.sim_meaning.specs.Constants.{text_constant}
 use Rattle.sim_meaning.specs.Entries.{formal_before, formals_from, formals_of, is_array_by_value}
@@ -45,11 +45,11 @@ use Rattle.sim_meaning.specs.Levels.{class_at, class_denoted, class_text, has_le
 use Rattle.sim_meaning.specs.Pending.{Cell, CallOf, CopyOf, Declared, ElementOf, FitsOf, Further, ImageOf, Instances, KeptOf, Key, NoTerm, PlaceOf, StandardOf, Term, Terms, Unbuilt, ValueAt}
 use Rattle.sim_meaning.specs.Texts.{constant_of, is_class_free, text}
 use Rattle.sim_sound.specs.Held.{Among, ArrayOf, Fits, Holds, In, InBound, IsFixed, Place, Refers, Sees, SeesConnected, Simply, StandsAround, declared_holds, entry_holds, formal_holds, held_by, reference_to}
-use Rattle.sim_sound.specs.Expressions.{ActualFits, ActualsFit, AreIntegers, AreOf, ArrayNames, BehindGives, CallGives, ConstantNames, DeclaredGives, DotGives, ExprIs, HeldNames, IsReference, KnownAt, LiteralIs, NameGives, NamedGives, NewIs, ObjectHas, OfText, SortKinds, StandardGives, ThisFound, ThisIs, VariableNames, passed}
+use Rattle.sim_sound.specs.Expressions.{ActualFits, ActualsFit, AreIntegers, AreOf, ArrayNames, BehindGives, CallGives, ConstantNames, DeclaredGives, DotGives, ExprIs, HeldNames, IdentifierGives, IsReference, KnownAt, LiteralIs, NameGives, NamedGives, NewIs, ObjectHas, OfText, OwnKnown, SortKinds, StandardGives, ThisFound, ThisIs, VariableNames, passed}
 use Rattle.sim_sound.specs.Statements.{LeftHeld, TransferIs}
 use Rattle.sim_sound.specs.Typed.{Typed}
-use Rattle.sim_sound.proofs.Attributes.{entry_fine, entry_lies, entry_there, gives_result, held_plain, known_of, left_known, left_variable_is, leveled, names_variable, no_left_variable, procedure_in, text_left}
-use Rattle.sim_sound.proofs.Calls.{dot_transfers_not, named_transfers_not}
+use Rattle.sim_sound.proofs.Attributes.{entry_fine, entry_lies, gives_result, held_plain, known_of, left_known, left_variable_is, leveled, names_variable, no_left_variable, procedure_in, text_left}
+use Rattle.sim_sound.proofs.Calls.{dot_transfers_not, identifier_transfers_not, not_own, own_denoted, own_is_attribute}
 use Rattle.sim_sound.proofs.Constants.{constant_no_reference, text_no_reference, value_fine}
 use Rattle.sim_sound.proofs.Fitting.{level_itself, level_self, plain_fits}
 use Rattle.sim_sound.proofs.Cells.{own_level}
@@ -57,7 +57,7 @@ use Rattle.sim_sound.proofs.Lists.{if_true}
 use Rattle.sim_sound.proofs.Prefixes.{LevelOf, class_has, level_has, level_of_levels, levels_solid}
 use Rattle.sim_sound.proofs.Reach.{Reached, Reaches, ReachesText, among_block, key_there}
 use Rattle.sim_sound.proofs.Running.{StoreFine}
-use Rattle.sim_sound.proofs.Sound.{AddressOf, AllArrays, CellTarget, Copied, ImageAddress, IntegersFine, IsImage, IsPlain, Kinds, Lasting, ObjectOf, OperandIs, OperandsAre, OperandsFine, PlainFine, Present, TermFine, TermsFine, Value, Whole, class_kinds, formal_kinds, held_kinds, in_connection, in_hand, in_instance as at_cell, kept_kinds, simple}
+use Rattle.sim_sound.proofs.Sound.{AddressOf, AllArrays, CellTarget, Component, Copied, ImageAddress, IntegersFine, IsImage, IsPlain, Kinds, Lasting, ObjectOf, OperandIs, OperandsAre, OperandsFine, PlainFine, Present, TermFine, TermsFine, Value, Whole, class_kinds, formal_kinds, held_kinds, in_connection, in_hand, in_instance as at_cell, kept_kinds, simple}
 
 -- ---- both words for the formal parameters
 
@@ -75,7 +75,7 @@ block_same s k (Some b) e = rw e (from_same s (take b.formals b.numbers))
 
 pub formals_same : (s : Source) (d : DeclNo) (result : Option SimType) (k : ℕ) → entry_of s.tables d ≡ Some (entry.Procedure result k) → closing.formals_at s d ≡ formals_of s k
 unfolding scopes.formals_of
-formals_same s d result k e = ap (λ o. closing.formals_from s (scopes.formals_at s.tables (scopes.block_in o))) e ∙ block_same s k (slice_get s.tables.blocks k) refl
+formals_same s d result k e = ap (closing.formals_declared s d) e ∙ ap (λ o. closing.formals_from s (scopes.formals_at s.tables (scopes.block_in o))) e ∙ block_same s k (slice_get s.tables.blocks k) refl
 
 -- ---- actual parameters
 
@@ -228,7 +228,6 @@ same_declared a b q = let r : b ≡ a = cc in ap number r
 pub target_of : (s : Source) → Typed s → (m : Instances) (i : ℕ) (d : DeclNo) (h : Holds) → (x : Reached s m i d) → declared_holds s (block_of s d) d ≡ Some h → CellTarget s m i x.instance (Declared d.0) h
 target_of s ok m i d h x e =
     let p = x.here in
-    let at = entry_there s (entry_of s.tables d) (has_levels (text s (block_of s d))) h e in
     record {
       around = block_of s d;
       near = x.near;
@@ -236,7 +235,7 @@ target_of s ok m i d h x e =
       here = p;
       ready = λ c f a. x.ready (subst (λ z. Among z x.todo) (same_declared d.0 c.0 f) a);
       holds = e;
-      there = key_there s ok (block_of s d) x.words d h (has_levels (text s (block_of s d))) x.solid x.has_text e (among_block s ok d at.0 at.1);
+      there = key_there s ok (block_of s d) x.words d h (has_levels (text s (block_of s d))) x.solid x.has_text e (among_block s ok d (has_levels (text s (block_of s d))) h e);
     }
 
 -- the same instance, whole
@@ -328,7 +327,7 @@ module _ (s : Source) (ok : Typed s) (o : AllArrays) (m : Instances) (store : St
   -- a copy of a text
   copy_fine : (line : ℕ) (a : Term) → Fine a (simple kind.Text) → Fine (StandardOf name_of.Copy (Further a NoTerm) line) (simple kind.Text)
   unfolding row_of
-  copy_fine line a f = (refl, refl, Value (Simply kind.Text) ∷ [], (refl, tt), (Value (Simply kind.Text), [], refl, f, refl))
+  copy_fine line a f = ((refl, refl), refl, Value (Simply kind.Text) ∷ [], (refl, tt), (Value (Simply kind.Text), [], refl, f, refl))
 
   -- ---- what is connected, and `this`
 
@@ -394,15 +393,16 @@ module _ (s : Source) (ok : Typed s) (o : AllArrays) (m : Instances) (store : St
     held_in : (d : DeclNo) (e : Entry) (h : Holds) → entry_of s.tables d ≡ Some e → ((c : Bool) → entry_holds s c (Some e) ≡ Some h) → declared_holds s (block_of s d) d ≡ Some h
     held_in d e h is f = ap (entry_holds s (has_levels (text s (block_of s d)))) is ∙ f (has_levels (text s (block_of s d)))
 
-    declared_fine : (d : DeclNo) (e : Option Entry) (h : Option Holds) → entry_of s.tables d ≡ e → DeclaredGives s (Sees s from d) d es Indices Actuals e h → Fine (declared_term s m i line d e es ts acts) (held_kinds h)
-    declared_fine d (Some (entry.Procedure result k)) h e a = call_fine d result k line Actuals acts h e go a
-    declared_fine d (Some (entry.Constant ty)) (Some h) e a = constant_fine d es h a
-    declared_fine d (Some (entry.Variable ty)) (Some h) e a = variable_fine d es (held_by s ty) h (held_in d (entry.Variable ty) (held_by s ty) e (λ c. refl)) (names_variable s (Sees s from d) es Indices (held_by s ty) h (held_plain s ty) a)
-    declared_fine d (Some (entry.Array ty n)) (Some h) e a = array_fine d line es ts Indices (held_by s ty) h (held_in d (entry.Array ty n) (ArrayOf (held_by s ty)) e (λ c. refl)) ints a
-    declared_fine d (Some (entry.Formal f)) (Some h) e a = formal_fine d f.mode f.kind f.ty line es ts Indices h (ap (entry_holds s (has_levels (text s (block_of s d)))) e) ints a
-    declared_fine d None h e a = absurd a
-    declared_fine d (Some _) None e a = absurd a
-    declared_fine d (Some _) (Some h) e a = absurd a
+    declared_fine : (d : DeclNo) (e : Option Entry) (h : Option Holds) → entry_of s.tables d ≡ e → is_standard_attribute e ≡ false → DeclaredGives s (Sees s from d) d es Indices Actuals e h → Fine (declared_term s m i line d e es ts acts) (held_kinds h)
+    declared_fine d (Some (entry.Procedure result k)) h e free a = call_fine d result k line Actuals acts h e go a
+    declared_fine d (Some (entry.Attribute n parameter result)) h e free a = absurd (cc)
+    declared_fine d (Some (entry.Constant ty)) (Some h) e free a = constant_fine d es h a
+    declared_fine d (Some (entry.Variable ty)) (Some h) e free a = variable_fine d es (held_by s ty) h (held_in d (entry.Variable ty) (held_by s ty) e (λ c. refl)) (names_variable s (Sees s from d) es Indices (held_by s ty) h (held_plain s ty) a)
+    declared_fine d (Some (entry.Array ty n)) (Some h) e free a = array_fine d line es ts Indices (held_by s ty) h (held_in d (entry.Array ty n) (ArrayOf (held_by s ty)) e (λ c. refl)) ints a
+    declared_fine d (Some (entry.Formal f)) (Some h) e free a = formal_fine d f.mode f.kind f.ty line es ts Indices h (ap (entry_holds s (has_levels (text s (block_of s d)))) e) ints a
+    declared_fine d None h e free a = absurd a
+    declared_fine d (Some _) None e free a = absurd a
+    declared_fine d (Some _) (Some h) e free a = absurd a
 
     standard_fine : (n : Option Standard) (image : ℕ) (h : Option Holds) → IsImage image → StandardGives n Operands h → Fine (standard_term n image line ts) (held_kinds h)
     standard_fine None image h is a = absurd a
@@ -412,19 +412,44 @@ module _ (s : Source) (ok : Typed s) (o : AllArrays) (m : Instances) (store : St
     attribute_of : (object : Term) (c : ℕ) (Known : Type 0) (d : DeclNo) (h : Option Holds) → has_level s.tables c (block_of s d) ≡ true → Fine object (Some (Value (Refers c))) → DeclaredGives s Known d es Indices Actuals (entry_of s.tables d) h → Fine (attribute s line object es ts (λ d. acts (closing.formals_at s d)) d) (held_kinds h)
     attribute_of object c Known d h level fine a =
         entry_fine s ok d c level m i t todo line object fine Known es ts (acts (closing.formals_at s d)) Indices Actuals (entry_of s.tables d) h refl ints
-        (λ result k e actuals. subst (λ fs. TermsFine s m i t todo (acts fs) (formal_kinds s (formals_of s k))) (sym (formals_same s d result k e)) (go (formals_of s k) actuals)) a
+        (λ result k e actuals. subst (λ fs. TermsFine s m i t todo (acts fs) (formal_kinds s (formals_of s k))) (sym (formals_same s d result k e)) (go (formals_of s k) actuals))
+        (λ n parameter result e actuals. subst (λ fs. TermsFine s m i t todo (acts fs) (formal_kinds s (attribute_formals parameter))) (sym (ap (closing.formals_declared s d) e)) (go (attribute_formals parameter) actuals)) a
 
     -- the tree of an identifier
-    abbrev identifier_term : Option ℕ → Option Denotation → Term
-    identifier_term c x = if_any c (λ k. if_any (declared_attribute x) (attribute s line (connected_object s m i k) es ts (λ d. acts (closing.formals_at s d))) Unbuilt) (named_term s m i line x es ts acts)
+    abbrev own_term : (token : ℕ) → DeclNo → Term
+    own_term token d = attribute s line (this_term s m i (found_at s token)) es ts (λ d. acts (closing.formals_at s d)) d
 
-    named_fine : (c : Option ℕ) (x : Option Denotation) (h : Option Holds) → NamedGives s from c x es Indices Operands Actuals h → Fine (identifier_term c x) (held_kinds h)
-    named_fine None (Some (denotation.Declared d)) h a = declared_fine d (entry_of s.tables d) h refl a
-    named_fine (Some k) (Some (denotation.Declared d)) h a = let b = object_seen k d (known_of s (SeesConnected s from k d) d es Indices Actuals (entry_of s.tables d) h a) in attribute_of (connected_object s m i k) b.0 (SeesConnected s from k d) d h b.1 b.2 a
-    named_fine None (Some (denotation.Standard n)) h a = standard_fine (procedure_named n) sysout h tt a
-    named_fine None None h a = absurd a
-    named_fine (Some k) None h a = absurd a
-    named_fine (Some k) (Some (denotation.Standard n)) h a = absurd a
+    abbrev identifier_term : (token : ℕ) → Option ℕ → Option DeclNo → Option Denotation → Term
+    identifier_term token c own x = if_any c (λ k. if_any (declared_attribute x) (attribute s line (connected_object s m i k) es ts (λ d. acts (closing.formals_at s d))) Unbuilt) (if_any own (own_term token) (named_term s m i line x es ts acts))
+
+    free_entry : (d : DeclNo) → attribute_denoted s (Some (denotation.Declared d)) ≡ None → is_standard_attribute (entry_of s.tables d) ≡ false
+    free_entry d e = by_flag (is_standard_attribute (entry_of s.tables d)) refl e
+      where
+        by_flag : (b : Bool) → is_standard_attribute (entry_of s.tables d) ≡ b → attribute_if b d ≡ None → is_standard_attribute (entry_of s.tables d) ≡ false
+        by_flag false is f = is
+        by_flag true is f = absurd (cc)
+
+    -- no procedure of SIMSET that is seen without a dot
+    named_fine : (token : ℕ) (x : Option Denotation) (h : Option Holds) → attribute_denoted s x ≡ None → NamedGives s from None x es Indices Operands Actuals h → Fine (identifier_term token None None x) (held_kinds h)
+    named_fine token (Some (denotation.Declared d)) h free a = declared_fine d (entry_of s.tables d) h refl (free_entry d free) a
+    named_fine token (Some (denotation.Standard n)) h free a = standard_fine (procedure_named n) sysout h tt a
+    named_fine token None h free a = absurd a
+
+    connected_name_fine : (token k : ℕ) (own : Option DeclNo) (x : Option Denotation) (h : Option Holds) → NamedGives s from (Some k) x es Indices Operands Actuals h → Fine (identifier_term token (Some k) own x) (held_kinds h)
+    connected_name_fine token k own (Some (denotation.Declared d)) h a = let b = object_seen k d (known_of s (SeesConnected s from k d) d es Indices Actuals (entry_of s.tables d) h a) in attribute_of (connected_object s m i k) b.0 (SeesConnected s from k d) d h b.1 b.2 a
+    connected_name_fine token k own None h a = absurd a
+    connected_name_fine token k own (Some (denotation.Standard n)) h a = absurd a
+
+    -- a procedure of SIMSET of the object around
+    own_fine : (token : ℕ) (d : DeclNo) (h : Option Holds) → DeclaredGives s (OwnKnown s from token d) d es Indices Actuals (entry_of s.tables d) h → Fine (own_term token d) (held_kinds h)
+    own_fine token d h a =
+        let known = known_of s (OwnKnown s from token d) d es Indices Actuals (entry_of s.tables d) h a in
+        attribute_of (this_term s m i (found_at s token)) known.0 (OwnKnown s from token d) d h known.2 (this_found (found_at s token) (Refers known.0) known.3) a
+
+    identifier_fine : (token : ℕ) (c : Option ℕ) (own : Option DeclNo) (h : Option Holds) → own_attribute s token ≡ own → IdentifierGives s from token c own es Indices Operands Actuals h → Fine (identifier_term token c own (denoted s token)) (held_kinds h)
+    identifier_fine token None None h e a = named_fine token (denoted s token) h (not_own s token e) a
+    identifier_fine token (Some k) own h e a = connected_name_fine token k own (denoted s token) h a
+    identifier_fine token None (Some d) h e a = own_fine token d h a
 
     -- ---- where they lie
 
@@ -470,13 +495,26 @@ module _ (s : Source) (ok : Typed s) (o : AllArrays) (m : Instances) (store : St
     variable_left Known d (Some _) v a = absurd (cc)
 
     -- a text variable before a dot
-    text_lies : (c : Option ℕ) (x : Option Denotation) → is_variable_denoted s x es ≡ true → NamedGives s from c x es Indices Operands Actuals (Some (Simply kind.Text)) → (y : Kinds) × Fine (identifier_place c x) (Some y) × OperandIs kind.Text y
-    text_lies None (Some (denotation.Declared d)) v a = (AddressOf (Simply kind.Text), lies_at None d (Simply kind.Text) (variable_left (Sees s from d) d (entry_of s.tables d) v a), (refl, refl))
-    text_lies (Some k) (Some (denotation.Declared d)) v a = (AddressOf (Simply kind.Text), lies_at (Some k) d (Simply kind.Text) (variable_left (SeesConnected s from k d) d (entry_of s.tables d) v a), (refl, refl))
-    text_lies None (Some (denotation.Standard n)) v a = (ImageAddress, (refl, tt), refl)
-    text_lies (Some k) (Some (denotation.Standard n)) v a = absurd a
-    text_lies None None v a = absurd a
-    text_lies (Some k) None v a = absurd a
+    named_text_lies : (c : Option ℕ) (x : Option Denotation) → is_variable_denoted s x es ≡ true → NamedGives s from c x es Indices Operands Actuals (Some (Simply kind.Text)) → (y : Kinds) × Fine (identifier_place c x) (Some y) × OperandIs kind.Text y
+    named_text_lies None (Some (denotation.Declared d)) v a = (AddressOf (Simply kind.Text), lies_at None d (Simply kind.Text) (variable_left (Sees s from d) d (entry_of s.tables d) v a), (refl, refl))
+    named_text_lies (Some k) (Some (denotation.Declared d)) v a = (AddressOf (Simply kind.Text), lies_at (Some k) d (Simply kind.Text) (variable_left (SeesConnected s from k d) d (entry_of s.tables d) v a), (refl, refl))
+    named_text_lies None (Some (denotation.Standard n)) v a = (ImageAddress, (refl, tt), refl)
+    named_text_lies (Some k) (Some (denotation.Standard n)) v a = absurd a
+    named_text_lies None None v a = absurd a
+    named_text_lies (Some k) None v a = absurd a
+
+    own_no_variable : (e : Option Entry) → is_standard_attribute e ≡ true → is_variable_entry e es ≡ true → ⊥
+    own_no_variable (Some (entry.Attribute n parameter result)) f v = cc
+    own_no_variable None f v = cc
+    own_no_variable (Some (entry.Variable ty)) f v = cc
+    own_no_variable (Some (entry.Array ty n)) f v = cc
+    own_no_variable (Some (entry.Formal g)) f v = cc
+    own_no_variable (Some _) f v = cc
+
+    text_lies : (token : ℕ) (c : Option ℕ) (own : Option DeclNo) → own_attribute s token ≡ own → is_variable_denoted s (denoted s token) es ≡ true → IdentifierGives s from token c own es Indices Operands Actuals (Some (Simply kind.Text)) → (y : Kinds) × Fine (identifier_place c (denoted s token)) (Some y) × OperandIs kind.Text y
+    text_lies token None None e v a = named_text_lies None (denoted s token) v a
+    text_lies token (Some k) own e v a = named_text_lies (Some k) (denoted s token) v a
+    text_lies token None (Some d) e v a = absurd (own_no_variable (entry_of s.tables d) (own_is_attribute s token d e) (ap (λ z. is_variable_denoted s z es) (sym (own_denoted s token d e)) ∙ v))
 
     -- an attribute of the object that a tree gives
     pub attribute_lies : (object : Term) (c : ℕ) (Known : Type 0) (d : DeclNo) (h : Holds) → has_level s.tables c (block_of s d) ≡ true → Fine object (Some (Value (Refers c))) → LeftHeld Known es Indices (entry_holds s false (entry_of s.tables d)) h → Fine (place_of_attribute s line object es ts d) (Some (AddressOf h))
@@ -527,9 +565,14 @@ module _ (s : Source) (ok : Typed s) (o : AllArrays) (m : Instances) (store : St
   named_no_stream c (Some (denotation.Declared d)) es Indices Operands Actuals h a = refl
   named_no_stream c None es Indices Operands Actuals h a = refl
 
+  identifier_no_stream : (token : ℕ) (c : Option ℕ) (own : Option DeclNo) (es : Expressions) (Indices : Type 0) (Operands : List Kind → Type 0) (Actuals : List Formal → Type 0) (h : Option Holds) → own_attribute s token ≡ own → IdentifierGives s from token c own es Indices Operands Actuals h → stream_denoted (denoted s token) ≡ None
+  identifier_no_stream token None None es Indices Operands Actuals h e a = named_no_stream None (denoted s token) es Indices Operands Actuals h a
+  identifier_no_stream token (Some k) own es Indices Operands Actuals h e a = named_no_stream (Some k) (denoted s token) es Indices Operands Actuals h a
+  identifier_no_stream token None (Some d) es Indices Operands Actuals h e a = ap stream_denoted (own_denoted s token d e)
+
   pub value_no_stream : (a : Expression) (h : Holds) → ExprIs s from a h → stream_of s a ≡ None
   unfolding stream_of
-  value_no_stream (syntax.Named name es) h x = named_no_stream (connection_at s name.token.0) (denoted s name.token.0) es (AreIntegers s from es) (λ ks. AreOf s from es ks) (λ fs. ActualsFit s from es fs) (Some h) x
+  value_no_stream (syntax.Named name es) h x = identifier_no_stream name.token.0 (connection_at s name.token.0) (own_attribute s name.token.0) es (AreIntegers s from es) (λ ks. AreOf s from es ks) (λ fs. ActualsFit s from es fs) (Some h) refl x
   value_no_stream _ h x = refl
 
   image_place_fine : (stream : Option ℕ) (other : Term) (d : Option Denotation) → StreamIs stream → is_image_behind stream d ≡ true → (y : Kinds) × Fine (image_place stream other) (Some y) × OperandIs kind.Text y
@@ -614,13 +657,13 @@ module _ (s : Source) (ok : Typed s) (o : AllArrays) (m : Instances) (store : St
       let x = reach n.declaration n.seen in
       let w = ok.classes n.declaration n.class n.declares in
       let home : home_of_class s m i (denoted s token) ≡ Some x.instance = ap (home_of_class s m i) n.denotes ∙ x.found in
-      let class : class_at s token ≡ Some n.class = class_named s token n.declaration n.class n.denotes n.declares (ap is_class w.is) in
+      let class : class_at s token ≡ Some n.class = class_named s token n.declaration n.class n.denotes n.declares w.is in
       subst (λ z. Fine (generation z (class_at s token) (with_arrays_kept (class_parameters s (class_at s token)) (close_actuals s m i line es (class_parameters s (class_at s token)))) other) (Some (Value h))) (sym home)
       (subst (λ z. Fine (generation (Some x.instance) z (with_arrays_kept (class_parameters s z) (close_actuals s m i line es (class_parameters s z))) other) (Some (Value h))) (sym class) (record {
         around = block_of s n.declaration;
         near = x.near;
         whole = whole_of s m i n.declaration x (class_fixed n.declaration n.class n.declares);
-        class = record { stands_in = w.around; prefix = w.prefix; heading = w.heading; declarations = w.declarations; statements = w.statements; is = w.is };
+        class = record { stands_in = w.around; is = w.is };
         holds = h;
         fits = a.1;
         gives = refl;
@@ -635,10 +678,11 @@ module _ (s : Source) (ok : Typed s) (o : AllArrays) (m : Instances) (store : St
   abbrev named_other : Identifier → Expressions → Term
   named_other name es =
       if_any (connection_at s name.token.0) (λ k. if_any (declared_attribute (denoted s name.token.0)) (attribute s (line_at s name.token.0) (connected_object s m i k) es (close_all s m i es) (λ d. close_actuals s m i (line_at s name.token.0) es (closing.formals_at s d))) Unbuilt)
-      (named_term s m i (line_at s name.token.0) (denoted s name.token.0) es (close_all s m i es) (λ fs. close_actuals s m i (line_at s name.token.0) es fs))
+      (if_any (own_attribute s name.token.0) (attribute s (line_at s name.token.0) (this_term s m i (found_at s name.token.0)) es (close_all s m i es) (λ d. close_actuals s m i (line_at s name.token.0) es (closing.formals_at s d)))
+      (named_term s m i (line_at s name.token.0) (denoted s name.token.0) es (close_all s m i es) (λ fs. close_actuals s m i (line_at s name.token.0) es fs)))
 
-  named_keeps : (name : Identifier) (es : Expressions) (h : Option Holds) → NamedGives s from (connection_at s name.token.0) (denoted s name.token.0) es (AreIntegers s from es) (λ ks. AreOf s from es ks) (λ fs. ActualsFit s from es fs) h → transfer_at s name.token.0 ≡ None
-  named_keeps name es h x = named_transfers_not s from (connection_at s name.token.0) name.token.0 es (AreIntegers s from es) (λ ks. AreOf s from es ks) (λ fs. ActualsFit s from es fs) h x
+  named_keeps : (name : Identifier) (es : Expressions) (h : Option Holds) → IdentifierGives s from name.token.0 (connection_at s name.token.0) (own_attribute s name.token.0) es (AreIntegers s from es) (λ ks. AreOf s from es ks) (λ fs. ActualsFit s from es fs) h → transfer_at s name.token.0 ≡ None
+  named_keeps name es h x = identifier_transfers_not s from (connection_at s name.token.0) name.token.0 es (AreIntegers s from es) (λ ks. AreOf s from es ks) (λ fs. ActualsFit s from es fs) h x
 
   dot_keeps : (a : Expression) (name : Identifier) (es : Expressions) (h : Option Holds) → DotGives s (denoted s name.token.0) (stream_of s a) (ExprIs s from a (Simply kind.Text)) (λ c. ExprIs s from a (Refers c)) es (AreIntegers s from es) (λ ks. AreOf s from es ks) (λ fs. ActualsFit s from es fs) h → transfer_at s name.token.0 ≡ None
   dot_keeps a name es h x = dot_transfers_not s name.token.0 (stream_of s a) (ExprIs s from a (Simply kind.Text)) (λ c. ExprIs s from a (Refers c)) es (AreIntegers s from es) (λ ks. AreOf s from es ks) (λ fs. ActualsFit s from es fs) h x
@@ -658,7 +702,7 @@ module _ (s : Source) (ok : Typed s) (o : AllArrays) (m : Instances) (store : St
         (dot_denoted (line_at s name.token.0) a es (Some h) (λ h y. expr_fine a h y) (λ v y. place_fine a v y) (λ y. integers_fine es y) (λ ks y. of_fine es ks y) (λ fs y. actuals_fine (line_at s name.token.0) es fs y) (denoted s name.token.0) x)
     expr_fine (syntax.Named name es) h x =
         other_call (transfer_at s name.token.0) (named_transfer name es) (named_other name es) (Some (Value h)) (named_keeps name es (Some h) x)
-        (named_fine (line_at s name.token.0) es (close_all s m i es) (λ fs. close_actuals s m i (line_at s name.token.0) es fs) (AreIntegers s from es) (λ ks. AreOf s from es ks) (λ fs. ActualsFit s from es fs) (λ a. integers_fine es a) (λ ks a. of_fine es ks a) (λ fs a. actuals_fine (line_at s name.token.0) es fs a) (connection_at s name.token.0) (denoted s name.token.0) (Some h) x)
+        (identifier_fine (line_at s name.token.0) es (close_all s m i es) (λ fs. close_actuals s m i (line_at s name.token.0) es fs) (AreIntegers s from es) (λ ks. AreOf s from es ks) (λ fs. ActualsFit s from es fs) (λ a. integers_fine es a) (λ ks a. of_fine es ks a) (λ fs a. actuals_fine (line_at s name.token.0) es fs a) name.token.0 (connection_at s name.token.0) (own_attribute s name.token.0) (Some h) refl x)
     expr_fine (syntax.This token class) h x = this_found (found_at s token) h x
     expr_fine (syntax.New token class es) h x = new_fine class.token.0 (line_at s class.token.0) (line_at s token) es h (λ fs a. class_fine (line_at s class.token.0) es fs a) x
     expr_fine (syntax.Parentheses token a) h x = expr_fine a h x
@@ -670,7 +714,7 @@ module _ (s : Source) (ok : Typed s) (o : AllArrays) (m : Instances) (store : St
     -- where a text variable before a dot lies
     place_fine : (e : Expression) → (is_variable s e || is_attribute s e) ≡ true → ExprIs s from e (Simply kind.Text) → (y : Kinds) × Fine (close_place s m i e) (Some y) × OperandIs kind.Text y
     place_fine (syntax.Named name es) v x =
-        text_lies (line_at s name.token.0) es (close_all s m i es) (λ fs. close_actuals s m i (line_at s name.token.0) es fs) (AreIntegers s from es) (λ ks. AreOf s from es ks) (λ fs. ActualsFit s from es fs) (λ y. integers_fine es y) (λ ks a. of_fine es ks a) (λ fs a. actuals_fine (line_at s name.token.0) es fs a) (connection_at s name.token.0) (denoted s name.token.0) (variable_named name es v) x
+        text_lies (line_at s name.token.0) es (close_all s m i es) (λ fs. close_actuals s m i (line_at s name.token.0) es fs) (AreIntegers s from es) (λ ks. AreOf s from es ks) (λ fs. ActualsFit s from es fs) (λ y. integers_fine es y) (λ ks a. of_fine es ks a) (λ fs a. actuals_fine (line_at s name.token.0) es fs a) name.token.0 (connection_at s name.token.0) (own_attribute s name.token.0) refl (variable_named name es v) x
     place_fine (syntax.Dot token a name es) v x = dot_lies (line_at s name.token.0) a es (denoted s name.token.0) (λ c y. expr_fine a (Refers c) y) (λ y. integers_fine es y) (λ ks y. of_fine es ks y) (λ fs y. actuals_fine (line_at s name.token.0) es fs y) (dot_variable token a name es v) x
     place_fine (syntax.If token c a b) v x = absurd (not_variable (syntax.If token c a b) tt v)
     place_fine (syntax.Binary op token a b) v x = absurd (not_variable (syntax.Binary op token a b) tt v)
@@ -706,9 +750,9 @@ module _ (s : Source) (ok : Typed s) (o : AllArrays) (m : Instances) (store : St
         (a.0, class_kinds s fs, ap (λ z. z ∷ class_kinds s fs) a.1, a.2, class_fine line es fs x.1)
 
   -- a call that stands as a statement
-  pub given_fine : (name : Identifier) (es : Expressions) (h : Option Holds) → NamedGives s from (connection_at s name.token.0) (denoted s name.token.0) es (AreIntegers s from es) (λ ks. AreOf s from es ks) (λ fs. ActualsFit s from es fs) h → Fine (close s m i (syntax.Named name es)) (held_kinds h)
+  pub given_fine : (name : Identifier) (es : Expressions) (h : Option Holds) → IdentifierGives s from name.token.0 (connection_at s name.token.0) (own_attribute s name.token.0) es (AreIntegers s from es) (λ ks. AreOf s from es ks) (λ fs. ActualsFit s from es fs) h → Fine (close s m i (syntax.Named name es)) (held_kinds h)
   given_fine name es h x = other_call (transfer_at s name.token.0) (named_transfer name es) (named_other name es) (held_kinds h) (named_keeps name es h x)
-      (named_fine (line_at s name.token.0) es (close_all s m i es) (λ fs. close_actuals s m i (line_at s name.token.0) es fs) (AreIntegers s from es) (λ ks. AreOf s from es ks) (λ fs. ActualsFit s from es fs) (λ a. integers_fine es a) (λ ks a. of_fine es ks a) (λ fs a. actuals_fine (line_at s name.token.0) es fs a) (connection_at s name.token.0) (denoted s name.token.0) h x)
+      (identifier_fine (line_at s name.token.0) es (close_all s m i es) (λ fs. close_actuals s m i (line_at s name.token.0) es fs) (AreIntegers s from es) (λ ks. AreOf s from es ks) (λ fs. ActualsFit s from es fs) (λ a. integers_fine es a) (λ ks a. of_fine es ks a) (λ fs a. actuals_fine (line_at s name.token.0) es fs a) name.token.0 (connection_at s name.token.0) (own_attribute s name.token.0) h refl x)
 
   pub dot_fine : (token : ℕ) (a : Expression) (name : Identifier) (es : Expressions) (h : Option Holds) → DotGives s (denoted s name.token.0) (stream_of s a) (ExprIs s from a (Simply kind.Text)) (λ c. ExprIs s from a (Refers c)) es (AreIntegers s from es) (λ ks. AreOf s from es ks) (λ fs. ActualsFit s from es fs) h → Fine (close s m i (syntax.Dot token a name es)) (held_kinds h)
   dot_fine token a name es h x =
@@ -720,7 +764,7 @@ module _ (s : Source) (ok : Typed s) (o : AllArrays) (m : Instances) (store : St
   some_transfer x c f a e fine = subst (λ z. Fine (if_any z f a) None) (sym e) fine
 
   transfer_is : (c : Transfer) (line : ℕ) (found : Option ℕ) (es : Expressions) → TransferFrom s from c found es → Fine (transfer_term c line (this_term s m i found) (close_all s m i es)) None
-  transfer_is Detaching line found es a = (refl, (refl, this_found found (Simply kind.Reference) a))
+  transfer_is Detaching line found es a = (refl, (Simply kind.Reference, Component, refl, refl, this_found found (Simply kind.Reference) a))
   transfer_is Calling line found NoMore a = absurd a
   transfer_is Calling line found (Then e NoMore) a = (refl, expr_fine e (Simply kind.Reference) a.0)
   transfer_is Calling line found (Then e (Then d es)) a = absurd a.1
@@ -732,4 +776,4 @@ module _ (s : Source) (ok : Typed s) (o : AllArrays) (m : Instances) (store : St
   transfer_fine name es c e a = some_transfer (transfer_at s name.token.0) c (named_transfer name es) (named_other name es) e (transfer_is c (line_at s name.token.0) (found_at s name.token.0) es a)
 
   pub detach_fine : (token : ℕ) (a : Expression) (name : Identifier) (es : Expressions) (c : Transfer) → transfer_at s name.token.0 ≡ Some c → ExprIs s from a (Simply kind.Reference) → Fine (close s m i (syntax.Dot token a name es)) None
-  detach_fine token a name es c e x = some_transfer (transfer_at s name.token.0) c (λ c. detach_term (line_at s name.token.0) (close s m i a)) (dotted_term (line_at s name.token.0) a es (denoted s name.token.0)) e (refl, (refl, expr_fine a (Simply kind.Reference) x))
+  detach_fine token a name es c e x = some_transfer (transfer_at s name.token.0) c (λ c. detach_term (line_at s name.token.0) (close s m i a)) (dotted_term (line_at s name.token.0) a es (denoted s name.token.0)) e (refl, (Simply kind.Reference, Component, refl, refl, expr_fine a (Simply kind.Reference) x))

@@ -1,17 +1,16 @@
 -- A block, a procedure or an object is entered.
 use Rattle.std.proofs.Common.{Bool, List, None, Option, Some, [], ap, arith, false, inr, length, map, refl, subst, suc, sym, true, ℕ, ◌++◌, ◌<◌, ◌∙◌, ◌∷◌, ◌≡◌, ◌⊎◌}
-use Rattle.std.specs.Prelude.{if◌then◌else◌, not, slice_get, slice_index_or, ◌&&◌, ◌==◌}
+use Rattle.std.specs.Prelude.{if◌then◌else◌, not, slice_get, ◌&&◌}
 use Rattle.std.specs.List.{list_any}
 use Rattle.sim_base.specs.declared.limits.Limits.{Limits}
 use Rattle.sim_base.specs.declared.numbering.DeclNo.{DeclNo}
-use Rattle.sim_chains.specs.Chains.{times_on}
 use Rattle.sim_chains.specs.Components.{NoObject, Standing}
-use Rattle.sim_chains.specs.WellFormed.{is_object, over_kept}
 use Rattle.sim_scope.specs.declared.types.Formal.{Formal}
 use Rattle.sim_scope.specs.Access.{encloser}
-use Rattle.sim_scope.specs.Source.{Source, line_at}
+use Rattle.sim_scope.specs.Source.{Source}
 use Rattle.sim_tree.specs.declared.stmt.TypeName.{TypeName}
 use Rattle.sim_tree.specs.Syntax.{Declarations, Heading, Statement, Statements}
+use Rattle.simset.specs.Instances.{Memberships}
 use Rattle.sim_code.specs.Arrays.{handed_over}
 use Rattle.sim_code.specs.Events.{entering, having, pop_many, popping, when}
 use Rattle.sim_code.specs.Instances.{Instance, ends_in, entered, is_given_at_end, is_live, kept_on, live}
@@ -20,10 +19,10 @@ use Rattle.sim_code.specs.Outcome.{Run, World}
 use Rattle.sim_meaning.specs.Attributes.{is_connection}
 use Rattle.sim_meaning.specs.Entries.{arrays_by_value, filled_behind, first_cells, formals_of, in_instance, instances_kept, is_held, new_instance, numbers_of, passes, words_of_cells}
 use Rattle.sim_meaning.specs.Levels.{has_levels}
-use Rattle.sim_meaning.specs.Meaning.{block_work, called, first_step, has_result, procedure_entered, program_entered, sub_block_entered}
-use Rattle.sim_meaning.specs.Pending.{Activation, Address, ArrayValue, Configuration, Declared, Do, EndBlock, EndProcedure, EndProgram, Exec, Execs, Held, Instances, Item, Key, Link, Of, PastOp, ProcedureValue, Tree, Val, instance_in, owner}
+use Rattle.sim_meaning.specs.Meaning.{block_work, called, has_result, procedure_entered, sub_block_entered}
+use Rattle.sim_meaning.specs.Pending.{Activation, Address, ArrayValue, Configuration, Declared, Do, EndBlock, EndProcedure, Exec, Execs, Held, Instances, Item, Key, Link, Of, ProcedureValue, Tree, Val, instance_in, owner}
 use Rattle.sim_meaning.specs.Sane.{Other}
-use Rattle.sim_meaning.specs.Texts.{BlockText, ClassText, ConnectionText, PrefixedText, ProcedureText, Text, is_class_free, text}
+use Rattle.sim_meaning.specs.Texts.{BlockText, ClassText, ConnectionText, PrefixedText, ProcedureText, StandardText, Text, is_class_free, text}
 use Rattle.sim_sound.specs.Held.{ArrayOf, Holds, InBound}
 use Rattle.sim_sound.specs.Typed.{BlockTyped, ProcedureTyped, Typed, TextTyped, arrays_of_block}
 use Rattle.sim_sound.proofs.ArrayWork.{arrays_are, block_arrays}
@@ -33,14 +32,15 @@ use Rattle.sim_sound.proofs.Chains.{others_kept, others_on}
 use Rattle.sim_sound.proofs.Changes.{ElementsFine}
 use Rattle.sim_sound.proofs.Evals.{IsFine, Work, goes_on}
 use Rattle.sim_sound.proofs.FirstCells.{ActualsAre, FilledBehind, ValsFine, all_taken, block_cells, block_key, formals_some, held_there, procedure_cells, taken}
-use Rattle.sim_sound.proofs.Handing.{Handed, formals_hand, hand_all, handed_same, marks_of}
+use Rattle.sim_sound.proofs.Handing.{Handed, formals_hand, hand_all, handed_members, handed_same, marks_of}
 use Rattle.sim_sound.proofs.Later.{All, Copies, Later, all_apart, fine_later, hands_later, instance_later, kept_later, live_less, present_later, standing_apart, stays_later, work_later}
 use Rattle.sim_sound.proofs.Lifts.{Goes, any_popped, enters, had, ran, whens}
-use Rattle.sim_sound.proofs.Lists.{append_at, no_some, same_some}
-use Rattle.sim_sound.proofs.Moves.{Begins, copies_entered, ending_there, knows_near, later_entered, marked, near_new, on_top, operates_entered, placed_as, steady_entered, store_entered}
+use Rattle.sim_sound.proofs.Lists.{append_at, same_some}
+use Rattle.sim_sound.proofs.Members.{MembersFine, OneMore, members_more, plain_no_linkage}
+use Rattle.sim_sound.proofs.Moves.{Begins, copies_entered, knows_near, later_entered, marked, near_new, on_top, one_more, operates_entered, placed_as, steady_entered, store_entered}
 use Rattle.sim_sound.proofs.Prefixes.{LevelOf, prefix_level, same_level}
-use Rattle.sim_sound.proofs.Running.{Begun, ChainFine, Fine, Headed, Operates, Placed, StoreFine, WorkFine, first_of, places}
-use Rattle.sim_sound.proofs.Sound.{AllArrays, CallOpFine, CellsFine, Enclosed, GivesResult, HandFine, HandsFine, InstanceFine, KeyAmong, Kinds, Knows, LinkTo, Made, Marks, Near, Present, Sight, Stays, Takes, Waits, Whole, alone, at_itself, formal_kinds, given, holds_of, key_of, keys_in, near_below, near_staying, own_text, see, within}
+use Rattle.sim_sound.proofs.Running.{Begun, ChainFine, Fine, Headed, Operates, Placed, StoreFine, WorkFine, first_of}
+use Rattle.sim_sound.proofs.Sound.{AllArrays, CallOpFine, CellsFine, Enclosed, GivesResult, HandFine, HandsFine, InstanceFine, KeyAmong, Kinds, Knows, LinkTo, Made, Marks, Near, Present, Sight, Stays, Takes, Waits, Whole, at_itself, formal_kinds, given, holds_of, key_of, keys_in, near_below, near_staying, own_text, see, within}
 use Rattle.sim_sound.proofs.Heads.{headed_as}
 
 -- ---- a new instance
@@ -49,8 +49,8 @@ use Rattle.sim_sound.proofs.Heads.{headed_as}
 pub stands_new : (m : Instances) (y : Instance (List Held)) (z : Standing Activation) → length m.standings ≡ length m.instances → slice_get (entered m y z).standings (length m.instances) ≡ Some z
 stands_new m y z many = ap (slice_get (m.standings ++ z ∷ [])) (sym many) ∙ append_at m.standings z
 
--- An instance of a text with these cells is entered, on top of the instance u, if of any. `now` are the instances then.
-module _ (s : Source) (ok : Typed s) (v : AllArrays) (m : Instances) (k : ℕ) (e : Option ℕ) (cells : List Held) (z : Standing Activation) (x : Text) (is : text s k ≡ Some x) (solid : is_connection (text s k) ≡ false) (u : Option ℕ) where
+-- An instance of a text with these cells is entered, on top of the instance u, if of any. `now` are the instances then, with these linkages.
+module _ (s : Source) (ok : Typed s) (v : AllArrays) (m : Instances) (k : ℕ) (e : Option ℕ) (cells : List Held) (z : Standing Activation) (x : Text) (is : text s k ≡ Some x) (solid : is_connection (text s k) ≡ false) (u : Option ℕ) (linkages : Memberships) where
   abbrev pub made_new : Instance (List Held)
   made_new = new_instance s k e cells
 
@@ -58,7 +58,7 @@ module _ (s : Source) (ok : Typed s) (v : AllArrays) (m : Instances) (k : ℕ) (
   now = entered m made_new z
 
   abbrev pub seen_now : AllArrays
-  seen_now = on_top v u
+  seen_now = on_top v u linkages
 
   passing_is : passes (text s k) (is_class_free s k) ≡ is_class_free s k
   passing_is = ap (λ z. passes z (is_class_free s k)) is ∙ by_text x is (ok.texts k x is)
@@ -69,10 +69,10 @@ module _ (s : Source) (ok : Typed s) (v : AllArrays) (m : Instances) (k : ℕ) (
       by_text (ClassText prefix h ds ss) e a = sym a.stays
       by_text (PrefixedText class arguments ds ss) e a = sym a.stays
       by_text ConnectionText e a = absurd (let z : ◌≡◌ {A = Bool} true false = sym (ap is_connection e) ∙ solid in cc)
-      by_text _ e a = absurd a
+      by_text (StandardText which) e a = sym a.stays
 
   pub later_new : Later s v m seen_now now All
-  later_new = later_entered s v m made_new z u
+  later_new = later_entered s v m made_new z u linkages
 
   pub new_lives : live now (length m.instances) ≡ Some made_new
   new_lives = ap instances.unless_given (append_at m.instances made_new)
@@ -83,9 +83,13 @@ module _ (s : Source) (ok : Typed s) (v : AllArrays) (m : Instances) (k : ℕ) (
   instance_new : ((u : ℕ) → LevelOf s k u → (key : Key) → KeyAmong key (keys_in s u (text s u)) → KeyAmong key (map key_of cells)) → CellsFine s seen_now now (length m.instances) k cells → Enclosed s seen_now now (length m.instances) k e → InstanceFine s seen_now now (length m.instances) made_new
   instance_new keys fine out = record { level = refl; solid = solid; keys = keys; holds = λ u at key a. key_level s ok solid at key a; cells = fine; ends = passing_is; not_kept = refl; out = out }
 
-  pub begun_new : StoreFine s v m → Begins z → ((u : ℕ) → LevelOf s k u → (key : Key) → KeyAmong key (keys_in s u (text s u)) → KeyAmong key (map key_of cells)) → CellsFine s seen_now now (length m.instances) k cells → Enclosed s seen_now now (length m.instances) k e → (todo : List DeclNo) → Made s k todo cells → Begun s seen_now now (length m.instances) k todo
+  pub begun_new : StoreFine s v m → Begins z → ((u : ℕ) → LevelOf s k u → (key : Key) → KeyAmong key (keys_in s u (text s u)) → KeyAmong key (map key_of cells)) → CellsFine s seen_now now (length m.instances) k cells → Enclosed s seen_now now (length m.instances) k e → (todo : List DeclNo) → Made s k todo cells → MembersFine s linkages now → Begun s seen_now now (length m.instances) k todo
   unfolding present_new
-  begun_new store begins keys fine out todo made = record { store = store_entered s v m made_new z u store (instance_new keys fine out) begins; here = present_new todo made; own = refl }
+  begun_new store begins keys fine out todo made members = record { store = store_entered s v m made_new z u linkages store (instance_new keys fine out) begins members; here = present_new todo made; own = refl }
+
+  -- one instance more, of this text
+  pub more_new : OneMore s m now k
+  more_new = one_more s v m made_new z u linkages
 
   -- what is class-free is given back at its end
   pub new_passes : is_class_free s k ≡ true → is_given_at_end now (length m.instances) ≡ true
@@ -99,7 +103,7 @@ module _ (s : Source) (ok : Typed s) (v : AllArrays) (m : Instances) (k : ℕ) (
   near_inside store j stays i on near = by_flag (is_class_free s k) refl
     where
       by_flag : (b : Bool) → is_class_free s k ≡ b → Near seen_now now (length m.instances) j
-      by_flag true free = near_new s v m made_new z u i j store on (new_passes free) near
+      by_flag true free = near_new s v m made_new z u linkages i j store on (new_passes free) near
       by_flag false free = near_staying (stays_later s v m seen_now now All later_new j (stays free))
 
   -- the text around is not class-free either, so an instance of it stays
@@ -121,19 +125,21 @@ module _ (s : Source) (ok : Typed s) (v : AllArrays) (m : Instances) (k : ℕ) (
 
   -- below it the chain stands as before
   pub below_new : Begins z → (chain : List Activation) (w : Waits) → ChainFine s v m chain w → ChainFine s seen_now now chain w
-  below_new begins chain w c = fine_later s v m seen_now now All later_new All (λ j d k. copies_entered s v m made_new z u j d) (λ j k. steady_entered s v m made_new z u begins j) chain (all_apart chain) (all_apart chain) w c
+  below_new begins chain w c = fine_later s v m seen_now now All later_new All (λ j d k. copies_entered s v m made_new z u linkages j d) (λ j k. steady_entered s v m made_new z u linkages begins j) chain (all_apart chain) (all_apart chain) w c
 
 -- it operates
 pub enters_fine : (s : Source) (ok : Typed s) (o : World) (marks : Marks) (long : length marks.sights ≡ length o.arrays) (m : Instances) (k : ℕ) (e : Option ℕ) (cells : List Held) (z : Standing Activation) (todo : List DeclNo)
-    → Begins z → (work : List Item) (rest : List Activation) → StoreFine s (see marks o) m → Placed m rest → Headed m rest → (0 < length m.standings) ⊎ (z ≡ NoObject None) → Begun s (see (marked marks (first_of rest)) o) (entered m (new_instance s k e cells) z) (length m.instances) k todo
+    → Begins z → (work : List Item) (rest : List Activation) (p : World) → StoreFine s (see marks p) m → Placed m rest → Headed m rest → (0 < length m.standings) ⊎ (z ≡ NoObject None) → Begun s (see (marked marks (first_of rest)) o) (entered m (new_instance s k e cells) z) (length m.instances) k todo
     → WorkFine s (see (marked marks (first_of rest)) o) (entered m (new_instance s k e cells) z) (λ w. ChainFine s (see (marked marks (first_of rest)) o) (entered m (new_instance s k e cells) z) rest w) (rest ≡ []) (length m.instances) k work todo []
     → IsFine s o (record { chain = record { instance = length m.instances; work = work; values = [] } ∷ rest; memory = entered m (new_instance s k e cells) z })
-enters_fine s ok o marks long m k e cells z todo begins work rest store placed headed first b w =
-    goes_on s o (marked marks (first_of rest)) long (entered m (new_instance s k e cells) z) (length m.instances) k rest (operates_entered s (see marks o) m (new_instance s k e cells) z (first_of rest) rest refl store placed headed first begins) work [] todo [] b tt w
+enters_fine s ok o marks long m k e cells z todo begins work rest p store placed headed first b w =
+    goes_on s o (marked marks (first_of rest)) long (entered m (new_instance s k e cells) z) (length m.instances) k rest (operates_entered s (see marks p) m (new_instance s k e cells) z (first_of rest) o.members rest refl store placed headed first begins) work [] todo [] b tt w
 
--- the arrays alone tell whether a configuration is fine
-pub same_arrays : {s : Source} (o p : World) (c : Configuration) → o.arrays ≡ p.arrays → IsFine s o c → IsFine s p c
-same_arrays {s = s} o p c e f = subst (λ z. (g : Marks) × (length g.sights ≡ length z) × Fine s (record { sights = g.sights; beneath = g.beneath; waiting = g.waiting; real = z }) c) e f
+-- the arrays and the linkages alone tell whether a configuration is fine
+pub same_arrays : {s : Source} (o p : World) (c : Configuration) → o.arrays ≡ p.arrays → o.members ≡ p.members → IsFine s o c → IsFine s p c
+same_arrays {s = s} o p c e q f =
+    subst (λ z. (g : Marks) × (length g.sights ≡ length p.arrays) × Fine s (record { sights = g.sights; beneath = g.beneath; waiting = g.waiting; real = p.arrays; members = z }) c) q
+    (subst (λ z. (g : Marks) × (length g.sights ≡ length z) × Fine s (record { sights = g.sights; beneath = g.beneath; waiting = g.waiting; real = z; members = o.members }) c) e f)
 
 -- ---- blocks
 
@@ -150,8 +156,11 @@ module _ (s : Source) (ok : Typed s) (v : AllArrays) (m : Instances) (k : ℕ) (
   abbrev pub after : Instances
   after = entered m (new_instance s k e cells) (NoObject None)
 
-  cells_fine : CellsFine s (on_top v u) after (length m.instances) k cells
-  cells_fine = block_cells s (on_top v u) after (length m.instances) k begin ds ss is typed.no_formals
+  abbrev pub seen_after : AllArrays
+  seen_after = on_top v u v.members
+
+  cells_fine : CellsFine s seen_after after (length m.instances) k cells
+  cells_fine = block_cells s seen_after after (length m.instances) k begin ds ss is typed.no_formals
 
   block_holds : (d : DeclNo) (kd : Holds) → Rattle.sim_sound.specs.Held.key_holds s k (Declared d.0) ≡ Some (ArrayOf kd) → Rattle.sim_sound.specs.Held.entry_holds s false (Rattle.sim_scope.specs.Scopes.entry_of s.tables d) ≡ Some (ArrayOf kd)
   block_holds d kd h = sym (ap (λ z. Rattle.sim_sound.specs.Held.entry_holds s z (Rattle.sim_scope.specs.Scopes.entry_of s.tables d)) (ap has_levels is)) ∙ h
@@ -162,15 +171,15 @@ module _ (s : Source) (ok : Typed s) (v : AllArrays) (m : Instances) (k : ℕ) (
   block_made : Made s k (arrays_of_block s ds) cells
   block_made = made_alone s ok k (arrays_of_block s ds) cells (block_solid s k begin ds ss is) has_none (λ d kd holds there none. typed.made d kd (block_key s k begin ds ss d (subst (λ z. KeyAmong (Declared d.0) (keys_in s k z)) is there)) (block_holds d kd holds))
 
-  pub block_begun : StoreFine s v m → Enclosed s (on_top v u) after (length m.instances) k e → Begun s (on_top v u) after (length m.instances) k (arrays_of_block s ds)
+  pub block_begun : StoreFine s v m → Enclosed s seen_after after (length m.instances) k e → Begun s seen_after after (length m.instances) k (arrays_of_block s ds)
   block_begun store out =
-      begun_new s ok v m k e cells (NoObject None) (BlockText begin ds ss) is (block_solid s k begin ds ss is) u store tt (keys_alone s ok k (map key_of cells) (block_solid s k begin ds ss is) has_none (λ key a. subst (λ z. KeyAmong key (keys_in s k z)) is a)) cells_fine out (arrays_of_block s ds) block_made
+      begun_new s ok v m k e cells (NoObject None) (BlockText begin ds ss) is (block_solid s k begin ds ss is) u v.members store tt (keys_alone s ok k (map key_of cells) (block_solid s k begin ds ss is) has_none (λ key a. subst (λ z. KeyAmong key (keys_in s k z)) is a)) cells_fine out (arrays_of_block s ds) block_made (members_more s v.members m after k (more_new s ok v m k e cells (NoObject None) (BlockText begin ds ss) is (block_solid s k begin ds ss is) u v.members) (plain_no_linkage s ok k (block_solid s k begin ds ss is) has_none) store.members)
 
-  pub block_works : StoreFine s v m → Enclosed s (on_top v u) after (length m.instances) k e → (Below : Waits → Type 0) (Outermost : Type 0) (end : Item) → WorkFine s (on_top v u) after Below Outermost (length m.instances) k (end ∷ []) [] [] → WorkFine s (on_top v u) after Below Outermost (length m.instances) k (block_work s after (length m.instances) ds ss end) (arrays_of_block s ds) []
+  pub block_works : StoreFine s v m → Enclosed s seen_after after (length m.instances) k e → (Below : Waits → Type 0) (Outermost : Type 0) (end : Item) → WorkFine s seen_after after Below Outermost (length m.instances) k (end ∷ []) [] [] → WorkFine s seen_after after Below Outermost (length m.instances) k (block_work s after (length m.instances) ds ss end) (arrays_of_block s ds) []
   block_works store out Below Outermost end x =
       let b = block_begun store out in
-      block_arrays s ok (on_top v u) after (length m.instances) k k same_level (arrays_of_block s ds) b (BlockText begin ds ss) is (block_solid s k begin ds ss is) (λ d a. arrays_are s (InBound k) ds typed.arrays d a) Below Outermost ds (Do (Execs ss) ∷ end ∷ []) typed.arrays typed.distinct typed.own
-      ([], [], (refl, refl, refl, (k, own_site s (on_top v u) after (length m.instances) k (arrays_of_block s ds) b, typed.statements)), x)
+      block_arrays s ok seen_after after (length m.instances) k k same_level (arrays_of_block s ds) b (BlockText begin ds ss) is (block_solid s k begin ds ss is) (λ d a. arrays_are s (InBound k) ds typed.arrays d a) Below Outermost ds (Do (Execs ss) ∷ end ∷ []) typed.arrays typed.distinct typed.own
+      ([], [], (refl, refl, refl, (k, own_site s seen_after after (length m.instances) k (arrays_of_block s ds) b, typed.statements)), x)
 
 -- ---- a sub-block
 
@@ -196,12 +205,12 @@ module _ (s : Source) (ok : Typed s) (l : Limits) (o : World) (marks : Marks) (l
       let hs = first_cells s k x in
       let z = NoObject None in
       let solid = block_solid s k begin ds ss is in
-      let out = inside_new s ok v m k (Some i) hs z x is solid (Some i) i u i refl stands top.before refl (near_below at_itself) b.store site in
+      let out = inside_new s ok v m k (Some i) hs z x is solid (Some i) v.members i u i refl stands top.before refl (near_below at_itself) b.store site in
       let m' = entered m (new_instance s k (Some i) hs) z in
       enters (IsFine s) l line (words_of_cells hs) o (λ p. in_instance s p m k (Some i) hs (λ now. block_work s now (length m.instances) ds ss EndBlock) (Chain vals)) (λ t' w'.
-      enters_fine s ok o marks long m k (Some i) hs z (arrays_of_block s ds) tt (block_work s m' (length m.instances) ds ss EndBlock) (Chain vals) b.store (chain_placed vals) (chain_headed vals) (inr refl) (block_begun s ok v m k (Some i) begin ds ss is (Some i) b.store out)
-      (block_works s ok v m k (Some i) begin ds ss is (Some i) b.store out (λ q. ChainFine s (on_top v (Some i)) m' (Chain vals) q) (Chain vals ≡ []) EndBlock
-      ((None, stands_new m (new_instance s k (Some i) hs) z (top.placed).as_many), below_new s ok v m k (Some i) hs z x is solid (Some i) tt (Chain vals) (Takes None) (waits_on vals [] ks None b h work))))
+      enters_fine s ok o marks long m k (Some i) hs z (arrays_of_block s ds) tt (block_work s m' (length m.instances) ds ss EndBlock) (Chain vals) o b.store (chain_placed vals) (chain_headed vals) (inr refl) (block_begun s ok v m k (Some i) begin ds ss is (Some i) b.store out)
+      (block_works s ok v m k (Some i) begin ds ss is (Some i) b.store out (λ q. ChainFine s (on_top v (Some i) v.members) m' (Chain vals) q) (Chain vals ≡ []) EndBlock
+      ((None, stands_new m (new_instance s k (Some i) hs) z (top.placed).as_many), below_new s ok v m k (Some i) hs z x is solid (Some i) v.members tt (Chain vals) (Takes None) (waits_on vals [] ks None b h work))))
 
   -- ---- a procedure
 
@@ -229,13 +238,14 @@ module _ (s : Source) (ok : Typed s) (l : Limits) (o : World) (marks : Marks) (l
   lives_is j x e = ap instances.is_live_in e
 
   -- the store in which copies of the instance have gone over, and a new instance is entered then
-  module _ (p : World) (g' : List Sight) (e : Later s (see marks o) m (see (marks_of marks g') p) m All) (copies : (j d : ℕ) → Other i j → Copies (see marks o) (see (marks_of marks g') p) j d) (fine : StoreFine s (see marks o) m) (elements : ElementsFine s (see marks o) m → ElementsFine s (see (marks_of marks g') p) m) where
+  module _ (p : World) (g' : List Sight) (e : Later s (see marks o) m (see (marks_of marks g') p) m All) (copies : (j d : ℕ) → Other i j → Copies (see marks o) (see (marks_of marks g') p) j d) (fine : StoreFine s (see marks o) m) (elements : ElementsFine s (see marks o) m → ElementsFine s (see (marks_of marks g') p) m) (linkages : p.members ≡ o.members) where
     pub store_handed : StoreFine s (see (marks_of marks g') p) m
     store_handed = record {
       instances = λ j x lives. instance_later s (see marks o) m (see (marks_of marks g') p) m All e j x tt (fine.instances j x lives);
       elements = elements fine.elements;
       kept = kept_later s (see marks o) m (see (marks_of marks g') p) m All e (Other i) copies (λ j k. (refl, refl)) refl refl (λ j x is. standing_apart x) (others_kept marks.beneath m i rest top) fine.kept;
       noted = fine.noted;
+      members = subst (λ q. MembersFine s q m) (sym linkages) fine.members;
     }
 
     pub below_handed : (v : Waits) → ChainFine s (see marks o) m rest v → ChainFine s (see (marks_of marks g') p) m rest v
@@ -274,14 +284,14 @@ module _ (s : Source) (ok : Typed s) (l : Limits) (o : World) (marks : Marks) (l
     noted = marked marks (Some i)
 
     later_with : (c : List Held) (z : List Sight) (q : World) → Later s (see (marks_of marks z) q) m (see (marks_of noted z) q) (After c) All
-    later_with c z q = later_new s ok (see (marks_of marks z) q) m k (Some j) c Nobody X is solid (Some i)
+    later_with c z q = later_new s ok (see (marks_of marks z) q) m k (Some j) c Nobody X is solid (Some i) q.members
 
     -- one that takes arrays by reference is class-free
     passing : (c : List Held) → list_any is_held fs ≡ true → (is_given_at_end (After c) N ≡ true) × (slice_get noted.beneath N ≡ Some (Some i))
-    passing c held = (by_flag (is_class_free s k) refl, new_noted s ok (see marks o) m k (Some j) c Nobody X is solid (Some i) b.store)
+    passing c held = (by_flag (is_class_free s k) refl, new_noted s ok (see marks o) m k (Some j) c Nobody X is solid (Some i) o.members b.store)
       where
         by_flag : (f : Bool) → is_class_free s k ≡ f → is_given_at_end (After c) N ≡ true
-        by_flag true free = new_passes s ok (see marks o) m k (Some j) c Nobody X is solid (Some i) free
+        by_flag true free = new_passes s ok (see marks o) m k (Some j) c Nobody X is solid (Some i) o.members free
         by_flag false free = absurd (let none : list_any is_held fs ≡ false = ok.keeps_none k result h a is free in cc)
 
     handed : (c : List Held) → Handed s m (After c) i N top.before marks noted (later_with c) o marks.sights d P (λ z. (kk : ℕ) → ValsFine s z (After c) N kk (holds_of s fs) vs)
@@ -300,7 +310,7 @@ module _ (s : Source) (ok : Typed s) (l : Limits) (o : World) (marks : Marks) (l
     V = see G P
 
     abbrev V' : AllArrays
-    V' = on_top V (Some i)
+    V' = on_top V (Some i) V.members
 
     abbrev M : Instances
     M = After Cells
@@ -326,13 +336,17 @@ module _ (s : Source) (ok : Typed s) (l : Limits) (o : World) (marks : Marks) (l
     copies : (n y : ℕ) → Other i n → Copies (see marks o) V n y
     copies n y other q kd c' small copy = (handed Cells).copies n q kd c' (λ same. absurd (other same)) copy
 
+    linkages : P.members ≡ o.members
+    linkages = handed_members N (arrays_by_value fs vs) o
+
     store : StoreFine s V m
-    store = store_handed P (handed Cells).sights e copies b.store (handed Cells).elements
+    store = store_handed P (handed Cells).sights e copies b.store (handed Cells).elements linkages
 
     begun : Begun s V' M N k []
     begun =
-        begun_new s ok V m k (Some j) Cells Nobody X is solid (Some i) store tt (keys_alone s ok k (map key_of Cells) solid plain keys) fine
-        (inside_new s ok V m k (Some j) Cells Nobody X is solid (Some i) j u i refl stands (live_less m j whole.now whole.lives) refl (knows_near s V m store i j knows) store whole) [] made
+        begun_new s ok V m k (Some j) Cells Nobody X is solid (Some i) V.members store tt (keys_alone s ok k (map key_of Cells) solid plain keys) fine
+        (inside_new s ok V m k (Some j) Cells Nobody X is solid (Some i) V.members j u i refl stands (live_less m j whole.now whole.lives) refl (knows_near s V m store i j knows) store whole) [] made
+        (members_more s V.members m M k (more_new s ok V m k (Some j) Cells Nobody X is solid (Some i) V.members) (plain_no_linkage s ok k solid plain) store.members)
 
     chain : ChainFine s V m (Chain vs') (Takes g)
     chain = record {
@@ -347,7 +361,7 @@ module _ (s : Source) (ok : Typed s) (l : Limits) (o : World) (marks : Marks) (l
       hands = hands_later s (see marks o) m V m All e i tt left vs' (λ z kd c deep copy. (handed Cells).copies i z kd c (λ q. omega (arith, deep, less)) copy) hands;
       expected = given g left;
       expects = refl;
-      goes = work_later s (see marks o) m V m All e i t tt refl (rest ≡ []) (rest ≡ []) (λ q. q) (λ q. ChainFine s (see marks o) m rest q) (λ q. ChainFine s V m rest q) (below_handed P (handed Cells).sights e copies b.store (handed Cells).elements) w todo (given g left) work;
+      goes = work_later s (see marks o) m V m All e i t tt refl (rest ≡ []) (rest ≡ []) (λ q. q) (λ q. ChainFine s (see marks o) m rest q) (λ q. ChainFine s V m rest q) (below_handed P (handed Cells).sights e copies b.store (handed Cells).elements linkages) w todo (given g left) work;
     }
 
     pub procedure_goes : Goes (IsFine s) (procedure_entered s l o m i w vs' rest k line vs j (Some X))
@@ -356,9 +370,9 @@ module _ (s : Source) (ok : Typed s) (l : Limits) (o : World) (marks : Marks) (l
         had (IsFine s) (filled_behind result vs first) Cells o (λ c. entering l line (words_of_cells first) o (λ q. in_instance s (handed_over N ns q) (instances_kept s k (Chain vs') m) k (Some j) c (λ now. Do (Exec a) ∷ EndProcedure (has_result result) ∷ []) (Chain vs'))) (filled first).filled_is
         (enters (IsFine s) l line (words_of_cells first) o (λ q. in_instance s (handed_over N ns q) (instances_kept s k (Chain vs') m) k (Some j) Cells (λ now. Do (Exec a) ∷ EndProcedure (has_result result) ∷ []) (Chain vs')) (λ t' w'.
         subst (λ z. Goes (IsFine s) (in_instance s (handed_over N ns (ran o t' w')) z k (Some j) Cells (λ now. Do (Exec a) ∷ EndProcedure (has_result result) ∷ []) (Chain vs'))) (sym (not_kept k result h a is (Chain vs')))
-        (same_arrays P (handed_over N ns (ran o t' w')) _ (handed_same N ns o (ran o t' w') refl)
-        (enters_fine s ok P G (handed Cells).long m k (Some j) Cells Nobody [] tt (Do (Exec a) ∷ EndProcedure (has_result result) ∷ []) (Chain vs') store (chain_placed vs') (chain_headed vs') (inr refl) begun
-        ([], [], (refl, refl, refl, (k, own_site s V' M N k [] begun, typed_procedure.body)), (result, h, a, is, refl, g, gives, (None, stands_new m (new_instance s k (Some j) Cells) Nobody (top.placed).as_many), below_new s ok V m k (Some j) Cells Nobody X is solid (Some i) tt (Chain vs') (Takes g) chain))))))
+        (same_arrays P (handed_over N ns (ran o t' w')) _ (handed_same N ns o (ran o t' w') refl) (linkages ∙ sym (handed_members N ns (ran o t' w')))
+        (enters_fine s ok P G (handed Cells).long m k (Some j) Cells Nobody [] tt (Do (Exec a) ∷ EndProcedure (has_result result) ∷ []) (Chain vs') P store (chain_placed vs') (chain_headed vs') (inr refl) begun
+        ([], [], (refl, refl, refl, (k, own_site s V' M N k [] begun, typed_procedure.body)), (result, h, a, is, refl, g, gives, (None, stands_new m (new_instance s k (Some j) Cells) Nobody (top.placed).as_many), below_new s ok V m k (Some j) Cells Nobody X is solid (Some i) V.members tt (Chain vs') (Takes g) chain))))))
 
   pub called_goes : (k n line : ℕ) (todo : List DeclNo) (before behind : List Kinds) → CallOpFine s k n before behind → Begun s (see marks o) m i t todo → HandsFine s (see marks o) m i before vals → Work s o marks long m i t rest top w todo behind → Goes (IsFine s) (called s l o m i w vals rest k n line)
   called_goes k n line todo before behind c b h work =
@@ -384,62 +398,3 @@ module _ (s : Source) (ok : Typed s) (l : Limits) (o : World) (marks : Marks) (l
       formals_many : (fs : List Formal) → length (formal_kinds s fs) ≡ length fs
       formals_many [] = refl
       formals_many (f ∷ fs) = ap suc (formals_many fs)
-
--- ---- the program
-
-pub first_goes : (s : Source) (ok : Typed s) (l : Limits) (o : World) (marks : Marks) (long : length marks.sights ≡ length o.arrays) (m : Instances) → m.instances ≡ [] → m.standings ≡ [] → marks.sights ≡ [] → marks.beneath ≡ [] → Goes (IsFine s) (first_step s l o m)
-first_goes s ok l o marks long m none nobody unseen unnoted =
-    let zero_long : (length m.instances == 0) ≡ true = ap (λ z. length z == 0) none in
-    whens (IsFine s) (length m.instances == 0) o (program_entered s l o m (text s 0)) zero_long
-    (subst (λ z. Goes (IsFine s) (program_entered s l o m z)) (sym ok.starts)
-    (enters (IsFine s) l (line_at s ok.begin) (words_of_cells hs) o (λ p. in_instance s p m 0 None hs (λ now. Do PastOp ∷ block_work s now (length m.instances) ok.declarations ok.statements EndProgram) []) (λ t' w'.
-    enters_fine s ok o marks long m 0 None hs (NoObject None) (arrays_of_block s ok.declarations) tt (Do PastOp ∷ block_work s after_first (length m.instances) ok.declarations ok.statements EndProgram) [] store placed headed (inr refl) (block_begun s ok (see marks o) m 0 None ok.begin ok.declarations ok.statements ok.starts None store out)
-    (arrays_of_block s ok.declarations, [], (refl, refl), block_works s ok (see marks o) m 0 None ok.begin ok.declarations ok.statements ok.starts None store out (λ q. ChainFine s (on_top (see marks o) None) after_first [] q) ([] ≡ []) EndProgram ((None, stands_new m (new_instance s 0 None hs) (NoObject None) placed.as_many), refl)))))
-  where
-    nothing_seen : (a : ℕ) (x : Sight) → slice_get [] a ≡ Some x → ⊥
-    nothing_seen a x e = cc
-
-    nothing_kept : (j : ℕ) (x : Standing Activation) → slice_get [] j ≡ Some x → ⊥
-    nothing_kept j x e = cc
-
-    no_instance : (j : ℕ) (y : Instance (List Held)) → live m j ≡ Some y → ⊥
-    no_instance j y e = no_some (live m j) y (ap (λ z. instances.unless_given (slice_get z j)) none) e
-
-    store : StoreFine s (see marks o) m
-    store = record {
-      instances = λ j y e. absurd (no_instance j y e);
-      elements = λ a i it x p l is at. absurd (nothing_seen a x (sym (ap (λ z. slice_get z a) unseen) ∙ is));
-      kept = λ j x is. absurd (nothing_kept j x (sym (ap (λ z. slice_get z j) nobody) ∙ is));
-      noted = ap length unnoted ∙ sym (ap length none);
-    }
-
-    nowhere : (j : ℕ) → places m [] j ≡ 0
-    nowhere j = let none = ap (over_kept (times_on owner j)) nobody in omega (arith, none)
-
-    placed : Placed m []
-    placed = record {
-      once = λ j. (let gone = nowhere j in omega (arith, gone));
-      made = λ j less. nowhere j;
-      ended = λ j is. nowhere j;
-      all = λ j is. (let y = ending_there m j is in absurd (no_instance j y.0 y.1));
-      as_many = ap length nobody ∙ sym (ap length none);
-    }
-
-    nobody_at : (x : ℕ) → slice_index_or m.standings x (NoObject None) ≡ NoObject None
-    nobody_at x = ap (λ z. slice_index_or z x (NoObject None)) nobody
-
-    headed : Headed m []
-    headed = record {
-      outer = ap is_object (nobody_at 0);
-      resumed = λ x e. absurd (let none = nobody_at x in cc);
-      main = λ x main e. absurd (let none = nobody_at x in cc);
-    }
-
-    hs : List Held
-    hs = first_cells s 0 (BlockText ok.begin ok.declarations ok.statements)
-
-    after_first : Instances
-    after_first = entered m (new_instance s 0 None (first_cells s 0 (BlockText ok.begin ok.declarations ok.statements))) (NoObject None)
-
-    out : Enclosed s (on_top (see marks o) None) (entered m (new_instance s 0 None (first_cells s 0 (BlockText ok.begin ok.declarations ok.statements))) (NoObject None)) (length m.instances) 0 None
-    out = alone refl ok.outermost

@@ -1,5 +1,5 @@
 -- Trees are taken apart, and operators do what they do, in an instance.
-use Rattle.std.proofs.Common.{◌≡◌, ℕ, zero, suc, true, List, [], ◌∷◌, length, Option, Some, None, refl, sym, ap, ◌∙◌, subst}
+use Rattle.std.proofs.Common.{◌≡◌, ℕ, zero, suc, List, [], ◌∷◌, length, Option, Some, None, refl, sym, ap, ◌∙◌, subst}
 use Rattle.sim_base.specs.declared.numbering.DeclNo.{DeclNo}
 use Rattle.sim_scope.specs.declared.types.Formal.{Formal}
 use Rattle.sim_scope.specs.Access.{encloser}
@@ -9,10 +9,8 @@ use Rattle.sim_code.specs.Instances.{CellPlace, ImagePlace}
 use Rattle.sim_code.specs.Outcome.{World}
 use Rattle.sim_meaning.specs.Entries.{formals_of}
 use Rattle.sim_meaning.specs.Closing.{class_parameters}
-use Rattle.sim_meaning.specs.Pending.{Activation, Address, AttributeOf, AttributeOp, CallOf, CallOp, Cell, cell, Configuration, CopyOf, CopyOp, Do, Either, ElementOf, ElementOp, Eval, FetchOp, FitsOf, FitsOp, Further, Given, IfOp, ImageOf, Instances, Item, Joined, JoinOp, KeepOp, KeptOf, Link, MemberOf, MemberOp, NewOf, NewOp, NoTerm, NotNoneOf, NotNoneOp, ObjectOp, Of, One, OneOp, PlaceOf, PrefixedOp, QualifiedElementOf, QualifiedElementOp, QualifiedPlaceOf, QuaOf, QuaOp, RemoteCallOf, StandardOf, StandardOp, Term, Terms, TransferOf, TransferOp, Two, TwoOp, Unbuilt, Val, ValueAt}
-use Rattle.sim_meaning.specs.Levels.{has_levels}
+use Rattle.sim_meaning.specs.Pending.{SetOf, SetOp, Activation, Address, AttributeOf, AttributeOp, CallOf, CallOp, Cell, cell, Configuration, CopyOf, CopyOp, Do, Either, ElementOf, ElementOp, Eval, FetchOp, FitsOf, FitsOp, Further, Given, IfOp, ImageOf, Instances, Item, Joined, JoinOp, KeepOp, KeptOf, Link, MemberOf, MemberOp, NewOf, NewOp, NoTerm, NotNoneOf, NotNoneOp, ObjectOp, Of, One, OneOp, PlaceOf, PrefixedOp, QualifiedElementOf, QualifiedElementOp, QualifiedPlaceOf, QuaOf, QuaOp, RemoteCallOf, StandardOf, StandardOp, Term, Terms, TransferOf, TransferOp, Two, TwoOp, Unbuilt, Val, ValueAt}
 use Rattle.sim_meaning.specs.Steps.{count, each, eval, go}
-use Rattle.sim_meaning.specs.Texts.{text}
 use Rattle.sim_sound.specs.Held.{ArrayOf, Refers, Simply}
 use Rattle.sim_sound.specs.Typed.{Typed}
 use Rattle.sim_sound.proofs.Cells.{cell_found}
@@ -20,7 +18,7 @@ use Rattle.sim_sound.proofs.Lifts.{Goes, had}
 use Rattle.sim_sound.proofs.Fitting.{plain_val, val_fits}
 use Rattle.sim_sound.proofs.Moves.{placed_as}
 use Rattle.sim_sound.proofs.Running.{Begun, ChainFine, Fine, Operates, WorkFine, runs}
-use Rattle.sim_sound.proofs.Sound.{AddressOf, Component, Copied, GivesResult, HandsFine, ImageAddress, IntegersFine, Kinds, Lasting, LinkTo, Marks, OperandsFine, ProcedureIn, ReferenceAddress, Site, TermFine, TermsFine, Value, Waits, class_kinds, component_kind, formal_kinds, given, integers, onto, pushed, see, simple}
+use Rattle.sim_sound.proofs.Sound.{PrefixedAt, set_operands, AddressOf, Copied, GivesResult, HandsFine, ImageAddress, IntegersFine, Kinds, Lasting, LinkTo, Marks, OperandsFine, ProcedureIn, ReferenceAddress, Site, TermFine, TermsFine, Value, Waits, class_kinds, component_kind, formal_kinds, given, integers, onto, pushed, see, simple}
 use Rattle.sim_sound.proofs.Heads.{headed_as}
 
 -- the configurations that are fine
@@ -97,8 +95,8 @@ module _ (s : Source) (o : World) (g : Marks) (long : length g.sights ≡ length
       )
 
   -- the actual parameters of the prefix of a block
-  pub prefix_work : (k : ℕ) (ts : Terms) (line around : ℕ) (w : List Item) (ks : List Kinds) → Site s m i around → encloser s.tables k ≡ Some around → has_levels (text s k) ≡ true → TermsFine s m i t [] ts (class_kinds s (class_parameters s (Some k))) → Work w [] ks → Work (each ts (Do (PrefixedOp k (count ts) line) ∷ w)) [] ks
-  prefix_work k ts line around w ks site stands has actuals work =
+  pub prefix_work : (k : ℕ) (ts : Terms) (line around : ℕ) (w : List Item) (ks : List Kinds) → Site s m i around → encloser s.tables k ≡ Some around → PrefixedAt s k → TermsFine s m i t [] ts (class_kinds s (class_parameters s (Some k))) → Work w [] ks → Work (each ts (Do (PrefixedOp k (count ts) line) ∷ w)) [] ks
+  prefix_work k ts line around w ks site stands block actuals work =
       each_fine ts (class_kinds s (class_parameters s (Some k))) (Do (PrefixedOp k (count ts) line) ∷ w) [] ks actuals (
         [],
         ks,
@@ -109,7 +107,7 @@ module _ (s : Source) (o : World) (g : Marks) (long : length g.sights ≡ length
             around = around;
             site = site;
             stands_in = stands;
-            has = has;
+            block = block;
             «in» = refl;
             count = many ts (class_kinds s (class_parameters s (Some k))) [] actuals ∙ class_many (class_parameters s (Some k));
           },
@@ -280,11 +278,15 @@ module _ (s : Source) (o : World) (g : Marks) (long : length g.sights ≡ length
   eval_goes ok (NotNoneOf line x) r w vals todo ks b h a work =
       goes_on (Do (Eval x) ∷ Do (NotNoneOp line) ∷ w) vals todo ks b h (
         todo,
-        Value (Simply kind.Reference) ∷ ks,
-        (simple kind.Reference, a.1, refl, refl),
-        (todo, Component ∷ ks, (ks, refl, refl, refl), subst (λ z. Work w todo (given z ks)) (sym a.0) work),
+        Value a.0 ∷ ks,
+        (Some (Value a.0), a.4, refl, refl),
+        (todo, a.1 ∷ ks, (a.0, a.1, ks, a.2, refl, refl, refl), subst (λ z. Work w todo (given z ks)) (sym a.3) work),
       )
   eval_goes ok (TransferOf x line a) r w vals todo ks b h f work =
       goes_on (Do (Eval a) ∷ Do (TransferOp x line) ∷ w) vals todo ks b h
       (todo, component_kind x ∷ ks, (Some (component_kind x), f.1, refl, refl), (todo, ks, (refl, refl), subst (λ z. Work w todo (given z ks)) (sym f.0) work))
+  eval_goes ok (SetOf name ts) r w vals todo ks b h a work =
+      goes_on (each ts (Do (SetOp name) ∷ w)) vals todo ks b h
+      (each_fine ts (set_operands s name a.0) (Do (SetOp name) ∷ w) todo ks a.4
+      (todo, given r ks, (a.0, a.1, ks, a.2, refl, ap (λ z. given z ks) (sym a.3), refl), work))
   eval_goes ok Unbuilt r w vals todo ks b h a work = absurd a

@@ -8,7 +8,7 @@ use Rattle.sim_scope.specs.Source.{Source}
 use Rattle.sim_values.specs.declared.kind.Kind.{Kind}
 use Rattle.sim_values.specs.Plain.{Character, Integer, Nothing, Object, Plain, Text, Truth}
 use Rattle.sim_code.specs.Instances.{CellPlace, ElementPlace, ImagePlace, Instance, ends_in, is_given_at_end, live, unless_given}
-use Rattle.sim_meaning.specs.Pending.{Activation, Address, ArrayValue, AttributeOf, BackOp, BranchOp, CallOf, Cell, ChooseOp, ConnectOp, CopyOf, Declared, Do, Either, ElementOf, ElementsOp, EndBlock, EndLevel, EndObject, EndPrefixed, EndProcedure, EndProgram, EnterOp, Eval, Exec, Execs, FitsOf, Further, Given, GiveOp, Held, IfOp, ImageOf, InnerOp, Instances, Item, Joined, KeptOf, Key, Level, Link, MemberOf, NewOf, NoTerm, NotNoneOf, Of, One, Op, PlaceOf, PrefixedOp, ProcedureValue, QuaOf, QualifiedElementOf, QualifiedPlaceOf, RaiseOp, RemoteCallOf, ShareOp, StandardOf, StepTestOp, StoreOp, Target, Term, Terms, TestOp, ToAddress, ToCell, ToPlace, ToReference, ToReferenceAt, ToText, ToTextAt, ToTextOf, TransferOf, Tree, Two, Unbuilt, Val, ValueAt, WhenOp, WhileElementOp, held}
+use Rattle.sim_meaning.specs.Pending.{SetOf, Activation, Address, ArrayValue, AttributeOf, BackOp, BranchOp, CallOf, Cell, ChooseOp, ConnectOp, CopyOf, Declared, Do, Either, ElementOf, ElementsOp, EndBlock, EndLevel, EndObject, EndPrefixed, EndProcedure, EndProgram, EnterOp, Eval, Exec, Execs, FitsOf, Further, Given, GiveOp, Held, IfOp, ImageOf, InnerOp, Instances, Item, Joined, KeptOf, Key, Level, Link, MemberOf, NewOf, NoTerm, NotNoneOf, Of, One, Op, PlaceOf, PrefixedOp, ProcedureValue, QuaOf, QualifiedElementOf, QualifiedPlaceOf, RaiseOp, RemoteCallOf, ShareOp, StandardOf, StepTestOp, StoreOp, Target, Term, Terms, TestOp, ToAddress, ToCell, ToPlace, ToReference, ToReferenceAt, ToText, ToTextAt, ToTextOf, TransferOf, Tree, Two, Unbuilt, Val, ValueAt, WhenOp, WhileElementOp, held}
 use Rattle.sim_meaning.specs.Levels.{has_levels}
 use Rattle.sim_meaning.specs.Sane.{AllKept, AllOf, KeptOf as OnKept}
 use Rattle.sim_meaning.specs.Texts.{text}
@@ -16,7 +16,7 @@ use Rattle.sim_sound.specs.Held.{ArrayOf, Holds, Refers, Simply, key_holds}
 use Rattle.sim_sound.proofs.Lists.{there_is}
 use Rattle.sim_sound.proofs.Prefixes.{LevelOf}
 use Rattle.sim_sound.proofs.Running.{ActFine, ChainFine, ChainOn, Expected, IsRelease, NoObjectStands, ObjectStands, Shown, StandsFine, StandsOn, WorkFine, awaited, first_over, is_resumed, resumes}
-use Rattle.sim_sound.proofs.Sound.{AddressOf, AllArrays, ArrayFine, Beneath, CellFine, CellIs, CellTarget, CellsFine, Component, Copied, CopyFine, DeepFine, ElementFine, Enclosed, Generated, HandFine, HandsFine, ImageAddress, InstanceFine, IntegersFine, KeptFine, KeyAmong, Kinds, Knows, Lasting, LevelsFine, LinkTo, NamesObject, Near, ObjectOf, OpFine, OperandsFine, Outward, PlainFine, Present, ReferenceAddress, ReferenceFine, Site, Sited, StandsFor, Stays, StoreOpFine, Suspended, Takes, TargetFine, TargetsFine, TermFine, TermsFine, ValFine, Value, VariableFine, Waits, alone, array_stored, at_itself, connected, in_connection, in_instance, key_of, near_below, near_staying, no_further, one_lower, one_out, outward, own_made, own_text, staying, value_stored, within}
+use Rattle.sim_sound.proofs.Sound.{ObjectIn, AddressOf, AllArrays, ArrayFine, Beneath, CellFine, CellIs, CellTarget, CellsFine, Component, Copied, CopyFine, DeepFine, ElementFine, Enclosed, Generated, HandFine, HandsFine, ImageAddress, InstanceFine, IntegersFine, KeptFine, KeyAmong, Kinds, Knows, Lasting, LevelsFine, LinkTo, NamesObject, Near, ObjectOf, OpFine, OperandsFine, Outward, PlainFine, Present, ReferenceAddress, ReferenceFine, Site, Sited, StandsFor, Stays, StoreOpFine, Suspended, Takes, TargetFine, TargetsFine, TermFine, TermsFine, ValFine, Value, VariableFine, Waits, alone, array_stored, at_itself, connected, in_connection, in_instance, key_of, near_below, near_staying, no_further, one_lower, one_out, outward, own_made, own_text, staying, value_stored, within}
 
 -- an instance that is as it was, but for values of cells, and cells of connections that are new
 pub record Grown (x y : Instance (List Held)) : Type 0 where
@@ -218,6 +218,13 @@ module _ (s : Source) (o : AllArrays) (m : Instances) (o' : AllArrays) (m' : Ins
   hand_later j ok Component (Of (Character z)) a = absurd a
   hand_later j ok Component (Of (Text z)) a = absurd a
   hand_later j ok Component _ a = absurd a
+  hand_later j ok (ObjectIn c) (Of (Object n)) a = object_later n c a
+  hand_later j ok (ObjectIn c) (Of Nothing) a = absurd a
+  hand_later j ok (ObjectIn c) (Of (Integer z)) a = absurd a
+  hand_later j ok (ObjectIn c) (Of (Truth z)) a = absurd a
+  hand_later j ok (ObjectIn c) (Of (Character z)) a = absurd a
+  hand_later j ok (ObjectIn c) (Of (Text z)) a = absurd a
+  hand_later j ok (ObjectIn c) _ a = absurd a
 
   pub deep_later : (j : ℕ) → Apart j → (d : ℕ) → Copies o o' j (suc d) → (k : Kinds) (v : Val) → DeepFine s o m j d k v → DeepFine s o' m' j d k v
   deep_later j ok d c (Copied k) (ArrayValue a) f = c d k a (omega arith) f
@@ -233,6 +240,7 @@ module _ (s : Source) (o : AllArrays) (m : Instances) (o' : AllArrays) (m' : Ins
   deep_later j ok d c (LinkTo u) v f = hand_later j ok (LinkTo u) v f
   deep_later j ok d c (Lasting h) v f = hand_later j ok (Lasting h) v f
   deep_later j ok d c Component v f = hand_later j ok Component v f
+  deep_later j ok d c (ObjectIn k) v f = hand_later j ok (ObjectIn k) v f
 
   pub hands_later : (j : ℕ) → Apart j → (ks : List Kinds) (vs : List Val) → Copies o o' j (length vs) → HandsFine s o m j ks vs → HandsFine s o' m' j ks vs
   hands_later j ok [] [] c a = a
@@ -286,7 +294,8 @@ module _ (s : Source) (o : AllArrays) (m : Instances) (o' : AllArrays) (m' : Ins
       term_later todo (QuaOf c line x) g a = (a.0, term_later todo x _ a.1)
       term_later todo (FitsOf c line x) g a = (a.0, term_later todo x _ a.1)
       term_later todo (KeptOf x) g a = (a.0, a.1, term_later todo x _ a.2)
-      term_later todo (NotNoneOf line x) g a = (a.0, term_later todo x _ a.1)
+      term_later todo (NotNoneOf line x) g a = (a.0, a.1, a.2, a.3, term_later todo x _ a.4)
+      term_later todo (SetOf name ts) g a = (a.0, a.1, a.2, a.3, terms_later todo ts _ a.4)
       term_later todo (TransferOf z line x) g a = (a.0, term_later todo x _ a.1)
       term_later todo Unbuilt g a = absurd a
 
@@ -360,7 +369,7 @@ module _ (s : Source) (o : AllArrays) (m : Instances) (o' : AllArrays) (m' : Ins
     op_later (WhenOp arms other) todo todo' before behind a = (a.0, a.1, a.2, sited_later _ _ (λ u z. z) a.3)
     op_later (ChooseOp x y) todo todo' before behind a = (a.0, a.1, a.2, sited_later _ _ (λ u z. z) a.3)
     op_later (TestOp c x) todo todo' before behind a = (a.0, a.1, a.2, sited_later _ _ (λ u z. z) a.3)
-    op_later (PrefixedOp k n line) todo todo' before behind a = let p = a.2 in (a.0, a.1, record { around = p.around; site = site_later p.around p.site; stands_in = p.stands_in; has = p.has; «in» = p.«in»; count = p.count })
+    op_later (PrefixedOp k n line) todo todo' before behind a = let p = a.2 in (a.0, a.1, record { around = p.around; site = site_later p.around p.site; stands_in = p.stands_in; block = p.block; «in» = p.«in»; count = p.count })
     op_later _ todo todo' before behind a = a
 
     pub work_later : resumes m' j ≡ resumes m j → (Outermost Outermost' : Type 0) → (Outermost → Outermost') → (Below Below' : Waits → Type 0) → ((v : Waits) → Below v → Below' v) → (w : List Item) (todo : List DeclNo) (before : List Kinds) → WorkFine s o m Below Outermost j t w todo before → WorkFine s o' m' Below' Outermost' j t w todo before

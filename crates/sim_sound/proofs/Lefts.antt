@@ -26,7 +26,7 @@ use Rattle.sim_meaning.specs.Attributes.{attribute_place, connected_object, conn
 use Rattle.sim_meaning.specs.Closing.{Left, LeftAddress, LeftCell, LeftReference, LeftText, LeftUnbuilt, array_left, array_place, block_if, close, close_all, close_left_of, close_place, declared_left, declared_place, formal_left, formal_place, home_of, image_place, in_instance, left_found, left_in, left_variable, named_left, named_place, own_block, own_block_denoted, own_result, reference_place, result_left, result_meant, result_or, result_place, stream_of, unless_connected, variable_left, variable_place}
 use Rattle.sim_meaning.specs.Levels.{has_levels}
 use Rattle.sim_values.specs.Standard.{row_of}
-use Rattle.sim_meaning.specs.Pending.{AttributeOf, CallOf, Cell, CopyOf, Declared, Either, ElementOf, FitsOf, Given, ImageOf, Instances, Joined, KeptOf, MemberOf, NewOf, NoTerm, NotNoneOf, One, PlaceOf, QualifiedElementOf, QualifiedPlaceOf, QuaOf, RemoteCallOf, Result, StandardOf, Term, Terms, TransferOf, Two, Unbuilt, ValueAt}
+use Rattle.sim_meaning.specs.Pending.{SetOf, AttributeOf, CallOf, Cell, CopyOf, Declared, Either, ElementOf, FitsOf, Given, ImageOf, Instances, Joined, KeptOf, MemberOf, NewOf, NoTerm, NotNoneOf, One, PlaceOf, QualifiedElementOf, QualifiedPlaceOf, QuaOf, RemoteCallOf, Result, StandardOf, Term, Terms, TransferOf, Two, Unbuilt, ValueAt}
 use Rattle.sim_meaning.specs.Texts.{ProcedureText, text}
 use Rattle.sim_sound.specs.Held.{ArrayOf, Around, Holds, In, Refers, Sees, Simply, declared_holds, entry_holds, formal_holds, held_by, result_holds}
 use Rattle.sim_sound.specs.Expressions.{AreIntegers, ExprIs, KnownAt, ObjectHas, some_holds, standard_kind}
@@ -36,7 +36,7 @@ use Rattle.sim_sound.proofs.Attributes.{held_plain, holds_result, left_known, le
 use Rattle.sim_sound.proofs.Closing.{attribute_lies, expr_fine, integers_fine, lies_at, target_of, value_no_stream}
 use Rattle.sim_sound.proofs.Reach.{Reaches, ReachesText, key_of_result, reaches_in, text_in}
 use Rattle.sim_sound.proofs.Running.{StoreFine}
-use Rattle.sim_sound.proofs.Sound.{AddressOf, AllArrays, CellTarget, Component, Copied, held_kinds, in_instance as at_cell, IntegersFine, IsPlain, KeyAmong, keys_in, Kinds, Lasting, ReferenceAddress, simple, TermFine, Value, Whole}
+use Rattle.sim_sound.proofs.Sound.{ShowsObject, ObjectIn, AddressOf, AllArrays, CellTarget, Component, Copied, held_kinds, in_instance as at_cell, IntegersFine, IsPlain, KeyAmong, keys_in, Kinds, Lasting, ReferenceAddress, simple, TermFine, Value, Whole}
 
 -- ---- places are no choices
 
@@ -337,8 +337,10 @@ module _ (s : Source) (ok : Typed s) (o : AllArrays) (m : Instances) (store : St
   lasting_no : (h g : Holds) → Some (Lasting h) ≡ Some (AddressOf g) → ⊥
   lasting_no h g e = cc
 
-  component_no : (g : Holds) → Some Component ≡ Some (AddressOf g) → ⊥
-  component_no g e = cc
+  shown_no : (h : Holds) (x : Kinds) → ShowsObject s h x → (g : Holds) → Some x ≡ Some (AddressOf g) → ⊥
+  shown_no h Component is g e = cc
+  shown_no h (ObjectIn k) is g e = cc
+  shown_no h _ is g e = absurd is
 
   none_no : (g : Holds) → None ≡ Some (AddressOf g) → ⊥
   none_no g e = cc
@@ -383,7 +385,8 @@ module _ (s : Source) (ok : Typed s) (o : AllArrays) (m : Instances) (store : St
   qualified_fine c (QuaOf k line x) n a = let y = a.0 in absurd (value_no y.0 (Refers c) y.2)
   qualified_fine c (FitsOf k line x) n a = let y = a.0 in absurd (value_no y.0 (Refers c) y.2)
   qualified_fine c (KeptOf x) n a = absurd (lasting_no a.0 (Refers c) a.1)
-  qualified_fine c (NotNoneOf line x) n a = absurd (component_no (Refers c) a.0)
+  qualified_fine c (NotNoneOf line x) n a = absurd (shown_no a.0 a.1 a.2 (Refers c) a.3)
+  qualified_fine c (SetOf name ts) n a = absurd (held_no a.1 (Refers c) a.3)
   qualified_fine c (TransferOf y line x) n a = absurd (none_no (Refers c) a.0)
 
   place_held_at : (e : Expression) (h : Holds) → PlaceIs s u e h → TermFine s m i t [] (close_place s m i e) (Some (AddressOf h))

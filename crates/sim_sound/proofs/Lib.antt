@@ -5,6 +5,8 @@ pub mod Sound
 pub mod Running
 pub mod Later
 pub mod Lists
+pub mod SetLists
+pub mod Members
 pub mod Changes
 pub mod Moves
 pub mod Lifts
@@ -33,7 +35,10 @@ pub mod Handing
 pub mod ArrayWork
 pub mod Entering
 pub mod ClassLevels
+pub mod LevelWork
 pub mod Objects
+pub mod Beginning
+pub mod SetWork
 pub mod Heads
 pub mod Chains
 pub mod Standings
@@ -44,4 +49,5 @@ pub mod Examples
 pub mod ClassExamples
 pub mod PrefixExamples
 pub mod BlockExamples
+pub mod SetExamples
 pub mod WorkedPrograms

@@ -1,5 +1,5 @@
 -- Lists read place by place.
-use Rattle.std.proofs.Common.{◌≡◌, ◌≢◌, ℕ, zero, suc, ◌<◌, Bool, true, false, List, [], ◌∷◌, ◌++◌, length, Option, Some, None, refl, ap, arith}
+use Rattle.std.proofs.Common.{◌≡◌, ◌≢◌, ℕ, zero, suc, ◌<◌, Bool, true, false, List, [], ◌∷◌, ◌++◌, length, Option, Some, None, ◌⊎◌, inl, inr, ⊎_elim, refl, ap, arith}
 use Rattle.std.specs.Prelude.{◌==◌, if◌then◌else◌, slice_get, slice_set}
 
 pub set_len : {A : Type 0} (xs : List A) (i : ℕ) (v : A) → length (slice_set xs i v) ≡ length xs
@@ -60,3 +60,13 @@ if_true false x y e = absurd (cc)
 pub if_false : {A : Type 0} (b : Bool) (x y : A) → b ≡ false → (if b then x else y) ≡ y
 if_false true x y e = absurd (cc)
 if_false false x y e = refl
+
+pub one_longer : {A : Type 0} (xs : List A) (x : A) → length (xs ++ x ∷ []) ≡ suc (length xs)
+one_longer [] x = refl
+one_longer (y ∷ xs) x = ap suc (one_longer xs x)
+
+pub old_or_new : {A : Type 0} (xs : List A) (y : A) (j : ℕ) (x : A) → slice_get (xs ++ y ∷ []) j ≡ Some x → (slice_get xs j ≡ Some x) ⊎ ((j ≡ length xs) × (y ≡ x))
+old_or_new [] y zero x e = inr (refl, same_some (Some y) y x refl e)
+old_or_new [] y (suc j) x e = absurd (cc)
+old_or_new (z ∷ xs) y zero x e = inl e
+old_or_new (z ∷ xs) y (suc j) x e = ⊎_elim (λ old. inl old) (λ new. inr (ap suc new.0, new.1)) (old_or_new xs y j x e)

@@ -6,6 +6,7 @@ use Rattle.sim_chains.specs.Chains.{once_if, times_above, times_on}
 use Rattle.sim_chains.specs.Components.{AttachedObject, DetachedObject, NoObject, ResumedObject, Standing, TerminatedObject, standing_of}
 use Rattle.sim_chains.specs.WellFormed.{chain_in, is_object, over_kept, times_above_in}
 use Rattle.sim_scope.specs.Source.{Source}
+use Rattle.simset.specs.Instances.{Memberships}
 use Rattle.sim_code.specs.Outcome.{ArrayOf as OneArray, World}
 use Rattle.sim_code.specs.Arrays.{given_with, giving_back, goes_with, unless_given}
 use Rattle.sim_code.specs.Instances.{Instance, encloser_in, encloser_of, ends_in, entered, given, given_in, is_given_at_end, live, system_head, with_instance}
@@ -20,12 +21,9 @@ use Rattle.sim_sound.proofs.Heads.{given_encloser, headed_first, headed_left, he
 use Rattle.sim_sound.proofs.Running.{ChainFine, Headed, NoObjectStands, ObjectStands, Operates, Placed, StandsFine, StandsOn, StoreFine, first_of, is_resumed, parts, places}
 use Rattle.sim_sound.proofs.Sound.{AllArrays, ArrayFine, Beneath, CellsFine, Enclosed, InstanceFine, KeyAmong, Knows, Marks, Near, Outward, Sight, Stays, ValFine, Waits, alone, at_itself, elements_of, key_of, near_below, near_staying, no_further, one_lower, one_out, outward, see, staying, within}
 use Rattle.sim_sound.proofs.Changes.{array_there, cells_set, held_stays, keys_set}
-use Rattle.sim_sound.proofs.Later.{All, Copies, Grown, Later, Steady, StillThere, as_it_was, cells_later, enclosed_later, flags_grown, instance_later, kept_all, kept_later, live_less, near_later, plain_later, standing_apart, standing_later, steady_same}
-use Rattle.sim_sound.proofs.Lists.{append_at, append_before, if_false, no_some, other_numbers, same_some, set_len, set_other, set_same, there_is}
-
-pub one_longer : {A : Type 0} (xs : List A) (x : A) → length (xs ++ x ∷ []) ≡ suc (length xs)
-one_longer [] x = refl
-one_longer (y ∷ xs) x = ap suc (one_longer xs x)
+use Rattle.sim_sound.proofs.Members.{MembersFine, OneMore, members_later}
+use Rattle.sim_sound.proofs.Later.{All, Copies, Grown, Later, Steady, StillThere, as_it_was, cells_later, enclosed_later, flags_grown, instance_later, kept_all, kept_later, live_less, near_later, object_later, plain_later, standing_apart, standing_later, steady_same}
+use Rattle.sim_sound.proofs.Lists.{append_at, append_before, if_false, no_some, old_or_new, one_longer, other_numbers, same_some, set_len, set_other, set_same, there_is}
 
 -- ---- an instance that is there
 
@@ -249,8 +247,16 @@ module _ (s : Source) (o : AllArrays) (m : Instances) (e : ℕ) (y : Instance (L
     elements = λ a i it x p l k at. plain_later s o m o set_in All later_cells (elements_of x) p (store.elements a i it x p l k at);
     kept = kept_all s o m o set_in later_cells refl refl (λ j d e h a less f. f) store.kept;
     noted = store.noted ∙ sym (set_len m.instances e other);
+    members = members_later s o.members m set_in (record { objects = λ j c a. object_later s o m o set_in All later_cells j c a; more = (let n = set_len m.instances e other in omega (arith, n)); texts = texts }) store.members;
   }
     where
+      texts : (j : ℕ) (x : Instance (List Held)) → live set_in j ≡ Some x → (z : Instance (List Held)) × (live m j ≡ Some z) × (z.text ≡ x.text)
+      texts j x now =
+          ⊎_elim
+          (λ same. (y, ap (live m) same ∙ lives, ap (λ z. z.text) (same_some (live set_in j) other x (ap (live set_in) same ∙ set_lives) now)))
+          (λ differ. (x, sym (elsewhere j differ) ∙ now, refl))
+          (cases_eq j e)
+
       each : (j : ℕ) (x : Instance (List Held)) → live set_in j ≡ Some x → InstanceFine s o set_in j x
       each j x now = ⊎_elim here there (cases_eq j e)
         where
@@ -295,12 +301,6 @@ module _ (s : Source) (o : AllArrays) (m : Instances) (e : ℕ) (y : Instance (L
   same_cell = same_cells s o m e y lives cells set_keys set_holds
 
 -- ---- one instance more
-
-old_or_new : {A : Type 0} (xs : List A) (y : A) (j : ℕ) (x : A) → slice_get (xs ++ y ∷ []) j ≡ Some x → (slice_get xs j ≡ Some x) ⊎ ((j ≡ length xs) × (y ≡ x))
-old_or_new [] y zero x e = inr (refl, same_some (Some y) y x refl e)
-old_or_new [] y (suc j) x e = absurd (cc)
-old_or_new (z ∷ xs) y zero x e = inl e
-old_or_new (z ∷ xs) y (suc j) x e = ⊎_elim (λ old. inl old) (λ new. inr (ap suc new.0, new.1)) (old_or_new xs y j x e)
 
 -- how an instance begins: as an attached object, or as none
 abbrev pub Begins : Standing Activation → Type 0
@@ -352,14 +352,14 @@ once_at_most : (b : Bool) → once_if b ≤ 1
 once_at_most true = omega arith
 once_at_most false = omega arith
 
--- on top of which instance it was entered
-abbrev pub on_top : AllArrays → Option ℕ → AllArrays
-on_top o u = record o { beneath = o.beneath ++ u ∷ [] }
+-- on top of which instance it was entered, and the linkages then
+abbrev pub on_top : AllArrays → Option ℕ → Memberships → AllArrays
+on_top o u b = record o { beneath = o.beneath ++ u ∷ []; members = b }
 
 abbrev pub marked : Marks → Option ℕ → Marks
 marked g u = record g { beneath = g.beneath ++ u ∷ [] }
 
-module _ (s : Source) (o : AllArrays) (m : Instances) (y : Instance (List Held)) (z : Standing Activation) (u : Option ℕ) where
+module _ (s : Source) (o : AllArrays) (m : Instances) (y : Instance (List Held)) (z : Standing Activation) (u : Option ℕ) (b : Memberships) where
   abbrev after : Instances
   after = entered m y z
 
@@ -368,49 +368,58 @@ module _ (s : Source) (o : AllArrays) (m : Instances) (y : Instance (List Held))
       let w = instance_there (slice_get after.instances j) x e in
       ⊎_elim (λ old. inl (instance_lives (slice_get m.instances j) x old w.1)) (λ new. inr new) (old_or_new m.instances y j x w.0)
 
-  still_noted : (j : ℕ) (x : Option ℕ) → slice_get o.beneath j ≡ Some x → slice_get (on_top o u).beneath j ≡ Some x
+  still_noted : (j : ℕ) (x : Option ℕ) → slice_get o.beneath j ≡ Some x → slice_get (on_top o u b).beneath j ≡ Some x
   still_noted j x e = append_before o.beneath u j (there_is o.beneath j x e) ∙ e
 
   still_there : (j : ℕ) (x : Instance (List Held)) → live m j ≡ Some x → StillThere after j x
   still_there j x lives = record { now = x; lives = ap instances.unless_given (append_before m.instances y j (live_less m j x lives)) ∙ lives; grown = as_it_was x }
 
-  pub later_entered : Later s o m (on_top o u) after All
+  pub later_entered : Later s o m (on_top o u b) after All
   later_entered =
-      later_instances s o (on_top o u) m after refl refl still_noted still_there
+      later_instances s o (on_top o u b) m after refl refl still_noted still_there
       (λ j a. (a.0, append_before m.standings z j (there_is m.standings j a.0 a.1) ∙ a.1, a.2))
       (λ j a. (a.0, append_before m.standings z j (there_is m.standings j (NoObject a.0) a.1) ∙ a.1))
 
-  pub copies_entered : (j d : ℕ) → Copies o (on_top o u) j d
-  copies_entered = still_copies s o (on_top o u) m after refl refl still_noted still_there
+  pub copies_entered : (j d : ℕ) → Copies o (on_top o u b) j d
+  copies_entered = still_copies s o (on_top o u b) m after refl refl still_noted still_there
 
-  pub steady_entered : Begins z → (j : ℕ) → Steady o m (on_top o u) after j
+  pub steady_entered : Begins z → (j : ℕ) → Steady o m (on_top o u b) after j
   steady_entered begins j = (refl, resumed_more m.standings z begins j)
 
-  pub store_entered : StoreFine s o m → InstanceFine s (on_top o u) after (length m.instances) y → Begins z → StoreFine s (on_top o u) after
-  store_entered store f begins = record {
+  pub store_entered : StoreFine s o m → InstanceFine s (on_top o u b) after (length m.instances) y → Begins z → MembersFine s b after → StoreFine s (on_top o u b) after
+  store_entered store f begins members = record {
     instances = λ j x e.
         ⊎_elim
-        (λ old. instance_later s o m (on_top o u) after All later_entered j x tt (store.instances j x old))
-        (λ new. subst (λ z. InstanceFine s (on_top o u) after z x) (sym new.0) (subst (λ z. InstanceFine s (on_top o u) after (length m.instances) z) new.1 f))
+        (λ old. instance_later s o m (on_top o u b) after All later_entered j x tt (store.instances j x old))
+        (λ new. subst (λ z. InstanceFine s (on_top o u b) after z x) (sym new.0) (subst (λ z. InstanceFine s (on_top o u b) after (length m.instances) z) new.1 f))
         (was_or_is j x e);
-    elements = λ a i it x p l k at. plain_later s o m (on_top o u) after All later_entered (elements_of x) p (store.elements a i it x p l k at);
+    elements = λ a i it x p l k at. plain_later s o m (on_top o u b) after All later_entered (elements_of x) p (store.elements a i it x p l k at);
     kept = λ j x e.
         ⊎_elim
-        (λ old. standing_later s o m (on_top o u) after All later_entered All (λ i d k. copies_entered i d) (λ i k. steady_entered begins i) j x refl (standing_apart x) (standing_apart x) (store.kept j x old))
-        (λ new. subst (StandsFine s (on_top o u) after j) new.1 (begins_fine s (on_top o u) after j z begins))
+        (λ old. standing_later s o m (on_top o u b) after All later_entered All (λ i d k. copies_entered i d) (λ i k. steady_entered begins i) j x refl (standing_apart x) (standing_apart x) (store.kept j x old))
+        (λ new. subst (StandsFine s (on_top o u b) after j) new.1 (begins_fine s (on_top o u b) after j z begins))
         (old_or_new m.standings z j x e);
     noted = one_longer o.beneath u ∙ ap suc store.noted ∙ sym (one_longer m.instances y);
+    members = members;
+  }
+
+  -- one instance more, and the objects are there as before
+  pub one_more : OneMore s m after y.text
+  one_more = record {
+    objects = λ j c a. object_later s o m (on_top o u b) after All later_entered j c a;
+    count = one_longer m.instances y;
+    texts = λ j x e. ⊎_elim (λ old. inl old) (λ new. inr (new.0, ap (λ w. w.text) new.1)) (was_or_is j x e);
   }
 
   pub new_standing : (j : ℕ) → j ≡ length m.instances → length m.standings ≡ length m.instances → slice_get after.standings j ≡ Some z
   new_standing j same many = ap (slice_get after.standings) (same ∙ sym many) ∙ append_at m.standings z
 
   -- the new one knows what the one below it has near
-  pub near_new : (i e : ℕ) → StoreFine s o m → u ≡ Some i → is_given_at_end after (length m.instances) ≡ true → Near o m i e → Near (on_top o u) after (length m.instances) e
-  near_new i e store is ends near = near_then (on_top o u) after (length m.instances) i e (near_below (one_lower ends (noted_new ∙ ap Some is) at_itself)) (near_later s o m (on_top o u) after All later_entered i e tt near)
+  pub near_new : (i e : ℕ) → StoreFine s o m → u ≡ Some i → is_given_at_end after (length m.instances) ≡ true → Near o m i e → Near (on_top o u b) after (length m.instances) e
+  near_new i e store is ends near = near_then (on_top o u b) after (length m.instances) i e (near_below (one_lower ends (noted_new ∙ ap Some is) at_itself)) (near_later s o m (on_top o u b) after All later_entered i e tt near)
     where
-      noted_new : slice_get (on_top o u).beneath (length m.instances) ≡ Some u
-      noted_new = ap (slice_get (on_top o u).beneath) (sym store.noted) ∙ append_at o.beneath u
+      noted_new : slice_get (on_top o u b).beneath (length m.instances) ≡ Some u
+      noted_new = ap (slice_get (on_top o u b).beneath) (sym store.noted) ∙ append_at o.beneath u
 
   -- the heads of the resumed objects are the same
   there_still : StoreFine s o m → length m.standings ≡ length m.instances → (x : ℕ) → standing_of (parts m []) x ≡ ResumedObject → system_head after x ≡ system_head m x
@@ -443,7 +452,7 @@ module _ (s : Source) (o : AllArrays) (m : Instances) (y : Instance (List Held))
         record { object = r.object; resumed = more_new m.standings z ResumedObject r.object (λ q. cc) r.resumed; its_head = there_still store many r.object r.resumed ∙ r.its_head });
   }
 
-  pub operates_entered : (chain : List Activation) → u ≡ first_of chain → StoreFine s o m → Placed m chain → Headed m chain → (0 < length m.standings) ⊎ (z ≡ NoObject None) → Begins z → Operates (on_top o u).beneath after (length m.instances) chain
+  pub operates_entered : (chain : List Activation) → u ≡ first_of chain → StoreFine s o m → Placed m chain → Headed m chain → (0 < length m.standings) ⊎ (z ≡ NoObject None) → Begins z → Operates (on_top o u b).beneath after (length m.instances) chain
   operates_entered chain is store a headed first begins =
       let noted = store.noted in
       let n = one_longer m.instances y in
@@ -451,7 +460,7 @@ module _ (s : Source) (o : AllArrays) (m : Instances) (y : Instance (List Held))
       λ j. (let more = kept_more (times_on owner j) m.standings z (ap (times_on owner j) (begins_empty z begins)) in omega (arith, more)) in
       record {
         before = omega (arith, n);
-        on = λ ends. ap (slice_get (on_top o u).beneath) (sym noted) ∙ append_at o.beneath u ∙ ap Some is;
+        on = λ ends. ap (slice_get (on_top o u b).beneath) (sym noted) ∙ append_at o.beneath u ∙ ap Some is;
         placed = record {
           once = λ j.
               (let c = counted j in
@@ -599,6 +608,11 @@ module _ (s : Source) (o : AllArrays) (m : Instances) (i : ℕ) (store : StoreFi
     elements = λ a k it x p l is at. plain_later s o m (given_view i o) (given m i) Apart later_given (elements_of x) p (store.elements a k it x p (given_lived o.real i a it l) is at);
     kept = kept_later s o m (given_view i o) (given m i) Apart later_given Apart copies_given (λ j k. steady_same o m (given_view i o) (given m i) (kept_given m i (slice_get m.instances i)) refl j) (kept_given m i (slice_get m.instances i)) refl others others store.kept;
     noted = store.noted ∙ sym (given_len m i (slice_get m.instances i));
+    members = members_later s o.members m (given m i) (record {
+      objects = λ j c a. object_later s o m (given_view i o) (given m i) Apart later_given j c a;
+      more = (let n = given_len m i (slice_get m.instances i) in omega (arith, n));
+      texts = λ j x e. (let was = live_given j x e in (x, was.1, refl));
+    }) store.members;
   }
 
   pub placed_given : (b : List (Option ℕ)) (rest : List Activation) → Operates b m i rest → Placed (given m i) rest

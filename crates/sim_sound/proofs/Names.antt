@@ -19,14 +19,15 @@ use Rattle.sim_code.specs.Events.{computing, having, only_text, performing, pop_
 use Rattle.sim_code.specs.Instances.{CellPlace, ElementPlace, ImagePlace}
 use Rattle.sim_code.specs.Outcome.{Run, World}
 use Rattle.sim_code.specs.Running.{name_runs}
+use Rattle.sim_code.specs.Sets.{is_set_name}
 use Rattle.sim_meaning.specs.Pending.{Address, ArrayValue, Configuration, Instances, Link, Of, ProcedureValue, Tree, Val, cell}
 use Rattle.sim_meaning.specs.Steps.{of_plain, operand, plain_in, put_back}
 use Rattle.sim_sound.specs.Held.{ArrayOf, Holds, Refers, Simply}
-use Rattle.sim_sound.specs.Expressions.{standard_kind}
+use Rattle.sim_sound.specs.Expressions.{DoneAlone, standard_kind}
 use Rattle.sim_sound.proofs.Cells.{target_cell, val_up}
 use Rattle.sim_sound.proofs.Constants.{NoReference}
 use Rattle.sim_sound.proofs.Running.{StoreFine}
-use Rattle.sim_sound.proofs.Sound.{AddressOf, Component, Copied, DeepFine, ElementFine, HandFine, HandsFine, ImageAddress, IsImage, Kinds, Lasting, LinkTo, Marks, Open, OperandIs, OperandsAre, PlainFine, ReferenceAddress, ValFine, Value, pushed, see}
+use Rattle.sim_sound.proofs.Sound.{ObjectIn, AddressOf, Component, Copied, DeepFine, ElementFine, HandFine, HandsFine, ImageAddress, IsImage, Kinds, Lasting, LinkTo, Marks, Open, OperandIs, OperandsAre, PlainFine, ReferenceAddress, ValFine, Value, pushed, see}
 use Rattle.sim_sound.proofs.Lifts.{Goes, Shape, a_char, a_text, an_int, any_popped, computed, had, ran, shape, took}
 use Rattle.sim_sound.proofs.Lists.{equal_numbers, there_get}
 use Rattle.sim_sound.proofs.Moves.{knows_near}
@@ -132,50 +133,50 @@ AllFine k elsewhere = ⊥
 abbrev RowIs : Standard → Type 0
 RowIs n = AllFine (standard_kind (row_of n).result) (row_of n).function
 
-row_is : (n : Standard) → name_runs n ≡ true → RowIs n
+row_is : (n : Standard) → name_runs n ≡ true → is_set_name n ≡ false → RowIs n
 unfolding row_of
-row_is name.Abs e = λ i s. stays (valued_is ℤ Integer kind.Integer _ (λ a. (refl, tt))) refl
-row_is name.Sign e = λ i s. stays (gives_is kind.Integer _ (refl, tt)) refl
-row_is name.Min e = λ i j s. stays (gives_is kind.Integer _ (refl, tt)) refl
-row_is name.Max e = λ i j s. stays (gives_is kind.Integer _ (refl, tt)) refl
-row_is name.Mod e = λ i j s. stays (valued_is ℤ Integer kind.Integer _ (λ a. (refl, tt))) refl
-row_is name.Rem e = λ i j s. stays (valued_is ℤ Integer kind.Integer _ (λ a. (refl, tt))) refl
-row_is name.Maxint e = λ s. stays (gives_is kind.Integer _ (refl, tt)) refl
-row_is name.Minint e = λ s. stays (gives_is kind.Integer _ (refl, tt)) refl
-row_is name.Char e = λ i s. stays (valued_is ℕ Character kind.Character _ (λ a. (refl, tt))) refl
-row_is name.Rank e = λ c s. stays (gives_is kind.Integer _ (refl, tt)) refl
-row_is name.Isochar e = λ i s. stays (valued_is ℕ Character kind.Character _ (λ a. (refl, tt))) refl
-row_is name.Isorank e = λ c s. stays (gives_is kind.Integer _ (refl, tt)) refl
-row_is name.Digit e = λ c s. stays (gives_is kind.Boolean _ (refl, tt)) refl
-row_is name.Letter e = λ c s. stays (gives_is kind.Boolean _ (refl, tt)) refl
-row_is name.Blanks e = λ i s. stays (valued_is TextVal Text kind.Text _ (λ a. (refl, tt))) refl
-row_is name.Copy e = λ t s. stays (valued_is TextVal Text kind.Text (copy s.frames t).answer (λ a. (refl, tt))) refl
-row_is name.Upcase e = λ t s. stays (valued_is TextVal Text kind.Text _ (λ a. (refl, tt))) refl
-row_is name.Lowcase e = λ t s. stays (valued_is TextVal Text kind.Text _ (λ a. (refl, tt))) refl
-row_is name.TextConstant e = λ t s. stays (gives_is kind.Boolean _ (refl, tt)) refl
-row_is name.TextStart e = λ t s. stays (gives_is kind.Integer _ (refl, tt)) refl
-row_is name.TextLength e = λ t s. stays (gives_is kind.Integer _ (refl, tt)) refl
-row_is name.TextPos e = λ t s. stays (gives_is kind.Integer _ (refl, tt)) refl
-row_is name.TextMore e = λ t s. stays (gives_is kind.Boolean _ (refl, tt)) refl
-row_is name.TextMain e = λ t s. stays (gives_is kind.Text _ (refl, tt)) refl
-row_is name.TextSetpos e = λ t i s. moves_fine None unvalued t (setpos s.frames t i) s (unvalued_is (setpos s.frames t i).answer) (same_moved t i)
-row_is name.TextGetchar e = λ t s. moves_fine (Some kind.Character) (valued Character) t (getchar s.frames t) s (valued_is ℕ Character kind.Character _ (λ a. (refl, tt))) (same_unless (getchar_refusal t) s.frames t _ (same_self t))
-row_is name.TextPutchar e = λ t c s. moves_fine None unvalued t (putchar s.frames t c) s (unvalued_is _) (same_unless (putchar_refusal s.frames t) s.frames t _ (same_self t))
-row_is name.TextSub e = λ t i j s. stays (valued_is TextVal Text kind.Text _ (λ a. (refl, tt))) refl
-row_is name.TextStrip e = λ t s. stays (gives_is kind.Text _ (refl, tt)) refl
-row_is name.TextGetint e = λ t s. moves_fine (Some kind.Integer) (valued Integer) t (getint s.frames t) s (valued_is ℤ Integer kind.Integer _ (λ a. (refl, tt))) (same_taken s.frames t (integer_item (characters s.frames t)))
-row_is name.TextPutint e = λ t i s. moves_fine None unvalued t (putint s.frames t i) s (unvalued_is _) (same_unless (putint_refusal s.frames t) s.frames t _ (same_self t))
-row_is name.Inimage e = λ s. stays (unvalued_is _) refl
-row_is name.Inchar e = λ s. stays (valued_is ℕ Character kind.Character _ (λ a. (refl, tt))) refl
-row_is name.Inint e = λ s. stays (valued_is ℤ Integer kind.Integer _ (λ a. (refl, tt))) refl
-row_is name.Intext e = λ i s. stays (valued_is TextVal Text kind.Text _ (λ a. (refl, tt))) refl
-row_is name.Lastitem e = λ s. stays (valued_is Bool Truth kind.Boolean _ (λ a. (refl, tt))) refl
-row_is name.Endfile e = λ s. stays (gives_is kind.Boolean _ (refl, tt)) refl
-row_is name.Outimage e = λ s. stays (writes_is (Ok (outimage (output_of s))) s) refl
-row_is name.Outchar e = λ c s. stays (writes_is (Ok (outchar (output_of s) c)) s) refl
-row_is name.Outtext e = λ t s. stays (writes_is (Ok (outtext (output_of s) t)) s) refl
-row_is name.Outint e = λ i w s. stays (writes_is (outint (output_of s) i w) s) (writes_stays (outint (output_of s) i w) s)
-row_is _ e = absurd (cc)
+row_is name.Abs e free = λ i s. stays (valued_is ℤ Integer kind.Integer _ (λ a. (refl, tt))) refl
+row_is name.Sign e free = λ i s. stays (gives_is kind.Integer _ (refl, tt)) refl
+row_is name.Min e free = λ i j s. stays (gives_is kind.Integer _ (refl, tt)) refl
+row_is name.Max e free = λ i j s. stays (gives_is kind.Integer _ (refl, tt)) refl
+row_is name.Mod e free = λ i j s. stays (valued_is ℤ Integer kind.Integer _ (λ a. (refl, tt))) refl
+row_is name.Rem e free = λ i j s. stays (valued_is ℤ Integer kind.Integer _ (λ a. (refl, tt))) refl
+row_is name.Maxint e free = λ s. stays (gives_is kind.Integer _ (refl, tt)) refl
+row_is name.Minint e free = λ s. stays (gives_is kind.Integer _ (refl, tt)) refl
+row_is name.Char e free = λ i s. stays (valued_is ℕ Character kind.Character _ (λ a. (refl, tt))) refl
+row_is name.Rank e free = λ c s. stays (gives_is kind.Integer _ (refl, tt)) refl
+row_is name.Isochar e free = λ i s. stays (valued_is ℕ Character kind.Character _ (λ a. (refl, tt))) refl
+row_is name.Isorank e free = λ c s. stays (gives_is kind.Integer _ (refl, tt)) refl
+row_is name.Digit e free = λ c s. stays (gives_is kind.Boolean _ (refl, tt)) refl
+row_is name.Letter e free = λ c s. stays (gives_is kind.Boolean _ (refl, tt)) refl
+row_is name.Blanks e free = λ i s. stays (valued_is TextVal Text kind.Text _ (λ a. (refl, tt))) refl
+row_is name.Copy e free = λ t s. stays (valued_is TextVal Text kind.Text (copy s.frames t).answer (λ a. (refl, tt))) refl
+row_is name.Upcase e free = λ t s. stays (valued_is TextVal Text kind.Text _ (λ a. (refl, tt))) refl
+row_is name.Lowcase e free = λ t s. stays (valued_is TextVal Text kind.Text _ (λ a. (refl, tt))) refl
+row_is name.TextConstant e free = λ t s. stays (gives_is kind.Boolean _ (refl, tt)) refl
+row_is name.TextStart e free = λ t s. stays (gives_is kind.Integer _ (refl, tt)) refl
+row_is name.TextLength e free = λ t s. stays (gives_is kind.Integer _ (refl, tt)) refl
+row_is name.TextPos e free = λ t s. stays (gives_is kind.Integer _ (refl, tt)) refl
+row_is name.TextMore e free = λ t s. stays (gives_is kind.Boolean _ (refl, tt)) refl
+row_is name.TextMain e free = λ t s. stays (gives_is kind.Text _ (refl, tt)) refl
+row_is name.TextSetpos e free = λ t i s. moves_fine None unvalued t (setpos s.frames t i) s (unvalued_is (setpos s.frames t i).answer) (same_moved t i)
+row_is name.TextGetchar e free = λ t s. moves_fine (Some kind.Character) (valued Character) t (getchar s.frames t) s (valued_is ℕ Character kind.Character _ (λ a. (refl, tt))) (same_unless (getchar_refusal t) s.frames t _ (same_self t))
+row_is name.TextPutchar e free = λ t c s. moves_fine None unvalued t (putchar s.frames t c) s (unvalued_is _) (same_unless (putchar_refusal s.frames t) s.frames t _ (same_self t))
+row_is name.TextSub e free = λ t i j s. stays (valued_is TextVal Text kind.Text _ (λ a. (refl, tt))) refl
+row_is name.TextStrip e free = λ t s. stays (gives_is kind.Text _ (refl, tt)) refl
+row_is name.TextGetint e free = λ t s. moves_fine (Some kind.Integer) (valued Integer) t (getint s.frames t) s (valued_is ℤ Integer kind.Integer _ (λ a. (refl, tt))) (same_taken s.frames t (integer_item (characters s.frames t)))
+row_is name.TextPutint e free = λ t i s. moves_fine None unvalued t (putint s.frames t i) s (unvalued_is _) (same_unless (putint_refusal s.frames t) s.frames t _ (same_self t))
+row_is name.Inimage e free = λ s. stays (unvalued_is _) refl
+row_is name.Inchar e free = λ s. stays (valued_is ℕ Character kind.Character _ (λ a. (refl, tt))) refl
+row_is name.Inint e free = λ s. stays (valued_is ℤ Integer kind.Integer _ (λ a. (refl, tt))) refl
+row_is name.Intext e free = λ i s. stays (valued_is TextVal Text kind.Text _ (λ a. (refl, tt))) refl
+row_is name.Lastitem e free = λ s. stays (valued_is Bool Truth kind.Boolean _ (λ a. (refl, tt))) refl
+row_is name.Endfile e free = λ s. stays (gives_is kind.Boolean _ (refl, tt)) refl
+row_is name.Outimage e free = λ s. stays (writes_is (Ok (outimage (output_of s))) s) refl
+row_is name.Outchar e free = λ c s. stays (writes_is (Ok (outchar (output_of s) c)) s) refl
+row_is name.Outtext e free = λ t s. stays (writes_is (Ok (outtext (output_of s) t)) s) refl
+row_is name.Outint e free = λ i w s. stays (writes_is (outint (output_of s) i w) s) (writes_stays (outint (output_of s) i w) s)
+row_is _ e free = absurd (cc)
 
 -- ---- operands
 
@@ -258,6 +259,7 @@ module _ {S : Type 0} (P : World → S → Type 0) (s : Source) (o : World) (g :
   operand_read store k (ReferenceAddress t) v is f = absurd is
   operand_read store k (Lasting t) v is f = absurd is
   operand_read store k Component v is f = absurd is
+  operand_read store k (ObjectIn u) v is f = absurd is
 
   -- an operand is no copy of an array
   at_hand : (k : Kind) (x : Kinds) (d : ℕ) (v : Val) → OperandIs k x → DeepFine s (see g o) m j d x v → HandFine s (see g o) m j x v
@@ -269,6 +271,7 @@ module _ {S : Type 0} (P : World → S → Type 0) (s : Source) (o : World) (g :
   at_hand k (ReferenceAddress z) d v is f = absurd is
   at_hand k (Lasting z) d v is f = absurd is
   at_hand k Component d v is f = absurd is
+  at_hand k (ObjectIn u) d v is f = absurd is
 
   -- a text operand that is put back: the place that it came from, which if it is an image is still the same text
   pub record Back (store : Store) (v : Val) (t : TextVal) : Type 0 where
@@ -389,7 +392,7 @@ module _ {S : Type 0} (P : World → S → Type 0) (s : Source) (o : World) (g :
     took_all (of_text_and_integers f) (x ∷ y ∷ z ∷ w ∷ xs) vals all a h = absurd ((a.1).1).1
 
 module _ (P : World → Configuration → Type 0) (s : Source) (o : World) (g : Marks) (m : Instances) (j : ℕ) (fine : StoreFine s (see g o) m) where
-  pub performed : (l : Limits) (line : ℕ) (n : Standard) (left xs : List Kinds) (vals : List Val) (f : World → Instances → Option Plain → List Val → Run Configuration) → name_runs n ≡ true → OperandsAre (operands_of (row_of n).function) xs → HandsFine s (see g o) m j (pushed xs left) vals
+  pub performed : (l : Limits) (line : ℕ) (n : Standard) (left xs : List Kinds) (vals : List Val) (f : World → Instances → Option Plain → List Val → Run Configuration) → DoneAlone n → OperandsAre (operands_of (row_of n).function) xs → HandsFine s (see g o) m j (pushed xs left) vals
       → ((t w : ℕ) (store : Store) (first : Option Val) (moved : Option TextVal) (v : Option Plain) (rest : List Val) → AllBack P s o g m j store first moved → ValueIs (standard_kind (row_of n).result) v → HandsFine s (see g o) m j left rest → Goes P (putting_back put_back first moved (record (ran o t w) { store = store }) m (λ p m. f p m v rest)))
       → Goes P (performing operand put_back l line n vals o m f)
   unfolding performing standard_effect
@@ -398,4 +401,4 @@ module _ (P : World → Configuration → Type 0) (s : Source) (o : World) (g : 
       (λ e first rest is back more.
       took P l line e.wanted o (λ p. computing line e.answer (record p { store = e.store }) (λ value. putting_back put_back first e.moved (record p { store = e.store }) m (λ p m. f p m value rest))) (λ t w.
       computed P line e.answer (record (ran o t w) { store = e.store }) (λ value. putting_back put_back first e.moved (record (ran o t w) { store = e.store }) m (λ p m. f p m value rest)) (λ v d. goes t w e.store first e.moved v rest back (is v d) more)))
-      (row_of n).function xs vals (row_is n runs) are h
+      (row_of n).function xs vals (row_is n runs.0 runs.1) are h

@@ -7,7 +7,7 @@ use Rattle.sim_meaning.specs.Sane.{IsObject, LastNames, Names, NamesOn}
 use Rattle.sim_sound.specs.Held.{ArrayOf, Refers, Simply}
 use Rattle.sim_sound.specs.Typed.{Typed}
 use Rattle.sim_sound.proofs.Running.{ChainFine, Fine, opens, runs}
-use Rattle.sim_sound.proofs.Sound.{AddressOf, AllArrays, Component, Copied, DeepFine, HandsFine, ImageAddress, Kinds, Lasting, LinkTo, ObjectOf, ReferenceAddress, Takes, Value}
+use Rattle.sim_sound.proofs.Sound.{ObjectIn, AddressOf, AllArrays, Component, Copied, DeepFine, HandsFine, ImageAddress, Kinds, Lasting, LinkTo, ObjectOf, ReferenceAddress, Takes, Value}
 
 module _ (s : Source) (ok : Typed s) (o : AllArrays) (m : Instances) where
   object_is : (j c : ℕ) → ObjectOf s m j c → IsObject s m j
@@ -24,6 +24,7 @@ module _ (s : Source) (ok : Typed s) (o : AllArrays) (m : Instances) where
   deep_names i d (Copied h) j a = absurd a
   deep_names i d (Lasting h) j a = absurd a
   deep_names i d Component j a = object_is j a.0 a.1
+  deep_names i d (ObjectIn c) j a = object_is j c a
 
   value_names : (i d : ℕ) (k : Kinds) (v : Val) → DeepFine s o m i d k v → Names s m v
   value_names i d k (Of (Object j)) a = deep_names i d k j a
@@ -48,5 +49,5 @@ module _ (s : Source) (ok : Typed s) (o : AllArrays) (m : Instances) where
   chain_names (a ∷ rest) c = hands_name a.instance c.kinds a.values (subst (λ z. HandsFine s o m a.instance c.kinds z) (sym c.shown) c.hands)
 
 pub fine_names : (s : Source) → Typed s → (o : AllArrays) (c : Configuration) → Fine s o c → NamesOn s c.memory c.chain
-fine_names s ok o c (opens none empty nobody unseen unnoted) = subst (NamesOn s c.memory) (sym none) tt
+fine_names s ok o c (opens none empty nobody unseen unnoted unmade) = subst (NamesOn s c.memory) (sym none) tt
 fine_names s ok o c (runs store placed headed f) = chain_names s ok o c.memory c.chain f

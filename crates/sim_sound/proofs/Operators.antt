@@ -32,7 +32,7 @@ use Rattle.sim_sound.proofs.Cells.{none_among}
 use Rattle.sim_sound.proofs.Changes.{copies_array, copies_replaced, elements_array, elements_replaced, later_array, later_replaced, more, new_lives, replaced}
 use Rattle.sim_sound.proofs.Constants.{names_none}
 use Rattle.sim_sound.proofs.Evals.{IsFine, Work, eval_goes, goes_on}
-use Rattle.sim_sound.proofs.Fitting.{knows_object, object_in, object_levels, object_whole, plain_by_kind, val_fits}
+use Rattle.sim_sound.proofs.Fitting.{knows_object, object_in, object_levels, object_up, object_whole, plain_by_kind, val_fits}
 use Rattle.sim_sound.proofs.Later.{All, Copies, own_later, present_later}
 use Rattle.sim_sound.proofs.Lifts.{Goes, any_popped, assigning_goes, chosen, had, integers_popped, joining_goes, known_popped, one_applied, plain_popped, ran, step_applied, truth_popped, two_applied, whens}
 use Rattle.sim_sound.proofs.Lists.{set_len}
@@ -41,7 +41,7 @@ use Rattle.sim_sound.proofs.Names.{ValueIs, performed}
 use Rattle.sim_sound.proofs.Ops.{back_goes, fetched_goes, later_hands, later_with, putting_goes, putting_reference_goes, set_goes, store_with, stored_array}
 use Rattle.sim_sound.proofs.References.{any_object_popped, held_reference_goes, object_popped}
 use Rattle.sim_sound.proofs.Running.{Begun, Operates}
-use Rattle.sim_sound.proofs.Sound.{AddressOf, Addressed, CellTarget, Component, Copied, CopyFine, DeepFine, HandFine, HandsFine, Hidden, ImageAddress, IsAddress, IsCopy, Kinds, Lasting, Leads, LinkTo, Marks, ObjectOf, OneKinds, OpFine, Open, ReferenceAddress, Sight, TermFine, ValFine, Value, array_stored, elements_of, given, held_kinds, see, value_stored}
+use Rattle.sim_sound.proofs.Sound.{ShowsObject, ObjectIn, AddressOf, Addressed, CellTarget, Component, Copied, CopyFine, DeepFine, HandFine, HandsFine, Hidden, ImageAddress, IsAddress, IsCopy, Kinds, Lasting, Leads, LinkTo, Marks, ObjectOf, OneKinds, OpFine, Open, ReferenceAddress, Sight, TermFine, ValFine, Value, array_stored, elements_of, given, held_kinds, see, value_stored}
 
 one_longer : (g : List Sight) (o : List OneArray) (z : Sight) (x : OneArray) → length (g ++ z ∷ []) ≡ suc (length g)
 one_longer [] o z x = refl
@@ -114,6 +114,7 @@ module _ (s : Source) (ok : Typed s) (l : Limits) (o : World) (g : Marks) (long 
       leading (ReferenceAddress z) k d v is f = absurd is
       leading (Lasting z) k d v is f = absurd is
       leading Component k d v is f = absurd is
+      leading (ObjectIn z) k d v is f = absurd is
 
   pub join_op : (line : ℕ) → OpFine s (see g o) m i t (JoinOp line) todo todo' before behind → Stepped (JoinOp line)
   join_op line a = joining_goes P s (see g o) m i l line a.0 vals o (λ z p vs. go p m i w (Of z ∷ vs) rest) (hand _ a.1) (λ z t' w' frames vs more. goes (Of (Text z) ∷ vs) (Value (Simply kind.Text) ∷ a.0) ((refl, tt), more) (works _ a.2 a.3))
@@ -125,7 +126,7 @@ module _ (s : Source) (ok : Typed s) (l : Limits) (o : World) (g : Marks) (long 
       let seen : Marks = record g { sights = g.sights ++ z ∷ [] } in
       let longer : length seen.sights ≡ length (o.arrays ++ x ∷ []) = one_longer g.sights o.arrays z x ∙ ap suc long ∙ sym (one_longer' o.arrays x) in
       let copies : (j d : ℕ) → Copies (see g o) (more (see g o) z x) j d = λ j d. copies_array (see g o) z x j d in
-      let store = store_with s (see g o) (more (see g o) z x) m e refl refl copies (elements_array s (see g o) m z x long new.elements b.store.elements) b.store in
+      let store = store_with s (see g o) (more (see g o) z x) m e refl refl copies (elements_array s (see g o) m z x long new.elements b.store.elements) b.store.members b.store in
       later_with s ok l o g long m i t rest top seen (added (ran o t' w') x) longer refl refl m e copies (same_ones m) store w (ArrayValue (length o.arrays) ∷ vs) todo (c ∷ left) (present_later s (see g o) m (more (see g o) z x) m All e i t todo tt b.here) (own_later s (see g o) m (more (see g o) z x) m All e i t todo tt b.here ∙ b.own)
       (f, later_hands s ok l o g long m i t rest top seen (added (ran o t' w') x) longer refl refl m e copies (same_ones m) store left vs hands) y
 
@@ -142,6 +143,7 @@ module _ (s : Source) (ok : Typed s) (l : Limits) (o : World) (g : Marks) (long 
       by_copy (ReferenceAddress k) is vs hands t' w' x new y = absurd is
       by_copy (Lasting k) is vs hands t' w' x new y = absurd is
       by_copy Component is vs hands t' w' x new y = absurd is
+      by_copy (ObjectIn k) is vs hands t' w' x new y = absurd is
       by_copy ImageAddress is vs hands t' w' x new y = absurd is
       by_copy (LinkTo k) is vs hands t' w' x new y = absurd is
 
@@ -261,6 +263,7 @@ module _ (s : Source) (ok : Typed s) (l : Limits) (o : World) (g : Marks) (long 
   swap_goes (Copied z) v u k d e is f = absurd is
   swap_goes (Lasting z) v u k d e is f = absurd is
   swap_goes Component v u k d e is f = absurd is
+  swap_goes (ObjectIn z) v u k d e is f = absurd is
 
   pub swap_op : OpFine s (see g o) m i t SwapOp todo todo' before behind → Stepped SwapOp
   swap_op a =
@@ -301,7 +304,16 @@ module _ (s : Source) (ok : Typed s) (l : Limits) (o : World) (g : Marks) (long 
 
   -- the object in hand; none ends the run
   pub not_none_op : (line : ℕ) → OpFine s (see g o) m i t (NotNoneOp line) todo todo' before behind → Stepped (NotNoneOp line)
-  not_none_op line a = any_object_popped P s (see g o) m i line a.0 vals o (λ j vs. go o m i w (Of (Object j) ∷ vs) rest) (hand _ a.1) (λ j vs c p more. goes (Of (Object j) ∷ vs) (Component ∷ a.0) ((c, p), more) (works _ a.2 a.3))
+  not_none_op line a = by_kind a.0 a.1 a.3 (hand _ a.4) (works _ a.5 a.6)
+    where
+      by_kind : (h : Holds) (x : Kinds) → ShowsObject s h x → HandsFine s (see g o) m i (Value h ∷ a.2) vals → Work s o g long m i t rest top w todo (x ∷ a.2) → Stepped (NotNoneOp line)
+      by_kind h Component is f y =
+          any_object_popped P s (see g o) m i line a.2 vals o (λ j vs. go o m i w (Of (Object j) ∷ vs) rest) (subst (λ z. HandsFine s (see g o) m i (Value z ∷ a.2) vals) is f) (λ j vs c p more. goes (Of (Object j) ∷ vs) (Component ∷ a.2) ((c, p), more) y)
+      by_kind (Refers c) (ObjectIn k) is f y =
+          object_popped P s (see g o) m i c line a.2 vals o (λ j vs. go o m i w (Of (Object j) ∷ vs) rest) f (λ j vs p more. goes (Of (Object j) ∷ vs) (ObjectIn k ∷ a.2) (object_up s ok (see g o) m b.store j c k p is, more) y)
+      by_kind (Simply q) (ObjectIn k) is f y = absurd is
+      by_kind (ArrayOf q) (ObjectIn k) is f y = absurd is
+      by_kind h _ is f y = absurd is
 
   pub member_op : (member : Membership) (c : ℕ) → OpFine s (see g o) m i t (MemberOp member c) todo todo' before behind → Stepped (MemberOp member c)
   member_op member c a =
@@ -340,7 +352,7 @@ module _ (s : Source) (ok : Typed s) (l : Limits) (o : World) (g : Marks) (long 
       let next = replaced (see g o) n f.it now f.lives refl (inr refl) (λ k. refl) refl refl in
       let e = later_replaced (see g o) n f.it now f.lives refl (inr refl) (λ k. refl) refl refl s m in
       let copies : (j d : ℕ) → Copies (see g o) next j d = λ j d. copies_replaced (see g o) n f.it now f.lives refl (inr refl) (λ k. refl) refl refl a.0 f.known j d in
-      let store = store_with s (see g o) next m e refl refl copies (elements_replaced (see g o) n f.it now f.lives refl (inr refl) (λ k. refl) refl refl s m (Open a.0) f.known (λ q p at. b.store.elements n q f.it (Open a.0) p f.lives f.known at) b.store.elements) b.store in
+      let store = store_with s (see g o) next m e refl refl copies (elements_replaced (see g o) n f.it now f.lives refl (inr refl) (λ k. refl) refl refl s m (Open a.0) f.known (λ q p at. b.store.elements n q f.it (Open a.0) p f.lives f.known at) b.store.elements) b.store.members b.store in
       later_with s ok l o g long m i t rest top g (with_array o n now) (long ∙ sym (set_len o.arrays n now)) refl refl m e copies (same_ones m) store w (ArrayValue n ∷ vs) todo (Lasting a.0 ∷ a.1) (present_later s (see g o) m next m All e i t todo tt b.here) (own_later s (see g o) m next m All e i t todo tt b.here ∙ b.own)
       (record { it = now; lives = new_lives (see g o) n f.it now f.lives refl (inr refl) (λ k. refl) refl refl n refl; known = f.known; keeps = refl; count = f.count }, later_hands s ok l o g long m i t rest top g (with_array o n now) (long ∙ sym (set_len o.arrays n now)) refl refl m e copies (same_ones m) store a.1 vs hands) (works _ a.3 a.4))))
 

@@ -26,11 +26,12 @@ use Rattle.sim_sound.proofs.Later.{All, Copies, Later, all_apart, fine_later, ha
 use Rattle.sim_sound.proofs.Lifts.{Goes, had, ran}
 use Rattle.sim_sound.proofs.Names.{AllBack, element_there, image_there}
 use Rattle.sim_sound.proofs.Lists.{if_true, no_some, set_len}
+use Rattle.sim_sound.proofs.Members.{MembersFine}
 use Rattle.sim_sound.proofs.Moves.{SameOnes, later_cell, operates_on, same_cell, same_ones, set_lives, store_cell}
 use Rattle.sim_sound.proofs.Prefixes.{LevelOf, same_is}
 use Rattle.sim_sound.proofs.References.{held_reference_goes}
 use Rattle.sim_sound.proofs.Running.{Begun, ChainFine, Operates, StoreFine, WorkFine}
-use Rattle.sim_sound.proofs.Sound.{AddressOf, AllArrays, CellTarget, Component, Copied, ElementFine, HandFine, HandsFine, ImageAddress, IsPlain, KeyAmong, Kinds, Lasting, Leads, LinkTo, Made, Marks, OperandIs, PlainFine, Present, ReferenceAddress, ValFine, Value, Waits, in_instance as at_cell, key_of, keys_in, own_text, see}
+use Rattle.sim_sound.proofs.Sound.{ObjectIn, AddressOf, AllArrays, CellTarget, Component, Copied, ElementFine, HandFine, HandsFine, ImageAddress, IsPlain, KeyAmong, Kinds, Lasting, Leads, LinkTo, Made, Marks, OperandIs, PlainFine, Present, ReferenceAddress, ValFine, Value, Waits, in_instance as at_cell, key_of, keys_in, own_text, see}
 
 among_cases : (e : DeclNo) (xs : List DeclNo) → Among e xs → (d : DeclNo) (ds : List DeclNo) → xs ≡ d ∷ ds → (e ≡ d) ⊎ Among e ds
 among_cases e xs (first {ds = es}) d ds f = inl (cc)
@@ -40,12 +41,13 @@ abbrev pub with_arrays : World → List OneArray → World
 with_arrays o a = record o { arrays = a }
 
 -- a store with other arrays
-pub store_with : (s : Source) (o o' : AllArrays) (m : Instances) → Later s o m o' m All → o'.beneath ≡ o.beneath → o'.waiting ≡ o.waiting → ((j d : ℕ) → Copies o o' j d) → ElementsFine s o' m → StoreFine s o m → StoreFine s o' m
-store_with s o o' m e same waits copies fine store = record {
+pub store_with : (s : Source) (o o' : AllArrays) (m : Instances) → Later s o m o' m All → o'.beneath ≡ o.beneath → o'.waiting ≡ o.waiting → ((j d : ℕ) → Copies o o' j d) → ElementsFine s o' m → MembersFine s o'.members m → StoreFine s o m → StoreFine s o' m
+store_with s o o' m e same waits copies fine members store = record {
   instances = λ j x lives. instance_later s o m o' m All e j x tt (store.instances j x lives);
   elements = fine;
   kept = kept_all s o m o' m e refl waits copies store.kept;
   noted = ap length same ∙ store.noted;
+  members = members;
 }
 
 module _ (s : Source) (ok : Typed s) (l : Limits) (o : World) (g : Marks) (long : length g.sights ≡ length o.arrays) (m : Instances) (i t : ℕ) (rest : List Activation) (top : Operates g.beneath m i rest) where
@@ -136,7 +138,7 @@ module _ (s : Source) (ok : Typed s) (l : Limits) (o : World) (g : Marks) (long 
       let set : element_set o a n p ≡ Some (with_arrays o now.real) = ap (λ z. element_set_in o a n p z (element o a n)) (f.array).lives ∙ ap (λ z. element_set_in o a n p (Some (f.array).it) z) q.1 in
       had (IsFine s) (element_set o a n p) (with_arrays o now.real) o (λ o. go o m i w vals rest) set
       (later_goes g (with_arrays o now.real) (long ∙ sym (set_len o.arrays a (new (see g o) m i h0 a n p f))) refl refl m e (λ j d. copies_element (see g o) m i h0 a n p f j d) (same_ones m)
-      (store_with s (see g o) now m e refl refl (λ j d. copies_element (see g o) m i h0 a n p f j d) (elements_changed (see g o) m i h0 a n p f s is b.store.elements) b.store) w vals todo ks b h work)
+      (store_with s (see g o) now m e refl refl (λ j d. copies_element (see g o) m i h0 a n p f j d) (elements_changed (see g o) m i h0 a n p f s is b.store.elements) b.store.members b.store) w vals todo ks b h work)
 
   pub putting_goes : (q : Holds) (p v : Val) (w : List Item) (vals : List Val) (todo : List DeclNo) (ks : List Kinds) → IsPlain q → HandFine s (see g o) m i (AddressOf q) p → ValFine s (see g o) m i q v → Bg todo → Hd ks vals → Wk w todo ks → Go (having (variable_in p) o (λ p. putting p v o m (λ o m. go o m i w vals rest)))
   unfolding putting
@@ -215,6 +217,7 @@ module _ (s : Source) (ok : Typed s) (l : Limits) (o : World) (g : Marks) (long 
   fetched_goes q (LinkTo z) v w vals todo ks is f b h work = absurd is
   fetched_goes q (Lasting z) v w vals todo ks is f b h work = absurd is
   fetched_goes q Component v w vals todo ks is f b h work = absurd is
+  fetched_goes q (ObjectIn z) v w vals todo ks is f b h work = absurd is
   fetched_goes q (ReferenceAddress z) v w vals todo ks is f b h work = absurd is
 
 -- ---- a text that is put back to where it came from
@@ -258,6 +261,7 @@ module _ (s : Source) (ok : Typed s) (l : Limits) (o : World) (g : Marks) (long 
   put_text (Address p) x (ReferenceAddress u) is a image = absurd is
   put_text (Address p) x (Lasting u) is a image = absurd is
   put_text (Address p) x Component is a image = absurd is
+  put_text (Address p) x (ObjectIn u) is a image = absurd is
 
   pub back_goes : (first : Option Val) (moved : Option TextVal) → AllBack (IsFine s) s o g m i store first moved → Goes (IsFine s) (putting_back put_back first moved Then m (λ p m. go p m i w vals rest))
   unfolding putting_back

@@ -74,7 +74,7 @@ levels_solid (Some (PrefixedText class arguments ds ss)) e = refl
 levels_solid None e = absurd (cc)
 levels_solid (Some (BlockText begin ds ss)) e = absurd (cc)
 levels_solid (Some (ProcedureText result h a)) e = absurd (cc)
-levels_solid (Some (StandardText which)) e = absurd (cc)
+levels_solid (Some (StandardText which)) e = refl
 levels_solid (Some ConnectionText) e = absurd (cc)
 
 levels_there : (x : Option Text) → has_levels x ≡ true → (y : Text) × (x ≡ Some y)
@@ -141,7 +141,7 @@ module _ (s : Source) (ok : Typed s) where
   -- a class has levels
   class_of_text : (k : ℕ) (x : Option Text) → text s k ≡ x → is_class x ≡ true → has_levels x ≡ true
   class_of_text k (Some (ClassText prefix h ds ss)) e class = refl
-  class_of_text k (Some (StandardText which)) e class = absurd (ok.texts k (StandardText which) e)
+  class_of_text k (Some (StandardText which)) e class = refl
   class_of_text k None e class = absurd (cc)
   class_of_text k (Some _) e class = absurd (cc)
 

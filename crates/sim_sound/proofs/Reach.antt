@@ -17,7 +17,7 @@ use Rattle.sim_meaning.specs.Closing.{home_of}
 use Rattle.sim_meaning.specs.Entries.{cells_from, first_cells, numbers_of, with_cell, with_result}
 use Rattle.sim_meaning.specs.Objects.{attributes_from, with_attribute}
 use Rattle.sim_meaning.specs.Pending.{Declared, Held, Instances, Key, Result}
-use Rattle.sim_meaning.specs.Texts.{BlockText, ClassText, ConnectionText, PrefixedText, ProcedureText, Text, text}
+use Rattle.sim_meaning.specs.Texts.{BlockText, ClassText, ConnectionText, PrefixedText, ProcedureText, StandardText, Text, text}
 use Rattle.sim_sound.specs.Held.{Among, Around, Holds, In, InBound, IsFixed, Place, Seen, Sees, StandsAround, entry_holds, first, from_around, further, itself, later, own_fixed}
 use Rattle.sim_sound.specs.Typed.{Home, TextTyped, Typed, connected as past, stands}
 use Rattle.sim_sound.proofs.Running.{StoreFine}
@@ -259,14 +259,23 @@ behind_result : (result : Option TypeName) (key : Key) (hs : List Held) → KeyA
 behind_result None key hs a = a
 behind_result (Some type) key hs a = later_key a
 
--- the declaration is listed in its text
-pub among_block : (s : Source) → Typed s → (d : DeclNo) (e : Entry) → entry_of s.tables d ≡ Some e → Among d (numbers_of s (block_of s d))
+-- a declaration that has a cell is listed in its text
+holds_in_class : (s : Source) (c : Bool) (e : Option Entry) (h : Holds) → entry_holds s c e ≡ Some h → entry_holds s true e ≡ Some h
+holds_in_class s c (Some (entry.Variable type)) h e = e
+holds_in_class s true (Some (entry.Constant type)) h e = e
+holds_in_class s false (Some (entry.Constant type)) h e = absurd (cc)
+holds_in_class s c (Some (entry.Array element dimensions)) h e = e
+holds_in_class s c (Some (entry.Formal f)) h e = e
+holds_in_class s c (Some _) h e = absurd (cc)
+holds_in_class s c None h e = absurd (cc)
+
+pub among_block : (s : Source) → Typed s → (d : DeclNo) (c : Bool) (h : Holds) → entry_holds s c (entry_of s.tables d) ≡ Some h → Among d (numbers_of s (block_of s d))
 unfolding entry_of block_of
-among_block s ok d e is = by_row (slice_get s.tables.declarations d.0) refl is
+among_block s ok d c h is = by_row (slice_get s.tables.declarations d.0) refl (holds_in_class s c (entry_of s.tables d) h is)
   where
-    by_row : (row : Option Declaration) → slice_get s.tables.declarations d.0 ≡ row → entry_in row ≡ Some e → Among d (numbers_of s (block_of_row row))
+    by_row : (row : Option Declaration) → slice_get s.tables.declarations d.0 ≡ row → entry_holds s true (entry_in row) ≡ Some h → Among d (numbers_of s (block_of_row row))
     by_row None none is = absurd (cc)
-    by_row (Some row) here is = ok.listed d row here
+    by_row (Some row) here is = ok.listed d row h here is
 
 -- the cell of a declaration of a text is there
 pub key_there : (s : Source) → Typed s → (k : ℕ) (x : Text) (d : DeclNo) (h : Holds) (c : Bool) → is_connection (text s k) ≡ false → text s k ≡ Some x → entry_holds s c (entry_of s.tables d) ≡ Some h → Among d (numbers_of s k) → KeyAmong (Declared d.0) (keys_in s k (text s k))
@@ -279,7 +288,7 @@ key_there s ok k x d h c solid is e a = subst (λ z. KeyAmong (Declared d.0) (ke
     by_text (ClassText prefix g ds ss) c' z = attribute_key s (numbers_of s k) d c h a e
     by_text (PrefixedText class arguments ds ss) c' z = attribute_key s (numbers_of s k) d c h a e
     by_text ConnectionText c' z = absurd (cc)
-    by_text _ c' z = absurd z
+    by_text (StandardText which) c' z = attribute_key s (numbers_of s k) d c h a e
 
 pub key_of_result : (s : Source) (k : ℕ) (type : TypeName) (g : Heading) (b : Statement) → text s k ≡ Some (ProcedureText (Some type) g b) → KeyAmong Result (keys_in s k (text s k))
 unfolding first_cells

@@ -1,6 +1,6 @@
 -- Which values, terms and operators are fine for an instance among others.
 use Rattle.std.proofs.Common.{◌≡◌, ◌<◌, ℕ, zero, suc, Bool, true, false, List, [], ◌∷◌, ◌++◌, length, map, Option, Some, None, ◌⊎◌}
-use Rattle.std.specs.Prelude.{slice_get, ◌*◌, ◌&&◌, not}
+use Rattle.std.specs.Prelude.{slice_get, ◌*◌, ◌+◌, ◌&&◌, not}
 use Rattle.sim_base.specs.declared.numbering.DeclNo.{DeclNo}
 use Rattle.sim_scope.specs.declared.types.Formal.{Formal}
 use Rattle.sim_scope.specs.declared.types.FormalKind.{FormalKind}
@@ -15,30 +15,32 @@ use Rattle.sim_scope.specs.Scopes.{entry_of}
 use Rattle.sim_scope.specs.Source.{Source, level_of}
 use Rattle.sim_tree.specs.declared.expr.Identifier.{Identifier}
 use Rattle.sim_tree.specs.declared.stmt.TypeName.{TypeName}
-use Rattle.sim_tree.specs.Syntax.{Declarations, Heading, Statement, Statements}
+use Rattle.sim_tree.specs.Syntax.{Declarations, Expressions, Heading, Statement, Statements}
 use Rattle.sim_values.specs.declared.kind.Kind.{Kind}
 use Rattle.sim_values.specs.declared.kind.Kind.TheVariants as kind
 use Rattle.sim_values.specs.declared.operators.Monadic.{Monadic}
 use Rattle.sim_values.specs.declared.operators.Monadic.TheVariants as monadic
+use Rattle.sim_values.specs.declared.standard.Standard.{Standard}
 use Rattle.sim_values.specs.Plain.{Nothing, Object, Plain, kind_of}
 use Rattle.sim_values.specs.Standard.{operands_of, row_of}
 use Rattle.sim_values.specs.Words.{element_count}
+use Rattle.simset.specs.Instances.{Memberships}
 use Rattle.sim_code.specs.Outcome.{ArrayOf as OneArray, World}
 use Rattle.sim_code.specs.Arrays.{unless_given}
 use Rattle.sim_code.specs.Instances.{CellPlace, ElementPlace, ImagePlace, Instance, is_given_at_end, live}
-use Rattle.sim_code.specs.Running.{name_runs}
+use Rattle.sim_code.specs.Sets.{is_set_name}
 use Rattle.sim_code.specs.Transfers.{Calling, Detaching, Resuming, Transfer}
-use Rattle.sim_meaning.specs.Attributes.{cell_of_connection, is_connection}
+use Rattle.sim_meaning.specs.Attributes.{attribute_formals, cell_of_connection, is_connection}
 use Rattle.sim_meaning.specs.Closing.{class_parameters}
 use Rattle.sim_meaning.specs.Entries.{first_cells, formals_of, is_array_by_value, numbers_of}
-use Rattle.sim_meaning.specs.Levels.{has_levels}
+use Rattle.sim_meaning.specs.Levels.{has_levels, is_class}
 use Rattle.sim_meaning.specs.Objects.{attributes_from}
-use Rattle.sim_meaning.specs.Pending.{Address, AgainOp, ArrayOp, ArrayValue, AttributeOf, AttributeOp, BackOp, BranchOp, CallOf, CallOp, Cell, ChooseOp, ConnectOp, CopyOf, CopyOp, Declared, DeclareOp, DropOp, Either, ElementOf, ElementOp, ElementsOp, EnterOp, Eval, Exec, Execs, FetchOp, FitsOf, FitsOp, Further, Given, GiveOp, Held, IfOp, ImageOf, InnerOp, Instances, JoinOp, Joined, KeepOp, KeptOf, Key, Level, LevelOp, Link, MemberOf, MemberOp, NewOf, NewOp, NoTerm, NotNoneOf, NotNoneOp, ObjectOp, Of, One, OneOp, Op, PastOp, PlaceOf, PrefixedOp, QuaOf, QuaOp, QualifiedElementOf, QualifiedElementOp, QualifiedPlaceOf, RaiseOp, ReferOp, RemoteCallOf, ShareOp, StandardOf, StandardOp, StepOp, StepTestOp, StoreOp, SwapOp, Target, Term, Terms, TestOp, ToAddress, ToCell, ToPlace, ToReference, ToReferenceAt, ToText, ToTextAt, ToTextOf, TransferOf, TransferOp, Two, TwoOp, Unbuilt, Val, ValueAt, WhenOp, WhileElementOp, held}
-use Rattle.sim_meaning.specs.Texts.{BlockText, ClassText, PrefixedText, ProcedureText, Text, is_class_free, text}
-use Rattle.sim_sound.specs.Expressions.{ExprIs, TwoKinds, some_holds, standard_kind}
-use Rattle.sim_sound.specs.Held.{Among, ArrayOf, Fits, FitsIn, Holds, In, InBound, IsOfKind, Refers, Simply, formal_holds, key_holds, reference_to, result_holds}
+use Rattle.sim_meaning.specs.Pending.{Address, AgainOp, ArrayOp, ArrayValue, AttributeOf, AttributeOp, BackOp, BranchOp, CallOf, CallOp, Cell, ChooseOp, ConnectOp, CopyOf, CopyOp, Declared, DeclareOp, DropOp, Either, ElementOf, ElementOp, ElementsOp, EnterOp, Eval, Exec, Execs, FetchOp, FitsOf, FitsOp, Further, Given, GiveOp, Held, IfOp, ImageOf, InnerOp, Instances, JoinOp, Joined, KeepOp, KeptOf, Key, Level, LevelOp, Link, MemberOf, MemberOp, NewOf, NewOp, NoTerm, NotNoneOf, NotNoneOp, ObjectOp, Of, One, OneOp, Op, PastOp, PlaceOf, PrefixedOp, QuaOf, QuaOp, QualifiedElementOf, QualifiedElementOp, QualifiedPlaceOf, RaiseOp, ReferOp, RemoteCallOf, SetOf, SetOp, ShareOp, StandardOf, StandardOp, StepOp, StepTestOp, StoreOp, SwapOp, Target, Term, Terms, TestOp, ToAddress, ToCell, ToPlace, ToReference, ToReferenceAt, ToText, ToTextAt, ToTextOf, TransferOf, TransferOp, Two, TwoOp, Unbuilt, Val, ValueAt, WhenOp, WhileElementOp, held}
+use Rattle.sim_meaning.specs.Texts.{BlockText, ClassText, PrefixedText, ProcedureText, StandardText, Text, is_class_free, text}
+use Rattle.sim_sound.specs.Expressions.{DoneAlone, ExprIs, TwoKinds, some_holds, standard_kind}
+use Rattle.sim_sound.specs.Held.{Among, ArrayOf, Fits, FitsIn, Holds, In, InBound, IsOfKind, Refers, Simply, formal_holds, given_by, key_holds, reference_to, result_holds}
 use Rattle.sim_sound.specs.Statements.{ArmsAre, ConnectionIs, ElementsAre, StatementIs, StatementsAre}
-use Rattle.sim_sound.specs.Typed.{ArraysTyped, Distinct, arrays_of_block}
+use Rattle.sim_sound.specs.Typed.{ArraysTyped, Distinct, SetProcedureThere, arrays_of_block}
 use Rattle.sim_sound.proofs.Prefixes.{LevelOf}
 
 -- ---- what stays
@@ -72,7 +74,7 @@ elements_of (Open h) = h
 elements_of (Hidden h home depth) = h
 
 -- a value; where a variable or an element lies; where a reference lies, with its qualification; where an image lies; an instance of a text; a
--- copy for a parameter by value; an array that is kept; an object
+-- copy for a parameter by value; an array that is kept; an object, and one of a class
 pub data Kinds : Type 0 where
   Value : Holds → Kinds
   AddressOf : Holds → Kinds
@@ -82,6 +84,7 @@ pub data Kinds : Type 0 where
   Copied : Holds → Kinds
   Lasting : Holds → Kinds
   Component : Kinds
+  ObjectIn : (class : ℕ) → Kinds
 
 -- What an activation waits for: a value or none, which is put in its hand; that the object ends, or lets go, that it generated, whose
 -- reference it has in hand already; or that the resumed object above it gives control to the main component that it keeps, and then what
@@ -98,15 +101,16 @@ pub record Marks : Type 0 where
   pub beneath : List (Option ℕ)
   pub waiting : ℕ → Waits
 
--- the arrays of a run, with what is noted
+-- the arrays of a run and its linkages, with what is noted
 pub record AllArrays : Type 0 where
   pub sights : List Sight
   pub beneath : List (Option ℕ)
   pub waiting : ℕ → Waits
   pub real : List OneArray
+  pub members : Memberships
 
 abbrev pub see : Marks → World → AllArrays
-see g o = record { sights = g.sights; beneath = g.beneath; waiting = g.waiting; real = o.arrays }
+see g o = record { sights = g.sights; beneath = g.beneath; waiting = g.waiting; real = o.arrays; members = o.members }
 
 -- what is below an instance on its chain, through those that are given back at their end: it stays there until they end
 pub data Beneath (o : AllArrays) (m : Instances) : (j e : ℕ) → Type 0 where
@@ -151,6 +155,7 @@ key_of h = h.key
 abbrev pub own_cells : Source → ℕ → Text → List Held
 own_cells s t (ClassText prefix h ds ss) = attributes_from s (numbers_of s t)
 own_cells s t (PrefixedText class arguments ds ss) = attributes_from s (numbers_of s t)
+own_cells s t (StandardText which) = attributes_from s (numbers_of s t)
 own_cells s t x = first_cells s t x
 
 abbrev pub keys_in : Source → ℕ → Option Text → List Key
@@ -284,6 +289,7 @@ HandFine s o m j ImageAddress (Address (ImagePlace n)) = IsImage n
 HandFine s o m j (LinkTo u) (Link e) = Knows m j e × Whole s m e u
 HandFine s o m j (Lasting h) (ArrayValue a) = KeptFine o h a
 HandFine s o m j Component (Of (Object i)) = (c : ℕ) × ObjectOf s m i c
+HandFine s o m j (ObjectIn c) (Of (Object i)) = ObjectOf s m i c
 HandFine s o m j _ _ = ⊥
 
 -- with so many values below
@@ -297,6 +303,7 @@ DeepFine s o m j d ImageAddress v = HandFine s o m j ImageAddress v
 DeepFine s o m j d (LinkTo u) v = HandFine s o m j (LinkTo u) v
 DeepFine s o m j d (Lasting h) v = HandFine s o m j (Lasting h) v
 DeepFine s o m j d Component v = HandFine s o m j Component v
+DeepFine s o m j d (ObjectIn c) v = HandFine s o m j (ObjectIn c) v
 
 abbrev pub HandsFine : Source → AllArrays → Instances → ℕ → List Kinds → List Val → Type 0
 HandsFine s o m j [] [] = Unit {0}
@@ -366,11 +373,7 @@ pub record ProcedureIn (s : Source) (k around : ℕ) : Type 0 where
 
 pub record ClassIn (s : Source) (k around : ℕ) : Type 0 where
   pub stands_in : encloser s.tables k ≡ Some around
-  pub prefix : Option Identifier
-  pub heading : Heading
-  pub declarations : Declarations
-  pub statements : Statements
-  pub is : text s k ≡ Some (ClassText prefix heading declarations statements)
+  pub is : is_class (text s k) ≡ true
 
 pub record CallFine (s : Source) (m : Instances) (j e k : ℕ) (g : Option Kinds) (Actuals : List (Option Kinds) → Type 0) : Type 0 where
   pub around : ℕ
@@ -430,6 +433,27 @@ component_kind Detaching = Component
 component_kind Calling = Value (Simply kind.Reference)
 component_kind Resuming = Value (Simply kind.Reference)
 
+-- a reference that is not none: an object, and in a class if the reference is qualified
+abbrev pub ShowsObject : Source → Holds → Kinds → Type 0
+ShowsObject s h Component = h ≡ Simply kind.Reference
+ShowsObject s (Refers c) (ObjectIn k) = has_level s.tables c k ≡ true
+ShowsObject s _ _ = ⊥
+
+-- a procedure of SIMSET, as it is declared
+pub record SetIs (s : Source) (name : Standard) : Type 0 where
+  pub declaration : DeclNo
+  pub parameter : Option SimType
+  pub result : Option SimType
+  pub named : is_set_name name ≡ true
+  pub there : SetProcedureThere s declaration name parameter result
+
+-- its object, and its actual parameter
+abbrev pub set_class : (s : Source) (name : Standard) → SetIs s name → ℕ
+set_class s name x = (x.there).linkage + (x.there).place
+
+abbrev pub set_operands : (s : Source) (name : Standard) → SetIs s name → List (Option Kinds)
+set_operands s name x = Some (ObjectIn (set_class s name x)) ∷ formal_kinds s (attribute_formals x.parameter)
+
 abbrev mutual
   -- in an instance j of the text t
   pub TermFine : Source → Instances → (j t : ℕ) → List DeclNo → Term → Option Kinds → Type 0
@@ -445,7 +469,7 @@ abbrev mutual
   TermFine s m j t todo (Joined line a b) g = (simple kind.Text ≡ g) × TermFine s m j t todo a (simple kind.Text) × TermFine s m j t todo b (simple kind.Text)
   TermFine s m j t todo (CopyOf line a) g = (k : Holds) × (Some (Copied k) ≡ g) × TermFine s m j t todo a (Some (Value (ArrayOf k)))
   TermFine s m j t todo (CallOf e k ts line) g = CallFine s m j e k g (TermsFine s m j t todo ts)
-  TermFine s m j t todo (StandardOf name ts line) g = (name_runs name ≡ true) × (held_kinds (some_holds (standard_kind (row_of name).result)) ≡ g) × (xs : List Kinds) × OperandsAre (operands_of (row_of name).function) xs × OperandsFine s m j t todo ts xs
+  TermFine s m j t todo (StandardOf name ts line) g = DoneAlone name × (held_kinds (some_holds (standard_kind (row_of name).result)) ≡ g) × (xs : List Kinds) × OperandsAre (operands_of (row_of name).function) xs × OperandsFine s m j t todo ts xs
   -- objects and references
   TermFine s m j t todo (NewOf e k ts line) g = NewFine s m j e k g (TermsFine s m j t todo ts)
   TermFine s m j t todo (AttributeOf u key class line a) g = (c : ℕ) × (h : Holds) × (x : Kinds) × AttributeFine s u key h c × Addressed class h x × (Some x ≡ g) × TermFine s m j t todo a (Some (Value (Refers c)))
@@ -456,8 +480,9 @@ abbrev mutual
   TermFine s m j t todo (QuaOf c line a) g = Comes s (Refers c) g × TermFine s m j t todo a (simple kind.Reference)
   TermFine s m j t todo (FitsOf c line a) g = Comes s (Refers c) g × TermFine s m j t todo a (simple kind.Reference)
   TermFine s m j t todo (KeptOf a) g = (h : Holds) × (Some (Lasting h) ≡ g) × TermFine s m j t todo a (Some (Value (ArrayOf h)))
-  TermFine s m j t todo (NotNoneOf line a) g = (Some Component ≡ g) × TermFine s m j t todo a (simple kind.Reference)
+  TermFine s m j t todo (NotNoneOf line a) g = (h : Holds) × (x : Kinds) × ShowsObject s h x × (Some x ≡ g) × TermFine s m j t todo a (Some (Value h))
   TermFine s m j t todo (TransferOf x line a) g = (None ≡ g) × TermFine s m j t todo a (Some (component_kind x))
+  TermFine s m j t todo (SetOf name ts) g = (x : SetIs s name) × (h : Option Holds) × FitsIn s (given_by s x.result) h × (held_kinds h ≡ g) × TermsFine s m j t todo ts (set_operands s name x)
   TermFine s m j t todo Unbuilt g = ⊥
 
   pub IntegersFine : Source → Instances → (j t : ℕ) → List DeclNo → Terms → Type 0
@@ -540,12 +565,20 @@ pub record Site (s : Source) (m : Instances) (j t : ℕ) : Type 0 where
   pub lives : live m j ≡ Some now
   pub stands : StandsFor s now t
 
+-- a text that is a prefixed block
+pub record PrefixedAt (s : Source) (k : ℕ) : Type 0 where
+  pub class : Identifier
+  pub arguments : Expressions
+  pub declarations : Declarations
+  pub statements : Statements
+  pub is : text s k ≡ Some (PrefixedText class arguments declarations statements)
+
 -- a prefixed block stands in a text for which the instance stands
 pub record PrefixedOpFine (s : Source) (m : Instances) (j k n : ℕ) (before behind : List Kinds) : Type 0 where
   pub around : ℕ
   pub site : Site s m j around
   pub stands_in : encloser s.tables k ≡ Some around
-  pub has : has_levels (text s k) ≡ true
+  pub block : PrefixedAt s k
   pub «in» : before ≡ onto (class_kinds s (class_parameters s (Some k))) behind
   pub count : n ≡ length (class_parameters s (Some k))
 
@@ -616,7 +649,7 @@ OpFine s o m j t (JoinOp line) todo todo' before behind = (left : List Kinds) ×
 OpFine s o m j t (CopyOp line) todo todo' before behind = (k : Holds) × (left : List Kinds) × (c : Kinds) × IsCopy k c × (before ≡ Value (ArrayOf k) ∷ left) × (behind ≡ c ∷ left) × (todo' ≡ todo)
 OpFine s o m j t (CallOp k n line) todo todo' before behind = CallOpFine s k n before behind × (todo' ≡ todo)
 OpFine s o m j t (StandardOp name line) todo todo' before behind =
-    (left : List Kinds) × (xs : List Kinds) × (name_runs name ≡ true) × OperandsAre (operands_of (row_of name).function) xs × (before ≡ pushed xs left) × (behind ≡ given (held_kinds (some_holds (standard_kind (row_of name).result))) left) × (todo' ≡ todo)
+    (left : List Kinds) × (xs : List Kinds) × DoneAlone name × OperandsAre (operands_of (row_of name).function) xs × (before ≡ pushed xs left) × (behind ≡ given (held_kinds (some_holds (standard_kind (row_of name).result))) left) × (todo' ≡ todo)
 -- objects and references
 OpFine s o m j t (NewOp k n line) todo todo' before behind = NewOpFine s k n before behind × (todo' ≡ todo)
 OpFine s o m j t (AttributeOp u key class line) todo todo' before behind =
@@ -627,8 +660,10 @@ OpFine s o m j t (QualifiedElementOp n line c) todo todo' before behind = (left 
 OpFine s o m j t (MemberOp member c) todo todo' before behind = (left : List Kinds) × (before ≡ Value (Simply kind.Reference) ∷ left) × (behind ≡ Value (Simply kind.Boolean) ∷ left) × (todo' ≡ todo)
 OpFine s o m j t (QuaOp c line) todo todo' before behind = (h : Holds) × (left : List Kinds) × Fits s (Refers c) h × (before ≡ Value (Simply kind.Reference) ∷ left) × (behind ≡ Value h ∷ left) × (todo' ≡ todo)
 OpFine s o m j t (FitsOp c line) todo todo' before behind = (h : Holds) × (left : List Kinds) × Fits s (Refers c) h × (before ≡ Value (Simply kind.Reference) ∷ left) × (behind ≡ Value h ∷ left) × (todo' ≡ todo)
-OpFine s o m j t (NotNoneOp line) todo todo' before behind = (left : List Kinds) × (before ≡ Value (Simply kind.Reference) ∷ left) × (behind ≡ Component ∷ left) × (todo' ≡ todo)
+OpFine s o m j t (NotNoneOp line) todo todo' before behind = (h : Holds) × (x : Kinds) × (left : List Kinds) × ShowsObject s h x × (before ≡ Value h ∷ left) × (behind ≡ x ∷ left) × (todo' ≡ todo)
 OpFine s o m j t (TransferOp x line) todo todo' before behind = (before ≡ component_kind x ∷ behind) × (todo' ≡ todo)
+OpFine s o m j t (SetOp name) todo todo' before behind =
+    (x : SetIs s name) × (h : Option Holds) × (left : List Kinds) × FitsIn s (given_by s x.result) h × (before ≡ onto (set_operands s name x) left) × (behind ≡ given (held_kinds h) left) × (todo' ≡ todo)
 OpFine s o m j t KeepOp todo todo' before behind = (h : Holds) × (left : List Kinds) × (before ≡ Value (ArrayOf h) ∷ left) × (behind ≡ Lasting h ∷ left) × (todo' ≡ todo)
 -- values in hand, and assignments
 OpFine s o m j t DropOp todo todo' before behind = (k : Kinds) × (before ≡ k ∷ behind) × (todo' ≡ todo)

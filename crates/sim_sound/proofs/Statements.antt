@@ -29,14 +29,14 @@ use Rattle.sim_scope.specs.Levels.{base}
 use Rattle.sim_scope.specs.Source.{Source, block_around, denoted, found_at, level_of, line_at}
 use Rattle.sim_code.specs.Instances.{at_level}
 use Rattle.sim_code.specs.Transfers.{Transfer}
-use Rattle.sim_meaning.specs.Attributes.{connection_at, transfer_at}
+use Rattle.sim_meaning.specs.Attributes.{own_attribute, connection_at, transfer_at}
 use Rattle.sim_meaning.specs.Closing.{Left, LeftAddress, LeftCell, LeftReference, LeftText, LeftUnbuilt, class_parameters, close, close_parameters, close_place, declared_left, formal_left, home_of, is_text, left_found, left_in, left_variable, named_left, reference_place, stream_of}
 use Rattle.sim_meaning.specs.Levels.{has_levels, levels_inside, text_at}
 use Rattle.sim_meaning.specs.Pending.{Activation, AgainOp, BackOp, BranchOp, ChooseOp, Configuration, ConnectOp, Do, DropOp, ElementsOp, EnterOp, Eval, Exec, Execs, InnerOp, Instances, Item, Key, Op, PrefixedOp, RaiseOp, StepOp, StepTestOp, StoreOp, Target, Term, TestOp, ToAddress, ToCell, ToPlace, ToReference, ToReferenceAt, ToText, ToTextAt, ToTextOf, TwoOp, Val, WhenOp, WhileElementOp}
 use Rattle.sim_meaning.specs.Statements.{assigned, assigning, begin_of, compound, controlled, controlled_left, dropping, elements, entered_at, exec, execs, finding, first_branch, inner_begun, leaves, lefts, levels_of_instance, looping, prefix_begun, raised, reading, step_tested, while_element}
 use Rattle.sim_meaning.specs.Texts.{text}
 use Rattle.sim_sound.specs.Held.{Holds, In, Refers, Simply, reference_to}
-use Rattle.sim_sound.specs.Expressions.{ActualsFit, AreIntegers, AreOf, DotGives, ExprIs, NamedGives}
+use Rattle.sim_sound.specs.Expressions.{ActualsFit, AreIntegers, AreOf, DotGives, ExprIs, IdentifierGives}
 use Rattle.sim_sound.specs.Statements.{CallIs, CompoundIs, ControlIs, ElementsAre, InnerIs, OrTransferIs, PrefixedIs, StatementIs, StatementsAre, TransferIs, is_given}
 use Rattle.sim_sound.specs.Typed.{Typed}
 use Rattle.sim_sound.proofs.Assigns.{Found, assigning_fine, lefts_found}
@@ -116,7 +116,7 @@ module _ (s : Source) (ok : Typed s) (l : Limits) (o : World) (marks : Marks) (l
   -- ---- calls
 
   abbrev NamedIs : Identifier → Expressions → Type 0
-  NamedIs name es = (h : Option Holds) × NamedGives s (In u) (connection_at s name.token.0) (denoted s name.token.0) es (AreIntegers s (In u) es) (λ ks. AreOf s (In u) es ks) (λ fs. ActualsFit s (In u) es fs) h × (leaves s (syntax.Named name es) ≡ is_given h)
+  NamedIs name es = (h : Option Holds) × IdentifierGives s (In u) name.token.0 (connection_at s name.token.0) (own_attribute s name.token.0) es (AreIntegers s (In u) es) (λ ks. AreOf s (In u) es ks) (λ fs. ActualsFit s (In u) es fs) h × (leaves s (syntax.Named name es) ≡ is_given h)
 
   abbrev DotIs : Expression → Identifier → Expressions → Bool → Type 0
   DotIs x name es left = (h : Option Holds) × DotGives s (denoted s name.token.0) (stream_of s x) (ExprIs s (In u) x (Simply kind.Text)) (λ c. ExprIs s (In u) x (Refers c)) es (AreIntegers s (In u) es) (λ ks. AreOf s (In u) es ks) (λ fs. ActualsFit s (In u) es fs) h × (left ≡ is_given h)
@@ -231,7 +231,7 @@ module _ (s : Source) (ok : Typed s) (l : Limits) (o : World) (marks : Marks) (l
       let terms = close_parameters s m i line es fs in
       let fine : TermsFine s m i t [] terms (class_kinds s fs) = class_fine s ok (see marks o) m b.store i t [] (In u) reach around line es fs a.actuals in
       subst (λ z. Goes P (prefix_begun s (ran o t' w') m i w vals rest class es z)) (sym a.around)
-      (goes (each terms (Do (PrefixedOp a.number (count terms) line) ∷ w)) (prefix_work s o marks long m i t rest top a.number terms line u w ks site a.stands_in (ap has_levels a.is) fine work))
+      (goes (each terms (Do (PrefixedOp a.number (count terms) line) ∷ w)) (prefix_work s o marks long m i t rest top a.number terms line u w ks site a.stands_in (record { class = a.class; arguments = a.arguments; declarations = a.declarations; statements = a.statements; is = a.is }) fine work))
 
   pub exec_goes : (a : Statement) → StatementIs s u a → Goes P (exec s l o m i w vals rest a)
   exec_goes (syntax.Empty token) x = goes w work

@@ -25,7 +25,8 @@ use Rattle.sim_values.specs.declared.standard.StandardType.{StandardType}
 use Rattle.sim_values.specs.Plain.{Plain, kind_of}
 use Rattle.sim_values.specs.Standard.{is_image, kind_of_type as kind_of_standard, on_image, operands_of, row_of}
 use Rattle.sim_code.specs.Running.{name_runs}
-use Rattle.sim_meaning.specs.Attributes.{connection_at, is_connection}
+use Rattle.sim_code.specs.Sets.{is_set_name}
+use Rattle.sim_meaning.specs.Attributes.{attribute_formals, connection_at, is_connection, own_attribute}
 use Rattle.sim_meaning.specs.Closing.{Joining, Lazily, Negated, Plainly, Sort, class_parameters, is_text, sort_of, stream_of}
 use Rattle.sim_meaning.specs.Constants.{text_constant}
 use Rattle.sim_meaning.specs.Entries.{formals_of}
@@ -112,9 +113,13 @@ LiteralIs s token (syntax.TextValue bytes) h = (v : Plain) × (text_constant s t
 LiteralIs s token syntax.NoObject h = IsReference h
 LiteralIs s token literal h = some_holds (literal_kind literal) ≡ Some h
 
--- a standard name that is done gives what its row says
+-- a name of the table that is done, and is no procedure of SIMSET
+abbrev pub DoneAlone : Standard → Type 0
+DoneAlone name = (name_runs name ≡ true) × (is_set_name name ≡ false)
+
+-- it gives what its row says
 abbrev pub RowGives : Standard → Option Holds → Type 0
-RowGives name h = (name_runs name ≡ true) × (some_holds (standard_kind (row_of name).result) ≡ h)
+RowGives name h = DoneAlone name × (some_holds (standard_kind (row_of name).result) ≡ h)
 
 -- a name of texts, behind its text
 abbrev pub OfText : Standard → (Operands : List Kind → Type 0) → Option Holds → Type 0
@@ -139,8 +144,13 @@ abbrev pub BehindGives : (stream : Option ℕ) → Option Standard → (Object :
 BehindGives (Some image) name Object Operands h = StandardGives name Operands h
 BehindGives None name Object Operands h = AttributeGives name Object Operands h
 
+-- a procedure of SIMSET gives what its declaration says, or nothing
+abbrev pub SetGives : Source → (Known : Type 0) → Standard → (parameter result : Option SimType) → (Actuals : List Formal → Type 0) → Option Holds → Type 0
+SetGives s Known name parameter result Actuals h = (is_set_name name ≡ true) × FitsIn s (given_by s result) h × Known × Actuals (attribute_formals parameter)
+
 abbrev pub DeclaredGives : Source → (Known : Type 0) → DeclNo → Expressions → (Indices : Type 0) → (Actuals : List Formal → Type 0) → Option Entry → Option Holds → Type 0
 DeclaredGives s Known d es Indices Actuals (Some (entry.Procedure result k)) h = CallGives s Known result k Actuals h
+DeclaredGives s Known d es Indices Actuals (Some (entry.Attribute name parameter result)) h = SetGives s Known name parameter result Actuals h
 DeclaredGives s Known d es Indices Actuals (Some (entry.Constant t)) (Some h) = ConstantNames s Known d es h
 DeclaredGives s Known d es Indices Actuals (Some e) (Some h) = HeldNames s Known es Indices (entry_holds s false (Some e)) h
 DeclaredGives s Known d es Indices Actuals _ _ = ⊥
@@ -165,6 +175,25 @@ NamedGives s from connection (Some (denotation.Declared d)) es Indices Operands 
 NamedGives s from None (Some (denotation.Standard name)) es Indices Operands Actuals h = StandardGives (procedure_named name) Operands h
 NamedGives s from connection _ es Indices Operands Actuals h = ⊥
 
+-- `this`: the object of a class around, a prefixed block around, or what is connected
+abbrev pub ThisIs : Source → Place → (is_connection has_levels : Bool) → (found : ℕ) → Holds → Type 0
+ThisIs s from true c k h = StandsAround s from k × Fits s (reference_to (base s.tables k)) h
+ThisIs s from false true k h = StandsAround s from k × Fits s (Refers k) h
+ThisIs s from false false k h = ⊥
+
+abbrev pub ThisFound : Source → Place → (found : Option ℕ) → Holds → Type 0
+ThisFound s from None h = ⊥
+ThisFound s from (Some k) h = ThisIs s from (is_connection (text s k)) (has_levels (text s k)) k h
+
+-- an identifier: a procedure of SIMSET that is seen without a connection is one of the object around
+abbrev pub OwnKnown : Source → Place → (token : ℕ) → DeclNo → Type 0
+OwnKnown s from token d = ObjectHas s (λ class. ThisFound s from (found_at s token) (Refers class)) d
+
+abbrev pub IdentifierGives : Source → Place → (token : ℕ) → (connection : Option ℕ) → (own : Option DeclNo) → Expressions → (Indices : Type 0) → (Operands : List Kind → Type 0) → (Actuals : List Formal → Type 0) → Option Holds → Type 0
+IdentifierGives s from token None (Some d) es Indices Operands Actuals h = DeclaredGives s (OwnKnown s from token d) d es Indices Actuals (entry_of s.tables d) h
+IdentifierGives s from token None None es Indices Operands Actuals h = NamedGives s from None (denoted s token) es Indices Operands Actuals h
+IdentifierGives s from token (Some k) own es Indices Operands Actuals h = NamedGives s from (Some k) (denoted s token) es Indices Operands Actuals h
+
 -- A reference is held against the qualification of its formal parameter when it is passed.
 abbrev pub passed : Holds → Holds
 passed (Refers class) = Simply kind.Reference
@@ -183,16 +212,6 @@ ActualFits s _ _ _ Is = ⊥
 pub record ClassNamed (s : Source) (token : ℕ) : Type 0 where
   pub class : ℕ
   pub is : class_at s token ≡ Some class
-
--- `this`: the object of a class around, a prefixed block around, or what is connected
-abbrev pub ThisIs : Source → Place → (is_connection has_levels : Bool) → (found : ℕ) → Holds → Type 0
-ThisIs s from true c k h = StandsAround s from k × Fits s (reference_to (base s.tables k)) h
-ThisIs s from false true k h = StandsAround s from k × Fits s (Refers k) h
-ThisIs s from false false k h = ⊥
-
-abbrev pub ThisFound : Source → Place → (found : Option ℕ) → Holds → Type 0
-ThisFound s from None h = ⊥
-ThisFound s from (Some k) h = ThisIs s from (is_connection (text s k)) (has_levels (text s k)) k h
 
 -- the class is seen, and the actual parameters fit the formal parameters of all its levels
 pub record Generates (s : Source) (from : Place) (token : ℕ) (Actuals : List Formal → Type 0) : Type 0 where
@@ -220,7 +239,7 @@ abbrev mutual
   ExprIs s from (syntax.Qua token a class) h = (c : ClassNamed s class.token.0) × Fits s (Refers c.class) h × ExprIs s from a (Simply kind.Reference)
   ExprIs s from (syntax.Constant literal token) h = LiteralIs s token literal h
   ExprIs s from (syntax.Named name es) h =
-      NamedGives s from (connection_at s name.token.0) (denoted s name.token.0) es (AreIntegers s from es) (λ ks. AreOf s from es ks) (λ fs. ActualsFit s from es fs) (Some h)
+      IdentifierGives s from name.token.0 (connection_at s name.token.0) (own_attribute s name.token.0) es (AreIntegers s from es) (λ ks. AreOf s from es ks) (λ fs. ActualsFit s from es fs) (Some h)
   ExprIs s from (syntax.This token class) h = ThisFound s from (found_at s token) h
   ExprIs s from (syntax.New token class es) h = NewIs s from class.token.0 (λ fs. ActualsFit s from es fs) h
   ExprIs s from (syntax.Parentheses token a) h = ExprIs s from a h

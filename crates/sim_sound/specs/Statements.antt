@@ -18,13 +18,13 @@ use Rattle.sim_tree.specs.Syntax as syntax
 use Rattle.sim_values.specs.declared.kind.Kind.{Kind}
 use Rattle.sim_values.specs.declared.kind.Kind.TheVariants as kind
 use Rattle.sim_code.specs.Transfers.{Calling, Detaching, Resuming, Transfer}
-use Rattle.sim_meaning.specs.Attributes.{connection_at, first_in, transfer_at}
+use Rattle.sim_meaning.specs.Attributes.{connection_at, first_in, own_attribute, transfer_at}
 use Rattle.sim_meaning.specs.Closing.{class_parameters, is_text, result_meant, stream_of, typed_token}
 use Rattle.sim_meaning.specs.Levels.{class_at, is_class, qualification}
 use Rattle.sim_meaning.specs.Statements.{begin_of, leaves}
 use Rattle.sim_meaning.specs.Texts.{BlockText, ConnectionText, PrefixedText, text}
 use Rattle.sim_sound.specs.Held.{Around, ArrayOf, Holds, In, Refers, Simply, entry_holds, held_by, reference_to, result_holds}
-use Rattle.sim_sound.specs.Expressions.{ActualsFit, AreIntegers, AreOf, DotGives, ExprIs, KnownAt, NamedGives, ObjectHas, ThisFound}
+use Rattle.sim_sound.specs.Expressions.{ActualsFit, AreIntegers, AreOf, DotGives, ExprIs, IdentifierGives, KnownAt, ObjectHas, ThisFound}
 
 -- ---- left sides
 
@@ -148,7 +148,7 @@ OrTransferIs (Some c) Transfers Other = Transfers c
 abbrev pub CallIs : Source → ℕ → Expression → Type 0
 CallIs s t (syntax.Named name es) =
     OrTransferIs (transfer_at s name.token.0) (λ c. TransferIs s t c (found_at s name.token.0) es)
-    ((h : Option Holds) × NamedGives s (In t) (connection_at s name.token.0) (denoted s name.token.0) es (AreIntegers s (In t) es) (λ ks. AreOf s (In t) es ks) (λ fs. ActualsFit s (In t) es fs) h × (leaves s (syntax.Named name es) ≡ is_given h))
+    ((h : Option Holds) × IdentifierGives s (In t) name.token.0 (connection_at s name.token.0) (own_attribute s name.token.0) es (AreIntegers s (In t) es) (λ ks. AreOf s (In t) es ks) (λ fs. ActualsFit s (In t) es fs) h × (leaves s (syntax.Named name es) ≡ is_given h))
 CallIs s t (syntax.Dot token a name es) =
     OrTransferIs (transfer_at s name.token.0) (λ c. ExprIs s (In t) a (Simply kind.Reference) × AreOf s (In t) es [])
     ((h : Option Holds) × DotGives s (denoted s name.token.0) (stream_of s a) (ExprIs s (In t) a (Simply kind.Text)) (λ c. ExprIs s (In t) a (Refers c)) es (AreIntegers s (In t) es) (λ ks. AreOf s (In t) es ks) (λ fs. ActualsFit s (In t) es fs) h × (leaves s (syntax.Dot token a name es) ≡ is_given h))

@@ -1,6 +1,6 @@
--- Which programs are typed: what the static rules give, as far as a run rests on it. So far for programs that have no prefix themselves, and no
--- parameters by name and formal procedures.
-use Rattle.std.specs.Prelude.{◌≡◌, ◌<◌, ℕ, suc, true, false, List, [], ◌∷◌, length, slice_get, Option, Some, None}
+-- Which programs are typed: what the static rules give, as far as a run rests on it. So far for programs without `simulation`, parameters by
+-- name and formal procedures.
+use Rattle.std.specs.Prelude.{◌≡◌, ◌<◌, ◌+◌, ℕ, suc, true, false, List, [], ◌∷◌, length, slice_get, Option, Some, None}
 use Rattle.std.specs.List.{list_any}
 use Rattle.sim_base.specs.declared.numbering.DeclNo.{DeclNo}
 use Rattle.sim_scope.specs.declared.scopes.Declaration.{Declaration}
@@ -8,22 +8,32 @@ use Rattle.sim_scope.specs.declared.types.Entry.{Entry}
 use Rattle.sim_scope.specs.declared.types.Entry.TheVariants as entry
 use Rattle.sim_scope.specs.declared.types.Formal.{Formal}
 use Rattle.sim_scope.specs.declared.types.SimType.{SimType}
+use Rattle.sim_scope.specs.declared.types.StandardClass.{StandardClass}
+use Rattle.sim_scope.specs.declared.types.StandardClass.TheVariants as standard
 use Rattle.sim_scope.specs.Access.{encloser}
-use Rattle.sim_scope.specs.Levels.{base, has_level, has_standard, owner_of_level}
+use Rattle.sim_scope.specs.Levels.{base, has_level, is_simulation_block, owner_of_level}
 use Rattle.sim_scope.specs.Scopes.{class_formals, entry_of}
 use Rattle.sim_scope.specs.Source.{Source, block_around, block_of, level_of}
+use Rattle.sim_scope.specs.Standard.{parameter_of, result_of}
 use Rattle.sim_scope.specs.Tables.{Tables}
 use Rattle.sim_tree.specs.declared.expr.Identifier.{Identifier}
 use Rattle.sim_tree.specs.declared.stmt.TypeName.{TypeName}
-use Rattle.sim_tree.specs.Syntax.{Arrayed, Arrays, BoundPair, Declarations, DeclareClass, DeclareProcedure, Heading, NoDeclaration, Statement, Statements, Variables, With}
+use Rattle.sim_tree.specs.Syntax.{Arrayed, Arrays, BoundPair, Declarations, DeclareClass, DeclareProcedure, Expressions, Heading, NoDeclaration, NoStatement, Statement, Statements, Variables, With}
 use Rattle.sim_values.specs.declared.kind.Kind.TheVariants as kind
+use Rattle.sim_values.specs.declared.standard.Owner.{Owner}
+use Rattle.sim_values.specs.declared.standard.Owner.TheVariants as owner
+use Rattle.sim_values.specs.declared.standard.Standard.{Standard}
+use Rattle.sim_values.specs.declared.standard.StandardType.{StandardType}
+use Rattle.sim_values.specs.declared.standard.StandardType.TheVariants as of
 use Rattle.sim_values.specs.Plain.{Plain, kind_of}
+use Rattle.sim_values.specs.Standard.{row_of}
+use Rattle.sim_code.specs.Sets.{is_set_name}
 use Rattle.sim_meaning.specs.Attributes.{first_in, is_connection}
 use Rattle.sim_meaning.specs.Closing.{class_parameters}
 use Rattle.sim_meaning.specs.Entries.{formals_of, is_held, numbers_of}
 use Rattle.sim_meaning.specs.Levels.{has_levels, is_class}
-use Rattle.sim_meaning.specs.Texts.{BlockText, ClassText, ConnectionText, PrefixedText, ProcedureText, Text, constant_of, declared_at, is_class_free, kind_named, kind_of_type, text}
-use Rattle.sim_sound.specs.Held.{Among, ArrayOf, Holds, InBound, IsFormal, IsOfKind, Place, Simply, entry_holds, formal_holds, held_by, result_holds}
+use Rattle.sim_meaning.specs.Texts.{BlockText, ClassText, ConnectionText, PrefixedText, ProcedureText, StandardText, Text, constant_of, declared_at, is_class_free, kind_named, kind_of_type, text}
+use Rattle.sim_sound.specs.Held.{Among, ArrayOf, Holds, InBound, IsFormal, IsOfKind, Place, Refers, Simply, entry_holds, formal_holds, held_by, result_holds}
 use Rattle.sim_sound.specs.Expressions.{ExprIs}
 use Rattle.sim_sound.specs.Statements.{StatementIs, StatementsAre}
 
@@ -144,7 +154,7 @@ pub record ClassTyped (s : Source) (k : ℕ) (ds : Declarations) (ss : Statement
   pub statements : StatementsAre s k ss
   -- it lasts, with all texts around
   pub stays : is_class_free s k ≡ false
-  pub not_standard : has_standard s.tables k ≡ false
+  pub not_simulation : is_simulation_block s.tables k ≡ false
 
 -- a connection is the text around the token with which it begins
 pub record ConnectionTyped (s : Source) (k : ℕ) : Type 0 where
@@ -157,7 +167,7 @@ TextTyped s k (ProcedureText result h a) = ProcedureTyped s k result a
 TextTyped s k (ClassText prefix h ds ss) = ClassTyped s k ds ss
 TextTyped s k (PrefixedText class arguments ds ss) = ClassTyped s k ds ss
 TextTyped s k ConnectionText = ConnectionTyped s k
-TextTyped s k _ = ⊥
+TextTyped s k (StandardText which) = ClassTyped s k NoDeclaration NoStatement
 
 -- ---- prefixes
 
@@ -202,28 +212,82 @@ pub record ProcedureThere (s : Source) (d : DeclNo) (k : ℕ) : Type 0 where
 
 -- and so does that of a class
 pub record ClassThere (s : Source) (d : DeclNo) (k : ℕ) : Type 0 where
-  pub prefix : Option Identifier
-  pub heading : Heading
-  pub declarations : Declarations
-  pub statements : Statements
-  pub is : text s k ≡ Some (ClassText prefix heading declarations statements)
+  pub is : is_class (text s k) ≡ true
   pub around : encloser s.tables k ≡ Some (block_of s d)
 
+-- The program's block may have a prefix, which gives no level in front of it, and no formal parameters.
+pub data Starts (s : Source) : Type 0 where
+  as_block : {begin : ℕ} {ds : Declarations} {ss : Statements} → text s 0 ≡ Some (BlockText begin ds ss) → Starts s
+  as_prefixed : {class : Identifier} {es : Expressions} {ds : Declarations} {ss : Statements} → text s 0 ≡ Some (PrefixedText class es ds ss) → base s.tables 0 ≡ None → class_formals s.tables 0 ≡ [] → Starts s
+
+-- ---- the classes of SIMSET
+
+-- Three classes that were brought together, by the text of the first: `linkage`, and then `link` and `head`, which have it for a prefix.
+pub record SetClasses (s : Source) (linkage : ℕ) : Type 0 where
+  pub linkage_is : text s linkage ≡ Some (StandardText standard.Linkage)
+  pub link_is : text s (linkage + 1) ≡ Some (StandardText standard.Link)
+  pub head_is : text s (linkage + 2) ≡ Some (StandardText standard.Head)
+  pub first : base s.tables linkage ≡ None
+  pub link_prefix : base s.tables (linkage + 1) ≡ Some linkage
+  pub head_prefix : base s.tables (linkage + 2) ≡ Some linkage
+
+-- which of these a class of SIMSET is
+abbrev pub set_place : StandardClass → Option ℕ
+set_place standard.Linkage = Some 0
+set_place standard.Link = Some 1
+set_place standard.Head = Some 2
+set_place standard.Process = None
+
+pub record SetClassThere (s : Source) (k : ℕ) (which : StandardClass) : Type 0 where
+  pub linkage : ℕ
+  pub classes : SetClasses s linkage
+  pub place : ℕ
+  pub placed : set_place which ≡ Some place
+  pub is : k ≡ linkage + place
+
+-- the class of SIMSET that has an attribute, among those that were brought together
+abbrev pub owner_place : Owner → Option ℕ
+owner_place owner.Linkage = Some 0
+owner_place owner.Link = Some 1
+owner_place owner.Head = Some 2
+owner_place _ = None
+
+-- a type of the table, as one of these classes or a plain type
+abbrev pub SetType : Source → (linkage : ℕ) → Option StandardType → Option SimType → Type 0
+SetType s linkage None None = Unit {0}
+SetType s linkage (Some of.Boolean) (Some type) = held_by s type ≡ Simply kind.Boolean
+SetType s linkage (Some of.Integer) (Some type) = held_by s type ≡ Simply kind.Integer
+SetType s linkage (Some of.Linkage) (Some type) = held_by s type ≡ Refers linkage
+SetType s linkage (Some of.Link) (Some type) = held_by s type ≡ Refers (linkage + 1)
+SetType s linkage (Some of.Head) (Some type) = held_by s type ≡ Refers (linkage + 2)
+SetType s linkage _ _ = ⊥
+
+-- A procedure of SIMSET is declared in the class that has it, with the types of the table.
+pub record SetProcedureThere (s : Source) (d : DeclNo) (name : Standard) (parameter result : Option SimType) : Type 0 where
+  pub linkage : ℕ
+  pub classes : SetClasses s linkage
+  pub place : ℕ
+  pub placed : owner_place (row_of name).owner ≡ Some place
+  pub declared : block_of s d ≡ linkage + place
+  pub parameter_is : SetType s linkage (parameter_of name) parameter
+  pub result_is : SetType s linkage (result_of name) result
+
 pub record Typed (s : Source) : Type 0 where
-  pub begin : ℕ
-  pub declarations : Declarations
-  pub statements : Statements
-  pub starts : text s 0 ≡ Some (BlockText begin declarations statements)
+  pub starts : Starts s
   pub some_block : 0 < length s.tables.blocks
   pub outermost : encloser s.tables 0 ≡ None
   pub levels : (t u : ℕ) → is_connection (text s t) ≡ false → encloser s.tables t ≡ Some u → level_of s t ≡ suc (level_of s u)
-  -- each declaration is listed in its block
-  pub listed : (d : DeclNo) (row : Declaration) → slice_get s.tables.declarations d.0 ≡ Some row → Among d (numbers_of s row.block)
+  -- each declaration that has a cell is listed in its block
+  pub listed : (d : DeclNo) (row : Declaration) (h : Holds) → slice_get s.tables.declarations d.0 ≡ Some row → entry_holds s true (Some row.entry) ≡ Some h → Among d (numbers_of s row.block)
   pub procedures : (d : DeclNo) (result : Option SimType) (k : ℕ) → entry_of s.tables d ≡ Some (entry.Procedure result k) → ProcedureThere s d k
   pub classes : (d : DeclNo) (k : ℕ) → entry_of s.tables d ≡ Some (entry.Class k) → ClassThere s d k
+  pub set_classes : (k : ℕ) (which : StandardClass) → text s k ≡ Some (StandardText which) → SetClassThere s k which
+  pub set_procedures : (d : DeclNo) (name : Standard) (parameter result : Option SimType) → entry_of s.tables d ≡ Some (entry.Attribute name parameter result) → is_set_name name ≡ true → SetProcedureThere s d name parameter result
   pub texts : (k : ℕ) (x : Text) → text s k ≡ Some x → TextTyped s k x
   -- a text around one that is not class-free is not class-free
   pub not_class_free : (t u : ℕ) → encloser s.tables t ≡ Some u → is_class_free s t ≡ false → is_class_free s u ≡ false
   pub prefixes : Prefixes s
+  -- no block has a class of SIMSET for a prefix, or among the levels of it
+  pub no_set_block : (k u : ℕ) (which : StandardClass) (class : Identifier) (es : Expressions) (ds : Declarations) (ss : Statements) → text s k ≡ Some (PrefixedText class es ds ss) → has_level s.tables k u ≡ true → text s u ≡ Some (StandardText which) → ⊥
   -- So far no procedure that is not class-free has a parameter for which instances are kept: an array by reference.
   pub keeps_none : (k : ℕ) (result : Option TypeName) (h : Heading) (a : Statement) → text s k ≡ Some (ProcedureText result h a) → is_class_free s k ≡ false → list_any is_held (formals_of s k) ≡ false

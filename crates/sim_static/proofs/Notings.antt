@@ -1,7 +1,7 @@
 -- The search for forms that are not built, construct by construct.
 use Rattle.std.proofs.Common.{◌≡◌, ◌<◌, ℕ, suc, arith, Bool, true, false, ◌||◌, List, [], ◌∷◌, Option, Some, None, refl, sym, ap, ◌∙◌, map, length}
 use Rattle.std.specs.List.{list_any}
-use Rattle.std.specs.Prelude.{◌==◌, is_some, not, option_map}
+use Rattle.std.specs.Prelude.{◌==◌, not}
 use Rattle.std.specs.declared.alloc.Global.{Global}
 use Rattle.std.specs.declared.boxed.Box.{Box}
 use Rattle.std.specs.declared.vec.Vec.{Vec}
@@ -30,7 +30,7 @@ use Rattle.sim_tree.specs.declared.stmt.Timing.{Timing}
 use Rattle.sim_tree.specs.declared.stmt.TypeName.{TypeName}
 use Rattle.sim_tree.specs.declared.stmt.Variable.{Variable}
 use Rattle.sim_tree.specs.declared.stmt.When.{When}
-use Rattle.sim_tree.specs.SyntaxOfProgram.{heading_syntax, interface_syntax, mode_syntax, prefix_syntax, program_syntax, specification_syntax, specifier_syntax, virtual_syntax}
+use Rattle.sim_tree.specs.SyntaxOfProgram.{heading_syntax, interface_syntax, mode_syntax, program_syntax, specification_syntax, specifier_syntax, virtual_syntax}
 use Rattle.sim_scope.specs.declared.types.Position.{Position}
 use Rattle.sim_scope.specs.declared.types.Position.TheVariants.{ClassBody, Inside}
 use Rattle.sim_scope.specs.Runs.{Runs, each, run}
@@ -177,13 +177,8 @@ unfolding run
 noted b [] = sym (or_false b)
 noted b (h ∷ hs) = noted (b || h) hs ∙ sym (or_or b h (list_any yes hs))
 
-prefix_there : (o : Option BlockPrefix) → is_some o ≡ is_some (option_map prefix_syntax o)
-prefix_there None = refl
-prefix_there (Some x) = refl
-
-pub whole_program : (tree : Tree) (b m : Bool) → m ≡ is_some tree.prefix → Runs note m b (of_whole forms tree.block) → HasUnbuiltForm tree b
+pub whole_program : (tree : Tree) (b : Bool) → Runs note false b (of_whole forms tree.block) → HasUnbuiltForm tree b
 unfolding HasUnbuiltForm has_unbuilt_form Runs
-whole_program tree b m there h =
-    run_program note forms false m b tree (runs_one note false m (is_some (option_map prefix_syntax tree.prefix)) (there ∙ prefix_there tree.prefix)) h ∙ noted false (program_events forms (program_syntax tree))
+whole_program tree b h = run_program note forms false false b tree (runs_none note false) h ∙ noted false (program_events forms (program_syntax tree))
 
 pub ruleset unbuilt = (whole_program)

@@ -1,6 +1,6 @@
--- Which programs have a form that is not built: a prefix of the program itself, virtual procedures, a parameter by name, a procedure as a
--- parameter, and an activation. As long as these are not built, `run` refuses such a program before any rule on names and types.
-use Rattle.std.specs.Prelude.{◌≡◌, ◌==◌, Bool, true, false, ◌||◌, not, List, [], ◌∷◌, length, is_some}
+-- Which programs have a form that is not built: virtual procedures, a parameter by name, a procedure as a parameter, and an activation. As long as
+-- these are not built, `run` refuses such a program before any rule on names and types.
+use Rattle.std.specs.Prelude.{◌≡◌, ◌==◌, Bool, true, false, ◌||◌, not, List, [], ◌∷◌, length}
 use Rattle.std.specs.List.{list_any}
 use Rattle.sim_tree.specs.declared.program.Program.{Program as Tree}
 use Rattle.sim_tree.specs.declared.stmt.Mode.{Mode}
@@ -43,11 +43,11 @@ has_some (x ∷ xs) = true
 abbrev pub is_unbuilt_class : Heading → Interface → Bool
 is_unbuilt_class heading x = has_code heading || has_some x.virtuals
 
--- in the order of the text: of the program whether it has a prefix, of each procedure whether it has such a parameter, of each class whether it
--- is of these, and of each activation that it is one
+-- in the order of the text: of each procedure whether it has such a parameter, of each class whether it is of these, and of each activation that it
+-- is one
 abbrev pub forms : Visit Bool
 forms = record {
-  program = λ prefix begin. is_some prefix ∷ [];
+  program = λ prefix begin. [];
   block = λ begin. [];
   prefixed = λ class arguments begin. [];
   procedure = λ result token heading. has_code heading ∷ [];

@@ -1,6 +1,6 @@
--- Which sources have a standard name that is not built, by their tokens: one of sets or of simulation. As long as these are not built, `run`
--- refuses such a source before any rule on names and types.
-use Rattle.std.specs.Prelude.{◌≡◌, ℕ, Bool, true, false, ◌||◌, ◌&&◌, not, List, [], ◌∷◌, codes, drop}
+-- Which sources have a standard name that is not built, by their tokens: one of simulation. As long as these are not built, `run` refuses such a
+-- source before any rule on names and types.
+use Rattle.std.specs.Prelude.{◌≡◌, ℕ, Bool, true, false, ◌||◌, List, [], ◌∷◌, drop}
 use Rattle.std.specs.List.{list_any}
 use Rattle.std.specs.Str.{bytes_eq}
 use Rattle.sim_base.specs.declared.token.Token.{Token}
@@ -8,17 +8,14 @@ use Rattle.sim_base.specs.declared.token.TokenKind.{TokenKind}
 use Rattle.sim_base.specs.declared.token.TokenKind.TheVariants as k
 use Rattle.sim_base.specs.declared.token.TokenValue.{TokenValue}
 use Rattle.sim_base.specs.Lexeme.{bytes_of}
-use Rattle.sim_scope.specs.ClassNames.{is_name_of_classes}
+use Rattle.sim_scope.specs.ClassNames.{names_of_simulation}
 
--- those of coroutines are built
-abbrev pub names_built : List (List ℕ)
-names_built = codes "detach" ∷ codes "call" ∷ codes "resume" ∷ []
-
+-- those of coroutines and of sets are built
 unfoldable pub is_unbuilt_name : List ℕ → Bool
-is_unbuilt_name name = is_name_of_classes name && not (list_any (bytes_eq name) names_built)
+is_unbuilt_name name = list_any (bytes_eq name) names_of_simulation
 
--- Behind a dot stands an attribute of a text or of an object. Those of the standard classes come only where such a class is named, and `t.main` is
--- the text of which t is a part.
+-- Behind a dot stands an attribute of a text or of an object. Those of processes come only where their class is named, and `t.main` is the text of
+-- which t is a part.
 abbrev pub is_unbuilt : (dotted : Bool) → List ℕ → Bool
 is_unbuilt true name = false
 is_unbuilt false name = is_unbuilt_name name

@@ -1,5 +1,5 @@
-//! Programs with a form that is not built: a prefix of the program, virtual procedures, parameters by name and of procedures, activations.
-ghost use Rattle.std.specs.Prelude.{◌≡◌, ◌||◌, false};
+//! Programs with a form that is not built: virtual procedures, parameters by name and of procedures, activations.
+ghost use Rattle.std.specs.Prelude.{◌≡◌, ◌||◌};
 ghost use Rattle.std.specs.List.{list_any};
 ghost use Rattle.sim_scope.specs.Runs.{each};
 ghost use Rattle.sim_scope.specs.Walk.{of_arm, of_block, of_branch, of_class_body, of_declaration, of_statement, of_whole};
@@ -211,11 +211,10 @@ fn declaration(met: bool, decl: &Decl) -> bool
     }
 }
 
-/// Whether a program has a prefix itself, virtual procedures, a parameter by name, a procedure as a parameter, or an activation,
-/// wherever it stands.
+/// Whether a program has virtual procedures, a parameter by name, a procedure as a parameter, or an activation, wherever it stands.
 #[tactic(auto, using(crate::proofs::Notings::unbuilt))]
 pub fn has_unbuilt_form(program: &Program) -> bool
     ensures { HasUnbuiltForm program.now result }
 {
-    whole(program.prefix.is_some(), &program.block)
+    whole(false, &program.block)
 }

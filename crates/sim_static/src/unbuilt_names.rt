@@ -2,16 +2,9 @@
 ghost use Rattle.std.specs.Prelude.{◌≡◌, ◌||◌};
 ghost use Rattle.std.specs.List.{list_any};
 ghost use Rattle.std.specs.Str.{bytes_eq};
-ghost use Rattle.sim_scope.specs.ClassNames.{is_name_of_classes, names_of_classes, names_of_simulation};
-ghost use Rattle.sim_static.specs.UnbuiltNames.{HasUnbuiltName, is_dot, is_unbuilt, is_unbuilt_name, names_built, spells, spells_here};
+ghost use Rattle.sim_static.specs.UnbuiltNames.{HasUnbuiltName, is_dot, is_unbuilt, is_unbuilt_name, spells, spells_here};
 
 use sim_base::{Token, TokenKind, TokenValue};
-
-/// The standard names of classes and of sets.
-static NAMES_OF_CLASSES: [&str; 19] = [
-    "detach", "call", "resume", "simset", "linkage", "suc", "pred", "prev", "link", "out",
-    "follow", "precede", "into", "head", "first", "last", "empty", "cardinal", "clear",
-];
 
 /// The standard names of simulation.
 static NAMES_OF_SIMULATION: [&str; 13] = [
@@ -30,45 +23,17 @@ static NAMES_OF_SIMULATION: [&str; 13] = [
     "cancel",
 ];
 
-/// Those of them that are built.
-static NAMES_BUILT: [&str; 3] = ["detach", "call", "resume"];
-
 fn contains(names: &[&str], name: &[u8]) -> bool
     ensures { result ≡ list_any (λ word. bytes_eq name.now word.now) names.now }
 {
     names.iter().any(|word| name == word.as_bytes())
 }
 
-fn is_of_classes(name: &[u8]) -> bool
-    ensures { result ≡ list_any (bytes_eq name.now) names_of_classes }
-{
-    contains(&NAMES_OF_CLASSES, name)
-}
-
-fn is_of_simulation(name: &[u8]) -> bool
-    ensures { result ≡ list_any (bytes_eq name.now) names_of_simulation }
-{
-    contains(&NAMES_OF_SIMULATION, name)
-}
-
-#[tactic(auto, unfolding(sim_scope::specs::ClassNames::is_name_of_classes))]
-fn is_name_of_classes(name: &[u8]) -> bool
-    ensures { result ≡ is_name_of_classes name.now }
-{
-    is_of_classes(name) || is_of_simulation(name)
-}
-
-fn is_built(name: &[u8]) -> bool
-    ensures { result ≡ list_any (bytes_eq name.now) names_built }
-{
-    contains(&NAMES_BUILT, name)
-}
-
 #[tactic(auto, unfolding(crate::specs::UnbuiltNames::is_unbuilt_name))]
 fn is_unbuilt_name(name: &[u8]) -> bool
     ensures { result ≡ is_unbuilt_name name.now }
 {
-    is_name_of_classes(name) && !is_built(name)
+    contains(&NAMES_OF_SIMULATION, name)
 }
 
 /// Whether an identifier, which stands behind a dot or not, is spelt as a name that is not built.
@@ -103,8 +68,8 @@ fn spells_here(dotted: bool, token: &Token) -> bool
     spells(dotted, token.lexeme.kind, &token.lexeme.value)
 }
 
-/// Whether the tokens of a source have an identifier that is spelt as a standard name that is not built: one of sets or of simulation. Behind a
-/// dot none is: these are attributes of the standard classes alone, which are named where they are used.
+/// Whether the tokens of a source have an identifier that is spelt as a standard name that is not built: one of simulation. Behind a dot none
+/// is: these are attributes of processes alone, whose class is named where they are used.
 #[tactic(auto, using(crate::proofs::Names::named))]
 pub fn has_unbuilt_name(tokens: &[Token]) -> bool
     ensures { HasUnbuiltName tokens.now result }

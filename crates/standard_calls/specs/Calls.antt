@@ -15,7 +15,6 @@ use Rattle.sim_code.specs.Outcome.{Run, World}
 use Rattle.sim_code.specs.Events.{computing, having, no_rule, taking}
 use Rattle.sim_code.specs.Machine.{Machine, Value, Of, plain}
 use Rattle.sim_code.specs.Rows.{with_value}
-use Rattle.sim_code.specs.Running.{name_runs}
 use Rattle.text_objects.specs.Making.{Makes}
 use Rattle.text_objects.specs.declared.fault.TextFault.{TextFault}
 use Rattle.text_objects.specs.declared.fault.TextFault.TheVariants as making
@@ -28,6 +27,7 @@ use Rattle.frame_arena.specs.declared.slot.Slot.{Slot}
 use Rattle.frame_arena.specs.Arrays.{names_array}
 use Rattle.frame_arena.specs.Frames.{names_frame}
 use Rattle.frame_arena.specs.Slots.{is_plain, value_of}
+use Rattle.standard_calls.specs.Quiet.{is_done}
 use Rattle.frame_arena.specs.Stacks.{values_of}
 use Rattle.standard_calls.specs.declared.calls.OfNothing.{OfNothing}
 use Rattle.standard_calls.specs.declared.calls.OfNothing.TheVariants as nothing
@@ -124,7 +124,7 @@ HasShape n (shape.Text f) = n ≡ text_name f
 HasShape n (shape.TextAndInteger f) = n ≡ text_and_integer_name f
 HasShape n shape.TextAndIntegers = n ≡ name.TextSub
 HasShape n shape.TextAndCharacter = n ≡ name.TextPutchar
-HasShape n shape.Elsewhere = name_runs n ≡ false
+HasShape n shape.Elsewhere = is_done n ≡ false
 
 abbrev pub name_of : Call → Standard
 name_of (call.Nothing f) = nothing_name f

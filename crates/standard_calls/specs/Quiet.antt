@@ -1,11 +1,18 @@
 -- How standard names are done. A quiet one works on its operands and on texts alone, and touches neither input nor output.
+use Rattle.std.specs.Prelude.{Bool, false, if◌then◌else◌}
 use Rattle.sim_values.specs.declared.standard.Standard.{Standard}
 use Rattle.sim_values.specs.declared.standard.Standard.TheVariants as name
 use Rattle.sim_values.specs.Standard.{Function, of_character, of_integer, of_integers, of_text, of_text_and_character, of_text_and_integer}
+use Rattle.sim_code.specs.Running.{name_runs}
+use Rattle.sim_code.specs.Sets.{is_set_name}
 use Rattle.standard_calls.specs.declared.manner.Manner.{Manner}
 use Rattle.standard_calls.specs.declared.manner.Manner.TheVariants as manner
 use Rattle.standard_calls.specs.declared.names.Performed.{Performed}
 use Rattle.standard_calls.specs.declared.names.Performed.TheVariants as performed
+
+-- The names that are done here are those that run, but for the procedures of sets.
+abbrev pub is_done : Standard → Bool
+is_done n = if is_set_name n then false else name_runs n
 
 -- A name is quiet where its manner is not `Ports`.
 abbrev pub manner_of : Standard → Manner

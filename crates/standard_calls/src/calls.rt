@@ -1,8 +1,8 @@
 //! The standard names that run, by the kinds of their operands.
 ghost use Rattle.std.specs.Prelude.{◌≡◌, length, true};
 ghost use Rattle.sim_values.specs.Standard.{operands_of, row_of};
-ghost use Rattle.sim_code.specs.Running.{name_runs};
 ghost use Rattle.standard_calls.specs.Calls.{HasShape, operands};
+ghost use Rattle.standard_calls.specs.Quiet.{is_done};
 
 use sim_values::{Standard, TextVal};
 
@@ -212,7 +212,7 @@ pub fn shape_of(name: Standard) -> Shape
 /// How many operands a name that runs takes.
 #[inline(always)]
 pub fn operand_count(name: Standard) -> usize
-    requires runs { name_runs name ≡ true }
+    requires runs { is_done name ≡ true }
     ensures count { result ≡ length (operands_of (row_of name).function) }
 {
     match shape_of(name) {

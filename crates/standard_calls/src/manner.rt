@@ -1,8 +1,7 @@
 //! How standard names are done.
 ghost use Rattle.std.specs.Prelude.{◌≡◌, true};
 ghost use Rattle.sim_values.specs.Standard.{row_of};
-ghost use Rattle.sim_code.specs.Running.{name_runs};
-ghost use Rattle.standard_calls.specs.Quiet.{OnNumbers, OnText, manner_of as manner};
+ghost use Rattle.standard_calls.specs.Quiet.{OnNumbers, OnText, is_done, manner_of as manner};
 
 use sim_values::Standard;
 
@@ -25,7 +24,7 @@ pub fn manner_of(name: Standard) -> Manner
     ensures manner { result ≡ manner name }
     ensures plain { result ≡ Manner.Plain → OnNumbers (row_of name).function }
     ensures scan { result ≡ Manner.Scan → OnText (row_of name).function }
-    ensures runs { (result ≡ Manner.Ports → ⊥) → name_runs name ≡ true }
+    ensures runs { (result ≡ Manner.Ports → ⊥) → is_done name ≡ true }
 {
     match name {
         Standard::Abs => Manner::Plain,

@@ -4,7 +4,6 @@ ghost use Rattle.std.specs.Io.KnownBytes.{Appends};
 ghost use Rattle.sim_values.specs.Texts.{KeepsTexts, at_position};
 ghost use Rattle.sim_code.specs.Machine.{Frames};
 ghost use Rattle.sim_code.specs.Outcome.{ArrayOf};
-ghost use Rattle.sim_code.specs.Running.{name_runs};
 ghost use Rattle.basic_io.specs.Image.{IsImage};
 ghost use Rattle.frame_arena.specs.Arrays.{AllLeadArrays, RegionOf};
 ghost use Rattle.frame_arena.specs.declared.frames.Frame.{Frame};
@@ -12,7 +11,7 @@ ghost use Rattle.frame_arena.specs.Frames.{AllLead};
 ghost use Rattle.frame_arena.specs.Stacks.{values_of};
 ghost use Rattle.standard_calls.specs.Calls.{HasText, ReadAs};
 ghost use Rattle.standard_calls.specs.declared.manner.Manner.TheVariants as manner;
-ghost use Rattle.standard_calls.specs.Quiet.{manner_of};
+ghost use Rattle.standard_calls.specs.Quiet.{is_done, manner_of};
 ghost use Rattle.standard_calls.specs.Taking.{RowTakes};
 ghost use Rattle.standard_calls.specs.Unread.{Unread};
 ghost use Rattle.standard_calls.specs.Performed.{IfDepth, IfMoved, PerformedAs, PerformedFaults, PerformedStops, held, parts};
@@ -125,7 +124,7 @@ pub fn perform<I: Source, O: Sink>(
     input: &mut I,
     out: &mut O,
 ) -> Performed
-    requires runs { name_runs name ≡ true }
+    requires runs { is_done name ≡ true }
     requires loud { manner_of name ≡ manner.Ports }
     requires fits { depth ≤ length stack.old }
     requires image { IsImage texts.old image.old }

@@ -307,8 +307,7 @@ module _ (s : Source) (k : ℕ) where
   unfolding first_cells
   connection_cells = refl
 
-  standard_cells : (which : StandardClass) → [] ≡ own_cells s k (StandardText which)
-  unfolding first_cells
+  standard_cells : (which : StandardClass) → cells_from s (numbers_of s k) ≡ own_cells s k (StandardText which)
   standard_cells which = refl
 
   pub place_class : (a c : List (Option ℕ)) (n : ℕ) (ns : List DeclNo) (x : TextTree) (r : Bor (Option Identifier)) (q : Bor Class) (z : Bor Block) → x ≡ tree.Class r q z → ns ≡ numbers_of s k → Places s k a c 0 (cells_from s ns) n → Places s k a c 0 (own_cells s k (text_in x)) n
@@ -323,8 +322,8 @@ module _ (s : Source) (k : ℕ) where
   pub place_connection : (a : List (Option ℕ)) (x : TextTree) → x ≡ tree.Connection → Places s k a a 0 (own_cells s k (text_in x)) 0
   place_connection a x is = places_as a a 0 0 [] (own_cells s k (text_in x)) (connection_cells ∙ ap (λ z. own_cells s k (text_in z)) (sym is)) (places_none a 0)
 
-  pub place_standard : (a : List (Option ℕ)) (x : TextTree) (which : StandardClass) → x ≡ tree.Standard which → Places s k a a 0 (own_cells s k (text_in x)) 0
-  place_standard a x which is = places_as a a 0 0 [] (own_cells s k (text_in x)) (standard_cells which ∙ ap (λ z. own_cells s k (text_in z)) (sym is)) (places_none a 0)
+  pub place_standard : (a c : List (Option ℕ)) (n : ℕ) (ns : List DeclNo) (x : TextTree) (which : StandardClass) → x ≡ tree.Standard which → ns ≡ numbers_of s k → Places s k a c 0 (cells_from s ns) n → Places s k a c 0 (own_cells s k (text_in x)) n
+  place_standard a c n ns x which is en f = places_as a c 0 n (cells_from s ns) (own_cells s k (text_in x)) (ap (cells_from s) en ∙ standard_cells which ∙ ap (λ z. own_cells s k (text_in z)) (sym is)) f
 
 pub place_one_of : (b : Bound) (k : ℕ) (a c : List (Option ℕ)) (d : DeclNo) (e : Option Entry) (cell n : ℕ) (u : Bool) → e ≡ entry_of b.scopes d → u ≡ has_cell e → u ≡ true → IsPlaced (source_of b) k a c d cell → n ≡ suc cell → Places (source_of b) k a c cell (cell_alone (source_of b) d) n
 unfolding source_of

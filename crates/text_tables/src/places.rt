@@ -201,7 +201,7 @@ fn place_text(
         }
         TextTree::Prefixed { .. } => place_all(bound, slots, number, 0, numbers_of(bound, number)),
         TextTree::Connection => Ok(0),
-        TextTree::Standard(_) => Ok(0),
+        TextTree::Standard(_) => place_all(bound, slots, number, 0, numbers_of(bound, number)),
     }
 }
 

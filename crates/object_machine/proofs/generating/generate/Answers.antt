@@ -6,29 +6,35 @@ use Rattle.sim_values.specs.Plain.{Object}
 use Rattle.sim_values.specs.Words.{instance_words}
 use Rattle.sim_code.specs.Arrays.{handed_over}
 use Rattle.sim_code.specs.Events.{entering}
-use Rattle.sim_code.specs.Levels.{filled_by, generating, parameter_cell}
+use Rattle.sim_code.specs.Levels.{filled_by, generating, linkage_of_class, parameter_cell}
 use Rattle.sim_code.specs.Machine.{Machine, Of, Value, arrays_among, first_cells, in_object, pushing, waiting, words_of_block}
 use Rattle.sim_code.specs.Outcome.{Run}
+use Rattle.sim_code.specs.Sets.{enrolled}
 use Rattle.frame_arena.specs.Arrays.{AllLeadArrays}
 use Rattle.frame_arena.specs.Frames.{AllLead, Holds, Leads}
 use Rattle.frame_arena.specs.Slots.{value_of}
 use Rattle.frame_arena.specs.Stacks.{values_from, values_of}
 use Rattle.object_machine.specs.declared.machine.Flow.TheVariants as flow
 use Rattle.object_machine.specs.declared.machine.Registers.{Registers}
+use Rattle.object_machine.specs.declared.machine.Storage.{Storage}
 use Rattle.object_machine.specs.declared.openings.Beginning.{Beginning}
+use Rattle.object_machine.specs.Enrolling.{AllBelow, Enrolled}
 use Rattle.object_machine.specs.Entering.{Pays, paid}
 use Rattle.object_machine.specs.Calling.{OpensWith, opened_with}
 use Rattle.object_machine.specs.Preparing.{ReadyFor, with_levels}
 use Rattle.object_machine.specs.Standing.{AllAtWork, AtWork, Leaves, Obeys, activation_at, below_of}
 use Rattle.object_machine.proofs.Covered.{covered_by}
+use Rattle.object_machine.proofs.Enrolments.{opens_enrolled}
 use Rattle.object_machine.proofs.Firsts.{pays_off}
 use Rattle.object_machine.proofs.Going.{act, along, no_rule_in}
 use Rattle.object_machine.proofs.Jumps.{found_at}
+use Rattle.object_machine.proofs.Linkages.{all_made}
 use Rattle.object_machine.specs.Covering.{Covers}
 use Rattle.object_machine.proofs.Prepared.{ReadyAs, ready_as}
 use Rattle.object_machine.proofs.Pushed.{pushes}
 use Rattle.object_machine.proofs.ReadOperands.{values_count}
 use Rattle.object_machine.proofs.Scalars.{off}
+use Rattle.object_machine.proofs.Supplied.{handed_members}
 use Rattle.object_machine.proofs.generating.generate.Goals as goal
 
 pub returns-in_default-clause-row : goal.returns-in_default-clause-row
@@ -56,6 +62,10 @@ returns-in_default-get-clause-row c code line now eb ei ec before o m s = tt
 pub returns-in_default-set_up-clause-row : goal.returns-in_default-set_up-clause-row
 unfolding Obeys Leaves
 returns-in_default-set_up-clause-row c code line now eb ei ec before o m s = tt
+
+pub returns-in_default-enroll-clause-row : goal.returns-in_default-enroll-clause-row
+unfolding Obeys Leaves
+returns-in_default-enroll-clause-row c code line now eb ei ec before o m s = tt
 
 pub returns-then-home-clause-row : goal.returns-then-home-clause-row
 unfolding Obeys Leaves
@@ -137,23 +147,34 @@ returns-clause-row c code line now eb ei ec before o m s =
     (c.in-Some-set_up.ensures.row code l before now world m ready.cells t.registers eb ec pays.1 (subst (λ z. AtWork p1 world m t.registers z) (sym c.deref-3.ensures.value) works) leads
     (ap (λ z. filled_by (parameter_cell code b.class) 0 (values_from z x.actuals.at x.actuals.count) (Some (first_cells b))) c.deref-3.ensures.value ∙ ready.filled)) in
     let m2 = opened_with m x.block b g (Some x.actuals.parent) ready.cells in
-    let w1 = furnished.others t.registers stack works in
+    let linkage = linkage_of_class code b.class in
+    let o4 = enrolled (length m.instances) linkage o2 in
+    let stamp : next.registers.home.stamp ≡ length m.instances = ap (λ a. a.home) furnished.top in
+    let all : AllBelow next.registers.home.stamp o2.members.instances =
+    subst (λ n. AllBelow n o2.members.instances) (sym stamp) (subst (λ q. AllBelow (length m.instances) q.instances) (sym (handed_members (length m.instances) (arrays_among vs) world)) (all_made p1.frames.items m p1.members world.members pays.1.members)) in
+    let became : Enrolled p3.frames.items m2 c.enroll.new.members (enrolled (length m.instances) linkage o2).members =
+    subst (λ n. Enrolled p3.frames.items m2 c.enroll.new.members (enrolled n linkage o2).members) stamp (subst (λ q. Enrolled p3.frames.items m2 c.enroll.new.members (enrolled next.registers.home.stamp q o2).members) (c.linkage_of_class-linkage.ensures.row code eb ec ∙ ap (λ n. linkage_of_class code n) (ap (λ b. b.class) c.block.view_is))
+    (c.in-Ok.ensures.row p3.frames.items m2 o2 furnished.stores.members all furnished.works.home)) in
+    let p4 : Storage = record p3 { members = c.enroll.new.members } in
+    let joined : OpensWith l p1 p4 x.block b g (Some x.actuals.parent) ready.cells next before now world o4 m =
+    opens_enrolled l p1 p3 x.block b g (Some x.actuals.parent) ready.cells next before now world o2 m c.enroll.new.members (length m.instances) linkage furnished became in
+    let w1 = joined.others t.registers stack works in
     let pushed = c.push.new.stack in
     let items : (with_items t.stack pushed).items ≡ pushed = with_items_is t.stack pushed (search (rules, places)) in
     let r2 : Registers = record t.registers { depth = c.in-Some-push.depth } in
     let deref : c.deref_mut.result.now ≡ stack = c.deref_mut.ensures.value in
     let object : value_of c.object.result ≡ Of (Object (length m.instances)) = c.object.ensures.value ∙ ap (λ n. Of (Object n)) (ap (λ a. a.home) furnished.top) in
-    let w2 : AtWork p3 o2 m2 r2 pushed = record {
+    let w2 : AtWork p4 o4 m2 r2 pushed = record {
       home = w1.home;
-      slots = c.push.ensures.leads p3.frames.items m2 (subst (λ z. AllLead p3.frames.items m2 z) (sym deref) w1.slots) (c.object.ensures.leads p3.frames.items m2 furnished.works.home);
-      arrays_lead = c.push.ensures.leads_arrays p3.arrays.regions o2.arrays (subst (λ z. AllLeadArrays p3.arrays.regions o2.arrays z) (sym deref) w1.arrays_lead) (λ names. absurd (off (sym c.object.ensures.no_array ∙ names)));
+      slots = c.push.ensures.leads p4.frames.items m2 (subst (λ z. AllLead p4.frames.items m2 z) (sym deref) w1.slots) (c.object.ensures.leads p4.frames.items m2 joined.works.home);
+      arrays_lead = c.push.ensures.leads_arrays p4.arrays.regions o4.arrays (subst (λ z. AllLeadArrays p4.arrays.regions o4.arrays z) (sym deref) w1.arrays_lead) (λ names. absurd (off (sym c.object.ensures.no_array ∙ names)));
     } in
     let long : length pushed ≡ length stack = c.push.ensures.long ∙ ap length deref in
-    let go : List Value → Run Machine = λ rest. entering l line (words_of_block b) o (λ p. in_object (handed_over (length m.instances) (arrays_among vs) p) m x.block b x.start x.actuals.parent.stamp ready.cells (waiting (activation_at t.registers stack) rest ∷ under)) in
+    let go : List Value → Run Machine = λ rest. entering l line (words_of_block b) o (λ p. in_object (enrolled (length m.instances) linkage (handed_over (length m.instances) (arrays_among vs) p)) m x.block b x.start x.actuals.parent.stamp ready.cells (waiting (activation_at t.registers stack) rest ∷ under)) in
     let row : pushing (length stack) (values_of x.actuals.under stack) (Of (Object (length m.instances))) o go ≡ go (values_of c.in-Some-push.depth pushed) =
     ap (λ v. pushing (length stack) (values_of x.actuals.under stack) v o go) (sym object) ∙ ap (λ z. pushing (length z) (values_of x.actuals.under z) (value_of c.object.result) o go) (sym deref) ∙ c.in-Some-push.ensures.row o go in
     let top = c.cover.new.top in
     let f = c.cover.result in
-    along l line p3 c.cover.new.below.items before now f top.registers top.stack.items _ _ (ready.is ∙ row ∙ pays.0 _ ∙ ap (λ n. in_object o2 m x.block b x.start x.actuals.parent.stamp ready.cells (act t.registers.home.stamp (suc t.registers.pc) (values_of c.in-Some-push.depth pushed) n t.registers.stage ∷ under)) (sym long))
-    (covered_by l line p1 p3 x.block b g (Some x.actuals.parent) ready.cells next r2 pushed c.args.below.now.items top c.cover.new.below.items before now world o2 m furnished w2 others f
+    along l line p4 c.cover.new.below.items before now f top.registers top.stack.items _ _ (ready.is ∙ row ∙ pays.0 _ ∙ ap (λ n. in_object o4 m x.block b x.start x.actuals.parent.stamp ready.cells (act t.registers.home.stamp (suc t.registers.pc) (values_of c.in-Some-push.depth pushed) n t.registers.stage ∷ under)) (sym long))
+    (covered_by l line p1 p4 x.block b g (Some x.actuals.parent) ready.cells next r2 pushed c.args.below.now.items top c.cover.new.below.items before now world o4 m joined w2 others f
     (subst (λ z. Covers f next r2 z c.args.below.now.items top c.cover.new.below.items) items c.cover.ensures.row))

@@ -6,11 +6,12 @@ use Rattle.sim_code.specs.Machine.{operand}
 use Rattle.sim_code.specs.Rows.{standard_of}
 use Rattle.frame_arena.specs.Slots.{value_of}
 use Rattle.frame_arena.specs.Stacks.{slot_at}
+use Rattle.standard_calls.specs.declared.manner.Manner.TheVariants as manner
 use Rattle.object_machine.specs.Operands.{IsNoTextIn}
 use Rattle.object_machine.specs.Settled.{Settles}
 use Rattle.object_machine.specs.Standing.{Leaves, Obeys}
 use Rattle.object_machine.proofs.Going.{along, none}
-use Rattle.object_machine.proofs.NameRows.{few_row, for_name, plain_name_row, scan_name_row, unseen_row}
+use Rattle.object_machine.proofs.NameRows.{done_apart, few_row, for_name, not_ports, plain_name_row, scan_name_row, unseen_row}
 use Rattle.object_machine.proofs.names.quiet_standard.Goals as goal
 
 pub returns-in-Plain-clause-row : goal.returns-in-Plain-clause-row
@@ -21,7 +22,7 @@ returns-in-Plain-clause-row c line below now =
     let p = c.args.storage.now in
     let done = c.perform_plain-performed in
     let settled = c.settle_performed in
-    for_name _ l line c.args.operand c.in-Some.name (c.in-Some.ensures ∙ ap standard_of e) _ _ _ _ _ _ below now
+    for_name _ l line c.args.operand c.in-Some.name (c.in-Some.ensures ∙ ap standard_of e) (done_apart c.in-Some.name (c.in-Plain.ensures.runs (not_ports manner.Plain tt))) _ _ _ _ _ _ below now
     (λ before o m s.
     plain_name_row l line p settled.new.storage below before now c.args.regs.now settled.new.regs c.args.stack.now done.new.stack o m c.in-Some.name s c.requires.fits
     done.ensures.long (done.ensures.leads p.frames.items m s.top.slots) (done.ensures.leads_arrays p.arrays.regions o.arrays s.top.arrays_lead)
@@ -34,7 +35,7 @@ returns-then-depth-count-clause-row c line below now =
     let l = c.args.limits.now in
     let p = c.args.storage.now in
     let r = c.args.regs.now in
-    for_name _ l line c.args.operand c.in-Some.name (c.in-Some.ensures ∙ ap standard_of e) _ _ _ _ _ _ below now
+    for_name _ l line c.args.operand c.in-Some.name (c.in-Some.ensures ∙ ap standard_of e) (done_apart c.in-Some.name (c.in-Scan.ensures.runs (not_ports manner.Scan tt))) _ _ _ _ _ _ below now
     (λ before o m s.
     along l line p below before now _ _ _ _ _ (few_row l line c.in-Some.name o m r c.args.stack.now below c.requires.fits (subst (λ n. r.depth < n) c.operand_count-count.ensures.count c.if-depth-count.true))
     (none l line p below before now _ r _ c.args.stack.now o m s))
@@ -56,7 +57,7 @@ returns-in-Ok-clause-row c line below now =
     let done = c.perform_scan-performed in
     let settled = c.settle_scan in
     let seen = c.in-Ok.ensures.text.1 in
-    for_name _ l line c.args.operand c.in-Some.name (c.in-Some.ensures ∙ ap standard_of e) _ _ _ _ _ _ below now
+    for_name _ l line c.args.operand c.in-Some.name (c.in-Some.ensures ∙ ap standard_of e) (done_apart c.in-Some.name (c.in-Scan.ensures.runs (not_ports manner.Scan tt))) _ _ _ _ _ _ below now
     (λ before o m s.
     let is : operand o m (value_of (slot_at stack (r.depth - length (operands_of (row_of c.in-Some.name).function)))) ≡ Some (Text c.in-Ok.text) =
     subst (λ n. operand o m (value_of (slot_at stack (r.depth - n))) ≡ Some (Text c.in-Ok.text)) count
@@ -75,7 +76,7 @@ returns-in-Err-NoRule-clause-row c line below now =
     let p = c.args.storage.now in
     let r = c.args.regs.now in
     let count = c.operand_count-count.ensures.count in
-    for_name _ l line c.args.operand c.in-Some.name (c.in-Some.ensures ∙ ap standard_of e) _ _ _ _ _ _ below now
+    for_name _ l line c.args.operand c.in-Some.name (c.in-Some.ensures ∙ ap standard_of e) (done_apart c.in-Some.name (c.in-Scan.ensures.runs (not_ports manner.Scan tt))) _ _ _ _ _ _ below now
     (λ before o m s.
     let no = subst (λ n. IsNoTextIn (operand o m (value_of (slot_at c.args.stack.now (r.depth - n))))) count
     (c.in-Err-NoRule.ensures.other (ap Err c.in-Err-NoRule.field-0-is) o m now.source s.stores.frames s.stores.arrays s.stores.world.image (s.top.slots _) (s.top.arrays_lead _)) in
@@ -90,4 +91,4 @@ returns-in-Err-Memory-clause-row c line below now before o m s = tt
 pub returns-in-Whole-clause-row : goal.returns-in-Whole-clause-row
 returns-in-Whole-clause-row c line below now =
     let e : to_z w64 (of_z w64 c.args.operand) ≡ c.args.operand = search rules in
-    for_name _ c.args.limits.now line c.args.operand c.in-Some.name (c.in-Some.ensures ∙ ap standard_of e) _ _ _ _ _ _ below now (c.whole_apart.ensures.row line below now)
+    for_name _ c.args.limits.now line c.args.operand c.in-Some.name (c.in-Some.ensures ∙ ap standard_of e) (done_apart c.in-Some.name (c.in-Whole.ensures.runs (not_ports manner.Whole tt))) _ _ _ _ _ _ below now (c.whole_apart.ensures.row line below now)

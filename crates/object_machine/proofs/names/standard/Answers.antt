@@ -1,10 +1,12 @@
 use Rattle.std.proofs.Common.{rules, ◌≡◌, ◌∙◌, ◌≤◌, length, ap, sym, subst, of_z, to_z, w64}
 use Rattle.sim_code.specs.Rows.{standard_of}
+use Rattle.sim_code.specs.Sets.{is_set_name}
 use Rattle.object_machine.specs.declared.machine.Flow.TheVariants as flow
-use Rattle.object_machine.specs.Standing.{Leaves, Obeys, outside}
-use Rattle.object_machine.proofs.Going.{along, none}
+use Rattle.object_machine.specs.Standing.{Leaves, Obeys, activation_at, below_of, outside}
+use Rattle.object_machine.proofs.Going.{along, chosen, none}
 use Rattle.object_machine.proofs.Having.{having_none, having_some}
-use Rattle.object_machine.proofs.NameRows.{flow_ends, input_ends, name_still, performed_row, read_row, unready_row}
+use Rattle.object_machine.proofs.NameRows.{apart_row, flow_ends, input_ends, name_still, performed_row, read_row, unready_row}
+use Rattle.object_machine.proofs.SetSteps.{quiet_flow, quiet_input}
 use Rattle.object_machine.proofs.Taking.{name_takes}
 use Rattle.object_machine.proofs.Whole.{still_same}
 use Rattle.object_machine.proofs.names.standard.Goals as goal
@@ -40,7 +42,7 @@ returns-in_default-ready-clause-row g c b eb =
         λ line below before o m s.
             let unready = c.in_default-ready.ensures.read o m b s.stores.frames s.stores.arrays s.stores.world.image s.top.slots s.top.arrays_lead in
             along c.args.limits.now line c.args.storage.now below before (outside w b) _ _ _ _ _
-            (having_some (standard_of c.args.operand) c.in-Some.name o _ (c.in-Some.ensures ∙ ap standard_of e) ∙ unready_row c.args.limits.now line c.in-Some.name o m c.args.regs.now c.args.stack.now c.ready.new.stack below c.requires.fits unready)
+            (having_some (standard_of c.args.operand) c.in-Some.name o _ (c.in-Some.ensures ∙ ap standard_of e) ∙ apart_row c.args.limits.now line c.in-Some.name o m (activation_at c.args.regs.now c.args.stack.now) (below_of below) (sym c.is_set_name.ensures ∙ c.if-is_set_name.false) ∙ unready_row c.args.limits.now line c.in-Some.name o m c.args.regs.now c.args.stack.now c.ready.new.stack below c.requires.fits unready)
             (none c.args.limits.now line c.args.storage.now below before (outside w b) _ c.args.regs.now _ c.args.stack.now o m s),
       ),
     )
@@ -62,7 +64,7 @@ returns-clause-row g c b eb =
       (
         name_still c.in-Some-ready.address _ _ _ _ c.from-budget.result c.in-Some.name _ _ _ _ done.result settled.result settled.ensures.settled now2.2 done.ensures.still,
         λ line below before o m s.
-            along l line settled.new.storage below before behind_it _ _ _ _ _ (having_some (standard_of c.args.operand) c.in-Some.name o _ (c.in-Some.ensures ∙ ap standard_of e))
+            along l line settled.new.storage below before behind_it _ _ _ _ _ (having_some (standard_of c.args.operand) c.in-Some.name o _ (c.in-Some.ensures ∙ ap standard_of e) ∙ apart_row l line c.in-Some.name o m (activation_at c.args.regs.now c.args.stack.now) (below_of below) (sym c.is_set_name.ensures ∙ c.if-is_set_name.false))
             (performed_row l line p settled.new.storage below before before_it behind_it c.args.regs.now settled.new.regs c.args.stack.now c.ready.new.stack done.new.stack o m c.in-Some.name c.from-budget.result done.new.texts done.new.sysin done.new.image done.new.words s
             (sym c.from-budget.ensures) (done.ensures.long ∙ read.long) (done.ensures.leads p.frames.items m (read.leads m s.top.slots)) (done.ensures.leads_arrays p.arrays.regions o.arrays (read.leads_arrays o.arrays s.top.arrays_lead))
             c.in-Some-ready.address c.requires.fits read.long (read.read o m b s.stores.frames s.stores.arrays s.stores.world.image s.top.slots s.top.arrays_lead) done.result settled.result now2.2 settled.ensures.settled),
@@ -94,8 +96,32 @@ returns-clause-takes g c b eb line below =
     let stack = c.args.stack.now in
     let new = c.ready.new.stack in
     let read = c.in-Some-ready.ensures in
-    name_takes c.args.limits.now line c.args.storage.now r stack new below (outside (g.O.Sink.written c.args.out.now) b) c.in-Some.name c.args.input.now c.perform-performed.new.input c.from-budget.result c.args.operand (sym (c.in-Some.ensures ∙ ap standard_of e)) (sym c.from-budget.ensures)
+    name_takes c.args.limits.now line c.args.storage.now r stack new below (outside (g.O.Sink.written c.args.out.now) b) c.in-Some.name c.args.input.now c.perform-performed.new.input c.from-budget.result c.args.operand (sym (c.in-Some.ensures ∙ ap standard_of e)) (sym c.is_set_name.ensures ∙ c.if-is_set_name.false) (sym c.from-budget.ensures)
     (c.perform-performed.ensures.takes b eb)
     (λ before o m s.
     let is = read.read o m b s.stores.frames s.stores.arrays s.stores.world.image s.top.slots s.top.arrays_lead in
     read_row c.args.limits.now line c.in-Some.name o m r stack new below is.0 c.requires.fits read.long is.2)
+
+pub returns-then-is_set_name-clause-row : goal.returns-then-is_set_name-clause-row
+unfolding Obeys
+returns-then-is_set_name-clause-row g c b eb =
+    let w = g.O.Sink.written c.args.out.now in
+    let e : to_z w64 (of_z w64 c.args.operand) ≡ c.args.operand = search rules in
+    let l = c.args.limits.now in
+    let sets = c.set_standard in (
+      b,
+      eb,
+      (
+        still_same sets.result w,
+        λ line below before o m s.
+            along l line sets.new.storage below before (outside w b) _ _ _ _ _
+            (having_some (standard_of c.args.operand) c.in-Some.name o _ (c.in-Some.ensures ∙ ap standard_of e) ∙ chosen (is_set_name c.in-Some.name) _ _ (sym c.is_set_name.ensures ∙ c.if-is_set_name.true))
+            (sets.ensures.row l line below (outside w b) before o m s),
+      ),
+    )
+
+pub returns-then-is_set_name-clause-ends : goal.returns-then-is_set_name-clause-ends
+returns-then-is_set_name-clause-ends g c = quiet_flow g.O.Sink.written g.O.Sink.faults c.args.out.now c.set_standard.result c.set_standard.ensures.quiet
+
+pub returns-then-is_set_name-clause-read : goal.returns-then-is_set_name-clause-read
+returns-then-is_set_name-clause-read g c = quiet_input (g.I.Source.faults c.args.input.now) c.set_standard.result c.set_standard.ensures.quiet

@@ -1,5 +1,6 @@
-use Rattle.std.proofs.Common.{rules, ℕ, ◌≡◌, ◌+◌, List, [], ◌∷◌, ◌++◌, length, sym, refl, ap, ◌∙◌, arith}
+use Rattle.std.proofs.Common.{rules, ℕ, ◌≡◌, ◌+◌, List, [], ◌∷◌, ◌++◌, length, sym, subst, refl, ap, ◌∙◌, arith}
 use Rattle.std.specs.Prelude.{false}
+use Rattle.object_machine.specs.Enrolling.{AllReach, Rises, stamps}
 use Rattle.object_machine.specs.Standing.{Ports, ports_of}
 use Rattle.sim_values.specs.Store.{constant_frames, image_frame}
 use Rattle.sim_values.specs.Texts.{Frame}
@@ -28,6 +29,7 @@ returns-clause-row c before input =
     let none : c.new-3.result.items ≡ [] = search rules in
     let none2 : c.new-4.result.items ≡ [] = search rules in
     let none3 : c.new-6.result.items ≡ [] = search rules in
+    let none4 : c.new-9.result.items ≡ [] = search rules in
     record {
       world = record {
         ticks = refl;
@@ -44,5 +46,10 @@ returns-clause-row c before input =
       arrays = c.new-7.ensures.holds;
       cells = leads_empty c.new-7.result.regions [] c.new-4.result.items none2;
       elements = elements_empty c.new-3.result.items empty_memory c.new-7.result c.new-7.ensures.none;
+      members = record {
+        is = record { instances = sym (ap stamps none4); sets = sym c.new-8.ensures.sets };
+        rises = subst Rises (sym (ap stamps none4)) (λ x y a b less i j. absurd (cc));
+        lead = subst (λ w. AllReach c.new-3.result.items empty_memory w) (sym none4) (λ x f there. absurd (cc));
+      };
       parks = parks_empty c.new-3.result.items c.new-6.result.items empty_memory c.new-7.result.regions [] none none3;
     }

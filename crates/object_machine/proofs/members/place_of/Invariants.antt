@@ -1,0 +1,14 @@
+use Rattle.std.proofs.Common.{◌≡◌, ◌-◌, ◌≤◌, length}
+use Rattle.object_machine.specs.Enrolling.{Rises, stamps}
+use Rattle.object_machine.proofs.Searching.{LiesIn}
+use Rattle.object_machine.proofs.members.place_of.Given as goal
+
+abbrev pub invariant-loop-low : goal.invariant-loop-low
+invariant-loop-low l = record {
+  ordered : l.low ≤ l.high;
+  within : l.high ≤ length l.objects;
+  lies : Rises (stamps l.objects) → LiesIn (stamps l.objects) l.stamp l.low l.high;
+}
+
+abbrev pub decreases-loop-low : goal.decreases-loop-low
+decreases-loop-low l = l.high - l.low
