@@ -27,7 +27,7 @@ use Rattle.sim_code.specs.Classes.{class_numbered}
 use Rattle.sim_code.specs.Code.{BlockOf, ClassOf, CodeOf}
 use Rattle.sim_code.specs.Running.{AllRun, runs}
 use Rattle.sim_meaning.specs.Attributes as Attributes
-use Rattle.sim_meaning.specs.Levels.{writes_inner}
+use Rattle.sim_meaning.specs.Levels.{is_process_class, writes_inner}
 use Rattle.sim_meaning.specs.Texts.{ClassText, PrefixedText, ProcedureText, StandardText, Text, text}
 use Rattle.program_texts.specs.declared.tree.TextTree.{TextTree}
 use Rattle.program_texts.specs.declared.tree.TextTree.TheVariants as tree
@@ -35,20 +35,22 @@ use Rattle.program_texts.specs.TextTrees.{block_text, class_text, heading_of, pr
 use Rattle.codegen_expr.specs.declared.spot.Spot.{Spot}
 use Rattle.codegen_expr.specs.Drafts.{Becomes, DraftOf, Emits, Grows, class_of, given_up, planned_at, planned_front, planned_in, with_instr}
 use Rattle.codegen_expr.proofs.Slots.{front_planned, start_planned}
-use Rattle.codegen_expr.specs.Sites.{Site, block_in_front, block_number, class_in, lined, prefix_of}
+use Rattle.codegen_expr.specs.Sites.{At, Is, Site, block_in_front, block_number, class_in, lined, prefix_of}
 use Rattle.codegen.proofs.ClassLevels.{emits_to}
 use Rattle.codegen_expr.proofs.Pieces.{Fronts, append_at, emits_at, emits_then, fronts_le, fronts_then, get_front, grows_front, grows_then}
 use Rattle.codegen.specs.declared.class_texts.LevelHead.{LevelHead}
+use Rattle.codegen.specs.declared.level_records.LevelStart.{LevelStart}
 use Rattle.codegen.specs.declared.texts.ClassAt.{ClassAt}
 use Rattle.codegen.specs.declared.texts.Head.{Head}
 use Rattle.codegen.specs.declared.texts.Written.{Written}
-use Rattle.codegen.specs.BuiltProgram.{ArraysBuilt, LevelBuilt, SetClass, TextBuilt}
+use Rattle.codegen.specs.BuiltProgram.{ArraysBuilt, LevelBuilt, TextBuilt}
 use Rattle.codegen.specs.CodeArrays.{ArraysAt}
-use Rattle.codegen.specs.CodeStm.{LevelAt, StmAt, StmsAt}
-use Rattle.codegen.specs.Compiled.{ClassIs, ClassTextOf, CodeHas, LevelOf, RecordOf, StandardTextOf, code_formal, mark_of, parameters_of, site_of}
+use Rattle.codegen.specs.CodeStm.{LevelAt, ProcessAt, StmAt, StmsAt}
+use Rattle.codegen.specs.Compiled.{ClassIs, ClassTextOf, CodeHas, LevelOf, ProcessOf, RecordOf, StandardTextOf, code_formal, mark_of, parameters_of, site_of, standard_mark}
 use Rattle.codegen.specs.Emit.{WritesStatement, WritesStatements}
 use Rattle.codegen.specs.EmitArrays.{WritesArrays}
-use Rattle.codegen.specs.EmitProgram.{AddsBlock, ClassPut, Ends, Entered, FrontClass, LevelPlace, LevelText, MarkIs, Next, OwnEnd, PutsClass, TextEmitted, WritesBlockText, WritesClassText, WritesLevel, WritesLevelText, WritesPrefixedText, WritesProcedureText, WritesStandardText, WritesText, a_block, a_class, a_standard, blocks_in, class_record, classes_in, formals_by_kind, is_planned}
+use Rattle.codegen.specs.EmitProcesses.{WritesProcess}
+use Rattle.codegen.specs.EmitProgram.{BeginsLevel, ClassPut, Ends, EndsLevel, Entered, LevelBegun, LevelEnded, LevelText, Next, OwnEnd, TextEmitted, WritesBlockText, WritesClassText, WritesLevel, WritesLevelText, WritesPrefixedText, WritesProcedureText, WritesProcessText, WritesStandardText, WritesText, a_block, a_class, a_standard, blocks_in, class_record, classes_in, formals_by_kind, is_planned}
 use Rattle.codegen.proofs.Walked.{head_of, kinds_agree, one_only, recorded, restarted, spot, syntax_of_block, text_given_up, within}
 
 -- ---- classes in their places
@@ -90,104 +92,132 @@ fewer new newer number at final f g = record {
   classed = λ j. g.classed j ∙ ap (λ z. planned_at z.classes j) f.draft;
 }
 
-abbrev class_at_of : (prefix block declarations statements after : ℕ) → ClassAt
-class_at_of prefix block declared stated after = record { prefix = prefix; block = block; declarations = declared; statements = stated; after_inner = after }
-
 -- ---- the code of a level
 
+abbrev Place : Type 1
+Place = CodeOf → Site → ℕ → ℕ → Type 0
+
+-- the class of a level
+abbrev class_of_level : LevelStart → (stated after : ℕ) → ClassOf
+class_of_level x stated after = class_record (record { prefix = x.prefix; block = x.block; declarations = x.start; statements = stated; after_inner = after; process = x.process })
+
+-- what is known of a text with levels but its code
+pub record Kinded (s : Source) (h : LevelHead) (x : Text) : Type 0 where
+  pub planned : is_planned x ≡ true
+  pub formals : map code_formal (formals_by_kind s h.kind h.text) ≡ map code_formal (parameters_of s h.text (Some x))
+  pub one_block : 1 ≡ blocks_in x
+  pub one_class : 0 < classes_in x
+
 module _ (b : Bound) where
-  pub level_written : (old mid new newer : Written) (c1 c2 c3 c4 : DraftOf) (ds : List Decl) (ss : List Stmt) (h : LevelHead) (start m stated after behind block level front number j : ℕ) (x3 x5 : Instr) → block ≡ length old.blocks.items → start ≡ length old.draft.instrs
-      → LevelPlace b h.text level → FrontClass b old.draft.classes h.text front → j ≡ block_number (source_of b) h.text → number ≡ class_of old.draft.classes j
-      → OwnEnd b old.draft.classes h.text m → c1 ≡ restarted old.draft m → WritesArrays b (spot h.text m) c1 c2 ds → x3 ≡ i.NextDecl (pos level) → c3 ≡ with_instr c2 x3 0 → stated ≡ length c3.instrs → WritesLevel b (spot h.text m) level h.inner c3 c4 ss after
-      → x5 ≡ i.EndLevel (pos level) → mid.draft ≡ with_instr c4 x5 0 → mid.blocks ≡ old.blocks → mid.classes ≡ old.classes → behind ≡ after → AddsBlock b mid new (head_of h.kind h.text h.entry type.Nothing)
-      → PutsClass new newer number (class_at_of front block start stated behind) → WritesLevelText b old newer h ds ss
-  unfolding WritesLevelText WritesArrays WritesLevel AddsBlock PutsClass LevelPlace FrontClass kinds_agree
-  level_written old mid new newer c1 c2 c3 c4 ds ss h start m stated after behind block level front number j x3 x5 ek ee ep ef ej enum eo e1 fa e3' e3 est fl e5' e5 ebl ecs ea fb fc before x its_text next =
+  -- Behind before a text begins, and behind old its level, whose body is this. The level ends in mid.
+  level_recorded : (before old begun mid new : Written) (c : DraftOf) (h : LevelHead) (y : LevelStart) (stated behind : ℕ) (x : Text) (P : Type 0) (Body : Place) → Entered before old → LevelBegun (source_of b) old begun h.text y → Emits (spot h.text y.used) begun.draft c P Body → mid.draft ≡ c → mid.blocks ≡ begun.blocks → mid.classes ≡ begun.classes
+      → LevelEnded (source_of b) mid new h y stated behind → Next (source_of b) before h.text x → Kinded (source_of b) h x → (TextBuilt (source_of b) h.text x → P)
+      → ((final : CodeOf) (block : BlockOf) → Grows old.draft.instrs final.instrs → block.entry ≡ h.entry → RecordOf (source_of b) final h.text h.kind type.Nothing block → ClassIs (source_of b) final h.text block (class_of_level y stated behind) → y.start ≡ length old.draft.instrs
+      → Body final (site_of (source_of b) final h.text block) (length begun.draft.instrs) (length c.instrs) → length begun.draft.instrs ≡ y.start → length begun.draft.instrs ≤ length c.instrs → length c.instrs < length final.instrs → Is final (i.EndLevel (pos y.level)) (length c.instrs) (suc (length c.instrs)) → CodeHas (source_of b) final h.text x (Some block))
+      → TextEmitted (source_of b) before new h.text x
+  unfolding kinds_agree OwnEnd
+  level_recorded before old begun mid new c h y stated behind x P Body entered f e ed eb ec g next kinded from code =
+      let s = source_of b in
+      let k = h.text in
+      let m = y.used in
+      let stop = i.EndLevel (pos y.level) in
+      let class = class_of_level y stated behind in
+      let plan = before.draft.classes in
+      let w2 = g.more in
+      let ended : g.mid.draft ≡ with_instr c stop 0 = g.draft ∙ ap (λ z. with_instr z stop 0) ed in
+      let blocks_old : g.mid.blocks ≡ old.blocks = g.blocks ∙ eb ∙ f.blocks in
+      let classes_old : g.mid.classes ≡ old.classes = g.classes ∙ ec ∙ f.classes in
+      let i1 : begun.draft.instrs ≡ old.draft.instrs = ap (λ z. z.instrs) f.draft in
+      let at_start : length begun.draft.instrs ≡ y.start = ap length i1 ∙ sym f.start in
+      let draft : new.draft ≡ with_instr c stop 0 = g.put.draft ∙ g.added.same ∙ ended in
+      let i5 : new.draft.instrs ≡ c.instrs ++ (lined stop 0 ∷ []) = ends_with c stop new.draft draft in
+      let w5 : new.draft.whole ≡ c.whole = whole_with c stop new.draft draft in
+      let last = emits_at (spot k m) c new.draft stop 0 draft (λ z. cc) refl in
+      let fr : Fronts old.draft.instrs c.instrs = subst (λ z. Fronts z c.instrs) i1 (e.rest, e.front) in
+      let le1 : length begun.draft.instrs ≤ length c.instrs = fronts_le begun.draft.instrs c.instrs (e.rest, e.front) in
+      let whole : begun.draft.whole ≡ before.draft.whole = ap (λ z. z.whole) f.draft ∙ entered.whole in
+      let classed : c.classes ≡ plan = e.classed ∙ ap (λ z. z.classes) f.draft ∙ entered.planned in
+      let mid_plan : g.mid.draft.classes ≡ plan = classes_with c stop g.mid.draft ended ∙ classed in
+      let own : planned_in (Some g.added.block) ≡ planned_at plan (block_number s k) = g.added.planned ∙ ap (λ z. planned_at z (block_number s k)) mid_plan in
+      let its : y.class ≡ (planned_at plan (block_number s k)).class = f.class ∙ ap (λ z. class_of z (block_number s k)) entered.planned in
+      let front_is : y.prefix ≡ (planned_front s plan k).class = f.prefix ∙ ap (λ z. (planned_front s z k).class) entered.planned in
+      let counts : g.added.block.class ≡ suc g.put.place = ap (λ z. z.class) own ∙ sym its ∙ g.put.counts in
+      let behind_old : Fronts old.draft.instrs new.draft.instrs = fronts_then old.draft.instrs c.instrs new.draft.instrs fr (lined stop 0 ∷ [], i5) in
+      let all_there : Fronts before.draft.instrs new.draft.instrs = fronts_then before.draft.instrs old.draft.instrs new.draft.instrs (entered.rest, entered.front) behind_old in
+      let blocks = blocks_old ∙ entered.blocks in
+      let classes : w2.classes.items ≡ before.classes.items = g.added.same_classes ∙ ap (λ z. z.items) (classes_old ∙ entered.classes) in
+      record {
+        rest = all_there.0;
+        front = all_there.1;
+        classed = classes_with c stop new.draft draft ∙ classed;
+        fits = λ q. last.fits (e.fits (subst AllRun (sym i1) (entered.fits q)));
+        added = g.added.block ∷ [];
+        blocks = ap (λ z. z.items) g.put.blocks ∙ g.added.is ∙ ap (λ z. z.items ++ (g.added.block ∷ [])) blocks;
+        kept = λ j c is. kept_by w2 new y.class _ g.put j c (ap (λ z. slice_get z j) classes ∙ is);
+        earlier = λ q. sym whole ∙ e.before (sym w5 ∙ q);
+        built = λ q o. w5 ∙ e.built (from q) (whole ∙ o);
+        counted = λ q. kinded.one_block;
+        numbered = λ q j blk is.
+            let one = one_only g.added.block j blk is in
+            let first = one.1 in
+            let same : length before.blocks.items ≡ length before.blocks.items + j = omega (arith, first) in
+            ap (λ z. planned_in (Some z)) (sym one.0) ∙ own ∙ ap (planned_at plan) next.block ∙ ap (planned_at plan) same;
+        at = λ q final t.
+            let less = fewer w2 new y.class _ final g.put t in
+            let r = recorded b k x c stop before g.mid w2 (head_of h.kind k h.entry type.Nothing) final m g.added next kinded.planned (subst (λ z. OwnEnd b z k m) entered.planned f.used) ended (λ z. cc) (ap (λ z. z.items) blocks) classed refl kinded.formals less in
+            let there : slice_get final.instrs (length c.instrs) ≡ Some (lined stop 0) = t.grows.keeps (length c.instrs) (lined stop 0) (ap (λ z. slice_get z (length c.instrs)) i5 ∙ append_at c.instrs (lined stop 0)) (λ z. cc) in
+            let inside : length c.instrs < length final.instrs = within final.instrs (length c.instrs) (lined stop 0) there in
+            let stands = e.at (sym w5 ∙ q) final (site_of s final k g.added.block) r.becomes in
+            let put : slice_get new.classes.items g.put.place ≡ Some (Some _) = ap (λ z. slice_get z g.put.place) g.put.put ∙ set_there w2.classes.items g.put.place None (Some _) g.put.none in
+            let known : (j : ℕ) → planned_in (slice_get final.blocks j) ≡ planned_at plan j = λ j. t.classed j ∙ ap (λ z. planned_at z j) (classes_with c stop new.draft draft ∙ classed) in
+            let in_front : class_in (block_in_front s final k) ≡ (planned_front s plan k).class = ap (λ z. z.class) (front_planned s final plan k known) in
+            let lower = (next.plan.each k x next.is kinded.planned).class kinded.one_class in
+            let its_own : g.added.block.class ≡ (planned_at plan (block_number s k)).class = ap (λ z. z.class) own in
+            subst (λ z. CodeHas s final k x z) (sym r.found)
+            (code final g.added.block (grows_then old.draft.instrs new.draft.instrs final.instrs (grows_front old.draft.instrs new.draft.instrs behind_old) t.grows) r.entry r.heads
+            (record {
+              numbered = ap (class_numbered final) counts ∙ t.classes g.put.place _ put;
+              of_block = f.block ∙ ap (λ z. length z.items) entered.blocks ∙ sym next.block;
+              prefix = front_is ∙ sym in_front;
+              lower = omega (arith, front_is, lower, its_own);
+              process = f.process;
+              no_matches = refl;
+            })
+            f.start stands at_start le1 inside (record { line = 0; is = record { at = there; on = refl } }));
+      }
+
+  pub level_written : (old begun mid new : Written) (c2 c3 c4 : DraftOf) (ds : List Decl) (ss : List Stmt) (h : LevelHead) (y : LevelStart) (stated after behind : ℕ) (x3 : Instr) → BeginsLevel b old begun h.text y → WritesArrays b (spot h.text y.used) begun.draft c2 ds → x3 ≡ i.NextDecl (pos y.level) → c3 ≡ with_instr c2 x3 0 → stated ≡ length c3.instrs
+      → WritesLevel b (spot h.text y.used) y.level h.inner c3 c4 ss after → behind ≡ after → mid.draft ≡ c4 → mid.blocks ≡ begun.blocks → mid.classes ≡ begun.classes → EndsLevel b mid new h y stated behind → WritesLevelText b old new h ds ss
+  unfolding WritesLevelText WritesArrays WritesLevel BeginsLevel EndsLevel
+  level_written old begun mid new c2 c3 c4 ds ss h y stated after behind x3 f fa e3' e3 est fl ea ed eb ec g before x its_text next =
       let s = source_of b in
       let k = h.text in
       let xs = declarations (map declaration_syntax ds) in
       let ys = statements (map statement_syntax ss) in
-      let entered = its_text.entered in
-      let stop = i.EndLevel (pos level) in
-      let at = class_at_of front block start stated behind in
-      let plan = before.draft.classes in
-      let ended : mid.draft ≡ with_instr c4 stop 0 = e5 ∙ ap (λ z. with_instr c4 z 0) e5' in
-      let i1 : c1.instrs ≡ old.draft.instrs = ap (λ z. z.instrs) e1 in
-      let at_start : length c1.instrs ≡ start = ap length i1 ∙ sym ee in
-      let body = emits_then (spot k m) _ _ _ _ c1 c2 c4 fa (emits_then (spot k m) _ _ _ _ c2 c3 c4 (emits_to b (spot k m) c2 c3 ⊤ _ stated est (emits_at (spot k m) c2 c3 (i.NextDecl (pos level)) 0 (e3 ∙ ap (λ z. with_instr c2 z 0) e3') (λ z. cc) refl)) fl.1) in
-      let draft : newer.draft ≡ with_instr c4 stop 0 = fc.draft ∙ fb.same ∙ ended in
-      let i5 : newer.draft.instrs ≡ c4.instrs ++ (lined stop 0 ∷ []) = ends_with c4 stop newer.draft draft in
-      let w5 : newer.draft.whole ≡ c4.whole = whole_with c4 stop newer.draft draft in
-      let last = emits_at (spot k m) c4 newer.draft stop 0 draft (λ z. cc) refl in
-      let fr : Fronts old.draft.instrs c4.instrs = subst (λ z. Fronts z c4.instrs) i1 (body.rest, body.front) in
-      let le1 : length c1.instrs ≤ length c4.instrs = fronts_le c1.instrs c4.instrs (body.rest, body.front) in
+      let c1 = begun.draft in
       let le3 : length c3.instrs ≤ length c4.instrs = fronts_le c3.instrs c4.instrs (fl.1.rest, fl.1.front) in
-      let whole : c1.whole ≡ before.draft.whole = ap (λ z. z.whole) e1 ∙ entered.whole in
-      let classed : c4.classes ≡ plan = body.classed ∙ ap (λ z. z.classes) e1 ∙ entered.planned in
-      let mid_plan : mid.draft.classes ≡ plan = classes_with c4 stop mid.draft ended ∙ classed in
-      let own : planned_in (Some fb.block) ≡ planned_at plan (block_number s k) = fb.planned ∙ ap (λ z. planned_at z (block_number s k)) mid_plan in
-      let its : number ≡ (planned_at plan (block_number s k)).class = enum ∙ ap (class_of old.draft.classes) ej ∙ ap (λ z. class_of z (block_number s k)) entered.planned in
-      let front_is : front ≡ (planned_front s plan k).class = ef ∙ ap (λ z. (planned_front s z k).class) entered.planned in
-      let counts : fb.block.class ≡ suc fc.place = ap (λ z. z.class) own ∙ sym its ∙ fc.counts in
-      let behind_old : Fronts old.draft.instrs newer.draft.instrs = fronts_then old.draft.instrs c4.instrs newer.draft.instrs fr (lined stop 0 ∷ [], i5) in
-      let all_there : Fronts before.draft.instrs newer.draft.instrs = fronts_then before.draft.instrs old.draft.instrs newer.draft.instrs (entered.rest, entered.front) behind_old in
-      let blocks = ebl ∙ entered.blocks in
-      let classes : new.classes.items ≡ before.classes.items = fb.same_classes ∙ ap (λ z. z.items) (ecs ∙ entered.classes) in
-      record {
-        rest = all_there.0;
-        front = all_there.1;
-        classed = classes_with c4 stop newer.draft draft ∙ classed;
-        fits = λ q. last.fits (body.fits (subst AllRun (sym i1) (entered.fits q)));
-        added = fb.block ∷ [];
-        blocks = ap (λ z. z.items) fc.blocks ∙ fb.is ∙ ap (λ z. z.items ++ (fb.block ∷ [])) blocks;
-        kept = λ j y is. kept_by new newer number at fc j y (ap (λ z. slice_get z j) classes ∙ is);
-        earlier = λ q. sym whole ∙ body.before (sym w5 ∙ q);
-        built = λ q o. (let parts = its_text.parts q in w5 ∙ body.built (parts.0, (tt, parts.1)) (whole ∙ o));
-        counted = λ q. its_text.one_block;
-        numbered = λ q j blk is.
-            let one = one_only fb.block j blk is in
-            let first = one.1 in
-            let same : length before.blocks.items ≡ length before.blocks.items + j = omega (arith, first) in
-            ap (λ z. planned_in (Some z)) (sym one.0) ∙ own ∙ ap (planned_at plan) next.block ∙ ap (planned_at plan) same;
-        at = λ q final g.
-            let less = fewer new newer number at final fc g in
-            let r = recorded b k x c4 stop before mid new (head_of h.kind k h.entry type.Nothing) final m fb next its_text.planned (subst (λ z. OwnEnd b z k m) entered.planned eo) ended (λ z. cc) (ap (λ z. z.items) blocks) classed refl its_text.formals less in
-            let there : slice_get final.instrs (length c4.instrs) ≡ Some (lined stop 0) = g.grows.keeps (length c4.instrs) (lined stop 0) (ap (λ z. slice_get z (length c4.instrs)) i5 ∙ append_at c4.instrs (lined stop 0)) (λ z. cc) in
-            let inside : length c4.instrs < length final.instrs = within final.instrs (length c4.instrs) (lined stop 0) there in
-            let site = site_of s final k fb.block in
-            let stands = body.at (sym w5 ∙ q) final site r.becomes in
-            let put : slice_get newer.classes.items fc.place ≡ Some (Some at) = ap (λ z. slice_get z fc.place) fc.put ∙ set_there new.classes.items fc.place None (Some at) fc.none in
-            let known : (j : ℕ) → planned_in (slice_get final.blocks j) ≡ planned_at plan j = λ j. g.classed j ∙ ap (λ z. planned_at z j) (classes_with c4 stop newer.draft draft ∙ classed) in
-            let in_front : class_in (block_in_front s final k) ≡ (planned_front s plan k).class = ap (λ z. z.class) (front_planned s final plan k known) in
-            let lower = (next.plan.each k x next.is its_text.planned).class its_text.one_class in
-            let its_own : fb.block.class ≡ (planned_at plan (block_number s k)).class = ap (λ z. z.class) own in
-            let le_after = fl.0 in
-            subst (λ z. CodeHas s final k x z) (sym r.found)
-            (its_text.code final fb.block (class_record at) (grows_then old.draft.instrs newer.draft.instrs final.instrs (grows_front old.draft.instrs newer.draft.instrs behind_old) g.grows) r.entry ee r.heads
-            (record {
-              numbered = ap (class_numbered final) counts ∙ g.classes fc.place at put;
-              of_block = ek ∙ ap (λ z. length z.items) entered.blocks ∙ sym next.block;
-              prefix = front_is ∙ sym in_front;
-              lower = omega (arith, front_is, lower, its_own);
-              no_process = refl;
-              no_matches = refl;
-            })
-            (record {
-              place = level;
-              placed = ep;
-              x = stands.0;
-              y = stands.2.0;
-              declared_there = omega (arith, at_start, le1, inside);
-              declared = subst (λ z. ArraysAt s final site xs z stands.0) at_start stands.1;
-              next = record { line = 0; is = stands.2.1.0 };
-              stated_there = omega (arith, est, le3, inside);
-              stop = length c4.instrs;
-              stated = subst (λ z. LevelAt s final site level z h.inner ys stated (length c4.instrs)) (sym ea) (subst (λ z. LevelAt s final site level after h.inner ys z (length c4.instrs)) stands.2.1.1 stands.2.2);
-              behind_there = omega (arith, ea, le_after, inside);
-              last = suc (length c4.instrs);
-              ends = record { line = 0; is = record { at = there; on = refl } };
-            }));
-      }
+      let le_after = fl.0 in
+      let body = emits_then (spot k y.used) _ _ _ _ c1 c2 c4 fa (emits_then (spot k y.used) _ _ _ _ c2 c3 c4 (emits_to b (spot k y.used) c2 c3 ⊤ _ stated est (emits_at (spot k y.used) c2 c3 (i.NextDecl (pos y.level)) 0 (e3 ∙ ap (λ z. with_instr c2 z 0) e3') (λ z. cc) refl)) fl.1) in
+      level_recorded before old begun mid new c4 h y stated behind x _ _ its_text.entered f body ed eb ec g next (record { planned = its_text.planned; formals = its_text.formals; one_block = its_text.one_block; one_class = its_text.one_class })
+      (λ q. (let parts = its_text.parts q in (parts.0, (tt, parts.1))))
+      (λ final block grows entry heads its starts stands at_start le1 inside ends.
+      let site = site_of s final k block in
+      its_text.code final block (class_of_level y stated behind) grows entry starts heads its
+      (record {
+        place = y.level;
+        placed = f.level;
+        x = stands.0;
+        y = stands.2.0;
+        declared_there = omega (arith, at_start, le1, inside);
+        declared = subst (λ z. ArraysAt s final site xs z stands.0) at_start stands.1;
+        next = record { line = 0; is = stands.2.1.0 };
+        stated_there = omega (arith, est, le3, inside);
+        stop = length c4.instrs;
+        stated = subst (λ z. LevelAt s final site y.level z h.inner ys stated (length c4.instrs)) (sym ea) (subst (λ z. LevelAt s final site y.level after h.inner ys z (length c4.instrs)) stands.2.1.1 stands.2.2);
+        behind_there = omega (arith, ea, le_after, inside);
+        last = suc (length c4.instrs);
+        ends = ends;
+      }))
 
 -- ---- texts with levels that are no programs
 
@@ -217,11 +247,11 @@ level_parts s (suc k) ne a_class h = h
 level_parts s (suc k) ne (a_standard set) h = (tt, tt)
 level_parts s (suc k) ne (a_block no_program) h = h
 
-standard_code : (s : Source) (final : CodeOf) (k : ℕ) (blk : BlockOf) (which : StandardClass) → SetClass which → ClassTextOf s final k kind.Object false NoDeclaration NoStatement blk → StandardTextOf s final k which blk
+standard_code : (s : Source) (final : CodeOf) (k : ℕ) (blk : BlockOf) (which : StandardClass) → is_process_class which ≡ false → ClassTextOf s final k kind.Object false NoDeclaration NoStatement blk → StandardTextOf s final k which blk
 standard_code s final k blk standard.Linkage set h = h
 standard_code s final k blk standard.Link set h = h
 standard_code s final k blk standard.Head set h = h
-standard_code s final k blk standard.Process set h = set
+standard_code s final k blk standard.Process set h = absurd (cc)
 
 level_code : (s : Source) (final : CodeOf) (k : ℕ) (blk : BlockOf) (class : ClassOf) {ds : Declarations} {ss : Statements} {a : BlockKind} {e : ℕ} {r : Bool} {x : Text} → k ≢ 0 → LevelText s k ds ss a e r x → text s k ≡ Some x → blk.entry ≡ e
     → RecordOf s final k a type.Nothing blk → ClassIs s final k blk class → LevelOf s final k r ds ss blk class → CodeHas s final k x (Some blk)
@@ -320,24 +350,59 @@ module _ (b : Bound) where
   unfolding WritesPrefixedText WritesClassText
   inner_prefixed old new k entry p q ds ss ne ed es f = subst (Prefixed old new k) (sym (prefixed_as p q ds ss ed es)) (f _ (a_block ne))
 
-  -- ---- classes of SIMSET
+  -- ---- classes of SIMSET and SIMULATION
 
-  marked_so : (which : StandardClass) (r : Option ℕ) (mark : ℕ) → MarkIs which r → r ≡ Some mark → MarkIs which (Some mark)
-  marked_so which r mark h some = subst (MarkIs which) some h
-
-  pub standard_written : (old new : Written) (k mark : ℕ) (which : StandardClass) (r : Option ℕ) → MarkIs which r → r ≡ Some mark → WritesClassText b old new (record { kind = kind.Object; text = k; entry = mark; inner = false }) [] [] → WritesStandardText b old new k which
+  pub standard_written : (old new : Written) (k mark : ℕ) (which : StandardClass) (r : Bool) → r ≡ is_process_class which → r ≡ false → mark ≡ standard_mark which → WritesClassText b old new (record { kind = kind.Object; text = k; entry = mark; inner = false }) [] [] → WritesStandardText b old new k which
   unfolding WritesStandardText WritesClassText
-  standard_written old new k mark which r h some f next =
-      let is = marked_so which r mark h some in
-      f (StandardText which) (subst (λ z. LevelText (source_of b) k NoDeclaration NoStatement kind.Object z false (StandardText which)) (sym is.1) (a_standard is.0)) next
+  standard_written old new k mark which r er none em f next = f (StandardText which) (subst (λ z. LevelText (source_of b) k NoDeclaration NoStatement kind.Object z false (StandardText which)) (sym em) (a_standard (sym er ∙ none))) next
 
-  process_built : (k : ℕ) (which : StandardClass) → (SetClass which → ⊥) → TextBuilt (source_of b) k (StandardText which) → ⊥
-  process_built zero which never h = h
-  process_built (suc k) which never h = never h
+  is_process : (which : StandardClass) → is_process_class which ≡ true → which ≡ standard.Process
+  is_process standard.Linkage is = absurd (cc)
+  is_process standard.Link is = absurd (cc)
+  is_process standard.Head is = absurd (cc)
+  is_process standard.Process is = refl
 
-  pub standard_not_built : (old new : Written) (k : ℕ) (which : StandardClass) (r : Option ℕ) → MarkIs which r → r ≡ None → new.draft ≡ given_up old.draft → new.blocks ≡ old.blocks → new.classes ≡ old.classes → WritesStandardText b old new k which
-  unfolding WritesStandardText
-  standard_not_built old new k which r h none ed eb ec next = text_given_up (source_of b) old new k _ (process_built k which (subst (MarkIs which) none h)) ed eb ec
+  pub process_standard : (old new : Written) (k : ℕ) (which : StandardClass) (r : Bool) → r ≡ is_process_class which → r ≡ true → WritesProcessText b old new k → WritesStandardText b old new k which
+  unfolding WritesStandardText WritesProcessText
+  process_standard old new k which r er is f = subst (λ z. Next (source_of b) old k (StandardText z) → TextEmitted (source_of b) old new k (StandardText z)) (sym (is_process which (sym er ∙ is))) f
+
+  pub process_first : (old new : Written) (k : ℕ) → k ≡ 0 → new.draft ≡ given_up old.draft → new.blocks ≡ old.blocks → new.classes ≡ old.classes → WritesProcessText b old new k
+  unfolding WritesProcessText
+  process_first old new zero e ed eb ec next = text_given_up (source_of b) old new 0 _ (λ h. h) ed eb ec
+  process_first old new (suc k) e ed eb ec next = absurd (omega (arith, e))
+
+  process_code : (final : CodeOf) (k : ℕ) (block : BlockOf) (class : ClassOf) → k ≢ 0 → block.entry ≡ 4 → RecordOf (source_of b) final k kind.Object type.Nothing block → ClassIs (source_of b) final k block class → ProcessOf (source_of b) final k block class → CodeHas (source_of b) final k (StandardText standard.Process) (Some block)
+  process_code final zero block class ne entry heads its level = absurd (ne refl)
+  process_code final (suc k) block class ne entry heads its level = record { heads = heads; marked = entry; class = class; is = its; level = level }
+
+  pub process_written : (old begun mid new : Written) (c2 c3 : DraftOf) (k : ℕ) (y : LevelStart) (stated after behind : ℕ) (x2 : Instr) → k ≢ 0 → BeginsLevel b old begun k y → x2 ≡ i.NextDecl (pos y.level) → c2 ≡ with_instr begun.draft x2 0 → stated ≡ length c2.instrs → WritesProcess b (spot k y.used) y.level c2 c3 after → behind ≡ after
+      → mid.draft ≡ c3 → mid.blocks ≡ begun.blocks → mid.classes ≡ begun.classes → EndsLevel b mid new (record { kind = kind.Object; text = k; entry = 4; inner = false }) y stated behind → WritesProcessText b old new k
+  unfolding WritesProcessText WritesProcess BeginsLevel EndsLevel source_of
+  process_written old begun mid new c2 c3 k y stated after behind x2 ne f e2' e2 est fp ea ed eb ec g next =
+      let s = source_of b in
+      let c1 = begun.draft in
+      let around = next.agrees.processes k next.is in
+      let le2 : length c2.instrs ≤ length c3.instrs = fronts_le c2.instrs c3.instrs (fp.1.rest, fp.1.front) in
+      let le_after = fp.0 in
+      let body = emits_then (spot k y.used) _ _ _ _ c1 c2 c3 (emits_to b (spot k y.used) c1 c2 ⊤ _ stated est (emits_at (spot k y.used) c1 c2 (i.NextDecl (pos y.level)) 0 (e2 ∙ ap (λ z. with_instr c1 z 0) e2') (λ z. cc) refl)) fp.1 in
+      level_recorded b old old begun mid new c3 (record { kind = kind.Object; text = k; entry = 4; inner = false }) y stated behind (StandardText standard.Process) _ _ (at_once old) f body ed eb ec g next (record { planned = refl; formals = refl; one_block = refl; one_class = omega arith })
+      (λ q. (tt, (around.block, around.around)))
+      (λ final block grows entry heads its starts stands at_start le1 inside ends.
+      let site = site_of s final k block in
+      process_code final k block (class_of_level y stated behind) ne entry heads its
+      (record {
+        place = y.level;
+        placed = f.level;
+        x = stands.0;
+        declared_there = omega (arith, at_start, le1, inside);
+        next = record { line = 0; is = subst (λ z. At final (i.NextDecl (pos y.level)) 0 z stands.0) at_start stands.1.0 };
+        stated_there = omega (arith, est, le2, inside);
+        behind_there = omega (arith, ea, le_after, inside);
+        stop = length c3.instrs;
+        stated = subst (λ z. ProcessAt s final site y.level stated z (length c3.instrs)) (sym ea) (subst (λ z. ProcessAt s final site y.level z after (length c3.instrs)) stands.1.1 stands.2);
+        last = suc (length c3.instrs);
+        ends = ends;
+      }))
 
   -- ---- by the part of the tree
 
@@ -392,4 +457,6 @@ module _ (b : Bound) where
         at = λ w final g. tt;
       })
 
-pub ruleset texts = (level_written, class_text_written, class_first, program_prefixed, program_behind, first_prefixed, inner_prefixed, standard_written, standard_not_built, text_of_block, text_of_procedure, text_of_class, text_of_statement, text_of_prefixed, text_of_standard, text_of_connection)
+pub ruleset texts = (level_written, class_text_written, class_first, program_prefixed, program_behind, first_prefixed, inner_prefixed, standard_written, process_standard, text_of_block, text_of_procedure, text_of_class, text_of_statement, text_of_prefixed, text_of_standard, text_of_connection)
+
+pub ruleset processes = (process_first, process_written)

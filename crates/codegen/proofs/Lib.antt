@@ -28,3 +28,7 @@ pub mod Connected
 pub mod Filled
 pub mod Planned
 pub mod PlanSteps
+pub mod Activated
+pub mod Opened
+pub mod ProcessLevels
+pub mod LevelRecords

@@ -32,16 +32,16 @@ use Rattle.sim_tree.specs.declared.stmt.When.{When}
 use Rattle.sim_tree.specs.Syntax as syntax
 use Rattle.sim_tree.specs.Syntax.{Also, Begin, Dot, Expression, Named, NoMore, NoStatement, Qua, Statement, declarations, expressions, statements}
 use Rattle.sim_tree.specs.SyntaxOf.{syntax_of}
-use Rattle.sim_tree.specs.SyntaxOfProgram.{arm_syntax, arms, block_syntax, branch_syntax, declaration_syntax, element_syntax, reference_element_syntax, right_side_syntax, statement_syntax}
+use Rattle.sim_tree.specs.SyntaxOfProgram.{arm_syntax, arms, block_syntax, branch_syntax, declaration_syntax, element_syntax, reference_element_syntax, right_side_syntax, schedule_syntax, statement_syntax}
 use Rattle.sim_tree.proofs.ProgramSyntaxLemmas as v
 use Rattle.sim_code.specs.declared.instr.Instr.{Instr}
 use Rattle.sim_code.specs.declared.instr.Instr.TheVariants as i
 use Rattle.sim_code.specs.Code.{CodeOf}
 use Rattle.sim_meaning.specs.Attributes.{connection_at, own_attribute, transfer_at}
-use Rattle.sim_meaning.specs.Statements.{denoted_leaves, leaves}
+use Rattle.sim_meaning.specs.Statements.{denoted_leaves, is_again, leaves, simulation_around}
 use Rattle.codegen_expr.specs.declared.spot.Spot.{Spot}
-use Rattle.codegen_expr.specs.Built.{ActualsBuilt, AreBuilt, ConnectedNameBuilt, IsBuilt, NamedBuilt, OfObjectBuilt, OwnBuilt, ThisFoundBuilt, ThroughBuilt}
-use Rattle.codegen_expr.specs.CodeExpr.{ActualsAt, ConnectedNameAt, ExprAt, ExprsAt, NamedAt, OfObjectAt, OwnAt, ThisFoundAt, ThroughAt, gives}
+use Rattle.codegen_expr.specs.Built.{ActualsBuilt, AreBuilt, ConnectedNameBuilt, IsBuilt, NamedBuilt, OfObjectBuilt, OwnBuilt, OwnNameBuilt, ThisFoundBuilt, ThroughBuilt}
+use Rattle.codegen_expr.specs.CodeExpr.{ActualsAt, ConnectedNameAt, ExprAt, ExprsAt, NamedAt, OfObjectAt, OwnAt, OwnNameAt, ThisFoundAt, ThroughAt, gives}
 use Rattle.codegen_expr.specs.Drafts.{DraftOf, Emits, filled_in, given_up, with_hole, with_instr, with_push}
 use Rattle.codegen_expr.specs.declared.forms.Form.{Form}
 use Rattle.codegen_expr.specs.declared.forms.Form.TheVariants as form
@@ -55,7 +55,7 @@ use Rattle.codegen.specs.BuiltProgram.{AssignBuilt, BlockBuilt, CalledBuilt, Ele
 use Rattle.codegen.specs.CodeFor.{ForAt, GivesVariable, ListAt, LoadsVariable, OfCell, OfPlace, OfReference, StoresVariable, TakesValues, Variable, VariableThere, assigned_by, is_empty, variable_of, variable_stored}
 use Rattle.codegen.specs.CodeLeft.{AssignAt, AtAddress, AtAttribute, InCell, NotBuilt, Stored, ToReference, ToResult, ToText, each_stored, stored_left}
 use Rattle.sim_meaning.specs.Closing.{formals_at, is_text, is_text_type}
-use Rattle.codegen.specs.CodeStm.{ArmsAt, BlockAt, CalledAt, ConnectsAt, DropsAt, EnterAt, InspectAt, PrefixedAt, StmAt, StmsAt}
+use Rattle.codegen.specs.CodeStm.{ActivatesAt, ArmsAt, BlockAt, CalledAt, ConnectsAt, DropsAt, EnterAt, InspectAt, PrefixedAt, StmAt, StmsAt}
 use Rattle.codegen.specs.EmitTargets.{Controls, ElementsOver, ListOver, WritesLoaded, WritesStored, line_in, takes_values}
 use Rattle.codegen.specs.Emit.{OwesStatements, WritesAssignment, WritesBlock, WritesCall, WritesCalled, WritesElementOf, WritesFor, WritesGiven, WritesList, WritesOne, WritesPrefixed, WritesStatement, WritesStatements, WritesTakenCall}
 use Rattle.codegen.specs.declared.elements.Element.{Element}
@@ -63,6 +63,7 @@ use Rattle.codegen.specs.declared.elements.Element.TheVariants as view
 use Rattle.codegen.specs.declared.targets.Target.{Target}
 use Rattle.codegen.specs.declared.targets.Target.TheVariants as target
 use Rattle.codegen.specs.EmitLeft.{FindsNamed, IsWhole}
+use Rattle.codegen.specs.EmitActivations.{WritesActivation}
 use Rattle.codegen.specs.EmitTransfers.{FindsTransfer}
 use Rattle.codegen.specs.ForElements.{view_syntax}
 use Rattle.codegen.specs.declared.transfers.Transfer.{Transfer as Word}
@@ -183,8 +184,12 @@ module _ (b : Bound) (w : Spot) where
       (emits_as w _ _ _ _ a d (λ z. (z.0, (z.1, z.2))) (λ z. (z.0, z.1.0, z.1.1)) (λ final site p q _ _ r. (r.0, r.2.0, r.1, r.2.1, r.2.2))
       (tick_then _ _ a c0 d e0 (emits_then w _ _ (λ final site. ExprAt s final site 0 (syntax_of h)) (λ final site. ArmsAt s final site 0 (arms (map arm_syntax xs)) (StmsAt s final site 0 (branch_syntax o))) c0 c1 d f g)))
 
-  pub write_activation : (a c : DraftOf) (x : Stmt) (k : TokenNo) (n : Activation) (h : Expr) (o : Option Timing) → x ≡ t.Activation k n h o → c ≡ given_up a → WritesStatement b w a c x
-  write_activation a c x k n h o is ec = unbuilt a c x _ (ap statement_syntax is ∙ v.syntax-Activation k n h o) (λ z. z) ec
+  pub write_activation : (a c d : DraftOf) (x : Stmt) (k : TokenNo) (n : Activation) (h : Expr) (o : Option Timing) → x ≡ t.Activation k n h o → c ≡ with_instr a i.Tick 0 → WritesActivation b w c d k n h o → WritesStatement b w a d x
+  unfolding WritesActivation
+  write_activation a c d x k n h o is ec f =
+      let s = source_of b in
+      stm_as a d x _ (ap statement_syntax is ∙ v.syntax-Activation k n h o)
+      (tick_then _ (λ final site. ActivatesAt s final site 0 (line_at s k.0) (simulation_around s k.0) (is_again n) (syntax_of h) (schedule_syntax o)) a c d ec f)
 
   -- ---- statements one behind another
 
@@ -306,10 +311,14 @@ module _ (b : Bound) (w : Spot) where
       let same : denoted_leaves s (denoted s x.token.0) ≡ gives s (denoted s x.token.0) = ap (denoted_leaves s) (sym eo) ∙ sym el ∙ eg ∙ ap (gives s) eo in
       let drops : denoted_leaves s (denoted s x.token.0) ≡ k = ap (denoted_leaves s) (sym eo) ∙ sym el in
       let f' = subst (λ z. Emits w a c (ThroughBuilt (connection_at s x.token.0) (λ m. ConnectedNameBuilt s w.text m z xs (AreBuilt s w.text xs) (λ formals. ActualsBuilt s w.text xs formals))
-      (OwnBuilt (own_attribute s x.token.0) (λ j. OfObjectBuilt s j (entry_of s.tables j) xs (ThisFoundBuilt s w.text (found_at s x.token.0)) (AreBuilt s w.text xs) (ActualsBuilt s w.text xs (formals_at s j)))
+      (OwnBuilt (own_attribute s x.token.0)
+      (λ j. OwnNameBuilt s w.text (found_at s x.token.0) (entry_of s.tables j) xs (ActualsBuilt s w.text xs (formals_at s j))
+      (OfObjectBuilt s j (entry_of s.tables j) xs (ThisFoundBuilt s w.text (found_at s x.token.0)) (AreBuilt s w.text xs) (ActualsBuilt s w.text xs (formals_at s j))))
       (NamedBuilt s w.text z xs (AreBuilt s w.text xs) (λ formals. ActualsBuilt s w.text xs formals))))
       (λ final site p q. ThroughAt (connection_at s x.token.0) (λ m. ConnectedNameAt s final site 0 (line_at s x.token.0) m z xs (ExprsAt s final site 1 xs) (λ formals. ActualsAt s final site 1 (line_at s x.token.0) false xs formals))
-      (OwnAt (own_attribute s x.token.0) (λ j. OfObjectAt s final site 0 (line_at s x.token.0) j (entry_of s.tables j) xs (ThisFoundAt s final site 0 (found_at s x.token.0)) (ExprsAt s final site 1 xs) (ActualsAt s final site 1 (line_at s x.token.0) false xs (formals_at s j)))
+      (OwnAt (own_attribute s x.token.0)
+      (λ j. OwnNameAt s final site 0 (line_at s x.token.0) (found_at s x.token.0) (entry_of s.tables j) xs (ActualsAt s final site 1 (line_at s x.token.0) false xs (formals_at s j))
+      (OfObjectAt s final site 0 (line_at s x.token.0) j (entry_of s.tables j) xs (ThisFoundAt s final site 0 (found_at s x.token.0)) (ExprsAt s final site 1 xs) (ActualsAt s final site 1 (line_at s x.token.0) false xs (formals_at s j))))
       (NamedAt s final site 0 (line_at s x.token.0) z xs (ExprsAt s final site 0 xs) (ExprsAt s final site 1 xs) (λ formals. ActualsAt s final site 1 (line_at s x.token.0) false xs formals))) p q)) eo f in
       subst (NamedCall s w a d x xs) (sym none)
       (emits_as w _ _ _ _ a d (λ h. (h.1, tt)) (λ h. (same, h.0)) (λ final site p q _ _ r. (r.0, (same, r.1), subst (λ z. DropsAt final z r.0 q) (sym drops) r.2))

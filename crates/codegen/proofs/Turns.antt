@@ -53,7 +53,7 @@ first_tick s code site n (syntax.Repeat token c a) p q e r = (r.0, r.3)
 first_tick s code site n (syntax.For token x sign assign es a) p q e r = (r.0, r.1)
 first_tick s code site n (syntax.Inspect token object opening a end otherwise) p q e r = (r.0, r.1)
 first_tick s code site n (syntax.InspectWhen token object arms otherwise) p q e r = (r.0, r.2)
-first_tick s code site n (syntax.Activate token k process schedule) p q e r = absurd r
+first_tick s code site n (syntax.Activate token k process schedule) p q e r = (r.0, r.1)
 
 shared_at : (s : Source) (v : Variable) (x y : Element) (xs : List Element) (a : Statement) → is_empty a ≡ false → (temp : ℕ) (final : CodeOf) (site : Site) (p q : ℕ)
     → (site.used ≤ temp) × (temp < site.size) × (start : ℕ) × (d : ℕ) × (first : ℕ) × (targets : List ℕ) × (length targets ≡ length (x ∷ y ∷ xs)) × Is final (i.Jump (pos first)) p start × Ahead final p first × StmAt s final (record site { used = suc temp }) 0 a start d × ReturnsAt s final site 0 temp 0 targets d first × ElementsAt s final site 0 v 0 (x ∷ y ∷ xs) (TurnAt s final site 0 temp start targets) first q

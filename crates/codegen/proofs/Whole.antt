@@ -281,6 +281,11 @@ module _ (b : Bound) (old new : Written) (ts : List TextTree) (plan : List Plann
       cases None e = let le = behind new.blocks.items j e in let many = same_count in planned_past plan j (omega (arith, le, many)) ∙ ap (λ z. planned_at z j) (sym same_plan)
       cases (Some x) e = emitted.numbered j x e ∙ ap (λ z. planned_at z j) (sym emitted.classed)
 
+  -- and as many as texts that are no connections
+  blocks_many : length new.blocks.items ≡ blocks_before (length (source_of b).tables.blocks) (source_of b).tables.blocks
+  unfolding block_number texts_of
+  blocks_many = sym emitted.counted ∙ ap (λ n. blocks_before n (source_of b).tables.blocks) (as_many ∙ sym built.agrees.as_many)
+
   stands : (texts : List (List ℕ)) → texts ≡ constants_of (source_of b) → Compiled (source_of b) (whole_code texts (map record_or_blank new.classes.items) new)
   unfolding text texts_of
   stands texts et = record {
@@ -291,6 +296,7 @@ module _ (b : Bound) (old new : Written) (ts : List TextTree) (plan : List Plann
         let many = as_many in
         emitted.each (whole_code texts (map record_or_blank new.classes.items) new)
         (record { grows = record { keeps = λ j y there ne. there }; blocks = λ j y there. there; classes = λ j y there. at_map record_or_blank new.classes.items j (Some y) there; classed = classed }) k x (omega (arith, inside, many)) is;
+    as_many = blocks_many;
   }
 
 pub code_stands : (b : Bound) (old new : Written) (ts for_plan for_code : List TextTree) (plan : List PlannedOf) (texts : List (List ℕ)) (all : List (Option ClassAt)) (classes : List ClassOf) (thunks : List ThunkRecord) (lists : List (List CodeActual)) (instrs : List Lined)

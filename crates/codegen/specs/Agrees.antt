@@ -1,9 +1,11 @@
 -- That the tables of scopes agree with each other and with the texts, as far as code rests on it: the tables of each program do.
-use Rattle.std.specs.Prelude.{◌≡◌, ◌<◌, ℕ, suc, Bool, true, false, length, slice_get, Option, Some, None}
+use Rattle.std.specs.Prelude.{◌≡◌, ◌<◌, ◌+◌, ℕ, suc, Bool, true, false, length, slice_get, Option, Some, None}
 use Rattle.sim_base.specs.declared.numbering.DeclNo.{DeclNo}
 use Rattle.sim_scope.specs.declared.types.Entry.TheVariants as entry
 use Rattle.sim_scope.specs.declared.types.Formal.{Formal}
 use Rattle.sim_scope.specs.declared.types.SimType.{SimType}
+use Rattle.sim_scope.specs.declared.types.StandardClass.{StandardClass}
+use Rattle.sim_scope.specs.declared.types.StandardClass.TheVariants as standard
 use Rattle.sim_scope.specs.declared.types.BlockKind.{BlockKind}
 use Rattle.sim_scope.specs.declared.types.BlockKind.TheVariants as kind
 use Rattle.sim_scope.specs.Access.{encloser, is_kind}
@@ -17,7 +19,7 @@ use Rattle.sim_meaning.specs.Closing.{has_type}
 use Rattle.sim_meaning.specs.Entries.{numbers_of}
 use Rattle.sim_meaning.specs.Levels.{has_levels, is_class}
 use Rattle.sim_meaning.specs.Meaning.{has_result}
-use Rattle.sim_meaning.specs.Texts.{ProcedureText, program_texts, text}
+use Rattle.sim_meaning.specs.Texts.{ProcedureText, StandardText, program_texts, text}
 use Rattle.codegen_expr.specs.Sites.{LevelOf, frame_text, is_connected, prefix_of}
 
 -- the text of a declared procedure stands in the text of its declaration, and has a result where the declaration has one
@@ -55,6 +57,16 @@ pub data Ends (tables : Tables) : (levels text : ℕ) → Type 0 where
   last : {n k : ℕ} → prefix_of tables k ≡ None → Ends tables (suc n) k
   before : {n k u : ℕ} → prefix_of tables k ≡ Some u → Ends tables n u → Ends tables (suc n) k
 
+-- Each class `process` is the fourth of four standard classes directly behind a class or a block that has levels.
+pub record ProcessBrought (s : Source) (k : ℕ) : Type 0 where
+  pub block : ℕ
+  pub is : k ≡ block + 4
+  pub has : has_levels (text s block) ≡ true
+  pub linkage : text s (block + 1) ≡ Some (StandardText standard.Linkage)
+  pub link : text s (block + 2) ≡ Some (StandardText standard.Link)
+  pub head : text s (block + 3) ≡ Some (StandardText standard.Head)
+  pub around : encloser s.tables k ≡ Some block
+
 pub record Agrees (s : Source) : Type 0 where
   -- nothing is around the program's block
   pub outermost : encloser s.tables 0 ≡ None
@@ -81,3 +93,8 @@ pub record Agrees (s : Source) : Type 0 where
   -- the texts of procedures and classes stand where these are declared
   pub classes : (d : DeclNo) (k : ℕ) → entry_of s.tables d ≡ Some (entry.Class k) → encloser s.tables k ≡ Some (block_of s d)
   pub procedures : (d : DeclNo) (result : Option SimType) (k : ℕ) → entry_of s.tables d ≡ Some (entry.Procedure result k) → ProcedureThere s d result k
+  pub processes : (k : ℕ) → text s k ≡ Some (StandardText standard.Process) → ProcessBrought s k
+  -- no block has a standard class for a prefix, or among the levels of it
+  pub blocks : (k u : ℕ) (which : StandardClass) → is_prefixed s.tables k ≡ true → LevelOf s.tables k u → text s u ≡ Some (StandardText which) → ⊥
+  -- no standard class but `process` itself has that among its levels
+  pub standards : (j k : ℕ) (which : StandardClass) → text s j ≡ Some (StandardText which) → text s k ≡ Some (StandardText standard.Process) → LevelOf s.tables j k → j ≡ k

@@ -2,22 +2,20 @@
 use Rattle.std.specs.Prelude.{◌≡◌, ⊤, ℕ, zero, suc, Bool, true, false, ◌||◌, List, [], ◌∷◌, Option, Some, None}
 use Rattle.sim_base.specs.declared.numbering.DeclNo.{DeclNo}
 use Rattle.sim_scope.specs.Assignments.{last_value, left_sides}
-use Rattle.sim_scope.specs.declared.types.StandardClass.{StandardClass}
-use Rattle.sim_scope.specs.declared.types.StandardClass.TheVariants as standard
 use Rattle.sim_scope.specs.Access.{encloser}
 use Rattle.sim_scope.specs.Scopes.{entry_of}
 use Rattle.sim_scope.specs.Source.{Source, block_around, block_of, denoted, found_at, line_at}
 use Rattle.sim_tree.specs.declared.expr.Identifier.{Identifier}
-use Rattle.sim_tree.specs.Syntax.{Also, Arms, Arrayed, Arrays, Begin, Block, BoundPair, Declarations, DeclareClass, DeclareProcedure, Element, Expression, Expressions, NoArm, NoDeclaration, NoMore, NoStatement, Statement, Statements, Then, Variables, When, With}
+use Rattle.sim_tree.specs.Syntax.{Also, Arms, Arrayed, Arrays, Begin, Block, BoundPair, Declarations, DeclareClass, DeclareProcedure, Element, Expression, Expressions, NoArm, NoDeclaration, NoMore, NoStatement, Schedule, Statement, Statements, Then, Variables, When, With}
 use Rattle.sim_tree.specs.Syntax as syntax
 use Rattle.sim_code.specs.Transfers.{Calling, Detaching, Resuming, Transfer}
 use Rattle.sim_meaning.specs.Attributes.{cell_of_connection, connection_at, own_attribute, transfer_at}
 use Rattle.sim_meaning.specs.Closing.{class_parameters, formals_at, is_attribute, is_text, is_variable, stream_of}
 use Rattle.sim_meaning.specs.Levels.{class_at, writes_inner}
-use Rattle.sim_meaning.specs.Statements.{begin_of, leaves}
+use Rattle.sim_meaning.specs.Statements.{begin_of, leaves, simulation_around}
 use Rattle.sim_meaning.specs.Pending.{Connection, Declared, Result}
 use Rattle.sim_meaning.specs.Texts.{BlockText, ClassText, ConnectionText, PrefixedText, ProcedureText, StandardText, Text, declared_at, program_texts, text}
-use Rattle.codegen_expr.specs.Built.{ActualsBuilt, AreBuilt, CellBuilt, ClassBuilt, ConnectedNameBuilt, DotBuilt, IsBuilt, KeyBuilt, NamedBuilt, OfObjectBuilt, OwnBuilt, PlaceBuilt, ReferenceBuilt, ThisFoundBuilt, ThroughBuilt, is_there, slot_in}
+use Rattle.codegen_expr.specs.Built.{ActualsBuilt, AreBuilt, CellBuilt, ClassBuilt, ConnectedNameBuilt, DotBuilt, IsBuilt, KeyBuilt, NamedBuilt, OfObjectBuilt, OwnBuilt, OwnNameBuilt, StandsIn, PlaceBuilt, ReferenceBuilt, ThisFoundBuilt, ThroughBuilt, is_there, slot_in}
 use Rattle.codegen_expr.specs.CodeExpr.{gives}
 use Rattle.codegen_expr.specs.Sites.{Varies, frame_text, prefix_of}
 use Rattle.codegen.specs.Agrees.{Agrees, is_prefixed}
@@ -112,13 +110,26 @@ CalledBuilt s text (syntax.Named name es) =
     ((leaves s (syntax.Named name es) ≡ gives s (denoted s name.token.0)) × ThroughBuilt (connection_at s name.token.0)
     (λ k. ConnectedNameBuilt s text k (denoted s name.token.0) es (AreBuilt s text es) (λ formals. ActualsBuilt s text es formals))
     (OwnBuilt (own_attribute s name.token.0)
-    (λ d. OfObjectBuilt s d (entry_of s.tables d) es (ThisFoundBuilt s text (found_at s name.token.0)) (AreBuilt s text es) (ActualsBuilt s text es (formals_at s d)))
+    (λ d. OwnNameBuilt s text (found_at s name.token.0) (entry_of s.tables d) es (ActualsBuilt s text es (formals_at s d))
+    (OfObjectBuilt s d (entry_of s.tables d) es (ThisFoundBuilt s text (found_at s name.token.0)) (AreBuilt s text es) (ActualsBuilt s text es (formals_at s d))))
     (NamedBuilt s text (denoted s name.token.0) es (AreBuilt s text es) (λ formals. ActualsBuilt s text es formals))))
 CalledBuilt s text (syntax.Dot token a name es) =
     OrTransferBuilt (transfer_at s name.token.0) (λ t. TransferBuilt Detaching es (IsBuilt s text a) (AreBuilt s text es))
     ((leaves s (syntax.Dot token a name es) ≡ gives s (denoted s name.token.0)) × DotBuilt s (denoted s name.token.0) (stream_of s a) (is_variable s a || is_attribute s a) es (PlaceBuilt s text a) (IsBuilt s text a) (AreBuilt s text es) (λ formals. ActualsBuilt s text es formals))
 CalledBuilt s text (syntax.New token class es) = IsBuilt s text (syntax.New token class es)
 CalledBuilt s text _ = ⊥
+
+-- an activation in a simulation, whose block is a text around
+abbrev pub OperandBuilt : Source → (text : ℕ) → Schedule → Type 0
+OperandBuilt s text syntax.Now = ⊤
+OperandBuilt s text (syntax.At token e prior) = IsBuilt s text e
+OperandBuilt s text (syntax.Delay token e prior) = IsBuilt s text e
+OperandBuilt s text (syntax.Before token e) = IsBuilt s text e
+OperandBuilt s text (syntax.After token e) = IsBuilt s text e
+
+abbrev pub ActivatesBuilt : Source → (text : ℕ) → (simulation : Option ℕ) → Expression → Schedule → Type 0
+ActivatesBuilt s text None e schedule = ⊥
+ActivatesBuilt s text (Some k) e schedule = StandsIn s text k × IsBuilt s text e × OperandBuilt s text schedule
 
 -- the connection that begins at a token stands in the text, whose frames have a cell for it
 pub record ConnectionBuilt (s : Source) (around opening connection : ℕ) (Body : ℕ → Type 0) : Type 0 where
@@ -144,6 +155,7 @@ abbrev mutual
   StatementBuilt s text (syntax.Prefixed class es b) = PrefixBuilt s text es (block_around s (begin_of b))
   StatementBuilt s text (syntax.Inspect token e opening a end other) = IsBuilt s text e × ConnectsBuilt s text opening (block_around s opening) (λ k. StatementBuilt s k a) × StatementsBuilt s text other
   StatementBuilt s text (syntax.InspectWhen token e arms other) = IsBuilt s text e × ArmsBuilt s text arms × StatementsBuilt s text other
+  StatementBuilt s text (syntax.Activate token word e schedule) = ActivatesBuilt s text (simulation_around s token) e schedule
   StatementBuilt s text _ = ⊥
 
   pub StatementsBuilt : Source → (text : ℕ) → Statements → Type 0
@@ -205,12 +217,7 @@ ArraysBuilt s text (With (DeclareClass prefix token h interface a end) ds) = Arr
 
 -- ---- programs
 
--- processes are not built
-abbrev pub SetClass : StandardClass → Type 0
-SetClass standard.Process = ⊥
-SetClass _ = ⊤
-
--- a prefix of the program itself is `simset`, which gives no level
+-- a prefix of the program itself is `simset` or `simulation`, which gives no level
 abbrev pub OnlyLevel : Source → Type 0
 OnlyLevel s = prefix_of s.tables 0 ≡ None
 
@@ -223,7 +230,7 @@ TextBuilt s zero (PrefixedText class arguments ds ss) = OnlyLevel s × ArraysBui
 TextBuilt s (suc k) (PrefixedText class arguments ds ss) = ArraysBuilt s (suc k) ds × StatementsBuilt s (suc k) ss
 TextBuilt s k ConnectionText = ⊤
 TextBuilt s zero (StandardText which) = ⊥
-TextBuilt s (suc k) (StandardText which) = SetClass which
+TextBuilt s (suc k) (StandardText which) = ⊤
 
 -- the texts of a program in their order
 unfoldable pub texts_of : Source → List Text

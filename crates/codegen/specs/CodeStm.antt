@@ -1,23 +1,28 @@
 -- Which code stands for a statement. There are n values on the operand stack before it and behind it.
-use Rattle.std.specs.Prelude.{◌≡◌, ◌||◌, ℕ, zero, suc, Bool, true, false, pos, Option, Some, None}
+use Rattle.std.specs.Prelude.{◌≡◌, ◌||◌, ◌&&◌, ◌+◌, ℕ, zero, suc, Bool, true, false, pos, List, [], ◌∷◌, length, slice_get, Option, Some, None}
 use Rattle.sim_scope.specs.Assignments.{last_value, left_sides}
 use Rattle.sim_scope.specs.Access.{encloser}
 use Rattle.sim_scope.specs.Scopes.{entry_of}
+use Rattle.sim_scope.specs.Levels.{has_level}
 use Rattle.sim_scope.specs.Source.{Source, block_around, denoted, found_at, level_of, line_at}
-use Rattle.sim_tree.specs.Syntax.{Also, Arms, Begin, Block, Expression, Expressions, NoArm, NoDeclaration, NoMore, NoStatement, Statement, Statements, Then, When, With}
+use Rattle.sim_tree.specs.Syntax.{Also, Arms, Begin, Block, Expression, Expressions, NoArm, NoDeclaration, NoMore, NoStatement, Schedule, Statement, Statements, Then, When, With}
 use Rattle.sim_tree.specs.Syntax as syntax
 use Rattle.sim_code.specs.declared.instr.Instr.TheVariants as i
 use Rattle.sim_code.specs.Code.{CodeOf}
+use Rattle.sim_values.specs.declared.standard.Standard.TheVariants as name_of
+use Rattle.sim_code.specs.Names.{standard_names}
+use Rattle.sim_code.specs.Scheduling.{AtTime, Beside, Directly, Timing, WithDelay}
 use Rattle.sim_code.specs.Transfers.{Calling, Detaching, Resuming, Transfer}
 use Rattle.sim_meaning.specs.Attributes.{cell_of_connection, connection_at, own_attribute, transfer_at}
 use Rattle.sim_meaning.specs.Closing.{class_parameters, formals_at, is_attribute, is_text, is_variable, stream_of}
-use Rattle.sim_meaning.specs.Levels.{class_at}
+use Rattle.sim_meaning.specs.Levels.{class_at, end_line_of}
+use Rattle.sim_meaning.specs.Objects.{no_line}
 use Rattle.sim_meaning.specs.Pending.{Connection}
-use Rattle.sim_meaning.specs.Statements.{begin_of, leaves}
-use Rattle.sim_meaning.specs.Texts.{ConnectionText, text}
+use Rattle.sim_meaning.specs.Statements.{begin_of, is_again, leaves, simulation_around, timing}
+use Rattle.sim_meaning.specs.Texts.{ClassText, ConnectionText, Text, text}
 use Rattle.sim_meaning.specs.Texts as Texts
-use Rattle.codegen_expr.specs.Sites.{Ahead, At, HasCell, IfAt, Is, LoopAt, Pushes, Site, WhenAt, block_number, class_number, frame_text, slot_of}
-use Rattle.codegen_expr.specs.CodeExpr.{ActualsAt, ConnectedNameAt, DotAt, ExprAt, ExprsAt, NamedAt, OfObjectAt, OwnAt, PlaceAt, ThisFoundAt, ThroughAt, gives, operands}
+use Rattle.codegen_expr.specs.Sites.{Ahead, At, HasCell, IfAt, Inside, Is, LoopAt, Pushes, Site, WhenAt, block_number, class_number, frame_text, slot_of}
+use Rattle.codegen_expr.specs.CodeExpr.{ActualsAt, ConnectedNameAt, DotAt, ExprAt, ExprsAt, NamedAt, OfObjectAt, OwnAt, OwnNameAt, PlaceAt, ThisFoundAt, ThroughAt, gives, operands}
 use Rattle.codegen.specs.Agrees.{is_prefixed}
 use Rattle.codegen.specs.CodeFor.{ForAt, assigned_by, is_empty, variable_of}
 use Rattle.codegen.specs.CodeLeft.{AssignAt, each_stored}
@@ -75,7 +80,8 @@ CalledAt s code site n (syntax.Named name es) p q =
     (λ p q. (leaves s (syntax.Named name es) ≡ gives s (denoted s name.token.0)) × ThroughAt (connection_at s name.token.0)
     (λ k. ConnectedNameAt s code site n (line_at s name.token.0) k (denoted s name.token.0) es (ExprsAt s code site (suc n) es) (λ formals. ActualsAt s code site (suc n) (line_at s name.token.0) false es formals))
     (OwnAt (own_attribute s name.token.0)
-    (λ d. OfObjectAt s code site n (line_at s name.token.0) d (entry_of s.tables d) es (ThisFoundAt s code site n (found_at s name.token.0)) (ExprsAt s code site (suc n) es) (ActualsAt s code site (suc n) (line_at s name.token.0) false es (formals_at s d)))
+    (λ d. OwnNameAt s code site n (line_at s name.token.0) (found_at s name.token.0) (entry_of s.tables d) es (ActualsAt s code site (suc n) (line_at s name.token.0) false es (formals_at s d))
+    (OfObjectAt s code site n (line_at s name.token.0) d (entry_of s.tables d) es (ThisFoundAt s code site n (found_at s name.token.0)) (ExprsAt s code site (suc n) es) (ActualsAt s code site (suc n) (line_at s name.token.0) false es (formals_at s d))))
     (NamedAt s code site n (line_at s name.token.0) (denoted s name.token.0) es (ExprsAt s code site n es) (ExprsAt s code site (suc n) es) (λ formals. ActualsAt s code site (suc n) (line_at s name.token.0) false es formals))) p q) p q
 CalledAt s code site n (syntax.Dot token a name es) p q =
     OrTransferAt (transfer_at s name.token.0) (λ t. TransferAt code (line_at s name.token.0) Detaching es (ExprAt s code site n a) (ExprsAt s code site n es))
@@ -83,6 +89,44 @@ CalledAt s code site n (syntax.Dot token a name es) p q =
     (PlaceAt s code site n 0 a) (ExprAt s code site n a) (ExprsAt s code site n es) (ExprsAt s code site (suc n) es) (λ formals. ActualsAt s code site (suc n) (line_at s name.token.0) false es formals) p q) p q
 CalledAt s code site n (syntax.New token class es) p q = ExprAt s code site n (syntax.New token class es) p q
 CalledAt s code site n _ p q = ⊥
+
+-- ---- activations
+
+-- the number of a timing
+abbrev pub timing_number : Timing → ℕ
+timing_number Directly = 0
+timing_number (AtTime false) = 1
+timing_number (AtTime true) = 2
+timing_number (WithDelay false) = 3
+timing_number (WithDelay true) = 4
+timing_number (Beside true) = 5
+timing_number (Beside false) = 6
+
+abbrev pub activation_number : (again : Bool) → Timing → ℕ
+activation_number false t = timing_number t
+activation_number true t = timing_number t + 8
+
+abbrev pub OperandAt : Source → CodeOf → Site → ℕ → Schedule → ℕ → ℕ → Type 0
+OperandAt s code site n syntax.Now p q = q ≡ p
+OperandAt s code site n (syntax.At token e prior) p q = ExprAt s code site n e p q
+OperandAt s code site n (syntax.Delay token e prior) p q = ExprAt s code site n e p q
+OperandAt s code site n (syntax.Before token e) p q = ExprAt s code site n e p q
+OperandAt s code site n (syntax.After token e) p q = ExprAt s code site n e p q
+
+-- the link to the simulation block, the process, and the operand of the timing, if there is one
+pub record ActivationAt (s : Source) (code : CodeOf) (site : Site) (n line text : ℕ) (again : Bool) (e : Expression) (schedule : Schedule) (p q : ℕ) : Type 0 where
+  pub x : ℕ
+  pub y : ℕ
+  pub z : ℕ
+  pub link : Pushes code site n (i.Link (pos (level_of s text))) p x
+  pub inside : Inside s.tables site.text text
+  pub process : ExprAt s code site (suc n) e x y
+  pub operand : OperandAt s code site (suc (suc n)) schedule y z
+  pub does : At code (i.Act (pos (activation_number again (timing schedule)))) line z q
+
+abbrev pub ActivatesAt : Source → CodeOf → Site → (n line : ℕ) → (simulation : Option ℕ) → (again : Bool) → Expression → Schedule → ℕ → ℕ → Type 0
+ActivatesAt s code site n line None again e schedule p q = ⊥
+ActivatesAt s code site n line (Some k) again e schedule p q = ActivationAt s code site n line k again e schedule p q
 
 -- ---- connections
 
@@ -162,7 +206,7 @@ abbrev mutual
   StmAt s code site n (syntax.InspectWhen token e arms other) p q =
       (t : ℕ) × (x : ℕ) × Is code i.Tick p t × ExprAt s code site n e t x × ArmsAt s code site n arms (StmsAt s code site n other) x q
   StmAt s code site n (syntax.Inner token) p q = ⊥
-  StmAt s code site n (syntax.Activate token word e schedule) p q = ⊥
+  StmAt s code site n (syntax.Activate token word e schedule) p q = (t : ℕ) × Is code i.Tick p t × ActivatesAt s code site n (line_at s token) (simulation_around s token) (is_again word) e schedule t q
 
   -- the object is on top; where no arm is taken it is dropped
   pub ArmsAt : Source → CodeOf → Site → ℕ → Arms → (Otherwise : ℕ → ℕ → Type 0) → ℕ → ℕ → Type 0
@@ -216,3 +260,59 @@ pub record InnerLastAt (s : Source) (code : CodeOf) (site : Site) (place after :
 abbrev pub LevelAt : Source → CodeOf → Site → (place after : ℕ) → (written : Bool) → Statements → ℕ → ℕ → Type 0
 LevelAt s code site place after true ss p q = WithInnerAt s code site place after ss p q
 LevelAt s code site place after false ss p q = InnerLastAt s code site place after ss p q
+
+-- ---- the level of the class `process`
+
+-- the classes of which a class is a level, but itself, in text order
+abbrev pub is_class_text : Option Text → Bool
+is_class_text (Some (ClassText prefix h ds ss)) = true
+is_class_text _ = false
+
+abbrev pub is_subclass : Source → (class text : ℕ) → Bool
+is_subclass s k j = is_class_text (text s j) && has_level s.tables j k
+
+abbrev pub with_subclass : Bool → ℕ → List ℕ → List ℕ
+with_subclass true j js = j ∷ js
+with_subclass false j js = js
+
+abbrev pub subclasses_from : Source → (class text count : ℕ) → List ℕ
+subclasses_from s k j zero = []
+subclasses_from s k j (suc n) = with_subclass (is_subclass s k j) j (subclasses_from s k (suc j) n)
+
+unfoldable pub subclasses : Source → (class : ℕ) → List ℕ
+subclasses s k = subclasses_from s k 0 (length s.tables.blocks)
+
+-- The end of a process: its class is found, since the line is that of the end of the class, and it passivates.
+pub record EndOfAt (s : Source) (code : CodeOf) (site : Site) (around class : ℕ) (More : ℕ → ℕ → Type 0) (p q : ℕ) : Type 0 where
+  pub a : ℕ
+  pub b : ℕ
+  pub c : ℕ
+  pub d : ℕ
+  pub e : ℕ
+  pub y : ℕ
+  pub this : Pushes code site 0 (i.This (pos (level_of s site.text))) p a
+  pub test : Is code (i.Is (pos (class_number s code class))) a b
+  pub jump : Is code (i.JumpF (pos y)) b c
+  pub leads : Ahead code b y
+  pub link : Pushes code site 0 (i.Link (pos (level_of s around))) c d
+  pub number : ℕ
+  pub numbered : slice_get standard_names number ≡ Some name_of.Passivate
+  pub done : At code (i.Std (pos number)) (end_line_of s (Some class)) d e
+  pub over : Is code (i.Jump (pos q)) e y
+  pub past : Ahead code e q
+  pub more : More y q
+
+abbrev pub EndsAt : Source → CodeOf → Site → (around : ℕ) → (classes : List ℕ) → ℕ → ℕ → Type 0
+EndsAt s code site around [] p q = q ≡ p
+EndsAt s code site around (k ∷ ks) p q = EndOfAt s code site around k (EndsAt s code site around ks) p q
+
+-- A process detaches itself; then comes what stands for `inner`, and behind it the end.
+pub record ProcessAt (s : Source) (code : CodeOf) (site : Site) (place statements after q : ℕ) : Type 0 where
+  pub around : ℕ
+  pub is_around : encloser s.tables site.text ≡ Some around
+  pub a : ℕ
+  pub b : ℕ
+  pub this : Pushes code site 0 (i.This (pos (level_of s site.text))) statements a
+  pub detach : At code i.Detach no_line a b
+  pub inner : Is code (i.Inner (pos place)) b after
+  pub ends : EndsAt s code site around (subclasses s site.text) after q

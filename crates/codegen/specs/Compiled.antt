@@ -13,7 +13,7 @@ use Rattle.sim_scope.specs.Source.{Source, level_of, line_at}
 use Rattle.sim_tree.specs.declared.stmt.TypeName.{TypeName}
 use Rattle.sim_tree.specs.declared.stmt.TypeName.TheVariants as type_name
 use Rattle.sim_tree.specs.Syntax.{Declarations, NoDeclaration, NoStatement, Statement, Statements}
-use Rattle.sim_values.specs.Plain.{Plain, Integer, Truth, Character, Text, Object, Nothing}
+use Rattle.sim_values.specs.Plain.{Plain, Integer, Truth, Character, Text, Object, MainOf, Nothing}
 use Rattle.sim_code.specs.declared.code.BlockKind.{BlockKind}
 use Rattle.sim_code.specs.declared.code.BlockKind.TheVariants as kind
 use Rattle.sim_code.specs.declared.code.CodeFormal.{CodeFormal}
@@ -25,19 +25,18 @@ use Rattle.sim_code.specs.declared.code.CodeType.{CodeType}
 use Rattle.sim_code.specs.declared.code.CodeType.TheVariants as type
 use Rattle.sim_code.specs.declared.instr.Instr.{Instr}
 use Rattle.sim_code.specs.declared.instr.Instr.TheVariants as i
-use Rattle.sim_code.specs.Classes.{class_numbered}
+use Rattle.sim_code.specs.Classes.{class_numbered, head_mark, linkage_mark, process_mark}
 use Rattle.sim_code.specs.Code.{BlockOf, ClassOf, CodeOf}
-use Rattle.sim_code.specs.Levels.{head_mark, linkage_mark}
 use Rattle.sim_meaning.specs.Constants.{constants_of}
 use Rattle.sim_meaning.specs.Closing.{class_parameters}
 use Rattle.sim_meaning.specs.Entries.{formals_of}
-use Rattle.sim_meaning.specs.Levels.{levels_of, writes_inner}
+use Rattle.sim_meaning.specs.Levels.{is_process_text, levels_of, writes_inner}
 use Rattle.sim_meaning.specs.Pending.{Held, Of, Val}
 use Rattle.sim_meaning.specs.Texts.{BlockText, ClassText, ConnectionText, PrefixedText, ProcedureText, StandardText, Text as TextOf, is_class_free, text}
-use Rattle.codegen_expr.specs.Sites.{At, Is, Site, block_in_front, block_number, cells_in, cells_of_block, class_in, own_end, own_part, prefix_of, room_of_block, types_in}
+use Rattle.codegen_expr.specs.Sites.{At, Is, Site, block_in_front, block_number, blocks_before, cells_in, cells_of_block, class_in, own_end, own_part, prefix_of, room_of_block, types_in}
 use Rattle.codegen.specs.Agrees.{Agrees}
 use Rattle.codegen.specs.CodeArrays.{ArraysAt}
-use Rattle.codegen.specs.CodeStm.{LevelAt, StmAt, StmsAt}
+use Rattle.codegen.specs.CodeStm.{LevelAt, ProcessAt, StmAt, StmsAt}
 
 -- ---- cells
 
@@ -48,6 +47,7 @@ type_of_plain (Truth b) = type.Boolean
 type_of_plain (Character c) = type.Character
 type_of_plain (Text x) = type.Text
 type_of_plain (Object j) = type.Reference
+type_of_plain (MainOf j) = type.Reference
 type_of_plain Nothing = type.Reference
 
 abbrev pub type_of_value : Option Val → CodeType
@@ -152,7 +152,7 @@ pub record ClassIs (s : Source) (code : CodeOf) (k : ℕ) (b : BlockOf) (class :
   pub of_block : class.block ≡ block_number s k
   pub prefix : class.prefix ≡ class_in (block_in_front s code k)
   pub lower : class.prefix < b.class
-  pub no_process : class.process ≡ false
+  pub process : class.process ≡ is_process_text s k
   pub no_matches : class.matches ≡ []
 
 -- The code of a level: its declarations, its statements, and what stands behind `inner`, each where the class says.
@@ -177,7 +177,7 @@ abbrev pub standard_mark : StandardClass → ℕ
 standard_mark standard.Linkage = linkage_mark
 standard_mark standard.Link = 2
 standard_mark standard.Head = head_mark
-standard_mark standard.Process = 4
+standard_mark standard.Process = process_mark
 
 abbrev pub mark_of : Option TextOf → ℕ
 mark_of (Some (StandardText which)) = standard_mark which
@@ -194,6 +194,27 @@ pub record ClassTextOf (s : Source) (code : CodeOf) (k : ℕ) (kind : BlockKind)
   pub is : ClassIs s code k b class
   pub level : LevelOf s code k written ds ss b class
 
+-- The level of the class `process`, which declares nothing.
+pub record ProcessOf (s : Source) (code : CodeOf) (k : ℕ) (b : BlockOf) (class : ClassOf) : Type 0 where
+  pub place : ℕ
+  pub placed : suc place ≡ length (levels_of s k)
+  pub x : ℕ
+  pub declared_there : class.declarations < length code.instrs
+  pub next : Is code (i.NextDecl (pos place)) class.declarations x
+  pub stated_there : class.statements < length code.instrs
+  pub behind_there : class.after_inner < length code.instrs
+  pub stop : ℕ
+  pub stated : ProcessAt s code (site_of s code k b) place class.statements class.after_inner stop
+  pub last : ℕ
+  pub ends : Is code (i.EndLevel (pos place)) stop last
+
+pub record ProcessTextOf (s : Source) (code : CodeOf) (k : ℕ) (b : BlockOf) : Type 0 where
+  pub heads : RecordOf s code k kind.Object type.Nothing b
+  pub marked : b.entry ≡ process_mark
+  pub class : ClassOf
+  pub is : ClassIs s code k b class
+  pub level : ProcessOf s code k b class
+
 -- A prefix of the program's block gives no level in front. The block begins with a jump to the next instruction that has the line of the prefix.
 pub record PrefixedProgramOf (s : Source) (code : CodeOf) (line : ℕ) (ds : Declarations) (ss : Statements) (b : BlockOf) : Type 0 where
   pub heads : RecordOf s code 0 kind.Prefixed type.Nothing b
@@ -205,10 +226,9 @@ pub record PrefixedProgramOf (s : Source) (code : CodeOf) (line : ℕ) (ds : Dec
 
 -- ---- programs
 
--- The program's block is the first text, and no class. A class of SIMSET has no declarations and no statements of its own; processes are not
--- built.
+-- The program's block is the first text, and no class. A class of SIMSET has no declarations and no statements of its own.
 abbrev pub StandardTextOf : Source → CodeOf → (text : ℕ) → StandardClass → BlockOf → Type 0
-StandardTextOf s code k standard.Process b = ⊥
+StandardTextOf s code k standard.Process b = ProcessTextOf s code k b
 StandardTextOf s code k which b = ClassTextOf s code k kind.Object false NoDeclaration NoStatement b
 
 abbrev pub TextCode : Source → CodeOf → (text : ℕ) → TextOf → BlockOf → Type 0
@@ -234,3 +254,5 @@ pub record Compiled (s : Source) (code : CodeOf) : Type 0 where
   pub agrees : Agrees s
   pub texts : code.texts ≡ constants_of s
   pub each : (k : ℕ) (x : TextOf) → text s k ≡ Some x → CodeHas s code k x (slice_get code.blocks (block_number s k))
+  -- and no other blocks
+  pub as_many : length code.blocks ≡ blocks_before (length s.tables.blocks) s.tables.blocks

@@ -1,11 +1,12 @@
 -- What is written of the texts of a program.
-use Rattle.std.specs.Prelude.{◌≡◌, ◌≢◌, ◌<◌, ◌≤◌, ◌+◌, ◌&&◌, ℕ, suc, nat_le, nat_lt, Bool, true, false, List, [], ◌∷◌, ◌++◌, drop, length, map, slice_get, slice_set, Option, Some, None}
+use Rattle.std.specs.Prelude.{◌≡◌, ◌≢◌, ◌<◌, ◌≤◌, ◌+◌, ◌&&◌, ℕ, pos, suc, nat_le, nat_lt, Bool, true, false, List, [], ◌∷◌, ◌++◌, drop, length, map, slice_get, slice_set, Option, Some, None}
 use Rattle.sim_base.specs.declared.numbering.DeclNo.{DeclNo}
 use Rattle.sim_base.specs.declared.numbering.TokenNo.{TokenNo}
 use Rattle.sim_scope.specs.declared.bound.Bound.{Bound}
 use Rattle.sim_scope.specs.declared.types.Entry.{Entry}
 use Rattle.sim_scope.specs.declared.types.Formal.{Formal}
 use Rattle.sim_scope.specs.declared.types.StandardClass.{StandardClass}
+use Rattle.sim_scope.specs.declared.types.StandardClass.TheVariants as standard
 use Rattle.sim_scope.specs.Tables.{BlockOf as TableBlock}
 use Rattle.sim_scope.specs.Source.{Source, block_around, level_of, source_of}
 use Rattle.sim_tree.specs.declared.expr.Identifier.{Identifier}
@@ -20,25 +21,27 @@ use Rattle.sim_code.specs.declared.code.BlockKind.{BlockKind}
 use Rattle.sim_code.specs.declared.code.BlockKind.TheVariants as kind
 use Rattle.sim_code.specs.declared.code.CodeType.{CodeType}
 use Rattle.sim_code.specs.declared.code.CodeType.TheVariants as type
+use Rattle.sim_code.specs.declared.instr.Instr.TheVariants as i
 use Rattle.sim_code.specs.declared.instr.Lined.{Lined}
 use Rattle.sim_code.specs.Code.{BlockOf, ClassOf, CodeOf}
 use Rattle.sim_code.specs.Running.{AllRun}
 use Rattle.sim_meaning.specs.Closing.{class_parameters}
 use Rattle.sim_meaning.specs.Entries.{cells_from, formals_of, numbers_of, with_cell, with_result}
-use Rattle.sim_meaning.specs.Levels.{levels_of, writes_inner}
+use Rattle.sim_meaning.specs.Levels.{is_process_class, is_process_text, levels_of, writes_inner}
 use Rattle.sim_meaning.specs.Texts.{ClassText, ConnectionText, PrefixedText, ProcedureText, StandardText, Text, is_class_free, is_class_kind, text}
 use Rattle.program_texts.specs.declared.tree.TextTree.{TextTree}
 use Rattle.program_texts.specs.TextTrees.{AreTexts, block_text, prefixed_text, text_in}
 use Rattle.codegen_expr.specs.declared.spot.Spot.{Spot}
-use Rattle.codegen_expr.specs.Drafts.{DraftOf, Emits, Grows, PlannedOf, planned_at, planned_front, planned_in, planned_start}
+use Rattle.codegen_expr.specs.Drafts.{DraftOf, Emits, Grows, PlannedOf, class_of, planned_at, planned_front, planned_in, planned_start, with_instr}
 use Rattle.codegen_expr.specs.Sites.{block_number, cells_in, hidden_from, hidden_in, own_part}
 use Rattle.codegen.specs.declared.class_texts.LevelHead.{LevelHead}
+use Rattle.codegen.specs.declared.level_records.LevelStart.{LevelStart}
 use Rattle.codegen.specs.declared.levels.InnerPlace.{InnerPlace}
 use Rattle.codegen.specs.declared.texts.ClassAt.{ClassAt}
 use Rattle.codegen.specs.declared.texts.Head.{Head}
 use Rattle.codegen.specs.declared.texts.Written.{Written}
 use Rattle.codegen.specs.Agrees.{Agrees}
-use Rattle.codegen.specs.BuiltProgram.{ArraysBuilt, LevelBuilt, ProgramBuilt, SetClass, TextBuilt, WithInnerBuilt, texts_of}
+use Rattle.codegen.specs.BuiltProgram.{ArraysBuilt, LevelBuilt, ProgramBuilt, TextBuilt, WithInnerBuilt, texts_of}
 use Rattle.codegen.specs.CodeStm.{LevelAt, WithInnerAt, inner_of}
 use Rattle.codegen.specs.Compiled.{ClassIs, CodeHas, LevelOf, RecordOf, code_formal, parameters_of, standard_mark, type_of_cell}
 
@@ -83,7 +86,7 @@ pub record Next (s : Source) (w : Written) (k : ℕ) (x : Text) : Type 0 where
 
 -- the record of a class
 abbrev pub class_record : ClassAt → ClassOf
-class_record c = record { prefix = c.prefix; block = c.block; declarations = c.declarations; statements = c.statements; after_inner = c.after_inner; process = false; matches = [] }
+class_record c = record { prefix = c.prefix; block = c.block; declarations = c.declarations; statements = c.statements; after_inner = c.after_inner; process = c.process; matches = [] }
 
 abbrev pub record_or_blank : Option ClassAt → ClassOf
 record_or_blank None = record { prefix = 0; block = 0; declarations = 0; statements = 0; after_inner = 0; process = false; matches = [] }
@@ -126,7 +129,7 @@ WritesProcedureText b old new k result a = (h : Heading) → Next (source_of b) 
 -- among its statements
 pub data LevelText (s : Source) (k : ℕ) : Declarations → Statements → BlockKind → (entry : ℕ) → (inner : Bool) → Text → Type 0 where
   a_class : {prefix : Option Identifier} → {h : Heading} → {ds : Declarations} → {ss : Statements} → LevelText s k ds ss kind.Object 0 (writes_inner s k) (ClassText prefix h ds ss)
-  a_standard : {which : StandardClass} → SetClass which → LevelText s k NoDeclaration NoStatement kind.Object (standard_mark which) false (StandardText which)
+  a_standard : {which : StandardClass} → is_process_class which ≡ false → LevelText s k NoDeclaration NoStatement kind.Object (standard_mark which) false (StandardText which)
   a_block : {class : Identifier} → {es : Expressions} → {ds : Declarations} → {ss : Statements} → {entry : ℕ} → k ≢ 0 → LevelText s k ds ss kind.Prefixed entry false (PrefixedText class es ds ss)
 
 unfoldable pub WritesClassText : Bound → (old new : Written) → LevelHead → List Decl → List Stmt → Type 0
@@ -169,13 +172,12 @@ unfoldable pub WritesPrefixedText : Bound → (old new : Written) → (number : 
 WritesPrefixedText b old new k p x =
     Next (source_of b) old k (prefixed_text (prefix_syntax p) (block_syntax x)) → TextEmitted (source_of b) old new k (prefixed_text (prefix_syntax p) (block_syntax x))
 
--- the mark of a class of SIMSET
-abbrev pub MarkIs : StandardClass → Option ℕ → Type 0
-MarkIs which None = SetClass which → ⊥
-MarkIs which (Some mark) = SetClass which × (mark ≡ standard_mark which)
-
+-- a class that `simset` or `simulation` declares; and the class `process`
 unfoldable pub WritesStandardText : Bound → (old new : Written) → (number : ℕ) → StandardClass → Type 0
 WritesStandardText b old new k which = Next (source_of b) old k (StandardText which) → TextEmitted (source_of b) old new k (StandardText which)
+
+unfoldable pub WritesProcessText : Bound → (old new : Written) → (number : ℕ) → Type 0
+WritesProcessText b old new k = Next (source_of b) old k (StandardText standard.Process) → TextEmitted (source_of b) old new k (StandardText standard.Process)
 
 -- ---- the statements of a class
 
@@ -331,3 +333,34 @@ PutsClass old new number class = ClassPut old new number class
 -- temps behind them
 unfoldable pub Padded : (old new : List CodeType) → (size : ℕ) → Type 0
 Padded old new size = ((temps : List CodeType) × (new ≡ old ++ temps)) × (size ≤ length new)
+
+-- ---- where levels begin and end
+
+-- the code of a level begins, of which this is known
+pub record LevelBegun (s : Source) (old new : Written) (k : ℕ) (x : LevelStart) : Type 0 where
+  pub block : x.block ≡ length old.blocks.items
+  pub start : x.start ≡ length old.draft.instrs
+  pub level : suc x.level ≡ length (levels_of s k)
+  pub prefix : x.prefix ≡ (planned_front s old.draft.classes k).class
+  pub class : x.class ≡ class_of old.draft.classes (block_number s k)
+  pub process : x.process ≡ is_process_text s k
+  pub used : x.used ≡ planned_start s old.draft.classes k + length (own_part s k)
+  pub draft : new.draft ≡ record old.draft { room = 0; size = x.used }
+  pub blocks : new.blocks ≡ old.blocks
+  pub classes : new.classes ≡ old.classes
+
+unfoldable pub BeginsLevel : Bound → (old new : Written) → (text : ℕ) → LevelStart → Type 0
+BeginsLevel b old new k x = LevelBegun (source_of b) old new k x
+
+-- its last instruction, then the record of its block and that of its class
+pub record LevelEnded (s : Source) (old new : Written) (h : LevelHead) (x : LevelStart) (stated after : ℕ) : Type 0 where
+  pub mid : Written
+  pub draft : mid.draft ≡ with_instr old.draft (i.EndLevel (pos x.level)) 0
+  pub blocks : mid.blocks ≡ old.blocks
+  pub classes : mid.classes ≡ old.classes
+  pub more : Written
+  pub added : BlockAdded s mid more (record { kind = h.kind; text = h.text; entry = h.entry; result_type = type.Nothing })
+  pub put : ClassPut more new x.class (record { prefix = x.prefix; block = x.block; declarations = x.start; statements = stated; after_inner = after; process = x.process })
+
+unfoldable pub EndsLevel : Bound → (old new : Written) → LevelHead → LevelStart → (stated after : ℕ) → Type 0
+EndsLevel b old new h x stated after = LevelEnded (source_of b) old new h x stated after

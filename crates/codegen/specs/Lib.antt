@@ -18,3 +18,5 @@ pub mod Planning
 pub mod EmitTargets
 pub mod EmitConnections
 pub mod EmitTransfers
+pub mod EmitActivations
+pub mod EmitProcesses

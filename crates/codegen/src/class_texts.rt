@@ -1,20 +1,24 @@
 //! Texts with levels, each with its code, its block and the record of its class: classes, and the program and blocks with a prefix.
 ghost use Rattle.std.specs.Prelude.{◌≡◌, OnOk, false};
 ghost use Rattle.sim_code.specs.declared.code.BlockKind.TheVariants as kind;
-ghost use Rattle.sim_meaning.specs.Levels.{writes_inner};
+ghost use Rattle.sim_meaning.specs.Levels.{is_process_class as is_process_class_of, writes_inner};
 ghost use Rattle.sim_scope.specs.Source.{source_of};
 ghost use Rattle.codegen_expr.specs.Known.{Known};
+ghost use Rattle.program_texts.specs.TextTrees.{AreTexts};
 ghost use Rattle.text_tables.specs.TokenTable.{AreDeclared};
-ghost use Rattle.codegen.specs.EmitProgram.{MarkIs, WritesClassText, WritesLevelText, WritesPrefixedText, WritesStandardText};
+ghost use Rattle.codegen.specs.Compiled.{standard_mark as standard_mark_of};
+ghost use Rattle.codegen.specs.EmitProgram.{WritesClassText, WritesLevelText, WritesPrefixedText, WritesStandardText};
 
 use crate::arrays::emit_arrays;
-use crate::frames::{front_class, own_end};
-use crate::levels::{emit_level, end_instr, has_inner, level_place, next_instr};
+use crate::level_records::{begin_level, end_level};
+use crate::levels::{emit_level, has_inner, next_instr};
+use crate::processes::emit_process_text;
 use crate::records::number;
-use crate::texts::{ClassAt, Head, Written, add_block, put_class};
-use codegen_expr::{Cells, Spot, block_number, line_at, prefix_of};
+use crate::texts::Written;
+use codegen_expr::{Cells, Spot, line_at, prefix_of};
+use program_texts::TextTree;
 use sim_base::{DeclNo, Line};
-use sim_code::{BlockKind, CodeType, Instr};
+use sim_code::{BlockKind, Instr};
 use sim_scope::{Bound, StandardClass};
 use sim_tree::{Block, BlockPrefix, Decl, Stmt};
 use std::alloc::{AllocError, Global};
@@ -60,38 +64,35 @@ fn emit_level_text(
     requires declared { AreDeclared bound.now declared.now }
     ensures { OnOk result (WritesLevelText bound.now written.old written.new head declarations.now statements.now) }
 {
-    let text = head.text;
-    let block = number(written.blocks.len())?;
-    let start = number(written.draft.here())?;
-    let level = level_place(bound, text)?;
-    let prefix = front_class(bound, cells, &written.draft, text);
-    let class = written.draft.class_of(block_number(bound, cells, text));
-    let used = own_end(alloc, bound, cells, &written.draft, text)?;
-    written.draft.restart(used);
-    let spot = Spot { text, used };
+    let begun = begin_level(alloc, bound, cells, written, head.text)?;
+    let spot = Spot {
+        text: head.text,
+        used: begun.used,
+    };
     let draft = &mut written.draft;
     emit_arrays(bound, cells, declared, spot, draft, declarations)?;
-    draft.put(next_instr(level), Line(0))?;
+    draft.put(next_instr(begun.level), Line(0))?;
     let stated = number(draft.here())?;
-    let after = emit_level(bound, cells, spot, level, head.inner, draft, statements)?;
-    draft.put(end_instr(level), Line(0))?;
+    let after = emit_level(
+        bound,
+        cells,
+        spot,
+        begun.level,
+        head.inner,
+        draft,
+        statements,
+    )?;
     let after_inner = number(after)?;
-    let added = Head {
-        kind: head.kind,
-        text,
-        entry: head.entry,
-        result_type: CodeType::Nothing,
-    };
-    add_block(alloc, bound, cells, written, added)?;
-    let at = ClassAt {
-        prefix,
-        block,
-        declarations: start,
-        statements: stated,
+    end_level(
+        alloc,
+        bound,
+        cells,
+        written,
+        head,
+        begun,
+        stated,
         after_inner,
-    };
-    put_class(written, class, at)?;
-    Ok(())
+    )
 }
 
 /// The code of a class, or of a block with a prefix that is not the program's.
@@ -203,15 +204,27 @@ pub(crate) fn emit_prefixed_text(
     )
 }
 
-/// The mark of a class of SIMSET.
-fn standard_mark(class: StandardClass) -> Option<u32>
-    ensures { MarkIs class result }
+/// The mark of a class that `simset` or `simulation` declares.
+fn standard_mark(class: StandardClass) -> u32
+    ensures { result ≡ standard_mark_of class }
 {
     match class {
-        StandardClass::Linkage => Some(1),
-        StandardClass::Link => Some(2),
-        StandardClass::Head => Some(3),
-        StandardClass::Process => None,
+        StandardClass::Linkage => 1,
+        StandardClass::Link => 2,
+        StandardClass::Head => 3,
+        StandardClass::Process => 4,
+    }
+}
+
+/// Whether a class is `process`.
+fn is_process_class(class: StandardClass) -> bool
+    ensures { result ≡ is_process_class_of class }
+{
+    match class {
+        StandardClass::Linkage => false,
+        StandardClass::Link => false,
+        StandardClass::Head => false,
+        StandardClass::Process => true,
     }
 }
 
@@ -223,21 +236,22 @@ pub(crate) fn emit_standard_text(
     cells: &Cells,
     declared: &[Option<DeclNo>],
     written: &mut Written,
+    trees: &[TextTree],
     text: u32,
     class: StandardClass,
 ) -> Result<(), AllocError>
     requires cells { Known bound.now cells.now }
     requires declared { AreDeclared bound.now declared.now }
+    requires trees { AreTexts bound.now.program trees.now }
     ensures { OnOk result (WritesStandardText bound.now written.old written.new text class) }
 {
-    let Some(mark) = standard_mark(class) else {
-        written.draft.give_up();
-        return Ok(());
-    };
+    if is_process_class(class) {
+        return emit_process_text(alloc, bound, cells, written, trees, text);
+    }
     let head = LevelHead {
         kind: BlockKind::Object,
         text,
-        entry: mark,
+        entry: standard_mark(class),
         inner: false,
     };
     emit_class_text(alloc, bound, cells, declared, written, head, &[], &[])

@@ -132,7 +132,7 @@ pub(crate) fn end_instr(level: u32) -> Instr
 }
 
 /// What stands for `inner` of a level behind its tick. The answer is the place behind it.
-fn emit_inner(draft: &mut Draft, level: u32) -> Result<usize, AllocError>
+pub(crate) fn emit_inner(draft: &mut Draft, level: u32) -> Result<usize, AllocError>
     ensures put { OnOk result (draft.new ≡ with_instr draft.old (i.Inner (pos level)) 0) }
     ensures behind { IfOk result (λ n. n ≡ length draft.new.instrs) }
 {

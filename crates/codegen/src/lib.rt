@@ -1,6 +1,7 @@
 //! Code of programs: which code stands for which part of a program, and the compiler that writes it.
 #![tactic(auto)]
 
+mod activations;
 mod arrays;
 mod calls;
 mod class_texts;
@@ -10,12 +11,14 @@ mod frames;
 pub mod laws;
 mod leaves;
 mod left;
+mod level_records;
 mod levels;
 mod lists;
 mod measure;
 mod places;
 mod plan;
 mod prefixed;
+mod processes;
 mod program;
 mod records;
 mod references;

@@ -4,12 +4,13 @@ ghost use Rattle.text_tables.specs.TokenTable.{AreDeclared};
 
 use crate::arrays::emit_arrays;
 use crate::levels::{emit_level, has_inner};
+use crate::processes::emit_detached;
 use crate::statement::{emit_statement, emit_statements};
 use codegen_expr::{Cells, Draft, Spot};
 use program_texts::TextTree;
 use sim_base::DeclNo;
 use sim_code::BlockKind;
-use sim_scope::Bound;
+use sim_scope::{Bound, StandardClass};
 use sim_tree::{Decl, Stmt};
 use std::alloc::{AllocError, Global};
 
@@ -123,6 +124,8 @@ fn measure_tree(
             )
         }
         TextTree::Connection => Ok(()),
+        // behind `inner` of the class `process` there are no more values
+        TextTree::Standard(StandardClass::Process) => emit_detached(bound, spot, draft),
         TextTree::Standard(_) => Ok(()),
     }
 }

@@ -45,6 +45,7 @@ fn class_record(alloc: Global, class: Option<ClassAt>) -> ClassRecord
             declarations: 0,
             statements: 0,
             after_inner: 0,
+            process: false,
         },
     };
     ClassRecord {
@@ -53,7 +54,7 @@ fn class_record(alloc: Global, class: Option<ClassAt>) -> ClassRecord
         declarations: at.declarations,
         statements: at.statements,
         after_inner: at.after_inner,
-        process: false,
+        process: at.process,
         matches: Vec::new(alloc),
     }
 }

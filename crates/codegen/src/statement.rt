@@ -11,6 +11,7 @@ ghost use Rattle.codegen.specs.Emit.{WritesAssignment, WritesBlock, WritesElemen
 ghost use Rattle.codegen.specs.EmitSeveral.{side_in};
 ghost use Rattle.codegen.specs.ForElements.{in_list, view_syntax};
 
+use crate::activations::emit_activation;
 use crate::calls::emit_call;
 use crate::connections::{emit_arms, emit_connects, emit_otherwise, fill_all};
 use crate::elements::{Element, Elements, count, element_at};
@@ -198,8 +199,23 @@ pub(crate) fn emit_statement(
             fill_all(draft, &overs, end);
             Ok(())
         }
-        Stmt::Activation { .. } => {
-            draft.give_up();
+        Stmt::Activation {
+            token,
+            activation,
+            process,
+            timing,
+        } => {
+            draft.put(Instr::Tick, Line(0))?;
+            emit_activation(
+                bound,
+                cells,
+                spot,
+                draft,
+                *token,
+                *activation,
+                process,
+                timing,
+            )?;
             Ok(())
         }
     }

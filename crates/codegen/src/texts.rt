@@ -1,6 +1,7 @@
 //! The texts of a program, one after the other: each with its code, its block, and the record of its class.
 ghost use Rattle.std.specs.Prelude.{[], OnOk};
 ghost use Rattle.codegen_expr.specs.Known.{Known};
+ghost use Rattle.program_texts.specs.TextTrees.{AreTexts};
 ghost use Rattle.text_tables.specs.TokenTable.{AreDeclared};
 ghost use Rattle.codegen.specs.EmitProgram.{AddsBlock, PutsClass, WritesBlockText, WritesProcedureText, WritesProgram, WritesText};
 
@@ -31,6 +32,8 @@ pub(crate) struct ClassAt {
     pub statements: u32,
     /// What stands behind its `inner`.
     pub after_inner: u32,
+    /// Whether its objects are processes.
+    pub process: bool,
 }
 
 /// What is written so far of a program.
@@ -212,7 +215,7 @@ fn emit_procedure_text(
     Ok(())
 }
 
-/// The code of a text, by its number.
+/// The code of a text, by its number. The trees are those of all texts.
 #[tactic(auto, using(crate::proofs::LevelTexts::texts))]
 fn emit_text(
     alloc: Global,
@@ -220,11 +223,13 @@ fn emit_text(
     cells: &Cells,
     declared: &[Option<DeclNo>],
     written: &mut Written,
+    trees: &[TextTree],
     text: u32,
     tree: TextTree,
 ) -> Result<(), AllocError>
     requires cells { Known bound.now cells.now }
     requires declared { AreDeclared bound.now declared.now }
+    requires trees { AreTexts bound.now.program trees.now }
     ensures { OnOk result (WritesText bound.now written.old written.new text tree.entry) }
 {
     match tree {
@@ -263,7 +268,7 @@ fn emit_text(
         }
         TextTree::Connection => Ok(()),
         TextTree::Standard(class) => {
-            emit_standard_text(alloc, bound, cells, declared, written, text, class)
+            emit_standard_text(alloc, bound, cells, declared, written, trees, text, class)
         }
     }
 }
@@ -280,11 +285,21 @@ pub(crate) fn emit_texts(
 ) -> Result<(), AllocError>
     requires cells { Known bound.now cells.now }
     requires declared { AreDeclared bound.now declared.now }
+    requires texts { AreTexts bound.now.program texts.now }
     ensures { OnOk result (WritesProgram bound.now written.old written.new texts.now) }
 {
     for index in 0..texts.len() {
         let text = number(index)?;
-        emit_text(alloc, bound, cells, declared, written, text, texts[index])?;
+        emit_text(
+            alloc,
+            bound,
+            cells,
+            declared,
+            written,
+            texts,
+            text,
+            texts[index],
+        )?;
     }
     Ok(())
 }

@@ -10,6 +10,7 @@ pub mod Written
 pub mod Seen
 pub mod OfObjects
 pub mod SetProcedures
+pub mod SimulationProcedures
 pub mod Behind
 pub mod Places
 pub mod Taken

@@ -25,7 +25,7 @@ use Rattle.sim_code.specs.declared.instr.Instr.{Instr}
 use Rattle.sim_code.specs.declared.instr.Instr.TheVariants as i
 use Rattle.sim_code.specs.Code.{CodeOf}
 use Rattle.sim_code.specs.Running.{runs}
-use Rattle.sim_meaning.specs.Attributes.{attribute_formals, cell_of_connection, is_connection}
+use Rattle.sim_meaning.specs.Attributes.{attribute_formals, cell_of_connection, class_made, class_unless, is_bare_process, is_connection}
 use Rattle.sim_meaning.specs.Closing.{class_parameters, formals_at, formals_declared}
 use Rattle.sim_meaning.specs.Levels.{class_at}
 use Rattle.sim_meaning.specs.Pending.{Declared}
@@ -37,7 +37,7 @@ use Rattle.codegen_expr.specs.declared.spot.Spot.{Spot}
 use Rattle.codegen_expr.specs.Built.{ActualsBuilt, AreBuilt, ClassBuilt, ConstantBuilt, GenerationBuilt, IsBuilt, OfObjectBuilt, ParameterOfBuilt, ParameterPlaceOfBuilt, PlaceBehindBuilt, PlaceOfObjectBuilt, ThisFoundBuilt, ThisOfBuilt, is_around, is_there, slot_in}
 use Rattle.codegen_expr.specs.CodeExpr.{ActualsAt, AttributePlaceAt, ConstantAt, ExprAt, ExprsAt, GenerationAt, GivenAt, MemberAt, OfObjectAt, ParameterOfAt, ParameterPlaceOfAt, PlaceBehindAt, PlaceOfObjectAt, QuaAt, RemoteCallAt, ElementOfAt, SetAt, SetNamed, ThisFoundAt, ThisOfAt, member_instr, operands}
 use Rattle.codegen_expr.specs.Drafts.{DraftOf, Emits, class_of, given_up, planned_at, planned_in, planned_start, with_instr, with_push, with_temp}
-use Rattle.codegen_expr.specs.Emit.{Puts, WritesActuals, WritesConstant, WritesLink, WritesList, attribute_seen, formals_of_block, parameter_seen}
+use Rattle.codegen_expr.specs.Emit.{Puts, WritesActuals, WritesConstant, WritesLink, WritesLinkTo, WritesList, attribute_seen, formals_of_block, parameter_seen}
 use Rattle.codegen_expr.specs.EmitObjects.{Base, BaseAt, BaseBuilt, OfConnection, PutsBase, SeenOfAt, SeenOfBuilt, SeenPlaceOfAt, SeenPlaceOfBuilt, WritesAttribute, WritesConstantOf, WritesElementOf, WritesFit, WritesGeneration, WritesMember, WritesNew, WritesObjectOf, WritesOf, WritesPlaceBehind, WritesPlaceOf, WritesQua, WritesSeenOf, WritesSeenPlaceOf, WritesThis}
 use Rattle.codegen_expr.specs.EmitSets.{WritesSet, set_procedure}
 use Rattle.codegen_expr.specs.Sites.{At, HasCell, Inside, Is, Pushes, Site, block_number, frame_text, slot_of}
@@ -459,7 +459,7 @@ module _ (b : Bound) (w : Spot) (n : ℕ) where
 
   pub generated : (a c0 c1 c : DraftOf) (token : TokenNo) (y : Identifier) (d : DeclNo) (k : ℕ) (es : List Expr) (fs : List Formal) (m j num l line : ℕ) (x : Instr) → m ≡ suc n → WritesLink b w n a c0 d → fs ≡ class_parameters (source_of b) (Some k) → WritesActuals b w m c0 c1 true y.token es fs
       → j ≡ block_number (source_of b) k → num ≡ class_of c1.classes j → l ≡ length es → x ≡ i.New (pos num) (pos l) → line ≡ line_at (source_of b) token.0 → c ≡ with_instr c1 x line → WritesGeneration b w n a c token y d k es
-  unfolding WritesGeneration WritesLink WritesActuals
+  unfolding WritesGeneration WritesLink WritesLinkTo WritesActuals
   generated a c0 c1 c token y d k ys fs m j num l line x em f ef g ej en ek ex el ec =
       let s = source_of b in
       let es = expressions (map syntax_of ys) in
@@ -477,14 +477,30 @@ module _ (b : Bound) (w : Spot) (n : ℕ) where
 
   abbrev News : (a c : DraftOf) → TokenNo → Identifier → Expressions → Option Denotation → (class : Option ℕ) → Type 0
   News a c token y es o k =
-      Emits w a c (GenerationBuilt (source_of b) w.text o k (ActualsBuilt (source_of b) w.text es (class_parameters (source_of b) k)))
-      (λ final site p q. GenerationAt (source_of b) final site n (line_at (source_of b) token.0) o k es (λ u v. ActualsAt (source_of b) final site (suc n) (line_at (source_of b) y.token.0) true es (class_parameters (source_of b) k) u v) p q)
+      Emits w a c (GenerationBuilt (source_of b) w.text o (class_made (source_of b) k) (ActualsBuilt (source_of b) w.text es (class_parameters (source_of b) k)))
+      (λ final site p q. GenerationAt (source_of b) final site n (line_at (source_of b) token.0) o (class_made (source_of b) k) es (λ u v. ActualsAt (source_of b) final site (suc n) (line_at (source_of b) y.token.0) true es (class_parameters (source_of b) k) u v) p q)
 
-  pub new_declared : (a c : DraftOf) (token : TokenNo) (y : Identifier) (es : List Expr) (o : Option Denotation) (d : DeclNo) (r : Option ℕ) (k : ℕ) → o ≡ denoted (source_of b) y.token.0 → o ≡ Some (denotation.Declared d) → r ≡ class_at (source_of b) y.token.0 → r ≡ Some k → WritesGeneration b w n a c token y d k es → WritesNew b w n a c token y es
-  unfolding WritesNew WritesGeneration
-  new_declared a c token y ys o d r k eo some er named f =
+  -- of the class k, which is `process` itself where t holds
+  abbrev NewsOf : (a c : DraftOf) → TokenNo → Identifier → Expressions → DeclNo → (class : ℕ) → Bool → Type 0
+  NewsOf a c token y es d k t =
+      Emits w a c (GenerationBuilt (source_of b) w.text (Some (denotation.Declared d)) (class_unless t k) (ActualsBuilt (source_of b) w.text es (class_parameters (source_of b) (Some k))))
+      (λ final site p q. GenerationAt (source_of b) final site n (line_at (source_of b) token.0) (Some (denotation.Declared d)) (class_unless t k) es (λ u v. ActualsAt (source_of b) final site (suc n) (line_at (source_of b) y.token.0) true es (class_parameters (source_of b) (Some k)) u v) p q)
+
+  news_of : (a c : DraftOf) (token : TokenNo) (y : Identifier) (es : List Expr) (o : Option Denotation) (d : DeclNo) (r : Option ℕ) (k : ℕ) (t : Bool) → o ≡ denoted (source_of b) y.token.0 → o ≡ Some (denotation.Declared d) → r ≡ class_at (source_of b) y.token.0 → r ≡ Some k
+      → t ≡ is_bare_process (text (source_of b) k) → NewsOf a c token y (expressions (map syntax_of es)) d k t → WritesNew b w n a c token y es
+  unfolding WritesNew
+  news_of a c token y ys o d r k t eo some er named et f =
       let es = expressions (map syntax_of ys) in
-      subst (λ z. News a c token y es z (class_at (source_of b) y.token.0)) (sym some ∙ eo) (subst (News a c token y es (Some (denotation.Declared d))) (sym named ∙ er) f)
+      subst (λ z. News a c token y es z (class_at (source_of b) y.token.0)) (sym some ∙ eo) (subst (News a c token y es (Some (denotation.Declared d))) (sym named ∙ er) (subst (NewsOf a c token y es d k) et f))
+
+  pub new_declared : (a c : DraftOf) (token : TokenNo) (y : Identifier) (es : List Expr) (o : Option Denotation) (d : DeclNo) (r : Option ℕ) (k : ℕ) (t : Bool) → o ≡ denoted (source_of b) y.token.0 → o ≡ Some (denotation.Declared d) → r ≡ class_at (source_of b) y.token.0 → r ≡ Some k
+      → t ≡ is_bare_process (text (source_of b) k) → t ≡ false → WritesGeneration b w n a c token y d k es → WritesNew b w n a c token y es
+  unfolding WritesGeneration
+  new_declared a c token y ys o d r k t eo some er named et no' f = news_of a c token y ys o d r k t eo some er named et (subst (NewsOf a c token y (expressions (map syntax_of ys)) d k) (sym no') f)
+
+  pub new_process : (a c : DraftOf) (token : TokenNo) (y : Identifier) (es : List Expr) (o : Option Denotation) (d : DeclNo) (r : Option ℕ) (k : ℕ) (t : Bool) → o ≡ denoted (source_of b) y.token.0 → o ≡ Some (denotation.Declared d) → r ≡ class_at (source_of b) y.token.0 → r ≡ Some k
+      → t ≡ is_bare_process (text (source_of b) k) → t ≡ true → c ≡ given_up a → WritesNew b w n a c token y es
+  new_process a c token y ys o d r k t eo some er named et yes' ec = news_of a c token y ys o d r k t eo some er named et (subst (NewsOf a c token y (expressions (map syntax_of ys)) d k) (sym yes') (emits_nothing w a c _ _ (λ z. z) ec))
 
   pub new_no_class : (a c : DraftOf) (token : TokenNo) (y : Identifier) (es : List Expr) (o : Option Denotation) (d : DeclNo) (r : Option ℕ) → o ≡ denoted (source_of b) y.token.0 → o ≡ Some (denotation.Declared d) → r ≡ class_at (source_of b) y.token.0 → r ≡ None → c ≡ given_up a → WritesNew b w n a c token y es
   unfolding WritesNew
@@ -502,4 +518,4 @@ module _ (b : Bound) (w : Spot) (n : ℕ) where
 
 pub ruleset leaves = (connected_load, connected_no_slot, connected_outside, object_pushed, object_outside, this_connected, this_object, this_nowhere, attribute_found, attribute_no_slot, constant_read, constant_no_slot, member_named, member_unnamed, qua_named, qua_unnamed, fitted)
 
-pub ruleset objects = (element_of, of_variable, of_no_variable, of_constant, of_no_constant, of_array, of_element, of_call, of_nothing, of_declared, of_set, lying_variable, lying_no_variable, lying_element, lying_array, lying_constant, lying_call, lying_nothing, lying_declared, behind_declared, behind_standard, behind_undeclared, generated, new_declared, new_no_class, new_standard, new_undeclared)
+pub ruleset objects = (element_of, of_variable, of_no_variable, of_constant, of_no_constant, of_array, of_element, of_call, of_nothing, of_declared, of_set, lying_variable, lying_no_variable, lying_element, lying_array, lying_constant, lying_call, lying_nothing, lying_declared, behind_declared, behind_standard, behind_undeclared, generated, new_declared, new_process, new_no_class, new_standard, new_undeclared)

@@ -36,10 +36,10 @@ use Rattle.codegen_expr.specs.declared.operators.Passed.TheVariants as passed
 use Rattle.codegen_expr.specs.declared.operators.Seen.{Seen}
 use Rattle.codegen_expr.specs.declared.operators.Seen.TheVariants as seen
 use Rattle.codegen_expr.specs.declared.spot.Spot.{Spot}
-use Rattle.codegen_expr.specs.Built.{ActualBuilt, ActualsBuilt, AreBuilt, CallBuilt, ConnectedNameBuilt, ConstantBuilt, DeclaredBuilt, IsBuilt, FormalBuilt, NamedBuilt, OfObjectBuilt, OwnBuilt, ThisFoundBuilt, ThroughBuilt, is_around}
-use Rattle.codegen_expr.specs.CodeExpr.{ActualAt, ActualsAt, CallAt, ConnectedNameAt, DeclaredAt, ElementAt, ExprAt, ExprsAt, FittingAt, FormalAt, NamedAt, OfObjectAt, OwnAt, StandardIs, ThisFoundAt, ThroughAt, gives, operands}
+use Rattle.codegen_expr.specs.Built.{ActualBuilt, ActualsBuilt, AreBuilt, CallBuilt, ConnectedNameBuilt, ConstantBuilt, DeclaredBuilt, IsBuilt, FormalBuilt, NamedBuilt, OfObjectBuilt, OwnBuilt, OwnNameBuilt, ThisFoundBuilt, ThroughBuilt, is_around}
+use Rattle.codegen_expr.specs.CodeExpr.{ActualAt, ActualsAt, CallAt, ConnectedNameAt, DeclaredAt, ElementAt, ExprAt, ExprsAt, FittingAt, FormalAt, NamedAt, OfObjectAt, OwnAt, OwnNameAt, StandardIs, ThisFoundAt, ThroughAt, gives, operands}
 use Rattle.codegen_expr.specs.Drafts.{DraftOf, Emits, given_up, with_instr, with_push}
-use Rattle.codegen_expr.specs.Emit.{OwesActuals, Puts, PutsNamed, PutsOwn, PutsSeen, PutsUnconnected, SeenAt, SeenBuilt, Writes, WritesActual, WritesActuals, WritesCall, WritesCell, WritesConstant, WritesElement, WritesGiving, WritesLink, WritesNamed, WritesOwn, WritesPassed, WritesSeen, WritesStandard, WritesThrough, WritesUnconnected, formals_of_block, passed_of, seen_formal, seen_of}
+use Rattle.codegen_expr.specs.Emit.{OwesActuals, Puts, PutsNamed, PutsOwn, PutsSeen, PutsUnconnected, SeenAt, SeenBuilt, Writes, WritesActual, WritesActuals, WritesCall, WritesCell, WritesConstant, WritesElement, WritesGiving, WritesLink, WritesLinkTo, WritesNamed, WritesOwn, WritesPassed, WritesSeen, WritesStandard, WritesThrough, WritesUnconnected, formals_of_block, passed_of, seen_formal, seen_of}
 use Rattle.codegen_expr.specs.EmitObjects.{OfConnection, PutsBase, WritesFit, WritesOf}
 use Rattle.codegen_expr.specs.Sites.{At, Inside, Is, Pushes, Site, block_number, class_number}
 use Rattle.codegen_expr.proofs.Around.{inside}
@@ -59,22 +59,25 @@ count (x ∷ xs) = ap suc (count xs)
 module _ (b : Bound) (w : Spot) (n : ℕ) where
   -- ---- calls
 
-  pub see_link : (a c : DraftOf) (d : DeclNo) (x : Instr) (block m : ℕ) → block ≡ block_of (source_of b) d → is_around b.scopes (length b.scopes.blocks) w.text block ≡ true → m ≡ level_of (source_of b) block → x ≡ i.Link (pos m) → c ≡ with_push a n x 0 → WritesLink b w n a c d
-  unfolding WritesLink source_of
-  see_link a c d x block m eb around em ex ec =
+  pub to_link : (a c : DraftOf) (k m : ℕ) (x : Instr) → is_around b.scopes (length b.scopes.blocks) w.text k ≡ true → m ≡ level_of (source_of b) k → x ≡ i.Link (pos m) → c ≡ with_push a n x 0 → WritesLinkTo b w n a c k
+  unfolding WritesLinkTo source_of
+  to_link a c k m x around em ex ec =
       let s = source_of b in
-      let at : x ≡ i.Link (pos (level_of s (block_of s d))) = ex ∙ ap (λ z. i.Link (pos z)) (em ∙ ap (level_of s) eb) in
-      let there : is_around s.tables (length s.tables.blocks) w.text (block_of s d) ≡ true = ap (λ z. is_around s.tables (length s.tables.blocks) w.text z) (sym eb) ∙ around in
-      let is : Inside s.tables w.text (block_of s d) = inside s.tables (block_of s d) (length s.tables.blocks) w.text there in
-      emits_as w _ _ _ _ a c (λ t. tt) (λ t. record { found = there }) (λ final site p q stands _ r. (r, subst (λ z. Inside s.tables z (block_of s d)) (sym stands) is))
-      (emits_push w a c n (i.Link (pos (level_of s (block_of s d)))) 0 (ec ∙ ap (λ z. with_push a n z 0) at) (λ z. cc) refl)
+      let at : x ≡ i.Link (pos (level_of s k)) = ex ∙ ap (λ z. i.Link (pos z)) em in
+      let is : Inside s.tables w.text k = inside s.tables k (length s.tables.blocks) w.text around in
+      emits_as w _ _ _ _ a c (λ t. tt) (λ t. record { found = around }) (λ final site p q stands _ r. (r, subst (λ z. Inside s.tables z k) (sym stands) is))
+      (emits_push w a c n (i.Link (pos (level_of s k))) 0 (ec ∙ ap (λ z. with_push a n z 0) at) (λ z. cc) refl)
 
-  pub see_no_link : (a c : DraftOf) (d : DeclNo) (block : ℕ) → block ≡ block_of (source_of b) d → is_around b.scopes (length b.scopes.blocks) w.text block ≡ false → c ≡ given_up a → WritesLink b w n a c d
-  unfolding WritesLink source_of
-  see_no_link a c d block eb out ec = emits_nothing w a c _ _ (λ h. let t : is_around b.scopes (length b.scopes.blocks) w.text block ≡ true = ap (λ z. is_around b.scopes (length b.scopes.blocks) w.text z) eb ∙ h.found in cc) ec
+  pub to_no_link : (a c : DraftOf) (k : ℕ) → is_around b.scopes (length b.scopes.blocks) w.text k ≡ false → c ≡ given_up a → WritesLinkTo b w n a c k
+  unfolding WritesLinkTo source_of
+  to_no_link a c k out ec = emits_nothing w a c _ _ (λ h. let t : is_around b.scopes (length b.scopes.blocks) w.text k ≡ true = h.found in cc) ec
+
+  pub link_declared : (a c : DraftOf) (d : DeclNo) (block : ℕ) → block ≡ block_of (source_of b) d → WritesLinkTo b w n a c block → WritesLink b w n a c d
+  unfolding WritesLink
+  link_declared a c d block eb f = subst (WritesLinkTo b w n a c) eb f
 
   pub see_call : (a c0 c1 c : DraftOf) (token : TokenNo) (d : DeclNo) (block : ℕ) (es : List Expr) (fs : List Formal) (m k line : ℕ) (x : Instr) (number : ℕ) → m ≡ suc n → WritesLink b w n a c0 d → fs ≡ formals_of_block (source_of b) block → WritesActuals b w m c0 c1 false token es fs → number ≡ block_number (source_of b) block → k ≡ length es → x ≡ i.Call (pos number) (pos k) → line ≡ line_at (source_of b) token.0 → c ≡ with_instr c1 x line → WritesCall b w n a c token d block es
-  unfolding WritesCall WritesSeen PutsSeen WritesLink WritesActuals
+  unfolding WritesCall WritesSeen PutsSeen WritesLink WritesLinkTo WritesActuals
   see_call a c0 c1 c token d block ys fs m k line x number em f ef g en ek ex el ec =
       let s = source_of b in
       let es = expressions (map syntax_of ys) in
@@ -380,12 +383,15 @@ module _ (b : Bound) (w : Spot) (n : ℕ) where
   Through a c token u es o =
       Emits w a c
       (ThroughBuilt o (λ k. ConnectedNameBuilt (source_of b) w.text k u es (AreBuilt (source_of b) w.text es) (λ formals. ActualsBuilt (source_of b) w.text es formals))
-      (OwnBuilt (own_attribute (source_of b) token.0) (λ d. OfObjectBuilt (source_of b) d (entry_of (source_of b).tables d) es (ThisFoundBuilt (source_of b) w.text (found_at (source_of b) token.0)) (AreBuilt (source_of b) w.text es) (ActualsBuilt (source_of b) w.text es (formals_at (source_of b) d)))
+      (OwnBuilt (own_attribute (source_of b) token.0)
+      (λ d. OwnNameBuilt (source_of b) w.text (found_at (source_of b) token.0) (entry_of (source_of b).tables d) es (ActualsBuilt (source_of b) w.text es (formals_at (source_of b) d))
+      (OfObjectBuilt (source_of b) d (entry_of (source_of b).tables d) es (ThisFoundBuilt (source_of b) w.text (found_at (source_of b) token.0)) (AreBuilt (source_of b) w.text es) (ActualsBuilt (source_of b) w.text es (formals_at (source_of b) d))))
       (NamedBuilt (source_of b) w.text u es (AreBuilt (source_of b) w.text es) (λ formals. ActualsBuilt (source_of b) w.text es formals))))
       (λ final site p q. ThroughAt o
       (λ k. ConnectedNameAt (source_of b) final site n (line_at (source_of b) token.0) k u es (λ x y. ExprsAt (source_of b) final site (suc n) es x y) (λ formals x y. ActualsAt (source_of b) final site (suc n) (line_at (source_of b) token.0) false es formals x y))
       (OwnAt (own_attribute (source_of b) token.0)
-      (λ d. OfObjectAt (source_of b) final site n (line_at (source_of b) token.0) d (entry_of (source_of b).tables d) es (λ x y. ThisFoundAt (source_of b) final site n (found_at (source_of b) token.0) x y) (λ x y. ExprsAt (source_of b) final site (suc n) es x y) (λ x y. ActualsAt (source_of b) final site (suc n) (line_at (source_of b) token.0) false es (formals_at (source_of b) d) x y))
+      (λ d. OwnNameAt (source_of b) final site n (line_at (source_of b) token.0) (found_at (source_of b) token.0) (entry_of (source_of b).tables d) es (λ x y. ActualsAt (source_of b) final site (suc n) (line_at (source_of b) token.0) false es (formals_at (source_of b) d) x y)
+      (λ x y. OfObjectAt (source_of b) final site n (line_at (source_of b) token.0) d (entry_of (source_of b).tables d) es (λ x y. ThisFoundAt (source_of b) final site n (found_at (source_of b) token.0) x y) (λ x y. ExprsAt (source_of b) final site (suc n) es x y) (λ x y. ActualsAt (source_of b) final site (suc n) (line_at (source_of b) token.0) false es (formals_at (source_of b) d) x y) x y))
       (NamedAt (source_of b) final site n (line_at (source_of b) token.0) u es (λ x y. ExprsAt (source_of b) final site n es x y) (λ x y. ExprsAt (source_of b) final site (suc n) es x y) (λ formals x y. ActualsAt (source_of b) final site (suc n) (line_at (source_of b) token.0) false es formals x y))) p q)
 
   pub see_through : (a c : DraftOf) (token : TokenNo) (es : List Expr) (u : Option Denotation) (o : Option ℕ) (k : ℕ) → o ≡ connection_at (source_of b) token.0 → o ≡ Some k → WritesThrough b w n a c token k u es → WritesNamed b w n a c token u es
@@ -408,4 +414,6 @@ module _ (b : Bound) (w : Spot) (n : ℕ) where
   unfolding WritesGiving Puts
   see_not_giving a c x ys u eu not' ec = emits_nothing w a c _ _ (λ h. let t : gives (source_of b) u ≡ true = ap (gives (source_of b)) eu ∙ h.0 in cc) ec
 
-pub ruleset sees = (see_link, see_no_link, see_call, see_plain_actual, see_copied_actual, see_text_actual, see_no_actual, see_kept_actual, see_unfitted, see_fitted, see_unlike, see_variable, see_no_variable, see_constant, see_no_constant, see_array, see_element, see_called, see_nothing, see_declared, see_standard, see_undeclared, through_declared, through_standard, through_undeclared, see_through, see_unconnected, see_giving, see_not_giving)
+pub ruleset links = (to_link, to_no_link, link_declared)
+
+pub ruleset sees = (see_call, see_plain_actual, see_copied_actual, see_text_actual, see_no_actual, see_kept_actual, see_unfitted, see_fitted, see_unlike, see_variable, see_no_variable, see_constant, see_no_constant, see_array, see_element, see_called, see_nothing, see_declared, see_standard, see_undeclared, through_declared, through_standard, through_undeclared, see_through, see_unconnected, see_giving, see_not_giving)

@@ -1,34 +1,28 @@
--- Procedures of SIMSET.
-use Rattle.std.proofs.Common.{◌≡◌, ◌≢◌, ℕ, pos, suc, Bool, not, List, [], ◌∷◌, length, map, Option, Some, None, true, false, refl, sym, ap, ◌∙◌, subst, arith}
-use Rattle.std.specs.Prelude.{⊤, slice_get}
-use Rattle.sim_base.specs.declared.numbering.DeclNo.{DeclNo}
+-- Attributes of SIMSET and of processes.
+use Rattle.std.proofs.Common.{◌≡◌, ◌≢◌, ℕ, pos, suc, Bool, List, [], ◌∷◌, length, map, Option, Some, None, true, false, refl, sym, ap, ◌∙◌, subst}
 use Rattle.sim_base.specs.declared.numbering.TokenNo.{TokenNo}
 use Rattle.sim_scope.specs.declared.bound.Bound.{Bound}
-use Rattle.sim_scope.specs.declared.scopes.Denotation.{Denotation}
 use Rattle.sim_scope.specs.declared.types.FormalKind.TheVariants as shape
 use Rattle.sim_scope.specs.declared.types.Mode.TheVariants as mode
 use Rattle.sim_scope.specs.declared.types.SimType.{SimType}
-use Rattle.sim_scope.specs.Scopes.{entry_of}
-use Rattle.sim_scope.specs.Source.{Source, found_at, line_at, source_of}
+use Rattle.sim_scope.specs.Source.{line_at, source_of}
 use Rattle.sim_tree.specs.declared.expr.Expr.{Expr}
-use Rattle.sim_tree.specs.Syntax.{Expressions, expressions}
+use Rattle.sim_tree.specs.Syntax.{expressions}
 use Rattle.sim_tree.specs.SyntaxOf.{syntax_of}
 use Rattle.sim_values.specs.Standard.{row_of}
 use Rattle.sim_code.specs.declared.instr.Instr.{Instr}
 use Rattle.sim_code.specs.declared.instr.Instr.TheVariants as i
-use Rattle.sim_code.specs.Names.{standard_names}
-use Rattle.sim_code.specs.Running.{runs}
 use Rattle.sim_code.specs.Sets.{parameter_count}
-use Rattle.sim_meaning.specs.Attributes.{attribute_formals, own_attribute}
-use Rattle.sim_meaning.specs.Closing.{formals_at, has_type}
+use Rattle.sim_meaning.specs.Attributes.{attribute_formals}
+use Rattle.sim_meaning.specs.Closing.{has_type}
 use Rattle.sim_meaning.specs.Statements.{has_value}
 use Rattle.codegen_expr.specs.declared.sets.SetProcedure.{SetProcedure}
 use Rattle.codegen_expr.specs.declared.spot.Spot.{Spot}
-use Rattle.codegen_expr.specs.Built.{ActualsBuilt, AreBuilt, NamedBuilt, OfObjectBuilt, OwnBuilt, ThisFoundBuilt}
-use Rattle.codegen_expr.specs.CodeExpr.{ActualsAt, ExprsAt, NamedAt, OfObjectAt, OwnAt, SetNamed, ThisFoundAt, operands}
+use Rattle.codegen_expr.specs.Built.{ActualsBuilt}
+use Rattle.codegen_expr.specs.CodeExpr.{ActualsAt, SetNamed, operands}
 use Rattle.codegen_expr.specs.Drafts.{DraftOf, Emits, given_up, with_instr}
-use Rattle.codegen_expr.specs.Emit.{PutsUnconnected, WritesActuals, WritesOwn, PutsOwn, WritesUnconnected}
-use Rattle.codegen_expr.specs.EmitObjects.{BaseAt, BaseBuilt, OfThis, PutsBase, WritesOf, WritesThis}
+use Rattle.codegen_expr.specs.Emit.{WritesActuals}
+use Rattle.codegen_expr.specs.EmitObjects.{BaseAt, PutsBase}
 use Rattle.codegen_expr.specs.EmitSets.{CodeOfSet, FindsSet, NumberOfSet, WritesReferences, WritesSet, as_declared}
 use Rattle.codegen_expr.specs.Sites.{At}
 use Rattle.codegen_expr.proofs.OfObjects.{gives_up}
@@ -37,13 +31,13 @@ use Rattle.codegen_expr.proofs.Seen.{count}
 
 -- ---- numbers
 
-agrees : (type : Option SimType) (leaves : Bool) → as_declared type leaves ≡ true → has_type type ≡ leaves
+pub agrees : (type : Option SimType) (leaves : Bool) → as_declared type leaves ≡ true → has_type type ≡ leaves
 agrees None true e = cc
 agrees None false e = refl
 agrees (Some type) true e = refl
 agrees (Some type) false e = cc
 
-differs : (type : Option SimType) (leaves : Bool) → as_declared type leaves ≡ false → has_type type ≡ leaves → ⊥
+pub differs : (type : Option SimType) (leaves : Bool) → as_declared type leaves ≡ false → has_type type ≡ leaves → ⊥
 differs None true e h = cc
 differs None false e h = cc
 differs (Some type) true e h = cc
@@ -97,27 +91,6 @@ module _ (b : Bound) (w : Spot) (n : ℕ) where
       (emits_then w _ _ (λ z site p q. ActualsAt s z site (suc n) ln false es fs p q) (λ z site. At z (i.Std (pos number)) ln) c0 c1 c g'
       (emits_at w c1 c (i.Std (pos number)) ln (ec ∙ ap (λ z. with_instr c1 z line2) ej ∙ ap (λ z. with_instr c1 (i.Std (pos number)) z) el2) (λ z. cc) of.2))))
 
-  -- ---- of the object around
-
-  abbrev Own : (a c : DraftOf) → TokenNo → Option Denotation → Expressions → Option DeclNo → Type 0
-  Own a c token u es o =
-      Emits w a c
-      (OwnBuilt o (λ d. OfObjectBuilt (source_of b) d (entry_of (source_of b).tables d) es (ThisFoundBuilt (source_of b) w.text (found_at (source_of b) token.0)) (AreBuilt (source_of b) w.text es) (ActualsBuilt (source_of b) w.text es (formals_at (source_of b) d)))
-      (NamedBuilt (source_of b) w.text u es (AreBuilt (source_of b) w.text es) (λ formals. ActualsBuilt (source_of b) w.text es formals)))
-      (λ final site p q. OwnAt o
-      (λ d. OfObjectAt (source_of b) final site n (line_at (source_of b) token.0) d (entry_of (source_of b).tables d) es (λ x y. ThisFoundAt (source_of b) final site n (found_at (source_of b) token.0) x y) (λ x y. ExprsAt (source_of b) final site (suc n) es x y) (λ x y. ActualsAt (source_of b) final site (suc n) (line_at (source_of b) token.0) false es (formals_at (source_of b) d) x y))
-      (NamedAt (source_of b) final site n (line_at (source_of b) token.0) u es (λ x y. ExprsAt (source_of b) final site n es x y) (λ x y. ExprsAt (source_of b) final site (suc n) es x y) (λ formals x y. ActualsAt (source_of b) final site (suc n) (line_at (source_of b) token.0) false es formals x y)) p q)
-
-  pub own_set : (a c0 c : DraftOf) (token : TokenNo) (es : List Expr) (u : Option Denotation) (o : Option DeclNo) (d : DeclNo) → o ≡ own_attribute (source_of b) token.0 → o ≡ Some d → WritesThis b w n a c0 token → WritesOf b w n c0 c token d es → WritesOwn b w n a c token u es
-  unfolding WritesOwn PutsOwn WritesThis WritesOf PutsBase
-  own_set a c0 c token ys u o d eo some f g = subst (Own a c token u (expressions (map syntax_of ys))) (sym some ∙ eo) (g a (OfThis (found_at (source_of b) token.0)) f)
-
-  pub own_other : (a c : DraftOf) (token : TokenNo) (es : List Expr) (u : Option Denotation) (o : Option DeclNo) → o ≡ own_attribute (source_of b) token.0 → o ≡ None → WritesUnconnected b w n a c token u es → WritesOwn b w n a c token u es
-  unfolding WritesOwn PutsOwn WritesUnconnected PutsUnconnected
-  own_other a c token ys u o eo none f = subst (Own a c token u (expressions (map syntax_of ys))) (sym none ∙ eo) f
-
 pub ruleset numbers = (set_miscounted, set_misdeclared, set_numbered)
 
 pub ruleset sets = (one_reference, no_reference, no_set, set_done)
-
-pub ruleset owns = (own_set, own_other)

@@ -7,7 +7,7 @@ use Rattle.sim_scope.specs.declared.bound.Bound.{Bound}
 use Rattle.sim_scope.specs.Source.{Source, source_of}
 use Rattle.sim_tree.specs.Syntax.{NoMore}
 use Rattle.sim_values.specs.declared.value.TextVal.{TextVal}
-use Rattle.sim_values.specs.Plain.{Plain, Integer, Truth, Character, Text, Object, Nothing}
+use Rattle.sim_values.specs.Plain.{Plain, Integer, Truth, Character, Text, Object, MainOf, Nothing}
 use Rattle.sim_code.specs.declared.instr.Instr.{Instr}
 use Rattle.sim_code.specs.declared.instr.Instr.TheVariants as i
 use Rattle.sim_code.specs.Rows.{text_value}
@@ -72,6 +72,7 @@ found_text s token (Some (Truth z)) e k x en ex = absurd (cc)
 found_text s token (Some (Character z)) e k x en ex = absurd (cc)
 found_text s token (Some (Text t)) e k x en ex = (is_constant s token t e, ex ∙ ap (λ z. i.TextK (pos z)) (let q : k ≡ t.text_frame = cc in q))
 found_text s token (Some (Object z)) e k x en ex = absurd (cc)
+found_text s token (Some (MainOf z)) e k x en ex = absurd (cc)
 found_text s token (Some Nothing) e k x en ex = absurd (cc)
 
 no_text : (s : Source) (token : ℕ) (o : Option Plain) → text_constant s token ≡ o → None ≡ number_in o → FoundInstr s o None
@@ -125,6 +126,7 @@ module _ (b : Bound) (w : Spot) (n : ℕ) where
   value_emits (Text t) x a c ex ec =
       emits_as w ⊤ ⊤ (λ final site p q. Pushes final site n (i.TextK (pos t.text_frame)) p q) _ a c (λ t. t) (λ t. t) (λ final site p q _ _ r. (ex.0, r)) (emits_push w a c n (i.TextK (pos t.text_frame)) 0 (ec ∙ ap (λ y. with_push a n y 0) ex.1) (λ z. cc) refl)
   value_emits (Object z) x a c ex ec = absurd ex
+  value_emits (MainOf z) x a c ex ec = absurd ex
   value_emits Nothing x a c ex ec = absurd ex
 
   constant_emits : (o : Option Plain) (x : Instr) (a c : DraftOf) → FoundInstr (source_of b) o (Some x) → c ≡ with_push a n x 0 → Emits w a c (ConstantBuilt o NoMore) (λ final site p q. GivenAt (source_of b) final site n o p q)

@@ -9,6 +9,7 @@ use Rattle.sim_scope.specs.declared.types.Formal.{Formal}
 use Rattle.sim_scope.specs.declared.types.FormalKind.{FormalKind}
 use Rattle.sim_scope.specs.declared.types.FormalKind.TheVariants as shape
 use Rattle.sim_scope.specs.declared.types.Mode.{Mode}
+use Rattle.sim_scope.specs.declared.types.SimType.{SimType}
 use Rattle.sim_scope.specs.declared.types.Mode.TheVariants as mode
 use Rattle.sim_scope.specs.Access.{encloser}
 use Rattle.sim_scope.specs.Scopes.{entry_of}
@@ -19,15 +20,16 @@ use Rattle.sim_tree.specs.Syntax as syntax
 use Rattle.sim_values.specs.declared.standard.Standard.{Standard}
 use Rattle.sim_values.specs.Standard.{is_image, moves_position, on_image, operands_of, row_of}
 use Rattle.sim_values.specs.Plain.{Plain, Integer, Truth, Character, Text}
+use Rattle.sim_code.specs.Simulations.{is_simulation_name}
 use Rattle.sim_code.specs.Running.{name_runs}
-use Rattle.sim_meaning.specs.Attributes.{cell_of_connection, connection_at, is_connection, own_attribute}
+use Rattle.sim_meaning.specs.Attributes.{class_made, cell_of_connection, connection_at, is_connection, own_attribute}
 use Rattle.sim_meaning.specs.Closing.{class_parameters, formals_at, is_attribute, is_variable, result_meant, stream_of, typed_token}
 use Rattle.sim_meaning.specs.Constants.{text_constant}
 use Rattle.sim_meaning.specs.Levels.{class_at, qualification}
 use Rattle.sim_meaning.specs.Names.{procedure_named}
 use Rattle.sim_meaning.specs.Pending.{Declared, Held, Key, Result, same_key}
 use Rattle.sim_meaning.specs.Texts.{constant_of, text}
-use Rattle.codegen_expr.specs.CodeExpr.{SetNamed, gives, operands}
+use Rattle.codegen_expr.specs.CodeExpr.{SetNamed, SimulationNamed, gives, operands}
 use Rattle.codegen_expr.specs.Sites.{frame_text, own_part, prefix_of}
 
 -- ---- cells
@@ -203,6 +205,19 @@ abbrev pub OwnBuilt : (own : Option DeclNo) → (Own : DeclNo → Type 0) → (O
 OwnBuilt None Own Other = Other
 OwnBuilt (Some d) Own Other = Own d
 
+-- a name of a simulation block, which is a text around; or another attribute of the object around
+abbrev pub SimulationFoundBuilt : Source → (text : ℕ) → (found : Option ℕ) → Standard → (result : Option SimType) → Expressions → (Actuals : Type 0) → Type 0
+SimulationFoundBuilt s text None name result es Actuals = ⊥
+SimulationFoundBuilt s text (Some k) name result es Actuals = SimulationNamed name result (operands es) × StandsIn s text k × Actuals
+
+abbrev pub OwnByBuilt : (simulation : Bool) → (Simulation Other : Type 0) → Type 0
+OwnByBuilt true Simulation Other = Simulation
+OwnByBuilt false Simulation Other = Other
+
+abbrev pub OwnNameBuilt : Source → (text : ℕ) → (found : Option ℕ) → Option Entry → Expressions → (Actuals Other : Type 0) → Type 0
+OwnNameBuilt s text found (Some (entry.Attribute name parameter result)) es Actuals Other = OwnByBuilt (is_simulation_name name) (SimulationFoundBuilt s text found name result es Actuals) Other
+OwnNameBuilt s text found e es Actuals Other = Other
+
 -- `this`
 abbrev pub ThisOfBuilt : Source → (text found : ℕ) → (is_connection : Bool) → Type 0
 ThisOfBuilt s text k true = ConnectedBuilt s text k
@@ -297,10 +312,11 @@ abbrev mutual
       (gives s (denoted s name.token.0) ≡ true) × ThroughBuilt (connection_at s name.token.0)
       (λ k. ConnectedNameBuilt s text k (denoted s name.token.0) es (AreBuilt s text es) (λ formals. ActualsBuilt s text es formals))
       (OwnBuilt (own_attribute s name.token.0)
-      (λ d. OfObjectBuilt s d (entry_of s.tables d) es (ThisFoundBuilt s text (found_at s name.token.0)) (AreBuilt s text es) (ActualsBuilt s text es (formals_at s d)))
+      (λ d. OwnNameBuilt s text (found_at s name.token.0) (entry_of s.tables d) es (ActualsBuilt s text es (formals_at s d))
+      (OfObjectBuilt s d (entry_of s.tables d) es (ThisFoundBuilt s text (found_at s name.token.0)) (AreBuilt s text es) (ActualsBuilt s text es (formals_at s d))))
       (NamedBuilt s text (denoted s name.token.0) es (AreBuilt s text es) (λ formals. ActualsBuilt s text es formals)))
   IsBuilt s text (syntax.This token class) = ThisFoundBuilt s text (found_at s token)
-  IsBuilt s text (syntax.New token class es) = GenerationBuilt s text (denoted s class.token.0) (class_at s class.token.0) (ActualsBuilt s text es (class_parameters s (class_at s class.token.0)))
+  IsBuilt s text (syntax.New token class es) = GenerationBuilt s text (denoted s class.token.0) (class_made s (class_at s class.token.0)) (ActualsBuilt s text es (class_parameters s (class_at s class.token.0)))
   IsBuilt s text (syntax.Parentheses token a) = IsBuilt s text a
 
   -- a variable, where it lies

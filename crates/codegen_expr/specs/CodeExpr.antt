@@ -37,8 +37,9 @@ use Rattle.sim_code.specs.declared.instr.Instr.TheVariants as i
 use Rattle.sim_code.specs.Code.{CodeOf}
 use Rattle.sim_code.specs.Names.{standard_names}
 use Rattle.sim_code.specs.Rows.{text_value}
-use Rattle.sim_code.specs.Sets.{is_set_name, parameter_count}
-use Rattle.sim_meaning.specs.Attributes.{cell_of_connection, connection_at, is_connection, own_attribute, parameter_qualification}
+use Rattle.sim_code.specs.Simulations.{actual_count, is_simulation_name}
+use Rattle.sim_code.specs.Sets.{is_attribute_name, parameter_count}
+use Rattle.sim_meaning.specs.Attributes.{class_made, cell_of_connection, connection_at, is_connection, own_attribute, parameter_qualification}
 use Rattle.sim_meaning.specs.Closing.{has_type, Joining, Lazily, Negated, Plainly, Sort, class_parameters, formals_at, is_attribute, is_text, is_text_type, is_variable, result_meant, sort_of, stream_of, sysout, typed_token}
 use Rattle.sim_meaning.specs.Constants.{constants_of, text_constant}
 use Rattle.sim_meaning.specs.Levels.{class_at, qualification}
@@ -299,14 +300,14 @@ pub record RemoteCallAt (s : Source) (code : CodeOf) (line text : ℕ) (es : Exp
   pub actuals : Actuals y z
   pub call : At code (i.Call (pos (block_number s text)) (pos (operands es))) line z q
 
--- what the code of a procedure of SIMSET rests on: which name it is, that it has as many actual parameters as that takes, and that it leaves a
--- value just where its declaration says so
+-- what the code of an attribute of SIMSET or of a process rests on: which name it is, that it has as many actual parameters as that takes, and
+-- that it leaves a value just where its declaration says so
 pub record SetNamed (name : Standard) (result : Option SimType) (count : ℕ) : Type 0 where
-  pub is_name : is_set_name name ≡ true
+  pub is_name : is_attribute_name name ≡ true
   pub as_many : count ≡ parameter_count name
   pub leaves : has_type result ≡ has_value (row_of name).result
 
--- a procedure of SIMSET of an object, which is tested before the actual parameter
+-- such an attribute of an object, which is tested before the actual parameter
 pub record SetAt (code : CodeOf) (line : ℕ) (name : Standard) (result : Option SimType) (es : Expressions) (Object Actuals : ℕ → ℕ → Type 0) (p q : ℕ) : Type 0 where
   pub x : ℕ
   pub y : ℕ
@@ -386,10 +387,40 @@ abbrev pub ThisFoundAt : Source → CodeOf → Site → ℕ → (found : Option 
 ThisFoundAt s code site n None p q = ⊥
 ThisFoundAt s code site n (Some k) p q = ThisOfAt s code site n k (is_connection (text s k)) p q
 
--- a procedure of SIMSET that is seen without a dot is one of the object around
+-- a standard attribute that is seen without a dot is one of the object or the simulation block around
 abbrev pub OwnAt : (own : Option DeclNo) → (Own : DeclNo → ℕ → ℕ → Type 0) → (Other : ℕ → ℕ → Type 0) → ℕ → ℕ → Type 0
 OwnAt None Own Other p q = Other p q
 OwnAt (Some d) Own Other p q = Own d p q
+
+-- the same of a procedure of a simulation block, which has the link to the block in front
+pub record SimulationNamed (name : Standard) (result : Option SimType) (count : ℕ) : Type 0 where
+  pub is_name : is_simulation_name name ≡ true
+  pub as_many : count ≡ actual_count name
+  pub leaves : has_type result ≡ has_value (row_of name).result
+
+pub record SimulationAt (s : Source) (code : CodeOf) (site : Site) (n line text : ℕ) (name : Standard) (result : Option SimType) (es : Expressions) (Actuals : ℕ → ℕ → Type 0) (p q : ℕ) : Type 0 where
+  pub x : ℕ
+  pub y : ℕ
+  pub named : SimulationNamed name result (operands es)
+  pub link : Pushes code site n (i.Link (pos (level_of s text))) p x
+  pub inside : Inside s.tables site.text text
+  pub actuals : Actuals x y
+  pub number : ℕ
+  pub numbered : slice_get standard_names number ≡ Some name
+  pub done : At code (i.Std (pos number)) line y q
+
+abbrev pub SimulationFoundAt : Source → CodeOf → Site → (n line : ℕ) → (found : Option ℕ) → Standard → (result : Option SimType) → Expressions → (Actuals : ℕ → ℕ → Type 0) → ℕ → ℕ → Type 0
+SimulationFoundAt s code site n line None name result es Actuals p q = ⊥
+SimulationFoundAt s code site n line (Some k) name result es Actuals p q = SimulationAt s code site n line k name result es Actuals p q
+
+abbrev pub OwnBy : (simulation : Bool) → (Simulation Other : ℕ → ℕ → Type 0) → ℕ → ℕ → Type 0
+OwnBy true Simulation Other p q = Simulation p q
+OwnBy false Simulation Other p q = Other p q
+
+-- such a name that is seen without a dot: a procedure of the simulation block that is found around, or another attribute of the object around
+abbrev pub OwnNameAt : Source → CodeOf → Site → (n line : ℕ) → (found : Option ℕ) → Option Entry → Expressions → (Actuals Other : ℕ → ℕ → Type 0) → ℕ → ℕ → Type 0
+OwnNameAt s code site n line found (Some (entry.Attribute name parameter result)) es Actuals Other p q = OwnBy (is_simulation_name name) (SimulationFoundAt s code site n line found name result es Actuals) Other p q
+OwnNameAt s code site n line found e es Actuals Other p q = Other p q
 
 -- `is`, `in` and `qua`
 abbrev pub member_instr : Membership → (class : ℕ) → Instr
@@ -527,11 +558,12 @@ abbrev mutual
       (gives s (denoted s name.token.0) ≡ true) × ThroughAt (connection_at s name.token.0)
       (λ k. ConnectedNameAt s code site n (line_at s name.token.0) k (denoted s name.token.0) es (ExprsAt s code site (suc n) es) (λ formals. ActualsAt s code site (suc n) (line_at s name.token.0) false es formals))
       (OwnAt (own_attribute s name.token.0)
-      (λ d. OfObjectAt s code site n (line_at s name.token.0) d (entry_of s.tables d) es (ThisFoundAt s code site n (found_at s name.token.0)) (ExprsAt s code site (suc n) es) (ActualsAt s code site (suc n) (line_at s name.token.0) false es (formals_at s d)))
+      (λ d. OwnNameAt s code site n (line_at s name.token.0) (found_at s name.token.0) (entry_of s.tables d) es (ActualsAt s code site (suc n) (line_at s name.token.0) false es (formals_at s d))
+      (OfObjectAt s code site n (line_at s name.token.0) d (entry_of s.tables d) es (ThisFoundAt s code site n (found_at s name.token.0)) (ExprsAt s code site (suc n) es) (ActualsAt s code site (suc n) (line_at s name.token.0) false es (formals_at s d))))
       (NamedAt s code site n (line_at s name.token.0) (denoted s name.token.0) es (ExprsAt s code site n es) (ExprsAt s code site (suc n) es) (λ formals. ActualsAt s code site (suc n) (line_at s name.token.0) false es formals))) p q
   ExprAt s code site n (syntax.This token class) p q = ThisFoundAt s code site n (found_at s token) p q
   ExprAt s code site n (syntax.New token class es) p q =
-      GenerationAt s code site n (line_at s token) (denoted s class.token.0) (class_at s class.token.0) es (ActualsAt s code site (suc n) (line_at s class.token.0) true es (class_parameters s (class_at s class.token.0))) p q
+      GenerationAt s code site n (line_at s token) (denoted s class.token.0) (class_made s (class_at s class.token.0)) es (ActualsAt s code site (suc n) (line_at s class.token.0) true es (class_parameters s (class_at s class.token.0))) p q
   ExprAt s code site n (syntax.Parentheses token a) p q = ExprAt s code site n a p q
 
   -- where a variable lies, with the class of a reference there

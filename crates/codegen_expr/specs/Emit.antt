@@ -49,8 +49,8 @@ use Rattle.codegen_expr.specs.declared.operators.Seen.TheVariants as seen
 use Rattle.codegen_expr.specs.declared.operators.Sorted.{Sorted}
 use Rattle.codegen_expr.specs.declared.operators.Sorted.TheVariants as sorted
 use Rattle.codegen_expr.specs.declared.spot.Spot.{Spot}
-use Rattle.codegen_expr.specs.Built.{ActualBuilt, ActualsBuilt, AreBuilt, ArrayBuilt, ArrayPlaceBuilt, CallBuilt, CellBuilt, ConnectedNameBuilt, ConstantBuilt, DotBuilt, IsBuilt, NameBuilt, NamedBuilt, NamedPlaceBuilt, OfObjectBuilt, OwnBuilt, PlaceBuilt, PlainBuilt, StandardBuilt, StandsIn, ThisFoundBuilt, ThroughBuilt, VariableBuilt}
-use Rattle.codegen_expr.specs.CodeExpr.{ActualAt, ActualsAt, ArrayAt, ArrayPlaceAt, CallAt, CellAt, CellPlaceAt, ConnectedNameAt, ConstantAt, DotAt, ElementAt, ExprAt, ExprsAt, FittingAt, GivenAt, IsConstant, NamedAt, NamedPlaceAt, OfObjectAt, OwnAt, PlaceAt, Stand, StandardAt, StandardIs, ThisFoundAt, ThroughAt, VariableAt, VariablePlaceAt, join_instrs, operands, two_instr}
+use Rattle.codegen_expr.specs.Built.{ActualBuilt, ActualsBuilt, AreBuilt, ArrayBuilt, ArrayPlaceBuilt, CallBuilt, CellBuilt, ConnectedNameBuilt, ConstantBuilt, DotBuilt, IsBuilt, NameBuilt, NamedBuilt, NamedPlaceBuilt, OfObjectBuilt, OwnBuilt, OwnNameBuilt, PlaceBuilt, PlainBuilt, StandardBuilt, StandsIn, ThisFoundBuilt, ThroughBuilt, VariableBuilt}
+use Rattle.codegen_expr.specs.CodeExpr.{ActualAt, ActualsAt, ArrayAt, ArrayPlaceAt, CallAt, CellAt, CellPlaceAt, ConnectedNameAt, ConstantAt, DotAt, ElementAt, ExprAt, ExprsAt, FittingAt, GivenAt, IsConstant, NamedAt, NamedPlaceAt, OfObjectAt, OwnAt, OwnNameAt, PlaceAt, Stand, StandardAt, StandardIs, ThisFoundAt, ThroughAt, VariableAt, VariablePlaceAt, join_instrs, operands, two_instr}
 use Rattle.codegen_expr.specs.Drafts.{DraftOf, Emits}
 use Rattle.codegen_expr.specs.Sites.{Inside, Pushes, Site}
 
@@ -218,14 +218,17 @@ WritesThrough b w n old new token k u ys =
     Emits w old new (ConnectedNameBuilt s w.text k u es (AreBuilt s w.text es) (λ formals. ActualsBuilt s w.text es formals))
     (λ final site p q. ConnectedNameAt s final site n (line_at s token.0) k u es (λ x y. ExprsAt s final site (suc n) es x y) (λ formals x y. ActualsAt s final site (suc n) (line_at s token.0) false es formals x y) p q)
 
--- the same where it may be a procedure of SIMSET of the object around
+-- the same where it may be a procedure of a simulation block around, or an attribute of SIMSET or of a process of the object around
 unfoldable pub PutsOwn : Source → Spot → (n : ℕ) → (old new : DraftOf) → TokenNo → Option Denotation → Expressions → Type 0
 PutsOwn s w n old new token u es =
     Emits w old new
-    (OwnBuilt (own_attribute s token.0) (λ d. OfObjectBuilt s d (entry_of s.tables d) es (ThisFoundBuilt s w.text (found_at s token.0)) (AreBuilt s w.text es) (ActualsBuilt s w.text es (formals_at s d)))
+    (OwnBuilt (own_attribute s token.0)
+    (λ d. OwnNameBuilt s w.text (found_at s token.0) (entry_of s.tables d) es (ActualsBuilt s w.text es (formals_at s d))
+    (OfObjectBuilt s d (entry_of s.tables d) es (ThisFoundBuilt s w.text (found_at s token.0)) (AreBuilt s w.text es) (ActualsBuilt s w.text es (formals_at s d))))
     (NamedBuilt s w.text u es (AreBuilt s w.text es) (λ formals. ActualsBuilt s w.text es formals)))
     (λ final site p q. OwnAt (own_attribute s token.0)
-    (λ d. OfObjectAt s final site n (line_at s token.0) d (entry_of s.tables d) es (λ x y. ThisFoundAt s final site n (found_at s token.0) x y) (λ x y. ExprsAt s final site (suc n) es x y) (λ x y. ActualsAt s final site (suc n) (line_at s token.0) false es (formals_at s d) x y))
+    (λ d. OwnNameAt s final site n (line_at s token.0) (found_at s token.0) (entry_of s.tables d) es (λ x y. ActualsAt s final site (suc n) (line_at s token.0) false es (formals_at s d) x y)
+    (λ x y. OfObjectAt s final site n (line_at s token.0) d (entry_of s.tables d) es (λ x y. ThisFoundAt s final site n (found_at s token.0) x y) (λ x y. ExprsAt s final site (suc n) es x y) (λ x y. ActualsAt s final site (suc n) (line_at s token.0) false es (formals_at s d) x y) x y))
     (NamedAt s final site n (line_at s token.0) u es (λ x y. ExprsAt s final site n es x y) (λ x y. ExprsAt s final site (suc n) es x y) (λ formals x y. ActualsAt s final site (suc n) (line_at s token.0) false es formals x y)) p q)
 
 unfoldable pub WritesOwn : Bound → Spot → (n : ℕ) → (old new : DraftOf) → TokenNo → Option Denotation → List Expr → Type 0
@@ -236,12 +239,15 @@ unfoldable pub PutsNamed : Source → Spot → (n : ℕ) → (old new : DraftOf)
 PutsNamed s w n old new token u es =
     Emits w old new
     (ThroughBuilt (connection_at s token.0) (λ k. ConnectedNameBuilt s w.text k u es (AreBuilt s w.text es) (λ formals. ActualsBuilt s w.text es formals))
-    (OwnBuilt (own_attribute s token.0) (λ d. OfObjectBuilt s d (entry_of s.tables d) es (ThisFoundBuilt s w.text (found_at s token.0)) (AreBuilt s w.text es) (ActualsBuilt s w.text es (formals_at s d)))
+    (OwnBuilt (own_attribute s token.0)
+    (λ d. OwnNameBuilt s w.text (found_at s token.0) (entry_of s.tables d) es (ActualsBuilt s w.text es (formals_at s d))
+    (OfObjectBuilt s d (entry_of s.tables d) es (ThisFoundBuilt s w.text (found_at s token.0)) (AreBuilt s w.text es) (ActualsBuilt s w.text es (formals_at s d))))
     (NamedBuilt s w.text u es (AreBuilt s w.text es) (λ formals. ActualsBuilt s w.text es formals))))
     (λ final site p q. ThroughAt (connection_at s token.0)
     (λ k. ConnectedNameAt s final site n (line_at s token.0) k u es (λ x y. ExprsAt s final site (suc n) es x y) (λ formals x y. ActualsAt s final site (suc n) (line_at s token.0) false es formals x y))
     (OwnAt (own_attribute s token.0)
-    (λ d. OfObjectAt s final site n (line_at s token.0) d (entry_of s.tables d) es (λ x y. ThisFoundAt s final site n (found_at s token.0) x y) (λ x y. ExprsAt s final site (suc n) es x y) (λ x y. ActualsAt s final site (suc n) (line_at s token.0) false es (formals_at s d) x y))
+    (λ d. OwnNameAt s final site n (line_at s token.0) (found_at s token.0) (entry_of s.tables d) es (λ x y. ActualsAt s final site (suc n) (line_at s token.0) false es (formals_at s d) x y)
+    (λ x y. OfObjectAt s final site n (line_at s token.0) d (entry_of s.tables d) es (λ x y. ThisFoundAt s final site n (found_at s token.0) x y) (λ x y. ExprsAt s final site (suc n) es x y) (λ x y. ActualsAt s final site (suc n) (line_at s token.0) false es (formals_at s d) x y) x y))
     (NamedAt s final site n (line_at s token.0) u es (λ x y. ExprsAt s final site n es x y) (λ x y. ExprsAt s final site (suc n) es x y) (λ formals x y. ActualsAt s final site (suc n) (line_at s token.0) false es formals x y))) p q)
 
 unfoldable pub WritesNamed : Bound → Spot → (n : ℕ) → (old new : DraftOf) → TokenNo → Option Denotation → List Expr → Type 0
@@ -267,11 +273,14 @@ WritesActuals b w n old new keeps token es formals =
     Emits w old new (ActualsBuilt (source_of b) w.text (expressions (map syntax_of es)) formals)
     (λ final site p q. ActualsAt (source_of b) final site n (line_at (source_of b) token.0) keeps (expressions (map syntax_of es)) formals p q)
 
+-- the link to the instance of a text around
+unfoldable pub WritesLinkTo : Bound → Spot → (n : ℕ) → (old new : DraftOf) → (text : ℕ) → Type 0
+WritesLinkTo b w n old new k =
+    Emits w old new (StandsIn (source_of b) w.text k) (λ final site p q. Pushes final site n (i.Link (pos (level_of (source_of b) k))) p q × Inside (source_of b).tables site.text k)
+
 -- the link that a call of a procedure begins with
 unfoldable pub WritesLink : Bound → Spot → (n : ℕ) → (old new : DraftOf) → DeclNo → Type 0
-WritesLink b w n old new d =
-    Emits w old new (StandsIn (source_of b) w.text (block_of (source_of b) d))
-    (λ final site p q. Pushes final site n (i.Link (pos (level_of (source_of b) (block_of (source_of b) d)))) p q × Inside (source_of b).tables site.text (block_of (source_of b) d))
+WritesLink b w n old new d = WritesLinkTo b w n old new (block_of (source_of b) d)
 
 -- a standard name that is done by itself, behind so many operands
 abbrev pub AloneBuilt : Option Standard → (count : ℕ) → Type 0

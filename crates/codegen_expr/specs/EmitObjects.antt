@@ -13,6 +13,7 @@ use Rattle.sim_tree.specs.Syntax.{Expression, Expressions, NoMore, expressions}
 use Rattle.sim_tree.specs.SyntaxOf.{syntax_of}
 use Rattle.sim_code.specs.declared.instr.Instr.TheVariants as i
 use Rattle.sim_code.specs.Code.{CodeOf}
+use Rattle.sim_meaning.specs.Attributes.{class_made}
 use Rattle.sim_meaning.specs.Closing.{class_parameters, formals_at}
 use Rattle.sim_meaning.specs.Levels.{class_at}
 use Rattle.sim_meaning.specs.Pending.{Declared}
@@ -184,5 +185,5 @@ unfoldable pub WritesNew : Bound → Spot → (n : ℕ) → (old new : DraftOf) 
 WritesNew b w n old new token x ys =
     let s = source_of b in
     let es = expressions (map syntax_of ys) in
-    Emits w old new (GenerationBuilt s w.text (denoted s x.token.0) (class_at s x.token.0) (ActualsBuilt s w.text es (class_parameters s (class_at s x.token.0))))
-    (λ final site p q. GenerationAt s final site n (line_at s token.0) (denoted s x.token.0) (class_at s x.token.0) es (λ u v. ActualsAt s final site (suc n) (line_at s x.token.0) true es (class_parameters s (class_at s x.token.0)) u v) p q)
+    Emits w old new (GenerationBuilt s w.text (denoted s x.token.0) (class_made s (class_at s x.token.0)) (ActualsBuilt s w.text es (class_parameters s (class_at s x.token.0))))
+    (λ final site p q. GenerationAt s final site n (line_at s token.0) (denoted s x.token.0) (class_made s (class_at s x.token.0)) es (λ u v. ActualsAt s final site (suc n) (line_at s x.token.0) true es (class_parameters s (class_at s x.token.0)) u v) p q)

@@ -9,7 +9,7 @@ use Rattle.sim_scope.specs.Access.{joined}
 use Rattle.sim_scope.specs.Scopes.{formals_in}
 use Rattle.sim_scope.specs.Source.{Source, block_of, source_of}
 use Rattle.sim_values.specs.Plain.{Plain, Integer, Truth, Character, Text as TextOf}
-use Rattle.sim_meaning.specs.Attributes.{is_connection}
+use Rattle.sim_meaning.specs.Attributes.{is_bare_process, is_connection}
 use Rattle.sim_meaning.specs.Closing.{class_parameters, formals_from}
 use Rattle.sim_meaning.specs.Constants.{text_constant}
 use Rattle.sim_meaning.specs.Levels.{is_class}
@@ -67,10 +67,11 @@ pub record KnownOf (s : Source) (w : Cells) : Type 0 where
   pub constants : (d : DeclNo) → plain_in s (joined (slice_get w.constants.items d.0)) ≡ constant_of s d
   -- by token: the number of a text constant
   pub texts : (token : ℕ) → joined (slice_get w.texts.items token) ≡ number_in (text_constant s token)
-  -- by text: whether it is a procedure with a result, a class or a connection, and how many cells it declares
+  -- by text: whether it is a procedure with a result, a class, a connection or the class `process`, and how many cells it declares
   pub results : (k : ℕ) → truth_or_false (slice_get w.results.items k) ≡ has_result (text s k)
   pub classes : (k : ℕ) → truth_or_false (slice_get w.classes.items k) ≡ is_class (text s k)
   pub connections : (k : ℕ) → truth_or_false (slice_get w.connections.items k) ≡ is_connection (text s k)
+  pub processes : (k : ℕ) → truth_or_false (slice_get w.processes.items k) ≡ is_bare_process (text s k)
   pub counts : (k : ℕ) → number_or 0 (slice_get w.counts.items k) ≡ length (cells_in s k (text s k))
   -- by block of the tables: its number among the blocks of code, its formal parameters, and those of a class
   pub numbers : (k : ℕ) → number_or w.block_count (slice_get w.numbers.items k) ≡ block_number s k

@@ -6,5 +6,6 @@ pub mod Known
 pub mod Emit
 pub mod EmitObjects
 pub mod EmitSets
+pub mod EmitSimulations
 pub mod PlaceAlone
 pub mod Forms

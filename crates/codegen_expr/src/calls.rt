@@ -8,12 +8,13 @@ use crate::classes::{connection_at, parameter_qualification};
 use crate::draft::{Draft, deeper};
 use crate::emit::emit_expr;
 use crate::instructions::{call_instr, element_instr, standard_instr};
-use crate::leaves::{emit_cell, emit_connected, emit_constant, emit_fit, emit_link, emit_this};
+use crate::leaves::{emit_cell, emit_connected, emit_constant, emit_fit, emit_link};
 use crate::lookups::{block_number, denoted, formals_of_block, gives, line_at};
 use crate::objects::emit_of;
 use crate::operands::emit_list;
 use crate::operators::{Passed, Seen, passed_of, seen_of};
 use crate::sets::own_attribute;
+use crate::simulations::emit_own_name;
 use crate::spot::Spot;
 use crate::standard::emit_standard;
 use sim_base::{DeclNo, Line, TokenNo};
@@ -312,9 +313,10 @@ fn emit_through(
     }
 }
 
-/// An identifier with its operands that is not seen through a connection; a procedure of SIMSET is one of the object around.
+/// An identifier with its operands that is not seen through a connection; a procedure of SIMSET or SIMULATION is one of the object or the
+/// simulation block around.
 #[cycle(emit)]
-#[tactic(auto, using(crate::proofs::SetProcedures::owns))]
+#[tactic(auto, using(crate::proofs::SimulationProcedures::owns))]
 fn emit_own(
     bound: &Bound,
     cells: &Cells,
@@ -330,8 +332,7 @@ fn emit_own(
 {
     match own_attribute(bound, token) {
         Some(declaration) => {
-            emit_this(bound, cells, spot, draft, depth, token)?;
-            emit_of(bound, cells, spot, draft, depth, token, declaration, list)
+            emit_own_name(bound, cells, spot, draft, depth, token, declaration, list)
         }
         None => emit_unconnected(bound, cells, spot, draft, depth, token, denoted, list),
     }

@@ -31,6 +31,8 @@ pub struct Cells {
     pub classes: Vec<bool>,
     /// For each text whether it is a connection.
     pub connections: Vec<bool>,
+    /// For each text whether it is the class `process`.
+    pub processes: Vec<bool>,
     /// For each text the number of the cells that it declares.
     pub counts: Vec<u32>,
     /// For each block of the tables its number among the blocks of code.

@@ -1,7 +1,7 @@
 //! What the emitter looks up of classes, objects and connections.
 ghost use Rattle.std.specs.Prelude.{◌≡◌, IfOk};
 ghost use Rattle.sim_scope.specs.Source.{found_at as found_at_of, source_of};
-ghost use Rattle.sim_meaning.specs.Attributes.{cell_of_connection, connection_at as connection_at_of, connection_in, first_in, is_connection as is_connection_of, parameter_qualification as qualification_of_parameter};
+ghost use Rattle.sim_meaning.specs.Attributes.{is_bare_process, cell_of_connection, connection_at as connection_at_of, connection_in, first_in, is_connection as is_connection_of, parameter_qualification as qualification_of_parameter};
 ghost use Rattle.sim_meaning.specs.Closing.{class_parameters as class_parameters_of};
 ghost use Rattle.sim_meaning.specs.Levels.{class_at as class_at_of, class_text as class_text_of, is_class as is_class_of, qualification as qualification_of};
 ghost use Rattle.sim_meaning.specs.Texts.{text as text_of};
@@ -49,6 +49,18 @@ pub fn is_connection(bound: &Bound, cells: &Cells, text: u32) -> bool
     ensures { result ≡ is_connection_of (text_of (source_of bound.now) text) }
 {
     match cells.connections.get(text as usize) {
+        Some(truth) => *truth,
+        None => false,
+    }
+}
+
+/// Whether a text is the class `process`.
+#[tactic(auto, unfolding(crate::specs::Known::Known))]
+pub fn is_process(bound: &Bound, cells: &Cells, text: u32) -> bool
+    requires cells { Known bound.now cells.now }
+    ensures { result ≡ is_bare_process (text_of (source_of bound.now) text) }
+{
+    match cells.processes.get(text as usize) {
         Some(truth) => *truth,
         None => false,
     }

@@ -2,7 +2,7 @@
 ghost use Rattle.std.specs.Prelude.{OnOk};
 ghost use Rattle.sim_scope.specs.Source.{source_of};
 ghost use Rattle.codegen_expr.specs.Known.{Known};
-ghost use Rattle.codegen_expr.specs.Emit.{WritesCell, WritesCellPlace, WritesConstant, WritesImage, WritesLink, WritesSign, WritesTextAt};
+ghost use Rattle.codegen_expr.specs.Emit.{WritesCell, WritesCellPlace, WritesConstant, WritesImage, WritesLink, WritesLinkTo, WritesSign, WritesTextAt};
 ghost use Rattle.codegen_expr.specs.EmitObjects.{OfConnection, PutsBase, WritesAttribute, WritesConstantOf, WritesFit, WritesMember, WritesObjectOf, WritesQua, WritesThis};
 
 use crate::cells::Cells;
@@ -164,8 +164,27 @@ pub(crate) fn emit_image(
     Ok(())
 }
 
+/// The link to the instance of a text around.
+#[tactic(auto, using(crate::proofs::Seen::links))]
+pub fn emit_link_to(
+    bound: &Bound,
+    spot: Spot,
+    draft: &mut Draft,
+    depth: u32,
+    text: u32,
+) -> Result<(), AllocError>
+    ensures { OnOk result (WritesLinkTo bound.now spot depth draft.old draft.new text) }
+{
+    if is_around(&bound.scopes, spot.text, text) {
+        draft.push(depth, link_instr(level_of(bound, text)), Line(0))?;
+        return Ok(());
+    }
+    draft.give_up();
+    Ok(())
+}
+
 /// The link to the instance in which a procedure or a class is declared.
-#[tactic(auto, using(crate::proofs::Seen::sees))]
+#[tactic(auto, using(crate::proofs::Seen::links))]
 pub(crate) fn emit_link(
     bound: &Bound,
     spot: Spot,
@@ -175,13 +194,7 @@ pub(crate) fn emit_link(
 ) -> Result<(), AllocError>
     ensures { OnOk result (WritesLink bound.now spot depth draft.old draft.new declaration) }
 {
-    let block = block_of(bound, declaration);
-    if is_around(&bound.scopes, spot.text, block) {
-        draft.push(depth, link_instr(level_of(bound, block)), Line(0))?;
-        return Ok(());
-    }
-    draft.give_up();
-    Ok(())
+    emit_link_to(bound, spot, draft, depth, block_of(bound, declaration))
 }
 
 /// The object of a connection.

@@ -18,6 +18,7 @@ mod operands;
 mod operators;
 mod selectors;
 mod sets;
+mod simulations;
 mod spot;
 mod standard;
 mod variables;
@@ -26,7 +27,7 @@ pub use calls::{emit_actuals, emit_element, emit_named};
 pub use cells::{Cells, ConstantValue};
 pub use classes::{
     class_at, class_parameters, connection_at, connection_slot, first_of, found_at, frame_text,
-    is_class, is_connected, is_connection, is_kept_in, qualification,
+    is_class, is_connected, is_connection, is_kept_in, is_process, qualification,
 };
 pub use draft::{Draft, Planned, deeper};
 pub use emit::emit_expr;
@@ -35,7 +36,7 @@ pub use instructions::{
     address_instr, attribute_instr, call_instr, character_instr, element_instr, link_instr,
     load_instr, member_instr, new_instr, standard_instr, store_instr, this_instr,
 };
-pub use leaves::{emit_cell, emit_connected, emit_this};
+pub use leaves::{emit_cell, emit_connected, emit_link_to, emit_this};
 pub use lookups::{
     block_number, block_of, cell_count, cell_number, constant_value, denoted, formals_of_block,
     gives, has_result, is_around, is_text, is_text_at, level_of, line_at, prefix_of, slot_of,

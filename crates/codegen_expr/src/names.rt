@@ -4,6 +4,7 @@ ghost use Rattle.sim_meaning.specs.Names.{procedure_named};
 ghost use Rattle.sim_meaning.specs.Statements.{has_value, standard_leaves as standard_leaves_of};
 ghost use Rattle.codegen_expr.specs.Emit.{Numbered, OnImageIs, moves_named};
 ghost use Rattle.codegen_expr.specs.EmitSets.{NumberOfSet};
+ghost use Rattle.codegen_expr.specs.EmitSimulations.{NumberOfSimulation};
 
 use sim_scope::StandardName;
 use sim_values::{Standard, StandardType};
@@ -71,16 +72,19 @@ fn procedure_code(name: Standard) -> Option<StandardCode>
         Standard::Outchar => built(38, 1),
         Standard::Outtext => built(39, 1),
         Standard::Outint => built(40, 2),
-        // by itself, without an object, a name of SIMSET takes nothing
-        _ => match set_number(name) {
+        // by itself, without an object or a block, a name of SIMSET or SIMULATION takes nothing
+        _ => match attribute_number(name) {
             Some(number) => built(number, 0),
-            None => None,
+            None => match simulation_number(name) {
+                Some(number) => built(number, 0),
+                None => None,
+            },
         },
     }
 }
 
-/// The number of a name of SIMSET.
-pub(crate) fn set_number(name: Standard) -> Option<u32>
+/// The number of a name that objects have: of SIMSET, and those of processes.
+pub(crate) fn attribute_number(name: Standard) -> Option<u32>
     ensures { NumberOfSet name result }
 {
     match name {
@@ -96,6 +100,26 @@ pub(crate) fn set_number(name: Standard) -> Option<u32>
         Standard::Empty => Some(58),
         Standard::Cardinal => Some(59),
         Standard::Clear => Some(60),
+        Standard::Idle => Some(61),
+        Standard::Terminated => Some(62),
+        Standard::Evtime => Some(63),
+        Standard::Nextev => Some(64),
+        _ => None,
+    }
+}
+
+/// The number of a name that simulation blocks have.
+pub(crate) fn simulation_number(name: Standard) -> Option<u32>
+    ensures { NumberOfSimulation name result }
+{
+    match name {
+        Standard::Time => Some(65),
+        Standard::Current => Some(66),
+        Standard::Main => Some(67),
+        Standard::Hold => Some(68),
+        Standard::Passivate => Some(69),
+        Standard::Wait => Some(70),
+        Standard::Cancel => Some(71),
         _ => None,
     }
 }

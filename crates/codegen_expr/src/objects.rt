@@ -5,7 +5,7 @@ ghost use Rattle.std.specs.Prelude.{OnOk};
 
 use crate::calls::emit_actuals;
 use crate::cells::Cells;
-use crate::classes::{class_at, class_parameters};
+use crate::classes::{class_at, class_parameters, is_process};
 use crate::draft::{Draft, deeper};
 use crate::instructions::{call_instr, element_instr, new_instr};
 use crate::leaves::{emit_attribute, emit_constant_of, emit_link};
@@ -333,6 +333,11 @@ pub(crate) fn emit_new(
                 draft.give_up();
                 return Ok(());
             };
+            // objects of `process` itself are not built
+            if is_process(bound, cells, class) {
+                draft.give_up();
+                return Ok(());
+            }
             emit_generation(
                 bound,
                 cells,

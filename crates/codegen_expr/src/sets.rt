@@ -1,4 +1,4 @@
-//! Procedures of SIMSET: those of an object, with their actual parameter.
+//! Attributes of SIMSET and of processes: those of an object, with their actual parameter.
 ghost use Rattle.std.specs.Prelude.{◌≡◌, OnOk};
 ghost use Rattle.sim_scope.specs.Source.{source_of};
 ghost use Rattle.sim_values.specs.Standard.{row_of};
@@ -13,7 +13,7 @@ use crate::cells::Cells;
 use crate::draft::{Draft, deeper};
 use crate::instructions::standard_instr;
 use crate::lookups::{denoted, line_at};
-use crate::names::{set_number, standard_leaves};
+use crate::names::{attribute_number, standard_leaves};
 use crate::spot::Spot;
 use sim_base::{DeclNo, TokenNo};
 use sim_code::Instr;
@@ -24,7 +24,7 @@ use sim_tree::Expr;
 use sim_values::Standard;
 use std::alloc::AllocError;
 
-/// An attribute of a class of SIMSET: its name, the type of its parameter and that of its result, if it has them.
+/// An attribute of a class of SIMSET or SIMULATION: its name, the type of its parameter and that of its result, if it has them.
 #[derive(Clone, Copy)]
 pub(crate) struct SetProcedure {
     pub(crate) name: Standard,
@@ -32,7 +32,7 @@ pub(crate) struct SetProcedure {
     pub(crate) result: Option<SimType>,
 }
 
-/// An attribute of a class of SIMSET, if that is declared.
+/// An attribute of a class of SIMSET or SIMULATION, if that is declared.
 pub(crate) fn set_procedure(entry: Option<Entry>) -> Option<SetProcedure>
     ensures { result ≡ set_procedure_of entry }
 {
@@ -52,7 +52,7 @@ pub(crate) fn set_procedure(entry: Option<Entry>) -> Option<SetProcedure>
     }
 }
 
-/// The declaration of what an identifier denotes, if that is an attribute of a class of SIMSET.
+/// The declaration of what an identifier denotes, if that is an attribute of a class of SIMSET or SIMULATION.
 #[tactic(auto, unfolding(sim_meaning::specs::Attributes::own_attribute, sim_scope::specs::Source::source_of))]
 pub(crate) fn own_attribute(bound: &Bound, token: TokenNo) -> Option<DeclNo>
     ensures { result ≡ own_attribute_of (source_of bound.now) token.0 }
@@ -66,7 +66,7 @@ pub(crate) fn own_attribute(bound: &Bound, token: TokenNo) -> Option<DeclNo>
     }
 }
 
-/// How many actual parameters a procedure of SIMSET has.
+/// How many actual parameters an attribute of an object has.
 fn parameter_count(name: Standard) -> usize
     ensures { result ≡ parameter_count_of name }
 {
@@ -79,7 +79,7 @@ fn parameter_count(name: Standard) -> usize
 }
 
 /// Whether a procedure leaves a value just where it is declared with a result.
-fn leaves_as_declared(procedure: SetProcedure) -> bool
+pub(crate) fn leaves_as_declared(procedure: SetProcedure) -> bool
     ensures { result ≡ as_declared procedure.result (has_value (row_of procedure.name).result) }
 {
     let leaves = standard_leaves(StandardName::Procedure(procedure.name));
@@ -89,7 +89,7 @@ fn leaves_as_declared(procedure: SetProcedure) -> bool
     }
 }
 
-/// The number of a procedure that is one of SIMSET, and has so many actual parameters.
+/// The number of one that is of an object, and has so many actual parameters.
 #[tactic(auto, using(crate::proofs::SetProcedures::numbers))]
 fn set_code(procedure: SetProcedure, count: usize) -> Option<u32>
     ensures { FindsSet procedure count result }
@@ -98,15 +98,15 @@ fn set_code(procedure: SetProcedure, count: usize) -> Option<u32>
         return None;
     }
     if leaves_as_declared(procedure) {
-        return set_number(procedure.name);
+        return attribute_number(procedure.name);
     }
     None
 }
 
-/// Actual parameters for a formal that is a reference of this type, or for none. The token is that of the identifier that is called.
+/// Actual parameters for a formal of this type, or for none. The token is that of the identifier that is called.
 #[cycle(emit)]
 #[tactic(auto, using(crate::proofs::SetProcedures::sets))]
-fn emit_references(
+pub(crate) fn emit_references(
     bound: &Bound,
     cells: &Cells,
     spot: Spot,
@@ -142,7 +142,7 @@ fn emit_references(
     }
 }
 
-/// A procedure of SIMSET of the object on top, which is tested before the actual parameter. The token is that of its identifier.
+/// An attribute of the object on top, which is tested before the actual parameter. The token is that of its identifier.
 #[cycle(emit)]
 #[tactic(auto, using(crate::proofs::SetProcedures::sets))]
 pub(crate) fn emit_set(

@@ -33,7 +33,7 @@ const MODELS: [(&str, Option<&str>); 15] = [
 ];
 
 // The collections of data/ whose sources are run, in the order in which they are shown.
-const COLLECTIONS: [&str; 11] = [
+const COLLECTIONS: [&str; 12] = [
     "messages.cases",
     "programs.cases",
     "tokens.cases",
@@ -43,6 +43,7 @@ const COLLECTIONS: [&str; 11] = [
     "numbers.cases",
     "objects.cases",
     "sets.cases",
+    "simulation.cases",
     "manual.cases",
     "models.cases",
 ];

@@ -37,6 +37,7 @@ plain_same k.Character s = refl
 plain_same k.Text s = refl
 plain_same k.Nothing s = refl
 plain_same k.Object s = refl
+plain_same k.Main s = refl
 plain_same k.Link s = refl
 plain_same k.Cell s = refl
 plain_same k.Element s = refl

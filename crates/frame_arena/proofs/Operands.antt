@@ -10,8 +10,8 @@ use Rattle.sim_values.specs.declared.operators.Dyadic.{Dyadic}
 use Rattle.sim_values.specs.declared.operators.Monadic.{Monadic}
 use Rattle.sim_values.specs.declared.operators.Monadic.TheVariants as monadic
 use Rattle.sim_values.specs.Arithmetic.{negation_of}
-use Rattle.sim_values.specs.Operators.{Answer, a_truth, an_integer, calculate, calculated, compare, connect, connected, holds, one_of, same_objects, same_reference, step_goes_on, step_test, two_of, with_character, with_integer, with_reference, with_truth}
-use Rattle.sim_values.specs.Plain.{Plain, Integer, Truth, Character, Text, Object, Nothing}
+use Rattle.sim_values.specs.Operators.{Answer, Reference, ToMain, ToNothing, ToObject, a_truth, an_integer, calculate, calculated, compare, connect, connected, holds, one_of, same_objects, same_reference, step_goes_on, step_test, two_of, with_character, with_integer, with_reference, with_truth}
+use Rattle.sim_values.specs.Plain.{Plain, Integer, Truth, Character, Text, Object, MainOf, Nothing}
 use Rattle.sim_code.specs.Outcome.{World, Run, RunFault}
 use Rattle.sim_code.specs.Events.{answering, applying_one, applying_two, computing, having, integer_in, no_rule, pop_plain, popping, stopping, testing_step, truth_in}
 use Rattle.sim_code.specs.Machine.{Machine, Value, Of, Link, Address, ArrayValue, ProcedureValue, ThunkValue, plain}
@@ -27,9 +27,10 @@ abbrev or_else : {A : Type 0} → A → Option A → A
 or_else a None = a
 or_else a (Some b) = b
 
-abbrev pub reference_value : Option ℕ → Value
-reference_value None = Of Nothing
-reference_value (Some i) = Of (Object i)
+abbrev pub reference_value : Reference → Value
+reference_value ToNothing = Of Nothing
+reference_value (ToObject i) = Of (Object i)
+reference_value (ToMain i) = Of (MainOf i)
 
 -- ---- a value by its kind
 
@@ -39,6 +40,7 @@ integer_is (Of (Truth b)) x h = absurd (no_some x (sym h))
 integer_is (Of (Character c)) x h = absurd (no_some x (sym h))
 integer_is (Of (Text t)) x h = absurd (no_some x (sym h))
 integer_is (Of (Object i)) x h = absurd (no_some x (sym h))
+integer_is (Of (MainOf i)) x h = absurd (no_some x (sym h))
 integer_is (Of Nothing) x h = absurd (no_some x (sym h))
 integer_is (Link j) x h = absurd (no_some x (sym h))
 integer_is (Address p) x h = absurd (no_some x (sym h))
@@ -60,6 +62,7 @@ dull_integer (Truth b) f h = refl
 dull_integer (Character c) f h = refl
 dull_integer (Text t) f h = refl
 dull_integer (Object i) f h = refl
+dull_integer (MainOf i) f h = refl
 dull_integer Nothing f h = refl
 
 pub truth_is : (v : Value) (x : Bool) → Some x ≡ truth_of v → v ≡ Of (Truth x)
@@ -68,6 +71,7 @@ truth_is (Of (Truth b)) x h = ap (λ m. Of (Truth (or_else x m))) (sym h)
 truth_is (Of (Character c)) x h = absurd (no_some x (sym h))
 truth_is (Of (Text t)) x h = absurd (no_some x (sym h))
 truth_is (Of (Object i)) x h = absurd (no_some x (sym h))
+truth_is (Of (MainOf i)) x h = absurd (no_some x (sym h))
 truth_is (Of Nothing) x h = absurd (no_some x (sym h))
 truth_is (Link j) x h = absurd (no_some x (sym h))
 truth_is (Address p) x h = absurd (no_some x (sym h))
@@ -89,6 +93,7 @@ dull_truth (Truth b) f h = absurd (no_some b h)
 dull_truth (Character c) f h = refl
 dull_truth (Text t) f h = refl
 dull_truth (Object i) f h = refl
+dull_truth (MainOf i) f h = refl
 dull_truth Nothing f h = refl
 
 pub character_is : (v : Value) (x : ℕ) → Some x ≡ character_of v → v ≡ Of (Character x)
@@ -97,6 +102,7 @@ character_is (Of (Truth b)) x h = absurd (no_some x (sym h))
 character_is (Of (Character c)) x h = ap (λ m. Of (Character (or_else x m))) (sym h)
 character_is (Of (Text t)) x h = absurd (no_some x (sym h))
 character_is (Of (Object i)) x h = absurd (no_some x (sym h))
+character_is (Of (MainOf i)) x h = absurd (no_some x (sym h))
 character_is (Of Nothing) x h = absurd (no_some x (sym h))
 character_is (Link j) x h = absurd (no_some x (sym h))
 character_is (Address p) x h = absurd (no_some x (sym h))
@@ -118,14 +124,16 @@ dull_character (Truth b) f h = refl
 dull_character (Character c) f h = absurd (no_some c h)
 dull_character (Text t) f h = refl
 dull_character (Object i) f h = refl
+dull_character (MainOf i) f h = refl
 dull_character Nothing f h = refl
 
-pub reference_is : (v : Value) (x : Option ℕ) → Some x ≡ reference_of v → v ≡ reference_value x
+pub reference_is : (v : Value) (x : Reference) → Some x ≡ reference_of v → v ≡ reference_value x
 reference_is (Of (Integer z)) x h = absurd (no_some x (sym h))
 reference_is (Of (Truth b)) x h = absurd (no_some x (sym h))
 reference_is (Of (Character c)) x h = absurd (no_some x (sym h))
 reference_is (Of (Text t)) x h = absurd (no_some x (sym h))
 reference_is (Of (Object i)) x h = ap (λ m. reference_value (or_else x m)) (sym h)
+reference_is (Of (MainOf i)) x h = ap (λ m. reference_value (or_else x m)) (sym h)
 reference_is (Of Nothing) x h = ap (λ m. reference_value (or_else x m)) (sym h)
 reference_is (Link j) x h = absurd (no_some x (sym h))
 reference_is (Address p) x h = absurd (no_some x (sym h))
@@ -141,13 +149,14 @@ not_reference (ArrayValue a) f h g = refl
 not_reference (ProcedureValue k j) f h g = refl
 not_reference (ThunkValue k j) f h g = refl
 
-dull_reference : (p : Plain) (f : Option ℕ → Answer) → None ≡ reference_in p → with_reference p f ≡ None
+dull_reference : (p : Plain) (f : Reference → Answer) → None ≡ reference_in p → with_reference p f ≡ None
 dull_reference (Integer z) f h = refl
 dull_reference (Truth b) f h = refl
 dull_reference (Character c) f h = refl
 dull_reference (Text t) f h = refl
-dull_reference (Object i) f h = absurd (no_some (Some i) h)
-dull_reference Nothing f h = absurd (no_some None h)
+dull_reference (Object i) f h = absurd (no_some (ToObject i) h)
+dull_reference (MainOf i) f h = absurd (no_some (ToMain i) h)
+dull_reference Nothing f h = absurd (no_some ToNothing h)
 
 dull_under : (m : Option Plain) (f : Plain → Answer) → ((p : Plain) → f p ≡ None) → answer_by m f ≡ None
 dull_under None f h = refl
@@ -180,6 +189,7 @@ compare_bad op x (Of (Truth b)) h h2 = dull_under (plain x) (λ p. compare op p 
 compare_bad op x (Of (Character c)) h h2 = absurd (no_some c h)
 compare_bad op x (Of (Text t)) h h2 = dull_under (plain x) (λ p. compare op p (Text t)) (λ p. refl)
 compare_bad op x (Of (Object i)) h h2 = dull_under (plain x) (λ p. compare op p (Object i)) (λ p. refl)
+compare_bad op x (Of (MainOf i)) h h2 = dull_under (plain x) (λ p. compare op p (MainOf i)) (λ p. refl)
 compare_bad op x (Of Nothing) h h2 = dull_under (plain x) (λ p. compare op p Nothing) (λ p. refl)
 compare_bad op x (Link j) h h2 = refl
 compare_bad op x (Address p) h h2 = refl
@@ -233,22 +243,28 @@ same_top x y h =
     not_reference y (λ q. answer_by (plain x) (λ p. same_objects p q)) h
     (λ q hq. dull_under (plain x) (λ p. same_objects p q) (λ p. dull_reference q (λ b. with_reference p (λ a. a_truth (same_reference a b))) hq))
 
-same_under : (x : Value) (b : Option ℕ) → None ≡ reference_of x → on_two same_objects x (reference_value b) ≡ None
+same_under : (x : Value) (b : Reference) → None ≡ reference_of x → on_two same_objects x (reference_value b) ≡ None
 unfolding same_objects
-same_under x None h = not_reference x (λ p. same_objects p Nothing) h (λ p hp. dull_reference p (λ a. a_truth (same_reference a None)) hp)
-same_under x (Some i) h = not_reference x (λ p. same_objects p (Object i)) h (λ p hp. dull_reference p (λ a. a_truth (same_reference a (Some i))) hp)
+same_under x ToNothing h = not_reference x (λ p. same_objects p Nothing) h (λ p hp. dull_reference p (λ a. a_truth (same_reference a ToNothing)) hp)
+same_under x (ToObject i) h = not_reference x (λ p. same_objects p (Object i)) h (λ p hp. dull_reference p (λ a. a_truth (same_reference a (ToObject i))) hp)
+same_under x (ToMain i) h = not_reference x (λ p. same_objects p (MainOf i)) h (λ p hp. dull_reference p (λ a. a_truth (same_reference a (ToMain i))) hp)
 
-pub same_below : (x y : Value) (b : Option ℕ) → Some b ≡ reference_of y → None ≡ reference_of x → on_two same_objects x y ≡ None
+pub same_below : (x y : Value) (b : Reference) → Some b ≡ reference_of y → None ≡ reference_of x → on_two same_objects x y ≡ None
 same_below x y b hy h = ap (on_two same_objects x) (reference_is y b hy) ∙ same_under x b h
 
-same_of : (a b : Option ℕ) → on_two same_objects (reference_value a) (reference_value b) ≡ a_truth (same_reference a b)
+same_of : (a b : Reference) → on_two same_objects (reference_value a) (reference_value b) ≡ a_truth (same_reference a b)
 unfolding same_objects
-same_of None None = refl
-same_of None (Some j) = refl
-same_of (Some i) None = refl
-same_of (Some i) (Some j) = refl
+same_of ToNothing ToNothing = refl
+same_of ToNothing (ToObject j) = refl
+same_of ToNothing (ToMain j) = refl
+same_of (ToObject i) ToNothing = refl
+same_of (ToObject i) (ToObject j) = refl
+same_of (ToObject i) (ToMain j) = refl
+same_of (ToMain i) ToNothing = refl
+same_of (ToMain i) (ToObject j) = refl
+same_of (ToMain i) (ToMain j) = refl
 
-pub same_both : (x y : Value) (a b : Option ℕ) → Some b ≡ reference_of y → Some a ≡ reference_of x → on_two same_objects x y ≡ a_truth (same_reference a b)
+pub same_both : (x y : Value) (a b : Reference) → Some b ≡ reference_of y → Some a ≡ reference_of x → on_two same_objects x y ≡ a_truth (same_reference a b)
 same_both x y a b hy hx =
     ap (on_two same_objects x) (reference_is y b hy) ∙ ap (λ v. on_two same_objects v (reference_value b)) (reference_is x a hx) ∙ same_of a b
 

@@ -41,6 +41,7 @@ module _ (op : Calculation) (line : ℕ) (o : World) (go : Plain → List Value 
   first_bad k.Text s rest h = dull _ rest (λ x. refl)
   first_bad k.Nothing s rest h = dull _ rest (λ x. refl)
   first_bad k.Object s rest h = dull _ rest (λ x. refl)
+  first_bad k.Main s rest h = dull _ rest (λ x. refl)
   first_bad k.Link s rest h = refl
   first_bad k.Cell s rest h = refl
   first_bad k.Element s rest h = refl
@@ -58,6 +59,7 @@ module _ (op : Calculation) (line : ℕ) (o : World) (go : Plain → List Value 
   bad_second k.Text s s2 rest h = refl
   bad_second k.Nothing s s2 rest h = refl
   bad_second k.Object s s2 rest h = refl
+  bad_second k.Main s s2 rest h = refl
   bad_second k.Link s s2 rest h = refl
   bad_second k.Cell s s2 rest h = refl
   bad_second k.Element s s2 rest h = refl
@@ -75,6 +77,7 @@ module _ (op : Calculation) (line : ℕ) (o : World) (go : Plain → List Value 
   alone k.Text s = refl
   alone k.Nothing s = refl
   alone k.Object s = refl
+  alone k.Main s = refl
   alone k.Link s = refl
   alone k.Cell s = refl
   alone k.Element s = refl

@@ -41,6 +41,7 @@ has_value k.Character v h = refl
 has_value k.Text v h = refl
 has_value k.Nothing v h = refl
 has_value k.Object v h = refl
+has_value k.Main v h = refl
 has_value k.Link v h = refl
 has_value k.Cell v h = refl
 has_value k.Element v h = refl

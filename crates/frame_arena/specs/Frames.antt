@@ -61,6 +61,7 @@ Leads frames m f = (f.stamp < length m.instances) × (is_live m f.stamp ≡ true
 
 abbrev pub names_frame : SlotKind → Bool
 names_frame kind.Object = true
+names_frame kind.Main = true
 names_frame kind.Link = true
 names_frame kind.Cell = true
 names_frame kind.Procedure = true

@@ -1,9 +1,12 @@
 -- What slots stand for.
 use Rattle.std.specs.Prelude.{ℕ, zero, suc, ℤ, pos, negsuc, Bool, true, false, Option, Some, None}
-use Rattle.sim_values.specs.Plain.{Plain, Integer, Truth, Character, Text, Object, Nothing}
+use Rattle.sim_values.specs.Plain.{Plain, Integer, Truth, Character, Text, Object, MainOf, Nothing}
+use Rattle.sim_values.specs.Operators.{Reference, ToMain, ToNothing, ToObject}
 use Rattle.sim_code.specs.Events.{integer_in, truth_in}
 use Rattle.sim_code.specs.Instances.{CellPlace, ElementPlace, ImagePlace}
 use Rattle.sim_code.specs.Machine.{Value, Of, Link, Address, ArrayValue, ProcedureValue, ThunkValue}
+use Rattle.frame_arena.specs.declared.contents.Referent.{Referent}
+use Rattle.frame_arena.specs.declared.contents.Referent.TheVariants as referent
 use Rattle.frame_arena.specs.declared.slot.Slot.{Slot}
 use Rattle.frame_arena.specs.declared.slot.SlotKind.{SlotKind}
 use Rattle.frame_arena.specs.declared.slot.SlotKind.TheVariants as kind
@@ -26,6 +29,7 @@ value_by kind.Character s = Of (Character s.code)
 value_by kind.Text s = Of (Text (record { text_frame = s.name; start = s.more; length = s.class; pos = count_of s.«data» }))
 value_by kind.Nothing s = Of Nothing
 value_by kind.Object s = Of (Object (count_of s.«data»))
+value_by kind.Main s = Of (MainOf (count_of s.«data»))
 value_by kind.Link s = Link (count_of s.«data»)
 value_by kind.Cell s = Address (CellPlace (count_of s.«data») s.more s.class)
 value_by kind.Element s = Address (ElementPlace (count_of s.«data») s.more s.class)
@@ -67,15 +71,26 @@ abbrev pub character_of : Value → Option ℕ
 character_of (Of p) = character_in p
 character_of _ = None
 
--- a reference is an instance or none
-abbrev pub reference_in : Plain → Option (Option ℕ)
-reference_in (Object i) = Some (Some i)
-reference_in Nothing = Some None
+-- what a reference names
+abbrev pub reference_in : Plain → Option Reference
+reference_in (Object i) = Some (ToObject i)
+reference_in (MainOf i) = Some (ToMain i)
+reference_in Nothing = Some ToNothing
 reference_in _ = None
 
-abbrev pub reference_of : Value → Option (Option ℕ)
+abbrev pub reference_of : Value → Option Reference
 reference_of (Of p) = reference_in p
 reference_of _ = None
+
+-- the same, as a slot tells it
+abbrev pub reference_to : Referent → Reference
+reference_to referent.Nothing = ToNothing
+reference_to (referent.Object i) = ToObject i
+reference_to (referent.Main i) = ToMain i
+
+abbrev pub referring : Option Referent → Option Reference
+referring None = None
+referring (Some x) = Some (reference_to x)
 
 abbrev pub is_plain : Value → Bool
 is_plain (Of p) = true
@@ -88,6 +103,7 @@ plain_by kind.Truth s = Truth (is_on s.«data»)
 plain_by kind.Character s = Character s.code
 plain_by kind.Text s = Text (record { text_frame = s.name; start = s.more; length = s.class; pos = count_of s.«data» })
 plain_by kind.Object s = Object (count_of s.«data»)
+plain_by kind.Main s = MainOf (count_of s.«data»)
 plain_by _ s = Nothing
 
 abbrev pub plain_of : Slot → Plain

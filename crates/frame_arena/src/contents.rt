@@ -3,10 +3,21 @@ ghost use Rattle.std.specs.Prelude.{◌≡◌, ◌<◌, ◌^◌, List, IfSome};
 ghost use Rattle.sim_code.specs.Machine.{array_in};
 ghost use Rattle.sim_code.specs.Outcome.{ArrayOf};
 ghost use Rattle.frame_arena.specs.Arrays.{ArrayLeads, RegionOf, array_number, SlotLeadsArray};
-ghost use Rattle.frame_arena.specs.Slots.{character_of, integer_of, is_plain, reference_of, truth_of, value_of};
+ghost use Rattle.frame_arena.specs.Slots.{character_of, integer_of, is_plain, reference_of, referring, truth_of, value_of};
 
 use crate::slot::{Slot, SlotKind};
 use sim_values::ArrayRef;
+
+/// What a reference names.
+#[derive(Clone, Copy, Debug, PartialEq, Eq)]
+pub enum Referent {
+    /// Nothing: it is `none`.
+    Nothing,
+    /// An object, by its number.
+    Object(u64),
+    /// The main program of a simulation block, by the number of that.
+    Main(u64),
+}
 
 impl Slot {
     /// The integer, if it is one.
@@ -42,16 +53,17 @@ impl Slot {
         }
     }
 
-    /// The number of the object or `none`, if it is a reference.
+    /// What it names, if it is a reference.
     #[inline(always)]
-    pub fn as_reference(self) -> Option<Option<u64>>
-        ensures { result ≡ reference_of (value_of self) }
+    pub fn as_reference(self) -> Option<Referent>
+        ensures { referring result ≡ reference_of (value_of self) }
     {
         let stamp = if self.data < 0 { 0 } else { self.data as u64 };
         match self.kind {
-            SlotKind::Object => Some(Some(stamp)),
-            SlotKind::Nothing => Some(None),
-            SlotKind::Empty => Some(None),
+            SlotKind::Object => Some(Referent::Object(stamp)),
+            SlotKind::Main => Some(Referent::Main(stamp)),
+            SlotKind::Nothing => Some(Referent::Nothing),
+            SlotKind::Empty => Some(Referent::Nothing),
             _ => None,
         }
     }

@@ -15,5 +15,6 @@ pub mod words;
 
 pub use arena::Arena;
 pub use arrays::Arrays;
+pub use contents::Referent;
 pub use operators::Applied;
 pub use slot::{EMPTY, NOTHING, Slot, SlotKind};

@@ -10,9 +10,10 @@ ghost use Rattle.frame_arena.specs.Arrays.{AllLeadArrays, RegionOf};
 ghost use Rattle.frame_arena.specs.declared.frames.Frame.{Frame};
 ghost use Rattle.frame_arena.specs.Frames.{AllLead};
 ghost use Rattle.frame_arena.specs.Operators.{IfDepth, IsScalar, answer_in, is_on_texts, on_one, on_three, on_two, with_applied};
-ghost use Rattle.frame_arena.specs.Slots.{value_of};
+ghost use Rattle.frame_arena.specs.Slots.{reference_to, value_of};
 ghost use Rattle.frame_arena.specs.Stacks.{values_of};
 
+use crate::contents::Referent;
 use crate::slot::Slot;
 use sim_base::RunError;
 use sim_values::{Calculation, Comparison, Connective, Dyadic, Monadic, negate, step_goes_on};
@@ -103,19 +104,20 @@ pub fn same(x: Slot, y: Slot) -> Computed
         return Computed::NoRule;
     };
     match x.as_reference() {
-        Some(a) => Computed::Value(Slot::truth(same_number(a, b))),
+        Some(a) => Computed::Value(Slot::truth(same_referent(a, b))),
         None => Computed::NoRule,
     }
 }
 
-// Whether both are `none`, or the same number.
+// Whether both are `none`, or the same object, or the main program of the same block.
 #[inline(always)]
-fn same_number(a: Option<u64>, b: Option<u64>) -> bool
-    ensures { result ≡ same_reference a b }
+fn same_referent(a: Referent, b: Referent) -> bool
+    ensures { result ≡ same_reference (reference_to a) (reference_to b) }
 {
     match (a, b) {
-        (Some(i), Some(j)) => i == j,
-        (None, None) => true,
+        (Referent::Object(i), Referent::Object(j)) => i == j,
+        (Referent::Main(i), Referent::Main(j)) => i == j,
+        (Referent::Nothing, Referent::Nothing) => true,
         _ => false,
     }
 }

@@ -1,6 +1,6 @@
 //! Values packed into slots.
 ghost use Rattle.std.specs.Prelude.{◌≡◌, false, ◌<◌, ◌^◌, List, IfSome};
-ghost use Rattle.sim_values.specs.Plain.{Integer, Truth, Character, Text, Object, Nothing};
+ghost use Rattle.sim_values.specs.Plain.{Integer, Truth, Character, Text, Object, MainOf, Nothing};
 ghost use Rattle.sim_code.specs.Instances.{CellPlace, ElementPlace, ImagePlace};
 ghost use Rattle.sim_code.specs.Machine.{Frames, frame_in, Of, Link, Address, ArrayValue, ProcedureValue, ThunkValue};
 ghost use Rattle.frame_arena.specs.declared.frames.Frame.{Frame};
@@ -28,6 +28,8 @@ pub enum SlotKind {
     Nothing,
     /// A reference to an object.
     Object,
+    /// A reference to the main program of a simulation block.
+    Main,
     /// A link to a frame.
     Link,
     /// The address of a cell.
@@ -150,6 +152,23 @@ impl Slot {
     {
         Slot {
             kind: SlotKind::Object,
+            name: frame.frame,
+            data: frame.stamp as i64,
+            ..EMPTY
+        }
+    }
+
+    /// A reference to the main program of a simulation block, by its frame.
+    #[inline(always)]
+    pub fn main_program(frame: FrameRef) -> Slot
+        requires { frame.stamp < 2 ^ 63 }
+        ensures value { value_of result ≡ Of (MainOf frame.stamp) }
+        ensures leads { (frames : List Frame) (m : Frames) → Leads frames m frame → SlotLeads frames m result }
+        ensures no_array { names_array result.kind ≡ false }
+        ensures held { cell_value result ≡ Some (value_of result) }
+    {
+        Slot {
+            kind: SlotKind::Main,
             name: frame.frame,
             data: frame.stamp as i64,
             ..EMPTY

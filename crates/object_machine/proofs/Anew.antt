@@ -23,6 +23,7 @@ use Rattle.object_machine.specs.declared.machine.Activation as working
 use Rattle.object_machine.specs.Standing.{AllAtWork, AllFit, Outside, Parks, Stores, Works, activation_of, parked}
 use Rattle.object_machine.specs.Transferring.{Anew}
 use Rattle.object_machine.proofs.Linkages.{enrolled_later}
+use Rattle.object_machine.proofs.Simulations.{simulating_later}
 use Rattle.object_machine.proofs.Parks.{rooms_count, standings_other}
 use Rattle.object_machine.proofs.Places.{has_leads, lead_later}
 
@@ -99,6 +100,7 @@ module _ (l : Limits) (p : Storage) (before : Option (List ℕ)) (now : Outside)
       elements = λ at k names. leads Then.standings _ (s.elements at k names);
       parks = parks_anew chains stands here long count elsewhere work fit;
       members = enrolled_later p.frames.items frames.items m Then p.members o.members (leads Then.standings) s.members;
+      simulations = simulating_later p.frames.items frames.items m Then p.simulations.items o.simulations (leads Then.standings) s.simulations;
     };
     works = works;
   }

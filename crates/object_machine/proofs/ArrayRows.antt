@@ -107,6 +107,7 @@ stands_arrays l p r stack below before now o m arrays list s holds keeps element
     parks = parks_later p.frames.items p.parks.items m m p.arrays.regions arrays.regions o.arrays list refl
         (λ r stack w. record { home = w.home; slots = w.slots; arrays_lead = all_kept p.arrays arrays o.arrays list stack keeps w.arrays_lead }) s.stores.parks;
     members = s.stores.members;
+    simulations = s.stores.simulations;
   };
   top = record { home = s.top.home; slots = s.top.slots; arrays_lead = all_kept p.arrays arrays o.arrays list stack keeps s.top.arrays_lead };
   others = λ k t e. record {
@@ -192,6 +193,7 @@ stands_paid l p r stack below before now o m words wanted s h = record {
     elements = s.stores.elements;
     parks = s.stores.parks;
     members = s.stores.members;
+    simulations = s.stores.simulations;
   };
   top = s.top;
   others = s.others;

@@ -5,10 +5,10 @@ use Rattle.std.specs.Prelude.{ℤ, pos, negsuc, Bool, true, false, ◌==◌, ◌
 use Rattle.std.specs.List.{list_any}
 use Rattle.sim_base.specs.declared.run_error.RunError.TheVariants.{AccessThroughNone, OutsideQualification}
 use Rattle.sim_values.specs.declared.value.FrameRef.{FrameRef}
-use Rattle.sim_values.specs.Plain.{Plain, Integer, Truth, Character, Text, Object, Nothing}
+use Rattle.sim_values.specs.Plain.{Plain, Integer, Truth, Character, Text, Object, MainOf, Nothing}
 use Rattle.sim_code.specs.Code.{ClassOf, CodeOf}
 use Rattle.sim_code.specs.Classes.{admitting, behind, block_in, class_in, class_named, class_numbered, class_of, class_there, if_there, is_among, levels, levels_by, levels_within, may_stand, qualifying}
-use Rattle.sim_code.specs.Events.{choosing, having, no_rule, pop_object, pop_plain, popping, referring, stopping}
+use Rattle.sim_code.specs.Events.{choosing, having, no_rule, not_nothing, pop_object, pop_plain, pop_reference, popping, referring, stopping}
 use Rattle.sim_code.specs.Instances.{CellPlace, ElementPlace, ImagePlace, Instance, Place, is_live, is_live_in, live, unless_given}
 use Rattle.sim_code.specs.Machine.{Address, ArrayValue, Cells, Frames, Link, Machine, Of, ProcedureValue, ThunkValue, Value, number, place_in, plain, text_in, variable_in}
 use Rattle.sim_code.specs.Outcome.{Run, RunFault, World}
@@ -175,30 +175,34 @@ numbered_at code (suc n) x h e = let e2 : n ≡ suc n - 1 = omega arith in ap (s
 pub object_refers : (s : Slot) → s.kind ≡ k.Object → plain (value_of s) ≡ Some (Object (count_of s.«data»))
 object_refers s e = ap (λ j. plain (value_by j s)) e
 
+pub main_refers : (s : Slot) → s.kind ≡ k.Main → plain (value_of s) ≡ Some (MainOf (count_of s.«data»))
+main_refers s e = ap (λ j. plain (value_by j s)) e
+
 pub nothing_refers : (s : Slot) → s.kind ≡ k.Nothing → plain (value_of s) ≡ Some Nothing
 nothing_refers s e = ap (λ j. plain (value_by j s)) e
 
 pub empty_refers : (s : Slot) → s.kind ≡ k.Empty → plain (value_of s) ≡ Some Nothing
 empty_refers s e = ap (λ j. plain (value_by j s)) e
 
-other_refers_by : (j : SlotKind) (s : Slot) → (j ≡ k.Object → ⊥) → (j ≡ k.Nothing → ⊥) → (j ≡ k.Empty → ⊥) → IsNoReference (plain (value_by j s))
-other_refers_by k.Empty s h h2 h3 = absurd (h3 refl)
-other_refers_by k.Integer s h h2 h3 = tt
-other_refers_by k.Truth s h h2 h3 = tt
-other_refers_by k.Character s h h2 h3 = tt
-other_refers_by k.Text s h h2 h3 = tt
-other_refers_by k.Nothing s h h2 h3 = absurd (h2 refl)
-other_refers_by k.Object s h h2 h3 = absurd (h refl)
-other_refers_by k.Link s h h2 h3 = tt
-other_refers_by k.Cell s h h2 h3 = tt
-other_refers_by k.Element s h h2 h3 = tt
-other_refers_by k.Image s h h2 h3 = tt
-other_refers_by k.Array s h h2 h3 = tt
-other_refers_by k.Procedure s h h2 h3 = tt
-other_refers_by k.Thunk s h h2 h3 = tt
+other_refers_by : (j : SlotKind) (s : Slot) → (j ≡ k.Object → ⊥) → (j ≡ k.Main → ⊥) → (j ≡ k.Nothing → ⊥) → (j ≡ k.Empty → ⊥) → IsNoReference (plain (value_by j s))
+other_refers_by k.Empty s h h2 h3 h4 = absurd (h4 refl)
+other_refers_by k.Integer s h h2 h3 h4 = tt
+other_refers_by k.Truth s h h2 h3 h4 = tt
+other_refers_by k.Character s h h2 h3 h4 = tt
+other_refers_by k.Text s h h2 h3 h4 = tt
+other_refers_by k.Nothing s h h2 h3 h4 = absurd (h3 refl)
+other_refers_by k.Object s h h2 h3 h4 = absurd (h refl)
+other_refers_by k.Main s h h2 h3 h4 = absurd (h2 refl)
+other_refers_by k.Link s h h2 h3 h4 = tt
+other_refers_by k.Cell s h h2 h3 h4 = tt
+other_refers_by k.Element s h h2 h3 h4 = tt
+other_refers_by k.Image s h h2 h3 h4 = tt
+other_refers_by k.Array s h h2 h3 h4 = tt
+other_refers_by k.Procedure s h h2 h3 h4 = tt
+other_refers_by k.Thunk s h h2 h3 h4 = tt
 
-pub other_refers : (s : Slot) → (s.kind ≡ k.Object → ⊥) → (s.kind ≡ k.Nothing → ⊥) → (s.kind ≡ k.Empty → ⊥) → IsNoReference (plain (value_of s))
-other_refers s h h2 h3 = other_refers_by s.kind s h h2 h3
+pub other_refers : (s : Slot) → (s.kind ≡ k.Object → ⊥) → (s.kind ≡ k.Main → ⊥) → (s.kind ≡ k.Nothing → ⊥) → (s.kind ≡ k.Empty → ⊥) → IsNoReference (plain (value_of s))
+other_refers s h h2 h3 h4 = other_refers_by s.kind s h h2 h3 h4
 
 pub other_tested : (same : Bool) (code : CodeOf) (m : Frames) (c : ℕ) (p : Option Plain) → IsNoReference p → tested (tests same code m c) p ≡ None
 other_tested same code m c None h = refl
@@ -211,6 +215,7 @@ other_tested false code m c (Some (Character z)) h = refl
 other_tested true code m c (Some (Text t)) h = refl
 other_tested false code m c (Some (Text t)) h = refl
 other_tested same code m c (Some (Object j)) h = absurd h
+other_tested same code m c (Some (MainOf j)) h = absurd h
 other_tested same code m c (Some Nothing) h = absurd h
 
 pub none_tested : (same : Bool) (code : CodeOf) (m : Frames) (c : ℕ) (p : Option Plain) → p ≡ Some Nothing → tested (tests same code m c) p ≡ Some false
@@ -224,6 +229,7 @@ other_stands code m c (Some (Truth b)) h = refl
 other_stands code m c (Some (Character z)) h = refl
 other_stands code m c (Some (Text t)) h = refl
 other_stands code m c (Some (Object j)) h = absurd h
+other_stands code m c (Some (MainOf j)) h = absurd h
 other_stands code m c (Some Nothing) h = absurd h
 
 other_plain : (line : ℕ) (o : World) (go : ℕ → Run Machine) (p : Plain) → IsNoReference (Some p) → referring line p o go ≡ no_rule o
@@ -233,18 +239,21 @@ other_plain line o go (Truth b) h = refl
 other_plain line o go (Character z) h = refl
 other_plain line o go (Text t) h = refl
 other_plain line o go (Object j) h = absurd h
+other_plain line o go (MainOf j) h = absurd h
 other_plain line o go Nothing h = absurd h
 
 -- ---- a reference that is popped
 
 abbrev pub with_reference : Reference → (line : ℕ) → World → (ℕ → Run Machine) → Run Machine
 with_reference (reference.Object f) line o go = go f.stamp
+with_reference (reference.Main f) line o go = no_rule o
 with_reference reference.IsNone line o go = stopping (RunFault AccessThroughNone line) o
 with_reference reference.Other line o go = no_rule o
 
 referred : (line : ℕ) (o : World) (go : ℕ → Run Machine) (r : Reference) (p : Option Plain) → Refers r p → having p o (λ v. referring line v o go) ≡ with_reference r line o go
 unfolding having referring
 referred line o go (reference.Object f) p h = ap (λ q. having q o (λ v. referring line v o go)) h
+referred line o go (reference.Main f) p h = ap (λ q. having q o (λ v. referring line v o go)) h
 referred line o go reference.IsNone p h = ap (λ q. having q o (λ v. referring line v o go)) h
 referred line o go reference.Other None h = refl
 referred line o go reference.Other (Some p) h = other_plain line o go p h
@@ -258,6 +267,41 @@ popping_object line values o go = refl
 
 pub object_popped : (line : ℕ) (o : World) (go : ℕ → List Value → Run Machine) (r : Reference) (v : Value) (rest : List Value) → Refers r (plain v) → object_of line o go v rest ≡ with_reference r line o (λ j. go j rest)
 object_popped line o go r v rest h = referred line o (λ j. go j rest) r (plain v) h
+
+-- the reference itself that is popped, to an object or a main program
+abbrev pub with_named : Reference → (line : ℕ) → World → (Plain → Run Machine) → Run Machine
+with_named (reference.Object f) line o go = go (Object f.stamp)
+with_named (reference.Main f) line o go = go (MainOf f.stamp)
+with_named reference.IsNone line o go = stopping (RunFault AccessThroughNone line) o
+with_named reference.Other line o go = no_rule o
+
+other_value : (line : ℕ) (o : World) (go : Run Machine) (p : Plain) → IsNoReference (Some p) → not_nothing line p o go ≡ no_rule o
+unfolding not_nothing
+other_value line o go (Integer z) h = refl
+other_value line o go (Truth b) h = refl
+other_value line o go (Character z) h = refl
+other_value line o go (Text t) h = refl
+other_value line o go (Object j) h = absurd h
+other_value line o go (MainOf j) h = absurd h
+other_value line o go Nothing h = absurd h
+
+named : (line : ℕ) (o : World) (go : Plain → Run Machine) (r : Reference) (p : Option Plain) → Refers r p → having p o (λ v. not_nothing line v o (go v)) ≡ with_named r line o go
+unfolding having not_nothing
+named line o go (reference.Object f) p h = ap (λ q. having q o (λ v. not_nothing line v o (go v))) h
+named line o go (reference.Main f) p h = ap (λ q. having q o (λ v. not_nothing line v o (go v))) h
+named line o go reference.IsNone p h = ap (λ q. having q o (λ v. not_nothing line v o (go v))) h
+named line o go reference.Other None h = refl
+named line o go reference.Other (Some p) h = other_value line o (go p) p h
+
+abbrev pub reference_of : (line : ℕ) → World → (Plain → List Value → Run Machine) → Value → List Value → Run Machine
+reference_of line o go v rest = having (plain v) o (λ p. not_nothing line p o (go p rest))
+
+pub popping_reference : (line : ℕ) (values : List Value) (o : World) (go : Plain → List Value → Run Machine) → pop_reference plain line values o go ≡ popping values o (reference_of line o go)
+unfolding pop_reference pop_plain
+popping_reference line values o go = refl
+
+pub reference_popped : (line : ℕ) (o : World) (go : Plain → List Value → Run Machine) (r : Reference) (v : Value) (rest : List Value) → Refers r (plain v) → reference_of line o go v rest ≡ with_named r line o (λ p. go p rest)
+reference_popped line o go r v rest h = named line o (λ p. go p rest) r (plain v) h
 
 plain_is : (v : Value) (p : Plain) → plain v ≡ Some p → v ≡ Of p
 plain_is (Of q) p e = let same : q ≡ p = cc in ap Of same
@@ -273,6 +317,12 @@ object_leads frames m r f e h = subst (λ q. ReferenceLeads q frames m) e h
 -- a reference that stays
 pub object_kept : (K : List Value → Run Machine) (r : Reference) (f : FrameRef) (v : Value) (rest : List Value) → Refers r (plain v) → r ≡ reference.Object f → K (Of (Object f.stamp) ∷ rest) ≡ K (v ∷ rest)
 object_kept K r f v rest h e = ap (λ w. K (w ∷ rest)) (sym (plain_is v (Object f.stamp) (subst (λ q. Refers q (plain v)) e h)))
+
+pub main_leads : (frames : List Frame) (m : Frames) (r : Reference) (f : FrameRef) → r ≡ reference.Main f → ReferenceLeads r frames m → Leads frames m f
+main_leads frames m r f e h = subst (λ q. ReferenceLeads q frames m) e h
+
+pub main_kept : (K : List Value → Run Machine) (r : Reference) (f : FrameRef) (v : Value) (rest : List Value) → Refers r (plain v) → r ≡ reference.Main f → K (Of (MainOf f.stamp) ∷ rest) ≡ K (v ∷ rest)
+main_kept K r f v rest h e = ap (λ w. K (w ∷ rest)) (sym (plain_is v (MainOf f.stamp) (subst (λ q. Refers q (plain v)) e h)))
 
 -- a test of the value that is popped
 abbrev pub test_of : World → (Plain → Option Bool) → (Bool → List Value → Run Machine) → Value → List Value → Run Machine
@@ -353,6 +403,7 @@ module _ (code : CodeOf) (line : ℕ) (v : Value) (o : World) (m : Frames) (go :
   class_by k.Text s e = refl
   class_by k.Nothing s e = refl
   class_by k.Object s e = refl
+  class_by k.Main s e = refl
   class_by k.Link s e = refl
   class_by k.Cell s e = e
   class_by k.Element s e = e
@@ -373,6 +424,7 @@ variable_by k.Character s h = refl
 variable_by k.Text s h = refl
 variable_by k.Nothing s h = refl
 variable_by k.Object s h = refl
+variable_by k.Main s h = refl
 variable_by k.Link s h = refl
 variable_by k.Cell s h = refl
 variable_by k.Element s h = refl
@@ -401,6 +453,7 @@ class_of_other_by k.Character s h h2 = refl
 class_of_other_by k.Text s h h2 = refl
 class_of_other_by k.Nothing s h h2 = refl
 class_of_other_by k.Object s h h2 = refl
+class_of_other_by k.Main s h h2 = refl
 class_of_other_by k.Link s h h2 = refl
 class_of_other_by k.Cell s h h2 = absurd (h refl)
 class_of_other_by k.Element s h h2 = absurd (h2 refl)
@@ -420,6 +473,7 @@ unclassed_by k.Character s = refl
 unclassed_by k.Text s = refl
 unclassed_by k.Nothing s = refl
 unclassed_by k.Object s = refl
+unclassed_by k.Main s = refl
 unclassed_by k.Link s = refl
 unclassed_by k.Cell s = refl
 unclassed_by k.Element s = refl

@@ -26,6 +26,7 @@ use Rattle.object_machine.specs.Standing.{AllAtWork, AllFit, AtWork, Leaves, Out
 use Rattle.object_machine.proofs.Filling.{none_taken}
 use Rattle.object_machine.proofs.Going.{Stays, act, moved}
 use Rattle.object_machine.proofs.Linkages.{enrolled_in}
+use Rattle.object_machine.proofs.Simulations.{simulating_in}
 use Rattle.object_machine.proofs.Parks.{get_front, parks_kept}
 use Rattle.object_machine.proofs.Places.{lead_later, led_array_at, led_at}
 
@@ -131,11 +132,11 @@ module _ (l : Limits) (p p2 : Storage) (b : BlockOf) (j : ℕ) (before : Option 
     }
 
     given_stores : (words : ℕ) → words ≡ words_of_block b → p2.words ≡ p.words - words - words_with j o.arrays →
-        p2.texts ≡ p.texts → p2.image ≡ p.image → p2.members ≡ p.members → p2.ticks ≡ p.ticks → p2.entered ≡ p.entered → p2.cells ≡ p.cells →
+        p2.texts ≡ p.texts → p2.image ≡ p.image → p2.members ≡ p.members → p2.simulations ≡ p.simulations → p2.ticks ≡ p.ticks → p2.entered ≡ p.entered → p2.cells ≡ p.cells →
         Holds p2.frames.items p.cells.items (given m j) → HoldsArrays p2.arrays (given_with j o.arrays) → ElementsLead p.frames.items m p2.arrays.regions → KeptBefore p.frames.items p2.frames.items → length p.frames.items ≡ length p2.frames.items → p2.parks ≡ p.parks →
         Stores l p before now o m → Stores l p2 before now (giving_back o j (words_of_block b)) (given m j)
     unfolding giving_back
-    given_stores words w used texts image members ticks count same holds owned elements before_kept long parks s = record {
+    given_stores words w used texts image members simulations ticks count same holds owned elements before_kept long parks s = record {
       world = record {
         ticks = s.world.ticks ∙ sym ticks;
         words = ap (λ n. n - (words_of_block b + words_with j o.arrays)) s.world.words ∙ ap (λ n. p.words - (n + words_with j o.arrays)) (sym w) ∙ sub-add-eq p.words words (words_with j o.arrays) ∙ sym used;
@@ -153,14 +154,15 @@ module _ (l : Limits) (p p2 : Storage) (b : BlockOf) (j : ℕ) (before : Option 
           (ap (λ v. length v.items) parks ∙ s.parks.each ∙ long) (λ at. ap (λ v. parked v.items at) parks) before_kept
           (λ place n c chain d e. subst (λ w. slice_get w n ≡ Some (keeping c chain)) (sym (given_standings_in m j (slice_get m.instances j))) e) given_works s.parks;
       members = enrolled_in p.frames.items p2.frames.items m (given m j) p.members o.members p2.members members leads s.members;
+      simulations = simulating_in p.frames.items p2.frames.items m (given m j) p.simulations.items o.simulations p2.simulations.items (ap (λ v. v.items) simulations) leads s.simulations;
     }
 
     pub ends_given : (words : ℕ) → is_given_at_end m j ≡ true → words ≡ words_of_block b → p2.words ≡ p.words - words - words_with j o.arrays →
-        p2.texts ≡ p.texts → p2.image ≡ p.image → p2.members ≡ p.members → p2.ticks ≡ p.ticks → p2.entered ≡ p.entered → p2.cells ≡ p.cells →
+        p2.texts ≡ p.texts → p2.image ≡ p.image → p2.members ≡ p.members → p2.simulations ≡ p.simulations → p2.ticks ≡ p.ticks → p2.entered ≡ p.entered → p2.cells ≡ p.cells →
         Holds p2.frames.items p.cells.items (given m j) → HoldsArrays p2.arrays (given_with j o.arrays) → ElementsLead p.frames.items m p2.arrays.regions → KeptBefore p.frames.items p2.frames.items → length p.frames.items ≡ length p2.frames.items → p2.parks ≡ p.parks →
         Stores l p before now o m → Ends l p p2 b j before now o m
-    ends_given words e w used texts image members ticks count same holds owned elements before_kept long parks s = record {
-      stores = subst (λ c. Stores l p2 before now (if c then giving_back o j (words_of_block b) else o) (if c then given m j else m)) (sym e) (given_stores words w used texts image members ticks count same holds owned elements before_kept long parks s);
+    ends_given words e w used texts image members simulations ticks count same holds owned elements before_kept long parks s = record {
+      stores = subst (λ c. Stores l p2 before now (if c then giving_back o j (words_of_block b) else o) (if c then given m j else m)) (sym e) (given_stores words w used texts image members simulations ticks count same holds owned elements before_kept long parks s);
       others = λ r stack h. subst (λ c. AtWork p2 (if c then giving_back o j (words_of_block b) else o) (if c then given m j else m) r stack) (sym e) (given_works r stack h);
     }
 

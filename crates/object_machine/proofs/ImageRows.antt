@@ -58,6 +58,7 @@ image_kind k.Character s n e = (refl, refl)
 image_kind k.Text s n e = (refl, refl)
 image_kind k.Nothing s n e = (refl, refl)
 image_kind k.Object s n e = absurd (other (value_by k.Object s) n e refl)
+image_kind k.Main s n e = absurd (other (value_by k.Main s) n e refl)
 image_kind k.Link s n e = absurd (other (value_by k.Link s) n e refl)
 image_kind k.Cell s n e = absurd (other (value_by k.Cell s) n e refl)
 image_kind k.Element s n e = absurd (other (value_by k.Element s) n e refl)
@@ -92,6 +93,7 @@ module _ (o : World) (n : ℕ) (T : World → Run Machine) where
   no_text k.Text s image h = absurd (h refl)
   no_text k.Nothing s image h = refl
   no_text k.Object s image h = refl
+  no_text k.Main s image h = refl
   no_text k.Link s image h = refl
   no_text k.Cell s image h = refl
   no_text k.Element s image h = refl
@@ -137,6 +139,7 @@ stands_image l p r stack below before now o m i n t s e = record {
     elements = s.stores.elements;
     parks = s.stores.parks;
     members = s.stores.members;
+    simulations = s.stores.simulations;
   };
   top = s.top;
   others = s.others;

@@ -1,10 +1,10 @@
 -- The marks of the levels of a class.
-use Rattle.std.proofs.Common.{◌≡◌, ℕ, suc, ◌+◌, ◌-◌, ◌<◌, ◌≤◌, List, [], ◌∷◌, ◌++◌, sym, refl, ap, ◌∙◌, arith}
+use Rattle.std.proofs.Common.{◌≡◌, ℕ, suc, ◌+◌, ◌-◌, ◌<◌, ◌≤◌, List, [], ◌∷◌, ◌++◌, refl, ap, ◌∙◌, arith}
 use Rattle.std.specs.Prelude.{Bool, true, false, ◌==◌, ◌||◌, nat_lt, if◌then◌else◌, Option, Some, None, slice_get}
 use Rattle.std.specs.List.{list_any}
-use Rattle.sim_code.specs.Classes.{behind, class_numbered, levels, levels_by, levels_within}
+use Rattle.sim_code.specs.Classes.{behind, block_in_record, class_numbered, head_mark, is_marked, is_marked_in, levels, levels_by, levels_within, linkage_mark}
 use Rattle.sim_code.specs.Code.{ClassOf, CodeOf}
-use Rattle.sim_code.specs.Levels.{block_in_record, head_mark, is_marked, is_marked_in, linkage_in, linkage_mark, linkage_with}
+use Rattle.sim_code.specs.Levels.{linkage_in, linkage_with}
 use Rattle.object_machine.specs.Enrolling.{any_level, linkage_from}
 use Rattle.object_machine.proofs.ClassRows.{or_found}
 

@@ -1,5 +1,5 @@
 -- The objects that are linkages stay so, where frames and memory change.
-use Rattle.std.proofs.Common.{◌≡◌, ℕ, zero, suc, ◌<◌, List, [], ◌∷◌, length, sym, subst, refl, ap, ◌∙◌}
+use Rattle.std.proofs.Common.{◌≡◌, ℕ, zero, suc, ◌<◌, List, [], ◌∷◌, length, sym, subst, refl, ap}
 use Rattle.std.specs.Prelude.{Option, Some, None, slice_get}
 use Rattle.simset.specs.Instances.{Memberships}
 use Rattle.sim_values.specs.declared.value.FrameRef.{FrameRef}
@@ -7,7 +7,7 @@ use Rattle.sim_code.specs.Machine.{Frames}
 use Rattle.frame_arena.specs.declared.frames.Frame.{Frame}
 use Rattle.frame_arena.specs.Frames.{Leads}
 use Rattle.object_machine.specs.declared.machine.Members.{Members}
-use Rattle.object_machine.specs.Enrolling.{AllBelow, AllReach, Enrolled, stamps}
+use Rattle.object_machine.specs.Enrolling.{AllBelow, Enrolled, stamps}
 
 module _ (fs fs2 : List Frame) (m m2 : Frames) (k : Members) (o : Memberships) where
   -- where all references that led lead
@@ -20,7 +20,7 @@ module _ (fs fs2 : List Frame) (m m2 : Frames) (k : Members) (o : Memberships) w
 
 -- ---- their numbers
 
-stamp_there : (objects : List FrameRef) (x n : ℕ) → slice_get (stamps objects) x ≡ Some n → (f : FrameRef) × (slice_get objects x ≡ Some f) × (f.stamp ≡ n)
+pub stamp_there : (objects : List FrameRef) (x n : ℕ) → slice_get (stamps objects) x ≡ Some n → (f : FrameRef) × (slice_get objects x ≡ Some f) × (f.stamp ≡ n)
 stamp_there [] x n there = absurd (none_there there)
   where
     some_type : Option ℕ → Type 0

@@ -25,7 +25,7 @@ use Rattle.object_machine.specs.declared.machine.Flow.{Flow}
 use Rattle.object_machine.specs.declared.machine.Flow.TheVariants as flow
 use Rattle.object_machine.specs.Classing.{IsNoReference}
 use Rattle.object_machine.specs.Standing.{AllAtWork, AllFit, AtWork, Leaves, Outside, Stands, Stores, activation_of, below_of, parked}
-use Rattle.object_machine.specs.Transferring.{Anew, CutsAt, EndsAt, JoinsChain, LeavesChain, frame_of, operating}
+use Rattle.object_machine.specs.Transferring.{Anew, controlling, CutsAt, EndsAt, JoinsChain, LeavesChain, frame_of, operating}
 use Rattle.object_machine.proofs.Anew.{anew_twice, index_other, set_apart, set_over, set_twice}
 use Rattle.object_machine.proofs.Cutting.{Each, each_first, each_join, each_last, each_later, each_below, each_of, each_operating, of_each, outermost_other}
 use Rattle.object_machine.proofs.Going.{act}
@@ -145,7 +145,7 @@ module _ (l : Limits) (line : ℕ) (p : Storage) (top : working.Activation) (bel
       (joins line o Chain m j (map activation_of kept) (s.stores.parks.chains place j component.Detached was ∙ ap (λ w. Some (DetachedObject (map activation_of w))) (sym is)))
       a.stores (still_work p2 _ kept a (parked_work place kept is)) (still_work p2 _ (operating top below) a all_work)
 
-  -- ---- a resumed object gives control to the main component
+  -- ---- the main component of a system goes on
 
   abbrev pub Standings : List Activation → List (Standing Activation) → Components Activation
   Standings chain standings = record { operating = chain; standings = standings }
@@ -155,11 +155,11 @@ module _ (l : Limits) (line : ℕ) (p : Storage) (top : working.Activation) (bel
   kept_apart chain None u x w ne = refl
   kept_apart chain (Some z) u x w ne = set_apart m.standings x z w (DetachedObject u) (λ e. ne (ap (λ k. Some k) (sym e)))
 
-  module _ (j : ℕ) (resumed : slice_get m.standings j ≡ Some ResumedObject) (k : Cut Activation) (operates : cut_at owner j Chain ≡ Some k) (place h : ℕ) (is : h ≡ system_head m j) (was : IsKeeping p.frames.items place h component.Waiting) where
+  module _ (place h : ℕ) (was : IsKeeping p.frames.items place h component.Waiting) where
     pub given_to_main : (p1 p2 : Storage) (above main left : List working.Activation) (top1 top2 : working.Activation) (below1 below2 : List working.Activation) (f : Flow) → CutsAt h (operating top below) above top1 below1 → main ≡ parked p.parks.items place →
         Anew l p p1 before now o m (set m.standings h (NoObject None)) →
         (AllAtWork p1 o (record m { standings = set m.standings h (NoObject None) }) above → Anew l p1 p2 before now o (record m { standings = set m.standings h (NoObject None) }) (kept_as owner (outermost owner (map activation_of above)) (map activation_of above) (Standings Chain (set m.standings h (NoObject None)))).standings) →
-        JoinsChain f main (operating top1 below1) left (operating top2 below2) → Leaves f l line p2 top2.registers top2.stack.items below2 before now (transferring owner Detaching line o Chain m (Object j))
+        JoinsChain f main (operating top1 below1) left (operating top2 below2) → Leaves f l line p2 top2.registers top2.stack.items below2 before now (controlling line o Chain m h None)
     given_to_main p1 p2 above main left top1 top2 below1 below2 f cut mains a b joined =
         let u : List Activation = map activation_of above in
         let z : Option ℕ = outermost owner u in
@@ -168,10 +168,10 @@ module _ (l : Limits) (line : ℕ) (p : Storage) (top : working.Activation) (bel
         let split : Each Works (above ++ operating top1 below1) = subst (λ w. Each Works w) cut.whole all_work in
         let up : AllAtWork p1 o (record m { standings = standings }) above = of_each (λ t. AtWork p1 o (record m { standings = standings }) t.registers t.stack.items) above (still_work p1 standings above a (each_first Works above (operating top1 below1) split)) in
         let c : Anew l p p2 before now o m standings2 = anew_twice l p p1 p2 before now o m standings standings2 a (b up) in
-        let same : standings2 ≡ set (kept_as owner z u (Board line o Chain m j)).standings h (NoObject None) = kept_apart Chain z u h (NoObject None) (λ e. outermost_other h above cut.first e) in
+        let same : standings2 ≡ set (kept_as owner z u (Board line o Chain m h)).standings h (NoObject None) = kept_apart Chain z u h (NoObject None) (λ e. outermost_other h above cut.first e) in
         let stands : slice_get m.standings h ≡ Some (NoObject (Some (map activation_of main))) = s.stores.parks.chains place h component.Waiting was ∙ ap (λ w. Some (NoObject (Some (map activation_of w)))) (sym mains) in
         joins_on l line before now o p2 (record m { standings = standings2 }) main left top1 top2 below1 below2 _ f joined (parked_fit place main mains)
-        (main_goes line o Chain m j k resumed operates h is (map activation_of main) _ stands (cut_is h (operating top below) above top1 below1 cut)
+        (main_goes line o Chain m h (map activation_of main) _ stands (cut_is h (operating top below) above top1 below1 cut)
         ∙ ap (λ w. going_below o (map activation_of main ++ map activation_of (operating top1 below1)) (record m { standings = w })) (sym same))
         c.stores (still_work p2 standings2 main c (parked_work place main mains)) (still_work p2 standings2 (operating top1 below1) c (each_last Works above (operating top1 below1) split))
 
@@ -291,6 +291,14 @@ module _ (l : Limits) (line : ℕ) (p : Storage) (top : working.Activation) (bel
   unfolding Leaves
   stays_on t depth t2 e j same =
       subst (λ q. Leaves flow.On l line p t2.registers t2.stack.items below before now q) (sym (ap (λ a. transferring owner t line o (a ∷ below_of below) m (Object j)) (waits_as top t2 depth e) ∙ same))
+      (refl, stands_waiting depth t2 e)
+
+  -- the same where the main component operates already
+  pub main_stays_on : (depth : ℕ) (t2 : working.Activation) → t2 ≡ waited top depth → (h : ℕ) → controlling line o (activation_of t2 ∷ below_of below) m h None ≡ going_below o (activation_of t2 ∷ below_of below) m →
+      Leaves flow.On l line p t2.registers t2.stack.items below before now (controlling line o (waiting (activation_of top) (values_of depth top.stack.items) ∷ below_of below) m h None)
+  unfolding Leaves
+  main_stays_on depth t2 e h same =
+      subst (λ q. Leaves flow.On l line p t2.registers t2.stack.items below before now q) (sym (ap (λ a. controlling line o (a ∷ below_of below) m h None) (waits_as top t2 depth e) ∙ same))
       (refl, stands_waiting depth t2 e)
 
   -- the reference on top

@@ -9,12 +9,14 @@ use Rattle.sim_values.specs.Plain.{Plain, Text}
 use Rattle.sim_values.specs.Standard.{Function, applied, of_nothing, of_integer, of_integers, of_character, of_text, of_text_and_integer, of_text_and_integers, of_text_and_character, elsewhere, operands_of, row_of, standard_effect}
 use Rattle.sim_values.specs.Texts.{Frame as TextFrame}
 use Rattle.basic_io.specs.Input.{HeldInput}
+use Rattle.sim_code.specs.Code.{CodeOf}
 use Rattle.sim_code.specs.Events.{computing, having, no_rule, performing, pop_operands, putting_back, stopping, taking, when}
 use Rattle.sim_code.specs.Machine.{Activation, Frames, Machine, Of, Value, on, operand, plain}
 use Rattle.sim_code.specs.Outcome.{Going, Run, StorageExhausted, World}
 use Rattle.sim_code.specs.Rows.{has_room, put_back, room_for, standard_of, standard_row as row_of_name, with_value}
 use Rattle.sim_code.specs.Running.{name_runs}
 use Rattle.sim_code.specs.Sets.{is_set_name}
+use Rattle.sim_code.specs.Simulations.{is_process_name, is_simulation_name}
 use Rattle.frame_arena.specs.declared.slot.Slot.{Slot}
 use Rattle.frame_arena.specs.Arrays.{AllLeadArrays}
 use Rattle.frame_arena.specs.Frames.{AllLead}
@@ -317,6 +319,7 @@ module _ (l : Limits) (line : ℕ) (p p2 : Storage) (below : List working.Activa
       elements = s.stores.elements;
       parks = s.stores.parks;
       members = s.stores.members;
+      simulations = s.stores.simulations;
     };
     top = record { home = s.top.home; slots = slots; arrays_lead = arrays };
     others = s.others;
@@ -424,13 +427,22 @@ module _ (l : Limits) (line : ℕ) (p p2 : Storage) (below : List working.Activa
 
 -- ---- the row of the table
 
--- the names that are done here are no procedures of sets
-pub done_apart : (name : Standard) → is_done name ≡ true → is_set_name name ≡ false
-done_apart name e = by_test (is_set_name name) (name_runs name) e
+-- The names that are done here are none of sets, of processes or of simulation blocks.
+pub record IsApart (name : Standard) : Type 0 where
+  pub sets : is_set_name name ≡ false
+  pub processes : is_process_name name ≡ false
+  pub blocks : is_simulation_name name ≡ false
+
+pub done_apart : (name : Standard) → is_done name ≡ true → IsApart name
+done_apart name e =
+    let a = by_test (is_set_name name) _ e in
+    let b = by_test (is_process_name name) _ a.1 in
+    let c = by_test (is_simulation_name name) _ b.1 in
+    record { sets = a.0; processes = b.0; blocks = c.0 }
   where
-    by_test : (b x : Bool) → (if b then false else x) ≡ true → b ≡ false
+    by_test : (b x : Bool) → (if b then false else x) ≡ true → (b ≡ false) × (x ≡ true)
     by_test true x e = absurd (off e)
-    by_test false x e = refl
+    by_test false x e = (refl, e)
 
 abbrev pub IsQuietly : Manner → Type 0
 IsQuietly manner.Ports = ⊥
@@ -439,18 +451,20 @@ IsQuietly _ = Unit {0}
 pub not_ports : (x : Manner) → IsQuietly x → x ≡ manner.Ports → ⊥
 not_ports x h e = subst IsQuietly e h
 
-pub apart_done : (name : Standard) → name_runs name ≡ true → is_set_name name ≡ false → is_done name ≡ true
-apart_done name e h = ap (λ b. if b then false else name_runs name) h ∙ e
+pub apart_done : (name : Standard) → name_runs name ≡ true → IsApart name → is_done name ≡ true
+apart_done name e h =
+    ap (λ b. if b then false else if is_process_name name then false else if is_simulation_name name then false else name_runs name) h.sets
+    ∙ ap (λ b. if b then false else if is_simulation_name name then false else name_runs name) h.processes ∙ ap (λ b. if b then false else name_runs name) h.blocks ∙ e
 
-pub apart_row : (l : Limits) (line : ℕ) (name : Standard) (o : World) (m : Frames) (a : Activation) (below : List Activation) → is_set_name name ≡ false → row_of_name l o m a below line name ≡ named l line name o m a below
-apart_row l line name o m a below e = other_chosen (is_set_name name) _ _ e
+pub apart_row : (code : CodeOf) (l : Limits) (line : ℕ) (name : Standard) (o : World) (m : Frames) (a : Activation) (below : List Activation) → IsApart name → row_of_name code l o m a below line name ≡ named l line name o m a below
+apart_row code l line name o m a below e = other_chosen (is_set_name name) _ _ e.sets ∙ other_chosen (is_process_name name) _ _ e.processes ∙ other_chosen (is_simulation_name name) _ _ e.blocks
 
 -- the row of the name of a number
-pub for_name : (f : Flow) (l : Limits) (line : ℕ) (z : ℤ) (name : Standard) → Some name ≡ standard_of z → is_set_name name ≡ false → (p p2 : Storage) (r r2 : Registers) (stack stack2 : List Slot) (below : List working.Activation) (now : Outside) →
-    Obeys f l line (λ o m a b. named l line name o m a b) p p2 r r2 stack stack2 below below now now → Obeys f l line (λ o m a b. having (standard_of z) o (λ name. row_of_name l o m a b line name)) p p2 r r2 stack stack2 below below now now
+pub for_name : (f : Flow) (code : CodeOf) (l : Limits) (line : ℕ) (z : ℤ) (name : Standard) → Some name ≡ standard_of z → IsApart name → (p p2 : Storage) (r r2 : Registers) (stack stack2 : List Slot) (below : List working.Activation) (now : Outside) →
+    Obeys f l line (λ o m a b. named l line name o m a b) p p2 r r2 stack stack2 below below now now → Obeys f l line (λ o m a b. having (standard_of z) o (λ name. row_of_name code l o m a b line name)) p p2 r r2 stack stack2 below below now now
 unfolding Obeys
-for_name f l line z name e apart p p2 r r2 stack stack2 below now h before o m s =
-    along l line p2 below before now f r2 stack2 _ _ (having_some (standard_of z) name o _ e ∙ apart_row l line name o m (activation_at r stack) (below_of below) apart) (h before o m s)
+for_name f code l line z name e apart p p2 r r2 stack stack2 below now h before o m s =
+    along l line p2 below before now f r2 stack2 _ _ (having_some (standard_of z) name o _ e ∙ apart_row code l line name o m (activation_at r stack) (below_of below) apart) (h before o m s)
 
 -- ---- how the ends stand
 

@@ -21,6 +21,7 @@ use Rattle.object_machine.specs.Standing.{Outside, Stores, Works, activation_at,
 use Rattle.object_machine.specs.Entering.{Opens, opened}
 use Rattle.object_machine.proofs.Going.{act}
 use Rattle.object_machine.proofs.Linkages.{enrolled_in}
+use Rattle.object_machine.proofs.Simulations.{simulating_in}
 use Rattle.object_machine.proofs.Parks.{get_front, parks_kept}
 use Rattle.object_machine.proofs.Places.{lead_later}
 use Rattle.object_machine.proofs.Scalars.{off}
@@ -53,13 +54,13 @@ first_activation number count region entry room stage stack e s =
     ∙ ap (λ n. act count entry [] n stage) (ap length s ∙ long_replicate room)
 
 module _ (l : Limits) (p p2 : Storage) (k : ℕ) (b : BlockOf) (g : Beginning) (parent : Option FrameRef) (t : working.Activation) (before : Option (List ℕ)) (now : Outside) (o : World) (m : Frames) (s : Stores l p before now o m) where
-  pub opens : p2.arrays ≡ p.arrays → p2.texts ≡ p.texts → p2.image ≡ p.image → p2.members ≡ p.members → p2.ticks ≡ p.ticks → p2.words ≡ p.words → p2.entered ≡ p.entered + 1 →
+  pub opens : p2.arrays ≡ p.arrays → p2.texts ≡ p.texts → p2.image ≡ p.image → p2.members ≡ p.members → p2.simulations ≡ p.simulations → p2.ticks ≡ p.ticks → p2.words ≡ p.words → p2.entered ≡ p.entered + 1 →
       length p2.parks.items ≡ length p2.frames.items → ((at : ℕ) → parked p2.parks.items at ≡ parked p.parks.items at) → KeptBefore p.frames.items p2.frames.items →
       Holds p2.frames.items p2.cells.items (opened m k b g parent) → ((r : FrameRef) → Leads p.frames.items m r → Leads p2.frames.items (opened m k b g parent) r) →
       AllLeadArrays p.arrays.regions o.arrays p2.cells.items →
       Leads p2.frames.items (opened m k b g parent) t.registers.home → AllLead p2.frames.items (opened m k b g parent) t.stack.items → AllLeadArrays p.arrays.regions o.arrays t.stack.items →
       activation_of t ≡ record { thunk = false; home = length m.instances; pc = g.start; stack = []; room = b.room; stage = g.stage } → Opens l p p2 k b g parent t before now o m
-  opens ea et ei eb ek ew en each same before_kept h leads cells home slots arrays top =
+  opens ea et ei eb es ek ew en each same before_kept h leads cells home slots arrays top =
       let works : (r : Registers) (stack : List Slot) → Works p.frames.items m p.arrays.regions o.arrays r stack → Works p2.frames.items (opened m k b g parent) p2.arrays.regions o.arrays r stack = λ r stack w.
       subst (λ a. Works p2.frames.items (opened m k b g parent) a.regions o.arrays r stack) (sym ea)
       (record { home = leads r.home w.home; slots = lead_later p.frames.items p2.frames.items m (opened m k b g parent) leads stack w.slots; arrays_lead = w.arrays_lead }) in
@@ -76,6 +77,7 @@ module _ (l : Limits) (p p2 : Storage) (k : ℕ) (b : BlockOf) (g : Beginning) (
           parks = parks_kept p.frames.items p2.frames.items p.parks.items p2.parks.items m (opened m k b g parent) p.arrays.regions p2.arrays.regions o.arrays o.arrays each same before_kept
               (λ place n c chain d e. get_front m.standings (_ ∷ []) n (keeping c chain) e) works s.parks;
           members = enrolled_in p.frames.items p2.frames.items m (opened m k b g parent) p.members o.members p2.members eb leads s.members;
+          simulations = simulating_in p.frames.items p2.frames.items m (opened m k b g parent) p.simulations.items o.simulations p2.simulations.items (ap (λ v. v.items) es) leads s.simulations;
         };
         top = top;
         works = subst (λ a. Works p2.frames.items (opened m k b g parent) a.regions o.arrays t.registers t.stack.items) (sym ea) (record { home = home; slots = slots; arrays_lead = arrays });
@@ -84,14 +86,14 @@ module _ (l : Limits) (p p2 : Storage) (k : ℕ) (b : BlockOf) (g : Beginning) (
 
   -- the same where the regions and the cells are told
   pub opens_from : (fs : List Frame) (cs : List Slot) → p2.frames.items ≡ fs → p2.cells.items ≡ cs →
-      p2.arrays ≡ p.arrays → p2.texts ≡ p.texts → p2.image ≡ p.image → p2.members ≡ p.members → p2.ticks ≡ p.ticks → p2.words ≡ p.words → p2.entered ≡ p.entered + 1 →
+      p2.arrays ≡ p.arrays → p2.texts ≡ p.texts → p2.image ≡ p.image → p2.members ≡ p.members → p2.simulations ≡ p.simulations → p2.ticks ≡ p.ticks → p2.words ≡ p.words → p2.entered ≡ p.entered + 1 →
       Holds fs cs (opened m k b g parent) → ((r : FrameRef) → Leads p.frames.items m r → Leads fs (opened m k b g parent) r) →
       AllLeadArrays p.arrays.regions o.arrays cs →
       Leads fs (opened m k b g parent) t.registers.home → AllLead fs (opened m k b g parent) t.stack.items → AllLeadArrays p.arrays.regions o.arrays t.stack.items →
       length p2.parks.items ≡ length fs → ((at : ℕ) → parked p2.parks.items at ≡ parked p.parks.items at) → KeptBefore p.frames.items fs →
       activation_of t ≡ record { thunk = false; home = length m.instances; pc = g.start; stack = []; room = b.room; stage = g.stage } → Opens l p p2 k b g parent t before now o m
-  opens_from fs cs ef ec ea et ei eb ek ew en h leads cells home slots arrays each same before_kept top =
-      opens ea et ei eb ek ew en
+  opens_from fs cs ef ec ea et ei eb es ek ew en h leads cells home slots arrays each same before_kept top =
+      opens ea et ei eb es ek ew en
       (each ∙ ap (λ f. length f) (sym ef)) same (subst (λ f. KeptBefore p.frames.items f) (sym ef) before_kept)
       (subst (λ f. Holds f p2.cells.items (opened m k b g parent)) (sym ef) (subst (λ x. Holds fs x (opened m k b g parent)) (sym ec) h))
       (λ r q. subst (λ f. Leads f (opened m k b g parent) r) (sym ef) (leads r q))

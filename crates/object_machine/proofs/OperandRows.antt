@@ -2,7 +2,7 @@
 use Rattle.std.proofs.Common.{◌≡◌, inl, inr, ℕ, zero, suc, ◌+◌, ◌≤◌, ◌⊎◌, List, [], ◌∷◌, length, set, length-set, get_or-set_same, get_or-set_other, sym, subst, refl, ap, ◌∙◌, arith}
 use Rattle.std.specs.Prelude.{ℤ, Option, Some, None}
 use Rattle.sim_values.specs.declared.value.TextVal.{TextVal}
-use Rattle.sim_values.specs.Plain.{Plain, Integer, Truth, Character, Text, Object, Nothing}
+use Rattle.sim_values.specs.Plain.{Plain, Integer, Truth, Character, Text, Object, MainOf, Nothing}
 use Rattle.sim_values.specs.Standard.{Function, applied, of_nothing, of_integer, of_integers, of_character, of_text, of_text_and_integer, of_text_and_integers, of_text_and_character, elsewhere, take_character, take_integer, take_nothing, take_text}
 use Rattle.sim_values.specs.Store.{Effect, Store}
 use Rattle.sim_code.specs.Events.{having, no_rule, only_text, pop_operands}
@@ -46,6 +46,7 @@ integer_of_text (Truth b ∷ ps) go h more = refl
 integer_of_text (Character c ∷ ps) go h more = refl
 integer_of_text (Text t ∷ ps) go h more = refl
 integer_of_text (Object i ∷ ps) go h more = refl
+integer_of_text (MainOf i ∷ ps) go h more = refl
 integer_of_text (Nothing ∷ ps) go h more = refl
 
 character_of_text : (ps : List Plain) (go : ℕ → List Plain → Option Effect) → HasText ps → ((c : ℕ) (rest : List Plain) → HasText rest → go c rest ≡ None) → take_character ps go ≡ None
@@ -56,6 +57,7 @@ character_of_text (Truth b ∷ ps) go h more = refl
 character_of_text (Character c ∷ ps) go h more = elim h [ inl is ↦ absurd (is_text (Character c) is) | inr rest ↦ more c ps rest ]
 character_of_text (Text t ∷ ps) go h more = refl
 character_of_text (Object i ∷ ps) go h more = refl
+character_of_text (MainOf i ∷ ps) go h more = refl
 character_of_text (Nothing ∷ ps) go h more = refl
 
 -- a function of numbers or characters has no effect on texts
@@ -78,6 +80,7 @@ no_text_taken (Truth b) ps go h = refl
 no_text_taken (Character c) ps go h = refl
 no_text_taken (Text t) ps go h = absurd (h t refl)
 no_text_taken (Object i) ps go h = refl
+no_text_taken (MainOf i) ps go h = refl
 no_text_taken Nothing ps go h = refl
 
 pub integer_behind : (p : Plain) (ps : List Plain) (go : ℤ → List Plain → Option Effect) → ((i : ℤ) → go i ps ≡ None) → take_integer (p ∷ ps) go ≡ None
@@ -87,6 +90,7 @@ integer_behind (Truth b) ps go h = refl
 integer_behind (Character c) ps go h = refl
 integer_behind (Text t) ps go h = refl
 integer_behind (Object i) ps go h = refl
+integer_behind (MainOf i) ps go h = refl
 integer_behind Nothing ps go h = refl
 
 pub character_behind : (p : Plain) (ps : List Plain) (go : ℕ → List Plain → Option Effect) → ((c : ℕ) → go c ps ≡ None) → take_character (p ∷ ps) go ≡ None
@@ -96,6 +100,7 @@ character_behind (Truth b) ps go h = refl
 character_behind (Character c) ps go h = h c
 character_behind (Text t) ps go h = refl
 character_behind (Object i) ps go h = refl
+character_behind (MainOf i) ps go h = refl
 character_behind Nothing ps go h = refl
 
 pub no_integer_there : (t : TextVal) (ps : List Plain) (go : ℤ → List Plain → Option Effect) → take_integer (Text t ∷ ps) go ≡ None
@@ -117,6 +122,7 @@ module _ (o : World) where
   of_only_text (Some (Character c)) go h = refl
   of_only_text (Some (Text t)) go h = h t
   of_only_text (Some (Object i)) go h = refl
+  of_only_text (Some (MainOf i)) go h = refl
   of_only_text (Some Nothing) go h = refl
 
   none_had : (go : Plain → Run Machine) → having {A = Plain} None o go ≡ no_rule o

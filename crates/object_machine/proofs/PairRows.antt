@@ -7,7 +7,7 @@ use Rattle.sim_values.specs.declared.operators.Dyadic.{Dyadic}
 use Rattle.sim_values.specs.declared.operators.Dyadic.TheVariants as dyadic
 use Rattle.sim_values.specs.declared.value.TextVal.{TextVal}
 use Rattle.sim_values.specs.Operators.{Answer, compare_as_texts, holds, same_texts, two_of, with_text}
-use Rattle.sim_values.specs.Plain.{Plain, Character, Integer, Nothing, Object, Text, Truth}
+use Rattle.sim_values.specs.Plain.{Plain, Character, Integer, MainOf, Nothing, Object, Text, Truth}
 use Rattle.sim_values.specs.Texts.{Frame, TextStep, compare_texts, same_text, assign, assign_refusal, outcome, unless}
 use Rattle.basic_io.specs.Image.{IsImage}
 use Rattle.text_objects.specs.Frames.{KeepsFrames}
@@ -38,6 +38,7 @@ no_text_kind k.Character s h = refl
 no_text_kind k.Text s h = absurd (h refl)
 no_text_kind k.Nothing s h = refl
 no_text_kind k.Object s h = refl
+no_text_kind k.Main s h = refl
 no_text_kind k.Link s h = refl
 no_text_kind k.Cell s h = refl
 no_text_kind k.Element s h = refl
@@ -58,6 +59,7 @@ no_right (Truth b) f h = refl
 no_right (Character c) f h = refl
 no_right (Text t) f h = absurd (subst some_type h tt)
 no_right (Object i) f h = refl
+no_right (MainOf i) f h = refl
 no_right Nothing f h = refl
 
 right_none : (op : Dyadic) (frames : List Frame) (x y : Plain) → is_on_texts op ≡ true → text_val y ≡ None → two_of op frames x y ≡ None
@@ -327,6 +329,7 @@ stands_texts l p r stack below before now o m new s = record {
     elements = s.stores.elements;
     parks = s.stores.parks;
     members = s.stores.members;
+    simulations = s.stores.simulations;
   };
   top = s.top;
   others = s.others;

@@ -3,8 +3,8 @@ use Rattle.std.proofs.Common.{◌≡◌, ℕ, zero, suc, ◌+◌, ◌-◌, ◌<�
 use Rattle.std.specs.Prelude.{true, false, nat_lt, if◌then◌else◌, Option, Some, None, slice_get, slice_set}
 use Rattle.sim_values.specs.declared.value.FrameRef.{FrameRef}
 use Rattle.sim_code.specs.Code.{BlockOf, ClassOf, CodeOf}
-use Rattle.sim_code.specs.Classes.{class_numbered}
-use Rattle.sim_code.specs.Levels.{extent, filled_by, in_front, block_in_record, own_or_outer, parameter_by, parameter_cell, parameter_within, put_at}
+use Rattle.sim_code.specs.Classes.{block_in_record, class_numbered}
+use Rattle.sim_code.specs.Levels.{extent, filled_by, in_front, own_or_outer, parameter_by, parameter_cell, parameter_within, put_at}
 use Rattle.sim_code.specs.Machine.{Cells, Frames, Value, cell_set}
 use Rattle.frame_arena.specs.declared.frames.Frame.{Frame}
 use Rattle.frame_arena.specs.declared.slot.Slot.{Slot}

@@ -52,5 +52,6 @@ module _ (l : Limits) (line wanted : â„•) (p : Storage) (before : Option (List â
           elements = s.elements;
           parks = s.parks;
           members = s.members;
+          simulations = s.simulations;
         },
       )

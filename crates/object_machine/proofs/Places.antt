@@ -20,9 +20,11 @@ use Rattle.object_machine.specs.declared.machine.Activation as working
 use Rattle.object_machine.specs.declared.machine.Flow.TheVariants as flow
 use Rattle.object_machine.specs.Placing.{IsPlaced, placed_in}
 use Rattle.object_machine.specs.Enrolling.{Enrolled}
+use Rattle.object_machine.specs.Simulating.{Simulating}
 use Rattle.object_machine.specs.Standing.{Leaves, Outside, Parks, SameBut, Stands, Works, activation_at, below_of, ports_of}
 use Rattle.object_machine.proofs.Going.{Stays, moved_behind}
 use Rattle.object_machine.proofs.Linkages.{enrolled_in}
+use Rattle.object_machine.proofs.Simulations.{simulating_in}
 use Rattle.object_machine.proofs.Parks.{parks_later}
 use Rattle.object_machine.proofs.Scalars.{off}
 
@@ -126,6 +128,7 @@ module _ (l : Limits) (line : ℕ) (p p2 : Storage) (same : SameBut p p2) (below
       parks = subst (λ v. Parks v.items p2.parks.items m2 p2.arrays.regions o.arrays) (sym same.frames) (subst (λ v. Parks p.frames.items v.items m2 p2.arrays.regions o.arrays) (sym same.parks) (subst (λ a. Parks p.frames.items p.parks.items m2 a.regions o.arrays) (sym same.arrays)
           (parks_later p.frames.items p.parks.items m m2 p.arrays.regions p.arrays.regions o.arrays o.arrays standings (λ q slots x. works_written p.frames.items m m2 p.arrays.regions o.arrays later q q slots refl x) s.stores.parks)));
       members = subst (λ v. Enrolled v.items m2 p2.members o.members) (sym same.frames) (enrolled_in p.frames.items p.frames.items m m2 p.members o.members p2.members same.members later s.stores.members);
+      simulations = subst (λ v. Simulating v.items m2 p2.simulations.items o.simulations) (sym same.frames) (simulating_in p.frames.items p.frames.items m m2 p.simulations.items o.simulations p2.simulations.items (ap (λ v. v.items) same.simulations) later s.stores.simulations);
     };
     top = subst (λ v. Works v.items m2 p2.arrays.regions o.arrays r2 stack) (sym same.frames) (subst (λ a. Works p.frames.items m2 a.regions o.arrays r2 stack) (sym same.arrays) (works_written p.frames.items m m2 p.arrays.regions o.arrays later r r2 stack e s.top));
     others = λ k t there. subst (λ v. Works v.items m2 p2.arrays.regions o.arrays t.registers t.stack.items) (sym same.frames) (subst (λ a. Works p.frames.items m2 a.regions o.arrays t.registers t.stack.items) (sym same.arrays)

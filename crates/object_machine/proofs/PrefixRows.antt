@@ -6,7 +6,7 @@ use Rattle.sim_code.specs.declared.code.BlockKind.TheVariants as block
 use Rattle.sim_code.specs.Arrays.{handed_over}
 use Rattle.sim_code.specs.Code.{BlockOf, CodeOf}
 use Rattle.sim_code.specs.Events.{entering, having, no_rule, pop_many}
-use Rattle.sim_code.specs.Levels.{levelled, supplied}
+use Rattle.sim_code.specs.Levels.{block_begun, levelled, supplied}
 use Rattle.sim_code.specs.Machine.{Activation, Cells, Frames, Machine, Value, arrays_among, in_prefixed, index, number, waiting, words_of_block}
 use Rattle.sim_code.specs.Outcome.{Run, World}
 use Rattle.frame_arena.specs.declared.slot.Slot.{Slot}
@@ -30,7 +30,7 @@ module _ (z : ℤ) (values : List Value) (o : World) (go : List Value → List V
 module _ (code : CodeOf) (l : Limits) (o : World) (m : Frames) (r : Registers) (stack : List Slot) (below : List Activation) (line : ℕ) (z : ℤ) (vs rest : List Value) where
   abbrev pub EnteringPrefixed : ℕ → BlockOf → ℕ → Cells → Run Machine
   EnteringPrefixed k b start cells =
-      entering l line (words_of_block b) o (λ p. in_prefixed (handed_over (length m.instances) (arrays_among vs) p) m k b start r.home.stamp cells (waiting (activation_at r stack) rest ∷ below))
+      entering l line (words_of_block b) o (λ p. in_prefixed (block_begun code b.class (length m.instances) (handed_over (length m.instances) (arrays_among vs) p)) m k b start r.home.stamp cells (waiting (activation_at r stack) rest ∷ below))
 
   abbrev pub InPrefixed : ℕ → BlockOf → ℕ → Run Machine
   InPrefixed k b start = having (supplied code b.class b vs) o (λ cells. EnteringPrefixed k b start cells)

@@ -6,10 +6,9 @@ use Rattle.sim_values.specs.Plain.{Object}
 use Rattle.sim_code.specs.Arrays.{handed_over}
 use Rattle.sim_code.specs.Code.{BlockOf, CodeOf}
 use Rattle.sim_code.specs.Events.{entering, having, no_rule}
-use Rattle.sim_code.specs.Levels.{filled_by, generating, linkage_of_class, objects_of, parameter_cell, supplied}
-use Rattle.sim_code.specs.Machine.{Activation, Cells, Frames, Machine, Of, Value, arrays_among, first_cells, in_object, pushing, waiting, words_of_block}
+use Rattle.sim_code.specs.Levels.{filled_by, generating, object_made, objects_of, parameter_cell, supplied, words_of_object}
+use Rattle.sim_code.specs.Machine.{Activation, Cells, Frames, Machine, Of, Value, arrays_among, first_cells, in_object, pushing, waiting}
 use Rattle.sim_code.specs.Outcome.{Run, World}
-use Rattle.sim_code.specs.Sets.{enrolled}
 use Rattle.frame_arena.specs.declared.slot.Slot.{Slot}
 use Rattle.object_machine.specs.declared.machine.Registers.{Registers}
 use Rattle.frame_arena.specs.Stacks.{values_from, values_of}
@@ -31,8 +30,8 @@ right_count code c b vs h =
 module _ (code : CodeOf) (l : Limits) (o : World) (m : Frames) (r : Registers) (stack : List Slot) (below : List Activation) (line : ℕ) (z : ℤ) where
   abbrev pub Entering : List Value → List Value → ℕ → ℕ → BlockOf → ℕ → Cells → Run Machine
   Entering vs rest j k b start cells =
-      pushing (length stack) rest (Of (Object (length m.instances))) o (λ rest. entering l line (words_of_block b) o (λ p.
-      in_object (enrolled (length m.instances) (linkage_of_class code b.class) (handed_over (length m.instances) (arrays_among vs) p)) m k b start j cells (waiting (activation_at r stack) rest ∷ below)))
+      pushing (length stack) rest (Of (Object (length m.instances))) o (λ rest. entering l line (words_of_object code b) o (λ p.
+      in_object (object_made code b.class j (length m.instances) (handed_over (length m.instances) (arrays_among vs) p)) m k b start j cells (waiting (activation_at r stack) rest ∷ below)))
 
   abbrev pub InBlock : List Value → List Value → ℕ → ℕ → BlockOf → ℕ → Run Machine
   InBlock vs rest j k b start = having (supplied code b.class b vs) o (λ cells. Entering vs rest j k b start cells)
@@ -52,8 +51,8 @@ module _ (code : CodeOf) (l : Limits) (o : World) (m : Frames) (r : Registers) (
 pub record ReadyAs (block : BlockOf) (x : Ready) (code : CodeOf) (l : Limits) (o : World) (m : Frames) (r : Registers) (stack : List Slot) (below : List Activation) (line : ℕ) (class values : ℤ) : Type 0 where
   pub cells : Cells
   pub filled : filled_by (parameter_cell code block.class) 0 (values_from stack x.actuals.at x.actuals.count) (Some (first_cells block)) ≡ Some cells
-  pub is : generating code l o m (activation_at r stack) below line class values ≡ pushing (length stack) (values_of x.actuals.under stack) (Of (Object (length m.instances))) o (λ rest. entering l line (words_of_block block) o (λ p.
-      in_object (enrolled (length m.instances) (linkage_of_class code block.class) (handed_over (length m.instances) (arrays_among (values_from stack x.actuals.at x.actuals.count)) p)) m x.block block x.start x.actuals.parent.stamp cells (waiting (activation_at r stack) rest ∷ below)))
+  pub is : generating code l o m (activation_at r stack) below line class values ≡ pushing (length stack) (values_of x.actuals.under stack) (Of (Object (length m.instances))) o (λ rest. entering l line (words_of_object code block) o (λ p.
+      in_object (object_made code block.class x.actuals.parent.stamp (length m.instances) (handed_over (length m.instances) (arrays_among (values_from stack x.actuals.at x.actuals.count)) p)) m x.block block x.start x.actuals.parent.stamp cells (waiting (activation_at r stack) rest ∷ below)))
 
 pub ready_as : (b : BlockOf) (x : Ready) (code : CodeOf) (l : Limits) (o : World) (m : Frames) (r : Registers) (stack : List Slot) (below : List Activation) (line : ℕ) (class values : ℤ) → ReadyFor x code l o m r stack below line class values → slice_get code.blocks x.block ≡ Some b →
     ReadyAs b x code l o m r stack below line class values

@@ -35,6 +35,7 @@ module _ (o : World) (m : Frames) (K : List Value → World → Frames → Run M
   put_other k.Text s v rest h h2 h3 = refl
   put_other k.Nothing s v rest h h2 h3 = refl
   put_other k.Object s v rest h h2 h3 = refl
+  put_other k.Main s v rest h h2 h3 = refl
   put_other k.Link s v rest h h2 h3 = refl
   put_other k.Cell s v rest h h2 h3 = absurd (h refl)
   put_other k.Element s v rest h h2 h3 = absurd (h2 refl)

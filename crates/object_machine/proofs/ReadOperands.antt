@@ -54,6 +54,7 @@ module _ (o : World) (m : Frames) where
   operand_plain k.Text s h h2 h3 = refl
   operand_plain k.Nothing s h h2 h3 = refl
   operand_plain k.Object s h h2 h3 = refl
+  operand_plain k.Main s h h2 h3 = refl
   operand_plain k.Link s h h2 h3 = refl
   operand_plain k.Cell s h h2 h3 = absurd (h refl)
   operand_plain k.Element s h h2 h3 = absurd (h2 refl)
@@ -262,6 +263,7 @@ back_nowhere o m t go k.Character s h h2 h3 = refl
 back_nowhere o m t go k.Text s h h2 h3 = refl
 back_nowhere o m t go k.Nothing s h h2 h3 = refl
 back_nowhere o m t go k.Object s h h2 h3 = refl
+back_nowhere o m t go k.Main s h h2 h3 = refl
 back_nowhere o m t go k.Link s h h2 h3 = refl
 back_nowhere o m t go k.Cell s h h2 h3 = absurd (h refl)
 back_nowhere o m t go k.Element s h h2 h3 = absurd (h2 refl)

@@ -1,7 +1,7 @@
 -- Values that name neither a frame nor an array.
 use Rattle.std.proofs.Common.{◌≡◌, sym, subst, refl, ap, ◌∙◌}
 use Rattle.std.specs.Prelude.{Bool, true, false, List}
-use Rattle.sim_values.specs.Plain.{Plain, Object}
+use Rattle.sim_values.specs.Plain.{MainOf, Plain, Object}
 use Rattle.sim_code.specs.Machine.{Frames, Value, Of}
 use Rattle.sim_code.specs.Outcome.{ArrayOf}
 use Rattle.frame_arena.specs.declared.frames.Frame.{Frame}
@@ -21,6 +21,7 @@ off e = subst truth_type (sym e) tt
 
 abbrev pub is_scalar : Plain → Bool
 is_scalar (Object j) = false
+is_scalar (MainOf j) = false
 is_scalar _ = true
 
 abbrev scalar_in : Value → Bool
@@ -38,6 +39,7 @@ scalar_value k.Character s v e h = (refl, refl)
 scalar_value k.Text s v e h = (refl, refl)
 scalar_value k.Nothing s v e h = (refl, refl)
 scalar_value k.Object s v e h = absurd (not_scalar (value_by k.Object s) (Of v) e refl h)
+scalar_value k.Main s v e h = absurd (not_scalar (value_by k.Main s) (Of v) e refl h)
 scalar_value k.Link s v e h = absurd (not_scalar (value_by k.Link s) (Of v) e refl h)
 scalar_value k.Cell s v e h = absurd (not_scalar (value_by k.Cell s) (Of v) e refl h)
 scalar_value k.Element s v e h = absurd (not_scalar (value_by k.Element s) (Of v) e refl h)

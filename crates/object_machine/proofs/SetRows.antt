@@ -8,11 +8,12 @@ use Rattle.simset.specs.Instances.{Memberships, linkage_of, number_of}
 use Rattle.simset.specs.Sets.{IsHeadAt, Linkage, is_head_at, is_link_at}
 use Rattle.sim_values.specs.declared.standard.Standard.{Standard}
 use Rattle.sim_values.specs.declared.value.FrameRef.{FrameRef}
-use Rattle.sim_values.specs.Plain.{Character, Integer, Nothing, Object, Plain, Text, Truth}
+use Rattle.sim_values.specs.Plain.{Character, Integer, MainOf, Nothing, Object, Plain, Text, Truth}
 use Rattle.sim_code.specs.Events.{having, no_rule, pop_plain, popping}
 use Rattle.sim_code.specs.Machine.{Frames, Machine, Value, plain, pushing}
 use Rattle.sim_code.specs.Outcome.{Run, World}
 use Rattle.sim_code.specs.Rows.{with_value}
+use Rattle.sim_code.specs.Simulations.{named_in}
 use Rattle.sim_code.specs.Sets.{SetEffect, gives, linkage_given, linkage_named, of_head, of_link, performing_set, pop_given, set_effect, some_linkage, takes_linkage, to_head}
 use Rattle.frame_arena.specs.declared.slot.Slot.{Slot}
 use Rattle.frame_arena.specs.Slots.{value_of}
@@ -26,7 +27,6 @@ use Rattle.object_machine.specs.declared.machine.Registers.{Registers}
 use Rattle.object_machine.specs.declared.machine.Activation as working
 use Rattle.object_machine.specs.declared.sets.Came.{Came}
 use Rattle.object_machine.specs.declared.sets.Came.TheVariants as came
-use Rattle.object_machine.specs.declared.sets.Named.{Named}
 use Rattle.object_machine.specs.declared.sets.Named.TheVariants as named
 use Rattle.object_machine.specs.Classing.{IsNoReference}
 use Rattle.object_machine.specs.Enrolling.{AllReach, Rises, stamps}
@@ -48,6 +48,17 @@ object_linkage o objects j place x same h is =
     let e : linkage_of o.instances j ≡ Some x.0 = ap (λ ns. linkage_of ns j) same ∙ sym h ∙ ap Some is in
     (e, ap some_linkage e)
 
+-- the same of a main program
+pub main_no_linkage : (o : Memberships) (objects : List FrameRef) (j : ℕ) → o.instances ≡ stamps objects → None ≡ linkage_of (stamps objects) j → Names named.Other o (Some (MainOf j))
+main_no_linkage o objects j same h =
+    let e : linkage_of o.instances j ≡ None = ap (λ ns. linkage_of ns j) same ∙ sym h in
+    (e, ap some_linkage e)
+
+pub main_linkage : (o : Memberships) (objects : List FrameRef) (j place : ℕ) (x : LinkageNo) → o.instances ≡ stamps objects → Some place ≡ linkage_of (stamps objects) j → place ≡ x.0 → Names (named.Linkage x) o (Some (MainOf j))
+main_linkage o objects j place x same h is =
+    let e : linkage_of o.instances j ≡ Some x.0 = ap (λ ns. linkage_of ns j) same ∙ sym h ∙ ap Some is in
+    (e, ap some_linkage e)
+
 pub none_named : (o : Memberships) (p : Option Plain) → p ≡ Some Nothing → Names named.IsNone o p
 none_named o p e = subst (λ p. Names named.IsNone o p) (sym e) (refl, refl)
 
@@ -58,6 +69,7 @@ other_named o (Some (Truth b)) h = (refl, refl)
 other_named o (Some (Character c)) h = (refl, refl)
 other_named o (Some (Text t)) h = (refl, refl)
 other_named o (Some (Object j)) h = absurd h
+other_named o (Some (MainOf j)) h = absurd h
 other_named o (Some Nothing) h = absurd h
 
 -- ---- operands
@@ -159,12 +171,13 @@ stands_sets l p r stack below before now o m k s same = record {
       rises = subst (λ v. Rises (stamps v.items)) (sym same) s.stores.members.rises;
       lead = subst (λ v. AllReach p.frames.items m v.items) (sym same) s.stores.members.lead;
     };
+    simulations = s.stores.simulations;
   };
   top = s.top;
   others = s.others;
 }
 
-module _ (o : World) (go : World → Option Plain → Run Machine) where
+module _ (naming : ℕ → Plain) (o : World) (go : World → Option Plain → Run Machine) where
   abbrev pub Effected : Option SetEffect → Run Machine
   Effected e = having e o (λ effect. go (record o { members = effect.members }) effect.value)
 
@@ -174,7 +187,7 @@ module _ (o : World) (go : World → Option Plain → Run Machine) where
       ap (λ q. Effected q) is ∙ ap (λ z. go (with_sets o z) (Some v)) (sym same)
 
   -- what a procedure came to, when it came to something
-  pub effected : (c : Came) (e : Option SetEffect) (sets : List Linkage) → HasEffect c → CameAs c e o.members sets → Effected e ≡ go (with_sets o sets) (value_by c o.members)
+  pub effected : (c : Came) (e : Option SetEffect) (sets : List Linkage) → HasEffect c → CameAs c naming e o.members sets → Effected e ≡ go (with_sets o sets) (value_by c naming o.members)
   unfolding having
   effected (came.Linkage q) e sets h is = given_value e _ sets is.0 is.1
   effected (came.Truth b) e sets h is = given_value e _ sets is.0 is.1
@@ -183,9 +196,9 @@ module _ (o : World) (go : World → Option Plain → Run Machine) where
   effected came.NoRule e sets h is = absurd h
   effected came.Memory e sets h is = absurd h
 
-  pub not_effected : (c : Came) (e : Option SetEffect) (sets : List Linkage) → c ≡ came.NoRule → CameAs c e o.members sets → Effected e ≡ no_rule o
+  pub not_effected : (c : Came) (e : Option SetEffect) (sets : List Linkage) → c ≡ came.NoRule → CameAs c naming e o.members sets → Effected e ≡ no_rule o
   unfolding having
-  not_effected c e sets is h = ap (λ q. Effected q) (subst (λ c. CameAs c e o.members sets) is h)
+  not_effected c e sets is h = ap (λ q. Effected q) (subst (λ c. CameAs c naming e o.members sets) is h)
 
 pub value_slot : (value : Option Slot) (v : Option Plain) (values : List Value) → IsSlot value v → with_value v values ≡ with_slot value values
 value_slot None v values e = ap (λ v. with_value v values) e
@@ -193,7 +206,7 @@ value_slot (Some s) v values e = ap (λ v. with_value v values) e.1 ∙ ap (λ z
 
 -- the row of a procedure, as its operands are taken
 abbrev pub Taken : Standard → World → (World → Option Plain → List Value → Run Machine) → Option ℕ → List Value → Run Machine
-Taken n o go given values = taking_owner o values (λ x rest. Effected o (λ w v. go w v rest) (set_effect n o.members x given))
+Taken n o go given values = taking_owner o values (λ x rest. Effected (named_in o.simulations) o (λ w v. go w v rest) (set_effect n (named_in o.simulations) o.members x given))
 
 pub performing_is : (n : Standard) (values : List Value) (o : World) (go : World → Option Plain → List Value → Run Machine) → performing_set plain n values o go ≡ pop_given plain (takes_linkage n) values o (Taken n o go)
 unfolding performing_set

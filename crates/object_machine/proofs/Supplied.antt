@@ -18,12 +18,14 @@ use Rattle.object_machine.specs.declared.machine.Activation as working
 use Rattle.object_machine.specs.Calling.{Filled, OpensWith, Supplied, cells_set_from, opened_with}
 use Rattle.object_machine.specs.Entering.{Opens, opened}
 use Rattle.object_machine.specs.Enrolling.{Enrolled}
+use Rattle.object_machine.specs.Simulating.{Simulating}
 use Rattle.object_machine.specs.Standing.{AtWork, InWorld, Outside, Parks, SameBut, Works, ports_of}
 use Rattle.sim_code.specs.Levels.{filled_by}
 use Rattle.object_machine.specs.Parameters.{cells_set_by}
 use Rattle.object_machine.proofs.ParameterCells.{filled_by_last}
 use Rattle.object_machine.proofs.Called.{cellular, filled_last}
 use Rattle.object_machine.proofs.Linkages.{enrolled_in}
+use Rattle.object_machine.proofs.Simulations.{simulating_in}
 use Rattle.object_machine.proofs.Parks.{parks_later}
 use Rattle.object_machine.proofs.Places.{lead_later}
 
@@ -50,6 +52,7 @@ module _ (l : Limits) (p p1 p2 : Storage) (same : SameBut p1 p2) (k : ℕ) (b : 
           parks = subst (λ v. Parks v.items p2.parks.items m2 p2.arrays.regions o.arrays) (sym same.frames) (subst (λ v. Parks p1.frames.items v.items m2 p2.arrays.regions o.arrays) (sym same.parks) (subst (λ a. Parks p1.frames.items p1.parks.items m2 a.regions o.arrays) (sym same.arrays)
               (parks_later p1.frames.items p1.parks.items (opened m k b g parent) m2 p1.arrays.regions p1.arrays.regions o.arrays o.arrays refl (λ r stack w. works_on p1.frames.items (opened m k b g parent) m2 p1.arrays.regions o.arrays leads r stack w) s.parks)));
           members = subst (λ v. Enrolled v.items m2 p2.members o.members) (sym same.frames) (enrolled_in p1.frames.items p1.frames.items (opened m k b g parent) m2 p1.members o.members p2.members same.members leads s.members);
+          simulations = subst (λ v. Simulating v.items m2 p2.simulations.items o.simulations) (sym same.frames) (simulating_in p1.frames.items p1.frames.items (opened m k b g parent) m2 p1.simulations.items o.simulations p2.simulations.items (ap (λ v. v.items) same.simulations) leads s.simulations);
         };
         top = h.top;
         works = still t.registers t.stack.items h.works;
@@ -101,11 +104,20 @@ unfolding handed_over
 handed_members owner [] o = refl
 handed_members owner (n ∷ rest) o = handed_members owner rest (owned_by owner (slice_get o.arrays n) o n) ∙ owned_members owner n (slice_get o.arrays n) o
 
+owned_simulations : (owner n : ℕ) (q : Option ArrayOf) (o : World) → (owned_by owner q o n).simulations ≡ o.simulations
+owned_simulations owner n None o = refl
+owned_simulations owner n (Some a) o = refl
+
+pub handed_simulations : (owner : ℕ) (ns : List ℕ) (o : World) → (handed_over owner ns o).simulations ≡ o.simulations
+unfolding handed_over
+handed_simulations owner [] o = refl
+handed_simulations owner (n ∷ rest) o = handed_simulations owner rest (owned_by owner (slice_get o.arrays n) o n) ∙ owned_simulations owner n (slice_get o.arrays n) o
+
 module _ (l : Limits) (p p2 p3 : Storage) (k : ℕ) (b : BlockOf) (g : Beginning) (parent : Option FrameRef) (cells : Cells) (t : working.Activation) (before : Option (List ℕ)) (now : Outside) (o : World) (m : Frames) (h : OpensWith l p p2 k b g parent cells t before now o o m) where
-  pub handed : (owner : ℕ) (ns : List ℕ) → p3.frames ≡ p2.frames → p3.parks ≡ p2.parks → p3.cells ≡ p2.cells → p3.entered ≡ p2.entered → p3.texts ≡ p2.texts → p3.image ≡ p2.image → p3.members ≡ p2.members → p3.ticks ≡ p2.ticks → p3.words ≡ p2.words →
+  pub handed : (owner : ℕ) (ns : List ℕ) → p3.frames ≡ p2.frames → p3.parks ≡ p2.parks → p3.cells ≡ p2.cells → p3.entered ≡ p2.entered → p3.texts ≡ p2.texts → p3.image ≡ p2.image → p3.members ≡ p2.members → p3.simulations ≡ p2.simulations → p3.ticks ≡ p2.ticks → p3.words ≡ p2.words →
       HoldsArrays p3.arrays (handed_over owner ns o).arrays → KeepLeading p2.arrays o.arrays p3.arrays (handed_over owner ns o).arrays → ElementsLead p2.frames.items (opened_with m k b g parent cells) p3.arrays.regions →
       OpensWith l p p3 k b g parent cells t before now o (handed_over owner ns o) m
-  handed owner ns ef ep ec en et ei eb ek ew holds keeps elements =
+  handed owner ns ef ep ec en et ei eb es ek ew holds keeps elements =
       let o2 = handed_over owner ns o in
       let m2 = opened_with m k b g parent cells in
       let i = handed_in p2 before now owner ns o h.stores.world in
@@ -123,6 +135,7 @@ module _ (l : Limits) (p p2 p3 : Storage) (k : ℕ) (b : BlockOf) (g : Beginning
           parks = subst (λ v. Parks v.items p3.parks.items m2 p3.arrays.regions o2.arrays) (sym ef) (subst (λ v. Parks p2.frames.items v.items m2 p3.arrays.regions o2.arrays) (sym ep)
               (parks_later p2.frames.items p2.parks.items m2 m2 p2.arrays.regions p3.arrays.regions o.arrays o2.arrays refl (λ r stack w. record { home = w.home; slots = w.slots; arrays_lead = λ at names. keeps _ (w.arrays_lead at names) }) h.stores.parks));
           members = subst (λ v. Enrolled v.items m2 p3.members o2.members) (sym ef) (subst (λ v. Enrolled p2.frames.items m2 v o2.members) (sym eb) (subst (λ q. Enrolled p2.frames.items m2 p2.members q) (sym (handed_members owner ns o)) h.stores.members));
+          simulations = subst (λ v. Simulating v.items m2 p3.simulations.items o2.simulations) (sym ef) (subst (λ v. Simulating p2.frames.items m2 v.items o2.simulations) (sym es) (subst (λ q. Simulating p2.frames.items m2 p2.simulations.items q) (sym (handed_simulations owner ns o)) h.stores.simulations));
         };
         top = h.top;
         works = still t.registers t.stack.items h.works;

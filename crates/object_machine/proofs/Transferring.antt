@@ -3,14 +3,14 @@ use Rattle.std.proofs.Common.{◌≡◌, ℕ, List, [], ◌∷◌, ◌++◌, map
 use Rattle.std.specs.Prelude.{Bool, true, false, ◌==◌, ◌||◌, if◌then◌else◌, Option, Some, None, slice_get}
 use Rattle.std.specs.Option.{option_map}
 use Rattle.sim_base.specs.declared.run_error.RunError.TheVariants.{ComponentIsAttached, ComponentIsResumed, ComponentIsTerminated, NoneIsNoComponent, ObjectNotOperating, ResumedIsAttached, SystemNotOperating}
-use Rattle.sim_values.specs.Plain.{Plain, Integer, Truth, Character, Text, Object, Nothing}
+use Rattle.sim_values.specs.Plain.{Plain, Integer, Truth, Character, Text, Object, MainOf, Nothing}
 use Rattle.sim_chains.specs.Chains.{Cut, cut_at, outermost, stands_on, under, upper}
 use Rattle.sim_chains.specs.Components.{AttachedObject, Components, DetachedObject, NoObject, ResumedObject, Standing, TerminatedObject, call_by, detach_by, give_up_at, kept, kept_as, kept_by, leave_at, main_at, main_by, resume_at, resume_by}
 use Rattle.sim_code.specs.Events.{computing, having, no_rule, pop_plain, popping, stopping}
 use Rattle.sim_code.specs.Instances.{going_below, system_head}
 use Rattle.sim_code.specs.Machine.{Activation, Frames, Machine, Value, owner, plain}
 use Rattle.sim_code.specs.Outcome.{Run, RunFault, World}
-use Rattle.sim_code.specs.Transfers.{Calling, Detaching, Resuming, Transfer, transferring}
+use Rattle.sim_code.specs.Transfers.{Calling, Detaching, Resuming, Transfer, refused_of_main, transferring}
 use Rattle.frame_arena.specs.declared.frames.Component.{Component}
 use Rattle.frame_arena.specs.declared.frames.Component.TheVariants as component
 use Rattle.frame_arena.specs.Frames.{StandsAs}
@@ -18,7 +18,7 @@ use Rattle.frame_arena.proofs.Enclosers.{index_there}
 use Rattle.object_machine.specs.declared.machine.Activation as working
 use Rattle.object_machine.specs.Classing.{IsNoReference}
 use Rattle.object_machine.specs.Standing.{activation_of}
-use Rattle.object_machine.specs.Transferring.{frame_of}
+use Rattle.object_machine.specs.Transferring.{controlling, frame_of}
 
 -- ---- what a transfer does, by how the instance stands
 
@@ -58,34 +58,11 @@ module _ (line : ℕ) (o : World) (chain : List Activation) (m : Frames) (j : �
   unfolding computing
   gives_none e h = detach_as ResumedObject e ∙ ap (λ q. computing line (give_up_at owner q Board (system_head m j)) o Go) h
 
-  -- of a resumed object that operates, where the head S stands so
-  module _ (k : Cut Activation) (e : slice_get m.standings j ≡ Some ResumedObject) (h : cut_at owner j chain ≡ Some k) (s : ℕ) (is : s ≡ system_head m j) where
-    gives_as : (q : Standing Activation) → slice_get m.standings s ≡ Some q → transferring owner Detaching line o chain m (Object j) ≡ computing line (main_by owner q Board s) o Go
-    unfolding computing
-    gives_as q there =
-        detach_as ResumedObject e ∙ ap (λ q. computing line (give_up_at owner q Board (system_head m j)) o Go) h
-        ∙ sym (ap (λ s. computing line (give_up_at owner (Some k) Board s) o Go) is)
-        ∙ ap (λ q. computing line (main_by owner q Board s) o Go) (index_there m.standings s q (NoObject None) there)
-
-    pub main_stays : (c : Component) → (c ≡ component.Waiting → ⊥) → StandsAs c (slice_get m.standings s) → transferring owner Detaching line o chain m (Object j) ≡ going_below o chain m
-    unfolding computing
-    main_stays component.NoObject ne there = gives_as (NoObject None) there
-    main_stays component.Waiting ne there = absurd (ne refl)
-    main_stays component.Attached ne there = gives_as AttachedObject there
-    main_stays component.Detached ne there = gives_as (DetachedObject there.0) there.1
-    main_stays component.Resumed ne there = gives_as ResumedObject there
-    main_stays component.Terminated ne there = gives_as TerminatedObject there
-
-    pub main_none : (main : List Activation) → slice_get m.standings s ≡ Some (NoObject (Some main)) → cut_at owner s chain ≡ None → transferring owner Detaching line o chain m (Object j) ≡ stopping (RunFault SystemNotOperating line) o
-    unfolding computing
-    main_none main there away = gives_as (NoObject (Some main)) there ∙ ap (λ q. computing line (main_at owner q main Board s) o Go) away
-
-    pub main_goes : (main : List Activation) (d : Cut Activation) → slice_get m.standings s ≡ Some (NoObject (Some main)) → cut_at owner s chain ≡ Some d →
-        transferring owner Detaching line o chain m (Object j) ≡ going_below o (main ++ d.here ∷ d.below) (record m { standings = set (kept_as owner (outermost owner d.above) d.above Board).standings s (NoObject None) })
-    unfolding computing
-    main_goes main d there at =
-        gives_as (NoObject (Some main)) there ∙ ap (λ q. computing line (main_at owner q main Board s) o Go) at
-        ∙ ap (λ q. going_below o (main ++ d.here ∷ d.below) (record m { standings = set (kept_by owner q s d.above Board).standings s (NoObject None) })) (index_there m.standings s (NoObject (Some main)) (NoObject None) there)
+  -- A resumed object that operates gives control to the main component of its system.
+  pub gives : (k : Cut Activation) → slice_get m.standings j ≡ Some ResumedObject → cut_at owner j chain ≡ Some k → (s : ℕ) → s ≡ system_head m j → transferring owner Detaching line o chain m (Object j) ≡ controlling line o chain m s None
+  gives k e h s is =
+      detach_as ResumedObject e ∙ ap (λ q. computing line (give_up_at owner q Board (system_head m j)) o Go) h
+      ∙ sym (ap (λ s. computing line (give_up_at owner (Some k) Board s) o Go) is)
 
   call_as : (s : Standing Activation) → slice_get m.standings j ≡ Some s → transferring owner Calling line o chain m (Object j) ≡ computing line (call_by s Board j) o Go
   unfolding transferring having
@@ -145,6 +122,32 @@ module _ (line : ℕ) (o : World) (chain : List Activation) (m : Frames) (j : �
     unfolding computing
     resumes d at = at_head ∙ ap (λ q. computing line (resume_at owner q chain0 Board s j) o Go) at
 
+-- ---- the main component of a system goes on, of which the head S stands so
+
+module _ (line : ℕ) (o : World) (chain : List Activation) (m : Frames) (s : ℕ) where
+  main_as : (q : Standing Activation) → slice_get m.standings s ≡ Some q → controlling line o chain m s None ≡ computing line (main_by owner q (Board line o chain m s) s) o (Go line o chain m s)
+  main_as q there = ap (λ q. computing line (main_by owner q (Board line o chain m s) s) o (Go line o chain m s)) (index_there m.standings s q (NoObject None) there)
+
+  pub main_stays : (c : Component) → (c ≡ component.Waiting → ⊥) → StandsAs c (slice_get m.standings s) → controlling line o chain m s None ≡ going_below o chain m
+  unfolding computing
+  main_stays component.NoObject ne there = main_as (NoObject None) there
+  main_stays component.Waiting ne there = absurd (ne refl)
+  main_stays component.Attached ne there = main_as AttachedObject there
+  main_stays component.Detached ne there = main_as (DetachedObject there.0) there.1
+  main_stays component.Resumed ne there = main_as ResumedObject there
+  main_stays component.Terminated ne there = main_as TerminatedObject there
+
+  pub main_none : (main : List Activation) → slice_get m.standings s ≡ Some (NoObject (Some main)) → cut_at owner s chain ≡ None → controlling line o chain m s None ≡ stopping (RunFault SystemNotOperating line) o
+  unfolding computing
+  main_none main there away = main_as (NoObject (Some main)) there ∙ ap (λ q. computing line (main_at owner q main (Board line o chain m s) s) o (Go line o chain m s)) away
+
+  pub main_goes : (main : List Activation) (d : Cut Activation) → slice_get m.standings s ≡ Some (NoObject (Some main)) → cut_at owner s chain ≡ Some d →
+      controlling line o chain m s None ≡ going_below o (main ++ d.here ∷ d.below) (record m { standings = set (kept_as owner (outermost owner d.above) d.above (Board line o chain m s)).standings s (NoObject None) })
+  unfolding computing
+  main_goes main d there at =
+      main_as (NoObject (Some main)) there ∙ ap (λ q. computing line (main_at owner q main (Board line o chain m s) s) o (Go line o chain m s)) at
+      ∙ ap (λ q. going_below o (main ++ d.here ∷ d.below) (record m { standings = set (kept_by owner q s d.above (Board line o chain m s)).standings s (NoObject None) })) (index_there m.standings s (NoObject (Some main)) (NoObject None) there)
+
 -- ---- what is no object
 
 module _ (line : ℕ) (o : World) (chain : List Activation) (m : Frames) where
@@ -160,6 +163,11 @@ module _ (line : ℕ) (o : World) (chain : List Activation) (m : Frames) where
   unfolding transferring having computing
   resume_none = refl
 
+  -- a main program is refused
+  pub main_refused : (t : Transfer) (b : ℕ) → transferring owner t line o chain m (MainOf b) ≡ stopping (RunFault (refused_of_main t) line) o
+  unfolding transferring
+  main_refused t b = refl
+
   pub no_component : (t : Transfer) (v : Option Plain) → IsNoReference v → having v o (λ v. transferring owner t line o chain m v) ≡ no_rule o
   unfolding transferring having
   no_component t None h = refl
@@ -168,6 +176,7 @@ module _ (line : ℕ) (o : World) (chain : List Activation) (m : Frames) where
   no_component t (Some (Character c)) h = refl
   no_component t (Some (Text w)) h = refl
   no_component t (Some (Object i)) h = absurd h
+  no_component t (Some (MainOf i)) h = absurd h
   no_component t (Some Nothing) h = absurd h
 
 pub plain_popped : (stack : List Value) (o : World) (go : Plain → List Value → Run Machine) → pop_plain plain stack o go ≡ popping stack o (λ v rest. having (plain v) o (λ p. go p rest))

@@ -1,6 +1,6 @@
 -- Classes of references, as the rows find them.
 use Rattle.std.specs.Prelude.{◌≡◌, ℕ, zero, suc, ℤ, Bool, true, false, Option, Some, None, List}
-use Rattle.sim_values.specs.Plain.{Plain, Nothing, Object}
+use Rattle.sim_values.specs.Plain.{MainOf, Plain, Nothing, Object}
 use Rattle.sim_code.specs.Code.{CodeOf}
 use Rattle.sim_code.specs.Classes.{is_in, is_of, may_stand as may_stand_of}
 use Rattle.sim_code.specs.Instances.{Place}
@@ -24,17 +24,20 @@ Qualifies qualification.Memory code z = Unit {0}
 -- it is no reference
 abbrev pub IsNoReference : Option Plain → Type 0
 IsNoReference (Some (Object j)) = ⊥
+IsNoReference (Some (MainOf j)) = ⊥
 IsNoReference (Some Nothing) = ⊥
 IsNoReference _ = Unit {0}
 
 -- what a value refers to
 abbrev pub Refers : Reference → Option Plain → Type 0
 Refers (reference.Object f) p = p ≡ Some (Object f.stamp)
+Refers (reference.Main f) p = p ≡ Some (MainOf f.stamp)
 Refers reference.IsNone p = p ≡ Some Nothing
 Refers reference.Other p = IsNoReference p
 
 abbrev pub ReferenceLeads : Reference → List Frame → Frames → Type 0
 ReferenceLeads (reference.Object f) frames m = Leads frames m f
+ReferenceLeads (reference.Main f) frames m = Leads frames m f
 ReferenceLeads _ frames m = Unit {0}
 
 -- `is` where the class is to be the same, else `in`

@@ -1,6 +1,8 @@
 pub mod Enrolling
+pub mod Simulating
 pub mod SetRows
 pub mod Standing
+pub mod Making
 pub mod Entering
 pub mod Running
 pub mod Stretching
@@ -13,6 +15,10 @@ pub mod Operands
 pub mod Pairs
 pub mod Arrayed
 pub mod Covering
+pub mod Deciding
+pub mod Telling
+pub mod Rescheduling
+pub mod Activating
 pub mod Calling
 pub mod Taking
 pub mod Classing

@@ -1,6 +1,5 @@
 -- The rows of the procedures of links and heads.
 use Rattle.std.specs.Prelude.{◌≡◌, ℕ, Bool, pos, List, ◌∷◌, Option, Some, None, Result, Ok, Err}
-use Rattle.simset.specs.declared.rings.LinkageNo.{LinkageNo}
 use Rattle.simset.specs.Instances.{Memberships, number_of}
 use Rattle.simset.specs.Sets.{Linkage}
 use Rattle.sim_values.specs.Plain.{Integer, Plain, Truth}
@@ -46,7 +45,7 @@ TakesParameter (Ok q) takes o depth stack = (go : Option ℕ → List Value → 
 TakesParameter (Err missing.NoRule) takes o depth stack = (go : Option ℕ → List Value → Run Machine) → pop_given plain takes (values_of depth stack) o go ≡ no_rule o
 TakesParameter (Err missing.Memory) takes o depth stack = Unit {0}
 
--- the linkage of the object on top
+-- the linkage of the object or main program on top
 abbrev pub taking_owner : World → List Value → (ℕ → List Value → Run Machine) → Run Machine
 taking_owner o stack go = pop_plain plain stack o (λ p rest. having (linkage_named o.members p) o (λ x. go x rest))
 
@@ -58,13 +57,13 @@ TakesOwner (Err missing.Memory) o depth stack = Unit {0}
 -- ---- effects
 
 -- what a procedure does, which leaves these sets
-abbrev pub CameAs : Came → Option SetEffect → Memberships → (sets : List Linkage) → Type 0
-CameAs (came.Linkage q) e o sets = (e ≡ gives o (object_at o (number_of q))) × (sets ≡ o.sets)
-CameAs (came.Truth b) e o sets = (e ≡ gives o (Truth b)) × (sets ≡ o.sets)
-CameAs (came.Integer n) e o sets = (e ≡ gives o (Integer (pos n))) × (sets ≡ o.sets)
-CameAs came.Changed e o sets = e ≡ becomes o sets
-CameAs came.NoRule e o sets = e ≡ None
-CameAs came.Memory e o sets = Unit {0}
+abbrev pub CameAs : Came → (naming : ℕ → Plain) → Option SetEffect → Memberships → (sets : List Linkage) → Type 0
+CameAs (came.Linkage q) naming e o sets = (e ≡ gives o (object_at naming o (number_of q))) × (sets ≡ o.sets)
+CameAs (came.Truth b) naming e o sets = (e ≡ gives o (Truth b)) × (sets ≡ o.sets)
+CameAs (came.Integer n) naming e o sets = (e ≡ gives o (Integer (pos n))) × (sets ≡ o.sets)
+CameAs came.Changed naming e o sets = e ≡ becomes o sets
+CameAs came.NoRule naming e o sets = e ≡ None
+CameAs came.Memory naming e o sets = Unit {0}
 
 -- it came to something
 abbrev pub HasEffect : Came → Type 0
@@ -73,21 +72,21 @@ HasEffect came.Memory = ⊥
 HasEffect _ = Unit {0}
 
 -- the value of a procedure, if it has one
-abbrev pub value_by : Came → Memberships → Option Plain
-value_by (came.Linkage q) o = Some (object_at o (number_of q))
-value_by (came.Truth b) o = Some (Truth b)
-value_by (came.Integer n) o = Some (Integer (pos n))
-value_by _ o = None
+abbrev pub value_by : Came → (naming : ℕ → Plain) → Memberships → Option Plain
+value_by (came.Linkage q) naming o = Some (object_at naming o (number_of q))
+value_by (came.Truth b) naming o = Some (Truth b)
+value_by (came.Integer n) naming o = Some (Integer (pos n))
+value_by _ naming o = None
 
 -- that value as a slot; or the procedure has no rule
 abbrev pub IsSlot : Option Slot → Option Plain → Type 0
 IsSlot None p = p ≡ None
 IsSlot (Some s) p = (q : Plain) × (p ≡ Some q) × (value_of s ≡ Of q)
 
-abbrev pub GivesSlot : Result (Option Slot) Missing → Came → Memberships → Type 0
-GivesSlot (Ok value) c o = HasEffect c × IsSlot value (value_by c o)
-GivesSlot (Err missing.NoRule) c o = c ≡ came.NoRule
-GivesSlot (Err missing.Memory) c o = Unit {0}
+abbrev pub GivesSlot : Result (Option Slot) Missing → Came → (naming : ℕ → Plain) → Memberships → Type 0
+GivesSlot (Ok value) c naming o = HasEffect c × IsSlot value (value_by c naming o)
+GivesSlot (Err missing.NoRule) c naming o = c ≡ came.NoRule
+GivesSlot (Err missing.Memory) c naming o = Unit {0}
 
 -- the values with one more, if there is one
 abbrev pub with_slot : Option Slot → List Value → List Value

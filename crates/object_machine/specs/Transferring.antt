@@ -2,9 +2,11 @@
 use Rattle.std.specs.Prelude.{◌≡◌, ℕ, ◌≤◌, false, List, [], ◌∷◌, ◌++◌, length, reverse, Option, Some}
 use Rattle.sim_base.specs.declared.limits.Limits.{Limits}
 use Rattle.sim_chains.specs.Chains.{stands_on}
-use Rattle.sim_chains.specs.Components.{Standing}
-use Rattle.sim_code.specs.Machine.{Activation, Frames}
-use Rattle.sim_code.specs.Outcome.{World}
+use Rattle.sim_chains.specs.Components.{Standing, give_control_to}
+use Rattle.sim_code.specs.Events.{computing}
+use Rattle.sim_code.specs.Instances.{going_below, system_head}
+use Rattle.sim_code.specs.Machine.{Activation, Frames, Machine, owner}
+use Rattle.sim_code.specs.Outcome.{Run, World}
 use Rattle.frame_arena.specs.declared.slot.Slot.{Slot}
 use Rattle.object_machine.specs.declared.machine.Activation as working
 use Rattle.object_machine.specs.declared.machine.Flow.{Flow}
@@ -53,3 +55,9 @@ JoinsChain _ kept chain left joined = ⊥
 pub record Anew (l : Limits) (p p2 : Storage) (before : Option (List ℕ)) (now : Outside) (o : World) (m : Frames) (standings : List (Standing Activation)) : Type 0 where
   pub stores : Stores l p2 before now o (record m { standings = standings })
   pub works : (r : Registers) (stack : List Slot) → AtWork p o m r stack → AtWork p2 o (record m { standings = standings }) r stack
+
+-- Control goes to an object, which is resumed, or where there is none to the main component of a system. `head` is the head of that.
+abbrev pub controlling : (line : ℕ) → World → (chain : List Activation) → Frames → (head : ℕ) → (object : Option ℕ) → Run Machine
+controlling line o chain m head object =
+    computing line (give_control_to owner (system_head m) (record { operating = chain; standings = m.standings }) head object) o (λ c.
+    going_below o c.operating (record m { standings = c.standings }))

@@ -1,6 +1,6 @@
 //! Classes of the code, and of which classes objects are.
 ghost use Rattle.std.specs.Prelude.{◌≡◌, ◌==◌, ◌||◌, List};
-ghost use Rattle.sim_code.specs.Classes.{class_named as class_named_of, class_of as class_of_frame, in_class as in_class_of, is_among, levels, may_stand as may_stand_of};
+ghost use Rattle.sim_code.specs.Classes.{class_named as class_named_of, class_of as class_of_frame, in_class as in_class_of, is_among, levels, main_in_class as main_in_class_of, may_stand as may_stand_of, process_at as process_at_of};
 ghost use Rattle.sim_code.specs.Code.{CodeOf};
 ghost use Rattle.sim_code.specs.Machine.{Frames, plain};
 ghost use Rattle.frame_arena.specs.declared.frames.Frame.{Frame as FrameOf};
@@ -11,6 +11,7 @@ ghost use Rattle.object_machine.specs.Classing.{Qualifies, ReferenceLeads, Refer
 
 use crate::cells::unqualified;
 use crate::constants::index;
+use crate::marks::process_class;
 use frame_arena::frames::{self, Frame};
 use frame_arena::{Slot, SlotKind};
 use sim_code::{BlockKind, BlockRecord, ClassRecord};
@@ -32,6 +33,8 @@ pub enum Qualification {
 pub enum Reference {
     /// An object, by its frame.
     Object(FrameRef),
+    /// The main program of a simulation block, by the frame of that.
+    Main(FrameRef),
     /// It is `none`.
     IsNone,
     /// It is no reference.
@@ -142,6 +145,37 @@ pub fn in_class(
     is_level(classes, class, wanted)
 }
 
+/// The class `process` of the simulation block that an instance is.
+pub fn process_at(
+    frames: &[Frame],
+    blocks: &[BlockRecord],
+    classes: &[ClassRecord],
+    at: FrameRef,
+) -> Option<u32>
+    ensures row { (code : CodeOf) (cells : List SlotOf) (m : Frames) → code.blocks ≡ blocks.now → code.classes ≡ classes.now → Holds frames.now cells m → Leads frames.now m at → result ≡ process_at_of code m at.stamp }
+{
+    let Some(class) = class_of(frames, blocks, at) else {
+        return None;
+    };
+    process_class(blocks, classes, class)
+}
+
+/// Whether the main program of a simulation block is in a class, if that has levels.
+pub fn main_in_class(
+    frames: &[Frame],
+    blocks: &[BlockRecord],
+    classes: &[ClassRecord],
+    wanted: usize,
+    at: FrameRef,
+) -> Option<bool>
+    ensures row { (code : CodeOf) (cells : List SlotOf) (m : Frames) → code.blocks ≡ blocks.now → code.classes ≡ classes.now → Holds frames.now cells m → Leads frames.now m at → result ≡ main_in_class_of code m wanted at.stamp }
+{
+    let Some(class) = process_at(frames, blocks, classes, at) else {
+        return None;
+    };
+    is_level(classes, class, wanted)
+}
+
 // The number in a reference.
 #[inline(always)]
 fn stamp_of(slot: Slot) -> u64
@@ -159,6 +193,10 @@ pub fn reference_in(slot: Slot) -> Reference
     let stamp = stamp_of(slot);
     match slot.kind {
         SlotKind::Object => Reference::Object(FrameRef {
+            frame: slot.name,
+            stamp,
+        }),
+        SlotKind::Main => Reference::Main(FrameRef {
             frame: slot.name,
             stamp,
         }),
@@ -191,6 +229,15 @@ pub fn test(
             };
             Some(class as usize == wanted)
         }
+        Reference::Main(at) => {
+            if !same {
+                return main_in_class(frames, blocks, classes, wanted, at);
+            }
+            let Some(class) = process_at(frames, blocks, classes, at) else {
+                return None;
+            };
+            Some(class as usize == wanted)
+        }
         Reference::IsNone => Some(false),
         Reference::Other => None,
     }
@@ -210,6 +257,7 @@ pub fn may_stand(
 {
     match reference_in(slot) {
         Reference::Object(at) => in_class(frames, blocks, classes, wanted, at),
+        Reference::Main(at) => main_in_class(frames, blocks, classes, wanted, at),
         Reference::IsNone => Some(true),
         Reference::Other => None,
     }

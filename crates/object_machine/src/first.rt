@@ -9,10 +9,11 @@ ghost use Rattle.object_machine.specs.Standing.{Outside, Stores};
 
 use crate::begin::{Begun, Stop};
 use crate::machine::{Flow, Storage};
+use crate::making::begin_program;
 use crate::openings::{Beginning, open};
 use crate::paying::pay;
 use sim_base::{Limits, Line};
-use sim_code::{BlockKind, BlockRecord, Lined, Stage};
+use sim_code::{BlockKind, BlockRecord, ClassRecord, Lined, Stage};
 use sim_values::words_instance;
 use std::alloc::Global;
 
@@ -40,6 +41,7 @@ pub fn begin(
     alloc: Global,
     blocks: &[BlockRecord],
     instrs: &[Lined],
+    classes: &[ClassRecord],
     limits: &Limits,
     storage: &mut Storage,
 ) -> Begun
@@ -47,7 +49,7 @@ pub fn begin(
     ensures read { IsUnread result }
     ensures texts { storage.new.texts ≡ storage.old.texts }
     ensures image { storage.new.image ≡ storage.old.image }
-    ensures row { (code : CodeOf) (before : Option (List ℕ)) (now : Outside) (o : World) → code.blocks ≡ blocks.now → code.instrs ≡ instrs.now → Stores limits.now storage.old before now o empty_memory → Begins result code limits.now storage.new before now o }
+    ensures row { (code : CodeOf) (before : Option (List ℕ)) (now : Outside) (o : World) → code.blocks ≡ blocks.now → code.instrs ≡ instrs.now → code.classes ≡ classes.now → Stores limits.now storage.old before now o empty_memory → Begins result code limits.now storage.new before now o }
 {
     let Some(block) = blocks.get(0) else {
         return stopped(Flow::NoRule, Line(0));
@@ -68,8 +70,12 @@ pub fn begin(
         stage,
         object: false,
     };
-    match open(alloc, storage, 0, block, beginning, None) {
-        Ok(activation) => Begun::Started(activation),
-        Err(_) => stopped(Flow::Memory, Line(0)),
-    }
+    let Ok(activation) = open(alloc, storage, 0, block, beginning, None) else {
+        return stopped(Flow::Memory, Line(0));
+    };
+    let home = activation.registers.home;
+    let Ok(()) = begin_program(alloc, storage, blocks, classes, block, home) else {
+        return stopped(Flow::Memory, Line(0));
+    };
+    Begun::Started(activation)
 }

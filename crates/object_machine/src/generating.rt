@@ -21,8 +21,8 @@ use crate::entering::cover;
 use crate::handing::hand_over_all;
 use crate::levelled::{objects_of, take_linked};
 use crate::machine::{Activation, Flow, Registers, Storage};
-use crate::marks::linkage_of_class;
-use crate::members::enroll;
+use crate::making::make_object;
+use crate::marks::is_process;
 use crate::openings::{Beginning, open};
 use crate::parameters::{are_supplied, fill_parameters};
 use crate::paying::pay;
@@ -252,7 +252,8 @@ pub fn generate(
     let Some(block) = blocks.get(ready.block) else {
         return Flow::Memory;
     };
-    let flow = pay(limits, storage, words_instance(block.cells, false));
+    let process = is_process(classes, block.class);
+    let flow = pay(limits, storage, words_instance(block.cells, process));
     match flow {
         Flow::On => {}
         _ => return flow,
@@ -266,8 +267,8 @@ pub fn generate(
     if home.stamp >= 1 << 63 {
         return Flow::Memory;
     }
-    let linkage = linkage_of_class(blocks, classes, block.class);
-    let Ok(()) = enroll(&mut storage.members, linkage, home) else {
+    let parent = ready.actuals.parent;
+    let Ok(()) = make_object(storage, blocks, classes, block.class, parent, home) else {
         return Flow::Memory;
     };
     let Some(depth) = stack::push(&mut top.stack, ready.actuals.under, Slot::object(home)) else {

@@ -1,6 +1,7 @@
 //! The machine that runs code.
 #![tactic(auto)]
 
+mod activations;
 mod arrays;
 mod begin;
 mod blocks;
@@ -10,6 +11,7 @@ mod chains;
 mod classes;
 mod constants;
 mod control;
+mod deciding;
 mod ending;
 mod entering;
 mod finishing;
@@ -22,6 +24,7 @@ mod leaving;
 mod levelled;
 mod levels;
 mod machine;
+mod making;
 mod marks;
 mod members;
 mod names;
@@ -33,10 +36,14 @@ mod parameters;
 mod paying;
 mod placing;
 mod prefixing;
+mod process_ends;
+mod processes;
 mod reading;
 mod rows;
 mod running;
+mod scheduling;
 mod sets;
+mod simulated;
 mod stages;
 mod start;
 mod stepping;

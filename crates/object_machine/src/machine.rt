@@ -1,5 +1,6 @@
 //! What the machine works on.
 
+use crate::simulated::Simulated;
 use basic_io::{InImage, OutImage};
 use frame_arena::frames::Frame;
 use frame_arena::{Arrays, Slot};
@@ -72,6 +73,8 @@ pub struct Storage {
     pub image: Images,
     /// The links and heads with their sets.
     pub members: Members,
+    /// The simulation blocks that were entered, in the order of their entry.
+    pub simulations: Vec<Simulated>,
     /// The ticks taken.
     pub ticks: u64,
     /// The words in use.

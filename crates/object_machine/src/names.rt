@@ -1,10 +1,12 @@
 //! Standard names.
 ghost use Rattle.std.specs.Prelude.{◌≡◌, ℕ, ◌+◌, ◌<◌, ◌≤◌, ◌^◌, List, Option, Some, IfSome, length, true};
+ghost use Rattle.sim_code.specs.Code.{CodeOf};
 ghost use Rattle.sim_code.specs.Events.{having};
 ghost use Rattle.sim_code.specs.Machine.{Frames};
 ghost use Rattle.sim_code.specs.Outcome.{ArrayOf, World};
 ghost use Rattle.sim_code.specs.Rows.{standard_of, standard_row};
 ghost use Rattle.sim_code.specs.Running.{standard_runs};
+ghost use Rattle.sim_code.specs.Simulations.{is_simulation_name as is_simulation_name_of};
 ghost use Rattle.frame_arena.specs.Arrays.{AllLeadArrays, HoldsArrays};
 ghost use Rattle.frame_arena.specs.Frames.{AllLead, Holds};
 ghost use Rattle.sim_base.specs.declared.limits.Limits.{Limits as LimitsOf};
@@ -21,7 +23,9 @@ ghost use Rattle.object_machine.specs.Taking.{StepTakes};
 use crate::constants::index;
 use crate::machine::{Activation, Flow, Registers, Storage};
 use crate::placing::{Placing, put_back, put_text};
+use crate::processes::{is_process_name, process_standard};
 use crate::reading::{first_operand, read_operands, text_operand};
+use crate::scheduling::is_simulation_name;
 use crate::sets::{is_set_name, set_standard};
 use frame_arena::{EMPTY, Slot};
 use sim_base::Limits;
@@ -249,8 +253,8 @@ pub fn quiet_standard(
     ensures frames { storage.new.frames ≡ storage.old.frames }
     ensures other { Untouched result storage.old storage.new regs.old regs.new stack.old stack.new }
     ensures next { IfSome result (λ f. Advances f regs.old regs.new) }
-    ensures row { IfSome result (λ f. (line : ℕ) (below : List Activation) (now : Outside) →
-        Obeys f limits.now line (λ o m a b. having (standard_of operand) o (λ name. standard_row limits.now o m a b line name)) storage.old storage.new regs.old regs.new stack.old stack.new below below now now) }
+    ensures row { IfSome result (λ f. (code : CodeOf) (line : ℕ) (below : List Activation) (now : Outside) →
+        Obeys f limits.now line (λ o m a b. having (standard_of operand) o (λ name. standard_row code limits.now o m a b line name)) storage.old storage.new regs.old regs.new stack.old stack.new below below now now) }
 {
     let Some(name) = name_of(operand) else {
         return None;
@@ -282,8 +286,22 @@ pub fn quiet_standard(
     }
 }
 
-/// Does what a standard name does that is not quiet, and puts its value in the place of its operands, if it has one. At a quiet one the
-/// machine stops as for want of memory: `quiet_standard` does those.
+/// The name of a simulation block of which this is the number, if it is one.
+pub fn simulation_name(operand: i64) -> Option<Standard>
+    ensures is { IfSome result (λ name. standard_of operand ≡ Some name) }
+    ensures named { IfSome result (λ name. is_simulation_name_of name ≡ true) }
+{
+    let Some(name) = name_of(operand) else {
+        return None;
+    };
+    if !is_simulation_name(name) {
+        return None;
+    }
+    Some(name)
+}
+
+/// Does what a standard name does that is not quiet, and puts its value in the place of its operands, if it has one. At a quiet one, and at one
+/// of a simulation block, the machine stops as for want of memory: `quiet_standard` and `schedule` do those.
 #[tactic(auto, using(crate::proofs::Taking::takes_none))]
 pub fn standard<I: Source, O: Sink>(
     limits: &Limits,
@@ -304,10 +322,10 @@ pub fn standard<I: Source, O: Sink>(
     ensures read { InputEnds (I.faults input.old) (I.faults input.new) result }
 
     // Where the row takes nothing of the input nothing was read.
-    ensures takes { (s : List ℕ) → I.left input.old ≡ Some s → (line : ℕ) (below : List Activation) →
-        StepTakes limits.now (λ o m a b. having (standard_of operand) o (λ name. standard_row limits.now o m a b line name)) storage.old regs.old stack.old below (outside (O.written out.old) s) input.old input.new }
-    ensures row { Onward (I.left input.old) (I.left input.new) (λ s t. Still result (O.written out.old) (O.written out.new) × ((line : ℕ) (below : List Activation) →
-        Obeys result limits.now line (λ o m a b. having (standard_of operand) o (λ name. standard_row limits.now o m a b line name)) storage.old storage.new regs.old regs.new stack.old stack.new below below (outside (O.written out.old) s) (outside (O.written out.new) t))) }
+    ensures takes { (s : List ℕ) → I.left input.old ≡ Some s → (code : CodeOf) (line : ℕ) (below : List Activation) →
+        StepTakes limits.now (λ o m a b. having (standard_of operand) o (λ name. standard_row code limits.now o m a b line name)) storage.old regs.old stack.old below (outside (O.written out.old) s) input.old input.new }
+    ensures row { Onward (I.left input.old) (I.left input.new) (λ s t. Still result (O.written out.old) (O.written out.new) × ((code : CodeOf) (line : ℕ) (below : List Activation) →
+        Obeys result limits.now line (λ o m a b. having (standard_of operand) o (λ name. standard_row code limits.now o m a b line name)) storage.old storage.new regs.old regs.new stack.old stack.new below below (outside (O.written out.old) s) (outside (O.written out.new) t))) }
 {
     let Some(name) = name_of(operand) else {
         return Flow::NoRule;
@@ -318,6 +336,12 @@ pub fn standard<I: Source, O: Sink>(
     }
     if is_set_name(name) {
         return set_standard(storage, stack, regs, name);
+    }
+    if is_process_name(name) {
+        return process_standard(storage, stack, regs, name);
+    }
+    if is_simulation_name(name) {
+        return Flow::Memory;
     }
     let depth = regs.depth;
     let Some(address) = ready(storage, stack, depth, name) else {

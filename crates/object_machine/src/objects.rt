@@ -4,9 +4,9 @@ ghost use Rattle.sim_base.specs.declared.limits.Limits.{Limits as LimitsOf};
 ghost use Rattle.sim_values.specs.Plain.{Object, Truth};
 ghost use Rattle.sim_code.specs.declared.instr.Instr.{Instr};
 ghost use Rattle.sim_code.specs.Arrays.{finding_element};
-ghost use Rattle.sim_code.specs.Classes.{class_named as class_named_of};
+ghost use Rattle.sim_code.specs.Classes.{class_named as class_named_of, qualifying as qualifying_of};
 ghost use Rattle.sim_code.specs.Code.{CodeOf};
-ghost use Rattle.sim_code.specs.Events.{having, pop_object, pop_plain};
+ghost use Rattle.sim_code.specs.Events.{having, pop_object, pop_plain, pop_reference};
 ghost use Rattle.sim_code.specs.Instances.{CellPlace, ElementPlace};
 ghost use Rattle.sim_code.specs.Machine.{Address, Frames, Of, array_in, cell_at, index as index_of, level as at_level_of, on, place_in, plain};
 ghost use Rattle.sim_code.specs.Rows.{pushed, qualified, row};
@@ -19,7 +19,8 @@ ghost use Rattle.object_machine.specs.Standing.{HasImages, Obeys, Outside};
 use crate::arrays::{element_address, put_down};
 use crate::cells::level_frame;
 use crate::classes::{
-    Qualification, Reference, class_named, in_class, may_stand, qualify, reference_in, test,
+    Qualification, Reference, class_named, in_class, main_in_class, may_stand, qualify,
+    reference_in, test,
 };
 use crate::constants::index;
 use crate::machine::{Activation, Flow, Registers, Storage};
@@ -53,7 +54,7 @@ pub fn not_none(stack: &[Slot], regs: &mut Registers) -> Flow
     requires short { regs.old.pc + 1 < 2 ^ 64 }
     ensures fits { regs.new.depth ≤ length stack.now }
     ensures row { (l : LimitsOf) (line : ℕ) (p : StorageOf) (below : List Activation) (now : Outside) →
-        Obeys result l line (λ o m a b. pop_object plain line a.stack o (λ j st. on o m a (Of (Object j) ∷ st) b)) p p regs.old regs.new stack.now stack.now below below now now }
+        Obeys result l line (λ o m a b. pop_reference plain line a.stack o (λ v st. on o m a (Of v ∷ st) b)) p p regs.old regs.new stack.now stack.now below below now now }
 {
     let Some(at) = stack::pop(stack, regs.depth) else {
         return Flow::NoRule;
@@ -63,12 +64,34 @@ pub fn not_none(stack: &[Slot], regs: &mut Registers) -> Flow
             regs.pc += 1;
             Flow::On
         }
+        Reference::Main(_) => {
+            regs.pc += 1;
+            Flow::On
+        }
         Reference::IsNone => Flow::Fault(RunError::AccessThroughNone),
         Reference::Other => Flow::NoRule,
     }
 }
 
-/// A reference on top stays where its object is in a class.
+// A reference on top stays where it was found inside a class.
+#[inline(always)]
+fn qualified(regs: &mut Registers, inside: Option<bool>) -> Flow
+    requires short { regs.old.pc + 1 < 2 ^ 64 }
+    ensures depth { regs.new.depth ≡ regs.old.depth }
+    ensures row { (l : LimitsOf) (line : ℕ) (p : StorageOf) (stack : List Slot) (below : List Activation) (now : Outside) →
+        Obeys result l line (λ o m a b. qualifying_of line inside o (on o m a a.stack b)) p p regs.old regs.new stack stack below below now now }
+{
+    match inside {
+        Some(true) => {
+            regs.pc += 1;
+            Flow::On
+        }
+        Some(false) => Flow::Fault(RunError::OutsideQualification),
+        None => Flow::NoRule,
+    }
+}
+
+/// A reference on top stays where what it names is in a class.
 pub fn qua(
     frames: &[Frame],
     blocks: &[BlockRecord],
@@ -91,14 +114,12 @@ pub fn qua(
     };
     match reference_in(stack[at]) {
         Reference::Object(object) => {
-            let Some(inside) = in_class(frames, blocks, classes, class, object) else {
-                return Flow::NoRule;
-            };
-            if !inside {
-                return Flow::Fault(RunError::OutsideQualification);
-            }
-            regs.pc += 1;
-            Flow::On
+            let inside = in_class(frames, blocks, classes, class, object);
+            qualified(regs, inside)
+        }
+        Reference::Main(block) => {
+            let inside = main_in_class(frames, blocks, classes, class, block);
+            qualified(regs, inside)
         }
         Reference::IsNone => Flow::Fault(RunError::AccessThroughNone),
         Reference::Other => Flow::NoRule,
@@ -162,6 +183,7 @@ fn attribute(stack: &mut [Slot], regs: &mut Registers, cell: i64, class: u32) ->
             regs.pc += 1;
             Flow::On
         }
+        Reference::Main(_) => Flow::NoRule,
         Reference::IsNone => Flow::Fault(RunError::AccessThroughNone),
         Reference::Other => Flow::NoRule,
     }

@@ -13,6 +13,7 @@ use crate::entering::cover;
 use crate::generating::{Ready, set_up, supplies};
 use crate::levelled::{start_of, take_values};
 use crate::machine::{Activation, Flow, Registers, Storage};
+use crate::making::begin_block;
 use crate::paying::pay;
 use frame_arena::Slot;
 use sim_base::Limits;
@@ -105,6 +106,10 @@ pub fn enter_prefixed(
     let Some(next) = set_up(
         alloc, blocks, classes, storage, &top.stack, block, ready, false,
     ) else {
+        return Flow::Memory;
+    };
+    let home = next.registers.home;
+    let Ok(()) = begin_block(alloc, storage, blocks, classes, block.class, home) else {
         return Flow::Memory;
     };
     top.registers.depth = ready.actuals.under;

@@ -196,7 +196,6 @@ pub fn obey_other(
         Instr::NameVal { .. } => no_rule(),
         Instr::NameAddr { .. } => no_rule(),
         Instr::EndThunk => no_rule(),
-        Instr::Act(_) => no_rule(),
         Instr::NotNone => not_none(stack, regs),
         _ => not_built(),
     }

@@ -34,7 +34,14 @@ pub fn run<I: Source, O: Sink>(
     let Ok(mut storage) = start(alloc, &code.texts, code.blocks.len(), limits) else {
         return Ending::Memory;
     };
-    let begun = begin(alloc, &code.blocks, &code.instrs, limits, &mut storage);
+    let begun = begin(
+        alloc,
+        &code.blocks,
+        &code.instrs,
+        &code.classes,
+        limits,
+        &mut storage,
+    );
     match begun {
         Begun::Stopped(stop) => answer(limits, &mut storage, out, stop),
         Begun::Started(mut top) => {

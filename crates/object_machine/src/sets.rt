@@ -1,26 +1,29 @@
 //! The procedures of links and heads.
-ghost use Rattle.std.specs.Prelude.{◌≡◌, ℕ, ◌+◌, ◌<◌, ◌≤◌, ◌^◌, List, Option, IfOk, IfSome, Some, None, false, length, true};
+ghost use Rattle.std.specs.Prelude.{◌≡◌, ℕ, ◌+◌, ◌<◌, ◌≤◌, ◌^◌, List, Option, IfOk, IfSome, Some, None, false, length, map, true};
 ghost use Rattle.std.specs.Option.{ForSome};
 ghost use Rattle.sim_base.specs.declared.limits.Limits.{Limits};
 ghost use Rattle.sim_code.specs.Machine.{Frames, Machine, Of, Value, on, plain};
 ghost use Rattle.sim_code.specs.Outcome.{ArrayOf, Run, World};
 ghost use Rattle.sim_code.specs.Rows.{with_value};
 ghost use Rattle.sim_code.specs.Sets.{is_set_name as is_set_name_of, linkage_named, object_at, performing_set, set_effect, takes_linkage as takes_linkage_of};
-ghost use Rattle.sim_values.specs.Plain.{Object};
+ghost use Rattle.sim_code.specs.Simulations.{named_in};
+ghost use Rattle.sim_values.specs.Plain.{MainOf, Object, Plain};
 ghost use Rattle.simset.specs.Instances.{Memberships, number_of};
 ghost use Rattle.simset.specs.Sets.{IsHeadAt, is_head_at};
 ghost use Rattle.frame_arena.specs.Arrays.{AllLeadArrays, RegionOf, names_array};
 ghost use Rattle.frame_arena.specs.declared.frames.Frame.{Frame};
-ghost use Rattle.frame_arena.specs.Frames.{AllLead, SlotLeads};
+ghost use Rattle.frame_arena.specs.Frames.{AllLead, Leads, SlotLeads};
 ghost use Rattle.frame_arena.specs.Slots.{value_of};
 ghost use Rattle.frame_arena.specs.Stacks.{values_of};
 ghost use Rattle.object_machine.specs.Enrolling.{AllReach, Rises, stamps};
+ghost use Rattle.object_machine.specs.Simulating.{blocks_of, simulation_of};
 ghost use Rattle.object_machine.specs.SetRows.{CameAs, GivesSlot, IsQuiet, Names, TakesOwner, TakesParameter, flow_by, with_slot};
 ghost use Rattle.object_machine.specs.Standing.{Obeys, Outside};
 
 use crate::classes::{Reference, reference_in};
 use crate::machine::{Activation, Flow, Registers, Storage};
 use crate::members::place_of;
+use crate::simulated::{Simulated, is_simulated};
 use frame_arena::{NOTHING, Slot, stack};
 use sim_values::{FrameRef, Standard};
 use simset::{LinkageNo, Rings};
@@ -62,19 +65,20 @@ fn takes_linkage(name: Standard) -> bool
 /// What a value names among the linkages.
 #[derive(Clone, Copy)]
 pub enum Named {
-    /// The linkage of an object.
+    /// The linkage of an object or of a main program.
     Linkage(LinkageNo),
     /// It is `none`.
     IsNone,
-    /// It is no reference, or its object is no linkage.
+    /// It is no reference, or what it names is no linkage.
     Other,
     /// Want of memory.
     Memory,
 }
 
-// The linkage of an object. It answers want of memory for a number of 2^32 or more.
-fn linkage_of(objects: &[FrameRef], object: FrameRef) -> Named
-    ensures { (o : Memberships) → Rises (stamps objects.now) → o.instances ≡ stamps objects.now → Names result o (Some (Object object.stamp)) }
+/// The linkage of an object or of a main program. It answers want of memory for a number of 2^32 or more.
+pub fn linkage_of(objects: &[FrameRef], object: FrameRef) -> Named
+    ensures object { (o : Memberships) → Rises (stamps objects.now) → o.instances ≡ stamps objects.now → Names result o (Some (Object object.stamp)) }
+    ensures main { (o : Memberships) → Rises (stamps objects.now) → o.instances ≡ stamps objects.now → Names result o (Some (MainOf object.stamp)) }
 {
     let Some(place) = place_of(objects, object.stamp) else {
         return Named::Other;
@@ -91,6 +95,7 @@ fn linkage_in(objects: &[FrameRef], slot: Slot) -> Named
 {
     match reference_in(slot) {
         Reference::Object(object) => linkage_of(objects, object),
+        Reference::Main(block) => linkage_of(objects, block),
         Reference::IsNone => Named::IsNone,
         Reference::Other => Named::Other,
     }
@@ -105,8 +110,8 @@ pub struct Parameter {
     pub under: usize,
 }
 
-// The parameter of a procedure, if it has one.
-fn take_parameter(
+/// The parameter of a procedure, if it has one.
+pub fn take_parameter(
     objects: &[FrameRef],
     stack: &[Slot],
     depth: usize,
@@ -185,7 +190,7 @@ pub enum Came {
 // Of a link the next one in its set, of a head its first link.
 fn successor(rings: &Rings, x: LinkageNo) -> Came
     requires { x.0 < length rings.now.sets }
-    ensures { (o : Memberships) (p : Option ℕ) → o.sets ≡ rings.now.sets → CameAs result (set_effect Standard.Suc o x.0 p) o rings.now.sets }
+    ensures { (naming : ℕ → Plain) (o : Memberships) (p : Option ℕ) → o.sets ≡ rings.now.sets → CameAs result naming (set_effect Standard.Suc naming o x.0 p) o rings.now.sets }
 {
     Came::Linkage(rings.suc(x))
 }
@@ -193,7 +198,7 @@ fn successor(rings: &Rings, x: LinkageNo) -> Came
 // Of a link the one before it in its set, of a head its last link.
 fn predecessor(rings: &Rings, x: LinkageNo) -> Came
     requires { x.0 < length rings.now.sets }
-    ensures { (o : Memberships) (p : Option ℕ) → o.sets ≡ rings.now.sets → CameAs result (set_effect Standard.Pred o x.0 p) o rings.now.sets }
+    ensures { (naming : ℕ → Plain) (o : Memberships) (p : Option ℕ) → o.sets ≡ rings.now.sets → CameAs result naming (set_effect Standard.Pred naming o x.0 p) o rings.now.sets }
 {
     Came::Linkage(rings.pred(x))
 }
@@ -201,14 +206,14 @@ fn predecessor(rings: &Rings, x: LinkageNo) -> Came
 // The same, but the head for a first link.
 fn previous(rings: &Rings, x: LinkageNo) -> Came
     requires { x.0 < length rings.now.sets }
-    ensures { (o : Memberships) (p : Option ℕ) → o.sets ≡ rings.now.sets → CameAs result (set_effect Standard.Prev o x.0 p) o rings.now.sets }
+    ensures { (naming : ℕ → Plain) (o : Memberships) (p : Option ℕ) → o.sets ≡ rings.now.sets → CameAs result naming (set_effect Standard.Prev naming o x.0 p) o rings.now.sets }
 {
     Came::Linkage(rings.prev(x))
 }
 
 // The first link of a head.
 fn first_link(rings: &Rings, x: LinkageNo) -> Came
-    ensures { (o : Memberships) (p : Option ℕ) → o.sets ≡ rings.now.sets → CameAs result (set_effect Standard.First o x.0 p) o rings.now.sets }
+    ensures { (naming : ℕ → Plain) (o : Memberships) (p : Option ℕ) → o.sets ≡ rings.now.sets → CameAs result naming (set_effect Standard.First naming o x.0 p) o rings.now.sets }
 {
     if !rings.is_head(x) {
         return Came::NoRule;
@@ -218,7 +223,7 @@ fn first_link(rings: &Rings, x: LinkageNo) -> Came
 
 // The last link of a head.
 fn last_link(rings: &Rings, x: LinkageNo) -> Came
-    ensures { (o : Memberships) (p : Option ℕ) → o.sets ≡ rings.now.sets → CameAs result (set_effect Standard.Last o x.0 p) o rings.now.sets }
+    ensures { (naming : ℕ → Plain) (o : Memberships) (p : Option ℕ) → o.sets ≡ rings.now.sets → CameAs result naming (set_effect Standard.Last naming o x.0 p) o rings.now.sets }
 {
     if !rings.is_head(x) {
         return Came::NoRule;
@@ -228,7 +233,7 @@ fn last_link(rings: &Rings, x: LinkageNo) -> Came
 
 // Whether a head has no link. Time does not grow with their number.
 fn is_without_links(rings: &Rings, x: LinkageNo) -> Came
-    ensures { (o : Memberships) (p : Option ℕ) → o.sets ≡ rings.now.sets → CameAs result (set_effect Standard.Empty o x.0 p) o rings.now.sets }
+    ensures { (naming : ℕ → Plain) (o : Memberships) (p : Option ℕ) → o.sets ≡ rings.now.sets → CameAs result naming (set_effect Standard.Empty naming o x.0 p) o rings.now.sets }
 {
     if !rings.is_head(x) {
         return Came::NoRule;
@@ -241,7 +246,7 @@ fn is_without_links(rings: &Rings, x: LinkageNo) -> Came
 
 // How many links a head has.
 fn link_count(rings: &Rings, x: LinkageNo) -> Came
-    ensures { (o : Memberships) (p : Option ℕ) → o.sets ≡ rings.now.sets → CameAs result (set_effect Standard.Cardinal o x.0 p) o rings.now.sets }
+    ensures { (naming : ℕ → Plain) (o : Memberships) (p : Option ℕ) → o.sets ≡ rings.now.sets → CameAs result naming (set_effect Standard.Cardinal naming o x.0 p) o rings.now.sets }
 {
     if !rings.is_head(x) {
         return Came::NoRule;
@@ -251,7 +256,7 @@ fn link_count(rings: &Rings, x: LinkageNo) -> Came
 
 // A link leaves its set.
 fn take_out(rings: &mut Rings, x: LinkageNo) -> Came
-    ensures { (o : Memberships) (p : Option ℕ) → o.sets ≡ rings.old.sets → CameAs result (set_effect Standard.Out o x.0 p) o rings.new.sets }
+    ensures { (naming : ℕ → Plain) (o : Memberships) (p : Option ℕ) → o.sets ≡ rings.old.sets → CameAs result naming (set_effect Standard.Out naming o x.0 p) o rings.new.sets }
 {
     if !rings.is_link(x) {
         return Came::NoRule;
@@ -262,7 +267,7 @@ fn take_out(rings: &mut Rings, x: LinkageNo) -> Came
 
 // Every link of a head leaves its set.
 fn take_all_out(rings: &mut Rings, x: LinkageNo) -> Came
-    ensures { (o : Memberships) (p : Option ℕ) → o.sets ≡ rings.old.sets → CameAs result (set_effect Standard.Clear o x.0 p) o rings.new.sets }
+    ensures { (naming : ℕ → Plain) (o : Memberships) (p : Option ℕ) → o.sets ≡ rings.old.sets → CameAs result naming (set_effect Standard.Clear naming o x.0 p) o rings.new.sets }
 {
     if !rings.is_head(x) {
         return Came::NoRule;
@@ -274,7 +279,7 @@ fn take_all_out(rings: &mut Rings, x: LinkageNo) -> Came
 // A link goes behind a linkage.
 fn put_behind(rings: &mut Rings, x: LinkageNo, given: Option<LinkageNo>) -> Came
     requires { ForSome given (λ p. p.0 < length rings.old.sets) }
-    ensures { (o : Memberships) → o.sets ≡ rings.old.sets → CameAs result (set_effect Standard.Follow o x.0 (number_of given)) o rings.new.sets }
+    ensures { (naming : ℕ → Plain) (o : Memberships) → o.sets ≡ rings.old.sets → CameAs result naming (set_effect Standard.Follow naming o x.0 (number_of given)) o rings.new.sets }
 {
     if !rings.is_link(x) {
         return Came::NoRule;
@@ -286,7 +291,7 @@ fn put_behind(rings: &mut Rings, x: LinkageNo, given: Option<LinkageNo>) -> Came
 // A link goes before a linkage.
 fn put_before(rings: &mut Rings, x: LinkageNo, given: Option<LinkageNo>) -> Came
     requires { ForSome given (λ p. p.0 < length rings.old.sets) }
-    ensures { (o : Memberships) → o.sets ≡ rings.old.sets → CameAs result (set_effect Standard.Precede o x.0 (number_of given)) o rings.new.sets }
+    ensures { (naming : ℕ → Plain) (o : Memberships) → o.sets ≡ rings.old.sets → CameAs result naming (set_effect Standard.Precede naming o x.0 (number_of given)) o rings.new.sets }
 {
     if !rings.is_link(x) {
         return Came::NoRule;
@@ -306,9 +311,9 @@ fn is_head_or_none(rings: &Rings, given: Option<LinkageNo>) -> bool
     }
 }
 
-// A link goes into the set of a head.
-fn put_last(rings: &mut Rings, x: LinkageNo, given: Option<LinkageNo>) -> Came
-    ensures { (o : Memberships) → o.sets ≡ rings.old.sets → CameAs result (set_effect Standard.Into o x.0 (number_of given)) o rings.new.sets }
+/// A link goes into the set of a head.
+pub fn put_last(rings: &mut Rings, x: LinkageNo, given: Option<LinkageNo>) -> Came
+    ensures { (naming : ℕ → Plain) (o : Memberships) → o.sets ≡ rings.old.sets → CameAs result naming (set_effect Standard.Into naming o x.0 (number_of given)) o rings.new.sets }
 {
     if !rings.is_link(x) {
         return Came::NoRule;
@@ -332,7 +337,7 @@ fn is_made(rings: &Rings, given: Option<LinkageNo>) -> bool
 
 // Does a procedure of a linkage.
 fn perform(rings: &mut Rings, name: Standard, x: LinkageNo, given: Option<LinkageNo>) -> Came
-    ensures { (o : Memberships) → o.sets ≡ rings.old.sets → CameAs result (set_effect name o x.0 (number_of given)) o rings.new.sets }
+    ensures { (naming : ℕ → Plain) (o : Memberships) → o.sets ≡ rings.old.sets → CameAs result naming (set_effect name naming o x.0 (number_of given)) o rings.new.sets }
 {
     if x.0 as usize >= rings.len() || !is_made(rings, given) {
         return Came::Memory;
@@ -354,9 +359,29 @@ fn perform(rings: &mut Rings, name: Standard, x: LinkageNo, given: Option<Linkag
     }
 }
 
-// The object of a linkage, or `none`. It answers `None` for a frame of a number of 2^63 or more.
-fn object_of(objects: &[FrameRef], number: Option<LinkageNo>) -> Option<Slot>
-    ensures is { IfSome result (λ s. (o : Memberships) → o.instances ≡ stamps objects.now → value_of s ≡ Of (object_at o (number_of number))) }
+// An instance that is a linkage, as a reference: a simulation block stands for its main program. It answers `None` for a frame of a number of
+// 2^63 or more.
+fn reference_to(simulations: &[Simulated], object: FrameRef) -> Option<Slot>
+    ensures is { IfSome result (λ s. Rises (stamps (blocks_of simulations.now)) → value_of s ≡ Of (named_in (map simulation_of simulations.now) object.stamp)) }
+    ensures leads { IfSome result (λ s. (frames : List Frame) (m : Frames) → Leads frames m object → SlotLeads frames m s) }
+    ensures no_array { IfSome result (λ s. names_array s.kind ≡ false) }
+{
+    if object.stamp >= 1 << 63 {
+        return None;
+    }
+    if is_simulated(simulations, object.stamp) {
+        return Some(Slot::main_program(object));
+    }
+    Some(Slot::object(object))
+}
+
+// What a linkage is that of, or `none`. It answers `None` for a frame of a number of 2^63 or more.
+fn object_of(
+    simulations: &[Simulated],
+    objects: &[FrameRef],
+    number: Option<LinkageNo>,
+) -> Option<Slot>
+    ensures is { IfSome result (λ s. (o : Memberships) → Rises (stamps (blocks_of simulations.now)) → o.instances ≡ stamps objects.now → value_of s ≡ Of (object_at (named_in (map simulation_of simulations.now)) o (number_of number))) }
     ensures leads { IfSome result (λ s. (frames : List Frame) (m : Frames) → AllReach frames m objects.now → SlotLeads frames m s) }
     ensures no_array { IfSome result (λ s. names_array s.kind ≡ false) }
 {
@@ -366,20 +391,21 @@ fn object_of(objects: &[FrameRef], number: Option<LinkageNo>) -> Option<Slot>
     let Some(object) = objects.get(x.0 as usize) else {
         return Some(NOTHING);
     };
-    if object.stamp >= 1 << 63 {
-        return None;
-    }
-    Some(Slot::object(*object))
+    reference_to(simulations, *object)
 }
 
 // The value of a procedure, if it has one.
-fn value_in(objects: &[FrameRef], came: Came) -> Result<Option<Slot>, Missing>
-    ensures is { (o : Memberships) → o.instances ≡ stamps objects.now → GivesSlot result came o }
+fn value_in(
+    simulations: &[Simulated],
+    objects: &[FrameRef],
+    came: Came,
+) -> Result<Option<Slot>, Missing>
+    ensures is { (o : Memberships) → Rises (stamps (blocks_of simulations.now)) → o.instances ≡ stamps objects.now → GivesSlot result came (named_in (map simulation_of simulations.now)) o }
     ensures leads { IfOk result (λ v. IfSome v (λ s. (frames : List Frame) (m : Frames) → AllReach frames m objects.now → SlotLeads frames m s)) }
     ensures no_array { IfOk result (λ v. IfSome v (λ s. names_array s.kind ≡ false)) }
 {
     match came {
-        Came::Linkage(number) => match object_of(objects, number) {
+        Came::Linkage(number) => match object_of(simulations, objects, number) {
             Some(object) => Ok(Some(object)),
             None => Err(Missing::Memory),
         },
@@ -391,8 +417,8 @@ fn value_in(objects: &[FrameRef], came: Came) -> Result<Option<Slot>, Missing>
     }
 }
 
-// Puts a value, if there is one, behind the others where there is room, and answers how many there are then.
-fn put(stack: &mut [Slot], depth: usize, value: Option<Slot>) -> Option<usize>
+/// Puts a value, if there is one, behind the others where there is room, and answers how many there are then.
+pub fn put(stack: &mut [Slot], depth: usize, value: Option<Slot>) -> Option<usize>
     requires fits { depth ≤ length stack.old }
     ensures within { IfSome result (λ n. n ≤ length stack.new) }
     ensures long { length stack.new ≡ length stack.old }
@@ -406,8 +432,8 @@ fn put(stack: &mut [Slot], depth: usize, value: Option<Slot>) -> Option<usize>
     stack::push(stack, depth, slot)
 }
 
-// How a step ends that can't go on.
-fn flow_of(missing: Missing) -> Flow
+/// How a step ends that can't go on.
+pub fn flow_of(missing: Missing) -> Flow
     ensures { result ≡ flow_by missing }
 {
     match missing {
@@ -416,7 +442,7 @@ fn flow_of(missing: Missing) -> Flow
     }
 }
 
-/// Does a procedure of the linkage of an object.
+/// Does a procedure of the linkage of an object or of a main program.
 #[inline(never)]
 pub fn set_standard(
     storage: &mut Storage,
@@ -444,7 +470,7 @@ pub fn set_standard(
     };
     let rings = &mut storage.members.rings;
     let came = perform(rings, name, owner.linkage, parameter.linkage);
-    let value = match value_in(&storage.members.objects, came) {
+    let value = match value_in(&storage.simulations, &storage.members.objects, came) {
         Ok(value) => value,
         Err(missing) => return flow_of(missing),
     };

@@ -69,6 +69,7 @@ pub fn start(
             rings: Rings::new(alloc),
             objects: Vec::new(alloc),
         },
+        simulations: Vec::new(alloc),
         ticks: 0,
         words: 0,
         wanted: 0,

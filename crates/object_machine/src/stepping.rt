@@ -10,15 +10,17 @@ ghost use Rattle.sim_base.specs.declared.limits.Limits.{Limits as LimitsOf};
 ghost use Rattle.object_machine.specs.Taking.{StepTakes};
 ghost use Rattle.frame_arena.specs.declared.slot.Slot.{Slot};
 
+use crate::activations::activate;
 use crate::calling::call;
 use crate::entering::enter;
 use crate::generating::generate;
 use crate::leaving::{end_level, give_result, leave};
 use crate::machine::{Activation, Flow, Registers, Storage};
-use crate::names::standard;
+use crate::names::{simulation_name, standard};
 use crate::pairs::assign;
 use crate::prefixing::enter_prefixed;
 use crate::rows::obey_other;
+use crate::scheduling::schedule;
 use crate::stages::{inner, next_declarations};
 use crate::texts::constant;
 use crate::transfers::{attach, detach, resume};
@@ -74,15 +76,25 @@ pub fn step<I: Source, O: Sink>(
         Obeys result limits.now line (λ o m a b. row code limits.now o m a b line instr) storage.old storage.new top.old.registers top.new.registers top.old.stack.items top.new.stack.items below.old.items below.new.items (outside (O.written out.old) s) (outside (O.written out.new) t))) }
 {
     match instr {
-        Instr::Std(name) => standard(
-            limits,
-            storage,
-            input,
-            out,
-            &mut top.stack,
-            &mut top.registers,
-            name,
-        ),
+        Instr::Std(operand) => match simulation_name(operand) {
+            Some(name) => {
+                let flow = schedule(blocks, classes, storage, top, below, name);
+                without_ports(flow)
+            }
+            None => standard(
+                limits,
+                storage,
+                input,
+                out,
+                &mut top.stack,
+                &mut top.registers,
+                operand,
+            ),
+        },
+        Instr::Act(operand) => {
+            let flow = activate(blocks, classes, storage, top, below, operand);
+            without_ports(flow)
+        }
         Instr::AssignT => {
             let flow = assign(&mut storage.texts, &top.stack, &mut top.registers);
             without_ports(flow)

@@ -1,7 +1,6 @@
 //! Rows that transfer control from component to component: `detach`, `call` and `resume` of an object.
-ghost use Rattle.std.specs.Prelude.{◌≡◌, ℕ, ◌+◌, ◌<◌, ◌≤◌, ◌∷◌, ◌^◌, List, Option, Some, length, slice_get, true, false};
+ghost use Rattle.std.specs.Prelude.{◌≡◌, ℕ, ◌+◌, ◌<◌, ◌≤◌, ◌∷◌, ◌^◌, List, Option, Some, None, length, slice_get, false};
 ghost use Rattle.sim_base.specs.declared.limits.Limits.{Limits as LimitsOf};
-ghost use Rattle.sim_chains.specs.Chains.{stands_on as stands_on_chain};
 ghost use Rattle.sim_chains.specs.Components.{AttachedObject, ResumedObject};
 ghost use Rattle.sim_values.specs.Plain.{Object};
 ghost use Rattle.sim_code.specs.Events.{pop_plain};
@@ -13,7 +12,7 @@ ghost use Rattle.frame_arena.specs.declared.frames.Component.{Component as Compo
 ghost use Rattle.frame_arena.specs.Frames.{Has, IsKeeping, Leads, frame_at, is_object_as};
 ghost use Rattle.frame_arena.specs.Stacks.{values_of};
 ghost use Rattle.object_machine.specs.Standing.{AllFit, Leaves, Obeys, Outside, Stands, activation_at, below_of};
-ghost use Rattle.object_machine.specs.Transferring.{frame_of, operating};
+ghost use Rattle.object_machine.specs.Transferring.{controlling};
 
 use crate::chains::{cut_above, join_chain, leave_chain, stands_on};
 use crate::classes::{Reference, reference_in};
@@ -54,11 +53,9 @@ fn leave_object(
     Flow::On
 }
 
-// A resumed object gives control to the main component of its system, whose chain the head keeps. What stood above the head is kept by
-// the object.
+// The main component of a system goes on, whose chain the head keeps. The resumed object that operates keeps what stood above the head.
 fn give_to_main(
     storage: &mut Storage,
-    object: u64,
     head: FrameRef,
     top: &mut Activation,
     below: &mut Vec<Activation>,
@@ -70,8 +67,8 @@ fn give_to_main(
     ensures others { AllFit below.new.items }
     ensures texts { storage.new.texts ≡ storage.old.texts }
     ensures image { storage.new.image ≡ storage.old.image }
-    ensures row { (l : LimitsOf) (line : ℕ) (before : Option (List ℕ)) (now : Outside) (o : World) (m : Frames) → Stands l storage.old top.old.registers top.old.stack.items below.old.items before now o m → slice_get m.standings object ≡ Some ResumedObject → head.stamp ≡ system_head_of m object → stands_on_chain frame_of object (operating top.old below.old.items) ≡ true →
-        Leaves result l line storage.new top.new.registers top.new.stack.items below.new.items before now (transferring owner Detaching line o (activation_at top.old.registers top.old.stack.items ∷ below_of below.old.items) m (Object object)) }
+    ensures row { (l : LimitsOf) (line : ℕ) (before : Option (List ℕ)) (now : Outside) (o : World) (m : Frames) → Stands l storage.old top.old.registers top.old.stack.items below.old.items before now o m →
+        Leaves result l line storage.new top.new.registers top.new.stack.items below.new.items before now (controlling line o (activation_at top.old.registers top.old.stack.items ∷ below_of below.old.items) m head.stamp None) }
 {
     let alloc = *storage.frames.allocator();
     let mut above = Vec::new(alloc);
@@ -142,14 +139,49 @@ fn take_turn(
     join_chain(&mut kept, top, below)
 }
 
-// The top goes on behind its instruction, with so many values, once it is the top again.
+/// The top goes on behind its instruction, with so many values, once it is the top again.
 #[inline(always)]
-fn wait(top: &mut Activation, depth: usize)
+pub fn wait(top: &mut Activation, depth: usize)
     requires short { top.old.registers.pc + 1 < 2 ^ 64 }
     ensures { top.new ≡ record (top.old) { registers = record (top.old.registers) { pc = top.old.registers.pc + 1; depth = depth } } }
 {
     top.registers.pc += 1;
     top.registers.depth = depth;
+}
+
+/// The main component of a system goes on, of which this is the head. Where it operates already, nothing is done. It is `E45` where the
+/// head does not operate.
+pub fn resume_main(
+    storage: &mut Storage,
+    head: FrameRef,
+    depth: usize,
+    top: &mut Activation,
+    below: &mut Vec<Activation>,
+) -> Flow
+    requires there { Has storage.old.frames.items head.frame head.stamp }
+    requires short { top.old.registers.pc + 1 < 2 ^ 64 }
+    requires less { depth ≤ length top.old.stack.items }
+    requires fits { top.old.registers.depth ≤ length top.old.stack.items }
+    requires others { AllFit below.old.items }
+    ensures fits { top.new.registers.depth ≤ length top.new.stack.items }
+    ensures others { AllFit below.new.items }
+    ensures texts { storage.new.texts ≡ storage.old.texts }
+    ensures image { storage.new.image ≡ storage.old.image }
+    ensures row { (l : LimitsOf) (line : ℕ) (before : Option (List ℕ)) (now : Outside) (o : World) (m : Frames) → Stands l storage.old top.old.registers top.old.stack.items below.old.items before now o m →
+        Leaves result l line storage.new top.new.registers top.new.stack.items below.new.items before now (controlling line o (waiting (activation_at top.old.registers top.old.stack.items) (values_of depth top.old.stack.items) ∷ below_of below.old.items) m head.stamp None) }
+{
+    match frames::component_at(&storage.frames, head.frame as usize) {
+        Component::Waiting => {}
+        _ => {
+            wait(top, depth);
+            return Flow::On;
+        }
+    }
+    if !stands_on(head.stamp, top, below) {
+        return Flow::Fault(RunError::SystemNotOperating);
+    }
+    wait(top, depth);
+    give_to_main(storage, head, top, below)
 }
 
 // `detach` of a resumed object. It answers want of memory where its system head was given back already, to which no run comes.
@@ -179,18 +211,7 @@ fn detach_resumed(
     let Some(head) = system_head(&storage.frames, place) else {
         return Flow::Memory;
     };
-    match frames::component_at(&storage.frames, head.frame as usize) {
-        Component::Waiting => {}
-        _ => {
-            wait(top, depth);
-            return Flow::On;
-        }
-    }
-    if !stands_on(head.stamp, top, below) {
-        return Flow::Fault(RunError::SystemNotOperating);
-    }
-    wait(top, depth);
-    give_to_main(storage, object, head, top, below)
+    resume_main(storage, head, depth, top, below)
 }
 
 // `resume` of a detached object. It answers want of memory where its system head was given back already, to which no run comes.
@@ -303,8 +324,8 @@ fn call_instance(
     }
 }
 
-// `resume` of an instance. It answers want of memory where its frame was given back already, to which no run comes.
-fn resume_instance(
+/// `resume` of an instance. It answers want of memory where its frame was given back already, to which no run comes.
+pub fn resume_instance(
     storage: &mut Storage,
     object: FrameRef,
     depth: usize,
@@ -340,7 +361,7 @@ fn resume_instance(
 
 /// `detach` of the object that the reference on top names. An attached one leaves the operating chain with what stands above it, and
 /// keeps both; a resumed one gives control to the main component of its system. Where it is no object, nothing is done. It is `E44`
-/// where the object does not operate, and `E45` where its system head does not. It answers want of memory where a frame was given back
+/// where the object does not operate, or where it is a main program, and `E45` where its system head does not. It answers want of memory where a frame was given back
 /// already, to which no run comes.
 pub fn detach(storage: &mut Storage, top: &mut Activation, below: &mut Vec<Activation>) -> Flow
     requires short { top.old.registers.pc + 1 < 2 ^ 64 }
@@ -358,13 +379,14 @@ pub fn detach(storage: &mut Storage, top: &mut Activation, below: &mut Vec<Activ
     };
     match reference_in(top.stack[at]) {
         Reference::Object(object) => detach_instance(storage, object, at, top, below),
+        Reference::Main(_) => Flow::Fault(RunError::ObjectNotOperating),
         Reference::IsNone => Flow::NoRule,
         Reference::Other => Flow::NoRule,
     }
 }
 
 /// `call` of the object that the reference on top names: the chain that it keeps goes on top of the operating chain. It is `E40` for
-/// `none`, `E41` where it is attached or no object, `E42` where it is terminated, and `E43` where it is resumed. It answers want of
+/// `none`, `E41` where it is attached, no object or a main program, `E42` where it is terminated, and `E43` where it is resumed. It answers want of
 /// memory where the frame was given back already, to which no run comes.
 pub fn attach(storage: &mut Storage, top: &mut Activation, below: &mut Vec<Activation>) -> Flow
     requires short { top.old.registers.pc + 1 < 2 ^ 64 }
@@ -382,6 +404,7 @@ pub fn attach(storage: &mut Storage, top: &mut Activation, below: &mut Vec<Activ
     };
     match reference_in(top.stack[at]) {
         Reference::Object(object) => call_instance(storage, object, at, top, below),
+        Reference::Main(_) => Flow::Fault(RunError::ComponentIsAttached),
         Reference::IsNone => Flow::Fault(RunError::NoneIsNoComponent),
         Reference::Other => Flow::NoRule,
     }
@@ -389,7 +412,7 @@ pub fn attach(storage: &mut Storage, top: &mut Activation, below: &mut Vec<Activ
 
 /// `resume` of the object that the reference on top names: what stands above its system head is kept by the component that operates
 /// there, and the chain of the object takes its place. Where it is resumed already, nothing is done. It is `E40` for `none`, `E46`
-/// where it is attached or no object, `E42` where it is terminated, and `E45` where its system head does not operate. It answers want
+/// where it is attached, no object or a main program, `E42` where it is terminated, and `E45` where its system head does not operate. It answers want
 /// of memory where a frame was given back already, to which no run comes.
 pub fn resume(storage: &mut Storage, top: &mut Activation, below: &mut Vec<Activation>) -> Flow
     requires short { top.old.registers.pc + 1 < 2 ^ 64 }
@@ -407,6 +430,7 @@ pub fn resume(storage: &mut Storage, top: &mut Activation, below: &mut Vec<Activ
     };
     match reference_in(top.stack[at]) {
         Reference::Object(object) => resume_instance(storage, object, at, top, below),
+        Reference::Main(_) => Flow::Fault(RunError::ResumedIsAttached),
         Reference::IsNone => Flow::Fault(RunError::NoneIsNoComponent),
         Reference::Other => Flow::NoRule,
     }

@@ -26,7 +26,7 @@ use Rattle.sim_agree.specs.Plain.{Plain}
 use Rattle.sim_agree.specs.TablesOf.{TablesOf}
 use Rattle.sim_agree.proofs.Clean.{OwedAt, RowFor}
 use Rattle.sim_agree.proofs.Constants.{has_split, only}
-use Rattle.sim_agree.proofs.Fine.{Alike, RowIn, attribute_row, class_row, formal_row, own_row, procedure_row}
+use Rattle.sim_agree.proofs.Fine.{Alike, RowIn, attribute_row, class_row, formal_row, own_row, procedure_row, simulation_row}
 use Rattle.sim_agree.proofs.Groups.{Has, OwnEntry, declared_in_text, here, own_array, own_marks, own_segment, own_variable, there}
 use Rattle.sim_agree.proofs.Steps.{Parametric}
 use Rattle.sim_agree.proofs.Tables as t
@@ -78,6 +78,7 @@ listed_own bs ts x d row e o a (procedure_row y p) = p.listed
 listed_own bs ts x d row e o a (class_row y p) = absurd (own_no_class e p.number o (subst (Alike e) p.entry a))
 listed_own bs ts x d row e o a (formal_row y p l) = l
 listed_own bs ts x d row e o a (attribute_row y p) = p.listed
+listed_own bs ts x d row e o a (simulation_row y p) = absurd (own_no_attribute e p.name (typed_or_none (Some p.first) (parameter_of p.name)) (typed_or_none (Some p.first) (result_of p.name)) o (subst (Alike e) p.entry a))
 
 no_attribute : (e f : Entry) → OwnEntry e → Alike e f → is_attribute f ≡ false
 no_attribute e (entry.Variable ty) o a = refl
@@ -229,6 +230,7 @@ module _ (s : Source) (of : TablesOf s) (plain : Plain s.program) (order : InOrd
         go row e f y z (class_row u p) = absurd (let g : entry.Class p.number ≡ entry.Array ty n = sym p.entry ∙ f in cc)
         go row e f y z (formal_row u p l) = absurd (subst Parametric f p)
         go row e f y z (attribute_row u p) = absurd (let g : entry.Attribute p.name (typed_or_none (Some p.first) (parameter_of p.name)) (typed_or_none (Some p.first) (result_of p.name)) ≡ entry.Array ty n = sym p.entry ∙ f in cc)
+        go row e f y z (simulation_row u p) = absurd (let g : entry.Attribute p.name (typed_or_none (Some p.first) (parameter_of p.name)) (typed_or_none (Some p.first) (result_of p.name)) ≡ entry.Array ty n = sym p.entry ∙ f in cc)
         go row e f y z (own_row u p) =
             let q = array_like p.entry ty n p.fits (subst (Alike p.entry) f p.alike) in
             subst (λ v. Among d (arrays_of_block s (declared_in_text v))) z

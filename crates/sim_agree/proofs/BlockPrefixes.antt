@@ -1,4 +1,4 @@
--- The prefix of each prefixed block of an allowed plain program is a declared class, whose parameters are those of the block.
+-- The prefix of each prefixed block of an allowed plain program is a declared class, whose parameters are those of the block, or a standard one.
 use Rattle.std.proofs.Common.{◌≡◌, ◌⊎◌, inl, inr, ℕ, zero, suc, Bool, true, false, List, [], ◌∷◌, ◌++◌, ◌+◌, length, map, Option, Some, None, refl, sym, ap, ◌∙◌, subst, append-nil}
 use Rattle.std.specs.Prelude.{◌||◌, not, slice_get}
 use Rattle.sim_base.specs.declared.numbering.DeclNo.{DeclNo}
@@ -14,7 +14,6 @@ use Rattle.sim_scope.specs.declared.standard.StandardName.TheVariants as standar
 use Rattle.sim_scope.specs.declared.types.StandardClass.{StandardClass}
 use Rattle.sim_scope.specs.declared.types.Entry.TheVariants as entry
 use Rattle.sim_scope.specs.declared.types.StandardPrefix.{StandardPrefix}
-use Rattle.sim_scope.specs.declared.types.StandardPrefix.TheVariants as prefix
 use Rattle.sim_scope.specs.Bodies.{Around, Body, arms_bodies, block_bodies, bodies_of, classes_declared, declaration_bodies, declarations_bodies, prefix_bodies, program_bodies, standard_bodies, standard_body, statement_bodies, statements_bodies}
 use Rattle.sim_scope.specs.Declare.{declared_by}
 use Rattle.sim_scope.specs.Laws.{Shape, outline, shape_of}
@@ -34,7 +33,7 @@ use Rattle.sim_meaning.specs.Levels.{is_class}
 use Rattle.sim_meaning.specs.Texts.{BlockText, ClassText, ConnectionText, PrefixedText, ProcedureText, StandardText, Text, program_texts, text}
 use Rattle.sim_sound.specs.Held.{Among, first, later}
 use Rattle.sim_sound.specs.Typed.{Ends, NoFormal, NoFormals, Starts, as_block, as_prefixed, outermost, prefixed as prefixed_by}
-use Rattle.sim_agree.specs.Facts.{BlockPrefix, SetPrefix}
+use Rattle.sim_agree.specs.Facts.{BlockPrefix, StandardPrefixed}
 use Rattle.sim_agree.specs.Plain.{Plain}
 use Rattle.sim_agree.specs.TablesOf.{TablesOf}
 use Rattle.sim_agree.proofs.Chains as c
@@ -45,9 +44,8 @@ use Rattle.sim_agree.proofs.Headings as h
 use Rattle.sim_agree.proofs.Qualified.{no_least}
 use Rattle.sim_agree.proofs.Tables as t
 use Rattle.sim_agree.proofs.Owned.{OwnerIs}
-use Rattle.sim_agree.proofs.PlainNames.{SetsOrNone}
 use Rattle.sim_agree.proofs.Prefixing.{HomeFrom, PrefixOf}
-use Rattle.sim_agree.proofs.SetBlocks.{set_base}
+use Rattle.sim_agree.proofs.StandardBlocks.{standard_base_of}
 
 -- ---- each body of the kind has a prefix
 
@@ -216,22 +214,18 @@ module _ (s : Source) (of : TablesOf s) (plain : Plain s.program) (order : InOrd
         go None None e f g = absurd (let q : base_known None None ≡ true = sym (ap (λ o. base_known o row.standard) e ∙ ap (base_known None) f) ∙ g in let z : false ≡ true = q in cc)
 
     abbrev KnownHere : Type 0
-    KnownHere = ((b : ℕ) × (base s.tables k ≡ Some b)) ⊎ ((base s.tables k ≡ None) × (standard_in (slice_get s.tables.blocks k) ≡ Some prefix.Simset))
+    KnownHere = ((b : ℕ) × (base s.tables k ≡ Some b)) ⊎ ((base s.tables k ≡ None) × ((which : StandardPrefix) × (standard_in (slice_get s.tables.blocks k) ≡ Some which)))
 
     known_here : KnownHere
     unfolding base
     known_here = go (slice_get T.blocks k) refl
       where
-        set_only : (row : BlockOf) (which : StandardPrefix) → SetsOrNone row.standard → row.standard ≡ Some which → row.standard ≡ Some prefix.Simset
-        set_only row which (inl e) f = absurd (let z : None ≡ Some which = sym e ∙ f in cc)
-        set_only row which (inr e) f = e
-
         from_row : (row : BlockOf) → slice_get T.blocks k ≡ Some row → KnownIn row → KnownHere
         from_row row at (inl q) = inl (q.0, t.own_base_of s of plain order k other ∙ ap base_in at ∙ q.1)
         from_row row at (inr q) =
             inr (
               t.own_base_of s of plain order k other ∙ ap base_in at ∙ q.0,
-              (t.completed_tables s of plain order).standards k ∙ ap standard_in at ∙ set_only row q.1.0 (subst (λ o. SetsOrNone (standard_in o)) at ((t.P s of plain order).standards k)) q.1.1,
+              (q.1.0, (t.completed_tables s of plain order).standards k ∙ ap standard_in at ∙ q.1.1),
             )
 
         go : (o : Option BlockOf) → slice_get T.blocks k ≡ o → KnownHere
@@ -258,20 +252,20 @@ module _ (s : Source) (of : TablesOf s) (plain : Plain s.program) (order : InOrd
             none_of [] d n a = elim a [ ]
 
     -- it gives no level
-    module _ (none : base s.tables k ≡ None) (is_set : standard_in (slice_get s.tables.blocks k) ≡ Some prefix.Simset) where
-      set_denoted : prefix_in s.tables (slice_get s.tables.blocks k) ≡ Some (denotation.Standard (standard.Prefix prefix.Simset))
-      set_denoted = go (slice_get s.tables.blocks k) is_set
+    module _ (none : base s.tables k ≡ None) (p : StandardPrefix) (known : standard_in (slice_get s.tables.blocks k) ≡ Some p) where
+      standard_denoted : prefix_in s.tables (slice_get s.tables.blocks k) ≡ Some (denotation.Standard (standard.Prefix p))
+      standard_denoted = go (slice_get s.tables.blocks k) known
         where
-          chosen : (p : Option StandardPrefix) (o : Option Denotation) → p ≡ Some prefix.Simset → (elim p [ None ↦ o | Some which ↦ Some (denotation.Standard (standard.Prefix which)) ]) ≡ Some (denotation.Standard (standard.Prefix prefix.Simset))
+          chosen : (q : Option StandardPrefix) (o : Option Denotation) → q ≡ Some p → (elim q [ None ↦ o | Some which ↦ Some (denotation.Standard (standard.Prefix which)) ]) ≡ Some (denotation.Standard (standard.Prefix p))
           chosen None o e = absurd (cc)
-          chosen (Some which) o e = (let same : which ≡ prefix.Simset = cc in ap (λ z. Some (denotation.Standard (standard.Prefix z))) same)
+          chosen (Some which) o e = (let same : which ≡ p = cc in ap (λ z. Some (denotation.Standard (standard.Prefix z))) same)
 
-          go : (o : Option BlockOf) → standard_in o ≡ Some prefix.Simset → prefix_in s.tables o ≡ Some (denotation.Standard (standard.Prefix prefix.Simset))
+          go : (o : Option BlockOf) → standard_in o ≡ Some p → prefix_in s.tables o ≡ Some (denotation.Standard (standard.Prefix p))
           go None e = absurd (cc)
           go (Some row) e = chosen row.standard (class_denoted (owner_of_level s.tables row.base)) e
 
-      set_prefix : SetPrefix s k
-      set_prefix = record { based = none; denoted = set_denoted; parameters = formals_none s.tables k none no_parameters }
+      standard_prefixed : StandardPrefixed s k
+      standard_prefixed = record { which = p; based = none; denoted = standard_denoted; parameters = formals_none s.tables k none no_parameters }
 
     -- or it is a class, which belongs to its declaration
     module _ (b : ℕ) (based : base s.tables k ≡ Some b) where
@@ -318,12 +312,12 @@ module _ (s : Source) (of : TablesOf s) (plain : Plain s.program) (order : InOrd
             parameters = ap (closing.formals_from s) (formals_same s.tables (length s.tables.blocks) k b (c.ends s of plain order k other) based no_parameters);
           }
 
-    pub block_prefix : BlockPrefix s k ⊎ SetPrefix s k
+    pub block_prefix : BlockPrefix s k ⊎ StandardPrefixed s k
     block_prefix = go known_here
       where
-        go : KnownHere → BlockPrefix s k ⊎ SetPrefix s k
+        go : KnownHere → BlockPrefix s k ⊎ StandardPrefixed s k
         go (inl q) = inl (class_prefix q.0 q.1)
-        go (inr q) = inr (set_prefix q.0 q.1)
+        go (inr q) = inr (standard_prefixed q.0 q.1.0 q.1.1)
 
   -- nothing is around the program's block, so no class is its prefix
   none_first : (class : Identifier) (es : Expressions) (ds : Declarations) (ss : Statements) → text s 0 ≡ Some (PrefixedText class es ds ss) → base s.tables 0 ≡ None
@@ -340,7 +334,7 @@ module _ (s : Source) (of : TablesOf s) (plain : Plain s.program) (order : InOrd
       from_prefix : (b : ℕ) → PrefixOf (declared_by s.program).tables s.tables 0 b ⊎ (base (declared_by s.program).tables 0 ≡ Some b) → ⊥
       from_prefix b (inl p) = no_home p.row.encloser p.outer (outermost_row p.row p.at) p.around
       from_prefix b (inr was) =
-          let q = set_base (declared_by s.program) (program_texts s.program.prefix s.program.block) [] (t.program_agrees s.program plain).fine 0 b was in
+          let q = standard_base_of (declared_by s.program) (program_texts s.program.prefix s.program.block) [] (t.program_agrees s.program plain).fine 0 b was in
           let z : Some (PrefixedText class es ds ss) ≡ Some (StandardText q.2.which) = sym is ∙ q.2.text in cc
 
       go : (o : Option ℕ) → base s.tables 0 ≡ o → base s.tables 0 ≡ None

@@ -1,6 +1,6 @@
--- What `simset` in front of a class or a block adds to its tables: behind its block those of three classes, and behind its declarations theirs and
--- those of their attributes.
-use Rattle.std.proofs.Common.{◌≡◌, ◌<◌, ◌+◌, ◌⊎◌, inl, inr, ℕ, zero, suc, true, false, List, [], ◌∷◌, ◌++◌, length, Option, Some, refl, ap, ◌∙◌, arith, append_assoc, if◌then◌else◌}
+-- What a standard prefix in front of a class or a block adds to its tables: behind its block those of its classes, and behind its declarations
+-- theirs and those of their attributes.
+use Rattle.std.proofs.Common.{◌≡◌, ◌<◌, ◌+◌, ◌⊎◌, inl, inr, ℕ, zero, suc, Bool, true, false, List, [], ◌∷◌, ◌++◌, length, Option, Some, None, refl, ap, ◌∙◌, arith, append_assoc, if◌then◌else◌}
 use Rattle.std.specs.Prelude.{slice_get, slice_set}
 use Rattle.std.specs.List.{list_any}
 use Rattle.std.specs.Str.{bytes_eq}
@@ -9,14 +9,12 @@ use Rattle.sim_base.specs.declared.numbering.DeclNo.{DeclNo}
 use Rattle.sim_scope.specs.declared.scopes.Declaration.{Declaration}
 use Rattle.sim_scope.specs.declared.types.Entry.TheVariants as entry
 use Rattle.sim_scope.specs.declared.types.StandardClass.{StandardClass}
-use Rattle.sim_scope.specs.declared.types.StandardClass.TheVariants as standard
-use Rattle.sim_scope.specs.declared.types.StandardPrefix.TheVariants as prefix
-use Rattle.sim_scope.specs.Building.{Brings, BuildingOf, Provides, attribute_entry, brings, brings_at, brings_new, class_row, first_brought, marked, name_of, place_of, provided_at, provided_in, provides, provides_in, standard_row, with_brought, with_name}
+use Rattle.sim_scope.specs.Building.{Brings, BuildingOf, Mark, Provides, attribute_entry, brings, brings_at, brings_new, class_row, first_brought, marked, name_of, place_of, provided_alone, provided_at, provided_in, provides, provides_in, standard_row, with_brought, with_name}
+use Rattle.sim_scope.specs.Runs.{run}
 use Rattle.sim_scope.specs.Standard.{attribute_name}
 use Rattle.sim_scope.specs.Tables.{BlockOf}
 use Rattle.sim_scope.proofs.Kept.{set_here}
 use Rattle.sim_values.specs.declared.standard.Standard.{Standard}
-use Rattle.sim_values.specs.declared.standard.Standard.TheVariants as name
 
 -- ---- lists
 
@@ -58,93 +56,171 @@ parts_get {A = A} (x ∷ xs) ys (suc n) y e = go (parts_get xs ys n y e)
     go (inl q) = let lt : n < length xs = q.0 in inl ((let l : length (x ∷ xs) ≡ suc (length xs) = omega arith in omega arith), q.1)
     go (inr q) = let s : n ≡ length xs + q.0 = q.1 in inr (q.0, (let l : length (x ∷ xs) ≡ suc (length xs) = omega arith in omega arith), q.2)
 
--- ---- the tables on the way
+-- ---- one mark after the other
 
--- so far: the row of the block in front, the rows behind its block, and what is declared
-module _ (b : BuildingOf) (n : ℕ) (token : ℕ) (cur : b.current ≡ Some n) (last : length b.tables.blocks ≡ n + 1) where
-  abbrev pub behind : BlockOf → List BlockOf → List Declaration → BuildingOf
-  behind r xs es = record b { tables = record b.tables { blocks = slice_set b.tables.blocks n r ++ xs; declarations = b.tables.declarations ++ es } }
+-- what is added so far: the row of the block in front, the rows behind its block, and what is declared
+pub record Adding : Type 0 where
+  pub row : BlockOf
+  pub rows : List BlockOf
+  pub declarations : List Declaration
 
+-- block n, where the next declaration has a number
+module _ (n next : ℕ) where
   abbrev pub number : List Declaration → DeclNo
-  number es = record { 0 = length b.tables.declarations + length es }
+  number es = record { 0 = next + length es }
 
-  as_number : (es : List Declaration) → record { 0 = length (b.tables.declarations ++ es) } ≡ number es
-  as_number es = ap (λ m. let d : DeclNo = record { 0 = m } in d) (length-append b.tables.declarations es)
+  abbrev brings_on : Bool → StandardClass → (token : ℕ) → Adding → Adding
+  brings_on true which token a = a
+  brings_on false which token a = record {
+    row = with_brought (name_of which) (number a.declarations) a.row;
+    rows = a.rows ++ class_row which n a.row (number a.declarations) ∷ [];
+    declarations = a.declarations ++ standard_row (name_of which) token n (entry.Class (n + 1 + length a.rows)) false ∷ [];
+  }
 
-  row_at : (r : BlockOf) (xs : List BlockOf) (old : BlockOf) → slice_get b.tables.blocks n ≡ Some old → slice_get (slice_set b.tables.blocks n r ++ xs) n ≡ Some r
-  row_at r xs old at =
-      let l : length (slice_set b.tables.blocks n r) ≡ length b.tables.blocks = length-set b.tables.blocks n r in
-      front_get (slice_set b.tables.blocks n r) xs n (omega arith) ∙ set_here b.tables.blocks n old r at
+  abbrev provides_in_class : Bool → (place : ℕ) → Standard → (token : ℕ) → (first : Option DeclNo) → BlockOf → Adding → Adding
+  provides_in_class true place name token first q a = a
+  provides_in_class false place name token first q a = record {
+    row = a.row;
+    rows = slice_set a.rows place (with_name q (attribute_name name) (number a.declarations));
+    declarations = a.declarations ++ standard_row (attribute_name name) token (n + 1 + place) (attribute_entry first name) true ∷ [];
+  }
 
-  size_at : (r : BlockOf) (xs : List BlockOf) → length (slice_set b.tables.blocks n r ++ xs) ≡ n + 1 + length xs
-  size_at r xs =
-      let l : length (slice_set b.tables.blocks n r) ≡ length b.tables.blocks = length-set b.tables.blocks n r in
-      let k : length (slice_set b.tables.blocks n r ++ xs) ≡ length (slice_set b.tables.blocks n r) + length xs = length-append (slice_set b.tables.blocks n r) xs in omega arith
+  abbrev provides_there : (place : ℕ) → Standard → (token : ℕ) → (first : Option DeclNo) → Option BlockOf → Adding → Adding
+  provides_there place name token first None a = a
+  provides_there place name token first (Some q) a = provides_in_class (list_any (bytes_eq (attribute_name name)) q.names) place name token first q a
+
+  abbrev provides_alone : Bool → Standard → (token : ℕ) → (first : Option DeclNo) → Adding → Adding
+  provides_alone true name token first a = a
+  provides_alone false name token first a = record {
+    row = with_brought (attribute_name name) (number a.declarations) a.row;
+    rows = a.rows;
+    declarations = a.declarations ++ standard_row (attribute_name name) token n (attribute_entry first name) false ∷ [];
+  }
+
+  abbrev pub adding : Adding → Mark → Adding
+  adding a (Brings which token) = brings_on (list_any (bytes_eq (name_of which)) a.row.brought_names) which token a
+  adding a (Provides (Some which) name token) = provides_there (place_of which) name token (slice_get a.row.brought 0) (slice_get a.rows (place_of which)) a
+  adding a (Provides None name token) = provides_alone (list_any (bytes_eq (attribute_name name)) a.row.brought_names) name token (slice_get a.row.brought 0) a
+  adding a _ = a
+
+-- marks of these kinds alone
+abbrev pub AllBring : List Mark → Type 0
+AllBring [] = Unit {0}
+AllBring (Brings which token ∷ ms) = AllBring ms
+AllBring (Provides which name token ∷ ms) = AllBring ms
+AllBring _ = ⊥
+
+-- ---- they do so to the tables
+
+module _ (b : BuildingOf) (n : ℕ) (cur : b.current ≡ Some n) (last : length b.tables.blocks ≡ n + 1) (old : BlockOf) (at : slice_get b.tables.blocks n ≡ Some old) where
+  abbrev pub behind : Adding → BuildingOf
+  behind a = record b { tables = record b.tables { blocks = slice_set b.tables.blocks n a.row ++ a.rows; declarations = b.tables.declarations ++ a.declarations } }
+
+  -- where the next declaration is behind those
+  next_number : (a : Adding) → (let d : DeclNo = record { 0 = length (b.tables.declarations ++ a.declarations) } in d) ≡ number n (length b.tables.declarations) a.declarations
+  next_number a = ap (λ m. let d : DeclNo = record { 0 = m } in d) (length-append b.tables.declarations a.declarations)
+
+  front : (a : Adding) → length (slice_set b.tables.blocks n a.row) ≡ n + 1
+  front a = length-set b.tables.blocks n a.row ∙ last
+
+  row_at : (a : Adding) → slice_get (slice_set b.tables.blocks n a.row ++ a.rows) n ≡ Some a.row
+  row_at a =
+      let l : length (slice_set b.tables.blocks n a.row) ≡ n + 1 = front a in
+      front_get (slice_set b.tables.blocks n a.row) a.rows n (omega arith) ∙ set_here b.tables.blocks n old a.row at
+
+  size_at : (a : Adding) → length (slice_set b.tables.blocks n a.row ++ a.rows) ≡ n + 1 + length a.rows
+  size_at a =
+      let l : length (slice_set b.tables.blocks n a.row) ≡ n + 1 = front a in
+      let k : length (slice_set b.tables.blocks n a.row ++ a.rows) ≡ length (slice_set b.tables.blocks n a.row) + length a.rows = length-append (slice_set b.tables.blocks n a.row) a.rows in omega arith
+
+  -- the row of the block, with others behind it
+  reset : (a : Adding) (x : BlockOf) → slice_set (slice_set b.tables.blocks n a.row ++ a.rows) n x ≡ slice_set b.tables.blocks n x ++ a.rows
+  reset a x =
+      let l : length (slice_set b.tables.blocks n a.row) ≡ n + 1 = front a in
+      front_set (slice_set b.tables.blocks n a.row) a.rows n x (omega arith) ∙ ap (λ z. z ++ a.rows) (set_twice b.tables.blocks n a.row x)
+
+  abbrev made : List BlockOf → List Declaration → BuildingOf
+  made bs ds = record b { tables = record b.tables { blocks = bs; declarations = ds } }
 
   -- a class more
-  pub brings_more : (which : StandardClass) (old r : BlockOf) (xs : List BlockOf) (es : List Declaration) → slice_get b.tables.blocks n ≡ Some old → list_any (bytes_eq (name_of which)) r.brought_names ≡ false
-      → marked (behind r xs es) (Brings which token)
-      ≡ behind (with_brought (name_of which) (number es) r) (xs ++ class_row which n r (number es) ∷ []) (es ++ standard_row (name_of which) token n (entry.Class (n + 1 + length xs)) false ∷ [])
+  brings_step : (which : StandardClass) (token : ℕ) (a : Adding) → marked (behind a) (Brings which token) ≡ behind (adding n (length b.tables.declarations) a (Brings which token))
   unfolding marked
-  brings_more which old r xs es at fresh =
-      ap (brings (behind r xs es) which token) cur ∙ ap (brings_at (behind r xs es) which token n) (row_at r xs old at)
-      ∙ ap (λ z. if z then behind r xs es else brings_new (behind r xs es) which token n r) fresh
-      ∙ numbered (record { 0 = length (b.tables.declarations ++ es) }) (number es) (as_number es) (length (slice_set b.tables.blocks n r ++ xs)) (n + 1 + length xs) (size_at r xs)
+  brings_step which token a = ap (brings (behind a) which token) cur ∙ ap (brings_at (behind a) which token n) (row_at a) ∙ go (list_any (bytes_eq (name_of which)) a.row.brought_names)
     where
-      l : length (slice_set b.tables.blocks n r) ≡ length b.tables.blocks
-      l = length-set b.tables.blocks n r
+      with_number : DeclNo → ℕ → BuildingOf
+      with_number d m = made (slice_set (slice_set b.tables.blocks n a.row ++ a.rows) n (with_brought (name_of which) d a.row) ++ class_row which n a.row d ∷ []) ((b.tables.declarations ++ a.declarations) ++ standard_row (name_of which) token n (entry.Class m) false ∷ [])
 
-      rows : (x y : BlockOf) → slice_set (slice_set b.tables.blocks n r ++ xs) n x ++ y ∷ [] ≡ slice_set b.tables.blocks n x ++ (xs ++ y ∷ [])
-      rows x y =
-          ap (λ z. z ++ y ∷ []) (front_set (slice_set b.tables.blocks n r) xs n x (let q = l in omega arith) ∙ ap (λ z. z ++ xs) (set_twice b.tables.blocks n r x))
-          ∙ append_assoc (slice_set b.tables.blocks n x) xs (y ∷ [])
+      go : (c : Bool) → (if c then behind a else brings_new (behind a) which token n a.row) ≡ behind (brings_on n (length b.tables.declarations) c which token a)
+      go true = refl
+      go false =
+          let d : DeclNo = number n (length b.tables.declarations) a.declarations in
+          ap (λ z. with_number z (length (slice_set b.tables.blocks n a.row ++ a.rows))) (next_number a) ∙ ap (with_number d) (size_at a)
+          ∙ ap (λ z. made (z ++ class_row which n a.row d ∷ []) ((b.tables.declarations ++ a.declarations) ++ standard_row (name_of which) token n (entry.Class (n + 1 + length a.rows)) false ∷ [])) (reset a (with_brought (name_of which) d a.row))
+          ∙ ap (λ z. made z ((b.tables.declarations ++ a.declarations) ++ standard_row (name_of which) token n (entry.Class (n + 1 + length a.rows)) false ∷ [])) (append_assoc (slice_set b.tables.blocks n (with_brought (name_of which) d a.row)) a.rows (class_row which n a.row d ∷ []))
+          ∙ ap (made (slice_set b.tables.blocks n (with_brought (name_of which) d a.row) ++ (a.rows ++ class_row which n a.row d ∷ []))) (append_assoc b.tables.declarations a.declarations (standard_row (name_of which) token n (entry.Class (n + 1 + length a.rows)) false ∷ []))
 
-      made : DeclNo → ℕ → BuildingOf
-      made d m = record b {
-        tables = record b.tables {
-          blocks = slice_set (slice_set b.tables.blocks n r ++ xs) n (with_brought (name_of which) d r) ++ class_row which n r d ∷ [];
-          declarations = (b.tables.declarations ++ es) ++ standard_row (name_of which) token n (entry.Class m) false ∷ [];
-        };
-      }
+  first_is : (a : Adding) → first_brought (slice_get (slice_set b.tables.blocks n a.row ++ a.rows) n) ≡ slice_get a.row.brought 0
+  first_is a = ap first_brought (row_at a)
 
-      numbered : (d e : DeclNo) → d ≡ e → (m k : ℕ) → m ≡ k
-          → made d m ≡ behind (with_brought (name_of which) e r) (xs ++ class_row which n r e ∷ []) (es ++ standard_row (name_of which) token n (entry.Class k) false ∷ [])
-      numbered d e same m k as_many =
-          ap (λ z. made z m) same ∙ ap (made e) as_many
-          ∙ ap (λ bs. let c : BuildingOf = record b { tables = record b.tables { blocks = bs; declarations = (b.tables.declarations ++ es) ++ standard_row (name_of which) token n (entry.Class k) false ∷ [] } } in c) (rows (with_brought (name_of which) e r) (class_row which n r e))
-          ∙ ap (λ ds. let c : BuildingOf = record b { tables = record b.tables { blocks = slice_set b.tables.blocks n (with_brought (name_of which) e r) ++ (xs ++ class_row which n r e ∷ []); declarations = ds } } in c) (append_assoc b.tables.declarations es (standard_row (name_of which) token n (entry.Class k) false ∷ []))
-
-  -- an attribute more
-  pub provides_more : (which : StandardClass) (name : Standard) (old r q : BlockOf) (xs : List BlockOf) (es : List Declaration) (first : Option DeclNo) → slice_get b.tables.blocks n ≡ Some old → slice_get r.brought 0 ≡ first
-      → slice_get xs (place_of which) ≡ Some q → list_any (bytes_eq (attribute_name name)) q.names ≡ false
-      → marked (behind r xs es) (Provides (Some which) name token)
-      ≡ behind r (slice_set xs (place_of which) (with_name q (attribute_name name) (number es))) (es ++ standard_row (attribute_name name) token (n + 1 + place_of which) (attribute_entry first name) true ∷ [])
+  -- an attribute of a class more
+  provides_step : (which : StandardClass) (name : Standard) (token : ℕ) (a : Adding) → marked (behind a) (Provides (Some which) name token) ≡ behind (adding n (length b.tables.declarations) a (Provides (Some which) name token))
   unfolding marked
-  provides_more which name old r q xs es first at is_first has fresh =
-      ap (provides (behind r xs es) (Some which) name token) cur
-      ∙ ap (λ o. provides_in (behind r xs es) (Some which) name token n o) (ap first_brought (row_at r xs old at) ∙ is_first)
-      ∙ ap (provided_in (behind r xs es) name token first (n + 1 + place_of which)) here
-      ∙ ap (λ z. if z then behind r xs es else provided_at (behind r xs es) (with_name q (attribute_name name) (record { 0 = length (b.tables.declarations ++ es) })) name token first (n + 1 + place_of which) true) fresh
-      ∙ numbered (record { 0 = length (b.tables.declarations ++ es) }) (number es) (as_number es)
+  provides_step which name token a =
+      ap (provides (behind a) (Some which) name token) cur ∙ ap (provides_in (behind a) (Some which) name token n) (first_is a)
+      ∙ ap (provided_in (behind a) name token first (n + 1 + place_of which)) here ∙ there (slice_get a.rows (place_of which))
     where
-      ys : List BlockOf
-      ys = slice_set b.tables.blocks n r
+      first : Option DeclNo
+      first = slice_get a.row.brought 0
 
-      place : n + 1 + place_of which ≡ length (slice_set b.tables.blocks n r) + place_of which
-      place = let l : length (slice_set b.tables.blocks n r) ≡ length b.tables.blocks = length-set b.tables.blocks n r in omega arith
+      place : n + 1 + place_of which ≡ length (slice_set b.tables.blocks n a.row) + place_of which
+      place = let l : length (slice_set b.tables.blocks n a.row) ≡ n + 1 = front a in omega arith
 
-      here : slice_get (slice_set b.tables.blocks n r ++ xs) (n + 1 + place_of which) ≡ Some q
-      here = ap (slice_get (slice_set b.tables.blocks n r ++ xs)) place ∙ behind_get (slice_set b.tables.blocks n r) xs (place_of which) ∙ has
+      here : slice_get (slice_set b.tables.blocks n a.row ++ a.rows) (n + 1 + place_of which) ≡ slice_get a.rows (place_of which)
+      here = ap (slice_get (slice_set b.tables.blocks n a.row ++ a.rows)) place ∙ behind_get (slice_set b.tables.blocks n a.row) a.rows (place_of which)
 
       row : Declaration
       row = standard_row (attribute_name name) token (n + 1 + place_of which) (attribute_entry first name) true
 
-      made : DeclNo → BuildingOf
-      made d = record b { tables = record b.tables { blocks = slice_set (slice_set b.tables.blocks n r ++ xs) (n + 1 + place_of which) (with_name q (attribute_name name) d); declarations = (b.tables.declarations ++ es) ++ standard_row (attribute_name name) token (n + 1 + place_of which) (attribute_entry first name) true ∷ [] } }
+      go : (q : BlockOf) (c : Bool) → (if c then behind a else provided_at (behind a) (with_name q (attribute_name name) (record { 0 = length (b.tables.declarations ++ a.declarations) })) name token first (n + 1 + place_of which) true)
+          ≡ behind (provides_in_class n (length b.tables.declarations) c (place_of which) name token first q a)
+      go q true = refl
+      go q false =
+          let d : DeclNo = number n (length b.tables.declarations) a.declarations in
+          ap (λ (z : DeclNo). made (slice_set (slice_set b.tables.blocks n a.row ++ a.rows) (n + 1 + place_of which) (with_name q (attribute_name name) z)) ((b.tables.declarations ++ a.declarations) ++ row ∷ [])) (next_number a)
+          ∙ ap (λ z. made z ((b.tables.declarations ++ a.declarations) ++ row ∷ []))
+          (ap (λ m. slice_set (slice_set b.tables.blocks n a.row ++ a.rows) m (with_name q (attribute_name name) d)) place ∙ behind_set (slice_set b.tables.blocks n a.row) a.rows (place_of which) (with_name q (attribute_name name) d))
+          ∙ ap (made (slice_set b.tables.blocks n a.row ++ slice_set a.rows (place_of which) (with_name q (attribute_name name) d))) (append_assoc b.tables.declarations a.declarations (row ∷ []))
 
-      numbered : (d e : DeclNo) → d ≡ e → made d ≡ behind r (slice_set xs (place_of which) (with_name q (attribute_name name) e)) (es ++ row ∷ [])
-      numbered d e same =
-          ap made same
-          ∙ ap (λ bs. let c : BuildingOf = record b { tables = record b.tables { blocks = bs; declarations = (b.tables.declarations ++ es) ++ row ∷ [] } } in c)
-          (ap (λ m. slice_set (slice_set b.tables.blocks n r ++ xs) m (with_name q (attribute_name name) e)) place ∙ behind_set (slice_set b.tables.blocks n r) xs (place_of which) (with_name q (attribute_name name) e))
-          ∙ ap (λ ds. let c : BuildingOf = record b { tables = record b.tables { blocks = slice_set b.tables.blocks n r ++ slice_set xs (place_of which) (with_name q (attribute_name name) e); declarations = ds } } in c) (append_assoc b.tables.declarations es (row ∷ []))
+      there : (o : Option BlockOf) → provided_in (behind a) name token first (n + 1 + place_of which) o ≡ behind (provides_there n (length b.tables.declarations) (place_of which) name token first o a)
+      there None = refl
+      there (Some q) = go q (list_any (bytes_eq (attribute_name name)) q.names)
+
+  -- one of `simulation` itself
+  alone_step : (name : Standard) (token : ℕ) (a : Adding) → marked (behind a) (Provides None name token) ≡ behind (adding n (length b.tables.declarations) a (Provides None name token))
+  unfolding marked
+  alone_step name token a =
+      ap (provides (behind a) None name token) cur ∙ ap (provides_in (behind a) None name token n) (first_is a)
+      ∙ ap (provided_alone (behind a) name token first n) (row_at a) ∙ go (list_any (bytes_eq (attribute_name name)) a.row.brought_names)
+    where
+      first : Option DeclNo
+      first = slice_get a.row.brought 0
+
+      row : Declaration
+      row = standard_row (attribute_name name) token n (attribute_entry first name) false
+
+      go : (c : Bool) → (if c then behind a else provided_at (behind a) (with_brought (attribute_name name) (record { 0 = length (b.tables.declarations ++ a.declarations) }) a.row) name token first n false)
+          ≡ behind (provides_alone n (length b.tables.declarations) c name token first a)
+      go true = refl
+      go false =
+          let d : DeclNo = number n (length b.tables.declarations) a.declarations in
+          ap (λ (z : DeclNo). made (slice_set (slice_set b.tables.blocks n a.row ++ a.rows) n (with_brought (attribute_name name) z a.row)) ((b.tables.declarations ++ a.declarations) ++ row ∷ [])) (next_number a)
+          ∙ ap (λ z. made z ((b.tables.declarations ++ a.declarations) ++ row ∷ [])) (reset a (with_brought (attribute_name name) d a.row))
+          ∙ ap (made (slice_set b.tables.blocks n (with_brought (attribute_name name) d a.row) ++ a.rows)) (append_assoc b.tables.declarations a.declarations (row ∷ []))
+
+  pub all_added : (ms : List Mark) → AllBring ms → (a : Adding) → run marked (behind a) ms ≡ behind (run (adding n (length b.tables.declarations)) a ms)
+  unfolding run
+  all_added [] q a = refl
+  all_added (Brings which token ∷ ms) q a = ap (λ z. run marked z ms) (brings_step which token a) ∙ all_added ms q (adding n (length b.tables.declarations) a (Brings which token))
+  all_added (Provides (Some which) name token ∷ ms) q a = ap (λ z. run marked z ms) (provides_step which name token a) ∙ all_added ms q (adding n (length b.tables.declarations) a (Provides (Some which) name token))
+  all_added (Provides None name token ∷ ms) q a = ap (λ z. run marked z ms) (alone_step name token a) ∙ all_added ms q (adding n (length b.tables.declarations) a (Provides None name token))
+  all_added _ q a = absurd q

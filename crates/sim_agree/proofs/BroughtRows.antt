@@ -1,69 +1,105 @@
--- The blocks and the declarations that `simset` in front of a class or a block adds, one by one.
+-- The blocks and the declarations that a standard prefix in front of a class or a block adds, one by one.
 use Rattle.std.proofs.Common.{◌≡◌, ◌+◌, ℕ, true, false, List, [], ◌∷◌, ◌++◌, length, Some, None, refl, sym, ap, ◌∙◌, append-nil}
-use Rattle.std.specs.Prelude.{slice_get, slice_set}
-use Rattle.std.specs.List.{list_any}
-use Rattle.std.specs.Str.{bytes_eq}
+use Rattle.std.specs.Prelude.{map, slice_get, slice_set}
 use Rattle.sim_base.specs.declared.numbering.DeclNo.{DeclNo}
 use Rattle.sim_scope.specs.declared.scopes.Declaration.{Declaration}
 use Rattle.sim_scope.specs.declared.types.BlockKind.TheVariants as kind
 use Rattle.sim_scope.specs.declared.types.Entry.TheVariants as entry
 use Rattle.sim_scope.specs.declared.types.StandardClass.{StandardClass}
 use Rattle.sim_scope.specs.declared.types.StandardClass.TheVariants as standard
+use Rattle.sim_scope.specs.declared.types.StandardPrefix.{StandardPrefix}
 use Rattle.sim_scope.specs.declared.types.StandardPrefix.TheVariants as prefix
-use Rattle.sim_scope.specs.Building.{Brings, BuildingOf, Mark, Provides, attribute_entry, marked, name_of, place_of, standard_base, standard_row, with_brought}
+use Rattle.sim_scope.specs.Building.{Brings, BuildingOf, Mark, Provides, attribute_entry, marked, name_of, place_of, standard_base, standard_row}
 use Rattle.sim_scope.specs.Declare.{brings_class, brought_marks, provides_attribute}
 use Rattle.sim_scope.specs.Runs.{run}
-use Rattle.sim_scope.specs.Standard.{attribute_name, classes_of_sets}
+use Rattle.sim_scope.specs.Standard.{attribute_name}
 use Rattle.sim_scope.specs.Tables.{BlockOf}
 use Rattle.sim_values.specs.declared.standard.Standard.{Standard}
 use Rattle.sim_values.specs.declared.standard.Standard.TheVariants as name
 use Rattle.sim_values.specs.Standard.{row_of}
-use Rattle.sim_agree.proofs.Brought.{behind, brings_more, provides_more, set_same}
+use Rattle.sim_agree.proofs.Brought.{Adding, AllBring, adding, all_added, behind, set_same}
+use Rattle.sim_agree.proofs.StandardPrefixes.{classes_of}
+
+-- ---- what a prefix brings
+
+-- the attributes of its classes
+pub record Attributed : Type 0 where
+  pub class : StandardClass
+  pub name : Standard
+
+abbrev of : StandardClass → Standard → Attributed
+of class name = record { class = class; name = name }
+
+abbrev pub attributes_of_sets : List Attributed
+attributes_of_sets =
+    of standard.Linkage name.Suc ∷ of standard.Linkage name.Pred ∷ of standard.Linkage name.Prev
+    ∷ of standard.Link name.Out ∷ of standard.Link name.Follow ∷ of standard.Link name.Precede ∷ of standard.Link name.Into
+    ∷ of standard.Head name.First ∷ of standard.Head name.Last ∷ of standard.Head name.Empty ∷ of standard.Head name.Cardinal ∷ of standard.Head name.Clear
+    ∷ []
+
+abbrev pub attributes_of_processes : List Attributed
+attributes_of_processes = of standard.Process name.Idle ∷ of standard.Process name.Terminated ∷ of standard.Process name.Evtime ∷ of standard.Process name.Nextev ∷ []
+
+abbrev pub attributes : StandardPrefix → List Attributed
+attributes prefix.Simset = attributes_of_sets
+attributes prefix.Simulation = attributes_of_sets ++ attributes_of_processes
+
+-- and its own
+abbrev pub own_names : StandardPrefix → List Standard
+own_names prefix.Simset = []
+own_names prefix.Simulation = name.Time ∷ name.Current ∷ name.Main ∷ name.Hold ∷ name.Passivate ∷ name.Wait ∷ name.Cancel ∷ []
 
 -- ---- the marks
 
-abbrev pub set_marks : (token : ℕ) → List Mark
-set_marks token =
-    Brings standard.Linkage token ∷ Brings standard.Link token ∷ Brings standard.Head token
-    ∷ Provides (Some standard.Linkage) name.Suc token ∷ Provides (Some standard.Linkage) name.Pred token ∷ Provides (Some standard.Linkage) name.Prev token
-    ∷ Provides (Some standard.Link) name.Out token ∷ Provides (Some standard.Link) name.Follow token ∷ Provides (Some standard.Link) name.Precede token ∷ Provides (Some standard.Link) name.Into token
-    ∷ Provides (Some standard.Head) name.First token ∷ Provides (Some standard.Head) name.Last token ∷ Provides (Some standard.Head) name.Empty token ∷ Provides (Some standard.Head) name.Cardinal token ∷ Provides (Some standard.Head) name.Clear token
-    ∷ []
+abbrev brings_mark : (token : ℕ) → StandardClass → Mark
+brings_mark token which = Brings which token
 
-pub marks_of_sets : (token : ℕ) → brought_marks token prefix.Simset classes_of_sets ≡ set_marks token
+abbrev provides_mark : (token : ℕ) → Attributed → Mark
+provides_mark token x = Provides (Some x.class) x.name token
+
+abbrev own_mark : (token : ℕ) → Standard → Mark
+own_mark token name = Provides None name token
+
+abbrev pub all_marks : StandardPrefix → (token : ℕ) → List Mark
+all_marks p token = map (brings_mark token) (classes_of p) ++ (map (provides_mark token) (attributes p) ++ map (own_mark token) (own_names p))
+
+pub marks_are : (p : StandardPrefix) (token : ℕ) → brought_marks token p (classes_of p) ≡ all_marks p token
 unfolding brought_marks brings_class provides_attribute row_of
-marks_of_sets token = refl
+marks_are prefix.Simset token = refl
+marks_are prefix.Simulation token = refl
+
+all_bring : (p : StandardPrefix) (token : ℕ) → AllBring (all_marks p token)
+all_bring prefix.Simset token = tt
+all_bring prefix.Simulation token = tt
 
 -- ---- what they add
 
 -- to a block, where the next declaration has a number
-abbrev pub set_number : (next i : ℕ) → DeclNo
-set_number next i = record { 0 = next + i }
+abbrev pub added_number : (next i : ℕ) → DeclNo
+added_number next i = record { 0 = next + i }
 
 module _ (n next token : ℕ) where
   abbrev pub class_declared : StandardClass → Declaration
   class_declared which = standard_row (name_of which) token n (entry.Class (n + 1 + place_of which)) false
 
-  abbrev pub attribute_declared : StandardClass → Standard → Declaration
-  attribute_declared which name = standard_row (attribute_name name) token (n + 1 + place_of which) (attribute_entry (Some (set_number next 0)) name) true
+  abbrev pub attribute_declared : Attributed → Declaration
+  attribute_declared x = standard_row (attribute_name x.name) token (n + 1 + place_of x.class) (attribute_entry (Some (added_number next 0)) x.name) true
 
-  abbrev pub set_declarations : List Declaration
-  set_declarations =
-      class_declared standard.Linkage ∷ class_declared standard.Link ∷ class_declared standard.Head
-      ∷ attribute_declared standard.Linkage name.Suc ∷ attribute_declared standard.Linkage name.Pred ∷ attribute_declared standard.Linkage name.Prev
-      ∷ attribute_declared standard.Link name.Out ∷ attribute_declared standard.Link name.Follow ∷ attribute_declared standard.Link name.Precede ∷ attribute_declared standard.Link name.Into
-      ∷ attribute_declared standard.Head name.First ∷ attribute_declared standard.Head name.Last ∷ attribute_declared standard.Head name.Empty ∷ attribute_declared standard.Head name.Cardinal ∷ attribute_declared standard.Head name.Clear
-      ∷ []
+  abbrev pub own_declared : Standard → Declaration
+  own_declared name = standard_row (attribute_name name) token n (attribute_entry (Some (added_number next 0)) name) false
+
+  abbrev pub added_declarations : StandardPrefix → List Declaration
+  added_declarations p = map class_declared (classes_of p) ++ (map attribute_declared (attributes p) ++ map own_declared (own_names p))
 
 module _ (n next level : ℕ) where
-  abbrev pub set_row : StandardClass → List (List ℕ) → List DeclNo → BlockOf
-  set_row which names numbers = record {
+  abbrev pub added_row : StandardClass → List (List ℕ) → List DeclNo → BlockOf
+  added_row which names numbers = record {
     kind = kind.StandardClass which;
     first = 0;
     end = 0;
     encloser = Some n;
     level = level + 1;
-    owner = Some (set_number next (place_of which));
+    owner = Some (added_number next (place_of which));
     formals = 0;
     inner = None;
     prefix = None;
@@ -78,175 +114,73 @@ module _ (n next level : ℕ) where
     hidden = [];
   }
 
-  abbrev pub set_rows : List BlockOf
-  set_rows =
-      set_row standard.Linkage (attribute_name name.Suc ∷ attribute_name name.Pred ∷ attribute_name name.Prev ∷ []) (set_number next 3 ∷ set_number next 4 ∷ set_number next 5 ∷ [])
-      ∷ set_row standard.Link (attribute_name name.Out ∷ attribute_name name.Follow ∷ attribute_name name.Precede ∷ attribute_name name.Into ∷ []) (set_number next 6 ∷ set_number next 7 ∷ set_number next 8 ∷ set_number next 9 ∷ [])
-      ∷ set_row standard.Head (attribute_name name.First ∷ attribute_name name.Last ∷ attribute_name name.Empty ∷ attribute_name name.Cardinal ∷ attribute_name name.Clear ∷ []) (set_number next 10 ∷ set_number next 11 ∷ set_number next 12 ∷ set_number next 13 ∷ set_number next 14 ∷ [])
-      ∷ []
+  -- the attributes come behind so many classes
+  abbrev pub linkage_row : (classes : ℕ) → BlockOf
+  linkage_row c = added_row standard.Linkage (attribute_name name.Suc ∷ attribute_name name.Pred ∷ attribute_name name.Prev ∷ []) (added_number next c ∷ added_number next (c + 1) ∷ added_number next (c + 2) ∷ [])
 
--- the block in front knows the classes
-abbrev pub bringing : (next : ℕ) → BlockOf → BlockOf
-bringing next r =
-    with_brought (name_of standard.Head) (set_number next 2) (with_brought (name_of standard.Link) (set_number next 1) (with_brought (name_of standard.Linkage) (set_number next 0) r))
+  abbrev pub link_row : (classes : ℕ) → BlockOf
+  link_row c =
+      added_row standard.Link (attribute_name name.Out ∷ attribute_name name.Follow ∷ attribute_name name.Precede ∷ attribute_name name.Into ∷ [])
+      (added_number next (c + 3) ∷ added_number next (c + 4) ∷ added_number next (c + 5) ∷ added_number next (c + 6) ∷ [])
+
+  abbrev pub head_row : (classes : ℕ) → BlockOf
+  head_row c =
+      added_row standard.Head (attribute_name name.First ∷ attribute_name name.Last ∷ attribute_name name.Empty ∷ attribute_name name.Cardinal ∷ attribute_name name.Clear ∷ [])
+      (added_number next (c + 7) ∷ added_number next (c + 8) ∷ added_number next (c + 9) ∷ added_number next (c + 10) ∷ added_number next (c + 11) ∷ [])
+
+  abbrev pub process_row : (classes : ℕ) → BlockOf
+  process_row c =
+      added_row standard.Process (attribute_name name.Idle ∷ attribute_name name.Terminated ∷ attribute_name name.Evtime ∷ attribute_name name.Nextev ∷ [])
+      (added_number next (c + 12) ∷ added_number next (c + 13) ∷ added_number next (c + 14) ∷ added_number next (c + 15) ∷ [])
+
+  abbrev pub added_rows : StandardPrefix → List BlockOf
+  added_rows prefix.Simset = linkage_row 3 ∷ link_row 3 ∷ head_row 3 ∷ []
+  added_rows prefix.Simulation = linkage_row 4 ∷ link_row 4 ∷ head_row 4 ∷ process_row 4 ∷ []
+
+-- the block in front knows the classes, and what is the prefix's own
+abbrev pub names_brought : StandardPrefix → List (List ℕ)
+names_brought p = map name_of (classes_of p) ++ map attribute_name (own_names p)
+
+abbrev pub numbers_brought : StandardPrefix → (next : ℕ) → List DeclNo
+numbers_brought prefix.Simset next = added_number next 0 ∷ added_number next 1 ∷ added_number next 2 ∷ []
+numbers_brought prefix.Simulation next =
+    added_number next 0 ∷ added_number next 1 ∷ added_number next 2 ∷ added_number next 3 ∷ added_number next 20 ∷ added_number next 21
+    ∷ added_number next 22 ∷ added_number next 23 ∷ added_number next 24 ∷ added_number next 25 ∷ added_number next 26 ∷ []
+
+abbrev pub bringing : StandardPrefix → (next : ℕ) → BlockOf → BlockOf
+bringing p next r = record r { brought_names = names_brought p; brought = numbers_brought p next }
 
 -- the tables with all this
-abbrev pub with_sets : BuildingOf → (n token : ℕ) → BlockOf → BuildingOf
-with_sets b n token r = record b {
+abbrev pub with_standard : StandardPrefix → BuildingOf → (n token : ℕ) → BlockOf → BuildingOf
+with_standard p b n token r = record b {
   tables = record b.tables {
-    blocks = slice_set b.tables.blocks n (bringing (length b.tables.declarations) r) ++ set_rows n (length b.tables.declarations) r.level;
-    declarations = b.tables.declarations ++ set_declarations n (length b.tables.declarations) token;
+    blocks = slice_set b.tables.blocks n (bringing p (length b.tables.declarations) r) ++ added_rows n (length b.tables.declarations) r.level p;
+    declarations = b.tables.declarations ++ added_declarations n (length b.tables.declarations) token p;
   };
 }
 
-one_step : (c d e : BuildingOf) (m : Mark) (ms : List Mark) → marked c m ≡ d → run marked d ms ≡ e → run marked c (m ∷ ms) ≡ e
-unfolding run
-one_step c d e m ms one rest = ap (λ z. run marked z ms) one ∙ rest
+-- ---- they are added
 
-no_mark : (c : BuildingOf) → run marked c [] ≡ c
-unfolding run
-no_mark c = refl
+-- nothing yet
+abbrev pub starting : BlockOf → Adding
+starting r = record { row = record r { brought_names = []; brought = [] }; rows = []; declarations = [] }
 
-abbrev marks15 : ℕ → List Mark
-marks15 token = []
+all_adding : (p : StandardPrefix) (n next token : ℕ) (r : BlockOf) → run (adding n next) (starting r) (all_marks p token) ≡ record { row = bringing p next r; rows = added_rows n next r.level p; declarations = added_declarations n next token p }
+unfolding run row_of
+all_adding prefix.Simset n next token r = refl
+all_adding prefix.Simulation n next token r = refl
 
-abbrev marks14 : ℕ → List Mark
-marks14 token = Provides (Some standard.Head) name.Clear token ∷ marks15 token
+module _ (p : StandardPrefix) (b : BuildingOf) (n token : ℕ) (r : BlockOf) (cur : b.current ≡ Some n) (last : length b.tables.blocks ≡ n + 1) (at : slice_get b.tables.blocks n ≡ Some r) (nameless : r.brought_names ≡ []) (none : r.brought ≡ []) where
+  empty_row : record r { brought_names = []; brought = [] } ≡ r
+  empty_row = ap (λ z. let q : BlockOf = record r { brought_names = z; brought = [] } in q) (sym nameless) ∙ ap (λ z. let q : BlockOf = record r { brought = z } in q) (sym none)
 
-abbrev marks13 : ℕ → List Mark
-marks13 token = Provides (Some standard.Head) name.Cardinal token ∷ marks14 token
-
-abbrev marks12 : ℕ → List Mark
-marks12 token = Provides (Some standard.Head) name.Empty token ∷ marks13 token
-
-abbrev marks11 : ℕ → List Mark
-marks11 token = Provides (Some standard.Head) name.Last token ∷ marks12 token
-
-abbrev marks10 : ℕ → List Mark
-marks10 token = Provides (Some standard.Head) name.First token ∷ marks11 token
-
-abbrev marks9 : ℕ → List Mark
-marks9 token = Provides (Some standard.Link) name.Into token ∷ marks10 token
-
-abbrev marks8 : ℕ → List Mark
-marks8 token = Provides (Some standard.Link) name.Precede token ∷ marks9 token
-
-abbrev marks7 : ℕ → List Mark
-marks7 token = Provides (Some standard.Link) name.Follow token ∷ marks8 token
-
-abbrev marks6 : ℕ → List Mark
-marks6 token = Provides (Some standard.Link) name.Out token ∷ marks7 token
-
-abbrev marks5 : ℕ → List Mark
-marks5 token = Provides (Some standard.Linkage) name.Prev token ∷ marks6 token
-
-abbrev marks4 : ℕ → List Mark
-marks4 token = Provides (Some standard.Linkage) name.Pred token ∷ marks5 token
-
-abbrev marks3 : ℕ → List Mark
-marks3 token = Provides (Some standard.Linkage) name.Suc token ∷ marks4 token
-
-abbrev marks2 : ℕ → List Mark
-marks2 token = Brings standard.Head token ∷ marks3 token
-
-abbrev marks1 : ℕ → List Mark
-marks1 token = Brings standard.Link token ∷ marks2 token
-
-abbrev marks0 : ℕ → List Mark
-marks0 token = Brings standard.Linkage token ∷ marks1 token
-
--- the rows of the block in front, and of the classes, on the way
-abbrev before : (next : ℕ) → BlockOf → BlockOf
-before next r = with_brought (name_of standard.Linkage) (set_number next 0) r
-
-abbrev between : (next : ℕ) → BlockOf → BlockOf
-between next r = with_brought (name_of standard.Link) (set_number next 1) (before next r)
-
--- the innermost block is the last one, and has brought nothing so far
-module _ (b : BuildingOf) (n : ℕ) (token : ℕ) (cur : b.current ≡ Some n) (last : length b.tables.blocks ≡ n + 1) (r : BlockOf) (at : slice_get b.tables.blocks n ≡ Some r) (nameless : r.brought_names ≡ []) (none : r.brought ≡ []) where
-  begins : b ≡ behind b n token cur last r [] []
+  begins : behind b n cur last r at (starting r) ≡ b
   begins =
-      sym (ap (λ bs. let c : BuildingOf = record b { tables = record b.tables { blocks = bs; declarations = b.tables.declarations ++ [] } } in c) (append-nil (slice_set b.tables.blocks n r) ∙ set_same b.tables.blocks n r at)
-      ∙ ap (λ ds. let c : BuildingOf = record b { tables = record b.tables { declarations = ds } } in c) (append-nil b.tables.declarations))
+      ap (λ z. let c : BuildingOf = record b { tables = record b.tables { blocks = slice_set b.tables.blocks n z ++ []; declarations = b.tables.declarations ++ [] } } in c) empty_row
+      ∙ ap (λ z. let c : BuildingOf = record b { tables = record b.tables { blocks = z; declarations = b.tables.declarations ++ [] } } in c) (append-nil (slice_set b.tables.blocks n r) ∙ set_same b.tables.blocks n r at)
+      ∙ ap (λ z. let c : BuildingOf = record b { tables = record b.tables { declarations = z } } in c) (append-nil b.tables.declarations)
 
-  is_first : slice_get (bringing (length b.tables.declarations) r).brought 0 ≡ Some (set_number (length b.tables.declarations) 0)
-  is_first = ap (λ z. slice_get (((z ++ set_number (length b.tables.declarations) 0 ∷ []) ++ set_number (length b.tables.declarations) 1 ∷ []) ++ set_number (length b.tables.declarations) 2 ∷ []) 0) none
-
-  step0 : marked (behind b n token cur last r [] []) (Brings standard.Linkage token) ≡ (behind b n token cur last (before (length b.tables.declarations) r) ((set_row n (length b.tables.declarations) r.level standard.Linkage ([]) ([])) ∷ []) (class_declared n (length b.tables.declarations) token standard.Linkage ∷ []))
-  step0 = brings_more b n token cur last standard.Linkage r r [] [] at (ap (λ z. list_any (bytes_eq (name_of standard.Linkage)) z) nameless)
-
-  step1 : marked (behind b n token cur last (before (length b.tables.declarations) r) ((set_row n (length b.tables.declarations) r.level standard.Linkage ([]) ([])) ∷ []) (class_declared n (length b.tables.declarations) token standard.Linkage ∷ [])) (Brings standard.Link token) ≡ (behind b n token cur last (between (length b.tables.declarations) r) ((set_row n (length b.tables.declarations) r.level standard.Linkage ([]) ([])) ∷ (set_row n (length b.tables.declarations) r.level standard.Link ([]) ([])) ∷ []) (class_declared n (length b.tables.declarations) token standard.Linkage ∷ class_declared n (length b.tables.declarations) token standard.Link ∷ []))
-  step1 = brings_more b n token cur last standard.Link r (before (length b.tables.declarations) r) ((set_row n (length b.tables.declarations) r.level standard.Linkage ([]) ([])) ∷ []) (class_declared n (length b.tables.declarations) token standard.Linkage ∷ []) at (ap (λ z. list_any (bytes_eq (name_of standard.Link)) (z ++ name_of standard.Linkage ∷ [])) nameless)
-
-  step2 : marked (behind b n token cur last (between (length b.tables.declarations) r) ((set_row n (length b.tables.declarations) r.level standard.Linkage ([]) ([])) ∷ (set_row n (length b.tables.declarations) r.level standard.Link ([]) ([])) ∷ []) (class_declared n (length b.tables.declarations) token standard.Linkage ∷ class_declared n (length b.tables.declarations) token standard.Link ∷ [])) (Brings standard.Head token) ≡ (behind b n token cur last (bringing (length b.tables.declarations) r) ((set_row n (length b.tables.declarations) r.level standard.Linkage ([]) ([])) ∷ (set_row n (length b.tables.declarations) r.level standard.Link ([]) ([])) ∷ (set_row n (length b.tables.declarations) r.level standard.Head ([]) ([])) ∷ []) (class_declared n (length b.tables.declarations) token standard.Linkage ∷ class_declared n (length b.tables.declarations) token standard.Link ∷ class_declared n (length b.tables.declarations) token standard.Head ∷ []))
-  step2 = brings_more b n token cur last standard.Head r (between (length b.tables.declarations) r) ((set_row n (length b.tables.declarations) r.level standard.Linkage ([]) ([])) ∷ (set_row n (length b.tables.declarations) r.level standard.Link ([]) ([])) ∷ []) (class_declared n (length b.tables.declarations) token standard.Linkage ∷ class_declared n (length b.tables.declarations) token standard.Link ∷ []) at (ap (λ z. list_any (bytes_eq (name_of standard.Head)) ((z ++ name_of standard.Linkage ∷ []) ++ name_of standard.Link ∷ [])) nameless)
-
-  step3 : marked (behind b n token cur last (bringing (length b.tables.declarations) r) ((set_row n (length b.tables.declarations) r.level standard.Linkage ([]) ([])) ∷ (set_row n (length b.tables.declarations) r.level standard.Link ([]) ([])) ∷ (set_row n (length b.tables.declarations) r.level standard.Head ([]) ([])) ∷ []) (class_declared n (length b.tables.declarations) token standard.Linkage ∷ class_declared n (length b.tables.declarations) token standard.Link ∷ class_declared n (length b.tables.declarations) token standard.Head ∷ [])) (Provides (Some standard.Linkage) name.Suc token) ≡ (behind b n token cur last (bringing (length b.tables.declarations) r) ((set_row n (length b.tables.declarations) r.level standard.Linkage (attribute_name name.Suc ∷ []) (set_number (length b.tables.declarations) 3 ∷ [])) ∷ (set_row n (length b.tables.declarations) r.level standard.Link ([]) ([])) ∷ (set_row n (length b.tables.declarations) r.level standard.Head ([]) ([])) ∷ []) (class_declared n (length b.tables.declarations) token standard.Linkage ∷ class_declared n (length b.tables.declarations) token standard.Link ∷ class_declared n (length b.tables.declarations) token standard.Head ∷ attribute_declared n (length b.tables.declarations) token standard.Linkage name.Suc ∷ []))
-  unfolding row_of
-  step3 = provides_more b n token cur last standard.Linkage name.Suc r (bringing (length b.tables.declarations) r) (set_row n (length b.tables.declarations) r.level standard.Linkage ([]) ([])) ((set_row n (length b.tables.declarations) r.level standard.Linkage ([]) ([])) ∷ (set_row n (length b.tables.declarations) r.level standard.Link ([]) ([])) ∷ (set_row n (length b.tables.declarations) r.level standard.Head ([]) ([])) ∷ []) (class_declared n (length b.tables.declarations) token standard.Linkage ∷ class_declared n (length b.tables.declarations) token standard.Link ∷ class_declared n (length b.tables.declarations) token standard.Head ∷ []) (Some (set_number (length b.tables.declarations) 0)) at is_first refl refl
-
-  step4 : marked (behind b n token cur last (bringing (length b.tables.declarations) r) ((set_row n (length b.tables.declarations) r.level standard.Linkage (attribute_name name.Suc ∷ []) (set_number (length b.tables.declarations) 3 ∷ [])) ∷ (set_row n (length b.tables.declarations) r.level standard.Link ([]) ([])) ∷ (set_row n (length b.tables.declarations) r.level standard.Head ([]) ([])) ∷ []) (class_declared n (length b.tables.declarations) token standard.Linkage ∷ class_declared n (length b.tables.declarations) token standard.Link ∷ class_declared n (length b.tables.declarations) token standard.Head ∷ attribute_declared n (length b.tables.declarations) token standard.Linkage name.Suc ∷ [])) (Provides (Some standard.Linkage) name.Pred token) ≡ (behind b n token cur last (bringing (length b.tables.declarations) r) ((set_row n (length b.tables.declarations) r.level standard.Linkage (attribute_name name.Suc ∷ attribute_name name.Pred ∷ []) (set_number (length b.tables.declarations) 3 ∷ set_number (length b.tables.declarations) 4 ∷ [])) ∷ (set_row n (length b.tables.declarations) r.level standard.Link ([]) ([])) ∷ (set_row n (length b.tables.declarations) r.level standard.Head ([]) ([])) ∷ []) (class_declared n (length b.tables.declarations) token standard.Linkage ∷ class_declared n (length b.tables.declarations) token standard.Link ∷ class_declared n (length b.tables.declarations) token standard.Head ∷ attribute_declared n (length b.tables.declarations) token standard.Linkage name.Suc ∷ attribute_declared n (length b.tables.declarations) token standard.Linkage name.Pred ∷ []))
-  unfolding row_of
-  step4 = provides_more b n token cur last standard.Linkage name.Pred r (bringing (length b.tables.declarations) r) (set_row n (length b.tables.declarations) r.level standard.Linkage (attribute_name name.Suc ∷ []) (set_number (length b.tables.declarations) 3 ∷ [])) ((set_row n (length b.tables.declarations) r.level standard.Linkage (attribute_name name.Suc ∷ []) (set_number (length b.tables.declarations) 3 ∷ [])) ∷ (set_row n (length b.tables.declarations) r.level standard.Link ([]) ([])) ∷ (set_row n (length b.tables.declarations) r.level standard.Head ([]) ([])) ∷ []) (class_declared n (length b.tables.declarations) token standard.Linkage ∷ class_declared n (length b.tables.declarations) token standard.Link ∷ class_declared n (length b.tables.declarations) token standard.Head ∷ attribute_declared n (length b.tables.declarations) token standard.Linkage name.Suc ∷ []) (Some (set_number (length b.tables.declarations) 0)) at is_first refl refl
-
-  step5 : marked (behind b n token cur last (bringing (length b.tables.declarations) r) ((set_row n (length b.tables.declarations) r.level standard.Linkage (attribute_name name.Suc ∷ attribute_name name.Pred ∷ []) (set_number (length b.tables.declarations) 3 ∷ set_number (length b.tables.declarations) 4 ∷ [])) ∷ (set_row n (length b.tables.declarations) r.level standard.Link ([]) ([])) ∷ (set_row n (length b.tables.declarations) r.level standard.Head ([]) ([])) ∷ []) (class_declared n (length b.tables.declarations) token standard.Linkage ∷ class_declared n (length b.tables.declarations) token standard.Link ∷ class_declared n (length b.tables.declarations) token standard.Head ∷ attribute_declared n (length b.tables.declarations) token standard.Linkage name.Suc ∷ attribute_declared n (length b.tables.declarations) token standard.Linkage name.Pred ∷ [])) (Provides (Some standard.Linkage) name.Prev token) ≡ (behind b n token cur last (bringing (length b.tables.declarations) r) ((set_row n (length b.tables.declarations) r.level standard.Linkage (attribute_name name.Suc ∷ attribute_name name.Pred ∷ attribute_name name.Prev ∷ []) (set_number (length b.tables.declarations) 3 ∷ set_number (length b.tables.declarations) 4 ∷ set_number (length b.tables.declarations) 5 ∷ [])) ∷ (set_row n (length b.tables.declarations) r.level standard.Link ([]) ([])) ∷ (set_row n (length b.tables.declarations) r.level standard.Head ([]) ([])) ∷ []) (class_declared n (length b.tables.declarations) token standard.Linkage ∷ class_declared n (length b.tables.declarations) token standard.Link ∷ class_declared n (length b.tables.declarations) token standard.Head ∷ attribute_declared n (length b.tables.declarations) token standard.Linkage name.Suc ∷ attribute_declared n (length b.tables.declarations) token standard.Linkage name.Pred ∷ attribute_declared n (length b.tables.declarations) token standard.Linkage name.Prev ∷ []))
-  unfolding row_of
-  step5 = provides_more b n token cur last standard.Linkage name.Prev r (bringing (length b.tables.declarations) r) (set_row n (length b.tables.declarations) r.level standard.Linkage (attribute_name name.Suc ∷ attribute_name name.Pred ∷ []) (set_number (length b.tables.declarations) 3 ∷ set_number (length b.tables.declarations) 4 ∷ [])) ((set_row n (length b.tables.declarations) r.level standard.Linkage (attribute_name name.Suc ∷ attribute_name name.Pred ∷ []) (set_number (length b.tables.declarations) 3 ∷ set_number (length b.tables.declarations) 4 ∷ [])) ∷ (set_row n (length b.tables.declarations) r.level standard.Link ([]) ([])) ∷ (set_row n (length b.tables.declarations) r.level standard.Head ([]) ([])) ∷ []) (class_declared n (length b.tables.declarations) token standard.Linkage ∷ class_declared n (length b.tables.declarations) token standard.Link ∷ class_declared n (length b.tables.declarations) token standard.Head ∷ attribute_declared n (length b.tables.declarations) token standard.Linkage name.Suc ∷ attribute_declared n (length b.tables.declarations) token standard.Linkage name.Pred ∷ []) (Some (set_number (length b.tables.declarations) 0)) at is_first refl refl
-
-  step6 : marked (behind b n token cur last (bringing (length b.tables.declarations) r) ((set_row n (length b.tables.declarations) r.level standard.Linkage (attribute_name name.Suc ∷ attribute_name name.Pred ∷ attribute_name name.Prev ∷ []) (set_number (length b.tables.declarations) 3 ∷ set_number (length b.tables.declarations) 4 ∷ set_number (length b.tables.declarations) 5 ∷ [])) ∷ (set_row n (length b.tables.declarations) r.level standard.Link ([]) ([])) ∷ (set_row n (length b.tables.declarations) r.level standard.Head ([]) ([])) ∷ []) (class_declared n (length b.tables.declarations) token standard.Linkage ∷ class_declared n (length b.tables.declarations) token standard.Link ∷ class_declared n (length b.tables.declarations) token standard.Head ∷ attribute_declared n (length b.tables.declarations) token standard.Linkage name.Suc ∷ attribute_declared n (length b.tables.declarations) token standard.Linkage name.Pred ∷ attribute_declared n (length b.tables.declarations) token standard.Linkage name.Prev ∷ [])) (Provides (Some standard.Link) name.Out token) ≡ (behind b n token cur last (bringing (length b.tables.declarations) r) ((set_row n (length b.tables.declarations) r.level standard.Linkage (attribute_name name.Suc ∷ attribute_name name.Pred ∷ attribute_name name.Prev ∷ []) (set_number (length b.tables.declarations) 3 ∷ set_number (length b.tables.declarations) 4 ∷ set_number (length b.tables.declarations) 5 ∷ [])) ∷ (set_row n (length b.tables.declarations) r.level standard.Link (attribute_name name.Out ∷ []) (set_number (length b.tables.declarations) 6 ∷ [])) ∷ (set_row n (length b.tables.declarations) r.level standard.Head ([]) ([])) ∷ []) (class_declared n (length b.tables.declarations) token standard.Linkage ∷ class_declared n (length b.tables.declarations) token standard.Link ∷ class_declared n (length b.tables.declarations) token standard.Head ∷ attribute_declared n (length b.tables.declarations) token standard.Linkage name.Suc ∷ attribute_declared n (length b.tables.declarations) token standard.Linkage name.Pred ∷ attribute_declared n (length b.tables.declarations) token standard.Linkage name.Prev ∷ attribute_declared n (length b.tables.declarations) token standard.Link name.Out ∷ []))
-  unfolding row_of
-  step6 = provides_more b n token cur last standard.Link name.Out r (bringing (length b.tables.declarations) r) (set_row n (length b.tables.declarations) r.level standard.Link ([]) ([])) ((set_row n (length b.tables.declarations) r.level standard.Linkage (attribute_name name.Suc ∷ attribute_name name.Pred ∷ attribute_name name.Prev ∷ []) (set_number (length b.tables.declarations) 3 ∷ set_number (length b.tables.declarations) 4 ∷ set_number (length b.tables.declarations) 5 ∷ [])) ∷ (set_row n (length b.tables.declarations) r.level standard.Link ([]) ([])) ∷ (set_row n (length b.tables.declarations) r.level standard.Head ([]) ([])) ∷ []) (class_declared n (length b.tables.declarations) token standard.Linkage ∷ class_declared n (length b.tables.declarations) token standard.Link ∷ class_declared n (length b.tables.declarations) token standard.Head ∷ attribute_declared n (length b.tables.declarations) token standard.Linkage name.Suc ∷ attribute_declared n (length b.tables.declarations) token standard.Linkage name.Pred ∷ attribute_declared n (length b.tables.declarations) token standard.Linkage name.Prev ∷ []) (Some (set_number (length b.tables.declarations) 0)) at is_first refl refl
-
-  step7 : marked (behind b n token cur last (bringing (length b.tables.declarations) r) ((set_row n (length b.tables.declarations) r.level standard.Linkage (attribute_name name.Suc ∷ attribute_name name.Pred ∷ attribute_name name.Prev ∷ []) (set_number (length b.tables.declarations) 3 ∷ set_number (length b.tables.declarations) 4 ∷ set_number (length b.tables.declarations) 5 ∷ [])) ∷ (set_row n (length b.tables.declarations) r.level standard.Link (attribute_name name.Out ∷ []) (set_number (length b.tables.declarations) 6 ∷ [])) ∷ (set_row n (length b.tables.declarations) r.level standard.Head ([]) ([])) ∷ []) (class_declared n (length b.tables.declarations) token standard.Linkage ∷ class_declared n (length b.tables.declarations) token standard.Link ∷ class_declared n (length b.tables.declarations) token standard.Head ∷ attribute_declared n (length b.tables.declarations) token standard.Linkage name.Suc ∷ attribute_declared n (length b.tables.declarations) token standard.Linkage name.Pred ∷ attribute_declared n (length b.tables.declarations) token standard.Linkage name.Prev ∷ attribute_declared n (length b.tables.declarations) token standard.Link name.Out ∷ [])) (Provides (Some standard.Link) name.Follow token) ≡ (behind b n token cur last (bringing (length b.tables.declarations) r) ((set_row n (length b.tables.declarations) r.level standard.Linkage (attribute_name name.Suc ∷ attribute_name name.Pred ∷ attribute_name name.Prev ∷ []) (set_number (length b.tables.declarations) 3 ∷ set_number (length b.tables.declarations) 4 ∷ set_number (length b.tables.declarations) 5 ∷ [])) ∷ (set_row n (length b.tables.declarations) r.level standard.Link (attribute_name name.Out ∷ attribute_name name.Follow ∷ []) (set_number (length b.tables.declarations) 6 ∷ set_number (length b.tables.declarations) 7 ∷ [])) ∷ (set_row n (length b.tables.declarations) r.level standard.Head ([]) ([])) ∷ []) (class_declared n (length b.tables.declarations) token standard.Linkage ∷ class_declared n (length b.tables.declarations) token standard.Link ∷ class_declared n (length b.tables.declarations) token standard.Head ∷ attribute_declared n (length b.tables.declarations) token standard.Linkage name.Suc ∷ attribute_declared n (length b.tables.declarations) token standard.Linkage name.Pred ∷ attribute_declared n (length b.tables.declarations) token standard.Linkage name.Prev ∷ attribute_declared n (length b.tables.declarations) token standard.Link name.Out ∷ attribute_declared n (length b.tables.declarations) token standard.Link name.Follow ∷ []))
-  unfolding row_of
-  step7 = provides_more b n token cur last standard.Link name.Follow r (bringing (length b.tables.declarations) r) (set_row n (length b.tables.declarations) r.level standard.Link (attribute_name name.Out ∷ []) (set_number (length b.tables.declarations) 6 ∷ [])) ((set_row n (length b.tables.declarations) r.level standard.Linkage (attribute_name name.Suc ∷ attribute_name name.Pred ∷ attribute_name name.Prev ∷ []) (set_number (length b.tables.declarations) 3 ∷ set_number (length b.tables.declarations) 4 ∷ set_number (length b.tables.declarations) 5 ∷ [])) ∷ (set_row n (length b.tables.declarations) r.level standard.Link (attribute_name name.Out ∷ []) (set_number (length b.tables.declarations) 6 ∷ [])) ∷ (set_row n (length b.tables.declarations) r.level standard.Head ([]) ([])) ∷ []) (class_declared n (length b.tables.declarations) token standard.Linkage ∷ class_declared n (length b.tables.declarations) token standard.Link ∷ class_declared n (length b.tables.declarations) token standard.Head ∷ attribute_declared n (length b.tables.declarations) token standard.Linkage name.Suc ∷ attribute_declared n (length b.tables.declarations) token standard.Linkage name.Pred ∷ attribute_declared n (length b.tables.declarations) token standard.Linkage name.Prev ∷ attribute_declared n (length b.tables.declarations) token standard.Link name.Out ∷ []) (Some (set_number (length b.tables.declarations) 0)) at is_first refl refl
-
-  step8 : marked (behind b n token cur last (bringing (length b.tables.declarations) r) ((set_row n (length b.tables.declarations) r.level standard.Linkage (attribute_name name.Suc ∷ attribute_name name.Pred ∷ attribute_name name.Prev ∷ []) (set_number (length b.tables.declarations) 3 ∷ set_number (length b.tables.declarations) 4 ∷ set_number (length b.tables.declarations) 5 ∷ [])) ∷ (set_row n (length b.tables.declarations) r.level standard.Link (attribute_name name.Out ∷ attribute_name name.Follow ∷ []) (set_number (length b.tables.declarations) 6 ∷ set_number (length b.tables.declarations) 7 ∷ [])) ∷ (set_row n (length b.tables.declarations) r.level standard.Head ([]) ([])) ∷ []) (class_declared n (length b.tables.declarations) token standard.Linkage ∷ class_declared n (length b.tables.declarations) token standard.Link ∷ class_declared n (length b.tables.declarations) token standard.Head ∷ attribute_declared n (length b.tables.declarations) token standard.Linkage name.Suc ∷ attribute_declared n (length b.tables.declarations) token standard.Linkage name.Pred ∷ attribute_declared n (length b.tables.declarations) token standard.Linkage name.Prev ∷ attribute_declared n (length b.tables.declarations) token standard.Link name.Out ∷ attribute_declared n (length b.tables.declarations) token standard.Link name.Follow ∷ [])) (Provides (Some standard.Link) name.Precede token) ≡ (behind b n token cur last (bringing (length b.tables.declarations) r) ((set_row n (length b.tables.declarations) r.level standard.Linkage (attribute_name name.Suc ∷ attribute_name name.Pred ∷ attribute_name name.Prev ∷ []) (set_number (length b.tables.declarations) 3 ∷ set_number (length b.tables.declarations) 4 ∷ set_number (length b.tables.declarations) 5 ∷ [])) ∷ (set_row n (length b.tables.declarations) r.level standard.Link (attribute_name name.Out ∷ attribute_name name.Follow ∷ attribute_name name.Precede ∷ []) (set_number (length b.tables.declarations) 6 ∷ set_number (length b.tables.declarations) 7 ∷ set_number (length b.tables.declarations) 8 ∷ [])) ∷ (set_row n (length b.tables.declarations) r.level standard.Head ([]) ([])) ∷ []) (class_declared n (length b.tables.declarations) token standard.Linkage ∷ class_declared n (length b.tables.declarations) token standard.Link ∷ class_declared n (length b.tables.declarations) token standard.Head ∷ attribute_declared n (length b.tables.declarations) token standard.Linkage name.Suc ∷ attribute_declared n (length b.tables.declarations) token standard.Linkage name.Pred ∷ attribute_declared n (length b.tables.declarations) token standard.Linkage name.Prev ∷ attribute_declared n (length b.tables.declarations) token standard.Link name.Out ∷ attribute_declared n (length b.tables.declarations) token standard.Link name.Follow ∷ attribute_declared n (length b.tables.declarations) token standard.Link name.Precede ∷ []))
-  unfolding row_of
-  step8 = provides_more b n token cur last standard.Link name.Precede r (bringing (length b.tables.declarations) r) (set_row n (length b.tables.declarations) r.level standard.Link (attribute_name name.Out ∷ attribute_name name.Follow ∷ []) (set_number (length b.tables.declarations) 6 ∷ set_number (length b.tables.declarations) 7 ∷ [])) ((set_row n (length b.tables.declarations) r.level standard.Linkage (attribute_name name.Suc ∷ attribute_name name.Pred ∷ attribute_name name.Prev ∷ []) (set_number (length b.tables.declarations) 3 ∷ set_number (length b.tables.declarations) 4 ∷ set_number (length b.tables.declarations) 5 ∷ [])) ∷ (set_row n (length b.tables.declarations) r.level standard.Link (attribute_name name.Out ∷ attribute_name name.Follow ∷ []) (set_number (length b.tables.declarations) 6 ∷ set_number (length b.tables.declarations) 7 ∷ [])) ∷ (set_row n (length b.tables.declarations) r.level standard.Head ([]) ([])) ∷ []) (class_declared n (length b.tables.declarations) token standard.Linkage ∷ class_declared n (length b.tables.declarations) token standard.Link ∷ class_declared n (length b.tables.declarations) token standard.Head ∷ attribute_declared n (length b.tables.declarations) token standard.Linkage name.Suc ∷ attribute_declared n (length b.tables.declarations) token standard.Linkage name.Pred ∷ attribute_declared n (length b.tables.declarations) token standard.Linkage name.Prev ∷ attribute_declared n (length b.tables.declarations) token standard.Link name.Out ∷ attribute_declared n (length b.tables.declarations) token standard.Link name.Follow ∷ []) (Some (set_number (length b.tables.declarations) 0)) at is_first refl refl
-
-  step9 : marked (behind b n token cur last (bringing (length b.tables.declarations) r) ((set_row n (length b.tables.declarations) r.level standard.Linkage (attribute_name name.Suc ∷ attribute_name name.Pred ∷ attribute_name name.Prev ∷ []) (set_number (length b.tables.declarations) 3 ∷ set_number (length b.tables.declarations) 4 ∷ set_number (length b.tables.declarations) 5 ∷ [])) ∷ (set_row n (length b.tables.declarations) r.level standard.Link (attribute_name name.Out ∷ attribute_name name.Follow ∷ attribute_name name.Precede ∷ []) (set_number (length b.tables.declarations) 6 ∷ set_number (length b.tables.declarations) 7 ∷ set_number (length b.tables.declarations) 8 ∷ [])) ∷ (set_row n (length b.tables.declarations) r.level standard.Head ([]) ([])) ∷ []) (class_declared n (length b.tables.declarations) token standard.Linkage ∷ class_declared n (length b.tables.declarations) token standard.Link ∷ class_declared n (length b.tables.declarations) token standard.Head ∷ attribute_declared n (length b.tables.declarations) token standard.Linkage name.Suc ∷ attribute_declared n (length b.tables.declarations) token standard.Linkage name.Pred ∷ attribute_declared n (length b.tables.declarations) token standard.Linkage name.Prev ∷ attribute_declared n (length b.tables.declarations) token standard.Link name.Out ∷ attribute_declared n (length b.tables.declarations) token standard.Link name.Follow ∷ attribute_declared n (length b.tables.declarations) token standard.Link name.Precede ∷ [])) (Provides (Some standard.Link) name.Into token) ≡ (behind b n token cur last (bringing (length b.tables.declarations) r) ((set_row n (length b.tables.declarations) r.level standard.Linkage (attribute_name name.Suc ∷ attribute_name name.Pred ∷ attribute_name name.Prev ∷ []) (set_number (length b.tables.declarations) 3 ∷ set_number (length b.tables.declarations) 4 ∷ set_number (length b.tables.declarations) 5 ∷ [])) ∷ (set_row n (length b.tables.declarations) r.level standard.Link (attribute_name name.Out ∷ attribute_name name.Follow ∷ attribute_name name.Precede ∷ attribute_name name.Into ∷ []) (set_number (length b.tables.declarations) 6 ∷ set_number (length b.tables.declarations) 7 ∷ set_number (length b.tables.declarations) 8 ∷ set_number (length b.tables.declarations) 9 ∷ [])) ∷ (set_row n (length b.tables.declarations) r.level standard.Head ([]) ([])) ∷ []) (class_declared n (length b.tables.declarations) token standard.Linkage ∷ class_declared n (length b.tables.declarations) token standard.Link ∷ class_declared n (length b.tables.declarations) token standard.Head ∷ attribute_declared n (length b.tables.declarations) token standard.Linkage name.Suc ∷ attribute_declared n (length b.tables.declarations) token standard.Linkage name.Pred ∷ attribute_declared n (length b.tables.declarations) token standard.Linkage name.Prev ∷ attribute_declared n (length b.tables.declarations) token standard.Link name.Out ∷ attribute_declared n (length b.tables.declarations) token standard.Link name.Follow ∷ attribute_declared n (length b.tables.declarations) token standard.Link name.Precede ∷ attribute_declared n (length b.tables.declarations) token standard.Link name.Into ∷ []))
-  unfolding row_of
-  step9 = provides_more b n token cur last standard.Link name.Into r (bringing (length b.tables.declarations) r) (set_row n (length b.tables.declarations) r.level standard.Link (attribute_name name.Out ∷ attribute_name name.Follow ∷ attribute_name name.Precede ∷ []) (set_number (length b.tables.declarations) 6 ∷ set_number (length b.tables.declarations) 7 ∷ set_number (length b.tables.declarations) 8 ∷ [])) ((set_row n (length b.tables.declarations) r.level standard.Linkage (attribute_name name.Suc ∷ attribute_name name.Pred ∷ attribute_name name.Prev ∷ []) (set_number (length b.tables.declarations) 3 ∷ set_number (length b.tables.declarations) 4 ∷ set_number (length b.tables.declarations) 5 ∷ [])) ∷ (set_row n (length b.tables.declarations) r.level standard.Link (attribute_name name.Out ∷ attribute_name name.Follow ∷ attribute_name name.Precede ∷ []) (set_number (length b.tables.declarations) 6 ∷ set_number (length b.tables.declarations) 7 ∷ set_number (length b.tables.declarations) 8 ∷ [])) ∷ (set_row n (length b.tables.declarations) r.level standard.Head ([]) ([])) ∷ []) (class_declared n (length b.tables.declarations) token standard.Linkage ∷ class_declared n (length b.tables.declarations) token standard.Link ∷ class_declared n (length b.tables.declarations) token standard.Head ∷ attribute_declared n (length b.tables.declarations) token standard.Linkage name.Suc ∷ attribute_declared n (length b.tables.declarations) token standard.Linkage name.Pred ∷ attribute_declared n (length b.tables.declarations) token standard.Linkage name.Prev ∷ attribute_declared n (length b.tables.declarations) token standard.Link name.Out ∷ attribute_declared n (length b.tables.declarations) token standard.Link name.Follow ∷ attribute_declared n (length b.tables.declarations) token standard.Link name.Precede ∷ []) (Some (set_number (length b.tables.declarations) 0)) at is_first refl refl
-
-  step10 : marked (behind b n token cur last (bringing (length b.tables.declarations) r) ((set_row n (length b.tables.declarations) r.level standard.Linkage (attribute_name name.Suc ∷ attribute_name name.Pred ∷ attribute_name name.Prev ∷ []) (set_number (length b.tables.declarations) 3 ∷ set_number (length b.tables.declarations) 4 ∷ set_number (length b.tables.declarations) 5 ∷ [])) ∷ (set_row n (length b.tables.declarations) r.level standard.Link (attribute_name name.Out ∷ attribute_name name.Follow ∷ attribute_name name.Precede ∷ attribute_name name.Into ∷ []) (set_number (length b.tables.declarations) 6 ∷ set_number (length b.tables.declarations) 7 ∷ set_number (length b.tables.declarations) 8 ∷ set_number (length b.tables.declarations) 9 ∷ [])) ∷ (set_row n (length b.tables.declarations) r.level standard.Head ([]) ([])) ∷ []) (class_declared n (length b.tables.declarations) token standard.Linkage ∷ class_declared n (length b.tables.declarations) token standard.Link ∷ class_declared n (length b.tables.declarations) token standard.Head ∷ attribute_declared n (length b.tables.declarations) token standard.Linkage name.Suc ∷ attribute_declared n (length b.tables.declarations) token standard.Linkage name.Pred ∷ attribute_declared n (length b.tables.declarations) token standard.Linkage name.Prev ∷ attribute_declared n (length b.tables.declarations) token standard.Link name.Out ∷ attribute_declared n (length b.tables.declarations) token standard.Link name.Follow ∷ attribute_declared n (length b.tables.declarations) token standard.Link name.Precede ∷ attribute_declared n (length b.tables.declarations) token standard.Link name.Into ∷ [])) (Provides (Some standard.Head) name.First token) ≡ (behind b n token cur last (bringing (length b.tables.declarations) r) ((set_row n (length b.tables.declarations) r.level standard.Linkage (attribute_name name.Suc ∷ attribute_name name.Pred ∷ attribute_name name.Prev ∷ []) (set_number (length b.tables.declarations) 3 ∷ set_number (length b.tables.declarations) 4 ∷ set_number (length b.tables.declarations) 5 ∷ [])) ∷ (set_row n (length b.tables.declarations) r.level standard.Link (attribute_name name.Out ∷ attribute_name name.Follow ∷ attribute_name name.Precede ∷ attribute_name name.Into ∷ []) (set_number (length b.tables.declarations) 6 ∷ set_number (length b.tables.declarations) 7 ∷ set_number (length b.tables.declarations) 8 ∷ set_number (length b.tables.declarations) 9 ∷ [])) ∷ (set_row n (length b.tables.declarations) r.level standard.Head (attribute_name name.First ∷ []) (set_number (length b.tables.declarations) 10 ∷ [])) ∷ []) (class_declared n (length b.tables.declarations) token standard.Linkage ∷ class_declared n (length b.tables.declarations) token standard.Link ∷ class_declared n (length b.tables.declarations) token standard.Head ∷ attribute_declared n (length b.tables.declarations) token standard.Linkage name.Suc ∷ attribute_declared n (length b.tables.declarations) token standard.Linkage name.Pred ∷ attribute_declared n (length b.tables.declarations) token standard.Linkage name.Prev ∷ attribute_declared n (length b.tables.declarations) token standard.Link name.Out ∷ attribute_declared n (length b.tables.declarations) token standard.Link name.Follow ∷ attribute_declared n (length b.tables.declarations) token standard.Link name.Precede ∷ attribute_declared n (length b.tables.declarations) token standard.Link name.Into ∷ attribute_declared n (length b.tables.declarations) token standard.Head name.First ∷ []))
-  unfolding row_of
-  step10 = provides_more b n token cur last standard.Head name.First r (bringing (length b.tables.declarations) r) (set_row n (length b.tables.declarations) r.level standard.Head ([]) ([])) ((set_row n (length b.tables.declarations) r.level standard.Linkage (attribute_name name.Suc ∷ attribute_name name.Pred ∷ attribute_name name.Prev ∷ []) (set_number (length b.tables.declarations) 3 ∷ set_number (length b.tables.declarations) 4 ∷ set_number (length b.tables.declarations) 5 ∷ [])) ∷ (set_row n (length b.tables.declarations) r.level standard.Link (attribute_name name.Out ∷ attribute_name name.Follow ∷ attribute_name name.Precede ∷ attribute_name name.Into ∷ []) (set_number (length b.tables.declarations) 6 ∷ set_number (length b.tables.declarations) 7 ∷ set_number (length b.tables.declarations) 8 ∷ set_number (length b.tables.declarations) 9 ∷ [])) ∷ (set_row n (length b.tables.declarations) r.level standard.Head ([]) ([])) ∷ []) (class_declared n (length b.tables.declarations) token standard.Linkage ∷ class_declared n (length b.tables.declarations) token standard.Link ∷ class_declared n (length b.tables.declarations) token standard.Head ∷ attribute_declared n (length b.tables.declarations) token standard.Linkage name.Suc ∷ attribute_declared n (length b.tables.declarations) token standard.Linkage name.Pred ∷ attribute_declared n (length b.tables.declarations) token standard.Linkage name.Prev ∷ attribute_declared n (length b.tables.declarations) token standard.Link name.Out ∷ attribute_declared n (length b.tables.declarations) token standard.Link name.Follow ∷ attribute_declared n (length b.tables.declarations) token standard.Link name.Precede ∷ attribute_declared n (length b.tables.declarations) token standard.Link name.Into ∷ []) (Some (set_number (length b.tables.declarations) 0)) at is_first refl refl
-
-  step11 : marked (behind b n token cur last (bringing (length b.tables.declarations) r) ((set_row n (length b.tables.declarations) r.level standard.Linkage (attribute_name name.Suc ∷ attribute_name name.Pred ∷ attribute_name name.Prev ∷ []) (set_number (length b.tables.declarations) 3 ∷ set_number (length b.tables.declarations) 4 ∷ set_number (length b.tables.declarations) 5 ∷ [])) ∷ (set_row n (length b.tables.declarations) r.level standard.Link (attribute_name name.Out ∷ attribute_name name.Follow ∷ attribute_name name.Precede ∷ attribute_name name.Into ∷ []) (set_number (length b.tables.declarations) 6 ∷ set_number (length b.tables.declarations) 7 ∷ set_number (length b.tables.declarations) 8 ∷ set_number (length b.tables.declarations) 9 ∷ [])) ∷ (set_row n (length b.tables.declarations) r.level standard.Head (attribute_name name.First ∷ []) (set_number (length b.tables.declarations) 10 ∷ [])) ∷ []) (class_declared n (length b.tables.declarations) token standard.Linkage ∷ class_declared n (length b.tables.declarations) token standard.Link ∷ class_declared n (length b.tables.declarations) token standard.Head ∷ attribute_declared n (length b.tables.declarations) token standard.Linkage name.Suc ∷ attribute_declared n (length b.tables.declarations) token standard.Linkage name.Pred ∷ attribute_declared n (length b.tables.declarations) token standard.Linkage name.Prev ∷ attribute_declared n (length b.tables.declarations) token standard.Link name.Out ∷ attribute_declared n (length b.tables.declarations) token standard.Link name.Follow ∷ attribute_declared n (length b.tables.declarations) token standard.Link name.Precede ∷ attribute_declared n (length b.tables.declarations) token standard.Link name.Into ∷ attribute_declared n (length b.tables.declarations) token standard.Head name.First ∷ [])) (Provides (Some standard.Head) name.Last token) ≡ (behind b n token cur last (bringing (length b.tables.declarations) r) ((set_row n (length b.tables.declarations) r.level standard.Linkage (attribute_name name.Suc ∷ attribute_name name.Pred ∷ attribute_name name.Prev ∷ []) (set_number (length b.tables.declarations) 3 ∷ set_number (length b.tables.declarations) 4 ∷ set_number (length b.tables.declarations) 5 ∷ [])) ∷ (set_row n (length b.tables.declarations) r.level standard.Link (attribute_name name.Out ∷ attribute_name name.Follow ∷ attribute_name name.Precede ∷ attribute_name name.Into ∷ []) (set_number (length b.tables.declarations) 6 ∷ set_number (length b.tables.declarations) 7 ∷ set_number (length b.tables.declarations) 8 ∷ set_number (length b.tables.declarations) 9 ∷ [])) ∷ (set_row n (length b.tables.declarations) r.level standard.Head (attribute_name name.First ∷ attribute_name name.Last ∷ []) (set_number (length b.tables.declarations) 10 ∷ set_number (length b.tables.declarations) 11 ∷ [])) ∷ []) (class_declared n (length b.tables.declarations) token standard.Linkage ∷ class_declared n (length b.tables.declarations) token standard.Link ∷ class_declared n (length b.tables.declarations) token standard.Head ∷ attribute_declared n (length b.tables.declarations) token standard.Linkage name.Suc ∷ attribute_declared n (length b.tables.declarations) token standard.Linkage name.Pred ∷ attribute_declared n (length b.tables.declarations) token standard.Linkage name.Prev ∷ attribute_declared n (length b.tables.declarations) token standard.Link name.Out ∷ attribute_declared n (length b.tables.declarations) token standard.Link name.Follow ∷ attribute_declared n (length b.tables.declarations) token standard.Link name.Precede ∷ attribute_declared n (length b.tables.declarations) token standard.Link name.Into ∷ attribute_declared n (length b.tables.declarations) token standard.Head name.First ∷ attribute_declared n (length b.tables.declarations) token standard.Head name.Last ∷ []))
-  unfolding row_of
-  step11 = provides_more b n token cur last standard.Head name.Last r (bringing (length b.tables.declarations) r) (set_row n (length b.tables.declarations) r.level standard.Head (attribute_name name.First ∷ []) (set_number (length b.tables.declarations) 10 ∷ [])) ((set_row n (length b.tables.declarations) r.level standard.Linkage (attribute_name name.Suc ∷ attribute_name name.Pred ∷ attribute_name name.Prev ∷ []) (set_number (length b.tables.declarations) 3 ∷ set_number (length b.tables.declarations) 4 ∷ set_number (length b.tables.declarations) 5 ∷ [])) ∷ (set_row n (length b.tables.declarations) r.level standard.Link (attribute_name name.Out ∷ attribute_name name.Follow ∷ attribute_name name.Precede ∷ attribute_name name.Into ∷ []) (set_number (length b.tables.declarations) 6 ∷ set_number (length b.tables.declarations) 7 ∷ set_number (length b.tables.declarations) 8 ∷ set_number (length b.tables.declarations) 9 ∷ [])) ∷ (set_row n (length b.tables.declarations) r.level standard.Head (attribute_name name.First ∷ []) (set_number (length b.tables.declarations) 10 ∷ [])) ∷ []) (class_declared n (length b.tables.declarations) token standard.Linkage ∷ class_declared n (length b.tables.declarations) token standard.Link ∷ class_declared n (length b.tables.declarations) token standard.Head ∷ attribute_declared n (length b.tables.declarations) token standard.Linkage name.Suc ∷ attribute_declared n (length b.tables.declarations) token standard.Linkage name.Pred ∷ attribute_declared n (length b.tables.declarations) token standard.Linkage name.Prev ∷ attribute_declared n (length b.tables.declarations) token standard.Link name.Out ∷ attribute_declared n (length b.tables.declarations) token standard.Link name.Follow ∷ attribute_declared n (length b.tables.declarations) token standard.Link name.Precede ∷ attribute_declared n (length b.tables.declarations) token standard.Link name.Into ∷ attribute_declared n (length b.tables.declarations) token standard.Head name.First ∷ []) (Some (set_number (length b.tables.declarations) 0)) at is_first refl refl
-
-  step12 : marked (behind b n token cur last (bringing (length b.tables.declarations) r) ((set_row n (length b.tables.declarations) r.level standard.Linkage (attribute_name name.Suc ∷ attribute_name name.Pred ∷ attribute_name name.Prev ∷ []) (set_number (length b.tables.declarations) 3 ∷ set_number (length b.tables.declarations) 4 ∷ set_number (length b.tables.declarations) 5 ∷ [])) ∷ (set_row n (length b.tables.declarations) r.level standard.Link (attribute_name name.Out ∷ attribute_name name.Follow ∷ attribute_name name.Precede ∷ attribute_name name.Into ∷ []) (set_number (length b.tables.declarations) 6 ∷ set_number (length b.tables.declarations) 7 ∷ set_number (length b.tables.declarations) 8 ∷ set_number (length b.tables.declarations) 9 ∷ [])) ∷ (set_row n (length b.tables.declarations) r.level standard.Head (attribute_name name.First ∷ attribute_name name.Last ∷ []) (set_number (length b.tables.declarations) 10 ∷ set_number (length b.tables.declarations) 11 ∷ [])) ∷ []) (class_declared n (length b.tables.declarations) token standard.Linkage ∷ class_declared n (length b.tables.declarations) token standard.Link ∷ class_declared n (length b.tables.declarations) token standard.Head ∷ attribute_declared n (length b.tables.declarations) token standard.Linkage name.Suc ∷ attribute_declared n (length b.tables.declarations) token standard.Linkage name.Pred ∷ attribute_declared n (length b.tables.declarations) token standard.Linkage name.Prev ∷ attribute_declared n (length b.tables.declarations) token standard.Link name.Out ∷ attribute_declared n (length b.tables.declarations) token standard.Link name.Follow ∷ attribute_declared n (length b.tables.declarations) token standard.Link name.Precede ∷ attribute_declared n (length b.tables.declarations) token standard.Link name.Into ∷ attribute_declared n (length b.tables.declarations) token standard.Head name.First ∷ attribute_declared n (length b.tables.declarations) token standard.Head name.Last ∷ [])) (Provides (Some standard.Head) name.Empty token) ≡ (behind b n token cur last (bringing (length b.tables.declarations) r) ((set_row n (length b.tables.declarations) r.level standard.Linkage (attribute_name name.Suc ∷ attribute_name name.Pred ∷ attribute_name name.Prev ∷ []) (set_number (length b.tables.declarations) 3 ∷ set_number (length b.tables.declarations) 4 ∷ set_number (length b.tables.declarations) 5 ∷ [])) ∷ (set_row n (length b.tables.declarations) r.level standard.Link (attribute_name name.Out ∷ attribute_name name.Follow ∷ attribute_name name.Precede ∷ attribute_name name.Into ∷ []) (set_number (length b.tables.declarations) 6 ∷ set_number (length b.tables.declarations) 7 ∷ set_number (length b.tables.declarations) 8 ∷ set_number (length b.tables.declarations) 9 ∷ [])) ∷ (set_row n (length b.tables.declarations) r.level standard.Head (attribute_name name.First ∷ attribute_name name.Last ∷ attribute_name name.Empty ∷ []) (set_number (length b.tables.declarations) 10 ∷ set_number (length b.tables.declarations) 11 ∷ set_number (length b.tables.declarations) 12 ∷ [])) ∷ []) (class_declared n (length b.tables.declarations) token standard.Linkage ∷ class_declared n (length b.tables.declarations) token standard.Link ∷ class_declared n (length b.tables.declarations) token standard.Head ∷ attribute_declared n (length b.tables.declarations) token standard.Linkage name.Suc ∷ attribute_declared n (length b.tables.declarations) token standard.Linkage name.Pred ∷ attribute_declared n (length b.tables.declarations) token standard.Linkage name.Prev ∷ attribute_declared n (length b.tables.declarations) token standard.Link name.Out ∷ attribute_declared n (length b.tables.declarations) token standard.Link name.Follow ∷ attribute_declared n (length b.tables.declarations) token standard.Link name.Precede ∷ attribute_declared n (length b.tables.declarations) token standard.Link name.Into ∷ attribute_declared n (length b.tables.declarations) token standard.Head name.First ∷ attribute_declared n (length b.tables.declarations) token standard.Head name.Last ∷ attribute_declared n (length b.tables.declarations) token standard.Head name.Empty ∷ []))
-  unfolding row_of
-  step12 = provides_more b n token cur last standard.Head name.Empty r (bringing (length b.tables.declarations) r) (set_row n (length b.tables.declarations) r.level standard.Head (attribute_name name.First ∷ attribute_name name.Last ∷ []) (set_number (length b.tables.declarations) 10 ∷ set_number (length b.tables.declarations) 11 ∷ [])) ((set_row n (length b.tables.declarations) r.level standard.Linkage (attribute_name name.Suc ∷ attribute_name name.Pred ∷ attribute_name name.Prev ∷ []) (set_number (length b.tables.declarations) 3 ∷ set_number (length b.tables.declarations) 4 ∷ set_number (length b.tables.declarations) 5 ∷ [])) ∷ (set_row n (length b.tables.declarations) r.level standard.Link (attribute_name name.Out ∷ attribute_name name.Follow ∷ attribute_name name.Precede ∷ attribute_name name.Into ∷ []) (set_number (length b.tables.declarations) 6 ∷ set_number (length b.tables.declarations) 7 ∷ set_number (length b.tables.declarations) 8 ∷ set_number (length b.tables.declarations) 9 ∷ [])) ∷ (set_row n (length b.tables.declarations) r.level standard.Head (attribute_name name.First ∷ attribute_name name.Last ∷ []) (set_number (length b.tables.declarations) 10 ∷ set_number (length b.tables.declarations) 11 ∷ [])) ∷ []) (class_declared n (length b.tables.declarations) token standard.Linkage ∷ class_declared n (length b.tables.declarations) token standard.Link ∷ class_declared n (length b.tables.declarations) token standard.Head ∷ attribute_declared n (length b.tables.declarations) token standard.Linkage name.Suc ∷ attribute_declared n (length b.tables.declarations) token standard.Linkage name.Pred ∷ attribute_declared n (length b.tables.declarations) token standard.Linkage name.Prev ∷ attribute_declared n (length b.tables.declarations) token standard.Link name.Out ∷ attribute_declared n (length b.tables.declarations) token standard.Link name.Follow ∷ attribute_declared n (length b.tables.declarations) token standard.Link name.Precede ∷ attribute_declared n (length b.tables.declarations) token standard.Link name.Into ∷ attribute_declared n (length b.tables.declarations) token standard.Head name.First ∷ attribute_declared n (length b.tables.declarations) token standard.Head name.Last ∷ []) (Some (set_number (length b.tables.declarations) 0)) at is_first refl refl
-
-  step13 : marked (behind b n token cur last (bringing (length b.tables.declarations) r) ((set_row n (length b.tables.declarations) r.level standard.Linkage (attribute_name name.Suc ∷ attribute_name name.Pred ∷ attribute_name name.Prev ∷ []) (set_number (length b.tables.declarations) 3 ∷ set_number (length b.tables.declarations) 4 ∷ set_number (length b.tables.declarations) 5 ∷ [])) ∷ (set_row n (length b.tables.declarations) r.level standard.Link (attribute_name name.Out ∷ attribute_name name.Follow ∷ attribute_name name.Precede ∷ attribute_name name.Into ∷ []) (set_number (length b.tables.declarations) 6 ∷ set_number (length b.tables.declarations) 7 ∷ set_number (length b.tables.declarations) 8 ∷ set_number (length b.tables.declarations) 9 ∷ [])) ∷ (set_row n (length b.tables.declarations) r.level standard.Head (attribute_name name.First ∷ attribute_name name.Last ∷ attribute_name name.Empty ∷ []) (set_number (length b.tables.declarations) 10 ∷ set_number (length b.tables.declarations) 11 ∷ set_number (length b.tables.declarations) 12 ∷ [])) ∷ []) (class_declared n (length b.tables.declarations) token standard.Linkage ∷ class_declared n (length b.tables.declarations) token standard.Link ∷ class_declared n (length b.tables.declarations) token standard.Head ∷ attribute_declared n (length b.tables.declarations) token standard.Linkage name.Suc ∷ attribute_declared n (length b.tables.declarations) token standard.Linkage name.Pred ∷ attribute_declared n (length b.tables.declarations) token standard.Linkage name.Prev ∷ attribute_declared n (length b.tables.declarations) token standard.Link name.Out ∷ attribute_declared n (length b.tables.declarations) token standard.Link name.Follow ∷ attribute_declared n (length b.tables.declarations) token standard.Link name.Precede ∷ attribute_declared n (length b.tables.declarations) token standard.Link name.Into ∷ attribute_declared n (length b.tables.declarations) token standard.Head name.First ∷ attribute_declared n (length b.tables.declarations) token standard.Head name.Last ∷ attribute_declared n (length b.tables.declarations) token standard.Head name.Empty ∷ [])) (Provides (Some standard.Head) name.Cardinal token) ≡ (behind b n token cur last (bringing (length b.tables.declarations) r) ((set_row n (length b.tables.declarations) r.level standard.Linkage (attribute_name name.Suc ∷ attribute_name name.Pred ∷ attribute_name name.Prev ∷ []) (set_number (length b.tables.declarations) 3 ∷ set_number (length b.tables.declarations) 4 ∷ set_number (length b.tables.declarations) 5 ∷ [])) ∷ (set_row n (length b.tables.declarations) r.level standard.Link (attribute_name name.Out ∷ attribute_name name.Follow ∷ attribute_name name.Precede ∷ attribute_name name.Into ∷ []) (set_number (length b.tables.declarations) 6 ∷ set_number (length b.tables.declarations) 7 ∷ set_number (length b.tables.declarations) 8 ∷ set_number (length b.tables.declarations) 9 ∷ [])) ∷ (set_row n (length b.tables.declarations) r.level standard.Head (attribute_name name.First ∷ attribute_name name.Last ∷ attribute_name name.Empty ∷ attribute_name name.Cardinal ∷ []) (set_number (length b.tables.declarations) 10 ∷ set_number (length b.tables.declarations) 11 ∷ set_number (length b.tables.declarations) 12 ∷ set_number (length b.tables.declarations) 13 ∷ [])) ∷ []) (class_declared n (length b.tables.declarations) token standard.Linkage ∷ class_declared n (length b.tables.declarations) token standard.Link ∷ class_declared n (length b.tables.declarations) token standard.Head ∷ attribute_declared n (length b.tables.declarations) token standard.Linkage name.Suc ∷ attribute_declared n (length b.tables.declarations) token standard.Linkage name.Pred ∷ attribute_declared n (length b.tables.declarations) token standard.Linkage name.Prev ∷ attribute_declared n (length b.tables.declarations) token standard.Link name.Out ∷ attribute_declared n (length b.tables.declarations) token standard.Link name.Follow ∷ attribute_declared n (length b.tables.declarations) token standard.Link name.Precede ∷ attribute_declared n (length b.tables.declarations) token standard.Link name.Into ∷ attribute_declared n (length b.tables.declarations) token standard.Head name.First ∷ attribute_declared n (length b.tables.declarations) token standard.Head name.Last ∷ attribute_declared n (length b.tables.declarations) token standard.Head name.Empty ∷ attribute_declared n (length b.tables.declarations) token standard.Head name.Cardinal ∷ []))
-  unfolding row_of
-  step13 = provides_more b n token cur last standard.Head name.Cardinal r (bringing (length b.tables.declarations) r) (set_row n (length b.tables.declarations) r.level standard.Head (attribute_name name.First ∷ attribute_name name.Last ∷ attribute_name name.Empty ∷ []) (set_number (length b.tables.declarations) 10 ∷ set_number (length b.tables.declarations) 11 ∷ set_number (length b.tables.declarations) 12 ∷ [])) ((set_row n (length b.tables.declarations) r.level standard.Linkage (attribute_name name.Suc ∷ attribute_name name.Pred ∷ attribute_name name.Prev ∷ []) (set_number (length b.tables.declarations) 3 ∷ set_number (length b.tables.declarations) 4 ∷ set_number (length b.tables.declarations) 5 ∷ [])) ∷ (set_row n (length b.tables.declarations) r.level standard.Link (attribute_name name.Out ∷ attribute_name name.Follow ∷ attribute_name name.Precede ∷ attribute_name name.Into ∷ []) (set_number (length b.tables.declarations) 6 ∷ set_number (length b.tables.declarations) 7 ∷ set_number (length b.tables.declarations) 8 ∷ set_number (length b.tables.declarations) 9 ∷ [])) ∷ (set_row n (length b.tables.declarations) r.level standard.Head (attribute_name name.First ∷ attribute_name name.Last ∷ attribute_name name.Empty ∷ []) (set_number (length b.tables.declarations) 10 ∷ set_number (length b.tables.declarations) 11 ∷ set_number (length b.tables.declarations) 12 ∷ [])) ∷ []) (class_declared n (length b.tables.declarations) token standard.Linkage ∷ class_declared n (length b.tables.declarations) token standard.Link ∷ class_declared n (length b.tables.declarations) token standard.Head ∷ attribute_declared n (length b.tables.declarations) token standard.Linkage name.Suc ∷ attribute_declared n (length b.tables.declarations) token standard.Linkage name.Pred ∷ attribute_declared n (length b.tables.declarations) token standard.Linkage name.Prev ∷ attribute_declared n (length b.tables.declarations) token standard.Link name.Out ∷ attribute_declared n (length b.tables.declarations) token standard.Link name.Follow ∷ attribute_declared n (length b.tables.declarations) token standard.Link name.Precede ∷ attribute_declared n (length b.tables.declarations) token standard.Link name.Into ∷ attribute_declared n (length b.tables.declarations) token standard.Head name.First ∷ attribute_declared n (length b.tables.declarations) token standard.Head name.Last ∷ attribute_declared n (length b.tables.declarations) token standard.Head name.Empty ∷ []) (Some (set_number (length b.tables.declarations) 0)) at is_first refl refl
-
-  step14 : marked (behind b n token cur last (bringing (length b.tables.declarations) r) ((set_row n (length b.tables.declarations) r.level standard.Linkage (attribute_name name.Suc ∷ attribute_name name.Pred ∷ attribute_name name.Prev ∷ []) (set_number (length b.tables.declarations) 3 ∷ set_number (length b.tables.declarations) 4 ∷ set_number (length b.tables.declarations) 5 ∷ [])) ∷ (set_row n (length b.tables.declarations) r.level standard.Link (attribute_name name.Out ∷ attribute_name name.Follow ∷ attribute_name name.Precede ∷ attribute_name name.Into ∷ []) (set_number (length b.tables.declarations) 6 ∷ set_number (length b.tables.declarations) 7 ∷ set_number (length b.tables.declarations) 8 ∷ set_number (length b.tables.declarations) 9 ∷ [])) ∷ (set_row n (length b.tables.declarations) r.level standard.Head (attribute_name name.First ∷ attribute_name name.Last ∷ attribute_name name.Empty ∷ attribute_name name.Cardinal ∷ []) (set_number (length b.tables.declarations) 10 ∷ set_number (length b.tables.declarations) 11 ∷ set_number (length b.tables.declarations) 12 ∷ set_number (length b.tables.declarations) 13 ∷ [])) ∷ []) (class_declared n (length b.tables.declarations) token standard.Linkage ∷ class_declared n (length b.tables.declarations) token standard.Link ∷ class_declared n (length b.tables.declarations) token standard.Head ∷ attribute_declared n (length b.tables.declarations) token standard.Linkage name.Suc ∷ attribute_declared n (length b.tables.declarations) token standard.Linkage name.Pred ∷ attribute_declared n (length b.tables.declarations) token standard.Linkage name.Prev ∷ attribute_declared n (length b.tables.declarations) token standard.Link name.Out ∷ attribute_declared n (length b.tables.declarations) token standard.Link name.Follow ∷ attribute_declared n (length b.tables.declarations) token standard.Link name.Precede ∷ attribute_declared n (length b.tables.declarations) token standard.Link name.Into ∷ attribute_declared n (length b.tables.declarations) token standard.Head name.First ∷ attribute_declared n (length b.tables.declarations) token standard.Head name.Last ∷ attribute_declared n (length b.tables.declarations) token standard.Head name.Empty ∷ attribute_declared n (length b.tables.declarations) token standard.Head name.Cardinal ∷ [])) (Provides (Some standard.Head) name.Clear token) ≡ (behind b n token cur last (bringing (length b.tables.declarations) r) ((set_row n (length b.tables.declarations) r.level standard.Linkage (attribute_name name.Suc ∷ attribute_name name.Pred ∷ attribute_name name.Prev ∷ []) (set_number (length b.tables.declarations) 3 ∷ set_number (length b.tables.declarations) 4 ∷ set_number (length b.tables.declarations) 5 ∷ [])) ∷ (set_row n (length b.tables.declarations) r.level standard.Link (attribute_name name.Out ∷ attribute_name name.Follow ∷ attribute_name name.Precede ∷ attribute_name name.Into ∷ []) (set_number (length b.tables.declarations) 6 ∷ set_number (length b.tables.declarations) 7 ∷ set_number (length b.tables.declarations) 8 ∷ set_number (length b.tables.declarations) 9 ∷ [])) ∷ (set_row n (length b.tables.declarations) r.level standard.Head (attribute_name name.First ∷ attribute_name name.Last ∷ attribute_name name.Empty ∷ attribute_name name.Cardinal ∷ attribute_name name.Clear ∷ []) (set_number (length b.tables.declarations) 10 ∷ set_number (length b.tables.declarations) 11 ∷ set_number (length b.tables.declarations) 12 ∷ set_number (length b.tables.declarations) 13 ∷ set_number (length b.tables.declarations) 14 ∷ [])) ∷ []) (class_declared n (length b.tables.declarations) token standard.Linkage ∷ class_declared n (length b.tables.declarations) token standard.Link ∷ class_declared n (length b.tables.declarations) token standard.Head ∷ attribute_declared n (length b.tables.declarations) token standard.Linkage name.Suc ∷ attribute_declared n (length b.tables.declarations) token standard.Linkage name.Pred ∷ attribute_declared n (length b.tables.declarations) token standard.Linkage name.Prev ∷ attribute_declared n (length b.tables.declarations) token standard.Link name.Out ∷ attribute_declared n (length b.tables.declarations) token standard.Link name.Follow ∷ attribute_declared n (length b.tables.declarations) token standard.Link name.Precede ∷ attribute_declared n (length b.tables.declarations) token standard.Link name.Into ∷ attribute_declared n (length b.tables.declarations) token standard.Head name.First ∷ attribute_declared n (length b.tables.declarations) token standard.Head name.Last ∷ attribute_declared n (length b.tables.declarations) token standard.Head name.Empty ∷ attribute_declared n (length b.tables.declarations) token standard.Head name.Cardinal ∷ attribute_declared n (length b.tables.declarations) token standard.Head name.Clear ∷ []))
-  unfolding row_of
-  step14 = provides_more b n token cur last standard.Head name.Clear r (bringing (length b.tables.declarations) r) (set_row n (length b.tables.declarations) r.level standard.Head (attribute_name name.First ∷ attribute_name name.Last ∷ attribute_name name.Empty ∷ attribute_name name.Cardinal ∷ []) (set_number (length b.tables.declarations) 10 ∷ set_number (length b.tables.declarations) 11 ∷ set_number (length b.tables.declarations) 12 ∷ set_number (length b.tables.declarations) 13 ∷ [])) ((set_row n (length b.tables.declarations) r.level standard.Linkage (attribute_name name.Suc ∷ attribute_name name.Pred ∷ attribute_name name.Prev ∷ []) (set_number (length b.tables.declarations) 3 ∷ set_number (length b.tables.declarations) 4 ∷ set_number (length b.tables.declarations) 5 ∷ [])) ∷ (set_row n (length b.tables.declarations) r.level standard.Link (attribute_name name.Out ∷ attribute_name name.Follow ∷ attribute_name name.Precede ∷ attribute_name name.Into ∷ []) (set_number (length b.tables.declarations) 6 ∷ set_number (length b.tables.declarations) 7 ∷ set_number (length b.tables.declarations) 8 ∷ set_number (length b.tables.declarations) 9 ∷ [])) ∷ (set_row n (length b.tables.declarations) r.level standard.Head (attribute_name name.First ∷ attribute_name name.Last ∷ attribute_name name.Empty ∷ attribute_name name.Cardinal ∷ []) (set_number (length b.tables.declarations) 10 ∷ set_number (length b.tables.declarations) 11 ∷ set_number (length b.tables.declarations) 12 ∷ set_number (length b.tables.declarations) 13 ∷ [])) ∷ []) (class_declared n (length b.tables.declarations) token standard.Linkage ∷ class_declared n (length b.tables.declarations) token standard.Link ∷ class_declared n (length b.tables.declarations) token standard.Head ∷ attribute_declared n (length b.tables.declarations) token standard.Linkage name.Suc ∷ attribute_declared n (length b.tables.declarations) token standard.Linkage name.Pred ∷ attribute_declared n (length b.tables.declarations) token standard.Linkage name.Prev ∷ attribute_declared n (length b.tables.declarations) token standard.Link name.Out ∷ attribute_declared n (length b.tables.declarations) token standard.Link name.Follow ∷ attribute_declared n (length b.tables.declarations) token standard.Link name.Precede ∷ attribute_declared n (length b.tables.declarations) token standard.Link name.Into ∷ attribute_declared n (length b.tables.declarations) token standard.Head name.First ∷ attribute_declared n (length b.tables.declarations) token standard.Head name.Last ∷ attribute_declared n (length b.tables.declarations) token standard.Head name.Empty ∷ attribute_declared n (length b.tables.declarations) token standard.Head name.Cardinal ∷ []) (Some (set_number (length b.tables.declarations) 0)) at is_first refl refl
-
-  added : run marked (behind b n token cur last r [] []) (set_marks token) ≡ with_sets b n token r
-  added =
-      one_step (behind b n token cur last r [] []) (behind b n token cur last (before (length b.tables.declarations) r) ((set_row n (length b.tables.declarations) r.level standard.Linkage ([]) ([])) ∷ []) (class_declared n (length b.tables.declarations) token standard.Linkage ∷ [])) (with_sets b n token r) (Brings standard.Linkage token) (marks1 token) step0
-      (one_step (behind b n token cur last (before (length b.tables.declarations) r) ((set_row n (length b.tables.declarations) r.level standard.Linkage ([]) ([])) ∷ []) (class_declared n (length b.tables.declarations) token standard.Linkage ∷ [])) (behind b n token cur last (between (length b.tables.declarations) r) ((set_row n (length b.tables.declarations) r.level standard.Linkage ([]) ([])) ∷ (set_row n (length b.tables.declarations) r.level standard.Link ([]) ([])) ∷ []) (class_declared n (length b.tables.declarations) token standard.Linkage ∷ class_declared n (length b.tables.declarations) token standard.Link ∷ [])) (with_sets b n token r) (Brings standard.Link token) (marks2 token) step1
-      (one_step (behind b n token cur last (between (length b.tables.declarations) r) ((set_row n (length b.tables.declarations) r.level standard.Linkage ([]) ([])) ∷ (set_row n (length b.tables.declarations) r.level standard.Link ([]) ([])) ∷ []) (class_declared n (length b.tables.declarations) token standard.Linkage ∷ class_declared n (length b.tables.declarations) token standard.Link ∷ [])) (behind b n token cur last (bringing (length b.tables.declarations) r) ((set_row n (length b.tables.declarations) r.level standard.Linkage ([]) ([])) ∷ (set_row n (length b.tables.declarations) r.level standard.Link ([]) ([])) ∷ (set_row n (length b.tables.declarations) r.level standard.Head ([]) ([])) ∷ []) (class_declared n (length b.tables.declarations) token standard.Linkage ∷ class_declared n (length b.tables.declarations) token standard.Link ∷ class_declared n (length b.tables.declarations) token standard.Head ∷ [])) (with_sets b n token r) (Brings standard.Head token) (marks3 token) step2
-      (one_step (behind b n token cur last (bringing (length b.tables.declarations) r) ((set_row n (length b.tables.declarations) r.level standard.Linkage ([]) ([])) ∷ (set_row n (length b.tables.declarations) r.level standard.Link ([]) ([])) ∷ (set_row n (length b.tables.declarations) r.level standard.Head ([]) ([])) ∷ []) (class_declared n (length b.tables.declarations) token standard.Linkage ∷ class_declared n (length b.tables.declarations) token standard.Link ∷ class_declared n (length b.tables.declarations) token standard.Head ∷ [])) (behind b n token cur last (bringing (length b.tables.declarations) r) ((set_row n (length b.tables.declarations) r.level standard.Linkage (attribute_name name.Suc ∷ []) (set_number (length b.tables.declarations) 3 ∷ [])) ∷ (set_row n (length b.tables.declarations) r.level standard.Link ([]) ([])) ∷ (set_row n (length b.tables.declarations) r.level standard.Head ([]) ([])) ∷ []) (class_declared n (length b.tables.declarations) token standard.Linkage ∷ class_declared n (length b.tables.declarations) token standard.Link ∷ class_declared n (length b.tables.declarations) token standard.Head ∷ attribute_declared n (length b.tables.declarations) token standard.Linkage name.Suc ∷ [])) (with_sets b n token r) (Provides (Some standard.Linkage) name.Suc token) (marks4 token) step3
-      (one_step (behind b n token cur last (bringing (length b.tables.declarations) r) ((set_row n (length b.tables.declarations) r.level standard.Linkage (attribute_name name.Suc ∷ []) (set_number (length b.tables.declarations) 3 ∷ [])) ∷ (set_row n (length b.tables.declarations) r.level standard.Link ([]) ([])) ∷ (set_row n (length b.tables.declarations) r.level standard.Head ([]) ([])) ∷ []) (class_declared n (length b.tables.declarations) token standard.Linkage ∷ class_declared n (length b.tables.declarations) token standard.Link ∷ class_declared n (length b.tables.declarations) token standard.Head ∷ attribute_declared n (length b.tables.declarations) token standard.Linkage name.Suc ∷ [])) (behind b n token cur last (bringing (length b.tables.declarations) r) ((set_row n (length b.tables.declarations) r.level standard.Linkage (attribute_name name.Suc ∷ attribute_name name.Pred ∷ []) (set_number (length b.tables.declarations) 3 ∷ set_number (length b.tables.declarations) 4 ∷ [])) ∷ (set_row n (length b.tables.declarations) r.level standard.Link ([]) ([])) ∷ (set_row n (length b.tables.declarations) r.level standard.Head ([]) ([])) ∷ []) (class_declared n (length b.tables.declarations) token standard.Linkage ∷ class_declared n (length b.tables.declarations) token standard.Link ∷ class_declared n (length b.tables.declarations) token standard.Head ∷ attribute_declared n (length b.tables.declarations) token standard.Linkage name.Suc ∷ attribute_declared n (length b.tables.declarations) token standard.Linkage name.Pred ∷ [])) (with_sets b n token r) (Provides (Some standard.Linkage) name.Pred token) (marks5 token) step4
-      (one_step (behind b n token cur last (bringing (length b.tables.declarations) r) ((set_row n (length b.tables.declarations) r.level standard.Linkage (attribute_name name.Suc ∷ attribute_name name.Pred ∷ []) (set_number (length b.tables.declarations) 3 ∷ set_number (length b.tables.declarations) 4 ∷ [])) ∷ (set_row n (length b.tables.declarations) r.level standard.Link ([]) ([])) ∷ (set_row n (length b.tables.declarations) r.level standard.Head ([]) ([])) ∷ []) (class_declared n (length b.tables.declarations) token standard.Linkage ∷ class_declared n (length b.tables.declarations) token standard.Link ∷ class_declared n (length b.tables.declarations) token standard.Head ∷ attribute_declared n (length b.tables.declarations) token standard.Linkage name.Suc ∷ attribute_declared n (length b.tables.declarations) token standard.Linkage name.Pred ∷ [])) (behind b n token cur last (bringing (length b.tables.declarations) r) ((set_row n (length b.tables.declarations) r.level standard.Linkage (attribute_name name.Suc ∷ attribute_name name.Pred ∷ attribute_name name.Prev ∷ []) (set_number (length b.tables.declarations) 3 ∷ set_number (length b.tables.declarations) 4 ∷ set_number (length b.tables.declarations) 5 ∷ [])) ∷ (set_row n (length b.tables.declarations) r.level standard.Link ([]) ([])) ∷ (set_row n (length b.tables.declarations) r.level standard.Head ([]) ([])) ∷ []) (class_declared n (length b.tables.declarations) token standard.Linkage ∷ class_declared n (length b.tables.declarations) token standard.Link ∷ class_declared n (length b.tables.declarations) token standard.Head ∷ attribute_declared n (length b.tables.declarations) token standard.Linkage name.Suc ∷ attribute_declared n (length b.tables.declarations) token standard.Linkage name.Pred ∷ attribute_declared n (length b.tables.declarations) token standard.Linkage name.Prev ∷ [])) (with_sets b n token r) (Provides (Some standard.Linkage) name.Prev token) (marks6 token) step5
-      (one_step (behind b n token cur last (bringing (length b.tables.declarations) r) ((set_row n (length b.tables.declarations) r.level standard.Linkage (attribute_name name.Suc ∷ attribute_name name.Pred ∷ attribute_name name.Prev ∷ []) (set_number (length b.tables.declarations) 3 ∷ set_number (length b.tables.declarations) 4 ∷ set_number (length b.tables.declarations) 5 ∷ [])) ∷ (set_row n (length b.tables.declarations) r.level standard.Link ([]) ([])) ∷ (set_row n (length b.tables.declarations) r.level standard.Head ([]) ([])) ∷ []) (class_declared n (length b.tables.declarations) token standard.Linkage ∷ class_declared n (length b.tables.declarations) token standard.Link ∷ class_declared n (length b.tables.declarations) token standard.Head ∷ attribute_declared n (length b.tables.declarations) token standard.Linkage name.Suc ∷ attribute_declared n (length b.tables.declarations) token standard.Linkage name.Pred ∷ attribute_declared n (length b.tables.declarations) token standard.Linkage name.Prev ∷ [])) (behind b n token cur last (bringing (length b.tables.declarations) r) ((set_row n (length b.tables.declarations) r.level standard.Linkage (attribute_name name.Suc ∷ attribute_name name.Pred ∷ attribute_name name.Prev ∷ []) (set_number (length b.tables.declarations) 3 ∷ set_number (length b.tables.declarations) 4 ∷ set_number (length b.tables.declarations) 5 ∷ [])) ∷ (set_row n (length b.tables.declarations) r.level standard.Link (attribute_name name.Out ∷ []) (set_number (length b.tables.declarations) 6 ∷ [])) ∷ (set_row n (length b.tables.declarations) r.level standard.Head ([]) ([])) ∷ []) (class_declared n (length b.tables.declarations) token standard.Linkage ∷ class_declared n (length b.tables.declarations) token standard.Link ∷ class_declared n (length b.tables.declarations) token standard.Head ∷ attribute_declared n (length b.tables.declarations) token standard.Linkage name.Suc ∷ attribute_declared n (length b.tables.declarations) token standard.Linkage name.Pred ∷ attribute_declared n (length b.tables.declarations) token standard.Linkage name.Prev ∷ attribute_declared n (length b.tables.declarations) token standard.Link name.Out ∷ [])) (with_sets b n token r) (Provides (Some standard.Link) name.Out token) (marks7 token) step6
-      (one_step (behind b n token cur last (bringing (length b.tables.declarations) r) ((set_row n (length b.tables.declarations) r.level standard.Linkage (attribute_name name.Suc ∷ attribute_name name.Pred ∷ attribute_name name.Prev ∷ []) (set_number (length b.tables.declarations) 3 ∷ set_number (length b.tables.declarations) 4 ∷ set_number (length b.tables.declarations) 5 ∷ [])) ∷ (set_row n (length b.tables.declarations) r.level standard.Link (attribute_name name.Out ∷ []) (set_number (length b.tables.declarations) 6 ∷ [])) ∷ (set_row n (length b.tables.declarations) r.level standard.Head ([]) ([])) ∷ []) (class_declared n (length b.tables.declarations) token standard.Linkage ∷ class_declared n (length b.tables.declarations) token standard.Link ∷ class_declared n (length b.tables.declarations) token standard.Head ∷ attribute_declared n (length b.tables.declarations) token standard.Linkage name.Suc ∷ attribute_declared n (length b.tables.declarations) token standard.Linkage name.Pred ∷ attribute_declared n (length b.tables.declarations) token standard.Linkage name.Prev ∷ attribute_declared n (length b.tables.declarations) token standard.Link name.Out ∷ [])) (behind b n token cur last (bringing (length b.tables.declarations) r) ((set_row n (length b.tables.declarations) r.level standard.Linkage (attribute_name name.Suc ∷ attribute_name name.Pred ∷ attribute_name name.Prev ∷ []) (set_number (length b.tables.declarations) 3 ∷ set_number (length b.tables.declarations) 4 ∷ set_number (length b.tables.declarations) 5 ∷ [])) ∷ (set_row n (length b.tables.declarations) r.level standard.Link (attribute_name name.Out ∷ attribute_name name.Follow ∷ []) (set_number (length b.tables.declarations) 6 ∷ set_number (length b.tables.declarations) 7 ∷ [])) ∷ (set_row n (length b.tables.declarations) r.level standard.Head ([]) ([])) ∷ []) (class_declared n (length b.tables.declarations) token standard.Linkage ∷ class_declared n (length b.tables.declarations) token standard.Link ∷ class_declared n (length b.tables.declarations) token standard.Head ∷ attribute_declared n (length b.tables.declarations) token standard.Linkage name.Suc ∷ attribute_declared n (length b.tables.declarations) token standard.Linkage name.Pred ∷ attribute_declared n (length b.tables.declarations) token standard.Linkage name.Prev ∷ attribute_declared n (length b.tables.declarations) token standard.Link name.Out ∷ attribute_declared n (length b.tables.declarations) token standard.Link name.Follow ∷ [])) (with_sets b n token r) (Provides (Some standard.Link) name.Follow token) (marks8 token) step7
-      (one_step (behind b n token cur last (bringing (length b.tables.declarations) r) ((set_row n (length b.tables.declarations) r.level standard.Linkage (attribute_name name.Suc ∷ attribute_name name.Pred ∷ attribute_name name.Prev ∷ []) (set_number (length b.tables.declarations) 3 ∷ set_number (length b.tables.declarations) 4 ∷ set_number (length b.tables.declarations) 5 ∷ [])) ∷ (set_row n (length b.tables.declarations) r.level standard.Link (attribute_name name.Out ∷ attribute_name name.Follow ∷ []) (set_number (length b.tables.declarations) 6 ∷ set_number (length b.tables.declarations) 7 ∷ [])) ∷ (set_row n (length b.tables.declarations) r.level standard.Head ([]) ([])) ∷ []) (class_declared n (length b.tables.declarations) token standard.Linkage ∷ class_declared n (length b.tables.declarations) token standard.Link ∷ class_declared n (length b.tables.declarations) token standard.Head ∷ attribute_declared n (length b.tables.declarations) token standard.Linkage name.Suc ∷ attribute_declared n (length b.tables.declarations) token standard.Linkage name.Pred ∷ attribute_declared n (length b.tables.declarations) token standard.Linkage name.Prev ∷ attribute_declared n (length b.tables.declarations) token standard.Link name.Out ∷ attribute_declared n (length b.tables.declarations) token standard.Link name.Follow ∷ [])) (behind b n token cur last (bringing (length b.tables.declarations) r) ((set_row n (length b.tables.declarations) r.level standard.Linkage (attribute_name name.Suc ∷ attribute_name name.Pred ∷ attribute_name name.Prev ∷ []) (set_number (length b.tables.declarations) 3 ∷ set_number (length b.tables.declarations) 4 ∷ set_number (length b.tables.declarations) 5 ∷ [])) ∷ (set_row n (length b.tables.declarations) r.level standard.Link (attribute_name name.Out ∷ attribute_name name.Follow ∷ attribute_name name.Precede ∷ []) (set_number (length b.tables.declarations) 6 ∷ set_number (length b.tables.declarations) 7 ∷ set_number (length b.tables.declarations) 8 ∷ [])) ∷ (set_row n (length b.tables.declarations) r.level standard.Head ([]) ([])) ∷ []) (class_declared n (length b.tables.declarations) token standard.Linkage ∷ class_declared n (length b.tables.declarations) token standard.Link ∷ class_declared n (length b.tables.declarations) token standard.Head ∷ attribute_declared n (length b.tables.declarations) token standard.Linkage name.Suc ∷ attribute_declared n (length b.tables.declarations) token standard.Linkage name.Pred ∷ attribute_declared n (length b.tables.declarations) token standard.Linkage name.Prev ∷ attribute_declared n (length b.tables.declarations) token standard.Link name.Out ∷ attribute_declared n (length b.tables.declarations) token standard.Link name.Follow ∷ attribute_declared n (length b.tables.declarations) token standard.Link name.Precede ∷ [])) (with_sets b n token r) (Provides (Some standard.Link) name.Precede token) (marks9 token) step8
-      (one_step (behind b n token cur last (bringing (length b.tables.declarations) r) ((set_row n (length b.tables.declarations) r.level standard.Linkage (attribute_name name.Suc ∷ attribute_name name.Pred ∷ attribute_name name.Prev ∷ []) (set_number (length b.tables.declarations) 3 ∷ set_number (length b.tables.declarations) 4 ∷ set_number (length b.tables.declarations) 5 ∷ [])) ∷ (set_row n (length b.tables.declarations) r.level standard.Link (attribute_name name.Out ∷ attribute_name name.Follow ∷ attribute_name name.Precede ∷ []) (set_number (length b.tables.declarations) 6 ∷ set_number (length b.tables.declarations) 7 ∷ set_number (length b.tables.declarations) 8 ∷ [])) ∷ (set_row n (length b.tables.declarations) r.level standard.Head ([]) ([])) ∷ []) (class_declared n (length b.tables.declarations) token standard.Linkage ∷ class_declared n (length b.tables.declarations) token standard.Link ∷ class_declared n (length b.tables.declarations) token standard.Head ∷ attribute_declared n (length b.tables.declarations) token standard.Linkage name.Suc ∷ attribute_declared n (length b.tables.declarations) token standard.Linkage name.Pred ∷ attribute_declared n (length b.tables.declarations) token standard.Linkage name.Prev ∷ attribute_declared n (length b.tables.declarations) token standard.Link name.Out ∷ attribute_declared n (length b.tables.declarations) token standard.Link name.Follow ∷ attribute_declared n (length b.tables.declarations) token standard.Link name.Precede ∷ [])) (behind b n token cur last (bringing (length b.tables.declarations) r) ((set_row n (length b.tables.declarations) r.level standard.Linkage (attribute_name name.Suc ∷ attribute_name name.Pred ∷ attribute_name name.Prev ∷ []) (set_number (length b.tables.declarations) 3 ∷ set_number (length b.tables.declarations) 4 ∷ set_number (length b.tables.declarations) 5 ∷ [])) ∷ (set_row n (length b.tables.declarations) r.level standard.Link (attribute_name name.Out ∷ attribute_name name.Follow ∷ attribute_name name.Precede ∷ attribute_name name.Into ∷ []) (set_number (length b.tables.declarations) 6 ∷ set_number (length b.tables.declarations) 7 ∷ set_number (length b.tables.declarations) 8 ∷ set_number (length b.tables.declarations) 9 ∷ [])) ∷ (set_row n (length b.tables.declarations) r.level standard.Head ([]) ([])) ∷ []) (class_declared n (length b.tables.declarations) token standard.Linkage ∷ class_declared n (length b.tables.declarations) token standard.Link ∷ class_declared n (length b.tables.declarations) token standard.Head ∷ attribute_declared n (length b.tables.declarations) token standard.Linkage name.Suc ∷ attribute_declared n (length b.tables.declarations) token standard.Linkage name.Pred ∷ attribute_declared n (length b.tables.declarations) token standard.Linkage name.Prev ∷ attribute_declared n (length b.tables.declarations) token standard.Link name.Out ∷ attribute_declared n (length b.tables.declarations) token standard.Link name.Follow ∷ attribute_declared n (length b.tables.declarations) token standard.Link name.Precede ∷ attribute_declared n (length b.tables.declarations) token standard.Link name.Into ∷ [])) (with_sets b n token r) (Provides (Some standard.Link) name.Into token) (marks10 token) step9
-      (one_step (behind b n token cur last (bringing (length b.tables.declarations) r) ((set_row n (length b.tables.declarations) r.level standard.Linkage (attribute_name name.Suc ∷ attribute_name name.Pred ∷ attribute_name name.Prev ∷ []) (set_number (length b.tables.declarations) 3 ∷ set_number (length b.tables.declarations) 4 ∷ set_number (length b.tables.declarations) 5 ∷ [])) ∷ (set_row n (length b.tables.declarations) r.level standard.Link (attribute_name name.Out ∷ attribute_name name.Follow ∷ attribute_name name.Precede ∷ attribute_name name.Into ∷ []) (set_number (length b.tables.declarations) 6 ∷ set_number (length b.tables.declarations) 7 ∷ set_number (length b.tables.declarations) 8 ∷ set_number (length b.tables.declarations) 9 ∷ [])) ∷ (set_row n (length b.tables.declarations) r.level standard.Head ([]) ([])) ∷ []) (class_declared n (length b.tables.declarations) token standard.Linkage ∷ class_declared n (length b.tables.declarations) token standard.Link ∷ class_declared n (length b.tables.declarations) token standard.Head ∷ attribute_declared n (length b.tables.declarations) token standard.Linkage name.Suc ∷ attribute_declared n (length b.tables.declarations) token standard.Linkage name.Pred ∷ attribute_declared n (length b.tables.declarations) token standard.Linkage name.Prev ∷ attribute_declared n (length b.tables.declarations) token standard.Link name.Out ∷ attribute_declared n (length b.tables.declarations) token standard.Link name.Follow ∷ attribute_declared n (length b.tables.declarations) token standard.Link name.Precede ∷ attribute_declared n (length b.tables.declarations) token standard.Link name.Into ∷ [])) (behind b n token cur last (bringing (length b.tables.declarations) r) ((set_row n (length b.tables.declarations) r.level standard.Linkage (attribute_name name.Suc ∷ attribute_name name.Pred ∷ attribute_name name.Prev ∷ []) (set_number (length b.tables.declarations) 3 ∷ set_number (length b.tables.declarations) 4 ∷ set_number (length b.tables.declarations) 5 ∷ [])) ∷ (set_row n (length b.tables.declarations) r.level standard.Link (attribute_name name.Out ∷ attribute_name name.Follow ∷ attribute_name name.Precede ∷ attribute_name name.Into ∷ []) (set_number (length b.tables.declarations) 6 ∷ set_number (length b.tables.declarations) 7 ∷ set_number (length b.tables.declarations) 8 ∷ set_number (length b.tables.declarations) 9 ∷ [])) ∷ (set_row n (length b.tables.declarations) r.level standard.Head (attribute_name name.First ∷ []) (set_number (length b.tables.declarations) 10 ∷ [])) ∷ []) (class_declared n (length b.tables.declarations) token standard.Linkage ∷ class_declared n (length b.tables.declarations) token standard.Link ∷ class_declared n (length b.tables.declarations) token standard.Head ∷ attribute_declared n (length b.tables.declarations) token standard.Linkage name.Suc ∷ attribute_declared n (length b.tables.declarations) token standard.Linkage name.Pred ∷ attribute_declared n (length b.tables.declarations) token standard.Linkage name.Prev ∷ attribute_declared n (length b.tables.declarations) token standard.Link name.Out ∷ attribute_declared n (length b.tables.declarations) token standard.Link name.Follow ∷ attribute_declared n (length b.tables.declarations) token standard.Link name.Precede ∷ attribute_declared n (length b.tables.declarations) token standard.Link name.Into ∷ attribute_declared n (length b.tables.declarations) token standard.Head name.First ∷ [])) (with_sets b n token r) (Provides (Some standard.Head) name.First token) (marks11 token) step10
-      (one_step (behind b n token cur last (bringing (length b.tables.declarations) r) ((set_row n (length b.tables.declarations) r.level standard.Linkage (attribute_name name.Suc ∷ attribute_name name.Pred ∷ attribute_name name.Prev ∷ []) (set_number (length b.tables.declarations) 3 ∷ set_number (length b.tables.declarations) 4 ∷ set_number (length b.tables.declarations) 5 ∷ [])) ∷ (set_row n (length b.tables.declarations) r.level standard.Link (attribute_name name.Out ∷ attribute_name name.Follow ∷ attribute_name name.Precede ∷ attribute_name name.Into ∷ []) (set_number (length b.tables.declarations) 6 ∷ set_number (length b.tables.declarations) 7 ∷ set_number (length b.tables.declarations) 8 ∷ set_number (length b.tables.declarations) 9 ∷ [])) ∷ (set_row n (length b.tables.declarations) r.level standard.Head (attribute_name name.First ∷ []) (set_number (length b.tables.declarations) 10 ∷ [])) ∷ []) (class_declared n (length b.tables.declarations) token standard.Linkage ∷ class_declared n (length b.tables.declarations) token standard.Link ∷ class_declared n (length b.tables.declarations) token standard.Head ∷ attribute_declared n (length b.tables.declarations) token standard.Linkage name.Suc ∷ attribute_declared n (length b.tables.declarations) token standard.Linkage name.Pred ∷ attribute_declared n (length b.tables.declarations) token standard.Linkage name.Prev ∷ attribute_declared n (length b.tables.declarations) token standard.Link name.Out ∷ attribute_declared n (length b.tables.declarations) token standard.Link name.Follow ∷ attribute_declared n (length b.tables.declarations) token standard.Link name.Precede ∷ attribute_declared n (length b.tables.declarations) token standard.Link name.Into ∷ attribute_declared n (length b.tables.declarations) token standard.Head name.First ∷ [])) (behind b n token cur last (bringing (length b.tables.declarations) r) ((set_row n (length b.tables.declarations) r.level standard.Linkage (attribute_name name.Suc ∷ attribute_name name.Pred ∷ attribute_name name.Prev ∷ []) (set_number (length b.tables.declarations) 3 ∷ set_number (length b.tables.declarations) 4 ∷ set_number (length b.tables.declarations) 5 ∷ [])) ∷ (set_row n (length b.tables.declarations) r.level standard.Link (attribute_name name.Out ∷ attribute_name name.Follow ∷ attribute_name name.Precede ∷ attribute_name name.Into ∷ []) (set_number (length b.tables.declarations) 6 ∷ set_number (length b.tables.declarations) 7 ∷ set_number (length b.tables.declarations) 8 ∷ set_number (length b.tables.declarations) 9 ∷ [])) ∷ (set_row n (length b.tables.declarations) r.level standard.Head (attribute_name name.First ∷ attribute_name name.Last ∷ []) (set_number (length b.tables.declarations) 10 ∷ set_number (length b.tables.declarations) 11 ∷ [])) ∷ []) (class_declared n (length b.tables.declarations) token standard.Linkage ∷ class_declared n (length b.tables.declarations) token standard.Link ∷ class_declared n (length b.tables.declarations) token standard.Head ∷ attribute_declared n (length b.tables.declarations) token standard.Linkage name.Suc ∷ attribute_declared n (length b.tables.declarations) token standard.Linkage name.Pred ∷ attribute_declared n (length b.tables.declarations) token standard.Linkage name.Prev ∷ attribute_declared n (length b.tables.declarations) token standard.Link name.Out ∷ attribute_declared n (length b.tables.declarations) token standard.Link name.Follow ∷ attribute_declared n (length b.tables.declarations) token standard.Link name.Precede ∷ attribute_declared n (length b.tables.declarations) token standard.Link name.Into ∷ attribute_declared n (length b.tables.declarations) token standard.Head name.First ∷ attribute_declared n (length b.tables.declarations) token standard.Head name.Last ∷ [])) (with_sets b n token r) (Provides (Some standard.Head) name.Last token) (marks12 token) step11
-      (one_step (behind b n token cur last (bringing (length b.tables.declarations) r) ((set_row n (length b.tables.declarations) r.level standard.Linkage (attribute_name name.Suc ∷ attribute_name name.Pred ∷ attribute_name name.Prev ∷ []) (set_number (length b.tables.declarations) 3 ∷ set_number (length b.tables.declarations) 4 ∷ set_number (length b.tables.declarations) 5 ∷ [])) ∷ (set_row n (length b.tables.declarations) r.level standard.Link (attribute_name name.Out ∷ attribute_name name.Follow ∷ attribute_name name.Precede ∷ attribute_name name.Into ∷ []) (set_number (length b.tables.declarations) 6 ∷ set_number (length b.tables.declarations) 7 ∷ set_number (length b.tables.declarations) 8 ∷ set_number (length b.tables.declarations) 9 ∷ [])) ∷ (set_row n (length b.tables.declarations) r.level standard.Head (attribute_name name.First ∷ attribute_name name.Last ∷ []) (set_number (length b.tables.declarations) 10 ∷ set_number (length b.tables.declarations) 11 ∷ [])) ∷ []) (class_declared n (length b.tables.declarations) token standard.Linkage ∷ class_declared n (length b.tables.declarations) token standard.Link ∷ class_declared n (length b.tables.declarations) token standard.Head ∷ attribute_declared n (length b.tables.declarations) token standard.Linkage name.Suc ∷ attribute_declared n (length b.tables.declarations) token standard.Linkage name.Pred ∷ attribute_declared n (length b.tables.declarations) token standard.Linkage name.Prev ∷ attribute_declared n (length b.tables.declarations) token standard.Link name.Out ∷ attribute_declared n (length b.tables.declarations) token standard.Link name.Follow ∷ attribute_declared n (length b.tables.declarations) token standard.Link name.Precede ∷ attribute_declared n (length b.tables.declarations) token standard.Link name.Into ∷ attribute_declared n (length b.tables.declarations) token standard.Head name.First ∷ attribute_declared n (length b.tables.declarations) token standard.Head name.Last ∷ [])) (behind b n token cur last (bringing (length b.tables.declarations) r) ((set_row n (length b.tables.declarations) r.level standard.Linkage (attribute_name name.Suc ∷ attribute_name name.Pred ∷ attribute_name name.Prev ∷ []) (set_number (length b.tables.declarations) 3 ∷ set_number (length b.tables.declarations) 4 ∷ set_number (length b.tables.declarations) 5 ∷ [])) ∷ (set_row n (length b.tables.declarations) r.level standard.Link (attribute_name name.Out ∷ attribute_name name.Follow ∷ attribute_name name.Precede ∷ attribute_name name.Into ∷ []) (set_number (length b.tables.declarations) 6 ∷ set_number (length b.tables.declarations) 7 ∷ set_number (length b.tables.declarations) 8 ∷ set_number (length b.tables.declarations) 9 ∷ [])) ∷ (set_row n (length b.tables.declarations) r.level standard.Head (attribute_name name.First ∷ attribute_name name.Last ∷ attribute_name name.Empty ∷ []) (set_number (length b.tables.declarations) 10 ∷ set_number (length b.tables.declarations) 11 ∷ set_number (length b.tables.declarations) 12 ∷ [])) ∷ []) (class_declared n (length b.tables.declarations) token standard.Linkage ∷ class_declared n (length b.tables.declarations) token standard.Link ∷ class_declared n (length b.tables.declarations) token standard.Head ∷ attribute_declared n (length b.tables.declarations) token standard.Linkage name.Suc ∷ attribute_declared n (length b.tables.declarations) token standard.Linkage name.Pred ∷ attribute_declared n (length b.tables.declarations) token standard.Linkage name.Prev ∷ attribute_declared n (length b.tables.declarations) token standard.Link name.Out ∷ attribute_declared n (length b.tables.declarations) token standard.Link name.Follow ∷ attribute_declared n (length b.tables.declarations) token standard.Link name.Precede ∷ attribute_declared n (length b.tables.declarations) token standard.Link name.Into ∷ attribute_declared n (length b.tables.declarations) token standard.Head name.First ∷ attribute_declared n (length b.tables.declarations) token standard.Head name.Last ∷ attribute_declared n (length b.tables.declarations) token standard.Head name.Empty ∷ [])) (with_sets b n token r) (Provides (Some standard.Head) name.Empty token) (marks13 token) step12
-      (one_step (behind b n token cur last (bringing (length b.tables.declarations) r) ((set_row n (length b.tables.declarations) r.level standard.Linkage (attribute_name name.Suc ∷ attribute_name name.Pred ∷ attribute_name name.Prev ∷ []) (set_number (length b.tables.declarations) 3 ∷ set_number (length b.tables.declarations) 4 ∷ set_number (length b.tables.declarations) 5 ∷ [])) ∷ (set_row n (length b.tables.declarations) r.level standard.Link (attribute_name name.Out ∷ attribute_name name.Follow ∷ attribute_name name.Precede ∷ attribute_name name.Into ∷ []) (set_number (length b.tables.declarations) 6 ∷ set_number (length b.tables.declarations) 7 ∷ set_number (length b.tables.declarations) 8 ∷ set_number (length b.tables.declarations) 9 ∷ [])) ∷ (set_row n (length b.tables.declarations) r.level standard.Head (attribute_name name.First ∷ attribute_name name.Last ∷ attribute_name name.Empty ∷ []) (set_number (length b.tables.declarations) 10 ∷ set_number (length b.tables.declarations) 11 ∷ set_number (length b.tables.declarations) 12 ∷ [])) ∷ []) (class_declared n (length b.tables.declarations) token standard.Linkage ∷ class_declared n (length b.tables.declarations) token standard.Link ∷ class_declared n (length b.tables.declarations) token standard.Head ∷ attribute_declared n (length b.tables.declarations) token standard.Linkage name.Suc ∷ attribute_declared n (length b.tables.declarations) token standard.Linkage name.Pred ∷ attribute_declared n (length b.tables.declarations) token standard.Linkage name.Prev ∷ attribute_declared n (length b.tables.declarations) token standard.Link name.Out ∷ attribute_declared n (length b.tables.declarations) token standard.Link name.Follow ∷ attribute_declared n (length b.tables.declarations) token standard.Link name.Precede ∷ attribute_declared n (length b.tables.declarations) token standard.Link name.Into ∷ attribute_declared n (length b.tables.declarations) token standard.Head name.First ∷ attribute_declared n (length b.tables.declarations) token standard.Head name.Last ∷ attribute_declared n (length b.tables.declarations) token standard.Head name.Empty ∷ [])) (behind b n token cur last (bringing (length b.tables.declarations) r) ((set_row n (length b.tables.declarations) r.level standard.Linkage (attribute_name name.Suc ∷ attribute_name name.Pred ∷ attribute_name name.Prev ∷ []) (set_number (length b.tables.declarations) 3 ∷ set_number (length b.tables.declarations) 4 ∷ set_number (length b.tables.declarations) 5 ∷ [])) ∷ (set_row n (length b.tables.declarations) r.level standard.Link (attribute_name name.Out ∷ attribute_name name.Follow ∷ attribute_name name.Precede ∷ attribute_name name.Into ∷ []) (set_number (length b.tables.declarations) 6 ∷ set_number (length b.tables.declarations) 7 ∷ set_number (length b.tables.declarations) 8 ∷ set_number (length b.tables.declarations) 9 ∷ [])) ∷ (set_row n (length b.tables.declarations) r.level standard.Head (attribute_name name.First ∷ attribute_name name.Last ∷ attribute_name name.Empty ∷ attribute_name name.Cardinal ∷ []) (set_number (length b.tables.declarations) 10 ∷ set_number (length b.tables.declarations) 11 ∷ set_number (length b.tables.declarations) 12 ∷ set_number (length b.tables.declarations) 13 ∷ [])) ∷ []) (class_declared n (length b.tables.declarations) token standard.Linkage ∷ class_declared n (length b.tables.declarations) token standard.Link ∷ class_declared n (length b.tables.declarations) token standard.Head ∷ attribute_declared n (length b.tables.declarations) token standard.Linkage name.Suc ∷ attribute_declared n (length b.tables.declarations) token standard.Linkage name.Pred ∷ attribute_declared n (length b.tables.declarations) token standard.Linkage name.Prev ∷ attribute_declared n (length b.tables.declarations) token standard.Link name.Out ∷ attribute_declared n (length b.tables.declarations) token standard.Link name.Follow ∷ attribute_declared n (length b.tables.declarations) token standard.Link name.Precede ∷ attribute_declared n (length b.tables.declarations) token standard.Link name.Into ∷ attribute_declared n (length b.tables.declarations) token standard.Head name.First ∷ attribute_declared n (length b.tables.declarations) token standard.Head name.Last ∷ attribute_declared n (length b.tables.declarations) token standard.Head name.Empty ∷ attribute_declared n (length b.tables.declarations) token standard.Head name.Cardinal ∷ [])) (with_sets b n token r) (Provides (Some standard.Head) name.Cardinal token) (marks14 token) step13
-      (one_step (behind b n token cur last (bringing (length b.tables.declarations) r) ((set_row n (length b.tables.declarations) r.level standard.Linkage (attribute_name name.Suc ∷ attribute_name name.Pred ∷ attribute_name name.Prev ∷ []) (set_number (length b.tables.declarations) 3 ∷ set_number (length b.tables.declarations) 4 ∷ set_number (length b.tables.declarations) 5 ∷ [])) ∷ (set_row n (length b.tables.declarations) r.level standard.Link (attribute_name name.Out ∷ attribute_name name.Follow ∷ attribute_name name.Precede ∷ attribute_name name.Into ∷ []) (set_number (length b.tables.declarations) 6 ∷ set_number (length b.tables.declarations) 7 ∷ set_number (length b.tables.declarations) 8 ∷ set_number (length b.tables.declarations) 9 ∷ [])) ∷ (set_row n (length b.tables.declarations) r.level standard.Head (attribute_name name.First ∷ attribute_name name.Last ∷ attribute_name name.Empty ∷ attribute_name name.Cardinal ∷ []) (set_number (length b.tables.declarations) 10 ∷ set_number (length b.tables.declarations) 11 ∷ set_number (length b.tables.declarations) 12 ∷ set_number (length b.tables.declarations) 13 ∷ [])) ∷ []) (class_declared n (length b.tables.declarations) token standard.Linkage ∷ class_declared n (length b.tables.declarations) token standard.Link ∷ class_declared n (length b.tables.declarations) token standard.Head ∷ attribute_declared n (length b.tables.declarations) token standard.Linkage name.Suc ∷ attribute_declared n (length b.tables.declarations) token standard.Linkage name.Pred ∷ attribute_declared n (length b.tables.declarations) token standard.Linkage name.Prev ∷ attribute_declared n (length b.tables.declarations) token standard.Link name.Out ∷ attribute_declared n (length b.tables.declarations) token standard.Link name.Follow ∷ attribute_declared n (length b.tables.declarations) token standard.Link name.Precede ∷ attribute_declared n (length b.tables.declarations) token standard.Link name.Into ∷ attribute_declared n (length b.tables.declarations) token standard.Head name.First ∷ attribute_declared n (length b.tables.declarations) token standard.Head name.Last ∷ attribute_declared n (length b.tables.declarations) token standard.Head name.Empty ∷ attribute_declared n (length b.tables.declarations) token standard.Head name.Cardinal ∷ [])) (behind b n token cur last (bringing (length b.tables.declarations) r) ((set_row n (length b.tables.declarations) r.level standard.Linkage (attribute_name name.Suc ∷ attribute_name name.Pred ∷ attribute_name name.Prev ∷ []) (set_number (length b.tables.declarations) 3 ∷ set_number (length b.tables.declarations) 4 ∷ set_number (length b.tables.declarations) 5 ∷ [])) ∷ (set_row n (length b.tables.declarations) r.level standard.Link (attribute_name name.Out ∷ attribute_name name.Follow ∷ attribute_name name.Precede ∷ attribute_name name.Into ∷ []) (set_number (length b.tables.declarations) 6 ∷ set_number (length b.tables.declarations) 7 ∷ set_number (length b.tables.declarations) 8 ∷ set_number (length b.tables.declarations) 9 ∷ [])) ∷ (set_row n (length b.tables.declarations) r.level standard.Head (attribute_name name.First ∷ attribute_name name.Last ∷ attribute_name name.Empty ∷ attribute_name name.Cardinal ∷ attribute_name name.Clear ∷ []) (set_number (length b.tables.declarations) 10 ∷ set_number (length b.tables.declarations) 11 ∷ set_number (length b.tables.declarations) 12 ∷ set_number (length b.tables.declarations) 13 ∷ set_number (length b.tables.declarations) 14 ∷ [])) ∷ []) (class_declared n (length b.tables.declarations) token standard.Linkage ∷ class_declared n (length b.tables.declarations) token standard.Link ∷ class_declared n (length b.tables.declarations) token standard.Head ∷ attribute_declared n (length b.tables.declarations) token standard.Linkage name.Suc ∷ attribute_declared n (length b.tables.declarations) token standard.Linkage name.Pred ∷ attribute_declared n (length b.tables.declarations) token standard.Linkage name.Prev ∷ attribute_declared n (length b.tables.declarations) token standard.Link name.Out ∷ attribute_declared n (length b.tables.declarations) token standard.Link name.Follow ∷ attribute_declared n (length b.tables.declarations) token standard.Link name.Precede ∷ attribute_declared n (length b.tables.declarations) token standard.Link name.Into ∷ attribute_declared n (length b.tables.declarations) token standard.Head name.First ∷ attribute_declared n (length b.tables.declarations) token standard.Head name.Last ∷ attribute_declared n (length b.tables.declarations) token standard.Head name.Empty ∷ attribute_declared n (length b.tables.declarations) token standard.Head name.Cardinal ∷ attribute_declared n (length b.tables.declarations) token standard.Head name.Clear ∷ [])) (with_sets b n token r) (Provides (Some standard.Head) name.Clear token) (marks15 token) step14
-      (no_mark (with_sets b n token r))))))))))))))))
-
-  pub sets_are : run marked b (brought_marks token prefix.Simset classes_of_sets) ≡ with_sets b n token r
-  sets_are = ap (run marked b) (marks_of_sets token) ∙ ap (λ z. run marked z (set_marks token)) begins ∙ added
+  pub standard_added : run marked b (brought_marks token p (classes_of p)) ≡ with_standard p b n token r
+  standard_added =
+      ap (run marked b) (marks_are p token) ∙ ap (λ z. run marked z (all_marks p token)) (sym begins) ∙ all_added b n cur last r at (all_marks p token) (all_bring p token) (starting r)
+      ∙ ap (behind b n cur last r at) (all_adding p n (length b.tables.declarations) token r)

@@ -1,4 +1,4 @@
--- The marks that `simset` in front of a block that has just begun stands for.
+-- The marks that a standard prefix in front of a block that has just begun stands for.
 use Rattle.std.proofs.Common.{◌≡◌, ◌+◌, ℕ, Bool, true, false, [], ◌∷◌, ◌++◌, length, Some, refl, ap, ◌∙◌}
 use Rattle.std.specs.Prelude.{nat_lt, slice_get, slice_set}
 use Rattle.std.proofs.lemmas.List.{length-append, length-set}
@@ -7,15 +7,16 @@ use Rattle.sim_base.specs.declared.rule.Rule.TheVariants as r
 use Rattle.sim_tree.specs.declared.expr.Identifier.{Identifier}
 use Rattle.sim_scope.specs.declared.types.BlockKind.{BlockKind}
 use Rattle.sim_scope.specs.Building.{BuildingOf, block_around, broken_if, changed, changed_row, level_in, marked, most_levels, opened, placed, prefixed_by}
-use Rattle.sim_scope.specs.declared.types.StandardPrefix.TheVariants as prefix
+use Rattle.sim_scope.specs.declared.types.StandardPrefix.{StandardPrefix}
 use Rattle.sim_scope.specs.Declare.{brought_marks}
 use Rattle.sim_scope.specs.Runs.{run}
-use Rattle.sim_scope.specs.Standard.{classes_of_sets}
 use Rattle.sim_scope.specs.Tables.{BlockOf}
 use Rattle.sim_scope.proofs.Kept.{more_here, set_here}
-use Rattle.sim_agree.proofs.BroughtRows.{sets_are, with_sets}
+use Rattle.sim_agree.proofs.Brought.{set_twice}
+use Rattle.sim_agree.proofs.BroughtRows.{added_declarations, added_rows, bringing, standard_added, with_standard}
 use Rattle.sim_agree.proofs.Fine.{fresh}
-use Rattle.sim_agree.proofs.Groups.{set_prefix}
+use Rattle.sim_agree.proofs.Groups.{whole_prefix}
+use Rattle.sim_agree.proofs.StandardPrefixes.{classes_of}
 
 -- the innermost block is the last one, and has brought nothing
 pub record FreshTop (b : BuildingOf) : Type 0 where
@@ -44,25 +45,14 @@ prefixed_top b t y = record b { tables = record b.tables { blocks = slice_set b.
 pub prefixed_is : (b : BuildingOf) (t : FreshTop b) (y : Identifier) → changed b (prefixed_by y) b.current ≡ prefixed_top b t y
 prefixed_is b t y = ap (changed b (prefixed_by y)) t.current ∙ ap (changed_row b (prefixed_by y) t.number) t.at
 
-abbrev pub prefixed_fresh : (b : BuildingOf) (t : FreshTop b) (y : Identifier) → FreshTop (prefixed_top b t y)
-prefixed_fresh b t y = record {
-  number = t.number;
-  current = t.current;
-  last = length-set b.tables.blocks t.number (prefixed_by y t.row) ∙ t.last;
-  row = prefixed_by y t.row;
-  at = set_here b.tables.blocks t.number t.row (prefixed_by y t.row) t.at;
-  nameless = t.nameless;
-  none = t.none;
-  childless = t.childless;
-}
-
 -- and with what the prefix brings
-abbrev pub brought_top : (b : BuildingOf) → FreshTop b → (token : ℕ) → Identifier → BuildingOf
-brought_top b t token y = with_sets (prefixed_top b t y) t.number token (prefixed_by y t.row)
+abbrev pub brought_top : (p : StandardPrefix) (b : BuildingOf) → FreshTop b → (token : ℕ) → Identifier → BuildingOf
+brought_top p b t token y = with_standard p b t.number token (prefixed_by y t.row)
 
-pub brought_is : (b : BuildingOf) (t : FreshTop b) (token : ℕ) (y : Identifier) → run marked b (set_prefix token y) ≡ brought_top b t token y
+pub brought_is : (p : StandardPrefix) (b : BuildingOf) (t : FreshTop b) (token : ℕ) (y : Identifier) → run marked b (whole_prefix p token y) ≡ brought_top p b t token y
 unfolding run marked
-brought_is b t token y =
-    let u : FreshTop (prefixed_top b t y) = prefixed_fresh b t y in
-    ap (λ c. run marked c (brought_marks token prefix.Simset classes_of_sets)) (prefixed_is b t y)
-    ∙ sets_are (prefixed_top b t y) t.number token u.current u.last (prefixed_by y t.row) u.at u.nameless u.none
+brought_is p b t token y =
+    ap (λ c. run marked c (brought_marks token p (classes_of p))) (prefixed_is b t y)
+    ∙ standard_added p (prefixed_top b t y) t.number token (prefixed_by y t.row) t.current (length-set b.tables.blocks t.number (prefixed_by y t.row) ∙ t.last) (set_here b.tables.blocks t.number t.row (prefixed_by y t.row) t.at) t.nameless t.none
+    ∙ ap (λ z. let c : BuildingOf = record b { tables = record b.tables { blocks = z ++ added_rows t.number (length b.tables.declarations) t.row.level p; declarations = b.tables.declarations ++ added_declarations t.number (length b.tables.declarations) token p } } in c)
+    (set_twice b.tables.blocks t.number (prefixed_by y t.row) (bringing p (length b.tables.declarations) (prefixed_by y t.row)))

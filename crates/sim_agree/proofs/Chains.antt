@@ -13,7 +13,7 @@ use Rattle.sim_tree.specs.Order.{InOrder}
 use Rattle.sim_scope.specs.declared.found.Fault.{Fault}
 use Rattle.sim_scope.specs.declared.scopes.Declaration.{Declaration}
 use Rattle.sim_scope.specs.declared.types.Entry.TheVariants as entry
-use Rattle.sim_scope.specs.declared.types.StandardClass.TheVariants as standard
+use Rattle.sim_scope.specs.declared.types.StandardPrefix.{StandardPrefix}
 use Rattle.sim_scope.specs.Access.{around, encloser, is_connection as is_connection_kind, is_kind, is_so}
 use Rattle.sim_scope.specs.Declare.{declared_by}
 use Rattle.sim_scope.specs.Levels.{base, base_in, has_level, holds, some_level_of, owner_of_level}
@@ -35,9 +35,9 @@ use Rattle.sim_agree.specs.TablesOf.{TablesOf}
 use Rattle.sim_agree.proofs.ClassRows.{no_class_connection}
 use Rattle.sim_agree.proofs.Completing.{bare_row, kind_in, prefixable_base}
 use Rattle.sim_agree.proofs.Fine.{Fine, InGroup, owner_in}
-use Rattle.sim_agree.proofs.Groups.{Prefixing}
+use Rattle.sim_agree.proofs.StandardPrefixes.{InFront}
 use Rattle.sim_agree.proofs.Owned.{OwnerIs}
-use Rattle.sim_agree.proofs.SetBlocks.{SetBase, set_base}
+use Rattle.sim_agree.proofs.StandardBlocks.{StandardBase, standard_base_of}
 use Rattle.sim_scope.specs.Building.{place_of}
 use Rattle.sim_agree.proofs.Headings as headings
 use Rattle.sim_agree.proofs.Insides as i
@@ -227,15 +227,13 @@ module _ (s : Source) (of : TablesOf s) (plain : Plain s.program) (order : InOrd
       within None at f = absurd (cc)
       within (Some row) at f = slice_get_within (declared_by s.program).tables.blocks b row at
 
-      below_set : (n which m c : ℕ) → m ≡ n + 1 + which → c ≡ n + 1 → m < length (declared_by s.program).tables.blocks → c < length (declared_by s.program).tables.blocks
-      below_set n which m c place at lt = omega (arith, lt, place, at)
-
       go : PrefixOf (declared_by s.program).tables (prefixed (declared_by s.program).tables) k b ⊎ (base (declared_by s.program).tables k ≡ Some b) → b < length (declared_by s.program).tables.blocks
       go (inl p) = let c = t.class_at s.program plain p.class b p.declares in within (slice_get (declared_by s.program).tables.blocks b) refl c.2
       go (inr was) =
-          let q = set_base (declared_by s.program) (program_texts s.program.prefix s.program.block) [] (t.program_agrees s.program plain).fine k b was in
-          let lt : k < length (declared_by s.program).tables.blocks = slice_get_within (declared_by s.program).tables.blocks k q.0 q.1 in
-          below_set q.2.block (place_of q.2.which) k b q.2.place q.2.base lt
+          let fine = (t.program_agrees s.program plain).fine in
+          let q = standard_base_of (declared_by s.program) (program_texts s.program.prefix s.program.block) [] fine k b was in
+          let lt : b < length (program_texts s.program.prefix s.program.block) = slice_get_within (program_texts s.program.prefix s.program.block) b (StandardText q.2.above) q.2.above_text in
+          subst (λ n. b < n) (sym fine.size) lt
 
   pub sizes : length s.tables.blocks ≡ length (prefixed (declared_by s.program).tables).blocks
   sizes = (t.completed_tables s of plain order).size ∙ sym (t.P s of plain order).size
@@ -324,16 +322,16 @@ module _ (s : Source) (of : TablesOf s) (plain : Plain s.program) (order : InOrd
       solid_outer : is_connection (text s p.outer) ≡ false
       solid_outer = home_solid p.row.encloser p.outer p.around
 
-  -- a class of SIMSET and its prefix were brought together
-  set_typed : (k b : ℕ) → base s.tables k ≡ Some b → base (declared_by s.program).tables k ≡ Some b → PrefixTyped s k b
+  -- a standard class and its prefix were brought together
+  standard_typed : (k b : ℕ) → base s.tables k ≡ Some b → base (declared_by s.program).tables k ≡ Some b → PrefixTyped s k b
   unfolding base encloser has_level text
-  set_typed k b e was = record {
+  standard_typed k b e was = record {
     has = ap has_levels q.2.text;
     prefix = t.connects s of plain order k b e;
     outer = g.block;
     outer_prefix = g.block;
     around = typed.stands (t.same_around s of plain order k ∙ there) solid_host;
-    around_prefix = t.same_around s of plain order b ∙ ap (λ m. around (slice_get (declared_by s.program).tables.blocks m)) here ∙ g.group.around standard.Linkage tt;
+    around_prefix = t.same_around s of plain order b ∙ ap (λ m. around (slice_get (declared_by s.program).tables.blocks m)) a.place ∙ a.group.around q.2.above a.is ∙ ap Some host_above;
     solid = solid_host;
     declared = reaches_level s.tables (length s.tables.blocks) g.block g.block (ends g.block solid_host) itself;
   }
@@ -341,11 +339,14 @@ module _ (s : Source) (of : TablesOf s) (plain : Plain s.program) (order : InOrd
       fine : Fine (declared_by s.program) (program_texts s.program.prefix s.program.block) []
       fine = (t.program_agrees s.program plain).fine
 
-      q : (row : BlockOf) × (slice_get (declared_by s.program).tables.blocks k ≡ Some row) × SetBase (program_texts s.program.prefix s.program.block) k b row
-      q = set_base (declared_by s.program) (program_texts s.program.prefix s.program.block) [] fine k b was
+      q : (row : BlockOf) × (slice_get (declared_by s.program).tables.blocks k ≡ Some row) × StandardBase (program_texts s.program.prefix s.program.block) k b row
+      q = standard_base_of (declared_by s.program) (program_texts s.program.prefix s.program.block) [] fine k b was
 
       g : InGroup (declared_by s.program).tables.blocks (program_texts s.program.prefix s.program.block) k q.2.which
-      g = fine.sets k q.2.which q.2.text
+      g = fine.standards k q.2.which q.2.text
+
+      a : InGroup (declared_by s.program).tables.blocks (program_texts s.program.prefix s.program.block) b q.2.above
+      a = fine.standards b q.2.above q.2.above_text
 
       there : around (slice_get (declared_by s.program).tables.blocks k) ≡ Some g.block
       there = ap (λ m. around (slice_get (declared_by s.program).tables.blocks m)) g.place ∙ g.group.around q.2.which g.is
@@ -353,26 +354,29 @@ module _ (s : Source) (of : TablesOf s) (plain : Plain s.program) (order : InOrd
       block : q.2.block ≡ g.block
       block = some_same q.2.block g.block (sym (ap around q.1 ∙ q.2.encloser) ∙ there)
 
-      here : b ≡ g.block + 1 + 0
-      here = q.2.base ∙ ap (λ m. m + 1) block ∙ (let z : g.block + 1 ≡ g.block + 1 + 0 = omega arith in z)
+      same_front : (m n i : ℕ) → m + 1 + i ≡ n + 1 + i → m ≡ n
+      same_front m n i e = omega (arith, e)
 
-      host : (x : Text) → Prefixing x → is_connection (Some x) ≡ false
-      host (ClassText prefix h ds ss) p = refl
-      host (PrefixedText class es ds ss) p = refl
-      host (BlockText i ds ss) p = refl
-      host (ProcedureText result h a) p = refl
-      host ConnectionText p = absurd p
-      host (StandardText which) p = refl
+      host_above : a.block ≡ g.block
+      host_above = same_front a.block q.2.block (place_of q.2.above) (sym a.place ∙ q.2.base) ∙ block
+
+      host : (p : StandardPrefix) (x : Text) → InFront p x → is_connection (Some x) ≡ false
+      host p (ClassText prefix h ds ss) i = refl
+      host p (PrefixedText class es ds ss) i = refl
+      host p (BlockText j ds ss) i = refl
+      host p (ProcedureText result h a) i = refl
+      host p ConnectionText i = absurd i
+      host p (StandardText which) i = refl
 
       solid_host : is_connection (text s g.block) ≡ false
-      solid_host = ap is_connection g.group.host.1 ∙ host g.group.host.0 g.group.host.2
+      solid_host = ap is_connection g.group.host.1 ∙ host g.prefix g.group.host.0 g.group.host.2
 
   prefix_typed : (k b : ℕ) → is_connection (text s k) ≡ false → base s.tables k ≡ Some b → PrefixTyped s k b
   prefix_typed k b other e = go (t.prefix_is s of plain order k b other e)
     where
       go : PrefixOf (declared_by s.program).tables s.tables k b ⊎ (base (declared_by s.program).tables k ≡ Some b) → PrefixTyped s k b
       go (inl p) = written_typed k b e p
-      go (inr was) = set_typed k b e was
+      go (inr was) = standard_typed k b e was
 
   -- what a class declares is declared by no level of its prefix
   declares_apart : (k b u : ℕ) (d : DeclNo) → is_connection (text s k) ≡ false → base s.tables k ≡ Some b → has_level s.tables b u ≡ true → Among d (numbers_of s u) → Among d (numbers_of s k) → ⊥

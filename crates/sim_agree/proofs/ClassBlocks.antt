@@ -24,10 +24,10 @@ use Rattle.sim_agree.proofs.Unprefixed.{brought_stands, declared_is, numbered_am
 
 -- what is found is shown by some level
 module _ (T : Tables) (from : Option ℕ) (name : List ℕ) (d : DeclNo) where
-  abbrev Level : Type 0
+  abbrev pub Level : Type 0
   Level = (l : ℕ) × (level_shows T from l name ≡ Some d)
 
-  shown_level : (n k : ℕ) → shown_of T n from k name ≡ Some d → Level
+  pub shown_level : (n k : ℕ) → shown_of T n from k name ≡ Some d → Level
   unfolding shown_of
   shown_level zero k e = absurd (cc)
   shown_level (suc n) k e = go (level_shows T from k name) refl (base T k) (λ b f. shown_level n b f) e
@@ -47,12 +47,12 @@ module _ (T : Tables) (from : Option ℕ) (name : List ℕ) (d : DeclNo) where
       go None at None rest e = absurd (cc)
       go None at (Some b) rest e = rest b e
 
-  from_level : (o : Option ℕ) → declaration_from T from o name ≡ Some d → Level
+  pub from_level : (o : Option ℕ) → declaration_from T from o name ≡ Some d → Level
   unfolding declaration_from
   from_level None e = absurd (cc)
   from_level (Some k) e = searched_level (length T.blocks) k e
 
-lookup_among : (T : Tables) (k : ℕ) (name : List ℕ) (d : DeclNo) → lookup T k name ≡ Some d → Among d (numbers_in (slice_get T.blocks k))
+pub lookup_among : (T : Tables) (k : ℕ) (name : List ℕ) (d : DeclNo) → lookup T k name ≡ Some d → Among d (numbers_in (slice_get T.blocks k))
 unfolding lookup
 lookup_among T k name d e = go (slice_get T.blocks k) e
   where
@@ -60,7 +60,7 @@ lookup_among T k name d e = go (slice_get T.blocks k) e
     go None f = absurd (cc)
     go (Some row) f = numbered_among row.numbers (position (bytes_eq name) row.names) d f
 
-brought_standard : (T : Tables) (k : ℕ) (name : List ℕ) (d : DeclNo) → brought_by T k name ≡ Some d → (which : StandardPrefix) × (standard_in (slice_get T.blocks k) ≡ Some which)
+pub brought_standard : (T : Tables) (k : ℕ) (name : List ℕ) (d : DeclNo) → brought_by T k name ≡ Some d → (which : StandardPrefix) × (standard_in (slice_get T.blocks k) ≡ Some which)
 unfolding brought_by
 brought_standard T k name d e = go (slice_get T.blocks k) e
   where
@@ -86,7 +86,7 @@ module _ (s : Source) (of : TablesOf s) (plain : Plain s.program) (order : InOrd
       go (Some row) f = or_right row.has_class (is_standard row.standard) (ap is_standard f)
 
   -- what a block lists is listed
-  listed_there : (k : ℕ) (d : DeclNo) → Among d (numbers_of s k) → (row : Declaration) × (slice_get s.tables.declarations d.0 ≡ Some row) × (row.listed ≡ true)
+  pub listed_there : (k : ℕ) (d : DeclNo) → Among d (numbers_of s k) → (row : Declaration) × (slice_get s.tables.declarations d.0 ≡ Some row) × (row.listed ≡ true)
   listed_there k d a =
       let q = (t.program_agrees s.program plain).fine.own k d (subst (λ ns. Among d ns) (t.same_numbers s of plain order k) a) in
       let n = (t.completed_tables s of plain order).rows.stays d.0 q.0 q.1 in (n.0, n.1, n.2.listed ∙ q.3)
@@ -108,7 +108,7 @@ module _ (s : Source) (of : TablesOf s) (plain : Plain s.program) (order : InOrd
       brought : brought_by s.tables l name ≡ Some d → holds_class s.tables (block_of s d) ≡ true
       brought at =
           let w = brought_standard s.tables l name d at in
-          let r = brought_stands s.tables (t.shows s of plain order) l name d at in
+          let r = (brought_stands s.tables (t.shows s of plain order) l name d at).0 in
           subst (λ z. holds_class s.tables z ≡ true) (sym (ap block_of_row r.1 ∙ r.2)) (standard_holds l w.0 w.1)
 
       go : (o : Option DeclNo) → seen s.tables from (lookup s.tables l name) ≡ o → option_or o (brought_by s.tables l name) ≡ Some d → holds_class s.tables (block_of s d) ≡ true

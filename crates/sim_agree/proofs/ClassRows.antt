@@ -13,7 +13,7 @@ use Rattle.sim_scope.specs.Building.{attribute_entry}
 use Rattle.sim_scope.specs.Declare.{result_named}
 use Rattle.sim_scope.specs.Tables.{BlockOf}
 use Rattle.sim_meaning.specs.Texts.{BlockText, ClassText, ConnectionText, PrefixedText, ProcedureText, StandardText, Text}
-use Rattle.sim_agree.proofs.Fine.{Alike, KindIs, RowIn, attribute_row, class_row, formal_row, own_row, procedure_row}
+use Rattle.sim_agree.proofs.Fine.{Alike, KindIs, RowIn, attribute_row, class_row, formal_row, own_row, procedure_row, simulation_row}
 use Rattle.sim_agree.proofs.Groups.{OwnEntry, PlainKind, Declaring}
 use Rattle.sim_agree.proofs.Steps.{Parametric}
 use Rattle.sim_meaning.specs.Levels.{has_levels, is_class}
@@ -41,6 +41,7 @@ class_entry x bs ts d row n e (procedure_row y p) = absurd (subst (Alike (entry.
 class_entry x bs ts d row n e (class_row y p) = ap (λ m. is_class (slice_get ts m)) (sym (same_number p.number n (sym p.entry ∙ e))) ∙ ap is_class p.text ∙ p.is
 class_entry x bs ts d row n e (formal_row y p l) = absurd (subst Parametric e p)
 class_entry x bs ts d row n e (attribute_row y p) = absurd (let f : attribute_entry (Some p.first) p.name ≡ entry.Class n = sym p.entry ∙ e in cc)
+class_entry x bs ts d row n e (simulation_row y p) = absurd (let f : attribute_entry (Some p.first) p.name ≡ entry.Class n = sym p.entry ∙ e in cc)
 
 -- the text of a class stands in a block or in a class
 pub class_stands : (x : Text) (bs : List BlockOf) (ts : List Text) (d : ℕ) (row : Declaration) (n : ℕ) → row.entry ≡ entry.Class n → RowIn bs ts x d row → Declaring x × (around (slice_get bs n) ≡ Some row.block)
@@ -49,6 +50,7 @@ class_stands x bs ts d row n e (procedure_row y p) = absurd (subst (Alike (entry
 class_stands x bs ts d row n e (class_row y p) = (y, subst (λ z. around (slice_get bs z) ≡ Some row.block) (same_number p.number n (sym p.entry ∙ e)) p.around)
 class_stands x bs ts d row n e (formal_row y p l) = absurd (subst Parametric e p)
 class_stands x bs ts d row n e (attribute_row y p) = absurd (let f : attribute_entry (Some p.first) p.name ≡ entry.Class n = sym p.entry ∙ e in cc)
+class_stands x bs ts d row n e (simulation_row y p) = absurd (let f : attribute_entry (Some p.first) p.name ≡ entry.Class n = sym p.entry ∙ e in cc)
 
 plain_no_class : (k : BlockKind) → PlainKind k → k ≡ kind.Class → ⊥
 plain_no_class kind.Program p e = cc

@@ -15,7 +15,9 @@ use Rattle.sim_scope.specs.declared.types.Entry.{Entry}
 use Rattle.sim_scope.specs.declared.types.Entry.TheVariants as entry
 use Rattle.sim_scope.specs.declared.types.FormalKind.{FormalKind}
 use Rattle.sim_scope.specs.declared.types.SimType.{SimType}
-use Rattle.sim_scope.specs.Building.{BuildingOf, Declares, Headed, Mark, Opens, block_around, broken, broken_if, changed, closed, closed_at, declared, formal, found_in, headed as headed_of, holding_class, inner, level_in, prefixed_by, marked, most_levels, opened, parameter as parameter_of, placed, row_of as new_row, specified as specified_of, unspecified_at}
+use Rattle.sim_scope.specs.declared.types.StandardPrefix.{StandardPrefix}
+use Rattle.sim_scope.specs.declared.types.StandardPrefix.TheVariants as prefix
+use Rattle.sim_scope.specs.Building.{BuildingOf, Declares, Headed, Mark, Opens, block_around, broken, broken_if, changed, closed, closed_at, declared, formal, found_in, headed as headed_of, holding_class, inner, level_in, marked, most_levels, opened, parameter as parameter_of, placed, row_of as new_row, specified as specified_of, unspecified_at}
 use Rattle.sim_scope.specs.Declare.{headed_marks, result_named}
 use Rattle.sim_scope.specs.Found.{fault}
 use Rattle.sim_scope.specs.Runs.{each, run}
@@ -26,20 +28,18 @@ use Rattle.sim_meaning.specs.Entries.{numbers_in}
 use Rattle.sim_sound.specs.Held.{Among}
 use Rattle.sim_meaning.specs.Texts.{BlockText, ClassText, ConnectionText, ProcedureText, Text, PrefixedText}
 use Rattle.sim_agree.proofs.Calm.{class_calm, declared_calm, inner_calm, moded_calm, specified_calm, prefix_calm, guards_calm}
-use Rattle.sim_agree.proofs.Groups.{AreReferences, Grouped, Has, NoBreaks, NoHeaded, OfReferences, Open, Quals, block, breaks_rule, closes, connects, declared_in_text, declares, declares_class, headed, here, inner_mark, item, moded, nothing, own_marks, parameter, procedure, qualifies, specified, there, unqualified, prefixes, guarded, prefixed_block, set_prefix, sets_block, sets_class, Prefixing}
+use Rattle.sim_agree.proofs.Groups.{AreReferences, Grouped, Has, NoBreaks, NoHeaded, OfReferences, Open, Quals, block, breaks_rule, closes, connects, declared_in_text, declares, declares_class, headed, here, inner_mark, item, moded, nothing, own_marks, parameter, procedure, qualifies, specified, there, unqualified, prefixes, guarded, prefixed_block, standard_block, standard_class, whole_prefix}
 use Rattle.sim_agree.proofs.Steps.{Declared, IsParameter, Nothing, Step, Unmatched, class_step, class_unmatched, declared_latest, declared_step, headed_step, inner_step, last_cases, met, moded_step, own_unmatched, parameter_step, procedure_unmatched, quals_step, rule_step, specified_met, unspecified_unmatched, prefix_step, guards_step}
 use Rattle.sim_agree.proofs.Fine.{Agree, Fine, KindIs, Stack, With, begun_keeps, closed_agrees, fresh, same_around, step_fine}
-use Rattle.sim_agree.proofs.FineRuns.{Owes, block_agrees, class_agrees, declares_agrees, owes_heading, owes_none, parameter_agrees, procedure_agrees, quiet_agrees, run_both, sets_run_agree, step_agrees, prefix_kind}
+use Rattle.sim_agree.proofs.FineRuns.{Owes, block_agrees, class_agrees, declares_agrees, owes_heading, owes_none, parameter_agrees, procedure_agrees, quiet_agrees, run_both, standard_run_agree, step_agrees, prefix_kind}
 use Rattle.sim_agree.proofs.Owned.{Owned, closed_owned, opened_owned, owned_step}
 use Rattle.sim_agree.proofs.Covered.{Covered, closed_covers, covered_stays, declared_alone, declared_covered, holding_refs, inner_covers, moded_covers, opened_least, opened_same, specified_covered, prefix_covers, guards_covers}
 use Rattle.sim_agree.proofs.Clean.{Clean, Counts, Made, Origin, OwedAt, RowFor, SpecifiedRow, WrittenFor, declared_clean, declared_refs, headed_clean, holding_same, if_clean, inner_quiet, moded_quiet, never_none, out, owed_kept, quals_clean, quals_least, quiet_clean, some_same, specified_at, specified_latest, specified_quiet, prefix_quiet, guards_quiet}
 use Rattle.sim_agree.proofs.OwnedRuns.{class_owned, procedure_owned}
-use Rattle.sim_agree.proofs.BroughtClean as sets
-use Rattle.sim_agree.proofs.BroughtRows.{marks_of_sets}
-use Rattle.sim_agree.proofs.BroughtRuns.{FreshTop, brought_is, opened_top, prefixed_fresh, prefixed_is, prefixed_top}
-use Rattle.sim_agree.proofs.PlainNames.{set_texts}
-use Rattle.sim_agree.specs.Plain.{PlainName}
-use Rattle.sim_scope.specs.declared.types.StandardPrefix.TheVariants as standard_prefixes
+use Rattle.sim_agree.proofs.BroughtClean as brought
+use Rattle.sim_agree.proofs.BroughtRows.{marks_are}
+use Rattle.sim_agree.proofs.BroughtRuns.{FreshTop, brought_is, opened_top}
+use Rattle.sim_agree.proofs.StandardPrefixes.{InFront, Spells, brought_texts}
 use Rattle.sim_agree.proofs.CleanSteps.{counted_same, declares_clean, headed_step_clean, named_clean, parameter_clean}
 
 -- ---- a block begins
@@ -341,42 +341,24 @@ no_origin c d k ty quals ts last p class are v is found a n known array =
     let one : p.row ≡ found = some_same p.row found (sym p.at ∙ subst (λ (z : DeclNo). slice_get c.tables.declarations z.0 ≡ Some found) (sym same) known) in
     absurd (let other : formal p.mode k ty ≡ entry.Array a n = sym p.entry ∙ ap (λ (z : Declaration). z.entry) one ∙ array in cc)
 
--- `simset` in front of the innermost block, which has just begun
-module _ (c : BuildingOf) (top : FreshTop c) (token : ℕ) (y : Identifier) (x : Text) (owed : List Mark) (ts : List Text) (os : List Open) (prefixing : Prefixing x) (plain : PlainName y) (a : Agree c ts (item x owed ∷ os)) where
-  abbrev with_prefix : BuildingOf
-  with_prefix = prefixed_top c top y
+-- a standard prefix in front of the innermost block, which has just begun
+module _ (p : StandardPrefix) (c : BuildingOf) (top : FreshTop c) (token : ℕ) (y : Identifier) (x : Text) (owed : List Mark) (ts : List Text) (os : List Open) (spelt : Spells p y) (in_front : InFront p x) (a : Agree c ts (item x owed ∷ os)) where
+  standard_least : (run marked c (whole_prefix p token y)).least ≡ None → c.least ≡ None
+  standard_least e = sym (ap (λ (k : BuildingOf). k.least) (brought_is p c top token y)) ∙ e
 
-  abbrev t : FreshTop (prefixed_top c top y)
-  t = prefixed_fresh c top y
+  standard_clean : Clean c ts (item x owed ∷ os) → Clean (run marked c (whole_prefix p token y)) (ts ++ brought_texts p) (item x owed ∷ os)
+  standard_clean f = subst (λ d. Clean d (ts ++ brought_texts p) (item x owed ∷ os)) (sym (brought_is p c top token y)) (brought.standard_clean p y spelt c top.number token top.row top.last top.at ts x owed os a.fine top.current in_front f)
 
-  s : Step c (changed c (prefixed_by y) c.current) Nothing
-  s = prefix_step c y a.fine.stack.0 a.fine.stack.1 plain (prefix_kind c x owed ts os prefixing a.fine)
+  standard_covered : Covered c → Covered (run marked c (whole_prefix p token y))
+  standard_covered v = subst Covered (sym (brought_is p c top token y)) (brought.standard_covered p y spelt c top.number token top.row top.last top.at ts x owed os a.fine top.current in_front v)
 
-  prefix_agrees : Agree (prefixed_top c top y) ts (item x owed ∷ os)
-  prefix_agrees = subst (λ d. Agree d ts (item x owed ∷ os)) (prefixed_is c top y) (quiet_agrees c _ ts (item x owed ∷ os) s a)
-
-  sets_least : (run marked c (set_prefix token y)).least ≡ None → c.least ≡ None
-  sets_least e = sym (ap (λ (k : BuildingOf). k.least) (brought_is c top token y)) ∙ e
-
-  sets_clean : Clean c ts (item x owed ∷ os) → Clean (run marked c (set_prefix token y)) (ts ++ set_texts) (item x owed ∷ os)
-  sets_clean f =
-      subst (λ d. Clean d (ts ++ set_texts) (item x owed ∷ os)) (sym (brought_is c top token y))
-      (sets.sets_clean (prefixed_top c top y) t.number token t.row t.last t.at ts x owed os prefix_agrees.fine t.current prefixing
-      (subst (λ d. Clean d ts (item x owed ∷ os)) (prefixed_is c top y) (quiet_clean c _ ts (item x owed ∷ os) s (prefix_calm c y c.current) (prefix_quiet c y c.current).0 a.fine f)))
-
-  sets_covered : Covered c → Covered (run marked c (set_prefix token y))
-  sets_covered v =
-      subst Covered (sym (brought_is c top token y))
-      (sets.sets_covered (prefixed_top c top y) t.number token t.row t.last t.at ts x owed os prefix_agrees.fine t.current prefixing (subst Covered (prefixed_is c top y) (prefix_covers c y c.current v)))
-
-  sets_owned : Owned c ts → Owned (run marked c (set_prefix token y)) (ts ++ set_texts)
-  sets_owned v =
-      subst (λ d. Owned d (ts ++ set_texts)) (sym (brought_is c top token y))
-      (sets.sets_owned (prefixed_top c top y) t.number token t.row t.last t.at ts x owed os prefix_agrees.fine t.current prefixing (subst (λ d. Owned d ts) (prefixed_is c top y) (owned_step c _ Nothing ts s v)))
+  standard_owned : Owned c ts → Owned (run marked c (whole_prefix p token y)) (ts ++ brought_texts p)
+  standard_owned v = subst (λ d. Owned d (ts ++ brought_texts p)) (sym (brought_is p c top token y)) (brought.standard_owned p y spelt c top.number token top.row top.last top.at ts x owed os a.fine top.current in_front v)
 
 -- the marks break no rule by themselves
-sets_unbroken : (token : ℕ) (y : Identifier) (ms : List Mark) → NoBreaks ms → NoBreaks (set_prefix token y ++ ms)
-sets_unbroken token y ms h = subst (λ z. NoBreaks (z ++ ms)) (sym (marks_of_sets token)) h
+standard_unbroken : (p : StandardPrefix) (token : ℕ) (y : Identifier) (ms : List Mark) → NoBreaks ms → NoBreaks (whole_prefix p token y ++ ms)
+standard_unbroken prefix.Simset token y ms h = subst (λ z. NoBreaks (z ++ ms)) (sym (marks_are prefix.Simset token)) h
+standard_unbroken prefix.Simulation token y ms h = subst (λ z. NoBreaks (z ++ ms)) (sym (marks_are prefix.Simulation token)) h
 
 pub run_clean : {os : List Open} {ms : List Mark} {xs : List Text} (b : BuildingOf) (ts : List Text) → Grouped os ms xs → Owes os → Agree b ts os → (run marked b ms).least ≡ None → (b.least ≡ None) × (Clean b ts os → Clean (run marked b ms) (ts ++ xs) []) × NoBreaks ms × (Covered b → Covered (run marked b ms)) × (Owned b ts → Owned (run marked b ms) (ts ++ xs))
 unfolding run marked
@@ -403,21 +385,21 @@ run_clean {os = os} b ts (prefixed_block {ms = ms} {xs = xs} text first class es
       (λ v. later.3 (covered_stays b c (opened_same b kind.Prefixed text first) v)),
       λ v. subst (Owned (run marked c ms)) (append_assoc ts (x ∷ []) xs) (later.4 (opened_owned b kind.Prefixed text first ts x a.fine.size tt v)),
     )
-run_clean {os = os} b ts (sets_block {ms = ms} {xs = xs} text first class es ds ss p e g) w a clean =
+run_clean {os = os} b ts (standard_block {ms = ms} {xs = xs} p text first class es ds ss e g) w a clean =
     let x : Text = PrefixedText class es ds ss in
     let c : BuildingOf = opened b kind.Prefixed text first in
-    let k : BuildingOf = run marked c (set_prefix first class) in
+    let k : BuildingOf = run marked c (whole_prefix p first class) in
     let top = opened_top b kind.Prefixed text first in
     let begun = block_agrees b kind.Prefixed text first x (own_marks ds) ts os refl tt a in
-    let parts : run marked c (set_prefix first class ++ ms) ≡ run marked k ms = run_both c (set_prefix first class) ms in
-    let later = run_clean k ((ts ++ x ∷ []) ++ set_texts) g ((λ y e q. q), w) (sets_run_agree c top first class x (own_marks ds) (ts ++ x ∷ []) os tt p begun) (ap (λ (d : BuildingOf). d.least) (sym parts) ∙ clean) in
-    let all : ((ts ++ x ∷ []) ++ set_texts) ++ xs ≡ ts ++ (x ∷ (set_texts ++ xs)) = append_assoc (ts ++ x ∷ []) set_texts xs ∙ append_assoc ts (x ∷ []) (set_texts ++ xs) in
-    let q = opened_clean b kind.Prefixed text first ts x (own_marks ds) os (λ y e h. h) a.fine (sets_least c top first class x (own_marks ds) (ts ++ x ∷ []) os tt p begun later.0) in (
+    let parts : run marked c (whole_prefix p first class ++ ms) ≡ run marked k ms = run_both c (whole_prefix p first class) ms in
+    let later = run_clean k ((ts ++ x ∷ []) ++ brought_texts p) g ((λ y e q. q), w) (standard_run_agree p c top first class x (own_marks ds) (ts ++ x ∷ []) os e e begun) (ap (λ (d : BuildingOf). d.least) (sym parts) ∙ clean) in
+    let all : ((ts ++ x ∷ []) ++ brought_texts p) ++ xs ≡ ts ++ (x ∷ (brought_texts p ++ xs)) = append_assoc (ts ++ x ∷ []) (brought_texts p) xs ∙ append_assoc ts (x ∷ []) (brought_texts p ++ xs) in
+    let q = opened_clean b kind.Prefixed text first ts x (own_marks ds) os (λ y e h. h) a.fine (standard_least p c top first class x (own_marks ds) (ts ++ x ∷ []) os e e begun later.0) in (
       q.0,
-      (λ f. subst (λ d. Clean d (ts ++ (x ∷ (set_texts ++ xs))) []) (sym parts) (subst (λ z. Clean (run marked k ms) z []) all (later.1 (sets_clean c top first class x (own_marks ds) (ts ++ x ∷ []) os tt p begun (q.1 f))))),
-      sets_unbroken first class ms later.2,
-      (λ v. subst Covered (sym parts) (later.3 (sets_covered c top first class x (own_marks ds) (ts ++ x ∷ []) os tt p begun (covered_stays b c (opened_same b kind.Prefixed text first) v)))),
-      λ v. subst (λ d. Owned d (ts ++ (x ∷ (set_texts ++ xs)))) (sym parts) (subst (Owned (run marked k ms)) all (later.4 (sets_owned c top first class x (own_marks ds) (ts ++ x ∷ []) os tt p begun (opened_owned b kind.Prefixed text first ts x a.fine.size tt v)))),
+      (λ f. subst (λ d. Clean d (ts ++ (x ∷ (brought_texts p ++ xs))) []) (sym parts) (subst (λ z. Clean (run marked k ms) z []) all (later.1 (standard_clean p c top first class x (own_marks ds) (ts ++ x ∷ []) os e e begun (q.1 f))))),
+      standard_unbroken p first class ms later.2,
+      (λ v. subst Covered (sym parts) (later.3 (standard_covered p c top first class x (own_marks ds) (ts ++ x ∷ []) os e e begun (covered_stays b c (opened_same b kind.Prefixed text first) v)))),
+      λ v. subst (λ d. Owned d (ts ++ (x ∷ (brought_texts p ++ xs)))) (sym parts) (subst (Owned (run marked k ms)) all (later.4 (standard_owned p c top first class x (own_marks ds) (ts ++ x ∷ []) os e e begun (opened_owned b kind.Prefixed text first ts x a.fine.size tt v)))),
     )
 run_clean {os = os} b ts (connects {ms = ms} {xs = xs} text first g) w a clean =
     let x : Text = ConnectionText in
@@ -465,30 +447,30 @@ run_clean b ts (declares_class {os = os} {ms = ms} {xs = xs} text first x owed p
       λ v. subst (Owned (run marked c ms)) (append_assoc ts (z ∷ []) xs)
           (later.4 (class_owned b text first prefix h ds ss ts row.0 a.fine.stack.0 a.fine.stack.1 row.1 a.fine.size later.0 v)),
     )
-run_clean b ts (sets_class {os = os} {ms = ms} {xs = xs} text first x owed y h ds ss p e d n g) w a clean =
+run_clean b ts (standard_class {os = os} {ms = ms} {xs = xs} p text first x owed y h ds ss e d n g) w a clean =
     let z : Text = ClassText (Some y) h ds ss in
     let c0 : BuildingOf = declared b h.name (entry.Class (length b.tables.blocks)) in
     let c1 : BuildingOf = changed c0 holding_class b.current in
     let c : BuildingOf = opened c1 kind.Class text first in
     let inner : List Mark = each headed_marks h.formals ++ own_marks ds in
-    let k : BuildingOf = run marked c (set_prefix first y) in
+    let k : BuildingOf = run marked c (whole_prefix p first y) in
     let top = opened_top c1 kind.Class text first in
     let row = row_of b ts _ a.fine a.fine.stack.0 x a.fine.stack.2 in
     let begun = class_agrees b text first x owed inner (Some y) h ds ss ts os d a in
-    let parts : run marked c (set_prefix first y ++ ms) ≡ run marked k ms = run_both c (set_prefix first y) ms in
-    let later = run_clean k ((ts ++ z ∷ []) ++ set_texts) g (owes_heading z h.formals (own_marks ds) (λ y e q. q), w) (sets_run_agree c top first y z inner (ts ++ z ∷ []) (item x owed ∷ os) tt p begun) (ap (λ (j : BuildingOf). j.least) (sym parts) ∙ clean) in
-    let all : ((ts ++ z ∷ []) ++ set_texts) ++ xs ≡ ts ++ (z ∷ (set_texts ++ xs)) = append_assoc (ts ++ z ∷ []) set_texts xs ∙ append_assoc ts (z ∷ []) (set_texts ++ xs) in
-    let c_clean : c.least ≡ None = sets_least c top first y z inner (ts ++ z ∷ []) (item x owed ∷ os) tt p begun later.0 in
+    let parts : run marked c (whole_prefix p first y ++ ms) ≡ run marked k ms = run_both c (whole_prefix p first y) ms in
+    let later = run_clean k ((ts ++ z ∷ []) ++ brought_texts p) g (owes_heading z h.formals (own_marks ds) (λ y e q. q), w) (standard_run_agree p c top first y z inner (ts ++ z ∷ []) (item x owed ∷ os) e e begun) (ap (λ (j : BuildingOf). j.least) (sym parts) ∙ clean) in
+    let all : ((ts ++ z ∷ []) ++ brought_texts p) ++ xs ≡ ts ++ (z ∷ (brought_texts p ++ xs)) = append_assoc (ts ++ z ∷ []) (brought_texts p) xs ∙ append_assoc ts (z ∷ []) (brought_texts p ++ xs) in
+    let c_clean : c.least ≡ None = standard_least p c top first y z inner (ts ++ z ∷ []) (item x owed ∷ os) e e begun later.0 in
     let q = class_clean b text first x owed inner (Some y) h ds ss ts os row.0 n (begins_heading z h.formals (own_marks ds) (λ y e q. q)) a.fine row.1 c_clean in (
       q.0,
-      (λ f. subst (λ j. Clean j (ts ++ (z ∷ (set_texts ++ xs))) []) (sym parts) (subst (λ v. Clean (run marked k ms) v []) all (later.1 (sets_clean c top first y z inner (ts ++ z ∷ []) (item x owed ∷ os) tt p begun (q.1 f))))),
-      sets_unbroken first y ms later.2,
-      (λ v. subst Covered (sym parts) (later.3 (sets_covered c top first y z inner (ts ++ z ∷ []) (item x owed ∷ os) tt p begun
+      (λ f. subst (λ j. Clean j (ts ++ (z ∷ (brought_texts p ++ xs))) []) (sym parts) (subst (λ v. Clean (run marked k ms) v []) all (later.1 (standard_clean p c top first y z inner (ts ++ z ∷ []) (item x owed ∷ os) e e begun (q.1 f))))),
+      standard_unbroken p first y ms later.2,
+      (λ v. subst Covered (sym parts) (later.3 (standard_covered p c top first y z inner (ts ++ z ∷ []) (item x owed ∷ os) e e begun
           (covered_stays c1 c (opened_same c1 kind.Class text first) (covered_stays c0 c1 (holding_refs c0 b.current)
           (declared_alone b h.name (entry.Class (length b.tables.blocks)) a.fine.stack.0 row.0 (class_unmatched b.tables (length b.tables.blocks)) a.fine.stack.1 row.1
           (sym (holding_same c0 b.current).0 ∙ opened_least c1 kind.Class text first c_clean) (λ z. z) v)))))),
-      λ v. subst (λ j. Owned j (ts ++ (z ∷ (set_texts ++ xs)))) (sym parts) (subst (Owned (run marked k ms)) all
-          (later.4 (sets_owned c top first y z inner (ts ++ z ∷ []) (item x owed ∷ os) tt p begun (class_owned b text first (Some y) h ds ss ts row.0 a.fine.stack.0 a.fine.stack.1 row.1 a.fine.size c_clean v)))),
+      λ v. subst (λ j. Owned j (ts ++ (z ∷ (brought_texts p ++ xs)))) (sym parts) (subst (Owned (run marked k ms)) all
+          (later.4 (standard_owned p c top first y z inner (ts ++ z ∷ []) (item x owed ∷ os) e e begun (class_owned b text first (Some y) h ds ss ts row.0 a.fine.stack.0 a.fine.stack.1 row.1 a.fine.size c_clean v)))),
     )
 run_clean b ts (declares {os = os} {ms = ms} {xs = xs} x owed quals y e d n own q written g) w a clean =
     let row = row_of b ts _ a.fine a.fine.stack.0 x a.fine.stack.2 in

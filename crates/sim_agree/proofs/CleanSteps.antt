@@ -4,10 +4,8 @@ use Rattle.std.specs.Prelude.{nat_eq, slice_get}
 use Rattle.std.proofs.lemmas.Option.{slice_get_within}
 use Rattle.std.proofs.lemmas.Bool.Decides.{nat_tests}
 use Rattle.sim_base.specs.declared.numbering.DeclNo.{DeclNo}
-use Rattle.sim_base.specs.declared.rule.Rule.TheVariants as r
 use Rattle.sim_tree.specs.declared.expr.Identifier.{Identifier}
 use Rattle.sim_scope.specs.declared.scopes.Declaration.{Declaration}
-use Rattle.sim_scope.specs.declared.types.BlockKind.TheVariants as kind
 use Rattle.sim_scope.specs.declared.types.Entry.{Entry}
 use Rattle.sim_scope.specs.declared.types.Entry.TheVariants as entry
 use Rattle.sim_scope.specs.declared.types.WrittenMode.{WrittenMode}
@@ -20,12 +18,10 @@ use Rattle.sim_meaning.specs.Entries.{numbers_in}
 use Rattle.sim_sound.specs.Held.{Among}
 use Rattle.sim_meaning.specs.Texts.{Text}
 use Rattle.sim_agree.proofs.Calm.{declared_calm, headed_calm, span}
-use Rattle.sim_agree.proofs.Groups.{ArrayWritten, Has, NoHeaded, OfReferences, Open, OwnEntry, Quals, block, declared_in_text, has_cases, item, there, Written}
+use Rattle.sim_agree.proofs.Groups.{ArrayWritten, Has, NoHeaded, OfReferences, Open, OwnEntry, Quals, declared_in_text, has_cases, item, there, Written}
 use Rattle.sim_agree.proofs.Steps.{AllEven, Becomes, Changed, Declared, IsParameter, Nothing, Step, Unmatched, declared_latest, declared_step, headed_step, own_unmatched, parameter_step, unspecified_unmatched, among_at}
 use Rattle.sim_agree.proofs.Fine.{Fine}
 use Rattle.sim_agree.proofs.Clean.{Clean, Counts, Made, Origin, OwedAt, RowFor, WrittenFor, complete_stays, declared_clean, declared_refs, early_stays, headed_clean, heading_past, heads_stay, old_row, origins_stay, param_stays, param_was, quals_clean, quals_least, quiet_clean, references_stay, some_same, step_clean}
-use Rattle.sim_agree.proofs.BroughtClean as sets
-use Rattle.sim_scope.specs.declared.types.StandardPrefix.TheVariants as standard_prefixes
 
 -- ---- a declaration that is no parameter
 

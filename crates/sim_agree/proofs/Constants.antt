@@ -27,7 +27,7 @@ use Rattle.sim_agree.specs.Plain.{Plain}
 use Rattle.sim_agree.specs.TablesOf.{TablesOf}
 use Rattle.sim_agree.proofs.Groups.{Has, OwnEntry, here, own_array, own_marks, own_segment, own_variable, there}
 use Rattle.sim_agree.proofs.Steps.{Parametric}
-use Rattle.sim_agree.proofs.Fine.{Alike, Own, RowIn, attribute_row, class_row, formal_row, own_row, procedure_row}
+use Rattle.sim_agree.proofs.Fine.{Alike, Own, RowIn, attribute_row, class_row, formal_row, own_row, procedure_row, simulation_row}
 use Rattle.sim_agree.proofs.Tables as t
 use Rattle.sim_agree.proofs.Tables.{Bs, Ts}
 use Rattle.sim_agree.proofs.TextOrder.{Between, between_le, between_split, own_tokens, segment_tokens, text_in_order, variable_tokens}
@@ -236,3 +236,4 @@ constant_at s of plain order d ty e =
     go row at same x there_ (class_row y p) = absurd (let z : entry.Class p.number ≡ entry.Constant ty = sym p.entry ∙ same in cc)
     go row at same x there_ (formal_row y p l) = absurd (subst Parametric same p)
     go row at same x there_ (attribute_row y p) = absurd (let z : entry.Attribute p.name (typed_or_none (Some p.first) (parameter_of p.name)) (typed_or_none (Some p.first) (result_of p.name)) ≡ entry.Constant ty = sym p.entry ∙ same in cc)
+    go row at same x there_ (simulation_row y p) = absurd (let z : entry.Attribute p.name (typed_or_none (Some p.first) (parameter_of p.name)) (typed_or_none (Some p.first) (result_of p.name)) ≡ entry.Constant ty = sym p.entry ∙ same in cc)

@@ -21,12 +21,14 @@ use Rattle.sim_scope.proofs.Kept.{kept_set, more_here, more_other, set_here, set
 use Rattle.sim_agree.specs.Plain.{Plain}
 use Rattle.sim_agree.proofs.Calm.{Calm, Span, class_calm, declared_calm, headed_calm, inner_calm, moded_calm, quals_calm, rule_calm, span, specified_calm, nothing_calm, prefix_calm, guards_calm}
 use Rattle.sim_agree.proofs.FineRuns.{run_both}
-use Rattle.sim_agree.proofs.Groups.{AreReferences, OfReferences, set_prefix}
-use Rattle.sim_agree.proofs.BroughtFine as sets
+use Rattle.sim_agree.proofs.Groups.{AreReferences, OfReferences, whole_prefix}
+use Rattle.sim_agree.proofs.BroughtFine as brought
 use Rattle.sim_agree.proofs.BroughtKnown.{RowAdded, row_added}
-use Rattle.sim_agree.proofs.BroughtRows.{bringing, set_rows, with_sets}
-use Rattle.sim_agree.proofs.BroughtRuns.{FreshTop, brought_is, opened_top, prefixed_fresh, prefixed_is, prefixed_top}
-use Rattle.sim_agree.proofs.Laid.{Frame, Held, Laid, block, breaks_rule, closes, connects, declares, declares_class, headed, inner_mark, leaves, moded, nothing, parameter, passes, procedure, program, program_laid, specified, uses, Prefs, prefixed, unprefixed, guarded, prefixed_block, sets_block, sets_class}
+use Rattle.sim_agree.proofs.BroughtRows.{added_rows, bringing, with_standard}
+use Rattle.sim_agree.proofs.BroughtRuns.{FreshTop, brought_is, opened_top}
+use Rattle.sim_agree.proofs.StandardPrefixes.{Spells}
+use Rattle.sim_scope.specs.declared.types.StandardPrefix.{StandardPrefix}
+use Rattle.sim_agree.proofs.Laid.{Frame, Held, Laid, block, breaks_rule, closes, connects, declares, declares_class, headed, inner_mark, leaves, moded, nothing, parameter, passes, procedure, program, program_laid, specified, uses, Prefs, prefixed, unprefixed, guarded, prefixed_block, standard_block, standard_class}
 use Rattle.sim_agree.proofs.Spots.{reached}
 use Rattle.sim_agree.proofs.Steps.{met}
 
@@ -445,65 +447,65 @@ unfolding run marked
 prefs_calm b [] unprefixed = nothing_calm b
 prefs_calm b ms (prefixed y p) = prefix_calm b y b.current
 
--- ---- the classes of SIMSET
+-- ---- the classes of a standard prefix
 
 -- they have no text, and nothing stands in them
-sets_deep : (b : BuildingOf) (n token : ℕ) (r : BlockOf) → b.current ≡ Some n → length b.tables.blocks ≡ n + 1 → slice_get b.tables.blocks n ≡ Some r → (from : ℕ) → Deep b from → Deep (with_sets b n token r) from
-sets_deep b n token r cur last at from d = record {
+standard_deep : (which : StandardPrefix) (front : Identifier) (spelt : Spells which front) (b : BuildingOf) (n token : ℕ) (r : BlockOf) → b.current ≡ Some n → length b.tables.blocks ≡ n + 1 → slice_get b.tables.blocks n ≡ Some r → (from : ℕ) → Deep b from → Deep (with_standard which b n token (prefixed_by front r)) from
+standard_deep which front spelt b n token r cur last at from d = record {
   reach = d.reach;
   within = λ m e. (let lt : m < length b.tables.blocks = d.within m e in more m lt);
-  nested = λ t u e. more u (nested t u e (sets.part b n token r last at [] t));
-  ends = λ j row is. ends j row is (sets.part b n token r last at [] j);
-  deep = λ i k j row p is le h. deep i k j row p is le h (sets.part b n token r last at [] j);
-  starts = λ j row is. starts j row is (sets.part b n token r last at [] j);
+  nested = λ t u e. more u (nested t u e (brought.part which front spelt b n token r last at [] t));
+  ends = λ j row is. ends j row is (brought.part which front spelt b n token r last at [] j);
+  deep = λ i k j row p is le h. deep i k j row p is le h (brought.part which front spelt b n token r last at [] j);
+  starts = λ j row is. starts j row is (brought.part which front spelt b n token r last at [] j);
   ranged = λ i k p. more k (d.ranged i k p);
-  holds = λ i k j row p is c. holds i k j row p is c (sets.part b n token r last at [] j);
+  holds = λ i k j row p is c. holds i k j row p is c (brought.part which front spelt b n token r last at [] j);
 }
   where
     c : BuildingOf
-    c = with_sets b n token r
+    c = with_standard which b n token (prefixed_by front r)
 
-    more : (m : ℕ) → m < length b.tables.blocks → m < length (with_sets b n token r).tables.blocks
+    more : (m : ℕ) → m < length b.tables.blocks → m < length (with_standard which b n token (prefixed_by front r)).tables.blocks
     more m lt =
-        let e : length (slice_set b.tables.blocks n (bringing (length b.tables.declarations) r)) ≡ length b.tables.blocks = length-set b.tables.blocks n (bringing (length b.tables.declarations) r) in
-        let s : length (with_sets b n token r).tables.blocks ≡ length (slice_set b.tables.blocks n (bringing (length b.tables.declarations) r)) + 3 = length-append (slice_set b.tables.blocks n (bringing (length b.tables.declarations) r)) (set_rows n (length b.tables.declarations) r.level) in
+        let e : length (slice_set b.tables.blocks n (bringing which (length b.tables.declarations) (prefixed_by front r))) ≡ length b.tables.blocks = length-set b.tables.blocks n (bringing which (length b.tables.declarations) (prefixed_by front r)) in
+        let s : length (with_standard which b n token (prefixed_by front r)).tables.blocks ≡ length (slice_set b.tables.blocks n (bringing which (length b.tables.declarations) (prefixed_by front r))) + length (added_rows n (length b.tables.declarations) r.level which) = length-append (slice_set b.tables.blocks n (bringing which (length b.tables.declarations) (prefixed_by front r))) (added_rows n (length b.tables.declarations) r.level which) in
         omega arith
 
     Place : ℕ → Type 0
     Place j = (j < length b.tables.blocks) ⊎ ((i : ℕ) × (j ≡ n + 1 + i))
 
     -- the row of a block before
-    old_row : (j : ℕ) (row : BlockOf) → j < length b.tables.blocks → slice_get (with_sets b n token r).tables.blocks j ≡ Some row → (old : BlockOf) × (slice_get b.tables.blocks j ≡ Some old) × (old.first ≡ row.first) × (old.end ≡ row.end)
-    old_row j row lt is = span_row (slice_get b.tables.blocks j) row (sym (sets.old_same b n token r last at [] (λ o. placed_span (span o)) refl j lt) ∙ ap (λ o. placed_span (span o)) is)
+    old_row : (j : ℕ) (row : BlockOf) → j < length b.tables.blocks → slice_get (with_standard which b n token (prefixed_by front r)).tables.blocks j ≡ Some row → (old : BlockOf) × (slice_get b.tables.blocks j ≡ Some old) × (old.first ≡ row.first) × (old.end ≡ row.end)
+    old_row j row lt is = span_row (slice_get b.tables.blocks j) row (sym (brought.old_same which front spelt b n token r last at [] (λ o. placed_span (span o)) refl j lt) ∙ ap (λ o. placed_span (span o)) is)
 
-    set_row : (i j : ℕ) (row : BlockOf) → j ≡ n + 1 + i → slice_get (with_sets b n token r).tables.blocks j ≡ Some row → RowAdded n (length b.tables.declarations) token r.level i row
-    set_row i j row e is = row_added n (length b.tables.declarations) token r.level i row (sym (sets.new_get b n token r last at [] i) ∙ ap (slice_get (with_sets b n token r).tables.blocks) (sym e) ∙ is)
+    set_row : (i j : ℕ) (row : BlockOf) → j ≡ n + 1 + i → slice_get (with_standard which b n token (prefixed_by front r)).tables.blocks j ≡ Some row → RowAdded n (length b.tables.declarations) token r.level which i row
+    set_row i j row e is = row_added n (length b.tables.declarations) token r.level which i row (sym (brought.new_get which front spelt b n token r last at [] i) ∙ ap (slice_get (with_standard which b n token (prefixed_by front r)).tables.blocks) (sym e) ∙ is)
 
-    old_around : (t : ℕ) → t < length b.tables.blocks → around (slice_get (with_sets b n token r).tables.blocks t) ≡ around (slice_get b.tables.blocks t)
-    old_around t lt = sets.old_same b n token r last at [] around refl t lt
+    old_around : (t : ℕ) → t < length b.tables.blocks → around (slice_get (with_standard which b n token (prefixed_by front r)).tables.blocks t) ≡ around (slice_get b.tables.blocks t)
+    old_around t lt = brought.old_same which front spelt b n token r last at [] around refl t lt
 
-    nested : (t u : ℕ) → around (slice_get (with_sets b n token r).tables.blocks t) ≡ Some u → Place t → u < length b.tables.blocks
+    nested : (t u : ℕ) → around (slice_get (with_standard which b n token (prefixed_by front r)).tables.blocks t) ≡ Some u → Place t → u < length b.tables.blocks
     nested t u e (inl lt) = d.nested t u (sym (old_around t lt) ∙ e)
-    nested t u e (inr q) = go (slice_get (with_sets b n token r).tables.blocks t) refl e
+    nested t u e (inr q) = go (slice_get (with_standard which b n token (prefixed_by front r)).tables.blocks t) refl e
       where
-        go : (o : Option BlockOf) → slice_get (with_sets b n token r).tables.blocks t ≡ o → around o ≡ Some u → u < length b.tables.blocks
+        go : (o : Option BlockOf) → slice_get (with_standard which b n token (prefixed_by front r)).tables.blocks t ≡ o → around o ≡ Some u → u < length b.tables.blocks
         go None is f = absurd (cc)
         go (Some row) is f =
             let here : n ≡ u = some_same n u (sym ((set_row q.0 t row q.1 is).encloser) ∙ f) in omega arith
 
     -- from a block before, the blocks around are those before
-    back : {k j : ℕ} → Chain (with_sets b n token r).tables.blocks k j → k < length b.tables.blocks → Chain b.tables.blocks k j
+    back : {k j : ℕ} → Chain (with_standard which b n token (prefixed_by front r)).tables.blocks k j → k < length b.tables.blocks → Chain b.tables.blocks k j
     back same lt = same
     back (beyond {k = k} {u = u} e c) lt =
         let was : around (slice_get b.tables.blocks k) ≡ Some u = sym (old_around k lt) ∙ e in beyond was (back c (d.nested k u was))
 
-    bound : {k j : ℕ} → Chain (with_sets b n token r).tables.blocks k j → k < length b.tables.blocks → j < length b.tables.blocks
+    bound : {k j : ℕ} → Chain (with_standard which b n token (prefixed_by front r)).tables.blocks k j → k < length b.tables.blocks → j < length b.tables.blocks
     bound same lt = lt
     bound (beyond {k = k} {u = u} e c) lt =
         let was : around (slice_get b.tables.blocks k) ≡ Some u = sym (old_around k lt) ∙ e in bound c (d.nested k u was)
 
-    forth : {k j : ℕ} → Chain b.tables.blocks k j → Chain (with_sets b n token r).tables.blocks k j
-    forth c = chain_kept b.tables.blocks (with_sets b n token r).tables.blocks (λ t u e. old_around t (there t u e) ∙ e) c
+    forth : {k j : ℕ} → Chain b.tables.blocks k j → Chain (with_standard which b n token (prefixed_by front r)).tables.blocks k j
+    forth c = chain_kept b.tables.blocks (with_standard which b n token (prefixed_by front r)).tables.blocks (λ t u e. old_around t (there t u e) ∙ e) c
       where
         there : (t u : ℕ) → around (slice_get b.tables.blocks t) ≡ Some u → t < length b.tables.blocks
         there t u e = go (slice_get b.tables.blocks t) refl e
@@ -512,24 +514,24 @@ sets_deep b n token r cur last at from d = record {
             go None is f = absurd (cc)
             go (Some row) is f = slice_get_within b.tables.blocks t row is
 
-    open_was : (j : ℕ) → IsOpen (with_sets b n token r) j → IsOpen b j
+    open_was : (j : ℕ) → IsOpen (with_standard which b n token (prefixed_by front r)) j → IsOpen b j
     open_was j q = (q.0, q.1, back q.2 (d.within q.0 q.1))
 
-    open_now : (j : ℕ) → IsOpen b j → IsOpen (with_sets b n token r) j
+    open_now : (j : ℕ) → IsOpen b j → IsOpen (with_standard which b n token (prefixed_by front r)) j
     open_now j q = (q.0, q.1, forth q.2)
 
-    ends : (j : ℕ) (row : BlockOf) → slice_get (with_sets b n token r).tables.blocks j ≡ Some row → Place j → IsOpen (with_sets b n token r) j ⊎ (row.end ≤ length b.tables.places)
+    ends : (j : ℕ) (row : BlockOf) → slice_get (with_standard which b n token (prefixed_by front r)).tables.blocks j ≡ Some row → Place j → IsOpen (with_standard which b n token (prefixed_by front r)) j ⊎ (row.end ≤ length b.tables.places)
     ends j row is (inl lt) = let q = old_row j row lt is in go q.0 q.3 (d.ends j q.0 q.1)
       where
-        go : (old : BlockOf) → old.end ≡ row.end → IsOpen b j ⊎ (old.end ≤ length b.tables.places) → IsOpen (with_sets b n token r) j ⊎ (row.end ≤ length b.tables.places)
+        go : (old : BlockOf) → old.end ≡ row.end → IsOpen b j ⊎ (old.end ≤ length b.tables.places) → IsOpen (with_standard which b n token (prefixed_by front r)) j ⊎ (row.end ≤ length b.tables.places)
         go old e (inl o) = inl (open_now j o)
         go old e (inr le) = inr (omega arith)
     ends j row is (inr q) = let e : row.end ≡ 0 = (set_row q.0 j row q.1 is).stops in inr (omega arith)
 
-    deep : (i k j : ℕ) (row : BlockOf) → slice_get b.tables.places i ≡ Some (Some k) → slice_get (with_sets b n token r).tables.blocks j ≡ Some row → row.first ≤ i → IsOpen (with_sets b n token r) j ⊎ (i < row.end) → Place j → Chain (with_sets b n token r).tables.blocks k j
+    deep : (i k j : ℕ) (row : BlockOf) → slice_get b.tables.places i ≡ Some (Some k) → slice_get (with_standard which b n token (prefixed_by front r)).tables.blocks j ≡ Some row → row.first ≤ i → IsOpen (with_standard which b n token (prefixed_by front r)) j ⊎ (i < row.end) → Place j → Chain (with_standard which b n token (prefixed_by front r)).tables.blocks k j
     deep i k j row p is le h (inl lt) = let q = old_row j row lt is in forth (d.deep i k j q.0 p q.1 (let e : q.0.first ≡ row.first = q.2 in omega arith) (go q.0 q.3 h))
       where
-        go : (old : BlockOf) → old.end ≡ row.end → IsOpen (with_sets b n token r) j ⊎ (i < row.end) → IsOpen b j ⊎ (i < old.end)
+        go : (old : BlockOf) → old.end ≡ row.end → IsOpen (with_standard which b n token (prefixed_by front r)) j ⊎ (i < row.end) → IsOpen b j ⊎ (i < old.end)
         go old e (inl o) = inl (open_was j o)
         go old e (inr lt) = inr (omega arith)
     deep i k j row p is le (inl o) (inr q) =
@@ -537,30 +539,25 @@ sets_deep b n token r cur last at from d = record {
         let e : j ≡ n + 1 + q.0 = q.1 in absurd (omega arith)
     deep i k j row p is le (inr lt) (inr q) = let e : row.end ≡ 0 = (set_row q.0 j row q.1 is).stops in absurd (omega arith)
 
-    starts : (j : ℕ) (row : BlockOf) → slice_get (with_sets b n token r).tables.blocks j ≡ Some row → Place j → row.first ≤ length b.tables.places
+    starts : (j : ℕ) (row : BlockOf) → slice_get (with_standard which b n token (prefixed_by front r)).tables.blocks j ≡ Some row → Place j → row.first ≤ length b.tables.places
     starts j row is (inl lt) = let q = old_row j row lt is in let le : q.0.first ≤ length b.tables.places = d.starts j q.0 q.1 in let e : q.0.first ≡ row.first = q.2 in omega arith
     starts j row is (inr q) = let e : row.first ≡ 0 = (set_row q.0 j row q.1 is).begins in omega arith
 
-    holds : (i k j : ℕ) (row : BlockOf) → slice_get b.tables.places i ≡ Some (Some k) → slice_get (with_sets b n token r).tables.blocks j ≡ Some row → Chain (with_sets b n token r).tables.blocks k j → Place j → (row.first ≤ i) × (IsOpen (with_sets b n token r) j ⊎ (i < row.end))
+    holds : (i k j : ℕ) (row : BlockOf) → slice_get b.tables.places i ≡ Some (Some k) → slice_get (with_standard which b n token (prefixed_by front r)).tables.blocks j ≡ Some row → Chain (with_standard which b n token (prefixed_by front r)).tables.blocks k j → Place j → (row.first ≤ i) × (IsOpen (with_standard which b n token (prefixed_by front r)) j ⊎ (i < row.end))
     holds i k j row p is ch (inl lt) =
         let q = old_row j row lt is in
         let h = d.holds i k j q.0 p q.1 (back ch (d.ranged i k p)) in
         ((let le : q.0.first ≤ i = h.0 in let e : q.0.first ≡ row.first = q.2 in omega arith), go q.0 q.3 h.1)
       where
-        go : (old : BlockOf) → old.end ≡ row.end → IsOpen b j ⊎ (i < old.end) → IsOpen (with_sets b n token r) j ⊎ (i < row.end)
+        go : (old : BlockOf) → old.end ≡ row.end → IsOpen b j ⊎ (i < old.end) → IsOpen (with_standard which b n token (prefixed_by front r)) j ⊎ (i < row.end)
         go old e (inl o) = inl (open_now j o)
         go old e (inr lt) = inr (omega arith)
     holds i k j row p is ch (inr q) =
         let lt : j < length b.tables.blocks = bound ch (d.ranged i k p) in
         let e : j ≡ n + 1 + q.0 = q.1 in absurd (omega arith)
 
-sets_run : (c : BuildingOf) (top : FreshTop c) (token : ℕ) (y : Identifier) (from : ℕ) → Deep c from → Deep (run marked c (set_prefix token y)) from
-sets_run c top token y from d =
-    subst (λ z. Deep z from) (sym (brought_is c top token y))
-    (sets_deep (prefixed_top c top y) t.number token t.row t.current t.last t.at from (subst (λ z. Deep z from) (prefixed_is c top y) (calm_deep c _ from (prefix_calm c y c.current) d)))
-  where
-    t : FreshTop (prefixed_top c top y)
-    t = prefixed_fresh c top y
+standard_run : (p : StandardPrefix) (c : BuildingOf) (top : FreshTop c) (token : ℕ) (y : Identifier) → Spells p y → (from : ℕ) → Deep c from → Deep (run marked c (whole_prefix p token y)) from
+standard_run p c top token y spelt from d = subst (λ z. Deep z from) (sym (brought_is p c top token y)) (standard_deep p y spelt c top.number token top.row top.current top.last top.at from d)
 
 pub run_deep : {os : List Frame} {ms : List Mark} {l : List Spot} {hs : List Held} (b : BuildingOf) (from : ℕ) → Laid os ms l hs → Ascends from l → Deep b from → (to : ℕ) × Deep (run marked b ms) to
 unfolding run marked
@@ -590,11 +587,11 @@ run_deep b from (prefixed_block text i class es ds ss w stands g) a d =
     let o : BuildingOf = opened b kind.Prefixed text i in
     let c : BuildingOf = changed o (prefixed_by class) o.current in
     run_deep c (i + 1) g a.1 (calm_deep o c (i + 1) (prefix_calm o class o.current) (opened_deep b kind.Prefixed text i from a.0 d))
-run_deep b from (sets_block {ms = ms} text i class es ds ss w e stands g) a d =
+run_deep b from (standard_block {ms = ms} p text i class es ds ss e stands g) a d =
     let o : BuildingOf = opened b kind.Prefixed text i in
-    let k : BuildingOf = run marked o (set_prefix i class) in
-    subst (λ z. (to : ℕ) × Deep z to) (sym (run_both o (set_prefix i class) ms))
-    (run_deep k (i + 1) g a.1 (sets_run o (opened_top b kind.Prefixed text i) i class (i + 1) (opened_deep b kind.Prefixed text i from a.0 d)))
+    let k : BuildingOf = run marked o (whole_prefix p i class) in
+    subst (λ z. (to : ℕ) × Deep z to) (sym (run_both o (whole_prefix p i class) ms))
+    (run_deep k (i + 1) g a.1 (standard_run p o (opened_top b kind.Prefixed text i) i class e (i + 1) (opened_deep b kind.Prefixed text i from a.0 d)))
 run_deep b from (connects text i v y u g) a d = run_deep (opened b kind.Connection text i) (i + 1) g a.1 (opened_deep b kind.Connection text i from a.0 d)
 run_deep b from (procedure {ms = ms} text quals result h body q g) a d =
     let c0 : BuildingOf = declared b h.name (entry.Procedure (result_named result) (length b.tables.blocks)) in
@@ -609,13 +606,13 @@ run_deep b from (declares_class {ms = ms} text prefs prefix h ds ss w g) a d =
     let c : BuildingOf = opened c0 kind.Class text i in
     subst (λ z. (to : ℕ) × Deep z to) (sym (run_both c prefs ms))
     (run_deep (run marked c prefs) (i + 1) g a.1 (calm_deep c (run marked c prefs) (i + 1) (prefs_calm c prefs w) (opened_deep c0 kind.Class text i from a.0 (calm_deep b c0 from (class_calm b h.name (entry.Class (length b.tables.blocks)) b.current) d))))
-run_deep b from (sets_class {ms = ms} text y h ds ss w e g) a d =
+run_deep b from (standard_class {ms = ms} p text y h ds ss e g) a d =
     let c0 : BuildingOf = changed (declared b h.name (entry.Class (length b.tables.blocks))) holding_class b.current in
     let i : ℕ = h.name.token.0 in
     let c : BuildingOf = opened c0 kind.Class text i in
-    let k : BuildingOf = run marked c (set_prefix i y) in
-    subst (λ z. (to : ℕ) × Deep z to) (sym (run_both c (set_prefix i y) ms))
-    (run_deep k (i + 1) g a.1 (sets_run c (opened_top c0 kind.Class text i) i y (i + 1) (opened_deep c0 kind.Class text i from a.0 (calm_deep b c0 from (class_calm b h.name (entry.Class (length b.tables.blocks)) b.current) d))))
+    let k : BuildingOf = run marked c (whole_prefix p i y) in
+    subst (λ z. (to : ℕ) × Deep z to) (sym (run_both c (whole_prefix p i y) ms))
+    (run_deep k (i + 1) g a.1 (standard_run p c (opened_top c0 kind.Class text i) i y e (i + 1) (opened_deep c0 kind.Class text i from a.0 (calm_deep b c0 from (class_calm b h.name (entry.Class (length b.tables.blocks)) b.current) d))))
 run_deep b from (closes x end g) a d = run_deep (closed b end b.current) end g a.1 (closed_deep b end from b.current refl a.0 d)
 
 nothing_deep : Deep empty 0

@@ -23,7 +23,7 @@ use Rattle.sim_agree.specs.Plain.{Plain}
 use Rattle.sim_agree.specs.TablesOf.{TablesOf}
 use Rattle.sim_agree.proofs.Tables as t
 use Rattle.sim_agree.proofs.Prefixing.{Reaches, shown_reaches}
-use Rattle.sim_agree.proofs.Unprefixed.{Showing, StandsIn, declared_is, shown_next, stands_for_itself}
+use Rattle.sim_agree.proofs.Unprefixed.{Shown, Showing, StandsIn, declared_is, shown_next, stands_for_itself}
 
 some_same : {A : Type 0} (a b : A) → Some a ≡ Some b → a ≡ b
 some_same a b e = cc
@@ -52,10 +52,10 @@ module _ (s : Source) (of : TablesOf s) (plain : Plain s.program) (order : InOrd
       or_true true y e = refl
       or_true false y e = e
 
-      go : StandsIn s.tables k d ⊎ ((c : ℕ) × (base s.tables k ≡ Some c) × (shown_of s.tables n from c name ≡ Some d)) → ((c : ℕ) → shown_of s.tables n from c name ≡ Some d → some_level_of s.tables n (λ b. nat_eq b (block_of s d)) c ≡ true)
+      go : Shown s.tables k d ⊎ ((c : ℕ) × (base s.tables k ≡ Some c) × (shown_of s.tables n from c name ≡ Some d)) → ((c : ℕ) → shown_of s.tables n from c name ≡ Some d → some_level_of s.tables n (λ b. nat_eq b (block_of s d)) c ≡ true)
           → (nat_eq k (block_of s d) || holds (λ b. some_level_of s.tables n (λ b. nat_eq b (block_of s d)) b) (base s.tables k)) ≡ true
       go (inl l) rest =
-          let own : block_of s d ≡ k = block_stands k d l in
+          let own : block_of s d ≡ k = block_stands k d l.0 in
           ap (λ z. z || holds (λ b. some_level_of s.tables n (λ b. nat_eq b (block_of s d)) b) (base s.tables k)) (ap (nat_eq k) own ∙ same_number k)
       go (inr q) rest = or_true (nat_eq k (block_of s d)) _ (ap (holds (λ b. some_level_of s.tables n (λ b. nat_eq b (block_of s d)) b)) q.1 ∙ rest q.0 q.2)
 
@@ -83,8 +83,8 @@ module _ (s : Source) (of : TablesOf s) (plain : Plain s.program) (order : InOrd
       by_count zero e = absurd (nothing_shown from k name d e)
       by_count (suc n) e = go (shown_next s.tables bare n from k name d e)
         where
-          go : StandsIn s.tables k d ⊎ ((c : ℕ) × (base s.tables k ≡ Some c) × (shown_of s.tables n from c name ≡ Some d)) → (c : ℕ) × (base s.tables k ≡ Some c) × (some_level_of s.tables (suc n) (λ b. nat_eq b (block_of s d)) c ≡ true)
-          go (inl l) = absurd (t.nothing_stands_in_connections s of plain order k is d l)
+          go : Shown s.tables k d ⊎ ((c : ℕ) × (base s.tables k ≡ Some c) × (shown_of s.tables n from c name ≡ Some d)) → (c : ℕ) × (base s.tables k ≡ Some c) × (some_level_of s.tables (suc n) (λ b. nat_eq b (block_of s d)) c ≡ true)
+          go (inl l) = absurd (t.nothing_stands_in_connections s of plain order k is d l.0)
           go (inr q) = (q.0, q.1, level_more n (λ b. nat_eq b (block_of s d)) q.0 (shown_level n from q.0 name d q.2))
 
   record Shows (k : ℕ) (d : DeclNo) : Type 0 where
@@ -96,11 +96,11 @@ module _ (s : Source) (of : TablesOf s) (plain : Plain s.program) (order : InOrd
   unfolding shown has_level
   shows from k name d e = go (is_connection (text s k)) refl
     where
-      listed : (l : ℕ) × Reaches s.tables k l × StandsIn s.tables l d
+      listed : (l : ℕ) × Reaches s.tables k l × Shown s.tables l d
       listed = shown_reaches s.tables bare (length s.tables.blocks) from k name d e
 
       r : (e : Entry) × (entry_of s.tables d ≡ Some e)
-      r = (listed.2.0.entry, t.row_entry s of plain order d listed.2.0 listed.2.1)
+      r = (listed.2.0.0.entry, t.row_entry s of plain order d listed.2.0.0 listed.2.0.1)
 
       go : (c : Bool) → is_connection (text s k) ≡ c → Shows k d
       go false at = record { through = subst (λ z. FoundThrough s z k (block_of s d)) (sym at) (shown_level (length s.tables.blocks) from k name d e); entry = r.0; is = r.1 }

@@ -17,9 +17,10 @@ use Rattle.sim_scope.specs.declared.types.Entry.{Entry}
 use Rattle.sim_scope.specs.declared.types.Entry.TheVariants as entry
 use Rattle.sim_scope.specs.declared.types.SimType.{SimType}
 use Rattle.sim_scope.specs.declared.types.StandardClass.{StandardClass}
-use Rattle.sim_scope.specs.declared.types.StandardClass.TheVariants as standard
+use Rattle.sim_scope.specs.declared.types.StandardPrefix.{StandardPrefix}
+use Rattle.sim_scope.specs.declared.types.StandardPrefix.TheVariants as prefixes
 use Rattle.sim_scope.specs.declared.types.WrittenMode.{WrittenMode}
-use Rattle.sim_scope.specs.Building.{BuildingOf, Declares, Mark, attribute_entry, block_around, broken_if, closed, closed_at, level_in, most_levels, opened, owner_of, parameter, place_of, placed, standard_base}
+use Rattle.sim_scope.specs.Building.{BuildingOf, Declares, Mark, attribute_entry, block_around, broken_if, closed, closed_at, level_in, most_levels, name_of, opened, owner_of, parameter, place_of, placed, standard_base}
 use Rattle.sim_scope.specs.Declare.{result_named}
 use Rattle.sim_scope.specs.Access.{around}
 use Rattle.sim_scope.specs.Levels.{base_in}
@@ -30,14 +31,16 @@ use Rattle.sim_scope.specs.Tables.{BlockOf, deeper}
 use Rattle.sim_scope.proofs.Kept.{kept_more, more_here, more_other}
 use Rattle.sim_values.specs.declared.standard.Standard.{Standard}
 use Rattle.sim_values.specs.Standard.{row_of}
-use Rattle.sim_code.specs.Sets.{is_set_name}
+use Rattle.sim_code.specs.Sets.{is_attribute_name}
+use Rattle.sim_code.specs.Simulations.{is_simulation_name}
 use Rattle.sim_meaning.specs.Entries.{numbers_in}
 use Rattle.sim_meaning.specs.Levels.{is_class}
 use Rattle.sim_meaning.specs.Texts.{BlockText, ClassText, ConnectionText, ProcedureText, StandardText, Text, kind_of_type, PrefixedText}
 use Rattle.sim_sound.specs.Held.{Among}
 use Rattle.sim_agree.proofs.Groups.{Declaring, Has, Open, OwnEntry, PlainKind, Prefixing, Taking, declared_in_text, item, own_marks}
 use Rattle.sim_agree.proofs.Steps.{AllEven, Becomes, Changed, Even, Fixed, Listed, Nothing, Parametric, Step, among_at, fixed, last_cases, row_step, same_step}
-use Rattle.sim_agree.proofs.Unprefixed.{Unprefixed, brought_of, extras_in, no_extras}
+use Rattle.sim_agree.proofs.StandardPrefixes.{InFront, IsBrought}
+use Rattle.sim_agree.proofs.Unprefixed.{Brings, Named, Unprefixed, brings_numbers, brings_of, brought_of, extras_in, no_extras, spelt_as, spelt_before}
 
 -- ---- the open texts
 
@@ -89,7 +92,7 @@ pub owner_fixed : (o : Option BlockOf) → owner_of_fixed (fixed o) ≡ owner_in
 owner_fixed None = refl
 owner_fixed (Some row) = refl
 
--- the base of a block before the classes of prefixes are known: a class of SIMSET has it from the start
+-- the base of a block before the classes of prefixes are known: a standard class has it from the start
 abbrev pub base_by : BlockKind → Option ℕ → Option ℕ
 base_by (kind.StandardClass which) (Some n) = standard_base which n
 base_by _ _ = None
@@ -151,37 +154,41 @@ KindIs _ _ = ⊥
 abbrev pub Rising : List DeclNo → Type 0
 Rising ns = (n m : ℕ) (d e : DeclNo) → slice_get ns n ≡ Some d → slice_get ns m ≡ Some e → n < m → d.0 < e.0
 
--- the classes of SIMSET, which are brought together into a block, and their declarations
-abbrev pub IsSetClass : StandardClass → Type 0
-IsSetClass standard.Process = ⊥
-IsSetClass _ = Unit {0}
-
-pub record SetGroup (bs : List BlockOf) (ts : List Text) (n : ℕ) (first : DeclNo) : Type 0 where
-  pub texts : (which : StandardClass) → IsSetClass which → slice_get ts (n + 1 + place_of which) ≡ Some (StandardText which)
-  pub bases : (which : StandardClass) → IsSetClass which → base_in (slice_get bs (n + 1 + place_of which)) ≡ standard_base which n
-  pub around : (which : StandardClass) → IsSetClass which → around (slice_get bs (n + 1 + place_of which)) ≡ Some n
-  pub host : (x : Text) × (slice_get ts n ≡ Some x) × Prefixing x
-  pub owners : (which : StandardClass) → IsSetClass which → owner_in (slice_get bs (n + 1 + place_of which)) ≡ Some (record { 0 = first.0 + place_of which })
+-- the classes of a standard prefix, which are brought together into a block, and their declarations
+pub record StandardGroup (p : StandardPrefix) (bs : List BlockOf) (ts : List Text) (n : ℕ) (first : DeclNo) : Type 0 where
+  pub texts : (which : StandardClass) → IsBrought p which → slice_get ts (n + 1 + place_of which) ≡ Some (StandardText which)
+  pub bases : (which : StandardClass) → IsBrought p which → base_in (slice_get bs (n + 1 + place_of which)) ≡ standard_base which n
+  pub around : (which : StandardClass) → IsBrought p which → around (slice_get bs (n + 1 + place_of which)) ≡ Some n
+  pub host : (x : Text) × (slice_get ts n ≡ Some x) × InFront p x
+  pub owners : (which : StandardClass) → IsBrought p which → owner_in (slice_get bs (n + 1 + place_of which)) ≡ Some (record { 0 = first.0 + place_of which })
 
 -- each of their texts is one of such a group
 pub record InGroup (bs : List BlockOf) (ts : List Text) (k : ℕ) (which : StandardClass) : Type 0 where
+  pub prefix : StandardPrefix
   pub block : ℕ
   pub first : DeclNo
-  pub group : SetGroup bs ts block first
-  pub is : IsSetClass which
+  pub group : StandardGroup prefix bs ts block first
+  pub is : IsBrought prefix which
   pub place : k ≡ block + 1 + place_of which
 
-abbrev pub SetTexts : List BlockOf → List Text → Type 0
-SetTexts bs ts = (k : ℕ) (which : StandardClass) → slice_get ts k ≡ Some (StandardText which) → InGroup bs ts k which
+abbrev pub StandardTexts : List BlockOf → List Text → Type 0
+StandardTexts bs ts = (k : ℕ) (which : StandardClass) → slice_get ts k ≡ Some (StandardText which) → InGroup bs ts k which
+
+-- behind each block whose prefix is spelt as a standard one stands such a group
+abbrev pub Headed : StandardPrefix → List BlockOf → List Text → ℕ → Type 0
+Headed p bs ts n = (first : DeclNo) × StandardGroup p bs ts n first
+
+abbrev pub AllHeaded : List BlockOf → List Text → Type 0
+AllHeaded bs ts = (n : ℕ) (p : StandardPrefix) → spelt_before (slice_get bs n) ≡ Some p → Headed p bs ts n
 
 -- they have no text
-abbrev pub set_first : BlockKind → (first : ℕ) → ℕ
-set_first (kind.StandardClass which) first = first
-set_first _ first = 0
+abbrev pub standard_first : BlockKind → (first : ℕ) → ℕ
+standard_first (kind.StandardClass which) first = first
+standard_first _ first = 0
 
 abbrev pub first_or_none : Option BlockOf → ℕ
 first_or_none None = 0
-first_or_none (Some row) = set_first row.kind row.first
+first_or_none (Some row) = standard_first row.kind row.first
 
 abbrev pub Textless : List BlockOf → Type 0
 Textless bs = (k : ℕ) → first_or_none (slice_get bs k) ≡ 0
@@ -189,6 +196,10 @@ Textless bs = (k : ℕ) → first_or_none (slice_get bs k) ≡ 0
 -- what is brought into a block is declared in it
 abbrev pub Brought : BuildingOf → Type 0
 Brought b = (k : ℕ) (d : DeclNo) → Among d (brought_of (slice_get b.tables.blocks k)) → (row : Declaration) × (slice_get b.tables.declarations d.0 ≡ Some row) × (row.block ≡ k)
+
+-- and is found by its name
+abbrev pub NamedBrought : BuildingOf → Type 0
+NamedBrought b = (k : ℕ) → Named b.tables.declarations (brings_of (slice_get b.tables.blocks k))
 
 pub record Fine (b : BuildingOf) (ts : List Text) (os : List Open) : Type 0 where
   pub size : length b.tables.blocks ≡ length ts
@@ -203,9 +214,11 @@ pub record Fine (b : BuildingOf) (ts : List Text) (os : List Open) : Type 0 wher
   pub rising : (k : ℕ) → Rising (numbers_in (slice_get b.tables.blocks k))
   pub based : (k : ℕ) → base_in (slice_get b.tables.blocks k) ≡ own_base (slice_get b.tables.blocks k)
   pub bare : Unprefixed b.tables
-  pub sets : SetTexts b.tables.blocks ts
+  pub standards : StandardTexts b.tables.blocks ts
+  pub headed : AllHeaded b.tables.blocks ts
   pub textless : Textless b.tables.blocks
   pub brought : Brought b
+  pub named : NamedBrought b
 
 -- the same entry, but for the class that references are qualified by
 abbrev pub AlikeTypes : SimType → SimType → Type 0
@@ -263,23 +276,35 @@ pub record OfClass (bs : List BlockOf) (ts : List Text) (d : ℕ) (row : Declara
   pub number : ℕ
   pub entry : row.entry ≡ entry.Class number
   pub listed : (row.listed ≡ true) ⊎ IsStandard class
+  pub hidden : IsStandard class → row.listed ≡ false
+  pub named : (which : StandardClass) → class ≡ StandardText which → row.name ≡ name_of which
   pub text : slice_get ts number ≡ Some class
   pub around : around (slice_get bs number) ≡ Some row.block
   pub owner : owner_in (slice_get bs number) ≡ Some (record { 0 = d })
 
--- an attribute of a class of SIMSET, by the first of the classes that were brought together
+-- an attribute of a standard class, by the first of the classes that were brought together
 pub record OfAttribute (bs : List BlockOf) (ts : List Text) (row : Declaration) : Type 0 where
   pub name : Standard
   pub class : StandardClass
   pub owner : class_owning (row_of name).owner ≡ Some class
-  pub is_set : is_set_name name ≡ true
+  pub is_attribute : is_attribute_name name ≡ true
+  pub prefix : StandardPrefix
   pub block : ℕ
   pub first : DeclNo
-  pub group : SetGroup bs ts block first
-  pub is : IsSetClass class
+  pub group : StandardGroup prefix bs ts block first
+  pub is : IsBrought prefix class
   pub entry : row.entry ≡ attribute_entry (Some first) name
   pub listed : row.listed ≡ true
   pub stands : row.block ≡ block + 1 + place_of class
+
+-- one of `simulation` itself, which the block in front of which it is does not list
+pub record OfSimulation (bs : List BlockOf) (ts : List Text) (row : Declaration) : Type 0 where
+  pub name : Standard
+  pub is_simulation : is_simulation_name name ≡ true
+  pub first : DeclNo
+  pub group : StandardGroup prefixes.Simulation bs ts row.block first
+  pub entry : row.entry ≡ attribute_entry (Some first) name
+  pub listed : row.listed ≡ false
 
 pub data RowIn (bs : List BlockOf) (ts : List Text) (x : Text) (d : ℕ) (row : Declaration) : Type 0 where
   own_row : Declaring x → Own (declared_in_text x) row → RowIn bs ts x d row
@@ -287,6 +312,7 @@ pub data RowIn (bs : List BlockOf) (ts : List Text) (x : Text) (d : ℕ) (row : 
   class_row : Declaring x → OfClass bs ts d row → RowIn bs ts x d row
   formal_row : Taking x → Parametric row.entry → row.listed ≡ true → RowIn bs ts x d row
   attribute_row : IsStandard x → OfAttribute bs ts row → RowIn bs ts x d row
+  simulation_row : Prefixing x → OfSimulation bs ts row → RowIn bs ts x d row
 
 abbrev pub RowOf : List BlockOf → List Text → Option Text → ℕ → Declaration → Type 0
 RowOf bs ts None d row = ⊥
@@ -325,7 +351,7 @@ same_base o p e = sym (base_fixed o) ∙ ap base_of_fixed e ∙ base_fixed p
 
 abbrev textless_of_fixed : Fixed → ℕ
 textless_of_fixed None = 0
-textless_of_fixed (Some x) = set_first x.kind x.first
+textless_of_fixed (Some x) = standard_first x.kind x.first
 
 textless_fixed : (o : Option BlockOf) → textless_of_fixed (fixed o) ≡ first_or_none o
 textless_fixed None = refl
@@ -346,25 +372,32 @@ module _ (bs cs : List BlockOf) (ts us : List Text) (keep : Keeps bs cs ts us) w
   class_kept : (d : ℕ) (row : Declaration) → OfClass bs ts d row → OfClass cs us d row
   class_kept d row p =
       let k = keep p.number p.class p.text in
-      record { class = p.class; is = p.is; number = p.number; entry = p.entry; listed = p.listed; text = k.1; around = same_around (slice_get cs p.number) (slice_get bs p.number) k.0 ∙ p.around; owner = same_owner (slice_get cs p.number) (slice_get bs p.number) k.0 ∙ p.owner }
+      record { class = p.class; is = p.is; number = p.number; entry = p.entry; listed = p.listed; hidden = p.hidden; named = p.named; text = k.1; around = same_around (slice_get cs p.number) (slice_get bs p.number) k.0 ∙ p.around; owner = same_owner (slice_get cs p.number) (slice_get bs p.number) k.0 ∙ p.owner }
 
-  pub group_kept : (n : ℕ) (first : DeclNo) → SetGroup bs ts n first → SetGroup cs us n first
-  group_kept n first g = record {
+  pub group_kept : (p : StandardPrefix) (n : ℕ) (first : DeclNo) → StandardGroup p bs ts n first → StandardGroup p cs us n first
+  group_kept p n first g = record {
     host = (g.host.0, (keep n g.host.0 g.host.1).1, g.host.2);
-    texts = λ which p. (keep (n + 1 + place_of which) (StandardText which) (g.texts which p)).1;
-    bases = λ which p. same_base (slice_get cs (n + 1 + place_of which)) (slice_get bs (n + 1 + place_of which)) (keep (n + 1 + place_of which) (StandardText which) (g.texts which p)).0 ∙ g.bases which p;
-    around = λ which p. same_around (slice_get cs (n + 1 + place_of which)) (slice_get bs (n + 1 + place_of which)) (keep (n + 1 + place_of which) (StandardText which) (g.texts which p)).0 ∙ g.around which p;
-    owners = λ which p. same_owner (slice_get cs (n + 1 + place_of which)) (slice_get bs (n + 1 + place_of which)) (keep (n + 1 + place_of which) (StandardText which) (g.texts which p)).0 ∙ g.owners which p;
+    texts = λ which is. (keep (n + 1 + place_of which) (StandardText which) (g.texts which is)).1;
+    bases = λ which is. same_base (slice_get cs (n + 1 + place_of which)) (slice_get bs (n + 1 + place_of which)) (keep (n + 1 + place_of which) (StandardText which) (g.texts which is)).0 ∙ g.bases which is;
+    around = λ which is. same_around (slice_get cs (n + 1 + place_of which)) (slice_get bs (n + 1 + place_of which)) (keep (n + 1 + place_of which) (StandardText which) (g.texts which is)).0 ∙ g.around which is;
+    owners = λ which is. same_owner (slice_get cs (n + 1 + place_of which)) (slice_get bs (n + 1 + place_of which)) (keep (n + 1 + place_of which) (StandardText which) (g.texts which is)).0 ∙ g.owners which is;
   }
 
   pub in_group_kept : (k : ℕ) (which : StandardClass) → InGroup bs ts k which → InGroup cs us k which
-  in_group_kept k which g = record { block = g.block; first = g.first; group = group_kept g.block g.first g.group; is = g.is; place = g.place }
+  in_group_kept k which g = record { prefix = g.prefix; block = g.block; first = g.first; group = group_kept g.prefix g.block g.first g.group; is = g.is; place = g.place }
 
   attribute_kept : (row : Declaration) → OfAttribute bs ts row → OfAttribute cs us row
-  attribute_kept row p = record { name = p.name; class = p.class; owner = p.owner; is_set = p.is_set; block = p.block; first = p.first; group = group_kept p.block p.first p.group; is = p.is; entry = p.entry; listed = p.listed; stands = p.stands }
+  attribute_kept row p = record { name = p.name; class = p.class; owner = p.owner; is_attribute = p.is_attribute; prefix = p.prefix; block = p.block; first = p.first; group = group_kept p.prefix p.block p.first p.group; is = p.is; entry = p.entry; listed = p.listed; stands = p.stands }
+
+  pub headed_kept : (p : StandardPrefix) (n : ℕ) → Headed p bs ts n → Headed p cs us n
+  headed_kept p n h = (h.0, group_kept p n h.0 h.1)
+
+  simulation_kept : (row : Declaration) → OfSimulation bs ts row → OfSimulation cs us row
+  simulation_kept row p = record { name = p.name; is_simulation = p.is_simulation; first = p.first; group = group_kept prefixes.Simulation row.block p.first p.group; entry = p.entry; listed = p.listed }
 
   row_at : (x : Text) (d : ℕ) (row : Declaration) → RowIn bs ts x d row → RowIn cs us x d row
   row_at x d row (attribute_row y p) = attribute_row y (attribute_kept row p)
+  row_at x d row (simulation_row y p) = simulation_row y (simulation_kept row p)
   row_at x d row (own_row y p) = own_row y p
   row_at x d row (procedure_row y p) = procedure_row y (procedure_kept d row p)
   row_at x d row (class_row y p) = class_row y (class_kept d row p)
@@ -407,7 +440,7 @@ changed_in bs ts x d old row c (class_row y p) = class_row y (go c.entry)
     still (inr q) = inr q
 
     go : Becomes old.entry row.entry → OfClass bs ts d row
-    go (inl e) = record { class = p.class; is = p.is; number = p.number; entry = e ∙ p.entry; listed = still p.listed; text = p.text; around = p.around ∙ ap Some (sym c.block); owner = p.owner }
+    go (inl e) = record { class = p.class; is = p.is; number = p.number; entry = e ∙ p.entry; listed = still p.listed; hidden = λ q. c.listed ∙ p.hidden q; named = λ w q. c.name ∙ p.named w q; text = p.text; around = p.around ∙ ap Some (sym c.block); owner = p.owner }
     go (inr q) = absurd (let e : entry.Unspecified q.0 ≡ entry.Class p.number = sym q.1 ∙ p.entry in cc)
 changed_in bs ts x d old row c (formal_row y p l) = formal_row y (go c.entry) (c.listed ∙ l)
   where
@@ -417,7 +450,12 @@ changed_in bs ts x d old row c (formal_row y p l) = formal_row y (go c.entry) (c
 changed_in bs ts x d old row c (attribute_row y p) = attribute_row y (go c.entry)
   where
     go : Becomes old.entry row.entry → OfAttribute bs ts row
-    go (inl e) = record { name = p.name; class = p.class; owner = p.owner; is_set = p.is_set; block = p.block; first = p.first; group = p.group; is = p.is; entry = e ∙ p.entry; listed = c.listed ∙ p.listed; stands = c.block ∙ p.stands }
+    go (inl e) = record { name = p.name; class = p.class; owner = p.owner; is_attribute = p.is_attribute; prefix = p.prefix; block = p.block; first = p.first; group = p.group; is = p.is; entry = e ∙ p.entry; listed = c.listed ∙ p.listed; stands = c.block ∙ p.stands }
+    go (inr q) = absurd (let e : entry.Unspecified q.0 ≡ attribute_entry (Some p.first) p.name = sym q.1 ∙ p.entry in cc)
+changed_in bs ts x d old row c (simulation_row y p) = simulation_row y (go c.entry)
+  where
+    go : Becomes old.entry row.entry → OfSimulation bs ts row
+    go (inl e) = record { name = p.name; is_simulation = p.is_simulation; first = p.first; group = subst (λ n. StandardGroup prefixes.Simulation bs ts n p.first) (sym c.block) p.group; entry = e ∙ p.entry; listed = c.listed ∙ p.listed }
     go (inr q) = absurd (let e : entry.Unspecified q.0 ≡ attribute_entry (Some p.first) p.name = sym q.1 ∙ p.entry in cc)
 
 pub changed_row : (bs : List BlockOf) (ts : List Text) (o : Option Text) (d : ℕ) (old row : Declaration) → Changed old row → RowOf bs ts o d old → RowOf bs ts o d row
@@ -459,9 +497,11 @@ module _ (b c : BuildingOf) (New : ℕ → Declaration → Type 0) (s : Step b c
     rising = λ k. rising k (s.lists k);
     based = λ k. same_base (slice_get c.tables.blocks k) (slice_get b.tables.blocks k) (s.fixes k) ∙ f.based k ∙ sym (same_own_base (slice_get c.tables.blocks k) (slice_get b.tables.blocks k) (s.fixes k));
     bare = s.bare f.bare;
-    sets = λ k which is. in_group_kept b.tables.blocks c.tables.blocks ts ts step_keeps k which (f.sets k which is);
+    standards = λ k which is. in_group_kept b.tables.blocks c.tables.blocks ts ts step_keeps k which (f.standards k which is);
+    headed = λ n p e. headed_kept b.tables.blocks c.tables.blocks ts ts step_keeps p n (f.headed n p (s.spells n p e));
     textless = λ k. same_textless (slice_get c.tables.blocks k) (slice_get b.tables.blocks k) (s.fixes k) ∙ f.textless k;
-    brought = λ k d a. (let old = f.brought k d (subst (λ z. Among d z) (s.brings k) a) in let new = s.stays d.0 old.0 old.1 in (new.0, new.1, new.2.block ∙ old.2));
+    named = λ k i name d x y. (let old = f.named k i name d (subst (λ (z : Brings). slice_get z.names i ≡ Some name) (s.brings k) x) (subst (λ (z : Brings). slice_get z.numbers i ≡ Some d) (s.brings k) y) in let new = s.stays d.0 old.0 old.1 in (new.0, new.1, new.2.name ∙ old.2));
+    brought = λ k d a. (let old = f.brought k d (subst (λ z. Among d z) (sym (brings_numbers (slice_get c.tables.blocks k)) ∙ ap (λ (z : Brings). z.numbers) (s.brings k) ∙ brings_numbers (slice_get b.tables.blocks k)) a) in let new = s.stays d.0 old.0 old.1 in (new.0, new.1, new.2.block ∙ old.2));
   }
     where
       out : (t : ℕ) → around (slice_get c.tables.blocks t) ≡ around (slice_get b.tables.blocks t)
@@ -519,7 +559,7 @@ text_other (t ∷ ts) x (suc k) other = text_other ts x k (let e : length (t ∷
 some_eq : {A : Type 0} (a b : A) → Some a ≡ Some b → a ≡ b
 some_eq a b e = cc
 
--- what is no class of SIMSET has no base before the classes of prefixes are known
+-- what is no standard class has no base before the classes of prefixes are known
 abbrev pub Ordinary : Text → Type 0
 Ordinary (StandardText which) = ⊥
 Ordinary _ = Unit {0}
@@ -541,7 +581,7 @@ ordinary_base row (PrefixedText class es ds ss) k o = ap (λ z. base_by z row.en
 ordinary_base row ConnectionText k o = ap (λ z. base_by z row.encloser) k
 ordinary_base row (StandardText which) k o = absurd o
 
-plain_first : (k : BlockKind) (n : ℕ) → PlainKind k → set_first k n ≡ 0
+plain_first : (k : BlockKind) (n : ℕ) → PlainKind k → standard_first k n ≡ 0
 plain_first kind.Program n p = refl
 plain_first kind.SubBlock n p = refl
 plain_first kind.Procedure n p = absurd p
@@ -552,10 +592,10 @@ plain_first (kind.StandardClass which) n p = absurd p
 
 ordinary_first : (row : BlockOf) (x : Text) → KindOf row.kind x → Ordinary x → first_or_none (Some row) ≡ 0
 ordinary_first row (BlockText i ds ss) k o = plain_first row.kind row.first k
-ordinary_first row (ProcedureText result h a) k o = ap (λ z. set_first z row.first) k
-ordinary_first row (ClassText prefix h ds ss) k o = ap (λ z. set_first z row.first) k
-ordinary_first row (PrefixedText class es ds ss) k o = ap (λ z. set_first z row.first) k
-ordinary_first row ConnectionText k o = ap (λ z. set_first z row.first) k
+ordinary_first row (ProcedureText result h a) k o = ap (λ z. standard_first z row.first) k
+ordinary_first row (ClassText prefix h ds ss) k o = ap (λ z. standard_first z row.first) k
+ordinary_first row (PrefixedText class es ds ss) k o = ap (λ z. standard_first z row.first) k
+ordinary_first row ConnectionText k o = ap (λ z. standard_first z row.first) k
 ordinary_first row (StandardText which) k o = absurd o
 
 -- a new block inside the innermost open one, whose text comes next
@@ -569,9 +609,9 @@ module _ (b : BuildingOf) (new : BlockOf) (places : List (Option ℕ)) (ts : Lis
       let same : length b.tables.blocks ≡ length ts = f.size in
       (ap fixed (more_other b.tables.blocks new n (let P : nat_eq n (length b.tables.blocks) ≡ false = grind (arith, nat_tests) in P)), more_text ts (x ∷ []) n y is)
 
-  begun_fine : (owed : List Mark) (os : List Open) → new.encloser ≡ b.current → new.numbers ≡ [] → new.names ≡ [] → ((u : ℕ) → b.current ≡ Some u → new.level ≡ deeper new.kind (level_of_row (slice_get b.tables.blocks u))) → KindIs (Some new) (Some x) → extras_in (Some new) ≡ no_extras → new.base ≡ None → new.brought ≡ [] → Ordinary x
+  begun_fine : (owed : List Mark) (os : List Open) → new.encloser ≡ b.current → new.numbers ≡ [] → new.names ≡ [] → ((u : ℕ) → b.current ≡ Some u → new.level ≡ deeper new.kind (level_of_row (slice_get b.tables.blocks u))) → KindIs (Some new) (Some x) → extras_in (Some new) ≡ no_extras → new.base ≡ None → brings_of (Some new) ≡ brings_of None → new.prefix ≡ None → Ordinary x
       → Fine b ts os → Fine With (ts ++ x ∷ []) (item x owed ∷ os)
-  begun_fine owed os out none nameless level fits without bottom unbrought ordinary f = record {
+  begun_fine owed os out none nameless level fits without bottom unbrought unheaded ordinary f = record {
     size = length-append bs (new ∷ []) ∙ (let e : length bs ≡ length ts = f.size in ap (λ z. z + 1) e) ∙ sym (length-append ts (x ∷ []));
     stack = (length bs, refl, at, subst (λ z. Stack (bs ++ new ∷ []) (ts ++ x ∷ []) z os) (sym (here ∙ out)) (stack_kept bs (bs ++ new ∷ []) ts (ts ++ x ∷ []) (begun_keeps os f) os b.current f.stack));
     nested = λ t u is. nested t u (nat_eq t (length bs)) refl is;
@@ -583,9 +623,11 @@ module _ (b : BuildingOf) (new : BlockOf) (places : List (Option ℕ)) (ts : Lis
     own = λ k d a. own k d (nat_eq k (length bs)) refl a;
     rising = λ k. rising k (nat_eq k (length bs)) refl;
     based = λ k. kept_more base_in bs new bottom k ∙ f.based k ∙ sym (kept_more own_base bs new (ordinary_base new x fits ordinary) k);
-    sets = λ k which is. sets k which (last_cases ts x k (StandardText which) is);
+    standards = λ k which is. standards k which (last_cases ts x k (StandardText which) is);
+    headed = λ n p e. headed_kept bs (bs ++ new ∷ []) ts (ts ++ x ∷ []) (begun_keeps os f) p n (f.headed n p (sym (kept_more spelt_before bs new (ap spelt_as unheaded) n) ∙ e));
     textless = λ k. kept_more first_or_none bs new (ordinary_first new x fits ordinary) k ∙ f.textless k;
-    brought = λ k d a. f.brought k d (subst (λ z. Among d z) (kept_more brought_of bs new unbrought k) a);
+    brought = λ k d a. f.brought k d (subst (λ z. Among d z) (kept_more brought_of bs new (ap (λ (z : Brings). z.numbers) unbrought) k) a);
+    named = λ k. subst (Named b.tables.declarations) (sym (kept_more brings_of bs new unbrought k)) (f.named k);
     bare = record { blocks = λ k. kept_more extras_in bs new without k ∙ f.bare.blocks k; virtuals = f.bare.virtuals };
   }
     where
@@ -663,9 +705,9 @@ module _ (b : BuildingOf) (new : BlockOf) (places : List (Option ℕ)) (ts : Lis
           beyond (Some found) at is = let lt : row.block < length bs = slice_get_within bs row.block found at in let same : row.block ≡ length bs = grind (arith, nat_tests) in omega arith
       finds row d false e is = ap (λ z. declared_in z row.name) (more_other bs new row.block e) ∙ is
 
-      sets : (k : ℕ) (which : StandardClass) → (slice_get ts k ≡ Some (StandardText which)) ⊎ ((k ≡ length ts) × (x ≡ StandardText which)) → InGroup (bs ++ new ∷ []) (ts ++ x ∷ []) k which
-      sets k which (inl q) = in_group_kept bs (bs ++ new ∷ []) ts (ts ++ x ∷ []) (begun_keeps os f) k which (f.sets k which q)
-      sets k which (inr q) = absurd (subst Ordinary q.1 ordinary)
+      standards : (k : ℕ) (which : StandardClass) → (slice_get ts k ≡ Some (StandardText which)) ⊎ ((k ≡ length ts) × (x ≡ StandardText which)) → InGroup (bs ++ new ∷ []) (ts ++ x ∷ []) k which
+      standards k which (inl q) = in_group_kept bs (bs ++ new ∷ []) ts (ts ++ x ∷ []) (begun_keeps os f) k which (f.standards k which q)
+      standards k which (inr q) = absurd (subst Ordinary q.1 ordinary)
 
       own : (k : ℕ) (d : DeclNo) (c : Bool) → nat_eq k (length bs) ≡ c → Among d (numbers_in (slice_get (bs ++ new ∷ []) k)) → (row : Declaration) × (slice_get b.tables.declarations d.0 ≡ Some row) × (row.block ≡ k) × (row.listed ≡ true)
       own k d true e a = let empty : Among d [] = subst (λ z. Among d z) none (subst (λ z. Among d (numbers_in z)) (is_new k e) a) in absurd (elim empty [ ])
@@ -697,10 +739,10 @@ closed_row b end n None ts x os cur at is under a = absurd (no_kind (subst (λ z
 closed_row b end n (Some row) ts x os cur at is under a =
     let new : BlockOf = record row { end = end } in
     let c : BuildingOf = record b { tables = record b.tables { blocks = slice_set b.tables.blocks n new } } in
-    let s : Step b c Nothing = row_step b b Nothing n row new cur at refl refl refl refl refl (same_step b b Nothing refl refl) in
+    let s : Step b c Nothing = row_step b b Nothing n row new cur at refl refl refl refl refl refl (same_step b b Nothing refl refl) in
     let f : Fine c ts (item x [] ∷ os) = step_fine b c Nothing s ts (item x [] ∷ os) a.fine in
     let g : Rows c ts = step_rows b c Nothing s ts (λ d r q. absurd q) a.rows in record {
-      fine = record { size = f.size; stack = subst (λ z. Stack c.tables.blocks ts z os) (ap around at) (stack_kept b.tables.blocks c.tables.blocks ts ts (step_keeps b c Nothing s ts) os (around (slice_get b.tables.blocks n)) under); nested = f.nested; levels = f.levels; kinds = f.kinds; listed = f.listed; evens = f.evens; finds = f.finds; own = f.own; rising = f.rising; based = f.based; bare = record { blocks = f.bare.blocks; virtuals = f.bare.virtuals }; sets = f.sets; textless = f.textless; brought = f.brought };
+      fine = record { size = f.size; stack = subst (λ z. Stack c.tables.blocks ts z os) (ap around at) (stack_kept b.tables.blocks c.tables.blocks ts ts (step_keeps b c Nothing s ts) os (around (slice_get b.tables.blocks n)) under); nested = f.nested; levels = f.levels; kinds = f.kinds; listed = f.listed; evens = f.evens; finds = f.finds; own = f.own; rising = f.rising; based = f.based; bare = record { blocks = f.bare.blocks; virtuals = f.bare.virtuals }; standards = f.standards; headed = f.headed; textless = f.textless; brought = f.brought; named = f.named };
       rows = g;
     }
 
@@ -712,7 +754,7 @@ closed_agrees b end ts x os a =
 -- ---- a block begins
 
 if_agrees : (c : Bool) (b : BuildingOf) (token : ℕ) (rule : Rule) (ts : List Text) (os : List Open) → Agree b ts os → Agree (broken_if c b token rule) ts os
-if_agrees true b token rule ts os a = record { fine = record { size = a.fine.size; stack = a.fine.stack; nested = a.fine.nested; levels = a.fine.levels; kinds = a.fine.kinds; listed = a.fine.listed; evens = a.fine.evens; finds = a.fine.finds; own = a.fine.own; rising = a.fine.rising; based = a.fine.based; bare = a.fine.bare; sets = a.fine.sets; textless = a.fine.textless; brought = a.fine.brought }; rows = a.rows }
+if_agrees true b token rule ts os a = record { fine = record { size = a.fine.size; stack = a.fine.stack; nested = a.fine.nested; levels = a.fine.levels; kinds = a.fine.kinds; listed = a.fine.listed; evens = a.fine.evens; finds = a.fine.finds; own = a.fine.own; rising = a.fine.rising; based = a.fine.based; bare = a.fine.bare; standards = a.fine.standards; headed = a.fine.headed; textless = a.fine.textless; brought = a.fine.brought; named = a.fine.named }; rows = a.rows }
 if_agrees false b token rule ts os a = a
 
 abbrev pub fresh : BuildingOf → BlockKind → ℕ → BlockOf
@@ -740,6 +782,6 @@ pub opened_agrees : (b : BuildingOf) (k : BlockKind) (text first : ℕ) (ts : Li
 opened_agrees b k text first ts x owed os fits ordinary f g =
     if_agrees (nat_lt most_levels (level_in k (block_around b.tables b.current))) (With b (fresh b k first) (placed b.tables b.current first).places ts x) text r.TooManyLevels (ts ++ x ∷ []) (item x owed ∷ os) (record {
       fine = begun_fine b (fresh b k first) (placed b.tables b.current first).places ts x owed os refl refl refl
-          (λ u cur. subst (λ z. level_in k (block_around b.tables z) ≡ deeper k (level_of_row (slice_get b.tables.blocks u))) (sym cur) (level_new k b.tables.blocks u (current_within b ts os f u cur))) fits refl refl refl ordinary f;
+          (λ u cur. subst (λ z. level_in k (block_around b.tables z) ≡ deeper k (level_of_row (slice_get b.tables.blocks u))) (sym cur) (level_new k b.tables.blocks u (current_within b ts os f u cur))) fits refl refl refl refl ordinary f;
       rows = g;
     })

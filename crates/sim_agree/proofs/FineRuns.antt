@@ -10,6 +10,7 @@ use Rattle.sim_scope.specs.declared.types.BlockKind.{BlockKind}
 use Rattle.sim_scope.specs.declared.types.BlockKind.TheVariants as kind
 use Rattle.sim_scope.specs.declared.types.Entry.{Entry}
 use Rattle.sim_scope.specs.declared.types.Entry.TheVariants as entry
+use Rattle.sim_scope.specs.declared.types.StandardPrefix.{StandardPrefix}
 use Rattle.sim_scope.specs.Building.{BuildingOf, Declares, Headed, Mark, Opens, changed, changed_row as changed_row_of, closed, declared, found_in, holding_class, marked, opened, parameter, placed, qualified, specified as specified_of, unspecified_at}
 use Rattle.sim_scope.specs.Declare.{headed_marks, result_named}
 use Rattle.sim_scope.specs.Runs.{each, run}
@@ -20,14 +21,13 @@ use Rattle.sim_scope.proofs.Kept.{more_here}
 use Rattle.sim_meaning.specs.Entries.{numbers_in}
 use Rattle.sim_meaning.specs.Texts.{BlockText, ClassText, ConnectionText, ProcedureText, Text, PrefixedText, StandardText}
 use Rattle.sim_sound.specs.Held.{Among}
-use Rattle.sim_agree.specs.Plain.{PlainName}
-use Rattle.sim_agree.proofs.Groups.{AreReferences, Declaring, Grouped, Has, OfReferences, Open, OwnEntry, Quals, Taking, block, breaks_rule, closes, connects, declared_in_text, declares, declares_class, has_cases, headed, here, inner_mark, item, moded, nothing, own_marks, parameter as parameter_mark, procedure, qualifies, specified, there, unqualified, prefixes, guarded, Prefixing, prefixed_block, set_prefix, sets_block, sets_class}
+use Rattle.sim_agree.proofs.Groups.{AreReferences, Declaring, Grouped, Has, OfReferences, Open, OwnEntry, Quals, Taking, block, breaks_rule, closes, connects, declared_in_text, declares, declares_class, has_cases, headed, here, inner_mark, item, moded, nothing, own_marks, parameter as parameter_mark, procedure, qualifies, specified, there, unqualified, prefixes, guarded, Prefixing, prefixed_block, standard_block, standard_class, whole_prefix}
 use Rattle.sim_agree.proofs.Steps.{AllEven, Changed, Declared, IsRow, Nothing, Parametric, Step, Unmatched, class_step, class_unmatched, declared_latest, declared_step, headed_step, inner_step, met, moded_step, own_unmatched, parameter_step, procedure_unmatched, quals_latest, quals_step, rule_step, specified_met, prefix_step, guards_step}
 use Rattle.sim_agree.proofs.Fine.{Agree, Alike, Fine, Keeps, KindOf, OfClass, OfProcedure, Own, RowOf, alike_results, begun_keeps, begun_rows, changed_row, class_row, closed_agrees, formal_row, fresh, more_text, opened_agrees, own_row, owner_in, procedure_row, row_kept, row_text, step_fine, step_rows, KindIs, Ordinary}
 use Rattle.sim_agree.proofs.Unprefixed.{is_prefixable}
-use Rattle.sim_agree.proofs.BroughtFine.{sets_agree}
-use Rattle.sim_agree.proofs.BroughtRuns.{FreshTop, brought_is, opened_top, prefixed_fresh, prefixed_is, prefixed_top}
-use Rattle.sim_agree.proofs.PlainNames.{set_texts}
+use Rattle.sim_agree.proofs.BroughtFine.{front_prefixing, standard_agree}
+use Rattle.sim_agree.proofs.BroughtRuns.{FreshTop, brought_is, opened_top}
+use Rattle.sim_agree.proofs.StandardPrefixes.{InFront, Spells, brought_texts}
 
 -- ---- a procedure or a class is declared, and its block begins
 
@@ -186,6 +186,8 @@ class_agrees b text first x owed inner prefix h ds ss ts os d g =
       number = length b.tables.blocks;
       entry = p.1.3;
       listed = inl p.1.4;
+      hidden = λ q. absurd q;
+      named = λ w q. absurd (cc);
       text = next_text b c kind.Class text first h.name e n x owed inner z ts os s g refl refl;
       around = next_around b c kind.Class text first h.name e n x owed inner z ts os s g refl refl row p.1;
       owner = ap owner_in (next_block b c kind.Class text first h.name e n x owed inner z ts os s g refl refl) ∙ latest i row is p.0;
@@ -198,7 +200,7 @@ pub step_agrees : (b c : BuildingOf) (New : ℕ → Declaration → Type 0) (x :
     → ((d : ℕ) (row : Declaration) → New d row → RowOf c.tables.blocks ts (slice_get ts row.block) d row)
     → Agree b ts (item x owed ∷ os) → Agree c ts (item x later ∷ os)
 step_agrees b c New x owed later ts os s new g = record {
-  fine = step_fine b c New s ts (item x later ∷ os) (record { size = g.fine.size; stack = g.fine.stack; nested = g.fine.nested; levels = g.fine.levels; kinds = g.fine.kinds; listed = g.fine.listed; evens = g.fine.evens; finds = g.fine.finds; own = g.fine.own; rising = g.fine.rising; based = g.fine.based; bare = g.fine.bare; sets = g.fine.sets; textless = g.fine.textless; brought = g.fine.brought });
+  fine = step_fine b c New s ts (item x later ∷ os) (record { size = g.fine.size; stack = g.fine.stack; nested = g.fine.nested; levels = g.fine.levels; kinds = g.fine.kinds; listed = g.fine.listed; evens = g.fine.evens; finds = g.fine.finds; own = g.fine.own; rising = g.fine.rising; based = g.fine.based; bare = g.fine.bare; standards = g.fine.standards; headed = g.fine.headed; textless = g.fine.textless; brought = g.fine.brought; named = g.fine.named });
   rows = step_rows b c New s ts new g.rows;
 }
 
@@ -251,17 +253,17 @@ prefix_kind b x owed ts os p f row at = go x p (subst (λ z. KindIs (Some row) z
     go ConnectionText q k = absurd q
     go (StandardText which) q k = absurd q
 
--- `simset` in front of the innermost block, which has just begun
-pub sets_run_agree : (c : BuildingOf) → FreshTop c → (token : ℕ) (y : Identifier) (x : Text) (owed : List Mark) (ts : List Text) (os : List Open) → Prefixing x → PlainName y → Agree c ts (item x owed ∷ os) → Agree (run marked c (set_prefix token y)) (ts ++ set_texts) (item x owed ∷ os)
-sets_run_agree c t token y x owed ts os q p a =
-    subst (λ d. Agree d (ts ++ set_texts) (item x owed ∷ os)) (sym (brought_is c t token y))
-    (sets_agree (prefixed_top c t y) u.number token u.row u.last u.at ts x owed os b.fine u.current q u.none b.rows)
+-- a standard prefix in front of the innermost block, which has just begun
+pub standard_run_agree : (p : StandardPrefix) (c : BuildingOf) → FreshTop c → (token : ℕ) (y : Identifier) (x : Text) (owed : List Mark) (ts : List Text) (os : List Open) → Spells p y → InFront p x → Agree c ts (item x owed ∷ os) → Agree (run marked c (whole_prefix p token y)) (ts ++ brought_texts p) (item x owed ∷ os)
+standard_run_agree p c t token y x owed ts os spelt in_front a =
+    subst (λ d. Agree d (ts ++ brought_texts p) (item x owed ∷ os)) (sym (brought_is p c t token y))
+    (standard_agree p y spelt c t.number token t.row t.last t.at ts x owed os a.fine t.current in_front (prefix_kind c x owed ts os (front_prefixing p x in_front) a.fine t.row (ap (slice_get c.tables.blocks) here ∙ t.at)) a.rows)
   where
-    u : FreshTop (prefixed_top c t y)
-    u = prefixed_fresh c t y
+    same_top : (m n : ℕ) → Some m ≡ Some n → m ≡ n
+    same_top m n e = cc
 
-    b : Agree (prefixed_top c t y) ts (item x owed ∷ os)
-    b = subst (λ d. Agree d ts (item x owed ∷ os)) (prefixed_is c t y) (quiet_agrees c _ ts (item x owed ∷ os) (prefix_step c y a.fine.stack.0 a.fine.stack.1 p (prefix_kind c x owed ts os q a.fine)) a)
+    here : a.fine.stack.0 ≡ t.number
+    here = same_top a.fine.stack.0 t.number (sym a.fine.stack.1 ∙ t.current)
 
 -- ---- the whole
 
@@ -300,13 +302,13 @@ run_agrees {os = os} b ts (block {ms = ms} {xs = xs} k text first i ds ss p g) w
 run_agrees {os = os} b ts (prefixed_block {ms = ms} {xs = xs} text first class es ds ss g) w a =
     let x : Text = PrefixedText class es ds ss in
     subst (λ z. Agree (run marked (opened b kind.Prefixed text first) ms) z []) (append_assoc ts (x ∷ []) xs) (run_agrees (opened b kind.Prefixed text first) (ts ++ x ∷ []) g ((λ y e q. q), w) (block_agrees b kind.Prefixed text first x (own_marks ds) ts os refl tt a))
-run_agrees {os = os} b ts (sets_block {ms = ms} {xs = xs} text first class es ds ss p e g) w a =
+run_agrees {os = os} b ts (standard_block {ms = ms} {xs = xs} p text first class es ds ss e g) w a =
     let x : Text = PrefixedText class es ds ss in
     let c : BuildingOf = opened b kind.Prefixed text first in
-    let d : BuildingOf = run marked c (set_prefix first class) in
-    subst (λ k. Agree k (ts ++ (x ∷ (set_texts ++ xs))) []) (sym (run_both c (set_prefix first class) ms))
-    (subst (λ z. Agree (run marked d ms) z []) (append_assoc (ts ++ x ∷ []) set_texts xs ∙ append_assoc ts (x ∷ []) (set_texts ++ xs))
-    (run_agrees d ((ts ++ x ∷ []) ++ set_texts) g ((λ y e q. q), w) (sets_run_agree c (opened_top b kind.Prefixed text first) first class x (own_marks ds) (ts ++ x ∷ []) os tt p (block_agrees b kind.Prefixed text first x (own_marks ds) ts os refl tt a))))
+    let d : BuildingOf = run marked c (whole_prefix p first class) in
+    subst (λ k. Agree k (ts ++ (x ∷ (brought_texts p ++ xs))) []) (sym (run_both c (whole_prefix p first class) ms))
+    (subst (λ z. Agree (run marked d ms) z []) (append_assoc (ts ++ x ∷ []) (brought_texts p) xs ∙ append_assoc ts (x ∷ []) (brought_texts p ++ xs))
+    (run_agrees d ((ts ++ x ∷ []) ++ brought_texts p) g ((λ y e q. q), w) (standard_run_agree p c (opened_top b kind.Prefixed text first) first class x (own_marks ds) (ts ++ x ∷ []) os e e (block_agrees b kind.Prefixed text first x (own_marks ds) ts os refl tt a))))
 run_agrees {os = os} b ts (connects {ms = ms} {xs = xs} text first g) w a =
     subst (λ z. Agree (run marked (opened b kind.Connection text first) ms) z []) (append_assoc ts (ConnectionText ∷ []) xs) (run_agrees (opened b kind.Connection text first) (ts ++ ConnectionText ∷ []) g (owes_none ConnectionText, w) (block_agrees b kind.Connection text first ConnectionText [] ts os refl tt a))
 run_agrees b ts (procedure {os = os} {ms = ms} {xs = xs} text first x owed quals result h body d n q g) w a =
@@ -321,15 +323,15 @@ run_agrees b ts (declares_class {os = os} {ms = ms} {xs = xs} text first x owed 
     let c : BuildingOf = changed (declared b h.name (entry.Class (length b.tables.blocks))) holding_class b.current in
     subst (λ z. Agree (run marked (opened c kind.Class text first) ms) z []) (append_assoc ts (z ∷ []) xs)
     (run_agrees (opened c kind.Class text first) (ts ++ z ∷ []) g (owes_heading z h.formals (own_marks ds) (λ y e q. q), w) (class_agrees b text first x owed (each headed_marks h.formals ++ own_marks ds) prefix h ds ss ts os d a))
-run_agrees b ts (sets_class {os = os} {ms = ms} {xs = xs} text first x owed y h ds ss p e d n g) w a =
+run_agrees b ts (standard_class {os = os} {ms = ms} {xs = xs} p text first x owed y h ds ss e d n g) w a =
     let z : Text = ClassText (Some y) h ds ss in
     let c0 : BuildingOf = changed (declared b h.name (entry.Class (length b.tables.blocks))) holding_class b.current in
     let c : BuildingOf = opened c0 kind.Class text first in
     let inner : List Mark = each headed_marks h.formals ++ own_marks ds in
-    let k : BuildingOf = run marked c (set_prefix first y) in
-    subst (λ q. Agree q (ts ++ (z ∷ (set_texts ++ xs))) []) (sym (run_both c (set_prefix first y) ms))
-    (subst (λ q. Agree (run marked k ms) q []) (append_assoc (ts ++ z ∷ []) set_texts xs ∙ append_assoc ts (z ∷ []) (set_texts ++ xs))
-    (run_agrees k ((ts ++ z ∷ []) ++ set_texts) g (owes_heading z h.formals (own_marks ds) (λ y e q. q), w) (sets_run_agree c (opened_top c0 kind.Class text first) first y z inner (ts ++ z ∷ []) (item x owed ∷ os) tt p (class_agrees b text first x owed inner (Some y) h ds ss ts os d a))))
+    let k : BuildingOf = run marked c (whole_prefix p first y) in
+    subst (λ q. Agree q (ts ++ (z ∷ (brought_texts p ++ xs))) []) (sym (run_both c (whole_prefix p first y) ms))
+    (subst (λ q. Agree (run marked k ms) q []) (append_assoc (ts ++ z ∷ []) (brought_texts p) xs ∙ append_assoc ts (z ∷ []) (brought_texts p ++ xs))
+    (run_agrees k ((ts ++ z ∷ []) ++ brought_texts p) g (owes_heading z h.formals (own_marks ds) (λ y e q. q), w) (standard_run_agree p c (opened_top c0 kind.Class text first) first y z inner (ts ++ z ∷ []) (item x owed ∷ os) e e (class_agrees b text first x owed inner (Some y) h ds ss ts os d a))))
 run_agrees b ts (declares {os = os} {ms = ms} {xs = xs} x owed quals y e d n own q written g) w a =
     subst (λ c. Agree c (ts ++ xs) []) (sym (run_both (declared b y e) quals ms))
     (run_agrees (run marked (declared b y e) quals) ts g ((λ z f p. w.0 z f (there p)), w.1) (declares_agrees b x owed quals y e ts os d own q (w.0 y e here) a))

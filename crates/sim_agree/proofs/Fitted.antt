@@ -8,9 +8,11 @@ use Rattle.sim_tree.specs.declared.stmt.TypeName.{TypeName}
 use Rattle.sim_tree.specs.declared.stmt.TypeName.TheVariants as type_name
 use Rattle.sim_tree.specs.declared.stmt.Variable.{Variable}
 use Rattle.sim_tree.specs.Named.{all_named, named}
-use Rattle.sim_tree.specs.Order.{Ascends, Behind, InOrder, Spot, Token, in_arms, in_block, in_bounds, in_declaration, in_declarations, in_each, in_element, in_expression, in_name, in_result, in_segment, in_side, in_statement, in_statements, in_type, in_variable, tokens, in_prefix}
-use Rattle.sim_tree.specs.Syntax.{Also, Arms, Arrayed, Arrays, Begin, Block, BoundPair, Declaration, Declarations, DeclareClass, DeclareProcedure, Element, Expression, Expressions, Heading, Interface, NoArm, NoDeclaration, NoStatement, RightSide, Statement, Statements, Variables, When, With, Prefix}
+use Rattle.sim_tree.specs.Order.{Ascends, Behind, InOrder, Spot, Token, in_arms, in_block, in_bounds, in_declaration, in_declarations, in_each, in_element, in_expression, in_name, in_result, in_schedule, in_segment, in_side, in_statement, in_statements, in_type, in_variable, tokens, in_prefix}
+use Rattle.sim_tree.specs.Syntax.{Also, Arms, Arrayed, Arrays, Begin, Block, BoundPair, Declaration, Declarations, DeclareClass, DeclareProcedure, Element, Expression, Expressions, Heading, Interface, NoArm, NoDeclaration, NoStatement, RightSide, Schedule, Statement, Statements, Variables, When, With, Prefix}
 use Rattle.sim_tree.specs.Syntax as syntax
+use Rattle.sim_scope.specs.declared.types.StandardPrefix.{StandardPrefix}
+use Rattle.sim_scope.specs.declared.types.StandardPrefix.TheVariants as prefixes
 use Rattle.sim_scope.specs.declared.outcome.Extent.TheVariants as extent
 use Rattle.sim_scope.specs.declared.scopes.Denotation.{Denotation}
 use Rattle.sim_scope.specs.declared.scopes.Denotation.TheVariants as denotation
@@ -30,8 +32,8 @@ use Rattle.inspect_types.specs.Connecting.{Connecting, Connects, Looks, Names, c
 use Rattle.sim_meaning.specs.Texts.{BlockText, ClassText, ProcedureText, Text, arms_texts, block_texts, declaration_texts, declarations_texts, program_texts, statement_texts, statements_texts, text, prefix_texts, PrefixedText, prefixed_texts}
 use Rattle.sim_agree.specs.Places.{class_of_name, class_of_type}
 use Rattle.sim_agree.proofs.Groups.{NoBreaks}
-use Rattle.sim_agree.specs.Plain.{Each, Plain, PlainArms, PlainBlock, PlainDeclaration, PlainDeclarations, PlainStatement, PlainStatements, PlainPrefix, PlainName, PlainStart}
-use Rattle.sim_agree.proofs.PlainNames.{behind_prefix}
+use Rattle.sim_agree.specs.Plain.{Each, Plain, PlainArms, PlainBlock, PlainDeclaration, PlainDeclarations, PlainStatement, PlainStatements, PlainStart}
+use Rattle.sim_agree.proofs.StandardPrefixes.{behind_prefix, brought_texts}
 
 -- ---- what is known
 
@@ -92,6 +94,13 @@ DotsElement (syntax.Once a) = DotsExpression a
 DotsElement (syntax.Step a i b c) = DotsExpression a × DotsExpression b × DotsExpression c
 DotsElement (syntax.While a i b) = DotsExpression a × DotsExpression b
 
+abbrev pub DotsSchedule : Schedule → Type 0
+DotsSchedule syntax.Now = Unit {0}
+DotsSchedule (syntax.At i a prior) = DotsExpression a
+DotsSchedule (syntax.Delay i a prior) = DotsExpression a
+DotsSchedule (syntax.Before i a) = DotsExpression a
+DotsSchedule (syntax.After i a) = DotsExpression a
+
 abbrev pub DotsBounds : BoundPair → Type 0
 DotsBounds b = DotsExpression b.lower × DotsExpression b.upper
 
@@ -125,7 +134,7 @@ abbrev mutual
   FittedStatement s C w (syntax.Inspect i e opening a end b) =
       DotsExpression e × C opening (class_of_type s.tables (judge_side s.tables extent.Statement e).value.ty) × FittedStatement s C false a × FittedStatements s C w b
   FittedStatement s C w (syntax.InspectWhen i e arms b) = DotsExpression e × FittedArms s C arms × FittedStatements s C w b
-  FittedStatement s C w _ = Unit {0}
+  FittedStatement s C w (syntax.Activate i word e schedule) = DotsExpression e × DotsSchedule schedule
 
   pub FittedArms : Source → Meets → Arms → Type 0
   FittedArms s C NoArm = Unit {0}
@@ -243,6 +252,13 @@ each_dots f P one (x ∷ xs) l from h = let p = one x (in_each f xs l) from h in
 side_dots : (x : RightSide) (l : List Spot) (from : ℕ) → Ascends from (in_side x l) → DotsSide x × Rest l
 side_dots x l from h = one_dots x.value l from h
 
+schedule_dots : (x : Schedule) (l : List Spot) (from : ℕ) → Ascends from (in_schedule x l) → DotsSchedule x × Rest l
+schedule_dots syntax.Now l from h = (tt, (from, h))
+schedule_dots (syntax.At i a prior) l from h = one_dots a l from h
+schedule_dots (syntax.Delay i a prior) l from h = one_dots a l from h
+schedule_dots (syntax.Before i a) l from h = one_dots a l from h
+schedule_dots (syntax.After i a) l from h = one_dots a l from h
+
 element_dots : (x : Element) (l : List Spot) (from : ℕ) → Ascends from (in_element x l) → DotsElement x × Rest l
 element_dots (syntax.Once a) l from h = one_dots a l from h
 element_dots (syntax.Step a i b c) l from h =
@@ -303,8 +319,12 @@ Allows ClassStatement = Unit {0}
 Allows _ = ⊥
 
 -- behind the texts of a prefix
-fitted_prefix : (s : Source) (C : Meets) (prefix : Option Identifier) → PlainPrefix prefix → (xs : List Text) → AllFitted s C xs → AllFitted s C (prefix_texts prefix ++ xs)
-fitted_prefix s C prefix w xs a = behind_prefix (AllFitted s C) prefix w xs a (tt, (tt, (tt, a)))
+fitted_prefix : (s : Source) (C : Meets) (prefix : Option Identifier) (xs : List Text) → AllFitted s C xs → AllFitted s C (prefix_texts prefix ++ xs)
+fitted_prefix s C prefix xs a = behind_prefix (AllFitted s C) prefix xs a go
+  where
+    go : (p : StandardPrefix) → AllFitted s C (brought_texts p ++ xs)
+    go prefixes.Simset = (tt, (tt, (tt, a)))
+    go prefixes.Simulation = (tt, (tt, (tt, (tt, a))))
 
 module _ (s : Source) (C : Meets) where
   mutual
@@ -351,8 +371,10 @@ module _ (s : Source) (C : Meets) where
         let x = arms_fitted arms p.1 n.0 j.0 (in_statements other l) d.1.0 d.1.1 in
         let y = statements_fitted Inside w (λ z. absurd z) other tt p.2 n.1 j.1 l x.2.0 x.2.1 in
         ((d.0, x.0, y.0), both_fitted s C (arms_texts arms) (statements_texts other) x.1 y.1, y.2)
-    statement_fitted q w f (syntax.Prefixed class es x) c p b k l from h = prefixed_fitted class es x p.0 p.2 b k l from h
-    statement_fitted q w f (syntax.Activate i word e schedule) c p b k l from h = absurd p
+    statement_fitted q w f (syntax.Prefixed class es x) c p b k l from h = prefixed_fitted class es x p.1 b k l from h
+    statement_fitted q w f (syntax.Activate i word e schedule) c p b k l from h =
+        let d = one_dots e (in_schedule schedule l) (i + 1) h.1 in
+        let g = schedule_dots schedule l d.1.0 d.1.1 in ((d.0, g.0), tt, g.1)
 
     arms_fitted : (arms : Arms) → PlainArms arms → NoBreaks (arms_events declaring arms) → Connected s C (arms_events connections arms) → (l : List Spot) (from : ℕ) → Ascends from (in_arms arms l) → FittedArms s C arms × AllFitted s C (arms_texts arms) × Rest l
     arms_fitted NoArm p b k l from h = (tt, tt, (from, h))
@@ -362,8 +384,8 @@ module _ (s : Source) (C : Meets) where
         let o : Option Denotation = binding s.tables class.token.0 class.name in
         let j = parts_connect s C (statement_events connections Inside a ++ []) (arms_events connections more) (connected_name s.tables o, k.1.1) in
         let g = parts_connect s C (statement_events connections Inside a) [] j.0 in
-        let x = statement_fitted Inside false (λ z. z) a tt p.1 m.0 g.0 (Behind end ∷ in_arms more l) (opening + 1) h.1.1 in
-        let y = arms_fitted more p.2 n.1 j.1 l end x.2.1.1 in
+        let x = statement_fitted Inside false (λ z. z) a tt p.0 m.0 g.0 (Behind end ∷ in_arms more l) (opening + 1) h.1.1 in
+        let y = arms_fitted more p.1 n.1 j.1 l end x.2.1.1 in
         ((subst (C opening) (same_name s o) k.1.0, x.0, y.0), (tt, both_fitted s C (statement_texts a) (arms_texts more) x.1 y.1), y.2)
 
     statements_fitted : (q : Position) (w : Bool) → (Allows q → Given w) → (ss : Statements) → NoBody q → PlainStatements ss → NoBreaks (statements_events declaring q ss) → Connected s C (statements_events connections q ss) → (l : List Spot) (from : ℕ) → Ascends from (in_statements ss l)
@@ -376,9 +398,9 @@ module _ (s : Source) (C : Meets) where
         let y = statements_fitted q w f more c p.1 n.1 j.1 l x.2.0 x.2.1 in
         ((x.0, y.0), both_fitted s C (statement_texts a) (statements_texts more) x.1 y.1, y.2)
 
-    prefixed_fitted : (class : Identifier) (es : Expressions) (x : Block) → PlainName class → PlainBlock x → NoBreaks (prefixed_marks class (begin_of x) ++ whole_events declaring x) → Connected s C (whole_events connections x) → (l : List Spot) (from : ℕ)
+    prefixed_fitted : (class : Identifier) (es : Expressions) (x : Block) → PlainBlock x → NoBreaks (prefixed_marks class (begin_of x) ++ whole_events declaring x) → Connected s C (whole_events connections x) → (l : List Spot) (from : ℕ)
         → Ascends from (in_expression (syntax.Named class es) (in_block x l)) → DotsExpressions es × AllFitted s C (prefixed_texts class es x) × Rest l
-    prefixed_fitted class es (Begin i ds ss end) w p b k l from h =
+    prefixed_fitted class es (Begin i ds ss end) p b k l from h =
         let d = one_dots (syntax.Named class es) (in_block (Begin i ds ss end) l) from h in
         let o = both_unbroken (prefixed_marks class i) (declarations_events declaring ds ++ (statements_events declaring Inside ss ++ Closes end ∷ [])) b in
         let n = both_unbroken (declarations_events declaring ds) (statements_events declaring Inside ss ++ Closes end ∷ []) o.1 in
@@ -387,7 +409,7 @@ module _ (s : Source) (C : Meets) where
         let g = parts_connect s C (statements_events connections Inside ss) [] j.1 in
         let x = declarations_fitted ds p.0 n.0 j.0 (in_statements ss (Behind end ∷ l)) (i + 1) d.1.1.1 in
         let y = statements_fitted Inside false (λ z. z) ss tt p.1 m.0 g.0 (Behind end ∷ l) x.2.0 x.2.1 in
-        (d.0, ((x.0, y.0), fitted_prefix s C (Some class) w (declarations_texts ds ++ statements_texts ss) (both_fitted s C (declarations_texts ds) (statements_texts ss) x.1 y.1)), (end, y.2.1.1))
+        (d.0, ((x.0, y.0), fitted_prefix s C (Some class) (declarations_texts ds ++ statements_texts ss) (both_fitted s C (declarations_texts ds) (statements_texts ss) x.1 y.1)), (end, y.2.1.1))
 
     block_fitted : (w : Bool) (x : Block) → PlainBlock x → NoBreaks (block_events declaring x) → Connected s C (block_events connections x) → (l : List Spot) (from : ℕ) → Ascends from (in_block x l) → FittedBlock s C w x × AllFitted s C (block_texts x) × Rest l
     block_fitted w (Begin i NoDeclaration ss end) p b k l from h =
@@ -428,7 +450,7 @@ module _ (s : Source) (C : Meets) where
         let j = parts_connect s C (statement_events connections Inside a) [] k in
         let r = result_passes result (in_name g.name (in_each in_name g.formals (in_statement a (Behind end ∷ l)))) from h in
         let f = each_dots in_name Any name_passes g.formals (in_statement a (Behind end ∷ l)) (g.name.token.0 + 1) r.1.1 in
-        let x = statement_fitted Inside false (λ z. z) a tt p.2 m.0 j.0 (Behind end ∷ l) f.1.0 f.1.1 in
+        let x = statement_fitted Inside false (λ z. z) a tt p.1 m.0 j.0 (Behind end ∷ l) f.1.0 f.1.1 in
         (tt, (x.0, x.1), (end, x.2.1.1))
     declaration_fitted (DeclareClass prefix i g interface (syntax.Compound x) end) p b k l from h =
         let n = both_unbroken (declaring.class prefix i g interface) (class_events declaring x ++ Closes end ∷ []) b in
@@ -436,7 +458,7 @@ module _ (s : Source) (C : Meets) where
         let j = parts_connect s C (class_events connections x) [] k in
         let v = prefix_passes prefix (in_name g.name (in_each in_name g.formals (in_block x (Behind end ∷ l)))) from h in
         let f = each_dots in_name Any name_passes g.formals (in_block x (Behind end ∷ l)) (g.name.token.0 + 1) v.1.1 in
-        let r = class_fitted prefix p.0 i g interface x end p.3 m.0 j.0 l f.1.0 f.1.1 in
+        let r = class_fitted prefix i g interface x end p.2 m.0 j.0 l f.1.0 f.1.1 in
         r
     declaration_fitted (DeclareClass prefix i g interface a end) p b k l from h =
         let n = both_unbroken (declaring.class prefix i g interface) (statement_events declaring ClassBody a ++ Closes end ∷ []) b in
@@ -444,18 +466,18 @@ module _ (s : Source) (C : Meets) where
         let j = parts_connect s C (statement_events connections ClassBody a) [] k in
         let v = prefix_passes prefix (in_name g.name (in_each in_name g.formals (in_statement a (Behind end ∷ l)))) from h in
         let f = each_dots in_name Any name_passes g.formals (in_statement a (Behind end ∷ l)) (g.name.token.0 + 1) v.1.1 in
-        let x = statement_fitted ClassBody true (λ z. tt) a tt p.3 m.0 j.0 (Behind end ∷ l) f.1.0 f.1.1 in
-        (tt, ((tt, (x.0, tt)), fitted_prefix s C prefix p.0 (statement_texts a) x.1), (end, x.2.1.1))
+        let x = statement_fitted ClassBody true (λ z. tt) a tt p.2 m.0 j.0 (Behind end ∷ l) f.1.0 f.1.1 in
+        (tt, ((tt, (x.0, tt)), fitted_prefix s C prefix (statement_texts a) x.1), (end, x.2.1.1))
 
     -- a class whose body is a block
-    class_fitted : (prefix : Option Identifier) → PlainPrefix prefix → (i : ℕ) (g : Heading) (interface : Interface) (x : Block) (end : ℕ) → PlainBlock x → NoBreaks (class_events declaring x) → Connected s C (class_events connections x) → (l : List Spot) (from : ℕ) → Ascends from (in_block x (Behind end ∷ l))
+    class_fitted : (prefix : Option Identifier) (i : ℕ) (g : Heading) (interface : Interface) (x : Block) (end : ℕ) → PlainBlock x → NoBreaks (class_events declaring x) → Connected s C (class_events connections x) → (l : List Spot) (from : ℕ) → Ascends from (in_block x (Behind end ∷ l))
         → Unit {0} × AllFitted s C (declaration_texts (DeclareClass prefix i g interface (syntax.Compound x) end)) × Rest l
-    class_fitted prefix w i g interface (Begin j ds ss e) end p b k l from h =
+    class_fitted prefix i g interface (Begin j ds ss e) end p b k l from h =
         let n = both_unbroken (declarations_events declaring ds) (statements_events declaring ClassStatement ss) b in
         let m = parts_connect s C (declarations_events connections ds) (statements_events connections ClassStatement ss) k in
         let x = declarations_fitted ds p.0 n.0 m.0 (in_statements ss (Behind e ∷ Behind end ∷ l)) (j + 1) h.1 in
         let y = statements_fitted ClassStatement true (λ z. z) ss tt p.1 n.1 m.1 (Behind e ∷ Behind end ∷ l) x.2.0 x.2.1 in
-        (tt, ((x.0, y.0), fitted_prefix s C prefix w (declarations_texts ds ++ statements_texts ss) (both_fitted s C (declarations_texts ds) (statements_texts ss) x.1 y.1)), (end, y.2.1.1.1))
+        (tt, ((x.0, y.0), fitted_prefix s C prefix (declarations_texts ds ++ statements_texts ss) (both_fitted s C (declarations_texts ds) (statements_texts ss) x.1 y.1)), (end, y.2.1.1.1))
 
   block_fits : (prefix : Option Prefix) → PlainStart prefix → (b : Block) → PlainBlock b → NoBreaks (whole_events declaring b) → Connected s C (whole_events connections b) → Ascends 0 (in_block b []) → AllFitted s C (program_texts prefix b)
   unfolding declaring connections
@@ -470,7 +492,7 @@ module _ (s : Source) (C : Meets) where
     where
       whole : (prefix : Option Prefix) → PlainStart prefix → DotsDeclarations ds × FittedStatements s C false ss → AllFitted s C (declarations_texts ds ++ statements_texts ss) → AllFitted s C (program_texts prefix (Begin i ds ss end))
       whole None start own inner = (own, inner)
-      whole (Some x) start own inner = (own, fitted_prefix s C (Some x.class) start.0 (declarations_texts ds ++ statements_texts ss) inner)
+      whole (Some x) start own inner = (own, fitted_prefix s C (Some x.class) (declarations_texts ds ++ statements_texts ss) inner)
 
   fitted_at : (xs : List Text) (k : ℕ) (x : Text) → AllFitted s C xs → slice_get xs k ≡ Some x → TextFitted s C x
   fitted_at [] k x a e = absurd (cc)

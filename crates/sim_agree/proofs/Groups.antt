@@ -25,12 +25,13 @@ use Rattle.sim_scope.specs.Bodies.{body_declarations, body_statements}
 use Rattle.sim_scope.specs.Building.{Breaks, Closes, Declares, DeclaresClass, DeclaresProcedure, Headed, Inner, Mark, Moded, Opens, Parameter, Qualifies, Specified, Prefixes, Protects}
 use Rattle.sim_scope.specs.Declare.{array_marks, class_marks, class_prefix_marks, declaring, first_of_class, first_of_procedure, headed_marks, heading_marks, inner_marks, interface_marks, mode_named, mode_part_marks, moded_marks, parameter_marks, procedure_marks, program_marks, protection_marks, qualified_marks, qualified_result, result_named, segment_marks, specification_marks, specified_marks, type_named, variable_marks, virtual_marks, brought_marks, marks_of_standard, prefix_marks, standard_marks, is_written, protected_marks, prefixed_marks}
 use Rattle.sim_scope.specs.Runs.{each}
-use Rattle.sim_scope.specs.Standard.{classes_of_sets, standard_prefix}
+use Rattle.sim_scope.specs.declared.types.StandardPrefix.{StandardPrefix}
 use Rattle.sim_scope.specs.declared.types.StandardPrefix.TheVariants as standard_prefixes
+use Rattle.sim_scope.specs.Standard.{standard_prefix}
 use Rattle.sim_scope.specs.Walk.{arms_events, begin_of, block_events, declaration_events, declarations_events, program_events, statement_events, statements_events, whole_events}
 use Rattle.sim_meaning.specs.Texts.{BlockText, ClassText, ConnectionText, ProcedureText, Text, arms_texts, block_texts, declaration_texts, declarations_texts, prefix_texts, program_texts, statement_texts, statements_texts, PrefixedText, prefixed_texts, standard_texts}
-use Rattle.sim_agree.specs.Plain.{Each, Plain, PlainArms, PlainBlock, PlainDeclarations, PlainHeading, PlainInterface, PlainMode, PlainSpecification, PlainStatement, PlainStatements, PlainWord, PlainName, PlainPrefix, PlainStart}
-use Rattle.sim_agree.proofs.PlainNames.{SetsOrNone, no_texts, plain_standard, set_texts, texts_of_sets}
+use Rattle.sim_agree.specs.Plain.{Each, Plain, PlainArms, PlainBlock, PlainDeclarations, PlainHeading, PlainInterface, PlainMode, PlainSpecification, PlainStatement, PlainStatements, PlainWord, PlainStart}
+use Rattle.sim_agree.proofs.StandardPrefixes.{Spells, brought_texts, classes_of, no_texts, texts_of_standard}
 
 -- what a block or a class declares itself, but for its parameters, procedures and classes
 unfoldable pub own_variable : TypeName → Variable → List Mark
@@ -159,12 +160,9 @@ pub data Has (m : Mark) : List Mark → Type 0 where
 abbrev pub NoHeaded : List Mark → Type 0
 NoHeaded owed = (y : Identifier) → Has (Headed y) owed → ⊥
 
--- `simset` in front of a block or class that begins at a token
-abbrev pub IsSimset : Identifier → Type 0
-IsSimset y = standard_prefix y.name ≡ Some standard_prefixes.Simset
-
-abbrev pub set_prefix : (first : ℕ) → Identifier → List Mark
-set_prefix first y = Prefixes y ∷ brought_marks first standard_prefixes.Simset classes_of_sets
+-- a standard prefix in front of a block or class that begins at a token
+abbrev pub whole_prefix : StandardPrefix → (first : ℕ) → Identifier → List Mark
+whole_prefix p first y = Prefixes y ∷ brought_marks first p (classes_of p)
 
 -- Marks that lead from open texts to none, and the texts that they open.
 pub data Grouped : List Open → List Mark → List Text → Type 0 where
@@ -173,8 +171,8 @@ pub data Grouped : List Open → List Mark → List Text → Type 0 where
       → Grouped (item (BlockText i ds ss) (own_marks ds) ∷ os) ms xs → Grouped os (Opens k text first ∷ ms) (BlockText i ds ss ∷ xs)
   prefixed_block : {os : List Open} {ms : List Mark} {xs : List Text} (text first : ℕ) (class : Identifier) (es : Expressions) (ds : Declarations) (ss : Statements)
       → Grouped (item (PrefixedText class es ds ss) (own_marks ds) ∷ os) ms xs → Grouped os (Opens kind.Prefixed text first ∷ ms) (PrefixedText class es ds ss ∷ xs)
-  sets_block : {os : List Open} {ms : List Mark} {xs : List Text} (text first : ℕ) (class : Identifier) (es : Expressions) (ds : Declarations) (ss : Statements) → PlainName class → IsSimset class
-      → Grouped (item (PrefixedText class es ds ss) (own_marks ds) ∷ os) ms xs → Grouped os (Opens kind.Prefixed text first ∷ (set_prefix first class ++ ms)) (PrefixedText class es ds ss ∷ (set_texts ++ xs))
+  standard_block : {os : List Open} {ms : List Mark} {xs : List Text} (p : StandardPrefix) (text first : ℕ) (class : Identifier) (es : Expressions) (ds : Declarations) (ss : Statements) → Spells p class
+      → Grouped (item (PrefixedText class es ds ss) (own_marks ds) ∷ os) ms xs → Grouped os (Opens kind.Prefixed text first ∷ (whole_prefix p first class ++ ms)) (PrefixedText class es ds ss ∷ (brought_texts p ++ xs))
   connects : {os : List Open} {ms : List Mark} {xs : List Text} (text first : ℕ)
       → Grouped (item ConnectionText [] ∷ os) ms xs → Grouped os (Opens kind.Connection text first ∷ ms) (ConnectionText ∷ xs)
   procedure : {os : List Open} {ms : List Mark} {xs : List Text} (text first : ℕ) (x : Text) (owed quals : List Mark) (result : Option TypeName) (h : Heading) (a : Statement) → Declaring x → NoHeaded owed → Quals (AreReferences (result_named result)) quals
@@ -183,9 +181,9 @@ pub data Grouped : List Open → List Mark → List Text → Type 0 where
   declares_class : {os : List Open} {ms : List Mark} {xs : List Text} (text first : ℕ) (x : Text) (owed : List Mark) (prefix : Option Identifier) (h : Heading) (ds : Declarations) (ss : Statements) → Declaring x → NoHeaded owed
       → Grouped (item (ClassText prefix h ds ss) (each headed_marks h.formals ++ own_marks ds) ∷ item x owed ∷ os) ms xs
       → Grouped (item x owed ∷ os) (DeclaresClass h.name ∷ Opens kind.Class text first ∷ ms) (ClassText prefix h ds ss ∷ xs)
-  sets_class : {os : List Open} {ms : List Mark} {xs : List Text} (text first : ℕ) (x : Text) (owed : List Mark) (y : Identifier) (h : Heading) (ds : Declarations) (ss : Statements) → PlainName y → IsSimset y → Declaring x → NoHeaded owed
+  standard_class : {os : List Open} {ms : List Mark} {xs : List Text} (p : StandardPrefix) (text first : ℕ) (x : Text) (owed : List Mark) (y : Identifier) (h : Heading) (ds : Declarations) (ss : Statements) → Spells p y → Declaring x → NoHeaded owed
       → Grouped (item (ClassText (Some y) h ds ss) (each headed_marks h.formals ++ own_marks ds) ∷ item x owed ∷ os) ms xs
-      → Grouped (item x owed ∷ os) (DeclaresClass h.name ∷ Opens kind.Class text first ∷ (set_prefix first y ++ ms)) (ClassText (Some y) h ds ss ∷ (set_texts ++ xs))
+      → Grouped (item x owed ∷ os) (DeclaresClass h.name ∷ Opens kind.Class text first ∷ (whole_prefix p first y ++ ms)) (ClassText (Some y) h ds ss ∷ (brought_texts p ++ xs))
   declares : {os : List Open} {ms : List Mark} {xs : List Text} (x : Text) (owed quals : List Mark) (y : Identifier) (e : Entry) → Declaring x → NoHeaded owed → OwnEntry e → Quals (OfReferences e) quals → Written e y quals (declared_in_text x)
       → Grouped (item x owed ∷ os) ms xs → Grouped (item x (Declares y e ∷ owed) ∷ os) (Declares y e ∷ (quals ++ ms)) xs
   parameter : {os : List Open} {ms : List Mark} {xs : List Text} (x : Text) (owed : List Mark) (y : Identifier) → Taking x → Has (Headed y) owed
@@ -195,7 +193,7 @@ pub data Grouped : List Open → List Mark → List Text → Type 0 where
       → Grouped os ms xs → Grouped os (Specified y k ty ∷ (quals ++ ms)) xs
   headed : {os : List Open} {ms : List Mark} {xs : List Text} (x : Text) (owed : List Mark) (y : Identifier)
       → Grouped (item x owed ∷ os) ms xs → Grouped (item x (Headed y ∷ owed) ∷ os) (Headed y ∷ ms) xs
-  prefixes : {os : List Open} {ms : List Mark} {xs : List Text} (x : Text) (owed : List Mark) (y : Identifier) → Prefixing x → PlainName y
+  prefixes : {os : List Open} {ms : List Mark} {xs : List Text} (x : Text) (owed : List Mark) (y : Identifier) → Prefixing x → standard_prefix y.name ≡ None
       → Grouped (item x owed ∷ os) ms xs → Grouped (item x owed ∷ os) (Prefixes y ∷ ms) xs
   inner_mark : {os : List Open} {ms : List Mark} {xs : List Text} (token : ℕ) → Grouped os ms xs → Grouped os (Inner token ∷ ms) xs
   guarded : {os : List Open} {ms : List Mark} {xs : List Text} (hides keeps : Bool) (y : Identifier) → Grouped os ms xs → Grouped os (Protects hides keeps y ∷ ms) xs
@@ -404,14 +402,15 @@ as_texts {os = os} {ps = ps} {es = es} ns ks e a = subst (λ z. Adds os es z ps)
 as_marks : {os ps : List Open} {ns : List Text} (es fs : List Mark) → es ≡ fs → Adds os es ns ps → Adds os fs ns ps
 as_marks {os = os} {ps = ps} {ns = ns} es fs e a = subst (λ z. Adds os z ns ps) e a
 
--- a prefix that is spelt as no standard name is one mark, and `simset` brings its classes
+-- a prefix that is spelt as no standard one is one mark, and a standard one brings its classes
 pub plain_prefix : (first : ℕ) (y : Identifier) → standard_prefix y.name ≡ None → prefix_marks first y ≡ Prefixes y ∷ []
 unfolding prefix_marks standard_marks marks_of_standard
 plain_prefix first y e = ap (λ z. Prefixes y ∷ marks_of_standard first z) e
 
-pub sets_prefix : (first : ℕ) (y : Identifier) → IsSimset y → prefix_marks first y ≡ set_prefix first y
+pub standard_marks_are : (p : StandardPrefix) (first : ℕ) (y : Identifier) → Spells p y → prefix_marks first y ≡ whole_prefix p first y
 unfolding prefix_marks standard_marks marks_of_standard
-sets_prefix first y e = ap (λ z. Prefixes y ∷ marks_of_standard first z) e
+standard_marks_are standard_prefixes.Simset first y e = ap (λ z. Prefixes y ∷ marks_of_standard first z) e
+standard_marks_are standard_prefixes.Simulation first y e = ap (λ z. Prefixes y ∷ marks_of_standard first z) e
 
 begins_block : (k : BlockKind) (text first i : ℕ) (ds : Declarations) (ss : Statements) (os : List Open) → PlainKind k
     → Adds os (Opens k text first ∷ []) (BlockText i ds ss ∷ []) (item (BlockText i ds ss) (own_marks ds) ∷ os)
@@ -429,11 +428,11 @@ begins_procedure x d owed n os result token h a = record {
       (procedure (first_of_procedure result token) h.name.token.0 x owed (qualified_result result) result h a d n (quals_of_result result) g);
 }
 
-begins_class : (x : Text) → Declaring x → (owed : List Mark) → NoHeaded owed → (os : List Open) (prefix : Option Identifier) → PlainPrefix prefix → (token : ℕ) (h : Heading) (ds : Declarations) (ss : Statements)
+begins_class : (x : Text) → Declaring x → (owed : List Mark) → NoHeaded owed → (os : List Open) (prefix : Option Identifier) (token : ℕ) (h : Heading) (ds : Declarations) (ss : Statements)
     → Adds (item x owed ∷ os) (class_marks prefix token h.name) (ClassText prefix h ds ss ∷ prefix_texts prefix) (item (ClassText prefix h ds ss) (each headed_marks h.formals ++ own_marks ds) ∷ item x owed ∷ os)
 unfolding class_marks class_prefix_marks
-begins_class x d owed n os None p token h ds ss = record { before = λ ms xs g. declares_class (first_of_class None token) h.name.token.0 x owed None h ds ss d n g }
-begins_class x d owed n os (Some y) p token h ds ss = go (plain_standard y.name p)
+begins_class x d owed n os None token h ds ss = record { before = λ ms xs g. declares_class (first_of_class None token) h.name.token.0 x owed None h ds ss d n g }
+begins_class x d owed n os (Some y) token h ds ss = go (standard_prefix y.name) refl
   where
     first : ℕ
     first = first_of_class (Some y) token
@@ -444,20 +443,20 @@ begins_class x d owed n os (Some y) p token h ds ss = go (plain_standard y.name 
     head : List Mark → List Mark
     head ms = DeclaresClass h.name ∷ Opens kind.Class (first_of_class (Some y) token) h.name.token.0 ∷ ms
 
-    go : SetsOrNone (standard_prefix y.name) → Adds (item x owed ∷ os) (DeclaresClass h.name ∷ Opens kind.Class (first_of_class (Some y) token) h.name.token.0 ∷ prefix_marks h.name.token.0 y) (ClassText (Some y) h ds ss ∷ standard_texts y.name) (inner ∷ item x owed ∷ os)
-    go (inl e) =
+    go : (o : Option StandardPrefix) → standard_prefix y.name ≡ o → Adds (item x owed ∷ os) (DeclaresClass h.name ∷ Opens kind.Class (first_of_class (Some y) token) h.name.token.0 ∷ prefix_marks h.name.token.0 y) (ClassText (Some y) h ds ss ∷ standard_texts y.name) (inner ∷ item x owed ∷ os)
+    go None e =
         as_texts (ClassText (Some y) h ds ss ∷ []) (ClassText (Some y) h ds ss ∷ standard_texts y.name) (ap (λ z. ClassText (Some y) h ds ss ∷ z) (sym (no_texts y.name e)))
         (as_marks (head (Prefixes y ∷ [])) (head (prefix_marks h.name.token.0 y)) (ap head (sym (plain_prefix h.name.token.0 y e)))
-        (record { before = λ ms xs g. declares_class first h.name.token.0 x owed (Some y) h ds ss d n (prefixes (ClassText (Some y) h ds ss) (each headed_marks h.formals ++ own_marks ds) y tt p g) }))
-    go (inr e) =
-        as_texts (ClassText (Some y) h ds ss ∷ set_texts) (ClassText (Some y) h ds ss ∷ standard_texts y.name) (ap (λ z. ClassText (Some y) h ds ss ∷ z) (sym (texts_of_sets y.name e)))
-        (as_marks (head (set_prefix h.name.token.0 y)) (head (prefix_marks h.name.token.0 y)) (ap head (sym (sets_prefix h.name.token.0 y e)))
-        (record { before = λ ms xs g. sets_class first h.name.token.0 x owed y h ds ss p e d n g }))
+        (record { before = λ ms xs g. declares_class first h.name.token.0 x owed (Some y) h ds ss d n (prefixes (ClassText (Some y) h ds ss) (each headed_marks h.formals ++ own_marks ds) y tt e g) }))
+    go (Some p) e =
+        as_texts (ClassText (Some y) h ds ss ∷ brought_texts p) (ClassText (Some y) h ds ss ∷ standard_texts y.name) (ap (λ z. ClassText (Some y) h ds ss ∷ z) (sym (texts_of_standard p y.name e)))
+        (as_marks (head (whole_prefix p h.name.token.0 y)) (head (prefix_marks h.name.token.0 y)) (ap head (sym (standard_marks_are p h.name.token.0 y e)))
+        (record { before = λ ms xs g. standard_class p first h.name.token.0 x owed y h ds ss e d n g }))
 
-begins_prefixed : (class : Identifier) → PlainName class → (i : ℕ) (es : Expressions) (ds : Declarations) (ss : Statements) (os : List Open)
+begins_prefixed : (class : Identifier) (i : ℕ) (es : Expressions) (ds : Declarations) (ss : Statements) (os : List Open)
     → Adds os (prefixed_marks class i) (PrefixedText class es ds ss ∷ standard_texts class.name) (item (PrefixedText class es ds ss) (own_marks ds) ∷ os)
 unfolding prefixed_marks
-begins_prefixed class p i es ds ss os = go (plain_standard class.name p)
+begins_prefixed class i es ds ss os = go (standard_prefix class.name) refl
   where
     x : Text
     x = PrefixedText class es ds ss
@@ -465,15 +464,15 @@ begins_prefixed class p i es ds ss os = go (plain_standard class.name p)
     head : List Mark → List Mark
     head ms = Opens kind.Prefixed class.token.0 i ∷ ms
 
-    go : SetsOrNone (standard_prefix class.name) → Adds os (Opens kind.Prefixed class.token.0 i ∷ prefix_marks i class) (PrefixedText class es ds ss ∷ standard_texts class.name) (item (PrefixedText class es ds ss) (own_marks ds) ∷ os)
-    go (inl e) =
+    go : (o : Option StandardPrefix) → standard_prefix class.name ≡ o → Adds os (Opens kind.Prefixed class.token.0 i ∷ prefix_marks i class) (PrefixedText class es ds ss ∷ standard_texts class.name) (item (PrefixedText class es ds ss) (own_marks ds) ∷ os)
+    go None e =
         as_texts (x ∷ []) (x ∷ standard_texts class.name) (ap (λ z. x ∷ z) (sym (no_texts class.name e)))
         (as_marks (head (Prefixes class ∷ [])) (head (prefix_marks i class)) (ap head (sym (plain_prefix i class e)))
-        (record { before = λ ms xs g. prefixed_block class.token.0 i class es ds ss (prefixes (PrefixedText class es ds ss) (own_marks ds) class tt p g) }))
-    go (inr e) =
-        as_texts (x ∷ set_texts) (x ∷ standard_texts class.name) (ap (λ z. x ∷ z) (sym (texts_of_sets class.name e)))
-        (as_marks (head (set_prefix i class)) (head (prefix_marks i class)) (ap head (sym (sets_prefix i class e)))
-        (record { before = λ ms xs g. sets_block class.token.0 i class es ds ss p e g }))
+        (record { before = λ ms xs g. prefixed_block class.token.0 i class es ds ss (prefixes (PrefixedText class es ds ss) (own_marks ds) class tt e g) }))
+    go (Some p) e =
+        as_texts (x ∷ brought_texts p) (x ∷ standard_texts class.name) (ap (λ z. x ∷ z) (sym (texts_of_standard p class.name e)))
+        (as_marks (head (whole_prefix p i class)) (head (prefix_marks i class)) (ap head (sym (standard_marks_are p i class e)))
+        (record { before = λ ms xs g. standard_block p class.token.0 i class es ds ss e g }))
 
 ends : (x : Text) (end : ℕ) (os : List Open) → Adds (item x [] ∷ os) (Closes end ∷ []) [] os
 ends x end os = record { before = λ ms xs g. closes x end g }
@@ -531,19 +530,19 @@ procedure_adds x d os owed n result j h a e p body =
     as_texts (y ∷ (statement_texts a ++ [])) (y ∷ statement_texts a) (ap (λ z. y ∷ z) (append-nil (statement_texts a)))
     (both (both (begins_procedure x d owed n os result j h a) (heading_adds y tt [] ps h p)) (both body (ends y e ps)))
 
-class_adds : (x : Text) → Declaring x → (os : List Open) (owed : List Mark) → NoHeaded owed → (prefix : Option Identifier) → PlainPrefix prefix → (j : ℕ) (h : Heading) (i : Interface) (a : Statement) (e : ℕ) → PlainHeading h → PlainInterface i
+class_adds : (x : Text) → Declaring x → (os : List Open) (owed : List Mark) → NoHeaded owed → (prefix : Option Identifier) (j : ℕ) (h : Heading) (i : Interface) (a : Statement) (e : ℕ) → PlainHeading h → PlainInterface i
     → Adds (item (ClassText prefix h (body_declarations a) (body_statements a)) (own_marks (body_declarations a)) ∷ item x owed ∷ os) (statement_events declaring ClassBody a) (declarations_texts (body_declarations a) ++ statements_texts (body_statements a))
     (item (ClassText prefix h (body_declarations a) (body_statements a)) [] ∷ item x owed ∷ os)
     → Adds (item x owed ∷ os) (declaration_events declaring (DeclareClass prefix j h i a e)) (declaration_texts (DeclareClass prefix j h i a e)) (item x owed ∷ os)
 unfolding declaring
-class_adds x d os owed n prefix w j h i a e p q body =
+class_adds x d os owed n prefix j h i a e p q body =
     let y : Text = ClassText prefix h (body_declarations a) (body_statements a) in
     let ps : List Open = item x owed ∷ os in
     let inside : List Text = declarations_texts (body_declarations a) ++ statements_texts (body_statements a) in
     let own : List Mark = own_marks (body_declarations a) in
     as_texts (y ∷ ((prefix_texts prefix ++ []) ++ (inside ++ []))) (declaration_texts (DeclareClass prefix j h i a e))
     (ap (λ z. y ∷ (z ++ (inside ++ []))) (append-nil (prefix_texts prefix)) ∙ ap (λ z. y ∷ (prefix_texts prefix ++ z)) (append-nil inside) ∙ sym (class_texts prefix j h i a e))
-    (both (both (begins_class x d owed n os prefix w j h (body_declarations a) (body_statements a))
+    (both (both (begins_class x d owed n os prefix j h (body_declarations a) (body_statements a))
     (both (heading_adds y tt own ps h p) (interface_adds i q (item y own ∷ ps)))) (both body (ends y e ps)))
 
 -- a statement stands in the body of a class, or elsewhere
@@ -558,7 +557,7 @@ mutual
   statement_adds c (syntax.Empty i) os p = none
   statement_adds true (syntax.Compound b) os p = block_adds b os p
   statement_adds false (syntax.Compound b) os p = block_adds b os p
-  statement_adds c (syntax.Prefixed x args b) os p = prefixed_adds x args b os p.0 p.2
+  statement_adds c (syntax.Prefixed x args b) os p = prefixed_adds x args b os p.1
   statement_adds true (syntax.Inner i) os p = record { before = λ ms xs g. inner_mark i g }
   statement_adds false (syntax.Inner i) os p = record { before = λ ms xs g. breaks_rule i r.InnerOutOfPlace g }
   statement_adds c (syntax.Call e) os p = none
@@ -570,7 +569,7 @@ mutual
       as_texts ((ConnectionText ∷ []) ++ (statement_texts a ++ ([] ++ statements_texts rest))) (ConnectionText ∷ (statement_texts a ++ statements_texts rest)) refl
       (both (begins_connection d d os) (both (statement_adds false a (item ConnectionText [] ∷ os) p.1) (both (ends ConnectionText e os) (statements_add false rest os p.2))))
   statement_adds c (syntax.InspectWhen i object whens rest) os p = both (arms_add whens os p.1) (statements_add false rest os p.2)
-  statement_adds c (syntax.Activate i word process schedule) os p = absurd p
+  statement_adds c (syntax.Activate i word process schedule) os p = none
 
   statements_add : (c : Bool) (ss : Statements) (os : List Open) → PlainStatements ss → Adds os (statements_events declaring (place c) ss) (statements_texts ss) os
   statements_add c NoStatement os p = none
@@ -580,7 +579,7 @@ mutual
   arms_add NoArm os p = none
   arms_add (When i x d a e more) os p =
       as_texts (((ConnectionText ∷ []) ++ (statement_texts a ++ [])) ++ arms_texts more) (ConnectionText ∷ (statement_texts a ++ arms_texts more)) (ap (λ z. ConnectionText ∷ (z ++ arms_texts more)) (append-nil (statement_texts a)))
-      (both (both (begins_connection d d os) (both (statement_adds false a (item ConnectionText [] ∷ os) p.1) (ends ConnectionText e os))) (arms_add more os p.2))
+      (both (both (begins_connection d d os) (both (statement_adds false a (item ConnectionText [] ∷ os) p.0) (ends ConnectionText e os))) (arms_add more os p.1))
 
   -- the body of a class, which is its `begin .. end` or one statement
   class_body_adds : (prefix : Option Identifier) (a : Statement) (h : Heading) (os : List Open) → PlainStatement a → ((ps : List Open) → Adds ps (statement_events declaring Inside a) (statement_texts a) ps)
@@ -598,14 +597,14 @@ mutual
   class_body_adds prefix (syntax.For i x sign j es a) h os p one = as_texts (statement_texts (syntax.For i x sign j es a)) (statement_texts (syntax.For i x sign j es a) ++ []) (sym (append-nil (statement_texts (syntax.For i x sign j es a)))) (one (item (ClassText prefix h NoDeclaration (Also (syntax.For i x sign j es a) NoStatement)) [] ∷ os))
   class_body_adds prefix (syntax.Inspect i object d a e rest) h os p one = as_texts (statement_texts (syntax.Inspect i object d a e rest)) (statement_texts (syntax.Inspect i object d a e rest) ++ []) (sym (append-nil (statement_texts (syntax.Inspect i object d a e rest)))) (one (item (ClassText prefix h NoDeclaration (Also (syntax.Inspect i object d a e rest) NoStatement)) [] ∷ os))
   class_body_adds prefix (syntax.InspectWhen i object whens rest) h os p one = as_texts (statement_texts (syntax.InspectWhen i object whens rest)) (statement_texts (syntax.InspectWhen i object whens rest) ++ []) (sym (append-nil (statement_texts (syntax.InspectWhen i object whens rest)))) (one (item (ClassText prefix h NoDeclaration (Also (syntax.InspectWhen i object whens rest) NoStatement)) [] ∷ os))
-  class_body_adds prefix (syntax.Activate i word process schedule) h os p one = absurd p
+  class_body_adds prefix (syntax.Activate i word process schedule) h os p one = as_texts (statement_texts (syntax.Activate i word process schedule)) (statement_texts (syntax.Activate i word process schedule) ++ []) (sym (append-nil (statement_texts (syntax.Activate i word process schedule)))) (one (item (ClassText prefix h NoDeclaration (Also (syntax.Activate i word process schedule) NoStatement)) [] ∷ os))
 
-  prefixed_adds : (x : Identifier) (args : Expressions) (b : Block) (os : List Open) → PlainName x → PlainBlock b → Adds os (prefixed_marks x (begin_of b) ++ whole_events declaring b) (prefixed_texts x args b) os
-  prefixed_adds x args (Begin i ds ss e) os w p =
+  prefixed_adds : (x : Identifier) (args : Expressions) (b : Block) (os : List Open) → PlainBlock b → Adds os (prefixed_marks x (begin_of b) ++ whole_events declaring b) (prefixed_texts x args b) os
+  prefixed_adds x args (Begin i ds ss e) os p =
       let y : Text = PrefixedText x args ds ss in
       as_marks (prefixed_marks x i ++ ((declarations_events declaring ds ++ statements_events declaring Inside ss) ++ Closes e ∷ [])) (prefixed_marks x i ++ (declarations_events declaring ds ++ (statements_events declaring Inside ss ++ Closes e ∷ [])))
       (ap (λ z. prefixed_marks x i ++ z) (append_assoc (declarations_events declaring ds) (statements_events declaring Inside ss) (Closes e ∷ [])))
-      (both (begins_prefixed x w i args ds ss os)
+      (both (begins_prefixed x i args ds ss os)
       (inside_block os y (own_marks ds) (declarations_events declaring ds) (statements_events declaring Inside ss) (declarations_texts ds) (statements_texts ss) e
       (declarations_add y tt os ds (λ z quals w. w) p.0) (statements_add false ss (item y [] ∷ os) p.1)))
 
@@ -624,9 +623,9 @@ mutual
   declarations_add x d os (With (Arrays type j segments) ds) w p =
       both (segments_add x d os type segments (own_marks ds) (no_headed_own ds) (λ y q. w y (qualified_marks type) (inl (q, refl)))) (declarations_add x d os ds (λ y quals q. w y quals (inr q)) p.1)
   declarations_add x d os (With (DeclareProcedure result j h a e) ds) w p =
-      both (procedure_adds x d os (own_marks ds) (no_headed_own ds) result j h a e p.0.1 (statement_adds false a (item (ProcedureText result h a) [] ∷ item x (own_marks ds) ∷ os) p.0.2)) (declarations_add x d os ds w p.1)
+      both (procedure_adds x d os (own_marks ds) (no_headed_own ds) result j h a e p.0.0 (statement_adds false a (item (ProcedureText result h a) [] ∷ item x (own_marks ds) ∷ os) p.0.1)) (declarations_add x d os ds w p.1)
   declarations_add x d os (With (DeclareClass prefix j h i a e) ds) w p =
-      both (class_adds x d os (own_marks ds) (no_headed_own ds) prefix p.0.0 j h i a e p.0.1 p.0.2 (class_body_adds prefix a h (item x (own_marks ds) ∷ os) p.0.3 (λ ps. statement_adds false a ps p.0.3))) (declarations_add x d os ds w p.1)
+      both (class_adds x d os (own_marks ds) (no_headed_own ds) prefix j h i a e p.0.0 p.0.1 (class_body_adds prefix a h (item x (own_marks ds) ∷ os) p.0.2 (λ ps. statement_adds false a ps p.0.2))) (declarations_add x d os ds w p.1)
 
 -- a plain program
 pub program_grouped : (p : Program) → Plain p → Grouped [] (program_events declaring p) (program_texts p.prefix p.block)
@@ -635,7 +634,7 @@ program_grouped p q = go p.prefix p.block q.start q.block
   where
     go : (prefix : Option Prefix) (b : Block) → PlainStart prefix → PlainBlock b → Grouped [] (declaring.program prefix (begin_of b) ++ whole_events declaring b) (program_texts prefix b)
     go (Some x) b e r =
-        let all : Adds [] (prefixed_marks x.class (begin_of b) ++ whole_events declaring b) (prefixed_texts x.class x.arguments b) [] = prefixed_adds x.class x.arguments b [] e.0 r in
+        let all : Adds [] (prefixed_marks x.class (begin_of b) ++ whole_events declaring b) (prefixed_texts x.class x.arguments b) [] = prefixed_adds x.class x.arguments b [] r in
         whole_of b x (subst (λ z. Grouped [] z (prefixed_texts x.class x.arguments b)) (append-nil _) (subst (λ z. Grouped [] ((prefixed_marks x.class (begin_of b) ++ whole_events declaring b) ++ []) z) (append-nil _) (all.before [] [] (nothing refl))))
       where
         whole_of : (b : Block) (x : Prefix) → Grouped [] (prefixed_marks x.class (begin_of b) ++ whole_events declaring b) (prefixed_texts x.class x.arguments b) → Grouped [] (prefixed_marks x.class (begin_of b) ++ whole_events declaring b) (program_texts (Some x) b)

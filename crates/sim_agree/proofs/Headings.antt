@@ -35,8 +35,8 @@ use Rattle.sim_sound.specs.Typed.{ClassThere, Distinct, FormalsAre, NoFormal, No
 use Rattle.sim_agree.specs.Plain.{Plain}
 use Rattle.sim_agree.specs.TablesOf.{TablesOf}
 use Rattle.sim_agree.proofs.Clean.{Counts}
-use Rattle.sim_agree.proofs.Fine.{Alike, IsStandard, Rising, RowIn, attribute_row, class_row, formal_row, own_row, owner_in, procedure_row}
-use Rattle.sim_agree.proofs.Groups.{Declaring, OwnEntry, PlainFormal, Taking}
+use Rattle.sim_agree.proofs.Fine.{Alike, IsStandard, Rising, RowIn, attribute_row, class_row, formal_row, own_row, owner_in, procedure_row, simulation_row}
+use Rattle.sim_agree.proofs.Groups.{Declaring, OwnEntry, PlainFormal, Prefixing, Taking}
 use Rattle.sim_agree.proofs.Steps.{IsParameter, NoName, Parametric}
 use Rattle.sim_agree.proofs.Tables as t
 use Rattle.sim_agree.proofs.Tables.{Bs, Ts}
@@ -140,6 +140,7 @@ module _ (s : Source) (of : TablesOf s) (plain : Plain s.program) (order : InOrd
   param_in x d row (class_row y p) q = absurd (subst IsParameter p.entry q)
   param_in x d row (formal_row y p l) q = p
   param_in x d row (attribute_row y p) q = absurd (subst IsParameter p.entry q)
+  param_in x d row (simulation_row y p) q = absurd (subst IsParameter p.entry q)
 
   -- a parameter is specified
   parameter_is : (d : DeclNo) (row : Declaration) → slice_get s.tables.declarations d.0 ≡ Some row → IsParameter row.entry → IsSpecified d
@@ -197,6 +198,7 @@ module _ (s : Source) (of : TablesOf s) (plain : Plain s.program) (order : InOrd
       go x f (class_row y p) = absurd (subst Declaring (some_same x (ProcedureText result h a) f) y)
       go x f (formal_row y p l) = p
       go x f (attribute_row y p) = absurd (subst IsStandard (some_same x (ProcedureText result h a) f) y)
+      go x f (simulation_row y p) = absurd (subst Prefixing (some_same x (ProcedureText result h a) f) y)
 
   parametric : (e : Entry) → Parametric e → IsParameter e
   parametric (entry.Formal f) q = tt
@@ -365,6 +367,7 @@ module _ (s : Source) (of : TablesOf s) (plain : Plain s.program) (order : InOrd
       in_row x f d row (class_row y p) = subst (λ z. NoFormal (Some z)) (sym p.entry) tt
       in_row x f d row (formal_row y p l) = absurd (free (subst Taking (some_same x z f) y))
       in_row x f d row (attribute_row y p) = subst (λ z. NoFormal (Some z)) (sym p.entry) tt
+      in_row x f d row (simulation_row y p) = subst (λ z. NoFormal (Some z)) (sym p.entry) tt
 
       one : (d : DeclNo) → Among d (numbers_of s k) → NoFormal (entry_of s.tables d)
       one d a =
@@ -419,6 +422,7 @@ module _ (s : Source) (of : TablesOf s) (plain : Plain s.program) (order : InOrd
       go row at f x (class_row y p) = absurd (let g : entry.Class p.number ≡ entry.Procedure result k = sym p.entry ∙ f in cc)
       go row at f x (formal_row y p l) = absurd (subst Parametric f p)
       go row at f x (attribute_row y p) = absurd (let g : entry.Attribute p.name (typed_or_none (Some p.first) (parameter_of p.name)) (typed_or_none (Some p.first) (result_of p.name)) ≡ entry.Procedure result k = sym p.entry ∙ f in cc)
+      go row at f x (simulation_row y p) = absurd (let g : entry.Attribute p.name (typed_or_none (Some p.first) (parameter_of p.name)) (typed_or_none (Some p.first) (result_of p.name)) ≡ entry.Procedure result k = sym p.entry ∙ f in cc)
 
   pub classes : (d : DeclNo) (k : ℕ) → entry_of s.tables d ≡ Some (entry.Class k) → ClassThere s d k × (owner_of_level s.tables (Some k) ≡ Some d)
   unfolding text encloser
@@ -444,3 +448,4 @@ module _ (s : Source) (of : TablesOf s) (plain : Plain s.program) (order : InOrd
           number m n q = cc
       go row at f x (formal_row y p l) = absurd (subst Parametric f p)
       go row at f x (attribute_row y p) = absurd (let g : entry.Attribute p.name (typed_or_none (Some p.first) (parameter_of p.name)) (typed_or_none (Some p.first) (result_of p.name)) ≡ entry.Class k = sym p.entry ∙ f in cc)
+      go row at f x (simulation_row y p) = absurd (let g : entry.Attribute p.name (typed_or_none (Some p.first) (parameter_of p.name)) (typed_or_none (Some p.first) (result_of p.name)) ≡ entry.Class k = sym p.entry ∙ f in cc)

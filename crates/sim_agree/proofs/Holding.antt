@@ -37,11 +37,13 @@ use Rattle.sim_agree.specs.TablesOf.{TablesOf}
 use Rattle.sim_agree.proofs.Calm.{declared_calm}
 use Rattle.sim_agree.proofs.Completing.{bare_row}
 use Rattle.sim_agree.proofs.Tables as tables
-use Rattle.sim_agree.proofs.Groups.{Grouped, OfReferences, Open, OwnEntry, Quals, block, breaks_rule, closes, connects, declares, declares_class, headed as headed_mark, inner_mark, moded as moded_mark, nothing, parameter as parameter_mark, procedure, program_grouped, qualifies, specified as specified_mark, unqualified, prefixes, guarded, prefixed_block, set_prefix, sets_block, sets_class}
-use Rattle.sim_agree.proofs.BroughtFine as sets
+use Rattle.sim_agree.proofs.Groups.{Grouped, OfReferences, Open, OwnEntry, Quals, block, breaks_rule, closes, connects, declares, declares_class, headed as headed_mark, inner_mark, moded as moded_mark, nothing, parameter as parameter_mark, procedure, program_grouped, qualifies, specified as specified_mark, unqualified, prefixes, guarded, prefixed_block, standard_block, standard_class, whole_prefix}
+use Rattle.sim_agree.proofs.BroughtFine as brought
 use Rattle.sim_agree.proofs.BroughtKnown as known
-use Rattle.sim_agree.proofs.BroughtRows.{with_sets}
-use Rattle.sim_agree.proofs.BroughtRuns.{FreshTop, brought_is, opened_top, prefixed_fresh, prefixed_is, prefixed_top}
+use Rattle.sim_agree.proofs.BroughtRows.{with_standard}
+use Rattle.sim_agree.proofs.BroughtRuns.{FreshTop, brought_is, opened_top}
+use Rattle.sim_agree.proofs.StandardPrefixes.{Spells}
+use Rattle.sim_scope.specs.declared.types.StandardPrefix.{StandardPrefix}
 use Rattle.sim_values.specs.declared.standard.Standard.{Standard}
 
 -- a block is said to have a class
@@ -353,37 +355,37 @@ flag_within bs k e = go (slice_get bs k) refl e
     go None at f = absurd (cc)
     go (Some row) at f = slice_get_within bs k row at
 
-with_held : (b : BuildingOf) (t : FreshTop b) (token : ℕ) → ClassesHeld b → ClassesHeld (with_sets b t.number token t.row)
-with_held b t token h d n row at is l = go (sets.row_part b t.number token t.row t.last t.at [] d row at)
-  where
-    no_class : (name : Standard) (given result : Option SimType) → row.entry ≡ entry.Attribute name given result → ⊥
-    no_class name given result e = let z : entry.Class n ≡ entry.Attribute name given result = sym is ∙ e in cc
+module _ (p : StandardPrefix) (front : Identifier) (spelt : Spells p front) where
+  with_held : (b : BuildingOf) (t : FreshTop b) (token : ℕ) → ClassesHeld b → ClassesHeld (with_standard p b t.number token (prefixed_by front t.row))
+  with_held b t token h d n row at is l = go (brought.row_part p front spelt b t.number token t.row t.last t.at [] d row at)
+    where
+      no_class : (name : Standard) (given result : Option SimType) → row.entry ≡ entry.Attribute name given result → ⊥
+      no_class name given result e = let z : entry.Class n ≡ entry.Attribute name given result = sym is ∙ e in cc
 
-    new : (i : ℕ) → known.Added t.number (length b.tables.declarations) token (t.row).level i row → ⊥
-    new i (inl q) = let z : true ≡ false = sym l ∙ q.listed in cc
-    new i (inr q) = no_class q.name _ _ q.entry
+      new : (i : ℕ) → known.Added p t.number (length b.tables.declarations) token (t.row).level i row → ⊥
+      new i (known.a_class q) = let z : true ≡ false = sym l ∙ q.listed in cc
+      new i (known.an_attribute q) = no_class q.name _ _ q.entry
+      new i (known.an_own q) = no_class q.name _ _ q.entry
 
-    go : ((d < length b.tables.declarations) × (slice_get b.tables.declarations d ≡ Some row)) ⊎ ((i : ℕ) × (d ≡ length b.tables.declarations + i) × known.Added t.number (length b.tables.declarations) token (t.row).level i row)
-        → flag (slice_get (with_sets b t.number token t.row).tables.blocks row.block) ≡ true
-    go (inr q) = absurd (new q.0 q.2)
-    go (inl q) =
-        let was = h d n row q.1 is l in
-        sets.old_same b t.number token t.row t.last t.at [] flag refl row.block (flag_within b.tables.blocks row.block was) ∙ was
+      go : ((d < length b.tables.declarations) × (slice_get b.tables.declarations d ≡ Some row)) ⊎ ((i : ℕ) × (d ≡ length b.tables.declarations + i) × known.Added p t.number (length b.tables.declarations) token (t.row).level i row)
+          → flag (slice_get (with_standard p b t.number token (prefixed_by front t.row)).tables.blocks row.block) ≡ true
+      go (inr q) = absurd (new q.0 q.2)
+      go (inl q) =
+          let was = h d n row q.1 is l in
+          brought.old_same p front spelt b t.number token t.row t.last t.at [] flag refl row.block (flag_within b.tables.blocks row.block was) ∙ was
 
-sets_held : (b : BuildingOf) (t : FreshTop b) (token : ℕ) (y : Identifier) → ClassesHeld b → ClassesHeld (run marked b (set_prefix token y))
-sets_held b t token y h =
-    subst ClassesHeld (sym (brought_is b t token y))
-    (with_held (prefixed_top b t y) (prefixed_fresh b t y) token (subst ClassesHeld (prefixed_is b t y) (prefix_held b y b.current h)))
+  standard_held : (b : BuildingOf) (t : FreshTop b) (token : ℕ) → ClassesHeld b → ClassesHeld (run marked b (whole_prefix p token front))
+  standard_held b t token h = subst ClassesHeld (sym (brought_is p b t token front)) (with_held b t token h)
 
 run_held : {os : List Open} {ms : List Mark} {xs : List Text} (b : BuildingOf) → Grouped os ms xs → ClassesHeld b → ClassesHeld (run marked b ms)
 unfolding run marked
 run_held b (nothing e) h = h
 run_held b (block k text first i ds ss p g) h = run_held (opened b k text first) g (opened_held b k text first h)
 run_held b (prefixed_block text first class es ds ss g) h = run_held (opened b kind.Prefixed text first) g (opened_held b kind.Prefixed text first h)
-run_held b (sets_block {ms = ms} text first class es ds ss p is g) h =
+run_held b (standard_block {ms = ms} p text first class es ds ss e g) h =
     let c : BuildingOf = opened b kind.Prefixed text first in
-    subst ClassesHeld (sym (run_both c (set_prefix first class) ms))
-    (run_held (run marked c (set_prefix first class)) g (sets_held c (opened_top b kind.Prefixed text first) first class (opened_held b kind.Prefixed text first h)))
+    subst ClassesHeld (sym (run_both c (whole_prefix p first class) ms))
+    (run_held (run marked c (whole_prefix p first class)) g (standard_held p class e c (opened_top b kind.Prefixed text first) first (opened_held b kind.Prefixed text first h)))
 run_held b (connects text first g) h = run_held (opened b kind.Connection text first) g (opened_held b kind.Connection text first h)
 run_held b (procedure text first x owed quals result hd a dx nh q g) h =
     let c : BuildingOf = declared b hd.name (entry.Procedure (result_named result) (length b.tables.blocks)) in
@@ -396,12 +398,12 @@ run_held b (declares_class text first x owed prefix hd ds ss dx nh g) h =
     let e : Entry = entry.Class (length b.tables.blocks) in
     run_held (opened (changed (declared b hd.name (entry.Class (length b.tables.blocks))) holding_class b.current) kind.Class text first) g
     (opened_held (changed (declared b hd.name (entry.Class (length b.tables.blocks))) holding_class b.current) kind.Class text first (class_held b hd.name (entry.Class (length b.tables.blocks)) b.current (declared_calm b hd.name (entry.Class (length b.tables.blocks))).size h))
-run_held b (sets_class {ms = ms} text first x owed y hd ds ss p is dx nh g) h =
+run_held b (standard_class {ms = ms} p text first x owed y hd ds ss e dx nh g) h =
     let held : BuildingOf = changed (declared b hd.name (entry.Class (length b.tables.blocks))) holding_class b.current in
     let c : BuildingOf = opened held kind.Class text first in
-    subst ClassesHeld (sym (run_both c (set_prefix first y) ms))
-    (run_held (run marked c (set_prefix first y)) g
-    (sets_held c (opened_top held kind.Class text first) first y
+    subst ClassesHeld (sym (run_both c (whole_prefix p first y) ms))
+    (run_held (run marked c (whole_prefix p first y)) g
+    (standard_held p y e c (opened_top held kind.Class text first) first
     (opened_held held kind.Class text first (class_held b hd.name (entry.Class (length b.tables.blocks)) b.current (declared_calm b hd.name (entry.Class (length b.tables.blocks))).size h))))
 run_held b (declares x owed quals y e dx nh own q written g) h =
     subst ClassesHeld (sym (run_both (declared b y e) quals _)) (run_held (run marked (declared b y e) quals) g (quals_held (declared b y e) _ quals q (other_held b y e (own_no_class e own) b.current h)))

@@ -1,6 +1,8 @@
 -- In an allowed program `inner` stands among the statements of a class alone.
 use Rattle.std.proofs.Common.{◌≡◌, ℕ, zero, suc, List, [], ◌∷◌, ◌++◌, Option, Some, None, refl, subst}
 use Rattle.std.specs.Prelude.{slice_get}
+use Rattle.sim_scope.specs.declared.types.StandardPrefix.{StandardPrefix}
+use Rattle.sim_scope.specs.declared.types.StandardPrefix.TheVariants as prefixes
 use Rattle.sim_scope.specs.declared.found.Fault.{Fault}
 use Rattle.sim_scope.specs.declared.types.Position.TheVariants.{ClassBody, ClassStatement, Inside}
 use Rattle.sim_scope.specs.Breaks.{all_breaks, breaks, broken_by}
@@ -15,8 +17,8 @@ use Rattle.sim_tree.specs.Syntax.{Also, Arms, Arrays, Begin, Block, Declaration,
 use Rattle.sim_tree.specs.Syntax as syntax
 use Rattle.sim_meaning.specs.Texts.{BlockText, ClassText, ProcedureText, Text, arms_texts, block_texts, declaration_texts, declarations_texts, program_texts, statement_texts, statements_texts, text, prefix_texts, PrefixedText, prefixed_texts}
 use Rattle.sim_agree.specs.Inners.{NoInner, NoInnerArms, NoInnerWithin, NoInners}
-use Rattle.sim_agree.specs.Plain.{Each, Plain, PlainArms, PlainBlock, PlainDeclaration, PlainDeclarations, PlainStatement, PlainStatements, PlainPrefix, PlainName, PlainStart}
-use Rattle.sim_agree.proofs.PlainNames.{behind_prefix}
+use Rattle.sim_agree.specs.Plain.{Each, Plain, PlainArms, PlainBlock, PlainDeclaration, PlainDeclarations, PlainStatement, PlainStatements, PlainStart}
+use Rattle.sim_agree.proofs.StandardPrefixes.{behind_prefix, brought_texts}
 use Rattle.sim_agree.specs.TablesOf.{TablesOf}
 
 -- ---- marks that break no rule
@@ -170,8 +172,12 @@ class_statement (syntax.Inspect j e opening x close other) g f = g f
 class_statement (syntax.InspectWhen j e arms other) g f = g f
 
 -- behind the texts of a prefix
-placed_behind : (prefix : Option Identifier) → PlainPrefix prefix → (xs : List Text) → Each InPlace xs → Each InPlace (prefix_texts prefix ++ xs)
-placed_behind prefix w xs a = behind_prefix (Each InPlace) prefix w xs a (tt, (tt, (tt, a)))
+placed_behind : (prefix : Option Identifier) (xs : List Text) → Each InPlace xs → Each InPlace (prefix_texts prefix ++ xs)
+placed_behind prefix xs a = behind_prefix (Each InPlace) prefix xs a go
+  where
+    go : (p : StandardPrefix) → Each InPlace (brought_texts p ++ xs)
+    go prefixes.Simset = (tt, (tt, (tt, a)))
+    go prefixes.Simulation = (tt, (tt, (tt, (tt, a))))
 
 mutual
   unfolding declaring inner_marks prefixed_marks
@@ -191,26 +197,26 @@ mutual
       let behind = Closes end ∷ statements_events declaring Inside other in (tt, both_each (statement_texts x) (statements_texts other) (statement_placed x p.1 (front events behind f.1)) (statements_placed other p.2 (back events behind f.1).1))
   statement_placed (syntax.InspectWhen i e arms other) p f =
       both_each (arms_texts arms) (statements_texts other) (arms_placed arms p.1 (front (arms_events declaring arms) (statements_events declaring Inside other) f)) (statements_placed other p.2 (back (arms_events declaring arms) (statements_events declaring Inside other) f))
-  statement_placed (syntax.Prefixed class arguments b) p f = prefixed_placed class arguments b p.0 p.2 (back (prefixed_marks class (begin_of b)) (whole_events declaring b) f)
-  statement_placed (syntax.Activate i word e schedule) p f = absurd p
+  statement_placed (syntax.Prefixed class arguments b) p f = prefixed_placed class arguments b p.1 (back (prefixed_marks class (begin_of b)) (whole_events declaring b) f)
+  statement_placed (syntax.Activate i word e schedule) p f = tt
 
   arms_placed : (arms : Arms) → PlainArms arms → Free (arms_events declaring arms) → Each InPlace (arms_texts arms)
   arms_placed NoArm p f = tt
   arms_placed (When i class opening x end more) p f =
       let events = statement_events declaring Inside x in
-      let one = events ++ Closes end ∷ [] in (tt, both_each (statement_texts x) (arms_texts more) (statement_placed x p.1 (front events (Closes end ∷ []) (front one (arms_events declaring more) f.1))) (arms_placed more p.2 (back one (arms_events declaring more) f.1)))
+      let one = events ++ Closes end ∷ [] in (tt, both_each (statement_texts x) (arms_texts more) (statement_placed x p.0 (front events (Closes end ∷ []) (front one (arms_events declaring more) f.1))) (arms_placed more p.1 (back one (arms_events declaring more) f.1)))
 
   statements_placed : (ss : Statements) → PlainStatements ss → Free (statements_events declaring Inside ss) → Each InPlace (statements_texts ss)
   statements_placed NoStatement p f = tt
   statements_placed (Also x more) p f =
       both_each (statement_texts x) (statements_texts more) (statement_placed x p.0 (front (statement_events declaring Inside x) (statements_events declaring Inside more) f)) (statements_placed more p.1 (back (statement_events declaring Inside x) (statements_events declaring Inside more) f))
 
-  prefixed_placed : (class : Identifier) (arguments : Expressions) (b : Block) → PlainName class → PlainBlock b → Free (whole_events declaring b) → Each InPlace (prefixed_texts class arguments b)
-  prefixed_placed class arguments (Begin i ds ss end) w p f =
+  prefixed_placed : (class : Identifier) (arguments : Expressions) (b : Block) → PlainBlock b → Free (whole_events declaring b) → Each InPlace (prefixed_texts class arguments b)
+  prefixed_placed class arguments (Begin i ds ss end) p f =
       let first = declarations_events declaring ds in
       let events = statements_events declaring Inside ss in
       let body = front events (Closes end ∷ []) (back first (events ++ Closes end ∷ []) f) in
-      (no_inners ss body, placed_behind (Some class) w (declarations_texts ds ++ statements_texts ss) (both_each (declarations_texts ds) (statements_texts ss) (declarations_placed ds p.0 (front first (events ++ Closes end ∷ []) f)) (statements_placed ss p.1 body)))
+      (no_inners ss body, placed_behind (Some class) (declarations_texts ds ++ statements_texts ss) (both_each (declarations_texts ds) (statements_texts ss) (declarations_placed ds p.0 (front first (events ++ Closes end ∷ []) f)) (statements_placed ss p.1 body)))
 
   block_placed : (b : Block) → PlainBlock b → Free (statement_events declaring Inside (syntax.Compound b)) → Each InPlace (block_texts b)
   block_placed (Begin i NoDeclaration ss end) p f = statements_placed ss p.1 f
@@ -239,14 +245,14 @@ mutual
   declaration_placed (Arrays type i gs) p f = tt
   declaration_placed (DeclareProcedure result i h a end) p f =
       let heading = procedure_marks result i h.name ++ heading_marks h in
-      let body = front (statement_events declaring Inside a) (Closes end ∷ []) (back heading (statement_events declaring Inside a ++ Closes end ∷ []) f) in (no_inner a body, statement_placed a p.2 body)
+      let body = front (statement_events declaring Inside a) (Closes end ∷ []) (back heading (statement_events declaring Inside a ++ Closes end ∷ []) f) in (no_inner a body, statement_placed a p.1 body)
   declaration_placed (DeclareClass prefix i h interface (syntax.Compound (Begin j ds ss e)) end) p f =
       let heading = class_marks prefix i h.name ++ (heading_marks h ++ interface_marks interface) in
       let events = statement_events declaring ClassBody (syntax.Compound (Begin j ds ss e)) in
       let body = front events (Closes end ∷ []) (back heading (events ++ Closes end ∷ []) f) in
       let first = declarations_events declaring ds in
       let more = statements_events declaring ClassStatement ss in
-      (or_inners ss (back first more body), placed_behind prefix p.0 (declarations_texts ds ++ statements_texts ss) (both_each (declarations_texts ds) (statements_texts ss) (declarations_placed ds (p.3).0 (front first more body)) (class_statements_placed ss (p.3).1 (back first more body))))
+      (or_inners ss (back first more body), placed_behind prefix (declarations_texts ds ++ statements_texts ss) (both_each (declarations_texts ds) (statements_texts ss) (declarations_placed ds (p.2).0 (front first more body)) (class_statements_placed ss (p.2).1 (back first more body))))
   declaration_placed (DeclareClass prefix i h interface (syntax.Inner j) end) p f =
       let heading = class_marks prefix i h.name ++ (heading_marks h ++ interface_marks interface) in
       let events = statement_events declaring ClassBody (syntax.Inner j) in
@@ -256,48 +262,52 @@ mutual
       let heading = class_marks prefix i h.name ++ (heading_marks h ++ interface_marks interface) in
       let events = statement_events declaring ClassBody (syntax.Prefixed class arguments b) in
       let body = front events (Closes end ∷ []) (back heading (events ++ Closes end ∷ []) f) in
-      ((tt, tt), placed_behind prefix p.0 (statement_texts (syntax.Prefixed class arguments b)) (statement_placed (syntax.Prefixed class arguments b) p.3 body))
-  declaration_placed (DeclareClass prefix i h interface (syntax.Activate j word e schedule) end) p f = absurd p.3
+      ((tt, tt), placed_behind prefix (statement_texts (syntax.Prefixed class arguments b)) (statement_placed (syntax.Prefixed class arguments b) p.2 body))
+  declaration_placed (DeclareClass prefix i h interface (syntax.Activate j word e schedule) end) p f =
+      let heading = class_marks prefix i h.name ++ (heading_marks h ++ interface_marks interface) in
+      let events = statement_events declaring ClassBody (syntax.Activate j word e schedule) in
+      let body = front events (Closes end ∷ []) (back heading (events ++ Closes end ∷ []) f) in
+      ((no_inner (syntax.Activate j word e schedule) body, tt), placed_behind prefix (statement_texts (syntax.Activate j word e schedule)) (statement_placed (syntax.Activate j word e schedule) p.2 body))
   declaration_placed (DeclareClass prefix i h interface (syntax.Empty j) end) p f =
       let heading = class_marks prefix i h.name ++ (heading_marks h ++ interface_marks interface) in
       let events = statement_events declaring ClassBody (syntax.Empty j) in
       let body = front events (Closes end ∷ []) (back heading (events ++ Closes end ∷ []) f) in
-      ((no_inner (syntax.Empty j) body, tt), placed_behind prefix p.0 (statement_texts (syntax.Empty j)) (statement_placed (syntax.Empty j) p.3 body))
+      ((no_inner (syntax.Empty j) body, tt), placed_behind prefix (statement_texts (syntax.Empty j)) (statement_placed (syntax.Empty j) p.2 body))
   declaration_placed (DeclareClass prefix i h interface (syntax.Call e) end) p f =
       let heading = class_marks prefix i h.name ++ (heading_marks h ++ interface_marks interface) in
       let events = statement_events declaring ClassBody (syntax.Call e) in
       let body = front events (Closes end ∷ []) (back heading (events ++ Closes end ∷ []) f) in
-      ((no_inner (syntax.Call e) body, tt), placed_behind prefix p.0 (statement_texts (syntax.Call e)) (statement_placed (syntax.Call e) p.3 body))
+      ((no_inner (syntax.Call e) body, tt), placed_behind prefix (statement_texts (syntax.Call e)) (statement_placed (syntax.Call e) p.2 body))
   declaration_placed (DeclareClass prefix i h interface (syntax.Assign e rs) end) p f =
       let heading = class_marks prefix i h.name ++ (heading_marks h ++ interface_marks interface) in
       let events = statement_events declaring ClassBody (syntax.Assign e rs) in
       let body = front events (Closes end ∷ []) (back heading (events ++ Closes end ∷ []) f) in
-      ((no_inner (syntax.Assign e rs) body, tt), placed_behind prefix p.0 (statement_texts (syntax.Assign e rs)) (statement_placed (syntax.Assign e rs) p.3 body))
+      ((no_inner (syntax.Assign e rs) body, tt), placed_behind prefix (statement_texts (syntax.Assign e rs)) (statement_placed (syntax.Assign e rs) p.2 body))
   declaration_placed (DeclareClass prefix i h interface (syntax.Choose j c x y) end) p f =
       let heading = class_marks prefix i h.name ++ (heading_marks h ++ interface_marks interface) in
       let events = statement_events declaring ClassBody (syntax.Choose j c x y) in
       let body = front events (Closes end ∷ []) (back heading (events ++ Closes end ∷ []) f) in
-      ((no_inner (syntax.Choose j c x y) body, tt), placed_behind prefix p.0 (statement_texts (syntax.Choose j c x y)) (statement_placed (syntax.Choose j c x y) p.3 body))
+      ((no_inner (syntax.Choose j c x y) body, tt), placed_behind prefix (statement_texts (syntax.Choose j c x y)) (statement_placed (syntax.Choose j c x y) p.2 body))
   declaration_placed (DeclareClass prefix i h interface (syntax.Repeat j c x) end) p f =
       let heading = class_marks prefix i h.name ++ (heading_marks h ++ interface_marks interface) in
       let events = statement_events declaring ClassBody (syntax.Repeat j c x) in
       let body = front events (Closes end ∷ []) (back heading (events ++ Closes end ∷ []) f) in
-      ((no_inner (syntax.Repeat j c x) body, tt), placed_behind prefix p.0 (statement_texts (syntax.Repeat j c x)) (statement_placed (syntax.Repeat j c x) p.3 body))
+      ((no_inner (syntax.Repeat j c x) body, tt), placed_behind prefix (statement_texts (syntax.Repeat j c x)) (statement_placed (syntax.Repeat j c x) p.2 body))
   declaration_placed (DeclareClass prefix i h interface (syntax.For j name sign assign es x) end) p f =
       let heading = class_marks prefix i h.name ++ (heading_marks h ++ interface_marks interface) in
       let events = statement_events declaring ClassBody (syntax.For j name sign assign es x) in
       let body = front events (Closes end ∷ []) (back heading (events ++ Closes end ∷ []) f) in
-      ((no_inner (syntax.For j name sign assign es x) body, tt), placed_behind prefix p.0 (statement_texts (syntax.For j name sign assign es x)) (statement_placed (syntax.For j name sign assign es x) p.3 body))
+      ((no_inner (syntax.For j name sign assign es x) body, tt), placed_behind prefix (statement_texts (syntax.For j name sign assign es x)) (statement_placed (syntax.For j name sign assign es x) p.2 body))
   declaration_placed (DeclareClass prefix i h interface (syntax.Inspect j e opening x close other) end) p f =
       let heading = class_marks prefix i h.name ++ (heading_marks h ++ interface_marks interface) in
       let events = statement_events declaring ClassBody (syntax.Inspect j e opening x close other) in
       let body = front events (Closes end ∷ []) (back heading (events ++ Closes end ∷ []) f) in
-      ((no_inner (syntax.Inspect j e opening x close other) body, tt), placed_behind prefix p.0 (statement_texts (syntax.Inspect j e opening x close other)) (statement_placed (syntax.Inspect j e opening x close other) p.3 body))
+      ((no_inner (syntax.Inspect j e opening x close other) body, tt), placed_behind prefix (statement_texts (syntax.Inspect j e opening x close other)) (statement_placed (syntax.Inspect j e opening x close other) p.2 body))
   declaration_placed (DeclareClass prefix i h interface (syntax.InspectWhen j e arms other) end) p f =
       let heading = class_marks prefix i h.name ++ (heading_marks h ++ interface_marks interface) in
       let events = statement_events declaring ClassBody (syntax.InspectWhen j e arms other) in
       let body = front events (Closes end ∷ []) (back heading (events ++ Closes end ∷ []) f) in
-      ((no_inner (syntax.InspectWhen j e arms other) body, tt), placed_behind prefix p.0 (statement_texts (syntax.InspectWhen j e arms other)) (statement_placed (syntax.InspectWhen j e arms other) p.3 body))
+      ((no_inner (syntax.InspectWhen j e arms other) body, tt), placed_behind prefix (statement_texts (syntax.InspectWhen j e arms other)) (statement_placed (syntax.InspectWhen j e arms other) p.2 body))
 
 program_placed : (prefix : Option Prefix) (b : Block) → PlainStart prefix → PlainBlock b → Free (program_events declaring (record { prefix = prefix; block = b })) → Each InPlace (program_texts prefix b)
 unfolding program_events declaring
@@ -310,7 +320,7 @@ program_placed None (Begin i ds ss end) e p f =
 program_placed (Some x) b e p f = start x b e p (back (program_marks (Some x) (begin_of b)) (whole_events declaring b) f)
   where
     start : (x : Prefix) (b : Block) → PlainStart (Some x) → PlainBlock b → Free (whole_events declaring b) → Each InPlace (program_texts (Some x) b)
-    start x (Begin i ds ss end) e p f = prefixed_placed x.class x.arguments (Begin i ds ss end) e.0 p f
+    start x (Begin i ds ss end) e p f = prefixed_placed x.class x.arguments (Begin i ds ss end) p f
 
 pub each_at : (P : Text → Type 0) (xs : List Text) (k : ℕ) (x : Text) → Each P xs → slice_get xs k ≡ Some x → P x
 each_at P [] k x a e = absurd (cc)

@@ -1,5 +1,5 @@
 -- The tables of an allowed plain program have an `inner` of a class just where one is among its statements, and never two.
-use Rattle.std.proofs.Common.{◌≡◌, inl, inr, ℕ, zero, suc, Bool, true, false, List, [], ◌∷◌, ◌++◌, length, map, Option, Some, None, refl, sym, ap, ◌∙◌, subst, arith, append-nil, append_assoc}
+use Rattle.std.proofs.Common.{◌≡◌, ℕ, zero, suc, Bool, true, false, List, [], ◌∷◌, ◌++◌, length, map, Option, Some, None, refl, sym, ap, ◌∙◌, subst, arith, append-nil, append_assoc}
 use Rattle.std.specs.Prelude.{slice_get, slice_set}
 use Rattle.std.proofs.lemmas.List.{length-map, map-append}
 use Rattle.sim_base.specs.declared.rule.Rule.{Rule}
@@ -15,8 +15,9 @@ use Rattle.sim_scope.specs.declared.types.BlockKind.TheVariants as kind
 use Rattle.sim_scope.specs.declared.types.Position.TheVariants.{ClassBody, ClassStatement, Inside}
 use Rattle.sim_scope.specs.Bodies.{body_declarations, body_statements}
 use Rattle.sim_scope.specs.Breaks.{all_breaks, at, breaks, broken_by, inner_breaks, inner_breaks_in, inner_breaks_of}
-use Rattle.sim_scope.proofs.Kept.{set_here}
 use Rattle.sim_scope.specs.Standard.{standard_prefix}
+use Rattle.sim_scope.specs.declared.types.StandardPrefix.{StandardPrefix}
+use Rattle.sim_scope.specs.declared.types.StandardPrefix.TheVariants as prefixes
 use Rattle.sim_scope.specs.Building.{BuildingOf, Closes, DeclaresClass, DeclaresProcedure, Inner, Mark, Opens, Prefixes, broken_if, block_around, closed, closed_at, inner, inner_at, inner_in, level_in, marked, owner_of, prefixed_by}
 use Rattle.sim_scope.specs.Declare.{class_marks, class_prefix_marks, declared_by, declaring, empty, first_of_class, first_of_procedure, heading_marks, inner_marks, interface_marks, procedure_marks, program_marks, qualified_result, result_named, segment_marks, variable_marks, prefix_marks, prefixed_marks}
 use Rattle.sim_scope.specs.Runs.{each, run}
@@ -28,16 +29,16 @@ use Rattle.sim_scope.proofs.Walks.{run-append}
 use Rattle.sim_meaning.specs.Levels.{is_written, written_in}
 use Rattle.sim_meaning.specs.Texts.{BlockText, ClassText, ConnectionText, ProcedureText, Text, arms_texts, block_texts, declaration_texts, declarations_texts, program_texts, statement_texts, statements_texts, text, PrefixedText, prefix_texts, prefixed_texts, standard_texts}
 use Rattle.sim_agree.specs.Inners.{Inners, InnersIn, NoInner, NoInners, OneInner, here, behind}
-use Rattle.sim_agree.specs.Plain.{Plain, PlainArms, PlainBlock, PlainDeclaration, PlainDeclarations, PlainInterface, PlainStatement, PlainStatements, PlainPrefix, PlainName, PlainStart}
+use Rattle.sim_agree.specs.Plain.{Plain, PlainArms, PlainBlock, PlainDeclaration, PlainDeclarations, PlainInterface, PlainStatement, PlainStatements}
 use Rattle.sim_agree.specs.TablesOf.{TablesOf}
 use Rattle.sim_agree.proofs.Completing.{bare_row}
-use Rattle.sim_agree.proofs.BroughtRows.{bringing, set_rows}
-use Rattle.sim_agree.proofs.BroughtRuns.{FreshTop, brought_is, brought_top, opened_top, prefixed_fresh, prefixed_top}
-use Rattle.sim_agree.proofs.Groups.{class_texts, plain_prefix, set_prefix, sets_prefix}
+use Rattle.sim_agree.proofs.BroughtRows.{added_rows, bringing}
+use Rattle.sim_agree.proofs.BroughtRuns.{FreshTop, brought_is, brought_top, opened_top}
+use Rattle.sim_agree.proofs.Groups.{class_texts, plain_prefix, standard_marks_are, whole_prefix}
 use Rattle.sim_agree.proofs.InnerMarks.{AllKeep, InnerRow, Stays, all_stay, inner_row, row_stays, keep_heading, keep_result, keep_segments, keep_variables, keep_both, keep_interface}
 use Rattle.sim_agree.proofs.InnerPlaces.{Free, all_free, back, no_fault, no_inner, no_inners, none_first, none_second}
 use Rattle.sim_agree.proofs.Tables as t
-use Rattle.sim_agree.proofs.PlainNames.{SetsOrNone, no_texts, plain_standard, set_texts, texts_of_sets}
+use Rattle.sim_agree.proofs.StandardPrefixes.{brought_texts, no_texts, texts_of_standard}
 
 -- ---- lists
 
@@ -232,56 +233,58 @@ unfolding Fills FillsFresh
 fresh_fills x es ns f b rs around top a e = f b rs [] around a e
 
 -- what a prefix brings stands in front
-abbrev set_inners : ℕ → List InnerRow
-set_inners n = row None (Some n) ∷ row None (Some n) ∷ row None (Some n) ∷ []
+abbrev brought_inners : StandardPrefix → ℕ → List InnerRow
+brought_inners prefixes.Simset n = row None (Some n) ∷ row None (Some n) ∷ row None (Some n) ∷ []
+brought_inners prefixes.Simulation n = row None (Some n) ∷ row None (Some n) ∷ row None (Some n) ∷ row None (Some n) ∷ []
 
-sets_stay : (b : BuildingOf) (top : FreshTop b) (first : ℕ) (y : Identifier) (rs : List InnerRow) (around : Option ℕ) → Stays (rs ++ row None around ∷ []) (Some (length rs)) b
-    → Stays (rs ++ row None around ∷ set_inners (length rs)) (Some (length rs)) (run marked b (set_prefix first y))
-sets_stay b top first y rs around a =
-    subst (Stays (rs ++ row None around ∷ set_inners (length rs)) (Some (length rs))) (sym (brought_is b top first y))
-    (subst (λ n. Stays (rs ++ row None around ∷ set_inners n) (Some (length rs)) (brought_top b top first y)) (some_same top.number (length rs) (sym top.current ∙ a.current)) (record {
-      rows = map-append inner_row (slice_set B.tables.blocks top.number new) (set_rows top.number (length B.tables.declarations) (top.row).level) ∙ ap (λ z. z ++ set_inners top.number) changed_rows.rows
-          ∙ append_assoc rs (row None around ∷ []) (set_inners top.number);
+added_inners : (p : StandardPrefix) (n next level : ℕ) → map inner_row (added_rows n next level p) ≡ brought_inners p n
+added_inners prefixes.Simset n next level = refl
+added_inners prefixes.Simulation n next level = refl
+
+brought_fit : (p : StandardPrefix) (n : ℕ) (xs : List InnerRow) (ns : List Text) → Fits xs ns → Fits (brought_inners p n ++ xs) (brought_texts p ++ ns)
+brought_fit prefixes.Simset n xs ns f = (tt, (tt, (tt, f)))
+brought_fit prefixes.Simulation n xs ns f = (tt, (tt, (tt, (tt, f))))
+
+standard_stays : (p : StandardPrefix) (b : BuildingOf) (top : FreshTop b) (first : ℕ) (y : Identifier) (rs : List InnerRow) (around : Option ℕ) → Stays (rs ++ row None around ∷ []) (Some (length rs)) b
+    → Stays (rs ++ row None around ∷ brought_inners p (length rs)) (Some (length rs)) (run marked b (whole_prefix p first y))
+standard_stays p b top first y rs around a =
+    subst (Stays (rs ++ row None around ∷ brought_inners p (length rs)) (Some (length rs))) (sym (brought_is p b top first y))
+    (subst (λ n. Stays (rs ++ row None around ∷ brought_inners p n) (Some (length rs)) (brought_top p b top first y)) (some_same top.number (length rs) (sym top.current ∙ a.current)) (record {
+      rows = map-append inner_row (slice_set b.tables.blocks top.number new) (added_rows top.number (length b.tables.declarations) (top.row).level p)
+          ∙ ap (λ z. map inner_row (slice_set b.tables.blocks top.number new) ++ z) (added_inners p top.number (length b.tables.declarations) (top.row).level)
+          ∙ ap (λ z. z ++ brought_inners p top.number) changed_rows.rows ∙ append_assoc rs (row None around ∷ []) (brought_inners p top.number);
       current = a.current;
     }))
   where
-    B : BuildingOf
-    B = prefixed_top b top y
-
-    u : FreshTop B
-    u = prefixed_fresh b top y
-
     new : BlockOf
-    new = bringing (length B.tables.declarations) (prefixed_by y top.row)
+    new = bringing p (length b.tables.declarations) (prefixed_by y top.row)
 
-    prefixed_rows : Stays (rs ++ row None around ∷ []) (Some (length rs)) B
-    prefixed_rows = row_stays b top.number top.row (prefixed_by y top.row) top.at refl a
+    changed_rows : Stays (rs ++ row None around ∷ []) (Some (length rs)) (record b { tables = record b.tables { blocks = slice_set b.tables.blocks top.number new } })
+    changed_rows = row_stays b top.number top.row new top.at refl a
 
-    changed_rows : Stays (rs ++ row None around ∷ []) (Some (length rs)) (record B { tables = record B.tables { blocks = slice_set B.tables.blocks top.number new } })
-    changed_rows = row_stays B top.number (prefixed_by y top.row) new (set_here b.tables.blocks top.number top.row (prefixed_by y top.row) top.at) refl prefixed_rows
-
-sets_fill : (x : Text) (first : ℕ) (y : Identifier) (es : List Mark) (ns : List Text) → Fills x es ns → FillsFresh x (set_prefix first y ++ es) (set_texts ++ ns)
+standard_fills : (p : StandardPrefix) (x : Text) (first : ℕ) (y : Identifier) (es : List Mark) (ns : List Text) → Fills x es ns → FillsFresh x (whole_prefix p first y ++ es) (brought_texts p ++ ns)
 unfolding Fills FillsFresh
-sets_fill x first y es ns f b rs around top a e =
-    let g = f (run marked b (set_prefix first y)) rs (set_inners (length rs)) around (sets_stay b top first y rs around a) (breaks_both b (set_prefix first y) es e).1 in
-    subst (Filled rs [] around x (set_texts ++ ns)) (sym (run-append marked b (set_prefix first y) es)) (record { within = g.within; more = set_inners (length rs) ++ g.more; stays = g.stays; fits = (tt, (tt, (tt, g.fits))); this = g.this })
+standard_fills p x first y es ns f b rs around top a e =
+    let g = f (run marked b (whole_prefix p first y)) rs (brought_inners p (length rs)) around (standard_stays p b top first y rs around a) (breaks_both b (whole_prefix p first y) es e).1 in
+    subst (Filled rs [] around x (brought_texts p ++ ns)) (sym (run-append marked b (whole_prefix p first y) es))
+    (record { within = g.within; more = brought_inners p (length rs) ++ g.more; stays = g.stays; fits = brought_fit p (length rs) g.more ns g.fits; this = g.this })
 
-prefix_fills : (x : Text) (first : ℕ) (y : Identifier) → PlainName y → (es : List Mark) (ns : List Text) → Fills x es ns → FillsFresh x (prefix_marks first y ++ es) (standard_texts y.name ++ ns)
-prefix_fills x first y w es ns f = go (plain_standard y.name w)
+prefix_fills : (x : Text) (first : ℕ) (y : Identifier) (es : List Mark) (ns : List Text) → Fills x es ns → FillsFresh x (prefix_marks first y ++ es) (standard_texts y.name ++ ns)
+prefix_fills x first y es ns f = go (standard_prefix y.name) refl
   where
-    go : SetsOrNone (standard_prefix y.name) → FillsFresh x (prefix_marks first y ++ es) (standard_texts y.name ++ ns)
-    go (inl e) =
+    go : (o : Option StandardPrefix) → standard_prefix y.name ≡ o → FillsFresh x (prefix_marks first y ++ es) (standard_texts y.name ++ ns)
+    go None e =
         subst (λ z. FillsFresh x (z ++ es) (standard_texts y.name ++ ns)) (sym (plain_prefix first y e))
         (subst (λ z. FillsFresh x ((Prefixes y ∷ []) ++ es) (z ++ ns)) (sym (no_texts y.name e)) (fresh_fills x ((Prefixes y ∷ []) ++ es) ns (fills_after x (Prefixes y ∷ []) es ns (tt, tt) f)))
-    go (inr e) =
-        subst (λ z. FillsFresh x (z ++ es) (standard_texts y.name ++ ns)) (sym (sets_prefix first y e))
-        (subst (λ z. FillsFresh x (set_prefix first y ++ es) (z ++ ns)) (sym (texts_of_sets y.name e)) (sets_fill x first y es ns f))
+    go (Some p) e =
+        subst (λ z. FillsFresh x (z ++ es) (standard_texts y.name ++ ns)) (sym (standard_marks_are p first y e))
+        (subst (λ z. FillsFresh x (whole_prefix p first y ++ es) (z ++ ns)) (sym (texts_of_standard p y.name e)) (standard_fills p x first y es ns f))
 
-class_prefix_fills : (prefix : Option Identifier) → PlainPrefix prefix → (first : ℕ) (x : Text) (H B : List Mark) (ns : List Text) → AllKeep H → Fills x B ns → FillsFresh x ((class_prefix_marks first prefix ++ H) ++ B) (prefix_texts prefix ++ ns)
+class_prefix_fills : (prefix : Option Identifier) (first : ℕ) (x : Text) (H B : List Mark) (ns : List Text) → AllKeep H → Fills x B ns → FillsFresh x ((class_prefix_marks first prefix ++ H) ++ B) (prefix_texts prefix ++ ns)
 unfolding class_prefix_marks
-class_prefix_fills None w first x H B ns k p = fresh_fills x (H ++ B) ns (fills_after x H B ns k p)
-class_prefix_fills (Some y) w first x H B ns k p =
-    subst (λ z. FillsFresh x z (standard_texts y.name ++ ns)) (sym (append_assoc (prefix_marks first y) H B)) (prefix_fills x first y w (H ++ B) ns (fills_after x H B ns k p))
+class_prefix_fills None first x H B ns k p = fresh_fills x (H ++ B) ns (fills_after x H B ns k p)
+class_prefix_fills (Some y) first x H B ns k p =
+    subst (λ z. FillsFresh x z (standard_texts y.name ++ ns)) (sym (append_assoc (prefix_marks first y) H B)) (prefix_fills x first y (H ++ B) ns (fills_after x H B ns k p))
 
 fills_texts : (x : Text) (es : List Mark) (ns ms : List Text) → ns ≡ ms → Fills x es ns → Fills x es ms
 fills_texts x es ns ms e p = subst (Fills x es) e p
@@ -464,11 +467,11 @@ procedure_adds result i h a e p =
     (adds_filled kind.Procedure (first_of_procedure result i) h.name.token.0 e x (H ++ B) (statement_texts a)
     (fills_plain x (H ++ B) (statement_texts a) (λ f. no_inner a (back H B f)) (adds_both H B [] (statement_texts a) (adds_kept H (keep_heading h)) p))))
 
-class_adds : (prefix : Option Identifier) → PlainPrefix prefix → (i : ℕ) (h : Heading) (interface : Interface) (a : Statement) (e : ℕ) → PlainInterface interface
+class_adds : (prefix : Option Identifier) (i : ℕ) (h : Heading) (interface : Interface) (a : Statement) (e : ℕ) → PlainInterface interface
     → Fills (ClassText prefix h (body_declarations a) (body_statements a)) (statement_events declaring ClassBody a) (declarations_texts (body_declarations a) ++ statements_texts (body_statements a))
     → Adds (declaration_events declaring (DeclareClass prefix i h interface a e)) (declaration_texts (DeclareClass prefix i h interface a e))
 unfolding declaring class_marks
-class_adds prefix w i h interface a e q p =
+class_adds prefix i h interface a e q p =
     let P = DeclaresClass h.name in
     let O = Opens kind.Class (first_of_class prefix i) h.name.token.0 in
     let K = class_prefix_marks h.name.token.0 prefix in
@@ -482,7 +485,7 @@ class_adds prefix w i h interface a e q p =
     (adds_as ((P ∷ []) ++ (O ∷ (((K ++ H) ++ B) ++ C))) _ (x ∷ ms) (ap (λ z. P ∷ O ∷ z) (append_assoc (K ++ H) B C))
     (adds_both (P ∷ []) (O ∷ (((K ++ H) ++ B) ++ C)) [] (x ∷ ms) (adds_kept (P ∷ []) (tt, tt))
     (adds_one kind.Class (first_of_class prefix i) h.name.token.0 e x ((K ++ H) ++ B) ms
-    (class_prefix_fills prefix w h.name.token.0 x H B ns (keep_both (heading_marks h) (interface_marks interface) (keep_heading h) (keep_interface interface q)) p))))
+    (class_prefix_fills prefix h.name.token.0 x H B ns (keep_both (heading_marks h) (interface_marks interface) (keep_heading h) (keep_interface interface q)) p))))
 
 -- ---- the whole program
 
@@ -492,7 +495,7 @@ mutual
   statement_adds : (a : Statement) → PlainStatement a → Adds (statement_events declaring Inside a) (statement_texts a)
   statement_adds (syntax.Empty i) p = adds_kept [] tt
   statement_adds (syntax.Compound b) p = block_adds b p
-  statement_adds (syntax.Prefixed class arguments b) p = prefixed_adds class arguments b p.0 p.2
+  statement_adds (syntax.Prefixed class arguments b) p = prefixed_adds class arguments b p.1
   statement_adds (syntax.Inner i) p = adds_kept (inner_marks Inside i) (tt, tt)
   statement_adds (syntax.Call e) p = adds_kept [] tt
   statement_adds (syntax.Assign left rest) p = adds_kept [] tt
@@ -505,7 +508,7 @@ mutual
       adds_as ((Opens kind.Connection d d ∷ (es ++ Closes e ∷ [])) ++ fs) _ _ (ap (λ z. Opens kind.Connection d d ∷ z) (append_assoc es (Closes e ∷ []) fs))
       (adds_both (Opens kind.Connection d d ∷ (es ++ Closes e ∷ [])) fs (ConnectionText ∷ statement_texts a) (statements_texts rest) (adds_connection d e es (statement_texts a) (statement_adds a p.1)) (statements_add rest p.2))
   statement_adds (syntax.InspectWhen i object arms rest) p = adds_both (arms_events declaring arms) (statements_events declaring Inside rest) (arms_texts arms) (statements_texts rest) (arms_add arms p.1) (statements_add rest p.2)
-  statement_adds (syntax.Activate i word process schedule) p = absurd p
+  statement_adds (syntax.Activate i word process schedule) p = adds_kept [] tt
 
   statements_add : (ss : Statements) → PlainStatements ss → Adds (statements_events declaring Inside ss) (statements_texts ss)
   statements_add NoStatement p = adds_kept [] tt
@@ -519,10 +522,10 @@ mutual
   arms_add NoArm p = adds_kept [] tt
   arms_add (When i x d a e more) p =
       adds_both (Opens kind.Connection d d ∷ (statement_events declaring Inside a ++ Closes e ∷ [])) (arms_events declaring more) (ConnectionText ∷ statement_texts a) (arms_texts more)
-      (adds_connection d e (statement_events declaring Inside a) (statement_texts a) (statement_adds a p.1)) (arms_add more p.2)
+      (adds_connection d e (statement_events declaring Inside a) (statement_texts a) (statement_adds a p.0)) (arms_add more p.1)
 
-  prefixed_adds : (class : Identifier) (arguments : Expressions) (b : Block) → PlainName class → PlainBlock b → Adds (prefixed_marks class (begin_of b) ++ whole_events declaring b) (prefixed_texts class arguments b)
-  prefixed_adds class arguments (Begin i ds ss e) w p =
+  prefixed_adds : (class : Identifier) (arguments : Expressions) (b : Block) → PlainBlock b → Adds (prefixed_marks class (begin_of b) ++ whole_events declaring b) (prefixed_texts class arguments b)
+  prefixed_adds class arguments (Begin i ds ss e) p =
       let P : List Mark = prefix_marks i class in
       let es = declarations_events declaring ds in
       let fs = statements_events declaring Inside ss in
@@ -533,7 +536,7 @@ mutual
       adds_as (O ∷ ((P ++ (es ++ fs)) ++ Closes e ∷ [])) (prefixed_marks class i ++ (es ++ (fs ++ Closes e ∷ []))) (x ∷ ms)
       (ap (λ z. O ∷ z) (append_assoc P (es ++ fs) (Closes e ∷ []) ∙ ap (λ z. P ++ z) (append_assoc es fs (Closes e ∷ []))))
       (adds_one kind.Prefixed class.token.0 i e x (P ++ (es ++ fs)) ms
-      (prefix_fills x i class w (es ++ fs) ns
+      (prefix_fills x i class (es ++ fs) ns
       (fills_plain x (es ++ fs) ns (λ f. no_inners ss (back es fs f)) (adds_both es fs (declarations_texts ds) (statements_texts ss) (declarations_add ds p.0) (statements_add ss p.1)))))
 
   block_adds : (b : Block) → PlainBlock b → Adds (block_events declaring b) (block_texts b)
@@ -553,8 +556,8 @@ mutual
   declaration_adds : (d : Declaration) → PlainDeclaration d → Adds (declaration_events declaring d) (declaration_texts d)
   declaration_adds (Variables type vs) p = adds_kept (each (variable_marks type) vs) (keep_variables type vs)
   declaration_adds (Arrays type i segments) p = adds_kept (each (segment_marks type) segments) (keep_segments type segments)
-  declaration_adds (DeclareProcedure result i h a e) p = procedure_adds result i h a e (statement_adds a p.2)
-  declaration_adds (DeclareClass prefix i h interface a e) p = class_adds prefix p.0 i h interface a e p.2 (class_body prefix a h p.3 (statement_adds a p.3))
+  declaration_adds (DeclareProcedure result i h a e) p = procedure_adds result i h a e (statement_adds a p.1)
+  declaration_adds (DeclareClass prefix i h interface a e) p = class_adds prefix i h interface a e p.1 (class_body prefix a h p.2 (statement_adds a p.2))
 
   class_body : (prefix : Option Identifier) (a : Statement) (h : Heading) → PlainStatement a → Adds (statement_events declaring Inside a) (statement_texts a)
       → Fills (ClassText prefix h (body_declarations a) (body_statements a)) (statement_events declaring ClassBody a) (declarations_texts (body_declarations a) ++ statements_texts (body_statements a))
@@ -569,7 +572,7 @@ mutual
   class_body prefix (syntax.For i x sign j es a) h p one = one_fills prefix h (syntax.For i x sign j es a) one
   class_body prefix (syntax.Inspect i object d a e rest) h p one = one_fills prefix h (syntax.Inspect i object d a e rest) one
   class_body prefix (syntax.InspectWhen i object arms rest) h p one = one_fills prefix h (syntax.InspectWhen i object arms rest) one
-  class_body prefix (syntax.Activate i word process schedule) h p one = absurd p
+  class_body prefix (syntax.Activate i word process schedule) h p one = one_fills prefix h (syntax.Activate i word process schedule) one
 
 -- the program's block, which is around all
 whole_program : (es : List Mark) (ns : List Text) → Adds es ns → all_breaks empty es ≡ [] → Grown [] None ns (run marked empty es)
@@ -578,13 +581,13 @@ whole_program es ns p e = p empty [] None (record { rows = refl; current = refl 
 
 program_grown : (p : Program) → Plain p → (declared_by p).least ≡ None → Grown [] None (program_texts p.prefix p.block) (declared_by p)
 unfolding declared_by broken_by program_events declaring program_marks
-program_grown p q unbroken = go p.prefix p.block q.start q.block (no_fault (broken_by p) (declared_by p).least unbroken (least_declared p))
+program_grown p q unbroken = go p.prefix p.block q.block (no_fault (broken_by p) (declared_by p).least unbroken (least_declared p))
   where
-    go : (prefix : Option Prefix) (b : Block) → PlainStart prefix → PlainBlock b → all_breaks empty (program_marks prefix (begin_of b) ++ whole_events declaring b) ≡ []
+    go : (prefix : Option Prefix) (b : Block) → PlainBlock b → all_breaks empty (program_marks prefix (begin_of b) ++ whole_events declaring b) ≡ []
         → Grown [] None (program_texts prefix b) (run marked empty (program_marks prefix (begin_of b) ++ whole_events declaring b))
-    go (Some x) (Begin i ds ss end) e r none =
-        whole_program (prefixed_marks x.class i ++ whole_events declaring (Begin i ds ss end)) (prefixed_texts x.class x.arguments (Begin i ds ss end)) (prefixed_adds x.class x.arguments (Begin i ds ss end) e.0 r) none
-    go None (Begin i ds ss end) e r none =
+    go (Some x) (Begin i ds ss end) r none =
+        whole_program (prefixed_marks x.class i ++ whole_events declaring (Begin i ds ss end)) (prefixed_texts x.class x.arguments (Begin i ds ss end)) (prefixed_adds x.class x.arguments (Begin i ds ss end) r) none
+    go None (Begin i ds ss end) r none =
         let es = declarations_events declaring ds in
         let fs = statements_events declaring Inside ss in
         let x : Text = BlockText i ds ss in

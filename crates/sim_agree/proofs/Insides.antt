@@ -13,7 +13,7 @@ use Rattle.prefix_bind.specs.Prefixes.{is_prefixed_block}
 use Rattle.sim_scope.specs.Access.{around, block_at, encloser, has_text_of_levels, is_connection as is_connection_kind, is_kind, is_so, joined, kind_in}
 use Rattle.sim_scope.specs.Calls.{inside_block, is_inside}
 use Rattle.sim_scope.specs.Declare.{declared_by}
-use Rattle.sim_scope.specs.Levels.{is_simulation, is_simulation_block, is_standard_class, standard_in}
+use Rattle.sim_scope.specs.Levels.{is_standard_class}
 use Rattle.sim_scope.specs.Source.{Source}
 use Rattle.sim_scope.specs.Tables.{BlockOf, Tables}
 use Rattle.sim_meaning.specs.Attributes.{is_connection}
@@ -24,16 +24,15 @@ use Rattle.sim_agree.specs.TablesOf.{TablesOf}
 use Rattle.sim_agree.proofs.ClassRows.{levels_of_kind}
 use Rattle.sim_agree.proofs.Depth.{Chain, Deep, IsOpen, beyond, program_deep, same}
 use Rattle.sim_agree.specs.TablesAgree.{is_prefixed_text}
-use Rattle.sim_agree.proofs.Fine.{KindIs, first_or_none, set_first as set_first_of}
+use Rattle.sim_agree.proofs.Fine.{KindIs, first_or_none, standard_first}
 use Rattle.sim_agree.proofs.Completing.{has_base}
-use Rattle.sim_agree.proofs.Groups.{PlainKind, Prefixing}
-use Rattle.sim_agree.proofs.PlainNames.{SetsOrNone}
-use Rattle.sim_agree.proofs.SetBlocks.{standard_text}
+use Rattle.sim_agree.proofs.Groups.{PlainKind}
+use Rattle.sim_agree.proofs.StandardPrefixes.{InFront}
+use Rattle.sim_agree.proofs.StandardBlocks.{standard_text}
 use Rattle.sim_agree.proofs.Laid.{program_held}
 use Rattle.sim_agree.proofs.Spots.{Final}
 use Rattle.sim_agree.proofs.Tables as t
 use Rattle.sim_agree.proofs.Tables.{program_final}
-use Rattle.sim_agree.proofs.Unprefixed.{extras_in}
 use Rattle.sim_meaning.specs.Levels.{has_levels}
 
 -- ---- tests
@@ -216,7 +215,7 @@ module _ (s : Source) (of : TablesOf s) (plain : Plain s.program) (order : InOrd
           ap (λ o. not (has_class_in o s.tables.blocks)) at
           ∙ ap (λ z. not (z || list_any (λ c. is_class_kind c.kind && nat_le row.first c.first && nat_lt c.first row.end) s.tables.blocks)) (of_class_kind row (slice_get (t.Ts s of plain order) k) q levels)
 
-  -- what is no text with levels is no class of SIMSET
+  -- what is no text with levels is no standard class
   no_standard : (row : BlockOf) (o : Option Text) → KindIs (Some row) o → has_levels o ≡ false → is_standard_class row.kind ≡ false
   no_standard row None q e = absurd q
   no_standard row (Some (BlockText i ds ss)) q e = go row.kind q
@@ -235,13 +234,13 @@ module _ (s : Source) (of : TablesOf s) (plain : Plain s.program) (order : InOrd
   no_standard row (Some (PrefixedText class es ds ss)) q e = absurd (cc)
   no_standard row (Some (StandardText which)) q e = absurd (cc)
 
-  -- a class of SIMSET has no text
+  -- a standard class has no text
   set_first : (k : ℕ) (row : BlockOf) → slice_get s.tables.blocks k ≡ Some row → is_standard_class row.kind ≡ true → row.first ≡ 0
   set_first k row at is =
       let w = t.row_was s of plain order k row at in
       ap (λ (z : BlockOf). z.first) w.2 ∙ of_kind w.0.kind w.0.first (ap (λ (z : BlockOf). is_standard_class z.kind) (sym w.2) ∙ is) (sym (ap first_or_none w.1) ∙ (t.program_agrees s.program plain).fine.textless k)
     where
-      of_kind : (c : BlockKind) (n : ℕ) → is_standard_class c ≡ true → set_first_of c n ≡ 0 → n ≡ 0
+      of_kind : (c : BlockKind) (n : ℕ) → is_standard_class c ≡ true → standard_first c n ≡ 0 → n ≡ 0
       of_kind (kind.StandardClass which) n e f = f
       of_kind kind.Program n e f = absurd (cc)
       of_kind kind.SubBlock n e f = absurd (cc)
@@ -254,24 +253,24 @@ module _ (s : Source) (of : TablesOf s) (plain : Plain s.program) (order : InOrd
   hosted : (k u : ℕ) (which : StandardClass) → encloser s.tables k ≡ Some u → text s k ≡ Some (StandardText which) → has_levels (text s u) ≡ true
   unfolding text encloser
   hosted k u which e is =
-      let q = (t.program_agrees s.program plain).fine.sets k which is in
+      let q = (t.program_agrees s.program plain).fine.standards k which is in
       let there : around (slice_get (declared_by s.program).tables.blocks k) ≡ Some q.block = ap (λ m. around (slice_get (declared_by s.program).tables.blocks m)) q.place ∙ q.group.around which q.is in
       let same_block : u ≡ q.block = some_number u q.block (sym e ∙ t.same_around s of plain order k ∙ there) in
-      ap (λ m. has_levels (text s m)) same_block ∙ ap has_levels q.group.host.1 ∙ levels q.group.host.0 q.group.host.2
+      ap (λ m. has_levels (text s m)) same_block ∙ ap has_levels q.group.host.1 ∙ levels q.prefix q.group.host.0 q.group.host.2
     where
       some_number : (m n : ℕ) → Some m ≡ Some n → m ≡ n
       some_number m n q = cc
 
-      levels : (x : Text) → Prefixing x → has_levels (Some x) ≡ true
-      levels (ClassText prefix h ds ss) q = refl
-      levels (PrefixedText class es ds ss) q = refl
-      levels (BlockText i ds ss) q = absurd q
-      levels (ProcedureText result h a) q = absurd q
-      levels ConnectionText q = absurd q
-      levels (StandardText which) q = absurd q
+      levels : (p : StandardPrefix) (x : Text) → InFront p x → has_levels (Some x) ≡ true
+      levels p (ClassText prefix h ds ss) q = refl
+      levels p (PrefixedText class es ds ss) q = refl
+      levels p (BlockText i ds ss) q = absurd q
+      levels p (ProcedureText result h a) q = absurd q
+      levels p ConnectionText q = absurd q
+      levels p (StandardText which) q = absurd q
 
   module _ (k u : ℕ) (e : encloser s.tables k ≡ Some u) (without : has_levels (text s u) ≡ false) where
-    -- neither is a class of SIMSET
+    -- neither is a standard class
     inner_other : (row : BlockOf) → slice_get s.tables.blocks k ≡ Some row → is_standard_class row.kind ≡ false
     unfolding text
     inner_other row at = go row.kind refl
@@ -328,7 +327,7 @@ module _ (s : Source) (of : TablesOf s) (plain : Plain s.program) (order : InOrd
         let hi : v.0.first < w.0.end = r.1 in
         lasts u (record { row = o.0; at = o.1; class = class; inner = inner; there = there; is = is; low = omega (arith, lo, x, z); high = omega (arith, hi, y, z) })
 
-    -- a class of SIMSET has no text, and is inside no other text than one that begins with the source
+    -- a standard class has no text, and is inside no other text than one that begins with the source
     from_nothing : (row : BlockOf) → slice_get s.tables.blocks k ≡ Some row → row.first ≤ 0 → is_class_free s u ≡ false
     from_nothing row at le =
         let w = t.row_was s of plain order k row at in
@@ -448,19 +447,6 @@ module _ (s : Source) (of : TablesOf s) (plain : Plain s.program) (order : InOrd
       go : (o : Option BlockOf) (x : Option Text) → KindIs o x → is_so has_text_of_levels (kind_in o) ≡ true → has_levels x ≡ true
       go None x q e = absurd (cc)
       go (Some row) x q e = levels_of_kind row x q (same_kinds row.kind e)
-
-  -- no block has `simulation` in front
-  pub not_simulation : (k : ℕ) → is_simulation_block s.tables k ≡ false
-  unfolding is_simulation_block
-  not_simulation k = go (slice_get s.tables.blocks k) ((t.shows s of plain order).standards k)
-    where
-      simple : (p : Option StandardPrefix) → SetsOrNone p → is_simulation p ≡ false
-      simple p (inl e) = ap is_simulation e
-      simple p (inr e) = ap is_simulation e
-
-      go : (o : Option BlockOf) → SetsOrNone (extras_in o).standard → is_simulation (standard_in o) ≡ false
-      go None q = refl
-      go (Some row) q = simple row.standard q
 
   -- a connection is the text around its first token
   pub begins : (k : ℕ) (row : BlockOf) → slice_get s.tables.blocks k ≡ Some row → is_standard_class row.kind ≡ false → block_at s.tables row.first ≡ Some k

@@ -1,5 +1,5 @@
 -- The marks of a plain program beside the tokens of its text, with what each text uses.
-use Rattle.std.proofs.Common.{◌≡◌, inl, inr, ℕ, Bool, true, false, List, [], ◌∷◌, ◌++◌, length, map, Option, Some, None, refl, sym, ap, ◌∙◌, subst, append-nil, append_assoc}
+use Rattle.std.proofs.Common.{◌≡◌, ℕ, Bool, true, false, List, [], ◌∷◌, ◌++◌, length, map, Option, Some, None, refl, sym, ap, ◌∙◌, subst, append-nil, append_assoc}
 use Rattle.sim_tree.specs.declared.expr.Identifier.{Identifier}
 use Rattle.sim_tree.specs.declared.stmt.Mode.{Mode as Word}
 use Rattle.sim_tree.specs.declared.stmt.Mode.TheVariants as word
@@ -7,7 +7,7 @@ use Rattle.sim_tree.specs.declared.stmt.TypeName.{TypeName}
 use Rattle.sim_tree.specs.declared.stmt.TypeName.TheVariants as type_name
 use Rattle.sim_tree.specs.declared.stmt.Variable.{Variable}
 use Rattle.sim_tree.specs.Named.{named}
-use Rattle.sim_tree.specs.Syntax.{Also, Arms, Arrayed, Arrays, Begin, Block, BoundPair, Compound, Declaration, Declarations, DeclareClass, DeclareProcedure, Element, Expression, Heading, Interface, Moded as ModePart, NoArm, NoDeclaration, NoStatement, Prefix, Program, RightSide, Specification, Specified as Specifier, Statement, Statements, Variables, When, With, Protected, Expressions}
+use Rattle.sim_tree.specs.Syntax.{Also, Arms, Arrayed, Arrays, Begin, Block, BoundPair, Compound, Declaration, Declarations, DeclareClass, DeclareProcedure, Element, Expression, Heading, Interface, Moded as ModePart, NoArm, NoDeclaration, NoStatement, Prefix, Program, RightSide, Specification, Specified as Specifier, Statement, Statements, Variables, When, With, Protected, Expressions, Schedule}
 use Rattle.sim_tree.specs.Syntax as syntax
 use Rattle.sim_base.specs.declared.rule.Rule.{Rule}
 use Rattle.sim_base.specs.declared.rule.Rule.TheVariants as r
@@ -20,6 +20,7 @@ use Rattle.sim_scope.specs.declared.types.Mode.TheVariants as mode
 use Rattle.sim_scope.specs.declared.types.Position.{Position}
 use Rattle.sim_scope.specs.declared.types.Position.TheVariants.{ClassBody, ClassStatement, Inside}
 use Rattle.sim_scope.specs.declared.types.SimType.{SimType}
+use Rattle.sim_scope.specs.declared.types.StandardPrefix.{StandardPrefix}
 use Rattle.sim_scope.specs.Bodies.{body_declarations, body_statements}
 use Rattle.sim_scope.specs.Building.{Breaks, Closes, Declares, DeclaresClass, DeclaresProcedure, Headed, Inner, Mark, Moded, Opens, Parameter, Specified, Prefixes, Protects}
 use Rattle.sim_scope.specs.Declare.{array_marks, class_marks, class_prefix_marks, declaring, first_of_class, first_of_procedure, headed_marks, heading_marks, inner_marks, interface_marks, mode_named, mode_part_marks, moded_marks, parameter_marks, procedure_marks, program_marks, qualified_marks, qualified_result, result_named, segment_marks, specification_marks, specified_marks, type_named, variable_marks, is_written, protected_marks, protection_marks, prefix_marks, prefixed_marks}
@@ -27,10 +28,10 @@ use Rattle.sim_scope.specs.Runs.{each}
 use Rattle.sim_scope.specs.Standard.{standard_prefix}
 use Rattle.sim_scope.specs.Walk.{arms_events, begin_of, block_events, declaration_events, declarations_events, program_events, statement_events, statements_events, whole_events}
 use Rattle.sim_meaning.specs.Texts.{BlockText, ClassText, ConnectionText, ProcedureText, Text, arms_texts, block_texts, declaration_texts, declarations_texts, program_texts, statement_texts, statements_texts, prefix_texts, PrefixedText, prefixed_texts, standard_texts}
-use Rattle.sim_tree.specs.Order.{Behind, Spot, Token, in_arms, in_block, in_bounds, in_declaration, in_declarations, in_each, in_element, in_expression, in_name, in_result, in_segment, in_side, in_statement, in_statements, in_type, in_variable, tokens, in_prefix}
-use Rattle.sim_agree.specs.Plain.{Each, Plain, PlainArms, PlainBlock, PlainDeclarations, PlainHeading, PlainInterface, PlainMode, PlainSpecification, PlainStatement, PlainStatements, PlainWord, PlainName, PlainPrefix, PlainStart}
-use Rattle.sim_agree.proofs.Groups.{AreReferences, OfReferences, OwnEntry, PlainFormal, Quals, quals_of_result, quals_of_type, plain_prefix, only_protections, IsSimset, set_prefix, sets_prefix}
-use Rattle.sim_agree.proofs.PlainNames.{SetsOrNone, no_texts, plain_standard, set_texts, texts_of_sets}
+use Rattle.sim_tree.specs.Order.{Behind, Spot, Token, in_arms, in_block, in_bounds, in_declaration, in_declarations, in_each, in_element, in_expression, in_name, in_result, in_schedule, in_segment, in_side, in_statement, in_statements, in_type, in_variable, tokens, in_prefix}
+use Rattle.sim_agree.specs.Plain.{Each, Plain, PlainArms, PlainBlock, PlainDeclarations, PlainHeading, PlainInterface, PlainMode, PlainSpecification, PlainStatement, PlainStatements, PlainWord, PlainStart}
+use Rattle.sim_agree.proofs.Groups.{AreReferences, OfReferences, OwnEntry, PlainFormal, Quals, quals_of_result, quals_of_type, plain_prefix, only_protections, standard_marks_are, whole_prefix}
+use Rattle.sim_agree.proofs.StandardPrefixes.{Spells, brought_texts, no_texts, texts_of_standard}
 
 -- ---- what a text uses itself: tokens, sub-blocks and prefixed blocks by their first token, and connections by theirs, with what stands in them
 
@@ -59,6 +60,13 @@ element_used (syntax.Once a) u = expression_used a u
 element_used (syntax.Step a i b c) u = expression_used a (expression_used b (expression_used c u))
 element_used (syntax.While a i b) u = expression_used a (expression_used b u)
 
+abbrev pub schedule_used : Schedule → List Part → List Part
+schedule_used syntax.Now u = u
+schedule_used (syntax.At i a prior) u = expression_used a u
+schedule_used (syntax.Delay i a prior) u = expression_used a u
+schedule_used (syntax.Before i a) u = expression_used a u
+schedule_used (syntax.After i a) u = expression_used a u
+
 abbrev pub bounds_used : BoundPair → List Part → List Part
 bounds_used b u = expression_used b.lower (expression_used b.upper u)
 
@@ -78,7 +86,7 @@ abbrev mutual
   statement_used (syntax.For i name sign j elements x) u = Use name.token.0 ∷ each_used element_used elements (statement_used x u)
   statement_used (syntax.Inspect i e opening x end y) u = expression_used e (Con opening x ∷ statements_used y u)
   statement_used (syntax.InspectWhen i e arms y) u = expression_used e (arms_used arms (statements_used y u))
-  statement_used (syntax.Activate i word e schedule) u = u
+  statement_used (syntax.Activate i word e schedule) u = Use i ∷ expression_used e (schedule_used schedule u)
 
   pub statements_used : Statements → List Part → List Part
   statements_used NoStatement u = u
@@ -189,7 +197,7 @@ mutual
   held_statement : (a : Statement) → PlainStatement a → map text_held (statement_held a) ≡ statement_texts a
   held_statement (syntax.Empty i) p = refl
   held_statement (syntax.Compound b) p = held_block b p
-  held_statement (syntax.Prefixed class es b) p = held_prefixed class es b p.2
+  held_statement (syntax.Prefixed class es b) p = held_prefixed class es b p.1
   held_statement (syntax.Inner i) p = refl
   held_statement (syntax.Call e) p = refl
   held_statement (syntax.Assign e sides) p = refl
@@ -198,7 +206,7 @@ mutual
   held_statement (syntax.For i name sign j elements x) p = held_statement x p.1
   held_statement (syntax.Inspect i e opening x end y) p = ap (λ z. ConnectionText ∷ z) (map_both (statement_held x) (statements_held y) (statement_texts x) (statements_texts y) (held_statement x p.1) (held_statements y p.2))
   held_statement (syntax.InspectWhen i e arms y) p = map_both (arms_held arms) (statements_held y) (arms_texts arms) (statements_texts y) (held_arms arms p.1) (held_statements y p.2)
-  held_statement (syntax.Activate i word e schedule) p = absurd p
+  held_statement (syntax.Activate i word e schedule) p = refl
 
   held_statements : (ss : Statements) → PlainStatements ss → map text_held (statements_held ss) ≡ statements_texts ss
   held_statements NoStatement p = refl
@@ -206,7 +214,7 @@ mutual
 
   held_arms : (arms : Arms) → PlainArms arms → map text_held (arms_held arms) ≡ arms_texts arms
   held_arms NoArm p = refl
-  held_arms (When i class opening x end more) p = ap (λ z. ConnectionText ∷ z) (map_both (statement_held x) (arms_held more) (statement_texts x) (arms_texts more) (held_statement x p.1) (held_arms more p.2))
+  held_arms (When i class opening x end more) p = ap (λ z. ConnectionText ∷ z) (map_both (statement_held x) (arms_held more) (statement_texts x) (arms_texts more) (held_statement x p.0) (held_arms more p.1))
 
   held_prefixed : (class : Identifier) (es : Expressions) (b : Block) → PlainBlock b → map text_held (prefixed_held class es b) ≡ prefixed_texts class es b
   held_prefixed class es (Begin i ds ss e) p =
@@ -228,8 +236,8 @@ mutual
   held_declaration : (d : Declaration) → Rattle.sim_agree.specs.Plain.PlainDeclaration d → map text_held (declaration_held d) ≡ declaration_texts d
   held_declaration (Variables type vs) p = refl
   held_declaration (Arrays type i segments) p = refl
-  held_declaration (DeclareProcedure result i h a e) p = ap (λ z. ProcedureText result h a ∷ z) (held_statement a p.2)
-  held_declaration (DeclareClass prefix i h interface a end) p = held_class prefix i h interface a end p.3 (held_statement a p.3)
+  held_declaration (DeclareProcedure result i h a e) p = ap (λ z. ProcedureText result h a ∷ z) (held_statement a p.1)
+  held_declaration (DeclareClass prefix i h interface a end) p = held_class prefix i h interface a end p.2 (held_statement a p.2)
 
   held_class : (prefix : Option Identifier) (i : ℕ) (h : Heading) (interface : Interface) (a : Statement) (end : ℕ) → PlainStatement a → map text_held (statement_held a) ≡ statement_texts a → map text_held (declaration_held (DeclareClass prefix i h interface a end)) ≡ declaration_texts (DeclareClass prefix i h interface a end)
   held_class prefix i h interface (syntax.Compound (Begin j ds ss e)) end p one =
@@ -246,7 +254,7 @@ mutual
   held_class prefix i h interface (syntax.For n y sign m es x) end p one = held_alone prefix h (syntax.For n y sign m es x) one
   held_class prefix i h interface (syntax.Inspect n object d x m rest) end p one = held_alone prefix h (syntax.Inspect n object d x m rest) one
   held_class prefix i h interface (syntax.InspectWhen n object arms rest) end p one = held_alone prefix h (syntax.InspectWhen n object arms rest) one
-  held_class prefix i h interface (syntax.Activate n v process schedule) end p one = absurd p
+  held_class prefix i h interface (syntax.Activate n v process schedule) end p one = held_alone prefix h (syntax.Activate n v process schedule) one
 
 pub held_program : (prefix : Option Prefix) (b : Block) → PlainBlock b → map text_held (program_held prefix b) ≡ program_texts prefix b
 held_program (Some x) b p = start b p
@@ -264,10 +272,10 @@ pub record Frame : Type 0 where
 abbrev pub frame : Text → List Part → Frame
 frame x u = record { text = x; left = u }
 
--- the mark of a prefix that is no standard name
+-- the mark of a prefix that is no standard one
 pub data Prefs : List Mark → Type 0 where
   unprefixed : Prefs []
-  prefixed : (y : Identifier) → PlainName y → Prefs (Prefixes y ∷ [])
+  prefixed : (y : Identifier) → standard_prefix y.name ≡ None → Prefs (Prefixes y ∷ [])
 
 -- a block with a prefix is a part of the text around, or the program
 pub data Stands (i : ℕ) : List Frame → List Frame → Type 0 where
@@ -292,12 +300,12 @@ pub data Laid : List Frame → List Mark → List Spot → List Held → Type 0 
       → Laid [] (Opens kind.Program text i ∷ ms) (Token i ∷ l) (Whole (BlockText i ds ss) ∷ hs)
   block : {os : List Frame} {ms : List Mark} {l : List Spot} {hs : List Held} (text i : ℕ) (ds : Declarations) (ss : Statements) (x : Text) (u : List Part)
       → Laid (frame (BlockText i ds ss) (text_used (BlockText i ds ss)) ∷ frame x u ∷ os) ms l hs → Laid (frame x (Sub i ∷ u) ∷ os) (Opens kind.SubBlock text i ∷ ms) (Token i ∷ l) (Whole (BlockText i ds ss) ∷ hs)
-  prefixed_block : {os : List Frame} {ms : List Mark} {l : List Spot} {hs : List Held} (text i : ℕ) (class : Identifier) (es : Expressions) (ds : Declarations) (ss : Statements) {ps : List Frame} → PlainName class → Stands i ps os
+  prefixed_block : {os : List Frame} {ms : List Mark} {l : List Spot} {hs : List Held} (text i : ℕ) (class : Identifier) (es : Expressions) (ds : Declarations) (ss : Statements) {ps : List Frame} → standard_prefix class.name ≡ None → Stands i ps os
       → Laid (frame (PrefixedText class es ds ss) (text_used (PrefixedText class es ds ss)) ∷ os) ms l hs
       → Laid ps (Opens kind.Prefixed text i ∷ Prefixes class ∷ ms) (Token i ∷ l) (Whole (PrefixedText class es ds ss) ∷ hs)
-  sets_block : {os : List Frame} {ms : List Mark} {l : List Spot} {hs : List Held} (text i : ℕ) (class : Identifier) (es : Expressions) (ds : Declarations) (ss : Statements) {ps : List Frame} → PlainName class → IsSimset class → Stands i ps os
+  standard_block : {os : List Frame} {ms : List Mark} {l : List Spot} {hs : List Held} (p : StandardPrefix) (text i : ℕ) (class : Identifier) (es : Expressions) (ds : Declarations) (ss : Statements) {ps : List Frame} → Spells p class → Stands i ps os
       → Laid (frame (PrefixedText class es ds ss) (text_used (PrefixedText class es ds ss)) ∷ os) ms l hs
-      → Laid ps (Opens kind.Prefixed text i ∷ (set_prefix i class ++ ms)) (Token i ∷ l) (Whole (PrefixedText class es ds ss) ∷ (all_held set_texts ++ hs))
+      → Laid ps (Opens kind.Prefixed text i ∷ (whole_prefix p i class ++ ms)) (Token i ∷ l) (Whole (PrefixedText class es ds ss) ∷ (all_held (brought_texts p) ++ hs))
   connects : {os : List Frame} {ms : List Mark} {l : List Spot} {hs : List Held} (text i : ℕ) (a : Statement) (x : Text) (u : List Part)
       → Laid (frame ConnectionText (statement_used a []) ∷ frame x u ∷ os) ms l hs → Laid (frame x (Con i a ∷ u) ∷ os) (Opens kind.Connection text i ∷ ms) (Token i ∷ l) (Joined i a ∷ hs)
   procedure : {o : Frame} {os : List Frame} {ms : List Mark} {l : List Spot} {hs : List Held} (text : ℕ) (quals : List Mark) (result : Option TypeName) (h : Heading) (a : Statement) → Quals (AreReferences (result_named result)) quals
@@ -306,9 +314,9 @@ pub data Laid : List Frame → List Mark → List Spot → List Held → Type 0 
   declares_class : {o : Frame} {os : List Frame} {ms : List Mark} {l : List Spot} {hs : List Held} (text : ℕ) (prefs : List Mark) (prefix : Option Identifier) (h : Heading) (ds : Declarations) (ss : Statements) → Prefs prefs
       → Laid (frame (ClassText prefix h ds ss) (text_used (ClassText prefix h ds ss)) ∷ o ∷ os) ms l hs
       → Laid (o ∷ os) (DeclaresClass h.name ∷ Opens kind.Class text h.name.token.0 ∷ (prefs ++ ms)) (Token h.name.token.0 ∷ l) (Whole (ClassText prefix h ds ss) ∷ hs)
-  sets_class : {o : Frame} {os : List Frame} {ms : List Mark} {l : List Spot} {hs : List Held} (text : ℕ) (y : Identifier) (h : Heading) (ds : Declarations) (ss : Statements) → PlainName y → IsSimset y
+  standard_class : {o : Frame} {os : List Frame} {ms : List Mark} {l : List Spot} {hs : List Held} (p : StandardPrefix) (text : ℕ) (y : Identifier) (h : Heading) (ds : Declarations) (ss : Statements) → Spells p y
       → Laid (frame (ClassText (Some y) h ds ss) (text_used (ClassText (Some y) h ds ss)) ∷ o ∷ os) ms l hs
-      → Laid (o ∷ os) (DeclaresClass h.name ∷ Opens kind.Class text h.name.token.0 ∷ (set_prefix h.name.token.0 y ++ ms)) (Token h.name.token.0 ∷ l) (Whole (ClassText (Some y) h ds ss) ∷ (all_held set_texts ++ hs))
+      → Laid (o ∷ os) (DeclaresClass h.name ∷ Opens kind.Class text h.name.token.0 ∷ (whole_prefix p h.name.token.0 y ++ ms)) (Token h.name.token.0 ∷ l) (Whole (ClassText (Some y) h ds ss) ∷ (all_held (brought_texts p) ++ hs))
   closes : {os : List Frame} {ms : List Mark} {l : List Spot} {hs : List Held} (x : Text) (end : ℕ) → Laid os ms l hs → Laid (frame x [] ∷ os) (Closes end ∷ ms) (Behind end ∷ l) hs
 
 -- ---- one part after the other
@@ -378,6 +386,13 @@ module _ (x : Text) (os : List Frame) where
   each_lays : {A : Type 0} (f : A → List Part → List Part) (g : A → Put) → ((a : A) (u : List Part) → Lays (At (f a u)) [] (g a) [] (At u)) → (xs : List A) (u : List Part) → Lays (At (each_used f xs u)) [] (in_each g xs) [] (At u)
   each_lays f g one [] u = none
   each_lays f g one (a ∷ as_) u = lead (g a) (in_each g as_) (one a (each_used f as_ u)) (each_lays f g one as_ u)
+
+  schedule_lays : (a : Schedule) (u : List Part) → Lays (At (schedule_used a u)) [] (in_schedule a) [] (At u)
+  schedule_lays syntax.Now u = none
+  schedule_lays (syntax.At i a prior) u = expression_lays a u
+  schedule_lays (syntax.Delay i a prior) u = expression_lays a u
+  schedule_lays (syntax.Before i a) u = expression_lays a u
+  schedule_lays (syntax.After i a) u = expression_lays a u
 
   element_lays : (a : Element) (u : List Part) → Lays (At (element_used a u)) [] (in_element a) [] (At u)
   element_lays (syntax.Once a) u = expression_lays a u
@@ -484,10 +499,10 @@ begins_block : (i : ℕ) (ds : Declarations) (ss : Statements) (x : Text) (u : L
     → Lays (frame x (Sub i ∷ u) ∷ os) (Opens kind.SubBlock i i ∷ []) (λ l. Token i ∷ l) (Whole (BlockText i ds ss) ∷ []) (frame (BlockText i ds ss) (text_used (BlockText i ds ss)) ∷ frame x u ∷ os)
 begins_block i ds ss x u os = record { before = λ ms l hs h. block i i ds ss x u h }
 
-begins_prefixed : (class : Identifier) → PlainName class → (i : ℕ) (es : Expressions) (ds : Declarations) (ss : Statements) (ps os : List Frame) → Stands i ps os
+begins_prefixed : (class : Identifier) (i : ℕ) (es : Expressions) (ds : Declarations) (ss : Statements) (ps os : List Frame) → Stands i ps os
     → Lays ps (prefixed_marks class i) (λ l. Token i ∷ l) (Whole (PrefixedText class es ds ss) ∷ all_held (standard_texts class.name)) (frame (PrefixedText class es ds ss) (text_used (PrefixedText class es ds ss)) ∷ os)
 unfolding prefixed_marks
-begins_prefixed class w i es ds ss ps os stands = go (plain_standard class.name w)
+begins_prefixed class i es ds ss ps os stands = go (standard_prefix class.name) refl
   where
     x : Held
     x = Whole (PrefixedText class es ds ss)
@@ -498,15 +513,15 @@ begins_prefixed class w i es ds ss ps os stands = go (plain_standard class.name 
     head : List Mark → List Mark
     head ms = Opens kind.Prefixed class.token.0 i ∷ ms
 
-    go : SetsOrNone (standard_prefix class.name) → Lays ps (Opens kind.Prefixed class.token.0 i ∷ prefix_marks i class) (λ l. Token i ∷ l) (Whole (PrefixedText class es ds ss) ∷ all_held (standard_texts class.name)) (frame (PrefixedText class es ds ss) (text_used (PrefixedText class es ds ss)) ∷ os)
-    go (inl e) =
+    go : (o : Option StandardPrefix) → standard_prefix class.name ≡ o → Lays ps (Opens kind.Prefixed class.token.0 i ∷ prefix_marks i class) (λ l. Token i ∷ l) (Whole (PrefixedText class es ds ss) ∷ all_held (standard_texts class.name)) (frame (PrefixedText class es ds ss) (text_used (PrefixedText class es ds ss)) ∷ os)
+    go None e =
         as_held (λ l. Token i ∷ l) (x ∷ []) (x ∷ all_held (standard_texts class.name)) (ap (λ z. x ∷ all_held z) (sym (no_texts class.name e)))
         (as_marks (λ l. Token i ∷ l) (head (Prefixes class ∷ [])) (head (prefix_marks i class)) (ap head (sym (plain_prefix i class e)))
-        (record { before = λ ms l hs h. prefixed_block class.token.0 i class es ds ss w stands h }))
-    go (inr e) =
-        as_held (λ l. Token i ∷ l) (x ∷ all_held set_texts) (x ∷ all_held (standard_texts class.name)) (ap (λ z. x ∷ all_held z) (sym (texts_of_sets class.name e)))
-        (as_marks (λ l. Token i ∷ l) (head (set_prefix i class)) (head (prefix_marks i class)) (ap head (sym (sets_prefix i class e)))
-        (record { before = λ ms l hs h. sets_block class.token.0 i class es ds ss w e stands h }))
+        (record { before = λ ms l hs h. prefixed_block class.token.0 i class es ds ss e stands h }))
+    go (Some p) e =
+        as_held (λ l. Token i ∷ l) (x ∷ all_held (brought_texts p)) (x ∷ all_held (standard_texts class.name)) (ap (λ z. x ∷ all_held z) (sym (texts_of_standard p class.name e)))
+        (as_marks (λ l. Token i ∷ l) (head (whole_prefix p i class)) (head (prefix_marks i class)) (ap head (sym (standard_marks_are p i class e)))
+        (record { before = λ ms l hs h. standard_block p class.token.0 i class es ds ss e stands h }))
 
 begins_connection : (i : ℕ) (a : Statement) (x : Text) (u : List Part) (os : List Frame) → Lays (frame x (Con i a ∷ u) ∷ os) (Opens kind.Connection i i ∷ []) (λ l. Token i ∷ l) (Joined i a ∷ []) (frame ConnectionText (statement_used a []) ∷ frame x u ∷ os)
 begins_connection i a x u os = record { before = λ ms l hs h. connects i i a x u h }
@@ -523,11 +538,11 @@ begins_procedure result token h a o os = record {
       (procedure (first_of_procedure result token) (qualified_result result) result h a (quals_of_result result) k);
 }
 
-begins_class : (prefix : Option Identifier) → PlainPrefix prefix → (token : ℕ) (h : Heading) (ds : Declarations) (ss : Statements) (o : Frame) (os : List Frame)
+begins_class : (prefix : Option Identifier) (token : ℕ) (h : Heading) (ds : Declarations) (ss : Statements) (o : Frame) (os : List Frame)
     → Lays (o ∷ os) (class_marks prefix token h.name) (in_name h.name) (Whole (ClassText prefix h ds ss) ∷ all_held (prefix_texts prefix)) (frame (ClassText prefix h ds ss) (text_used (ClassText prefix h ds ss)) ∷ o ∷ os)
 unfolding class_marks class_prefix_marks
-begins_class None w token h ds ss o os = record { before = λ ms l hs k. declares_class (first_of_class None token) [] None h ds ss unprefixed k }
-begins_class (Some y) w token h ds ss o os = go (plain_standard y.name w)
+begins_class None token h ds ss o os = record { before = λ ms l hs k. declares_class (first_of_class None token) [] None h ds ss unprefixed k }
+begins_class (Some y) token h ds ss o os = go (standard_prefix y.name) refl
   where
     first : ℕ
     first = first_of_class (Some y) token
@@ -538,16 +553,16 @@ begins_class (Some y) w token h ds ss o os = go (plain_standard y.name w)
     head : List Mark → List Mark
     head ms = DeclaresClass h.name ∷ Opens kind.Class (first_of_class (Some y) token) h.name.token.0 ∷ ms
 
-    go : SetsOrNone (standard_prefix y.name)
+    go : (q : Option StandardPrefix) → standard_prefix y.name ≡ q
         → Lays (o ∷ os) (DeclaresClass h.name ∷ Opens kind.Class (first_of_class (Some y) token) h.name.token.0 ∷ prefix_marks h.name.token.0 y) (in_name h.name) (Whole (ClassText (Some y) h ds ss) ∷ all_held (standard_texts y.name)) (frame (ClassText (Some y) h ds ss) (text_used (ClassText (Some y) h ds ss)) ∷ o ∷ os)
-    go (inl e) =
+    go None e =
         as_held (in_name h.name) (x ∷ []) (x ∷ all_held (standard_texts y.name)) (ap (λ z. x ∷ all_held z) (sym (no_texts y.name e)))
         (as_marks (in_name h.name) (head (Prefixes y ∷ [])) (head (prefix_marks h.name.token.0 y)) (ap head (sym (plain_prefix h.name.token.0 y e)))
-        (record { before = λ ms l hs k. declares_class first (Prefixes y ∷ []) (Some y) h ds ss (prefixed y w) k }))
-    go (inr e) =
-        as_held (in_name h.name) (x ∷ all_held set_texts) (x ∷ all_held (standard_texts y.name)) (ap (λ z. x ∷ all_held z) (sym (texts_of_sets y.name e)))
-        (as_marks (in_name h.name) (head (set_prefix h.name.token.0 y)) (head (prefix_marks h.name.token.0 y)) (ap head (sym (sets_prefix h.name.token.0 y e)))
-        (record { before = λ ms l hs k. sets_class first y h ds ss w e k }))
+        (record { before = λ ms l hs k. declares_class first (Prefixes y ∷ []) (Some y) h ds ss (prefixed y e) k }))
+    go (Some p) e =
+        as_held (in_name h.name) (x ∷ all_held (brought_texts p)) (x ∷ all_held (standard_texts y.name)) (ap (λ z. x ∷ all_held z) (sym (texts_of_standard p y.name e)))
+        (as_marks (in_name h.name) (head (whole_prefix p h.name.token.0 y)) (head (prefix_marks h.name.token.0 y)) (ap head (sym (standard_marks_are p h.name.token.0 y e)))
+        (record { before = λ ms l hs k. standard_class p first y h ds ss e k }))
 
 ends : (x : Text) (end : ℕ) (os : List Frame) → Lays (frame x [] ∷ os) (Closes end ∷ []) (λ l. Behind end ∷ l) [] os
 ends x end os = record { before = λ ms l hs h. closes x end h }
@@ -607,19 +622,19 @@ protections_lay (p ∷ ps) os = both (λ l. l) (λ l. l) (guarded_lay (is_writte
 interface_lays : (i : Interface) → PlainInterface i → (os : List Frame) → Lays os (interface_marks i) (λ l. l) [] os
 interface_lays i p os = as_marks (λ l. l) (each protection_marks i.protections) (interface_marks i) (sym (only_protections i p)) (protections_lay i.protections os)
 
-class_lays : (prefix : Option Identifier) → PlainPrefix prefix → (j : ℕ) (h : Heading) (i : Interface) (a : Statement) (e : ℕ) (o : Frame) (os : List Frame) → PlainHeading h → PlainInterface i
+class_lays : (prefix : Option Identifier) (j : ℕ) (h : Heading) (i : Interface) (a : Statement) (e : ℕ) (o : Frame) (os : List Frame) → PlainHeading h → PlainInterface i
     → Lays (frame (ClassText prefix h (body_declarations a) (body_statements a)) (text_used (ClassText prefix h (body_declarations a) (body_statements a))) ∷ o ∷ os) (statement_events declaring ClassBody a) (in_statement a) (declarations_held (body_declarations a) ++ statements_held (body_statements a))
     (frame (ClassText prefix h (body_declarations a) (body_statements a)) [] ∷ o ∷ os)
     → Lays (o ∷ os) (declaration_events declaring (DeclareClass prefix j h i a e)) (in_declaration (DeclareClass prefix j h i a e)) (declaration_held (DeclareClass prefix j h i a e)) (o ∷ os)
 unfolding declaring
-class_lays prefix w j h i a e o os p q body =
+class_lays prefix j h i a e o os p q body =
     let x : Text = ClassText prefix h (body_declarations a) (body_statements a) in
     let inside : List Held = declarations_held (body_declarations a) ++ statements_held (body_statements a) in
     as_held (in_declaration (DeclareClass prefix j h i a e)) (Whole x ∷ ((all_held (prefix_texts prefix) ++ []) ++ (inside ++ []))) (declaration_held (DeclareClass prefix j h i a e))
     (ap (λ z. Whole x ∷ (z ++ (inside ++ []))) (append-nil (all_held (prefix_texts prefix))) ∙ ap (λ z. Whole x ∷ (all_held (prefix_texts prefix) ++ z)) (append-nil inside) ∙ sym (class_held prefix j h i a e))
     (lead (in_prefix prefix) (λ l. in_name h.name (in_each in_name h.formals (in_statement a (Behind e ∷ l)))) (prefix_lays prefix (o ∷ os))
     (both (λ l. in_name h.name (in_each in_name h.formals l)) (λ l. in_statement a (Behind e ∷ l))
-    (both (in_name h.name) (in_each in_name h.formals) (begins_class prefix w j h (body_declarations a) (body_statements a) o os)
+    (both (in_name h.name) (in_each in_name h.formals) (begins_class prefix j h (body_declarations a) (body_statements a) o os)
     (both (in_each in_name h.formals) (λ l. l) (heading_lays (frame x (text_used x)) (o ∷ os) h p) (interface_lays i q (frame x (text_used x) ∷ o ∷ os))))
     (both (in_statement a) (λ l. Behind e ∷ l) body (ends x e (o ∷ os)))))
 
@@ -635,7 +650,7 @@ mutual
   statement_lays b (syntax.Empty i) x u os p = none
   statement_lays true (syntax.Compound k) x u os p = block_lays k x u os p
   statement_lays false (syntax.Compound k) x u os p = block_lays k x u os p
-  statement_lays b (syntax.Prefixed y args k) x u os p = lead (in_expression (syntax.Named y args)) (in_block k) (expression_lays x os (syntax.Named y args) (Pre (begin_of k) ∷ u)) (prefixed_lays y args k (frame x (Pre (begin_of k) ∷ u) ∷ os) (frame x u ∷ os) (among x u) p.0 p.2)
+  statement_lays b (syntax.Prefixed y args k) x u os p = lead (in_expression (syntax.Named y args)) (in_block k) (expression_lays x os (syntax.Named y args) (Pre (begin_of k) ∷ u)) (prefixed_lays y args k (frame x (Pre (begin_of k) ∷ u) ∷ os) (frame x u ∷ os) (among x u) p.1)
   statement_lays true (syntax.Inner i) x u os p = record { before = λ ms l hs h. uses x u i (inner_mark i h) }
   statement_lays false (syntax.Inner i) x u os p = record { before = λ ms l hs h. uses x u i (breaks_rule i r.InnerOutOfPlace h) }
   statement_lays b (syntax.Call e) x u os p = expression_lays x os e u
@@ -656,7 +671,9 @@ mutual
   statement_lays b (syntax.InspectWhen i object whens rest) x u os p =
       lead (in_expression object) (λ l. in_arms whens (in_statements rest l)) (expression_lays x os object (arms_used whens (statements_used rest u)))
       (both (in_arms whens) (in_statements rest) (arms_lay whens x (statements_used rest u) os p.1) (statements_lay false rest x u os p.2))
-  statement_lays b (syntax.Activate i word process schedule) x u os p = absurd p
+  statement_lays b (syntax.Activate i word e schedule) x u os p =
+      lead (λ l. Token i ∷ l) (λ l. in_expression e (in_schedule schedule l)) (name_lays x os i (expression_used e (schedule_used schedule u)))
+      (lead (in_expression e) (in_schedule schedule) (expression_lays x os e (schedule_used schedule u)) (schedule_lays x os schedule u))
 
   statements_lay : (b : Bool) (ss : Statements) (x : Text) (u : List Part) (os : List Frame) → PlainStatements ss → Lays (frame x (statements_used ss u) ∷ os) (statements_events declaring (place_of b) ss) (in_statements ss) (statements_held ss) (frame x u ∷ os)
   statements_lay b NoStatement x u os p = none
@@ -667,7 +684,7 @@ mutual
   arms_lay (When i class d a e more) x u os p =
       let v : List Part = arms_used more u in
       lead (λ l. Token class.token.0 ∷ l) (λ l. Token d ∷ in_statement a (Behind e ∷ in_arms more l)) (name_lays x os class.token.0 (Con d a ∷ v))
-      (both (λ l. Token d ∷ in_statement a (Behind e ∷ l)) (in_arms more) (connection_lays d e a x v os (statement_lays false a ConnectionText [] (frame x v ∷ os) p.1)) (arms_lay more x u os p.2))
+      (both (λ l. Token d ∷ in_statement a (Behind e ∷ l)) (in_arms more) (connection_lays d e a x v os (statement_lays false a ConnectionText [] (frame x v ∷ os) p.0)) (arms_lay more x u os p.1))
 
   -- the body of a class
   class_body_lays : (prefix : Option Identifier) (a : Statement) (h : Heading) (os : List Frame) → PlainStatement a
@@ -689,16 +706,16 @@ mutual
   class_body_lays prefix (syntax.For i y sign j es a) h os p one = as_held (in_statement (syntax.For i y sign j es a)) (statement_held (syntax.For i y sign j es a)) (statement_held (syntax.For i y sign j es a) ++ []) (sym (append-nil (statement_held (syntax.For i y sign j es a)))) (one (ClassText prefix h NoDeclaration (Also (syntax.For i y sign j es a) NoStatement)))
   class_body_lays prefix (syntax.Inspect i object d a e rest) h os p one = as_held (in_statement (syntax.Inspect i object d a e rest)) (statement_held (syntax.Inspect i object d a e rest)) (statement_held (syntax.Inspect i object d a e rest) ++ []) (sym (append-nil (statement_held (syntax.Inspect i object d a e rest)))) (one (ClassText prefix h NoDeclaration (Also (syntax.Inspect i object d a e rest) NoStatement)))
   class_body_lays prefix (syntax.InspectWhen i object whens rest) h os p one = as_held (in_statement (syntax.InspectWhen i object whens rest)) (statement_held (syntax.InspectWhen i object whens rest)) (statement_held (syntax.InspectWhen i object whens rest) ++ []) (sym (append-nil (statement_held (syntax.InspectWhen i object whens rest)))) (one (ClassText prefix h NoDeclaration (Also (syntax.InspectWhen i object whens rest) NoStatement)))
-  class_body_lays prefix (syntax.Activate i word process schedule) h os p one = absurd p
+  class_body_lays prefix (syntax.Activate i word e schedule) h os p one = as_held (in_statement (syntax.Activate i word e schedule)) (statement_held (syntax.Activate i word e schedule)) (statement_held (syntax.Activate i word e schedule) ++ []) (sym (append-nil (statement_held (syntax.Activate i word e schedule)))) (one (ClassText prefix h NoDeclaration (Also (syntax.Activate i word e schedule) NoStatement)))
 
-  prefixed_lays : (class : Identifier) (es : Expressions) (b : Block) (qs ps : List Frame) → Stands (begin_of b) qs ps → PlainName class → PlainBlock b
+  prefixed_lays : (class : Identifier) (es : Expressions) (b : Block) (qs ps : List Frame) → Stands (begin_of b) qs ps → PlainBlock b
       → Lays qs (prefixed_marks class (begin_of b) ++ whole_events declaring b) (in_block b) (prefixed_held class es b) ps
-  prefixed_lays class es (Begin i ds ss e) qs ps stands w p =
+  prefixed_lays class es (Begin i ds ss e) qs ps stands p =
       let y : Text = PrefixedText class es ds ss in
       let D : List Mark = declarations_events declaring ds in
       let S : List Mark = statements_events declaring Inside ss in
       as_marks (in_block (Begin i ds ss e)) (prefixed_marks class i ++ ((D ++ S) ++ Closes e ∷ [])) (prefixed_marks class i ++ (D ++ (S ++ Closes e ∷ []))) (ap (λ z. prefixed_marks class i ++ z) (append_assoc D S (Closes e ∷ [])))
-      (both (λ l. Token i ∷ l) (λ l. in_declarations ds (in_statements ss (Behind e ∷ l))) (begins_prefixed class w i es ds ss qs ps stands)
+      (both (λ l. Token i ∷ l) (λ l. in_declarations ds (in_statements ss (Behind e ∷ l))) (begins_prefixed class i es ds ss qs ps stands)
       (inside_block ps y (text_used y) (statements_used ss []) D S (in_declarations ds) (in_statements ss) (declarations_held ds) (statements_held ss) e
       (declarations_lay ds y (statements_used ss []) ps p.0) (statements_lay false ss y [] ps p.1)))
 
@@ -722,10 +739,10 @@ mutual
       both (in_declaration (Arrays type j segments)) (in_declarations ds) (lead (in_type type) (in_each in_segment segments) (type_lays type (frame x (each_used segment_used segments (declarations_used ds u)) ∷ os)) (segments_lay x os type segments (declarations_used ds u))) (declarations_lay ds x u os p.1)
   declarations_lay (With (DeclareProcedure result j h a e) ds) x u os p =
       both (in_declaration (DeclareProcedure result j h a e)) (in_declarations ds)
-      (procedure_lays result j h a e (frame x (declarations_used ds u)) os p.0.1 (statement_lays false a (ProcedureText result h a) [] (frame x (declarations_used ds u) ∷ os) p.0.2)) (declarations_lay ds x u os p.1)
+      (procedure_lays result j h a e (frame x (declarations_used ds u)) os p.0.0 (statement_lays false a (ProcedureText result h a) [] (frame x (declarations_used ds u) ∷ os) p.0.1)) (declarations_lay ds x u os p.1)
   declarations_lay (With (DeclareClass prefix j h i a e) ds) x u os p =
       both (in_declaration (DeclareClass prefix j h i a e)) (in_declarations ds)
-      (class_lays prefix p.0.0 j h i a e (frame x (declarations_used ds u)) os p.0.1 p.0.2 (class_body_lays prefix a h (frame x (declarations_used ds u) ∷ os) p.0.3 (λ y. statement_lays false a y [] (frame x (declarations_used ds u) ∷ os) p.0.3))) (declarations_lay ds x u os p.1)
+      (class_lays prefix j h i a e (frame x (declarations_used ds u)) os p.0.0 p.0.1 (class_body_lays prefix a h (frame x (declarations_used ds u) ∷ os) p.0.2 (λ y. statement_lays false a y [] (frame x (declarations_used ds u) ∷ os) p.0.2))) (declarations_lay ds x u os p.1)
 
 -- a plain program
 pub program_laid : (p : Program) → Plain p → Laid [] (program_events declaring p) (in_block p.block []) (program_held p.prefix p.block)
@@ -734,7 +751,7 @@ program_laid p q = go p.prefix p.block q.start q.block
   where
     go : (prefix : Option Prefix) (b : Block) → PlainStart prefix → PlainBlock b → Laid [] (declaring.program prefix (begin_of b) ++ whole_events declaring b) (in_block b []) (program_held prefix b)
     go (Some x) b e r =
-        let all : Lays [] (prefixed_marks x.class (begin_of b) ++ whole_events declaring b) (in_block b) (prefixed_held x.class x.arguments b) [] = prefixed_lays x.class x.arguments b [] [] outermost e.0 r in
+        let all : Lays [] (prefixed_marks x.class (begin_of b) ++ whole_events declaring b) (in_block b) (prefixed_held x.class x.arguments b) [] = prefixed_lays x.class x.arguments b [] [] outermost r in
         subst (λ z. Laid [] z (in_block b []) (prefixed_held x.class x.arguments b)) (append-nil _)
         (subst (λ z. Laid [] ((prefixed_marks x.class (begin_of b) ++ whole_events declaring b) ++ []) (in_block b []) z) (append-nil _) (all.before [] [] [] (nothing refl)))
     go None (Begin i ds ss end) e r =

@@ -1,4 +1,4 @@
-pub mod PlainNames
+pub mod StandardPrefixes
 pub mod Unprefixed
 pub mod Groups
 pub mod Steps
@@ -24,7 +24,7 @@ pub mod Laid
 pub mod Spots
 pub mod Depth
 pub mod ClassRows
-pub mod SetBlocks
+pub mod StandardBlocks
 pub mod Retypes
 pub mod Tables
 pub mod Fitted
@@ -44,7 +44,7 @@ pub mod Proper
 pub mod TextOrder
 pub mod Constants
 pub mod ArrayNames
-pub mod SetRows
+pub mod StandardRows
 pub mod ArrayTypes
 pub mod BlockPrefixes
 pub mod SetLevels
@@ -53,6 +53,7 @@ pub mod Settled
 pub mod SettledJudged
 pub mod Holding
 pub mod ClassBlocks
+pub mod Simulating
 pub mod Connected
 pub mod InnerPlaces
 pub mod InnerMarks

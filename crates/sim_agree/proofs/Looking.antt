@@ -20,13 +20,13 @@ use Rattle.sim_scope.specs.declared.types.BlockKind.{BlockKind}
 use Rattle.sim_scope.specs.declared.types.BlockKind.TheVariants as kind
 use Rattle.sim_scope.specs.Levels.{is_standard_class}
 use Rattle.sim_agree.proofs.Fine.{KindIs}
-use Rattle.sim_agree.proofs.SetBlocks.{standard_text}
+use Rattle.sim_agree.proofs.StandardBlocks.{standard_text}
 use Rattle.sim_agree.proofs.Tables as tables
 use Rattle.sim_agree.specs.Places.{PlacedElement, PlacedExpression, PlacedName, PlacedSegment, PlacedSide}
 use Rattle.sim_agree.specs.Plain.{Plain, PlainArms, PlainBlock, PlainDeclaration, PlainDeclarations, PlainStatement, PlainStatements}
 use Rattle.sim_agree.specs.TablesOf.{TablesOf}
 use Rattle.sim_agree.proofs.Fitted.{DotsDeclaration, DotsDeclarations, DotsElement, DotsSegment, DotsSide, FittedArms, FittedBlock, FittedStatement, FittedStatements, TextFitted, Whatever, all_whatever, text_fitted, DotsExpressions}
-use Rattle.sim_agree.proofs.Laid.{Con, Held, Joined, Part, Whole, arms_held, arms_used, block_held, block_used, declaration_held, declarations_held, declarations_used, each_used, element_used, program_held, all_held, segment_used, side_used, statement_held, statement_used, statements_held, statements_used, text_used, Pre, expression_used, prefixed_held}
+use Rattle.sim_agree.proofs.Laid.{Con, Held, Joined, Part, Whole, arms_held, arms_used, block_held, block_used, declaration_held, declarations_held, declarations_used, each_used, element_used, program_held, all_held, schedule_used, segment_used, side_used, statement_held, statement_used, statements_held, statements_used, text_used, Pre, expression_used, prefixed_held}
 use Rattle.sim_agree.proofs.Placing as p
 use Rattle.sim_agree.proofs.Spots.{Final}
 use Rattle.sim_agree.proofs.Tables.{program_unbroken}
@@ -214,16 +214,17 @@ module _ (s : Source) (of : TablesOf s) (plain : Plain s.program) (order : InOrd
         let all = both_walk s (arms_held arms) (statements_held rest) (arms_events connections arms) (statements_events connections Inside rest) n y.0 z.0 in
         let le : n ≤ n = omega arith in
         (all, z.1)
-    statement_looks k n lt q w (syntax.Prefixed class es b) c plainly u h f st = prefixed_looks k n lt class es b plainly.2 u h f st
-    statement_looks k n lt q w (syntax.Activate i word e schedule) c plainly u h f st = absurd plainly
+    statement_looks k n lt q w (syntax.Prefixed class es b) c plainly u h f st = prefixed_looks k n lt class es b plainly.1 u h f st
+    statement_looks k n lt q w (syntax.Activate i word e schedule) c plainly u h f st =
+        let x = p.expression_splits s of plain order k e (schedule_used schedule u) h.1 f.0 in (none_walk s n, (p.schedule_splits s of plain order k schedule u x.1 f.1).1)
 
     arms_look : (k n : ℕ) → k < n → (arms : Arms) → PlainArms arms → (u : List Part) → Are k (arms_used arms u) → FittedArms s Whatever arms → StandFrom n (arms_held arms) → LooksTo s n (arms_events connections arms) (n + length (arms_held arms)) × Are k u
     arms_look k n lt NoArm plainly u h f st = (none_walk s n, h)
     arms_look k n lt (When i class opening a end more) plainly u h f st =
         let t = both_stand (suc n) (statement_held a) (arms_held more) st.1 in
-        let y = statement_looks n (suc n) (let z : n < suc n = omega arith in z) Inside false a tt plainly.1 [] (p.held_parts s of plain order n (Joined opening a) st.0) f.1 t.0 in
+        let y = statement_looks n (suc n) (let z : n < suc n = omega arith in z) Inside false a tt plainly.0 [] (p.held_parts s of plain order n (Joined opening a) st.0) f.1 t.0 in
         let further_on : k < suc n + length (statement_held a) = omega (arith, lt) in
-        let z = arms_look k (suc n + length (statement_held a)) further_on more plainly.2 u h.1.1 f.2 t.1 in
+        let z = arms_look k (suc n + length (statement_held a)) further_on more plainly.1 u h.1.1 f.2 t.1 in
         let inner = both_walk s (statement_held a) (arms_held more) (statement_events connections Inside a ++ []) (arms_events connections more) (suc n) (to_none s (statement_events connections Inside a) (suc n) (suc n + length (statement_held a)) y.0) z.0 in
         let l : length (Joined opening a ∷ (statement_held a ++ arms_held more)) ≡ suc (length (statement_held a ++ arms_held more)) = omega arith in
         let m : suc n + length (statement_held a ++ arms_held more) ≡ n + length (Joined opening a ∷ (statement_held a ++ arms_held more)) = omega (arith, l) in
@@ -292,7 +293,7 @@ module _ (s : Source) (of : TablesOf s) (plain : Plain s.program) (order : InOrd
     declaration_looks n (DeclareProcedure result i g a e) plainly st =
         let x : Text = ProcedureText result g a in
         let own : n < suc n = omega arith in
-        let y = statement_looks n (suc n) own Inside false a tt plainly.2 [] (parts n x st.0) (fitted n x st.0) st.1 in
+        let y = statement_looks n (suc n) own Inside false a tt plainly.1 [] (parts n x st.0) (fitted n x st.0) st.1 in
         let A : List Connecting = statement_events connections Inside a in
         inside_walk s (Whole x) (statement_held a) (A ++ []) n (to_none s A (suc n) (suc n + length (statement_held a)) y.0)
     declaration_looks n (DeclareClass prefix i g interface (syntax.Compound (Begin j ds ss end)) e) plainly st =
@@ -307,8 +308,8 @@ module _ (s : Source) (of : TablesOf s) (plain : Plain s.program) (order : InOrd
         let S : List Connecting = statements_events connections ClassStatement ss in
         let r = both_stand (suc n) P (D ++ H) st.1 in
         let t = both_stand m D H r.1 in
-        let one = declarations_look n m own ds plainly.3.0 (statements_used ss []) (parts n x st.0) f.0 t.0 in
-        let two = statements_look n (m + length D) (further n m (length D) own) ClassStatement true ss tt plainly.3.1 [] one.1 f.1 t.1 in
+        let one = declarations_look n m own ds plainly.2.0 (statements_used ss []) (parts n x st.0) f.0 t.0 in
+        let two = statements_look n (m + length D) (further n m (length D) own) ClassStatement true ss tt plainly.2.1 [] one.1 f.1 t.1 in
         let all = both_walk s D H E S m one.0 two.0 in
         past_walk s (Whole x) P (D ++ H) ((E ++ S) ++ []) n (to_none s (E ++ S) m (m + length (D ++ H)) all)
     declaration_looks n (DeclareClass prefix i g interface a e) plainly st =
@@ -318,7 +319,7 @@ module _ (s : Source) (of : TablesOf s) (plain : Plain s.program) (order : InOrd
         let m : ℕ = suc n + length P in
         let own : n < suc n + length P = omega arith in
         let r = both_stand (suc n) P (statement_held a) st.1 in
-        let y = statement_looks n m own ClassBody true a tt plainly.3 [] (parts n x st.0) f.1.0 r.1 in
+        let y = statement_looks n m own ClassBody true a tt plainly.2 [] (parts n x st.0) f.1.0 r.1 in
         let A : List Connecting = statement_events connections ClassBody a in
         past_walk s (Whole x) P (statement_held a) (A ++ []) n (to_none s A m (m + length (statement_held a)) y.0)
 

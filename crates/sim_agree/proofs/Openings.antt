@@ -79,7 +79,7 @@ mutual
   statement_begins c (syntax.Empty i) p o next = tt
   statement_begins true (syntax.Compound b) p o next = block_begins b p o next
   statement_begins false (syntax.Compound b) p o next = block_begins b p o next
-  statement_begins c (syntax.Prefixed x args b) p o next = prefixed_begins x args b p.2 o next
+  statement_begins c (syntax.Prefixed x args b) p o next = prefixed_begins x args b p.1 o next
   statement_begins c (syntax.Inner i) p o next = tt
   statement_begins c (syntax.Call e) p o next = tt
   statement_begins c (syntax.Assign e sides) p o next = tt
@@ -99,7 +99,7 @@ mutual
   statement_begins c (syntax.InspectWhen i object whens rest) p o next =
       joined (arms_events connections whens) (statements_events connections Inside rest) (arms_bodies o whens next) (statements_bodies o rest (next + length (arms_bodies o whens next)))
       (arms_begin whens p.1 o next) (statements_begin false rest p.2 o (next + length (arms_bodies o whens next)))
-  statement_begins c (syntax.Activate i word process schedule) p o next = absurd p
+  statement_begins c (syntax.Activate i word process schedule) p o next = tt
 
   statements_begin : (c : Bool) (ss : Statements) → PlainStatements ss → (o : Around) (next : ℕ) → AllBegin (statements_events connections (place c) ss) (statements_bodies o ss next)
   statements_begin c NoStatement p o next = tt
@@ -114,8 +114,8 @@ mutual
       let inside : List Body = connection_body o d e ∷ statement_bodies inner a (next + 1) in (
         inl (refl, refl),
         joined (statement_events connections Inside a ++ []) (arms_events connections more) inside (arms_bodies o more (next + length inside))
-            (nothing_behind (statement_events connections Inside a) inside (behind (statement_events connections Inside a) (connection_body o d e) (statement_bodies inner a (next + 1)) (statement_begins false a p.1 inner (next + 1))))
-            (arms_begin more p.2 o (next + length inside)),
+            (nothing_behind (statement_events connections Inside a) inside (behind (statement_events connections Inside a) (connection_body o d e) (statement_bodies inner a (next + 1)) (statement_begins false a p.0 inner (next + 1))))
+            (arms_begin more p.1 o (next + length inside)),
       )
 
   prefixed_begins : (x : Identifier) (args : Expressions) (b : Block) → PlainBlock b → (o : Around) (next : ℕ) → AllBegin (whole_events connections b) (prefixed_bodies o x args b next)
@@ -150,9 +150,9 @@ mutual
   declaration_begins (Arrays type i segments) p o next = tt
   declaration_begins (DeclareProcedure result i h a e) p o next =
       let inner : Around = record { number = next; level = deeper kind.Procedure o.level } in
-      nothing_behind (statement_events connections Inside a) _ (behind (statement_events connections Inside a) _ (statement_bodies inner a (next + 1)) (statement_begins false a p.2 inner (next + 1)))
+      nothing_behind (statement_events connections Inside a) _ (behind (statement_events connections Inside a) _ (statement_bodies inner a (next + 1)) (statement_begins false a p.1 inner (next + 1)))
   declaration_begins (DeclareClass prefix i h interface a e) p o next =
-      nothing_behind (statement_events connections ClassBody a) _ (class_begins prefix i h interface a e p.3 o next (λ inner m. statement_begins false a p.3 inner m))
+      nothing_behind (statement_events connections ClassBody a) _ (class_begins prefix i h interface a e p.2 o next (λ inner m. statement_begins false a p.2 inner m))
 
   -- the body of a class
   class_begins : (prefix : Option Identifier) (i : ℕ) (h : Heading) (interface : Interface) (a : Statement) (e : ℕ) → PlainStatement a → (o : Around) (next : ℕ) → ((inner : Around) (m : ℕ) → AllBegin (statement_events connections Inside a) (statement_bodies inner a m))
@@ -184,7 +184,7 @@ mutual
   class_begins prefix i h interface (syntax.Prefixed x args b) e p o next one =
       let inner : Around = record { number = next; level = deeper kind.Class o.level } in
       behind (statement_events connections Inside (syntax.Prefixed x args b)) _ (prefix_bodies inner prefix (next + 1) ++ statement_bodies inner (syntax.Prefixed x args b) (next + 1 + length (prefix_bodies inner prefix (next + 1)))) (ahead (statement_events connections Inside (syntax.Prefixed x args b)) (prefix_bodies inner prefix (next + 1)) (statement_bodies inner (syntax.Prefixed x args b) (next + 1 + length (prefix_bodies inner prefix (next + 1)))) (one inner (next + 1 + length (prefix_bodies inner prefix (next + 1)))))
-  class_begins prefix i h interface (syntax.Activate n w process schedule) e p o next one = absurd p
+  class_begins prefix i h interface (syntax.Activate n w process schedule) e p o next one = tt
 
 whole_begins : (b : Block) → PlainBlock b → AllBegin (whole_events connections b) (bodies_of None b)
 unfolding connections

@@ -5,7 +5,7 @@ use Rattle.sim_tree.specs.declared.expr.Identifier.{Identifier}
 use Rattle.sim_tree.specs.declared.stmt.TypeName.{TypeName}
 use Rattle.sim_tree.specs.Named.{all_named, named}
 use Rattle.sim_tree.specs.Order.{InOrder}
-use Rattle.sim_tree.specs.Syntax.{Also, Arms, Arrayed, Arrays, Begin, Block, BoundPair, Declarations, DeclareClass, DeclareProcedure, Element, Expression, Expressions, Heading, NoArm, NoDeclaration, NoStatement, RightSide, Statement, Statements, Variables, When, With}
+use Rattle.sim_tree.specs.Syntax.{Also, Arms, Arrayed, Arrays, Begin, Block, BoundPair, Declarations, DeclareClass, DeclareProcedure, Element, Expression, Expressions, Heading, NoArm, NoDeclaration, NoStatement, RightSide, Schedule, Statement, Statements, Variables, When, With}
 use Rattle.sim_tree.specs.Syntax as syntax
 use Rattle.sim_scope.specs.Access.{block_at, encloser, joined}
 use Rattle.sim_scope.specs.Declare.{declared_by}
@@ -16,11 +16,11 @@ use Rattle.inspect_types.specs.Connecting.{connections}
 use Rattle.sim_meaning.specs.Levels.{is_class}
 use Rattle.sim_meaning.specs.Texts.{BlockText, ClassText, ConnectionText, ProcedureText, Text, program_texts, text, PrefixedText}
 use Rattle.sim_sound.specs.Statements.{BlockIs, ConnectionIs}
-use Rattle.sim_agree.specs.Places.{PlacedArms, PlacedArrays, PlacedBlock, PlacedBounds, PlacedElement, PlacedExpression, PlacedExpressions, PlacedSegment, PlacedSide, PlacedStatement, PlacedStatements, PlacedPrefixed}
+use Rattle.sim_agree.specs.Places.{PlacedArms, PlacedArrays, PlacedBlock, PlacedBounds, PlacedElement, PlacedExpression, PlacedExpressions, PlacedSchedule, PlacedSegment, PlacedSide, PlacedStatement, PlacedStatements, PlacedPrefixed}
 use Rattle.sim_agree.specs.Plain.{Each, Plain}
 use Rattle.sim_agree.specs.TablesOf.{TablesOf}
-use Rattle.sim_agree.proofs.Fitted.{AllConnect, ConnectsAt, DotsBounds, DotsDeclarations, DotsElement, DotsExpression, DotsExpressions, DotsSegment, DotsSide, FittedArms, FittedBlock, FittedStatement, FittedStatements, Given, TextFitted, text_fitted}
-use Rattle.sim_agree.proofs.Laid.{Con, Held, Joined, Part, Sub, Use, Whole, arms_used, block_used, bounds_used, declarations_used, each_used, element_used, expression_used, held_program, program_held, segment_used, side_used, statement_used, statements_used, text_held, text_used, used, used_held, Pre}
+use Rattle.sim_agree.proofs.Fitted.{AllConnect, ConnectsAt, DotsBounds, DotsDeclarations, DotsElement, DotsExpression, DotsExpressions, DotsSchedule, DotsSegment, DotsSide, FittedArms, FittedBlock, FittedStatement, FittedStatements, Given, TextFitted, text_fitted}
+use Rattle.sim_agree.proofs.Laid.{Con, Held, Joined, Part, Sub, Use, Whole, arms_used, block_used, bounds_used, declarations_used, each_used, element_used, expression_used, held_program, program_held, schedule_used, segment_used, side_used, statement_used, statements_used, text_held, text_used, used, used_held, Pre}
 use Rattle.sim_agree.proofs.Spots.{Fact, Final, Has, Here, LeftAt, here, there}
 use Rattle.sim_agree.proofs.Tables as tables
 use Rattle.sim_agree.proofs.Tables.{program_final, program_unbroken}
@@ -172,6 +172,13 @@ module _ (s : Source) (of : TablesOf s) (plain : Plain s.program) (order : InOrd
     pub segment_splits : (a : Arrayed) (u : List Part) → AllAre k (segment_used a u) → DotsSegment a → PlacedSegment s.tables k a × AllAre k u
     segment_splits a u h d = each_splits bounds_used DotsBounds (PlacedBounds s.tables k) bounds_split a.bounds u h d
 
+    pub schedule_splits : (a : Schedule) (u : List Part) → AllAre k (schedule_used a u) → DotsSchedule a → PlacedSchedule s.tables k a × AllAre k u
+    schedule_splits syntax.Now u h d = (tt, h)
+    schedule_splits (syntax.At i a prior) u h d = expression_splits a u h d
+    schedule_splits (syntax.Delay i a prior) u h d = expression_splits a u h d
+    schedule_splits (syntax.Before i a) u h d = expression_splits a u h d
+    schedule_splits (syntax.After i a) u h d = expression_splits a u h d
+
     declarations_split : (ds : Declarations) (u : List Part) → AllAre k (declarations_used ds u) → DotsDeclarations ds → PlacedArrays s.tables k ds × AllAre k u
     declarations_split NoDeclaration u h d = (tt, h)
     declarations_split (With (Arrays type i segments) ds) u h d = let p = each_splits segment_used DotsSegment (PlacedSegment s.tables k) segment_splits segments (declarations_used ds u) h d.0 in let q = declarations_split ds u p.1 d.1 in ((p.0, q.0), q.1)
@@ -218,7 +225,9 @@ module _ (s : Source) (of : TablesOf s) (plain : Plain s.program) (order : InOrd
         let p = expression_splits k e (arms_used arms (statements_used rest u)) h d.0 in
         let q = arms_split k arms (statements_used rest u) p.1 d.1 in
         let r = statements_split k w c rest u q.1 d.2 in ((p.0, q.0, r.0), r.1)
-    statement_splits k w c (syntax.Activate i word process schedule) u h d = (tt, h)
+    statement_splits k w c (syntax.Activate i word process schedule) u h d =
+        let p = expression_splits k process (schedule_used schedule u) h.1 d.0 in
+        let q = schedule_splits k schedule u p.1 d.1 in ((h.0, p.0, q.0), q.1)
 
     arms_split : (k : ℕ) (arms : Arms) (u : List Part) → AllAre k (arms_used arms u) → FittedArms s (ConnectsAt s) arms → PlacedArms s k arms × AllAre k u
     arms_split k NoArm u h d = (tt, h)

@@ -1,7 +1,7 @@
 -- What the second round makes known of prefixes: the prefix of a class or a block is a class that is declared in the nearest block around that is no
 -- connection, or in a prefix of that. All else stays.
 use Rattle.std.proofs.Common.{◌≡◌, ◌<◌, ◌≤◌, ◌+◌, ◌⊎◌, inl, inr, ℕ, zero, suc, Bool, true, false, List, [], ◌∷◌, length, Option, Some, None, refl, sym, ap, ◌∙◌, subst, arith, if◌then◌else◌}
-use Rattle.std.specs.Prelude.{◌||◌, nat_eq, not, slice_get, slice_set}
+use Rattle.std.specs.Prelude.{nat_eq, not, slice_get, slice_set}
 use Rattle.std.specs.Option.{option_or}
 use Rattle.std.proofs.lemmas.List.{length-set}
 use Rattle.std.proofs.lemmas.Bool.Decides.{nat_tests}
@@ -14,7 +14,6 @@ use Rattle.sim_scope.specs.declared.scopes.Qualification.{Qualification}
 use Rattle.sim_scope.specs.declared.types.BlockKind.TheVariants as kind
 use Rattle.sim_scope.specs.declared.types.Entry.TheVariants as entry
 use Rattle.sim_scope.specs.declared.types.StandardPrefix.{StandardPrefix}
-use Rattle.sim_scope.specs.declared.types.StandardPrefix.TheVariants as standard
 use Rattle.sim_scope.specs.Access.{encloser, is_connection, is_kind, is_so, joined, around}
 use Rattle.sim_scope.specs.Along.{first_along, from_next}
 use Rattle.sim_scope.specs.Levels.{base, base_in, class_block, class_block_in, holds, standard_in}
@@ -26,7 +25,6 @@ use Rattle.sim_scope.specs.Tables.{BlockOf, Tables, with_base_at, with_standard_
 use Rattle.sim_scope.specs.Walk.{program_events}
 use Rattle.sim_scope.proofs.Kept.{kept_set, set_here, set_other}
 use Rattle.sim_scope.proofs.Walks.{run-append}
-use Rattle.sim_static.specs.UnbuiltNames.{is_unbuilt_name}
 use Rattle.sim_meaning.specs.Entries.{numbers_in}
 use Rattle.sim_sound.specs.Held.{Among}
 use Rattle.prefix_bind.specs.declared.prefixes.PrefixFound.{PrefixFound}
@@ -37,8 +35,7 @@ use Rattle.inspect_types.specs.Connecting.{connections}
 use Rattle.sim_static.specs.Check.{completed}
 use Rattle.sim_agree.proofs.Completing.{AllReferences, Completes, HasNext, Requalified, Rows, bare_row, prefixable_base, class_was, connections_complete, entry_is_class, kind_in, references_qualified, same_rows}
 use Rattle.sim_agree.proofs.Openings.{AllOpened, Opened}
-use Rattle.sim_agree.proofs.PlainNames.{SetsOrNone, plain_standard}
-use Rattle.sim_agree.proofs.Unprefixed.{NoVirtuals, Showing, StandsIn, brought_of, extras_in, is_wrong, shown_next, is_prefixable}
+use Rattle.sim_agree.proofs.Unprefixed.{HasStandard, NoVirtuals, Showing, Shown, StandsIn, brought_of, extras_in, is_prefixable, is_wrong, shown_next, spelt_as, spelt_before}
 
 -- a block and the levels of its prefixes
 pub data Reaches (T : Tables) : (outer level : ℕ) → Type 0 where
@@ -62,6 +59,8 @@ pub record PrefixOf (D T : Tables) (k c : ℕ) : Type 0 where
   pub level : ℕ
   pub reaches : Reaches T outer level
   pub stands : StandsIn D level class
+  -- its block lists it, or has a standard prefix, which brings it
+  pub listed : Among class (numbers_in (slice_get D.blocks level)) ⊎ HasStandard T level
 
 -- the tables so far
 pub record Based (D T : Tables) : Type 0 where
@@ -71,9 +70,9 @@ pub record Based (D T : Tables) : Type 0 where
   pub declarations : T.declarations ≡ D.declarations
   pub qualifications : T.qualifications ≡ D.qualifications
   pub protections : T.protections ≡ D.protections
-  -- by its prefix, or as a class of SIMSET, which has it from the start
+  -- by its prefix, or as a standard class, which has it from the start
   pub bases : (k c : ℕ) → base T k ≡ Some c → PrefixOf D T k c ⊎ (base D k ≡ Some c)
-  pub standards : (k : ℕ) → SetsOrNone (standard_in (slice_get T.blocks k))
+  pub standards : (k : ℕ) (p : StandardPrefix) → standard_in (slice_get T.blocks k) ≡ Some p → spelt_before (slice_get D.blocks k) ≡ Some p
   pub apart : (k c : ℕ) → base T k ≡ Some c → standard_in (slice_get T.blocks k) ≡ None
   pub kept : (k c : ℕ) → base D k ≡ Some c → base T k ≡ Some c
 
@@ -114,15 +113,10 @@ brought_bare : (o : Option BlockOf) → brought_of (bare_row o) ≡ brought_of o
 brought_bare None = refl
 brought_bare (Some row) = refl
 
-standard_extras : (o : Option BlockOf) → (extras_in o).standard ≡ standard_in o
-standard_extras None = refl
-standard_extras (Some row) = refl
-
 -- tables with the same blocks, but for next levels and standard prefixes
-pub showing_kept : (D T : Tables) → Showing D → ((k : ℕ) → bare_row (slice_get T.blocks k) ≡ bare_row (slice_get D.blocks k)) → ((k : ℕ) → SetsOrNone (standard_in (slice_get T.blocks k))) → ((k : ℕ) (d : DeclNo) → StandsIn D k d → StandsIn T k d) → NoVirtuals T.declarations → Showing T
-showing_kept D T w same standards moved virtuals = record {
+pub showing_kept : (D T : Tables) → Showing D → ((k : ℕ) → bare_row (slice_get T.blocks k) ≡ bare_row (slice_get D.blocks k)) → ((k : ℕ) (d : DeclNo) → StandsIn D k d → StandsIn T k d) → NoVirtuals T.declarations → Showing T
+showing_kept D T w same moved virtuals = record {
   right = λ k. sym (wrong_bare (slice_get T.blocks k)) ∙ ap (λ o. (extras_in o).wrong) (same k) ∙ wrong_bare (slice_get D.blocks k) ∙ w.right k;
-  standards = λ k. subst SetsOrNone (sym (standard_extras (slice_get T.blocks k))) (standards k);
   virtuals = virtuals;
   lists = λ k d a. moved k d (w.lists k d (subst (λ z. Among d z) (sym (numbers_bare (slice_get T.blocks k)) ∙ ap numbers_in (same k) ∙ numbers_bare (slice_get D.blocks k)) a));
   brings = λ k d a. moved k d (w.brings k d (subst (λ z. Among d z) (sym (brought_bare (slice_get T.blocks k)) ∙ ap brought_of (same k) ∙ brought_bare (slice_get D.blocks k)) a));
@@ -137,8 +131,8 @@ reaches_more : (T U : Tables) → ((j b : ℕ) → base T j ≡ Some b → base 
 reaches_more T U more k l itself = itself
 reaches_more T U more k l (through {b = b} e r) = through (more k b e) (reaches_more T U more b l r)
 
-pub prefix_more : (D T U : Tables) → ((j b : ℕ) → base T j ≡ Some b → base U j ≡ Some b) → (k c : ℕ) → PrefixOf D T k c → PrefixOf D U k c
-prefix_more D T U more k c p = record {
+pub prefix_more : (D T U : Tables) → ((j b : ℕ) → base T j ≡ Some b → base U j ≡ Some b) → ((j : ℕ) → HasStandard T j → HasStandard U j) → (k c : ℕ) → PrefixOf D T k c → PrefixOf D U k c
+prefix_more D T U more brings k c p = record {
   row = p.row;
   at = p.at;
   kind = p.kind;
@@ -149,19 +143,24 @@ prefix_more D T U more k c p = record {
   level = p.level;
   reaches = reaches_more T U more p.outer p.level p.reaches;
   stands = p.stands;
+  listed = listed p.listed;
 }
+  where
+    listed : Among p.class (numbers_in (slice_get D.blocks p.level)) ⊎ HasStandard T p.level → Among p.class (numbers_in (slice_get D.blocks p.level)) ⊎ HasStandard U p.level
+    listed (inl a) = inl a
+    listed (inr h) = inr (brings p.level h)
 
 -- what a block shows is declared in one of its levels
-pub shown_reaches : (T : Tables) → Showing T → (n : ℕ) (from : Option ℕ) (k : ℕ) (name : List ℕ) (d : DeclNo) → shown_of T n from k name ≡ Some d → (l : ℕ) × Reaches T k l × StandsIn T l d
+pub shown_reaches : (T : Tables) → Showing T → (n : ℕ) (from : Option ℕ) (k : ℕ) (name : List ℕ) (d : DeclNo) → shown_of T n from k name ≡ Some d → (l : ℕ) × Reaches T k l × Shown T l d
 unfolding shown_of
 shown_reaches T w zero from k name d e = absurd (cc)
 shown_reaches T w (suc n) from k name d e = go (shown_next T w n from k name d e) (λ b f. shown_reaches T w n from b name d f)
   where
-    go : StandsIn T k d ⊎ ((c : ℕ) × (base T k ≡ Some c) × (shown_of T n from c name ≡ Some d)) → ((b : ℕ) → shown_of T n from b name ≡ Some d → (l : ℕ) × Reaches T b l × StandsIn T l d) → (l : ℕ) × Reaches T k l × StandsIn T l d
+    go : Shown T k d ⊎ ((c : ℕ) × (base T k ≡ Some c) × (shown_of T n from c name ≡ Some d)) → ((b : ℕ) → shown_of T n from b name ≡ Some d → (l : ℕ) × Reaches T b l × Shown T l d) → (l : ℕ) × Reaches T k l × Shown T l d
     go (inl h) rest = (k, itself, h)
     go (inr h) rest = let q = rest h.0 h.2 in (q.0, through h.1 q.1, q.2)
 
--- so far only classes of SIMSET have a next level
+-- so far only standard classes have a next level
 module _ (D : Tables) (bare : Showing D) (bottom : (k : ℕ) (row : BlockOf) → slice_get D.blocks k ≡ Some row → is_prefixable row.kind ≡ true → base D k ≡ None) where
   -- ---- one block
 
@@ -173,7 +172,7 @@ module _ (D : Tables) (bare : Showing D) (bottom : (k : ℕ) (row : BlockOf) →
     stands_back k d q = (q.0, ap (λ z. slice_get z d.0) (sym s.declarations) ∙ q.1, q.2)
 
     plainly : Showing T
-    plainly = showing_kept D T bare s.blocks s.standards stands_same (λ d row at. bare.virtuals d row (ap (λ z. slice_get z d) (sym s.declarations) ∙ at))
+    plainly = showing_kept D T bare s.blocks stands_same (λ d row at. bare.virtuals d row (ap (λ z. slice_get z d) (sym s.declarations) ∙ at))
 
     same_class : (d : DeclNo) → class_block T d ≡ class_block D d
     unfolding class_block
@@ -212,14 +211,13 @@ module _ (D : Tables) (bare : Showing D) (bottom : (k : ℕ) (row : BlockOf) →
     -- what is found
     Says : ℕ → PrefixFound → Type 0
     Says k (found.Class c) = PrefixOf D T k c
-    Says k (found.Standard which) = (which ≡ standard.Simset) × (base D k ≡ None)
+    Says k (found.Standard which) = (spelt_before (slice_get D.blocks k) ≡ Some which) × (base D k ≡ None)
     Says k found.Nothing = Unit {0}
 
-    says_standard : (k : ℕ) (o : Option StandardPrefix) → SetsOrNone o → base D k ≡ None → Says k (standard_or_nothing o)
+    says_standard : (k : ℕ) (o : Option StandardPrefix) → spelt_before (slice_get D.blocks k) ≡ o → base D k ≡ None → Says k (standard_or_nothing o)
     unfolding Says
     says_standard k None e none = tt
-    says_standard k (Some which) (inl e) none = absurd (cc)
-    says_standard k (Some which) (inr e) none = ((let same : which ≡ standard.Simset = cc in same), none)
+    says_standard k (Some which) e none = (e, none)
 
     says_found : (k : ℕ) (row : BlockOf) → slice_get T.blocks k ≡ Some row → Says k (prefix_of T row)
     unfolding Says prefix_of shown
@@ -234,19 +232,26 @@ module _ (D : Tables) (bare : Showing D) (bottom : (k : ℕ) (row : BlockOf) →
         right : is_wrong row.kind row.prefix ≡ false
         right = sym (ap (λ o. (extras_in o).wrong) at) ∙ plainly.right k
 
-        both : (a b : Bool) → (not a || b) ≡ false → (a ≡ true) × (b ≡ false)
-        both true b e = (refl, e)
-        both false b e = absurd (cc)
+        so : (a : Bool) → not a ≡ false → a ≡ true
+        so true e = refl
+        so false e = absurd (cc)
+
+        spelt : (x : Identifier) → row.prefix ≡ Some x → spelt_before (slice_get D.blocks k) ≡ standard_prefix x.name
+        spelt x e = ap spelt_before was.1 ∙ sym (ap (λ (z : BlockOf). spelt_as z.prefix) was.2) ∙ ap spelt_as e
 
         no_base : is_prefixable row.kind ≡ true → base D k ≡ None
         no_base p = bottom k was.0 was.1 (ap is_prefixable (sym same_kinds) ∙ p)
 
-        outside : (x : Identifier) → is_unbuilt_name x.name ≡ false → is_prefixable row.kind ≡ true → (o : Option ℕ) → Says k (prefix_outside T x o)
-        outside x plain class o = pick (holds (shown_outward T x.token.0 x.name) o)
+        outside : (x : Identifier) → row.prefix ≡ Some x → is_prefixable row.kind ≡ true → (o : Option ℕ) → Says k (prefix_outside T x o)
+        outside x is class o = pick (holds (shown_outward T x.token.0 x.name) o)
           where
             pick : (c : Bool) → Says k (if c then found.Nothing else standard_or_nothing (standard_prefix x.name))
             pick true = tt
-            pick false = says_standard k (standard_prefix x.name) (plain_standard x.name plain) (no_base class)
+            pick false = says_standard k (standard_prefix x.name) (spelt x is) (no_base class)
+
+        listed : (l : ℕ) (d : DeclNo) → Among d (numbers_in (slice_get T.blocks l)) ⊎ HasStandard T l → Among d (numbers_in (slice_get D.blocks l)) ⊎ HasStandard T l
+        listed l d (inl a) = inl (subst (λ z. Among d z) (sym (numbers_bare (slice_get T.blocks l)) ∙ ap numbers_in (s.blocks l) ∙ numbers_bare (slice_get D.blocks l)) a)
+        listed l d (inr h) = inr h
 
         of_class : (u : ℕ) → HomeFrom D row.encloser u → (x : Identifier) (d : DeclNo) → shown_of T (length T.blocks) (Some x.token.0) u x.name ≡ Some d → (o : Option ℕ) → class_block T d ≡ o → is_prefixable row.kind ≡ true → Says k (class_or_nothing o)
         of_class u around x d e None is class = tt
@@ -261,22 +266,22 @@ module _ (D : Tables) (bare : Showing D) (bottom : (k : ℕ) (row : BlockOf) →
               around = subst (λ o. HomeFrom D o u) (ap (λ (z : BlockOf). z.encloser) was.2) around;
               level = q.0;
               reaches = q.1;
-              stands = stands_back q.0 d q.2;
+              stands = stands_back q.0 d q.2.0;
+              listed = listed q.0 d q.2.1;
             }
 
-        of_shown : (u : ℕ) → HomeFrom D row.encloser u → (x : Identifier) → is_unbuilt_name x.name ≡ false → is_prefixable row.kind ≡ true → (o : Option DeclNo) → shown_of T (length T.blocks) (Some x.token.0) u x.name ≡ o → Says k (shown_prefix T x u o)
-        of_shown u around x plain class None e = outside x plain class (encloser T u)
-        of_shown u around x plain class (Some d) e = of_class u around x d e (class_block T d) refl class
+        of_shown : (u : ℕ) → HomeFrom D row.encloser u → (x : Identifier) → row.prefix ≡ Some x → is_prefixable row.kind ≡ true → (o : Option DeclNo) → shown_of T (length T.blocks) (Some x.token.0) u x.name ≡ o → Says k (shown_prefix T x u o)
+        of_shown u around x is class None e = outside x is class (encloser T u)
+        of_shown u around x is class (Some d) e = of_class u around x d e (class_block T d) refl class
 
         go : (p : Option Identifier) → row.prefix ≡ p → Says k (prefix_found T row p)
         go None e = tt
         go (Some x) e =
-            let b = both (is_prefixable row.kind) (is_unbuilt_name x.name) (sym (ap (is_wrong row.kind) e) ∙ right) in
-            at_home x b.0 b.1 (home_from T row.encloser) refl
+            at_home x (so (is_prefixable row.kind) (sym (ap (is_wrong row.kind) e) ∙ right)) e (home_from T row.encloser) refl
           where
-            at_home : (x : Identifier) → is_prefixable row.kind ≡ true → is_unbuilt_name x.name ≡ false → (o : Option ℕ) → home_from T row.encloser ≡ o → Says k (prefix_from T x o)
-            at_home x class plain None e = says_standard k (standard_prefix x.name) (plain_standard x.name plain) (no_base class)
-            at_home x class plain (Some u) e = of_shown u (home_is row.encloser u e) x plain class (shown_of T (length T.blocks) (Some x.token.0) u x.name) refl
+            at_home : (x : Identifier) → is_prefixable row.kind ≡ true → row.prefix ≡ Some x → (o : Option ℕ) → home_from T row.encloser ≡ o → Says k (prefix_from T x o)
+            at_home x class is None e = says_standard k (standard_prefix x.name) (spelt x is) (no_base class)
+            at_home x class is (Some u) e = of_shown u (home_is row.encloser u e) x is class (shown_of T (length T.blocks) (Some x.token.0) u x.name) refl
 
   -- one block gets its prefix
   module _ (l i : ℕ) (T : Tables) (s : So D T l i) where
@@ -298,7 +303,7 @@ module _ (D : Tables) (bare : Showing D) (bottom : (k : ℕ) (row : BlockOf) →
         qualifications = s.based.qualifications;
         protections = s.based.protections;
         bases = λ k d e. bases k d (nat_eq i k) refl e;
-        standards = λ j. subst SetsOrNone (sym (kept_set standard_in T.blocks i row new at refl j)) (s.based.standards j);
+        standards = λ j p e. s.based.standards j p (sym (kept_set standard_in T.blocks i row new at refl j) ∙ e);
         apart = λ k d e. apart k d (nat_eq i k) refl e;
         kept = λ k d e. kept k d (nat_eq i k) refl (s.based.kept k d e);
       };
@@ -335,15 +340,18 @@ module _ (D : Tables) (bare : Showing D) (bottom : (k : ℕ) (row : BlockOf) →
             pick true z = let same : i ≡ j = grind (arith, nat_tests) in absurd (let f : None ≡ Some b = sym none ∙ ap (λ m. base_in (slice_get T.blocks m)) same ∙ e in cc)
             pick false z = ap base_in (set_other T.blocks i j new z) ∙ e
 
+        brought : (j : ℕ) → HasStandard T j → HasStandard U j
+        brought j h = (h.0, kept_set standard_in T.blocks i row new at refl j ∙ h.1)
+
         bases : (k d : ℕ) (z : Bool) → nat_eq i k ≡ z → base_in (slice_get (slice_set T.blocks i (record row { base = Some c })) k) ≡ Some d → PrefixOf D U k d ⊎ (base_in (slice_get D.blocks k) ≡ Some d)
         bases k d true z e =
             let same : i ≡ k = grind (arith, nat_tests) in
             let is : Some c ≡ Some d = sym (ap base_in (subst (λ m. slice_get (slice_set T.blocks i (record row { base = Some c })) m ≡ Some new) same (set_here T.blocks i row new at))) ∙ e in
-            inl (subst (λ m. PrefixOf D U m d) same (subst (λ m. PrefixOf D U i m) (some_same c d is) (prefix_more D T U more i c p)))
+            inl (subst (λ m. PrefixOf D U m d) same (subst (λ m. PrefixOf D U i m) (some_same c d is) (prefix_more D T U more brought i c p)))
         bases k d false z e = go (s.based.bases k d (sym (ap base_in (set_other T.blocks i k new z)) ∙ e))
           where
             go : PrefixOf D T k d ⊎ (base_in (slice_get D.blocks k) ≡ Some d) → PrefixOf D U k d ⊎ (base_in (slice_get D.blocks k) ≡ Some d)
-            go (inl q) = inl (prefix_more D T U more k d q)
+            go (inl q) = inl (prefix_more D T U more brought k d q)
             go (inr q) = inr q
 
         later : (k : ℕ) (z : Bool) → nat_eq i k ≡ z → Later D l (suc i) k → (base_in (slice_get (slice_set T.blocks i (record row { base = Some c })) k) ≡ base_in (slice_get D.blocks k)) × (standard_in (slice_get (slice_set T.blocks i (record row { base = Some c })) k) ≡ None)
@@ -354,10 +362,10 @@ module _ (D : Tables) (bare : Showing D) (bottom : (k : ℕ) (row : BlockOf) →
             beyond same (inr h) = let le : suc i ≤ k = h.1 in omega arith
         later k false z q = let w = s.later k (not_later k q) in (ap base_in (set_other T.blocks i k new z) ∙ w.0, kept_set standard_in T.blocks i row new at refl k ∙ w.1)
 
-    -- or it is `simset`
-    brings : (row : BlockOf) → slice_get T.blocks i ≡ Some row → row.level ≡ l → (which : StandardPrefix) → which ≡ standard.Simset → base D i ≡ None → So D (record T { blocks = slice_set T.blocks i (record row { standard = Some which }) }) l (suc i)
+    -- or it is a standard one
+    brings : (row : BlockOf) → slice_get T.blocks i ≡ Some row → row.level ≡ l → (which : StandardPrefix) → spelt_before (slice_get D.blocks i) ≡ Some which → base D i ≡ None → So D (record T { blocks = slice_set T.blocks i (record row { standard = Some which }) }) l (suc i)
     unfolding base
-    brings row at level which sets none = record {
+    brings row at level which spelt none = record {
       based = record {
         size = length-set T.blocks i new ∙ s.based.size;
         blocks = λ j. kept_set bare_row T.blocks i row new at refl j ∙ s.based.blocks j;
@@ -366,7 +374,7 @@ module _ (D : Tables) (bare : Showing D) (bottom : (k : ℕ) (row : BlockOf) →
         qualifications = s.based.qualifications;
         protections = s.based.protections;
         bases = λ k d e. bases k d (s.based.bases k d (was k d e));
-        standards = λ j. standards j (nat_eq i j) refl;
+        standards = λ j p e. standards j p (nat_eq i j) refl e;
         apart = λ k d e. apart k d (nat_eq i k) refl e;
         kept = λ k d e. kept_set base_in T.blocks i row new at refl k ∙ s.based.kept k d e;
       };
@@ -388,18 +396,22 @@ module _ (D : Tables) (bare : Showing D) (bottom : (k : ℕ) (row : BlockOf) →
         more : (j b : ℕ) → base T j ≡ Some b → base U j ≡ Some b
         more j b e = kept_set base_in T.blocks i row new at refl j ∙ e
 
+        brought : (j : ℕ) (z : Bool) → nat_eq i j ≡ z → HasStandard T j → HasStandard U j
+        brought j true z h = let same : i ≡ j = grind (arith, nat_tests) in (which, ap (λ m. standard_in (slice_get (slice_set T.blocks i (record row { standard = Some which })) m)) (sym same) ∙ ap standard_in (set_here T.blocks i row new at))
+        brought j false z h = (h.0, ap standard_in (set_other T.blocks i j new z) ∙ h.1)
+
         bases : (k d : ℕ) → PrefixOf D T k d ⊎ (base_in (slice_get D.blocks k) ≡ Some d) → PrefixOf D U k d ⊎ (base_in (slice_get D.blocks k) ≡ Some d)
-        bases k d (inl q) = inl (prefix_more D T U more k d q)
+        bases k d (inl q) = inl (prefix_more D T U more (λ j h. brought j (nat_eq i j) refl h) k d q)
         bases k d (inr q) = inr q
 
         still : base_in (slice_get T.blocks i) ≡ None
         still = (s.later i (inr (own_level, (let z : i ≤ i = omega arith in z)))).0 ∙ none
 
-        standards : (j : ℕ) (z : Bool) → nat_eq i j ≡ z → SetsOrNone (standard_in (slice_get (slice_set T.blocks i (record row { standard = Some which })) j))
-        standards j true z =
+        standards : (j : ℕ) (p : StandardPrefix) (z : Bool) → nat_eq i j ≡ z → standard_in (slice_get (slice_set T.blocks i (record row { standard = Some which })) j) ≡ Some p → spelt_before (slice_get D.blocks j) ≡ Some p
+        standards j p true z e =
             let same : i ≡ j = grind (arith, nat_tests) in
-            subst (λ m. SetsOrNone (standard_in (slice_get (slice_set T.blocks i (record row { standard = Some which })) m))) same (subst (λ o. SetsOrNone (standard_in o)) (sym (set_here T.blocks i row new at)) (inr (ap Some sets)))
-        standards j false z = subst (λ o. SetsOrNone (standard_in o)) (sym (set_other T.blocks i j new z)) (s.based.standards j)
+            ap (λ m. spelt_before (slice_get D.blocks m)) (sym same) ∙ spelt ∙ sym (ap standard_in (set_here T.blocks i row new at)) ∙ ap (λ m. standard_in (slice_get (slice_set T.blocks i (record row { standard = Some which })) m)) same ∙ e
+        standards j p false z e = s.based.standards j p (sym (ap standard_in (set_other T.blocks i j new z)) ∙ e)
 
         apart : (k d : ℕ) (z : Bool) → nat_eq i k ≡ z → base_in (slice_get (slice_set T.blocks i (record row { standard = Some which })) k) ≡ Some d → standard_in (slice_get (slice_set T.blocks i (record row { standard = Some which })) k) ≡ None
         apart k d true z e = let same : i ≡ k = grind (arith, nat_tests) in absurd (let f : None ≡ Some d = sym still ∙ ap (λ m. base_in (slice_get T.blocks m)) same ∙ was k d e in cc)
@@ -457,7 +469,7 @@ module _ (D : Tables) (bare : Showing D) (bottom : (k : ℕ) (row : BlockOf) →
   pub prefixes_based : ((k : ℕ) → standard_in (slice_get D.blocks k) ≡ None) → Based D (prefixed D)
   unfolding prefixed base
   prefixes_based alone = (levels_so (deepest D.blocks + 1) (record {
-    based = record { size = refl; blocks = λ k. refl; places = refl; declarations = refl; qualifications = refl; protections = refl; bases = λ k c e. inr e; standards = λ k. inl (alone k); apart = λ k c e. alone k; kept = λ k c e. e };
+    based = record { size = refl; blocks = λ k. refl; places = refl; declarations = refl; qualifications = refl; protections = refl; bases = λ k c e. inr e; standards = λ k p e. absurd (let f : None ≡ Some p = sym (alone k) ∙ e in cc); apart = λ k c e. alone k; kept = λ k c e. e };
     later = λ k q. (refl, alone k);
   })).based
 

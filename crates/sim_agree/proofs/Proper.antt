@@ -15,6 +15,8 @@ use Rattle.sim_scope.specs.declared.types.SimType.{SimType}
 use Rattle.sim_scope.specs.declared.types.SimType.TheVariants as type
 use Rattle.sim_scope.specs.declared.types.StandardClass.{StandardClass}
 use Rattle.sim_scope.specs.declared.types.StandardClass.TheVariants as standard
+use Rattle.sim_scope.specs.declared.types.StandardPrefix.{StandardPrefix}
+use Rattle.sim_scope.specs.declared.types.StandardPrefix.TheVariants as prefix
 use Rattle.sim_values.specs.declared.standard.StandardType.{StandardType}
 use Rattle.sim_values.specs.declared.standard.StandardType.TheVariants as of_type
 use Rattle.sim_scope.specs.Building.{place_of, typed_or_none}
@@ -26,13 +28,14 @@ use Rattle.sim_scope.specs.Source.{Source}
 use Rattle.virtual_match.specs.Qualifying.{entry_to, type_to}
 use Rattle.sim_static.specs.Check.{second_least}
 use Rattle.sim_meaning.specs.Attributes.{is_connection}
-use Rattle.sim_meaning.specs.Texts.{Text, text}
-use Rattle.sim_agree.specs.Facts.{IsClass, PlainType, ProperEntry, ProperGiven, ProperFormal, ProperResult, ProperType}
+use Rattle.sim_meaning.specs.Texts.{text}
+use Rattle.sim_agree.specs.Facts.{IsClass, PlainType, ProperEntry, ProperFormal, ProperResult, ProperType}
 use Rattle.sim_agree.specs.Plain.{Plain}
 use Rattle.sim_agree.specs.TablesOf.{TablesOf}
 use Rattle.sim_agree.proofs.Completing.{Retyped}
-use Rattle.sim_agree.proofs.Fine.{IsSetClass, OfAttribute, SetGroup}
-use Rattle.sim_agree.proofs.SetRows as rows
+use Rattle.sim_agree.proofs.Fine.{StandardGroup}
+use Rattle.sim_agree.proofs.StandardRows as rows
+use Rattle.sim_agree.proofs.StandardPrefixes.{IsBrought}
 use Rattle.sim_agree.proofs.Groups.{AreReferences, IsReference, OfReferences, PlainFormal}
 use Rattle.sim_agree.proofs.Headings as h
 use Rattle.sim_agree.proofs.Qualified as q
@@ -137,38 +140,29 @@ module _ (s : Source) (of : TablesOf s) (plain : Plain s.program) (order : InOrd
       let there = q.class_entry s of plain order c n e in
       let k = h.classes s of plain order c n there in record { block = n; declares = there; is = k.0.is; owned = k.1 }
 
-  -- a class of SIMSET, and a procedure of one
-  set_class : (block : ℕ) (first : DeclNo) → SetGroup (Bs s of plain order) (Ts s of plain order) block first → (which : StandardClass) → IsSetClass which → IsClass s (record { 0 = first.0 + place_of which })
-  set_class block first g which is = class_is (record { 0 = first.0 + place_of which }) (block + 1 + place_of which) (rows.set_block s of plain order block first g which is)
+  -- a standard class, and the types of attributes
+  standard_class_is : (p : StandardPrefix) (block : ℕ) (first : DeclNo) → StandardGroup p (Bs s of plain order) (Ts s of plain order) block first → (which : StandardClass) → IsBrought p which → IsClass s (record { 0 = first.0 + place_of which })
+  standard_class_is p block first g which is = class_is (record { 0 = first.0 + place_of which }) (block + 1 + place_of which) (rows.class_block_of s of plain order p block first g which is)
 
-  given_proper : (block : ℕ) (first : DeclNo) → SetGroup (Bs s of plain order) (Ts s of plain order) block first → (o : Option StandardType) → rows.SetGiven o → ProperGiven s (typed_or_none (Some first) o)
-  given_proper block first g None p = tt
-  given_proper block first g (Some of_type.Linkage) p = set_class block first g standard.Linkage tt
-  given_proper block first g (Some of_type.Link) p = set_class block first g standard.Link tt
-  given_proper block first g (Some of_type.Head) p = set_class block first g standard.Head tt
-  given_proper block first g (Some of_type.Integer) p = absurd p
-  given_proper block first g (Some of_type.Boolean) p = absurd p
-  given_proper block first g (Some of_type.Character) p = absurd p
-  given_proper block first g (Some of_type.Text) p = absurd p
-  given_proper block first g (Some of_type.Reference) p = absurd p
-  given_proper block first g (Some of_type.Process) p = absurd p
+  result_proper : (p : StandardPrefix) (block : ℕ) (first : DeclNo) → StandardGroup p (Bs s of plain order) (Ts s of plain order) block first → (o : Option StandardType) → rows.TypedFor p o → ProperResult s (typed_or_none (Some first) o)
+  result_proper p block first g None q = tt
+  result_proper p block first g (Some of_type.Linkage) q = standard_class_is p block first g standard.Linkage tt
+  result_proper p block first g (Some of_type.Link) q = standard_class_is p block first g standard.Link tt
+  result_proper p block first g (Some of_type.Head) q = standard_class_is p block first g standard.Head tt
+  result_proper p block first g (Some of_type.Process) q = standard_class_is p block first g standard.Process q
+  result_proper p block first g (Some of_type.Integer) q = tt
+  result_proper p block first g (Some of_type.Boolean) q = tt
+  result_proper p block first g (Some of_type.Character) q = absurd q
+  result_proper p block first g (Some of_type.Text) q = absurd q
+  result_proper p block first g (Some of_type.Reference) q = absurd q
 
-  result_proper : (block : ℕ) (first : DeclNo) → SetGroup (Bs s of plain order) (Ts s of plain order) block first → (o : Option StandardType) → rows.SetTyped o → ProperResult s (typed_or_none (Some first) o)
-  result_proper block first g None p = tt
-  result_proper block first g (Some of_type.Linkage) p = set_class block first g standard.Linkage tt
-  result_proper block first g (Some of_type.Link) p = set_class block first g standard.Link tt
-  result_proper block first g (Some of_type.Head) p = set_class block first g standard.Head tt
-  result_proper block first g (Some of_type.Integer) p = tt
-  result_proper block first g (Some of_type.Boolean) p = tt
-  result_proper block first g (Some of_type.Character) p = absurd p
-  result_proper block first g (Some of_type.Text) p = absurd p
-  result_proper block first g (Some of_type.Reference) p = absurd p
-  result_proper block first g (Some of_type.Process) p = absurd p
-
-  attribute_proper : (row : Declaration) → OfAttribute (Bs s of plain order) (Ts s of plain order) row → ProperEntry s row.entry
-  attribute_proper row p =
-      let types = rows.set_types p.name p.is_set in
-      subst (ProperEntry s) (sym p.entry) (p.is_set, given_proper p.block p.first p.group (parameter_of p.name) types.0, result_proper p.block p.first p.group (result_of p.name) types.1)
+  attribute_proper : (row : Declaration) → rows.AttributeRow s of plain order row → ProperEntry s row.entry
+  attribute_proper row (inl p) =
+      let types = rows.attribute_types p.name p.prefix p.class p.is p.owner p.is_attribute in
+      subst (ProperEntry s) (sym p.entry) (inl p.is_attribute, result_proper p.prefix p.block p.first p.group (parameter_of p.name) types.0, result_proper p.prefix p.block p.first p.group (result_of p.name) types.1)
+  attribute_proper row (inr p) =
+      let types = rows.simulation_types p.name p.is_simulation in
+      subst (ProperEntry s) (sym p.entry) (inr p.is_simulation, result_proper prefix.Simulation row.block p.first p.group (parameter_of p.name) types.0, result_proper prefix.Simulation row.block p.first p.group (result_of p.name) types.1)
 
   shaped : (d : ℕ) (row : Declaration) → slice_get s.tables.declarations d ≡ Some row → (e : Entry) → row.entry ≡ e → entry_of s.tables (record { 0 = d }) ≡ Some e → TypesOf s e → ProperEntry s e
   shaped d row at (entry.Variable ty) is en r = r

@@ -40,9 +40,7 @@ use Rattle.sim_agree.proofs.Retypes.{class_new, virtual_new}
 use Rattle.sim_agree.proofs.Accessible.{rows_stand, standing}
 use Rattle.sim_agree.proofs.Unconnected.{bound_alone}
 use Rattle.sim_agree.proofs.Unprefixed.{NoVirtuals}
-use Rattle.sim_agree.proofs.ClassRows.{no_class_connection}
-use Rattle.sim_agree.proofs.PlainNames.{SetsOrNone}
-use Rattle.sim_scope.specs.declared.types.StandardPrefix.{StandardPrefix}
+use Rattle.sim_agree.proofs.ClassRows.{class_entry as class_text, no_class_connection}
 
 -- ---- no fault
 
@@ -82,20 +80,22 @@ pub record Written (T : Tables) (x : Qualification) (class : DeclNo) : Type 0 wh
   pub binds : binding T x.class.token.0 x.class.name ≡ Some (denotation.Declared class)
   pub block : ℕ
   pub declares : class_block T class ≡ Some block
+  -- and is not only for prefixing
+  pub single : is_for_prefixing T block ≡ false
 
 pub written_is : (T : Tables) (x : Qualification) (class : DeclNo) → class_written T x ≡ Some class → Written T x class
 unfolding class_written
 written_is T x class e = go (binding T x.class.token.0 x.class.name) refl e
   where
-    unless : (d : DeclNo) (c : Bool) → class_unless d c ≡ Some class → d ≡ class
+    unless : (d : DeclNo) (c : Bool) → class_unless d c ≡ Some class → (d ≡ class) × (c ≡ false)
     unless d true f = absurd (cc)
-    unless d false f = cc
+    unless d false f = (cc, refl)
 
     with_block : (d : DeclNo) (o : Option ℕ) → class_block T d ≡ o → binding T x.class.token.0 x.class.name ≡ Some (denotation.Declared d) → class_with_block T d o ≡ Some class → Written T x class
     with_block d None is b f = absurd (cc)
     with_block d (Some n) is b f =
-        let same : d ≡ class = unless d (is_for_prefixing T n) f in
-        subst (λ z. Written T x z) same (record { binds = b; block = n; declares = is })
+        let u = unless d (is_for_prefixing T n) f in
+        subst (λ z. Written T x z) u.0 (record { binds = b; block = n; declares = is; single = u.1 })
 
     go : (o : Option Denotation) → binding T x.class.token.0 x.class.name ≡ o → class_denoted T o ≡ Some class → Written T x class
     go None is f = absurd (cc)
@@ -165,6 +165,22 @@ module _ (s : Source) (of : TablesOf s) (plain : Plain s.program) (order : InOrd
   unfolding qualified
   same_qualifications = rows_are.1 ∙ qualifications_keep (with_blocks (declared_by s.program).tables (prefixed (declared_by s.program).tables).blocks) (declared_by s.program).tables.qualifications
 
+  pub class_entry : (d : DeclNo) (n : ℕ) → class_block s.tables d ≡ Some n → entry_of s.tables d ≡ Some (entry.Class n)
+  unfolding class_block entry_of
+  class_entry d n e = go (slice_get s.tables.declarations d.0) e
+    where
+      go : (o : Option Declaration) → class_block_in (elim o [ None ↦ None | Some row ↦ Some row.entry ]) ≡ Some n → entry_in o ≡ Some (entry.Class n)
+      go None f = absurd (cc)
+      go (Some row) f = ap Some (entry_is_class n row.entry f)
+
+  -- it is no connection
+  class_other : (d : DeclNo) (n : ℕ) → class_block s.tables d ≡ Some n → is_kind is_connection_kind s.tables n ≡ false
+  unfolding text
+  class_other d n e =
+      let r = t.entry_row s of plain order d (entry.Class n) (class_entry d n e) in
+      let x = t.text_of_row s of plain order d.0 r.0 r.1 in
+      ic.connections s of plain order n ∙ no_class_connection (text s n) (class_text x.0 (t.Bs s of plain order) (t.Ts s of plain order) d.0 r.0 n r.2 x.2)
+
   -- ---- tables in which some references have their classes
 
   module _ (T : Tables) (r : Requalified (with_blocks (declared_by s.program).tables (prefixed (declared_by s.program).tables).blocks) T) where
@@ -212,25 +228,28 @@ module _ (s : Source) (of : TablesOf s) (plain : Plain s.program) (order : InOrd
             let now : u.0.entry ≡ entry.Class n = class_new w.0.entry u.0.entry u.2.entry n was in
             ap (λ o. class_block_in (elim o [ None ↦ None | Some row ↦ Some row.entry ])) u.1 ∙ ap (λ e. class_block_in (Some e)) now
 
-    none_simulates : (n k : ℕ) → some_level_of T n (is_simulation_block T) k ≡ false
-    unfolding some_level_of is_simulation_block
-    none_simulates zero k = refl
-    none_simulates (suc n) k =
-        ap (λ z. z || holds (λ b. some_level_of T n (is_simulation_block T) b) (base T k)) (one (standard_in (slice_get T.blocks k)) (subst SetsOrNone (sym (standards_early k)) ((t.P s of plain order).standards k))) ∙ further (base T k) (λ b. none_simulates n b)
-      where
-        further : (o : Option ℕ) → ((b : ℕ) → some_level_of T n (is_simulation_block T) b ≡ false) → holds (λ b. some_level_of T n (is_simulation_block T) b) o ≡ false
-        further None h = refl
-        further (Some b) h = h b
+    simulates_early : (k : ℕ) → is_simulation_block T k ≡ is_simulation_block s.tables k
+    unfolding is_simulation_block
+    simulates_early k = ap is_simulation (standards_early k ∙ sym (done.standards k))
 
-        one : (o : Option StandardPrefix) → SetsOrNone o → is_simulation o ≡ false
-        one o (inl e) = ap is_simulation e
-        one o (inr e) = ap is_simulation e
+    -- which levels are so
+    levels_early : (n k : ℕ) → is_kind is_connection_kind s.tables k ≡ false → some_level_of T n (is_simulation_block T) k ≡ some_level_of s.tables n (is_simulation_block s.tables) k
+    unfolding some_level_of
+    levels_early zero k other = refl
+    levels_early (suc n) k other =
+        ap (λ z. z || holds (λ b. some_level_of T n (is_simulation_block T) b) (base T k)) (simulates_early k)
+        ∙ ap (λ z. is_simulation_block s.tables k || z) (ap (holds (λ b. some_level_of T n (is_simulation_block T) b)) (own_early k other) ∙ further (base s.tables k) (λ b e. levels_early n b (next_early k b e)))
+      where
+        further : (o : Option ℕ) → ((b : ℕ) → o ≡ Some b → some_level_of T n (is_simulation_block T) b ≡ some_level_of s.tables n (is_simulation_block s.tables) b)
+            → holds (λ b. some_level_of T n (is_simulation_block T) b) o ≡ holds (λ b. some_level_of s.tables n (is_simulation_block s.tables) b) o
+        further None h = refl
+        further (Some b) h = h b refl
 
     -- what is found through no connection in the complete tables is found in these
     written_early : (x : Qualification) (class : DeclNo) → Written s.tables x class → ((u : ℕ) → found_in s.tables x.class.token.0 x.class.name ≡ Some u → is_kind is_connection_kind s.tables u ≡ false) → class_written T x ≡ Some class
     unfolding class_written is_for_prefixing
     written_early x class w alone =
-        ap (class_denoted T) (bound (length T.blocks) refl) ∙ ap (class_with_block T class) (class_early class w.block w.declares) ∙ ap (class_unless class) (none_simulates (length T.blocks) w.block)
+        ap (class_denoted T) (bound (length T.blocks) refl) ∙ ap (class_with_block T class) (class_early class w.block w.declares) ∙ ap (class_unless class) (ap (λ n. some_level_of T n (is_simulation_block T) w.block) (sym size) ∙ levels_early (length s.tables.blocks) w.block (class_other class w.block w.declares) ∙ w.single)
       where
         size : length s.tables.blocks ≡ length T.blocks
         size = done.size ∙ sym (t.P s of plain order).size ∙ ap length (sym r.blocks)
@@ -343,14 +362,6 @@ module _ (s : Source) (of : TablesOf s) (plain : Plain s.program) (order : InOrd
           let same : q ≡ x = cc in
           subst (λ (z : Qualification). IsSet (run with_qualification (with_qualification T q) qs) z.declaration.0) same (keep q.declaration.0 (set_now T r q a.0 h.class h.block h.declares (h.found T r) h.given))
       go keep rest h (suc i) x at = rest i x at
-
-  pub class_entry : (d : DeclNo) (n : ℕ) → class_block s.tables d ≡ Some n → entry_of s.tables d ≡ Some (entry.Class n)
-  unfolding class_block entry_of
-  class_entry d n e = go (slice_get s.tables.declarations d.0) e
-    where
-      go : (o : Option Declaration) → class_block_in (elim o [ None ↦ None | Some row ↦ Some row.entry ]) ≡ Some n → entry_in o ≡ Some (entry.Class n)
-      go None f = absurd (cc)
-      go (Some row) f = ap Some (entry_is_class n row.entry f)
 
   -- each qualification has written its class into the complete tables
   module _ (second : second_least s.tables ≡ None)

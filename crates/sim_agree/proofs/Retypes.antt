@@ -1,7 +1,6 @@
 -- Rows without what the second round changes, and entries with their classes.
-use Rattle.std.proofs.Common.{◌≡◌, ◌⊎◌, inl, inr, ℕ, false, List, Option, Some, None, refl, sym, ap, ◌∙◌, subst}
+use Rattle.std.proofs.Common.{◌≡◌, ◌⊎◌, inl, inr, ℕ, false, Option, Some, None, refl, sym, ap, ◌∙◌, subst}
 use Rattle.sim_base.specs.declared.numbering.DeclNo.{DeclNo}
-use Rattle.sim_scope.specs.declared.types.BlockKind.TheVariants as kind
 use Rattle.sim_scope.specs.declared.types.Entry.{Entry}
 use Rattle.sim_scope.specs.declared.types.Entry.TheVariants as entry
 use Rattle.sim_scope.specs.declared.types.FormalKind.{FormalKind}
@@ -10,7 +9,7 @@ use Rattle.sim_scope.specs.declared.types.SimType.{SimType}
 use Rattle.sim_scope.specs.declared.types.SimType.TheVariants as t
 use Rattle.sim_scope.specs.declared.types.WrittenMode.{WrittenMode}
 use Rattle.sim_scope.specs.Access.{around}
-use Rattle.sim_scope.specs.Scopes.{declared_in, is_virtual}
+use Rattle.sim_scope.specs.Scopes.{is_virtual}
 use Rattle.sim_scope.specs.Source.{level_in}
 use Rattle.sim_scope.specs.Tables.{BlockOf}
 use Rattle.virtual_match.specs.Qualifying.{entry_to, type_to}

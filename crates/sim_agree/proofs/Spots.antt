@@ -25,24 +25,24 @@ use Rattle.sim_meaning.specs.Entries.{numbers_in}
 use Rattle.sim_sound.specs.Held.{Among}
 use Rattle.sim_scope.specs.Tables.{BlockOf}
 use Rattle.sim_scope.proofs.Kept.{kept_more, kept_set, more_here, more_other, set_here, set_other}
-use Rattle.sim_meaning.specs.Texts.{BlockText, ClassText, ProcedureText, Text, PrefixedText, StandardText}
+use Rattle.sim_meaning.specs.Texts.{BlockText, ClassText, ProcedureText, Text, PrefixedText}
 use Rattle.sim_tree.specs.Order.{Ascends, Spot}
-use Rattle.sim_agree.proofs.Laid.{Con, Frame, Held, Joined, Laid, Part, Sub, Use, Whole, block, breaks_rule, closes, connects, declares, declares_class, frame, headed, inner_mark, leaves, moded, nothing, parameter, passes, procedure, program, specified, text_held, used_held, uses, Prefs, prefixed, unprefixed, text_used, guarded, Pre, prefixed_block, Stands, all_held, among, outermost, sets_block, sets_class}
-use Rattle.sim_agree.proofs.BroughtFine as sets
-use Rattle.sim_agree.proofs.BroughtKnown.{Added, row_added}
-use Rattle.sim_agree.proofs.BroughtRows.{bringing, set_rows, with_sets}
-use Rattle.sim_agree.proofs.BroughtRuns.{FreshTop, brought_is, opened_top, prefixed_fresh, prefixed_is, prefixed_top}
+use Rattle.sim_agree.proofs.Laid.{Con, Frame, Held, Joined, Laid, Part, Sub, Use, Whole, block, breaks_rule, closes, connects, declares, declares_class, frame, headed, inner_mark, leaves, moded, nothing, parameter, passes, procedure, program, specified, text_held, used_held, uses, Prefs, prefixed, unprefixed, text_used, guarded, Pre, prefixed_block, Stands, all_held, among, outermost, standard_block, standard_class}
+use Rattle.sim_agree.proofs.BroughtFine as brought
+use Rattle.sim_agree.proofs.BroughtKnown.{Added, a_class, an_attribute, an_own, row_added}
+use Rattle.sim_agree.proofs.BroughtRows.{added_rows, bringing, with_standard}
+use Rattle.sim_agree.proofs.BroughtRuns.{FreshTop, brought_is, opened_top}
 use Rattle.sim_agree.proofs.Brought.{parts_get}
-use Rattle.sim_agree.proofs.PlainNames.{set_texts}
-use Rattle.sim_agree.specs.Plain.{PlainName}
+use Rattle.sim_agree.proofs.StandardPrefixes.{Spells, brought_texts, text_brought}
 use Rattle.sim_agree.specs.TablesAgree.{IsOwn, is_attribute}
 use Rattle.sim_scope.specs.Levels.{is_standard_class}
-use Rattle.sim_scope.specs.declared.types.StandardClass.TheVariants as standard_class
+use Rattle.sim_scope.specs.declared.types.StandardPrefix.{StandardPrefix}
+use Rattle.sim_scope.specs.declared.types.StandardPrefix.TheVariants as prefixes
 use Rattle.sim_agree.proofs.Steps.{AllEven, Becomes, Changed, Declared, Fixed, Nothing, Step, class_step, declared_step, fixed, headed_step, inner_step, last_cases, met, moded_step, own_unmatched, parameter_step, procedure_unmatched, quals_step, rule_step, specified_met, prefix_step, guards_step}
 use Rattle.sim_agree.proofs.Unprefixed.{Unprefixed, extras_in, no_extras, is_prefixable}
 use Rattle.sim_agree.proofs.Fine.{same_around, fresh}
 use Rattle.sim_agree.proofs.FineRuns.{run_both}
-use Rattle.sim_agree.proofs.Groups.{AreReferences, OfReferences, set_prefix}
+use Rattle.sim_agree.proofs.Groups.{AreReferences, OfReferences, whole_prefix}
 
 -- ---- the open texts
 
@@ -518,57 +518,63 @@ closed_row b end n (Some row) ts x os from le cur at found is l = record {
 closed_laid : (b : BuildingOf) (end : ℕ) (ts : List Held) (x : Text) (os : List Frame) (from : ℕ) → from ≤ end → (l : Lay b ts (frame x [] ∷ os) from) → (row : BlockOf) → slice_get b.tables.blocks l.stack.0 ≡ Some row → Lay (closed b end b.current) ts os end
 closed_laid b end ts x os from le l row at = subst (λ o. Lay (closed b end o) ts os end) (sym l.stack.1) (closed_row b end l.stack.0 (slice_get b.tables.blocks l.stack.0) ts x os from le l.stack.1 refl row at l)
 
--- ---- the classes of SIMSET
+-- ---- the classes of a standard prefix
 
-sets_laid : (b : BuildingOf) (n token : ℕ) (r : BlockOf) → length b.tables.blocks ≡ n + 1 → slice_get b.tables.blocks n ≡ Some r → (ts : List Held) (x : Text) (u : List Part) (os : List Frame) (from : ℕ) → token < from
-    → Lay b ts (frame x u ∷ os) from → Lay (with_sets b n token r) (ts ++ all_held set_texts) (frame x u ∷ os) from
-sets_laid b n token r last at ts x u os from token_lt l = record {
-  size = (let e : length (slice_set b.tables.blocks n (bringing (length b.tables.declarations) r)) ≡ length b.tables.blocks = length-set b.tables.blocks n (bringing (length b.tables.declarations) r) in
+standard_laid : (p : StandardPrefix) (front : Identifier) (spelt : Spells p front) (b : BuildingOf) (n token : ℕ) (r : BlockOf) → is_prefixable r.kind ≡ true → length b.tables.blocks ≡ n + 1 → slice_get b.tables.blocks n ≡ Some r → (ts : List Held) (x : Text) (u : List Part) (os : List Frame) (from : ℕ) → token < from
+    → Lay b ts (frame x u ∷ os) from → Lay (with_standard p b n token (prefixed_by front r)) (ts ++ all_held (brought_texts p)) (frame x u ∷ os) from
+standard_laid p front spelt b n token r able last at ts x u os from token_lt l = record {
+  size = (let e : length (slice_set b.tables.blocks n (bringing p (length b.tables.declarations) (prefixed_by front r))) ≡ length b.tables.blocks = length-set b.tables.blocks n (bringing p (length b.tables.declarations) (prefixed_by front r)) in
       let s : length b.tables.blocks ≡ length ts = l.size in
-      length-append (slice_set b.tables.blocks n (bringing (length b.tables.declarations) r)) (set_rows n (length b.tables.declarations) r.level) ∙ (let z : length (slice_set b.tables.blocks n (bringing (length b.tables.declarations) r)) + 3 ≡ length ts + 3 = omega arith in z) ∙ sym (length-append ts (all_held set_texts)));
+      length-append (slice_set b.tables.blocks n (bringing p (length b.tables.declarations) (prefixed_by front r))) (added_rows n (length b.tables.declarations) r.level p) ∙ (let m : length (added_rows n (length b.tables.declarations) r.level p) ≡ length (all_held (brought_texts p)) = as_many p in let z : length (slice_set b.tables.blocks n (bringing p (length b.tables.declarations) (prefixed_by front r))) + length (added_rows n (length b.tables.declarations) r.level p) ≡ length ts + length (all_held (brought_texts p)) = omega arith in z) ∙ sym (length-append ts (all_held (brought_texts p))));
   stack = stack_kept bs cs ts us keep (frame x u ∷ os) b.current l.stack;
   reach = l.reach;
-  done = λ m y p is has. done m y p has (parts_get ts (all_held set_texts) m y is);
-  firsts = λ k row is other. firsts k row other is (sets.part b n token r last at [] k);
-  joins = λ m i v is. joins m i v (parts_get ts (all_held set_texts) m (Joined i v) is);
-  below = λ d row is. below row (sets.row_part b n token r last at [] d row is);
-  rising = λ d e row other is to lt o. rising d e row other lt o (sets.row_part b n token r last at [] d row is) (sets.row_part b n token r last at [] e other to);
-  bare = sets.sets_bare b n token r last at [] l.bare;
+  done = λ m y q is has. done m y q has (parts_get ts (all_held (brought_texts p)) m y is);
+  firsts = λ k row is other. firsts k row other is (brought.part p front spelt b n token r last at [] k);
+  joins = λ m i v is. joins m i v (parts_get ts (all_held (brought_texts p)) m (Joined i v) is);
+  below = λ d row is. below row (brought.row_part p front spelt b n token r last at [] d row is);
+  rising = λ d e row other is to lt o. rising d e row other lt o (brought.row_part p front spelt b n token r last at [] d row is) (brought.row_part p front spelt b n token r last at [] e other to);
+  bare = brought.standard_bare p front spelt b n token r last at [] able l.bare;
 }
   where
     bs : List BlockOf
     bs = b.tables.blocks
 
     cs : List BlockOf
-    cs = (with_sets b n token r).tables.blocks
+    cs = (with_standard p b n token (prefixed_by front r)).tables.blocks
 
     us : List Held
-    us = ts ++ all_held set_texts
+    us = ts ++ all_held (brought_texts p)
 
-    keep : Keeps b.tables.blocks (with_sets b n token r).tables.blocks ts (ts ++ all_held set_texts)
+    keep : Keeps b.tables.blocks (with_standard p b n token (prefixed_by front r)).tables.blocks ts (ts ++ all_held (brought_texts p))
     keep m y is =
         let lt : m < length ts = slice_get_within ts m y is in
         let s : length b.tables.blocks ≡ length ts = l.size in
         let inner : m < length b.tables.blocks = omega arith in
-        (sets.old_same b n token r last at [] around refl m inner, more_at ts (all_held set_texts) m y is, sets.old_same b n token r last at [] first_in refl m inner)
+        (brought.old_same p front spelt b n token r last at [] around refl m inner, more_at ts (all_held (brought_texts p)) m y is, brought.old_same p front spelt b n token r last at [] first_in refl m inner)
 
-    later : (m j : ℕ) → Here b from m j → Here (with_sets b n token r) from m j
+    later : (m j : ℕ) → Here b from m j → Here (with_standard p b n token (prefixed_by front r)) from m j
     later m j h = h
 
-    nothing_used : (i : ℕ) (y : Held) → slice_get (all_held set_texts) i ≡ Some y → used_held y ≡ []
-    nothing_used zero y e = ap used_held (sym (some_same (Whole (StandardText standard_class.Linkage)) y e))
-    nothing_used (suc zero) y e = ap used_held (sym (some_same (Whole (StandardText standard_class.Link)) y e))
-    nothing_used (suc (suc zero)) y e = ap used_held (sym (some_same (Whole (StandardText standard_class.Head)) y e))
-    nothing_used (suc (suc (suc i))) y e = absurd (cc)
+    as_many : (c : StandardPrefix) → length (added_rows n (length b.tables.declarations) r.level c) ≡ length (all_held (brought_texts c))
+    as_many prefixes.Simset = refl
+    as_many prefixes.Simulation = refl
 
-    done : (m : ℕ) (y : Held) (p : Part) → Has p (used_held y) → ((m < length ts) × (slice_get ts m ≡ Some y)) ⊎ ((i : ℕ) × (m ≡ length ts + i) × (slice_get (all_held set_texts) i ≡ Some y))
-        → Fact (with_sets b n token r) (ts ++ all_held set_texts) from m p ⊎ LeftAt (with_sets b n token r).tables.blocks b.current (frame x u ∷ os) m p
-    done m y p has (inl q) = go (l.done m y p q.1 has)
+    held_at : (xs : List Text) (i : ℕ) (y : Held) → slice_get (all_held xs) i ≡ Some y → (z : Text) × (slice_get xs i ≡ Some z) × (y ≡ Whole z)
+    held_at [] i y e = absurd (cc)
+    held_at (z ∷ xs) zero y e = (z, refl, sym (some_same (Whole z) y e))
+    held_at (z ∷ xs) (suc i) y e = held_at xs i y e
+
+    nothing_used : (i : ℕ) (y : Held) → slice_get (all_held (brought_texts p)) i ≡ Some y → used_held y ≡ []
+    nothing_used i y e = let h = held_at (brought_texts p) i y e in ap used_held h.2 ∙ ap text_used (text_brought p i h.0 h.1).1
+
+    done : (m : ℕ) (y : Held) (a : Part) → Has a (used_held y) → ((m < length ts) × (slice_get ts m ≡ Some y)) ⊎ ((i : ℕ) × (m ≡ length ts + i) × (slice_get (all_held (brought_texts p)) i ≡ Some y))
+        → Fact (with_standard p b n token (prefixed_by front r)) (ts ++ all_held (brought_texts p)) from m a ⊎ LeftAt (with_standard p b n token (prefixed_by front r)).tables.blocks b.current (frame x u ∷ os) m a
+    done m y a has (inl q) = go (l.done m y a q.1 has)
       where
-        go : Fact b ts from m p ⊎ LeftAt b.tables.blocks b.current (frame x u ∷ os) m p → Fact (with_sets b n token r) (ts ++ all_held set_texts) from m p ⊎ LeftAt (with_sets b n token r).tables.blocks b.current (frame x u ∷ os) m p
-        go (inl f) = inl (fact_moves b (with_sets b n token r) ts (ts ++ all_held set_texts) from from keep later m p f)
-        go (inr k) = inr (left_kept b.tables.blocks (with_sets b n token r).tables.blocks ts (ts ++ all_held set_texts) keep (frame x u ∷ os) b.current m p l.stack k)
-    done m y p has (inr q) = absurd (let h : Has p [] = subst (Has p) (nothing_used q.0 y q.2) has in elim h [ ])
+        go : Fact b ts from m a ⊎ LeftAt b.tables.blocks b.current (frame x u ∷ os) m a → Fact (with_standard p b n token (prefixed_by front r)) (ts ++ all_held (brought_texts p)) from m a ⊎ LeftAt (with_standard p b n token (prefixed_by front r)).tables.blocks b.current (frame x u ∷ os) m a
+        go (inl f) = inl (fact_moves b (with_standard p b n token (prefixed_by front r)) ts (ts ++ all_held (brought_texts p)) from from keep later m a f)
+        go (inr k) = inr (left_kept b.tables.blocks (with_standard p b n token (prefixed_by front r)).tables.blocks ts (ts ++ all_held (brought_texts p)) keep (frame x u ∷ os) b.current m a l.stack k)
+    done m y a has (inr q) = absurd (let h : Has a [] = subst (Has a) (nothing_used q.0 y q.2) has in elim h [ ])
 
     known : Option BlockOf → Option (ℕ × Bool)
     known None = None
@@ -580,41 +586,40 @@ sets_laid b n token r last at ts x u os from token_lt l = record {
         let both : (old.first, is_standard_class old.kind) ≡ (new.first, is_standard_class new.kind) = some_same {A = ℕ × Bool} (old.first, is_standard_class old.kind) (new.first, is_standard_class new.kind) e in
         (old, refl, ap (λ (z : ℕ × Bool). z.0) both, ap (λ (z : ℕ × Bool). z.1) both)
 
-    firsts : (k : ℕ) (row : BlockOf) → is_standard_class row.kind ≡ false → slice_get (with_sets b n token r).tables.blocks k ≡ Some row → (k < length b.tables.blocks) ⊎ ((i : ℕ) × (k ≡ n + 1 + i)) → Here (with_sets b n token r) from k row.first
+    firsts : (k : ℕ) (row : BlockOf) → is_standard_class row.kind ≡ false → slice_get (with_standard p b n token (prefixed_by front r)).tables.blocks k ≡ Some row → (k < length b.tables.blocks) ⊎ ((i : ℕ) × (k ≡ n + 1 + i)) → Here (with_standard p b n token (prefixed_by front r)) from k row.first
     firsts k row other is (inl lt) =
-        let q = same_row (slice_get b.tables.blocks k) row (sym (sets.old_same b n token r last at [] known refl k lt) ∙ ap known is) in
-        subst (λ z. Here (with_sets b n token r) from k z) q.2 (l.firsts k q.0 q.1 (q.3 ∙ other))
+        let q = same_row (slice_get b.tables.blocks k) row (sym (brought.old_same p front spelt b n token r last at [] known refl k lt) ∙ ap known is) in
+        subst (λ z. Here (with_standard p b n token (prefixed_by front r)) from k z) q.2 (l.firsts k q.0 q.1 (q.3 ∙ other))
     firsts k row other is (inr q) =
-        let a = row_added n (length b.tables.declarations) token r.level q.0 row (sym (sets.new_get b n token r last at [] q.0) ∙ ap (slice_get (with_sets b n token r).tables.blocks) (sym q.1) ∙ is) in
+        let a = row_added n (length b.tables.declarations) token r.level p q.0 row (sym (brought.new_get p front spelt b n token r last at [] q.0) ∙ ap (slice_get (with_standard p b n token (prefixed_by front r)).tables.blocks) (sym q.1) ∙ is) in
         absurd (let z : true ≡ false = sym (ap is_standard_class a.kind) ∙ other in cc)
 
-    joins : (m i : ℕ) (v : Statement) → ((m < length ts) × (slice_get ts m ≡ Some (Joined i v))) ⊎ ((j : ℕ) × (m ≡ length ts + j) × (slice_get (all_held set_texts) j ≡ Some (Joined i v)))
-        → (first_in (slice_get (with_sets b n token r).tables.blocks m) ≡ i) × ((w : ℕ) × (around (slice_get (with_sets b n token r).tables.blocks m) ≡ Some w))
-    joins m i v (inl q) = joins_kept b.tables.blocks (with_sets b n token r).tables.blocks ts (ts ++ all_held set_texts) keep l.joins m i v q.1
+    joins : (m i : ℕ) (v : Statement) → ((m < length ts) × (slice_get ts m ≡ Some (Joined i v))) ⊎ ((j : ℕ) × (m ≡ length ts + j) × (slice_get (all_held (brought_texts p)) j ≡ Some (Joined i v)))
+        → (first_in (slice_get (with_standard p b n token (prefixed_by front r)).tables.blocks m) ≡ i) × ((w : ℕ) × (around (slice_get (with_standard p b n token (prefixed_by front r)).tables.blocks m) ≡ Some w))
+    joins m i v (inl q) = joins_kept b.tables.blocks (with_standard p b n token (prefixed_by front r)).tables.blocks ts (ts ++ all_held (brought_texts p)) keep l.joins m i v q.1
     joins m i v (inr q) = absurd (no_joined q.0 q.2)
       where
-        no_joined : (j : ℕ) → slice_get (all_held set_texts) j ≡ Some (Joined i v) → ⊥
-        no_joined zero e = cc
-        no_joined (suc zero) e = cc
-        no_joined (suc (suc zero)) e = cc
-        no_joined (suc (suc (suc j))) e = cc
+        no_joined : (j : ℕ) → slice_get (all_held (brought_texts p)) j ≡ Some (Joined i v) → ⊥
+        no_joined j e = let h = held_at (brought_texts p) j (Joined i v) e in let z : Joined i v ≡ Whole h.0 = h.2 in cc
 
     RowPart : ℕ → Declaration → Type 0
-    RowPart d row = ((d < length b.tables.declarations) × (slice_get b.tables.declarations d ≡ Some row)) ⊎ ((i : ℕ) × (d ≡ length b.tables.declarations + i) × Added n (length b.tables.declarations) token r.level i row)
+    RowPart d row = ((d < length b.tables.declarations) × (slice_get b.tables.declarations d ≡ Some row)) ⊎ ((i : ℕ) × (d ≡ length b.tables.declarations + i) × Added p n (length b.tables.declarations) token r.level i row)
 
-    added_token : (i : ℕ) (row : Declaration) → Added n (length b.tables.declarations) token r.level i row → row.token.0 ≡ token
-    added_token i row (inl c) = c.token
-    added_token i row (inr c) = c.token
+    added_token : (i : ℕ) (row : Declaration) → Added p n (length b.tables.declarations) token r.level i row → row.token.0 ≡ token
+    added_token i row (a_class c) = c.token
+    added_token i row (an_attribute c) = c.token
+    added_token i row (an_own c) = c.token
 
     below : {d : ℕ} (row : Declaration) → RowPart d row → row.token.0 < from
     below row (inl q) = l.below _ row q.1
     below row (inr q) = let e : row.token.0 ≡ token = added_token q.0 row q.2 in omega arith
 
     rising : (d e : ℕ) (row other : Declaration) → d < e → IsOwn other → RowPart d row → RowPart e other → row.token.0 < other.token.0
-    rising d e row other lt o (inl p) (inl q) = l.rising d e row other p.1 q.1 lt o
-    rising d e row other lt o (inr p) (inl q) = let f : d ≡ length b.tables.declarations + p.0 = p.1 in let g : e < length b.tables.declarations = q.0 in absurd (omega arith)
-    rising d e row other lt o p (inr (i, same, inl c)) = absurd (let z : false ≡ true = sym c.listed ∙ o.0 in cc)
-    rising d e row other lt o p (inr (i, same, inr c)) = absurd (let z : true ≡ false = sym (ap is_attribute c.entry) ∙ o.1 in cc)
+    rising d e row other lt o (inl w) (inl q) = l.rising d e row other w.1 q.1 lt o
+    rising d e row other lt o (inr w) (inl q) = let f : d ≡ length b.tables.declarations + w.0 = w.1 in let g : e < length b.tables.declarations = q.0 in absurd (omega arith)
+    rising d e row other lt o q (inr (i, same, a_class c)) = absurd (let z : false ≡ true = sym c.listed ∙ o.0 in cc)
+    rising d e row other lt o q (inr (i, same, an_attribute c)) = absurd (let z : true ≡ false = sym (ap is_attribute c.entry) ∙ o.1 in cc)
+    rising d e row other lt o q (inr (i, same, an_own c)) = absurd (let z : false ≡ true = sym c.listed ∙ o.0 in cc)
 
 -- ---- the whole
 
@@ -674,16 +679,12 @@ stands_pops : (b : BuildingOf) (class : Identifier) (es : Expressions) (ds : Dec
 stands_pops b class es ds ss i ps os (among {os = qs} x u) = pop_part b (Whole (PrefixedText class es ds ss)) i (Pre i) (refl, (class, es, ds, ss, refl)) x u qs
 stands_pops b class es ds ss i ps os outermost = pop_none b (Whole (PrefixedText class es ds ss)) i []
 
--- `simset` in front of the innermost block, which has just begun
-sets_run : (c : BuildingOf) (top : FreshTop c) (token : ℕ) (y : Identifier) (ts : List Held) (x : Text) (u : List Part) (os : List Frame) (from : ℕ) → PlainName y → token < from → ((row : BlockOf) → slice_get c.tables.blocks top.number ≡ Some row → is_prefixable row.kind ≡ true)
-    → Lay c ts (frame x u ∷ os) from → Lay (run marked c (set_prefix token y)) (ts ++ all_held set_texts) (frame x u ∷ os) from
-sets_run c top token y ts x u os from plain lt class l =
-    subst (λ d. Lay d (ts ++ all_held set_texts) (frame x u ∷ os) from) (sym (brought_is c top token y))
-    (sets_laid (prefixed_top c top y) t.number token t.row t.last t.at ts x u os from lt
-    (subst (λ d. Lay d ts (frame x u ∷ os) from) (prefixed_is c top y) (quiet_laid c _ ts (frame x u ∷ os) from (prefix_step c y top.number top.current plain class) l)))
-  where
-    t : FreshTop (prefixed_top c top y)
-    t = prefixed_fresh c top y
+-- a standard prefix in front of the innermost block, which has just begun
+standard_run : (p : StandardPrefix) (c : BuildingOf) (top : FreshTop c) (token : ℕ) (y : Identifier) (ts : List Held) (x : Text) (u : List Part) (os : List Frame) (from : ℕ) → Spells p y → token < from → ((row : BlockOf) → slice_get c.tables.blocks top.number ≡ Some row → is_prefixable row.kind ≡ true)
+    → Lay c ts (frame x u ∷ os) from → Lay (run marked c (whole_prefix p token y)) (ts ++ all_held (brought_texts p)) (frame x u ∷ os) from
+standard_run p c top token y ts x u os from spelt lt class l =
+    subst (λ d. Lay d (ts ++ all_held (brought_texts p)) (frame x u ∷ os) from) (sym (brought_is p c top token y))
+    (standard_laid p y spelt c top.number token top.row (class top.row top.at) top.last top.at ts x u os from lt l)
 
 pub run_laid : {os : List Frame} {ms : List Mark} {l : List Spot} {xs : List Held} (b : BuildingOf) (ts : List Held) (from : ℕ) → Laid os ms l xs → Ascends from l → Lay b ts os from → Final (run marked b ms) (ts ++ xs)
 unfolding run marked
@@ -729,16 +730,16 @@ run_laid b ts from (prefixed_block {os = os} {ms = ms} {hs = xs} text i class es
     let q = run_laid c (ts ++ x ∷ []) (i + 1) g a.1
     (quiet_laid o c (ts ++ x ∷ []) (frame (PrefixedText class es ds ss) (text_used (PrefixedText class es ds ss)) ∷ os) (i + 1) (prefix_step o class l.stack.0 l.stack.1 w (λ row at. ap is_prefixable (opened_kind b kind.Prefixed text i l.stack.0 row l.stack.1 at))) l) in
     record { to = q.to; laid = subst (λ z. Lay (run marked c ms) z [] q.to) (append_assoc ts (x ∷ []) xs) q.laid }
-run_laid b ts from (sets_block {os = os} {ms = ms} {hs = xs} text i class es ds ss {ps = ps} w e stands g) a f =
+run_laid b ts from (standard_block {os = os} {ms = ms} {hs = xs} p text i class es ds ss {ps = ps} e stands g) a f =
     let x : Held = Whole (PrefixedText class es ds ss) in
     let o : BuildingOf = opened b kind.Prefixed text i in
     let top = opened_top b kind.Prefixed text i in
-    let k : BuildingOf = run marked o (set_prefix i class) in
+    let k : BuildingOf = run marked o (whole_prefix p i class) in
     let l = opened_laid b kind.Prefixed text i ts x ps os from from tt a.0 (let le : from ≤ i = a.0 in omega arith) f (stands_stack b.tables.blocks ts b.current i ps os stands f.stack) (stands_pops b class es ds ss i ps os stands) in
-    let q = run_laid k ((ts ++ x ∷ []) ++ all_held set_texts) (i + 1) g a.1
-    (sets_run o top i class (ts ++ x ∷ []) (PrefixedText class es ds ss) (text_used (PrefixedText class es ds ss)) os (i + 1) w (let z : i < i + 1 = omega arith in z) (λ row at. ap is_prefixable (opened_kind b kind.Prefixed text i top.number row top.current at)) l) in
-    subst (λ z. Final z (ts ++ (x ∷ (all_held set_texts ++ xs)))) (sym (run_both o (set_prefix i class) ms))
-    (record { to = q.to; laid = subst (λ z. Lay (run marked k ms) z [] q.to) (append_assoc (ts ++ x ∷ []) (all_held set_texts) xs ∙ append_assoc ts (x ∷ []) (all_held set_texts ++ xs)) q.laid })
+    let q = run_laid k ((ts ++ x ∷ []) ++ all_held (brought_texts p)) (i + 1) g a.1
+    (standard_run p o top i class (ts ++ x ∷ []) (PrefixedText class es ds ss) (text_used (PrefixedText class es ds ss)) os (i + 1) e (let z : i < i + 1 = omega arith in z) (λ row at. ap is_prefixable (opened_kind b kind.Prefixed text i top.number row top.current at)) l) in
+    subst (λ z. Final z (ts ++ (x ∷ (all_held (brought_texts p) ++ xs)))) (sym (run_both o (whole_prefix p i class) ms))
+    (record { to = q.to; laid = subst (λ z. Lay (run marked k ms) z [] q.to) (append_assoc (ts ++ x ∷ []) (all_held (brought_texts p)) xs ∙ append_assoc ts (x ∷ []) (all_held (brought_texts p) ++ xs)) q.laid })
 run_laid b ts from (connects {os = os} {ms = ms} {hs = xs} text i v y u g) a f =
     let x : Held = Joined i v in
     let q = run_laid (opened b kind.Connection text i) (ts ++ x ∷ []) (i + 1) g a.1 (opened_laid b kind.Connection text i ts x (frame y (Con i v ∷ u) ∷ os) (frame y u ∷ os) from from (refl, (f.stack.0, f.stack.1)) a.0 (let le : from ≤ i = a.0 in omega arith) f f.stack (pop_part b x i (Con i v) (refl, refl) y u os)) in
@@ -769,19 +770,19 @@ run_laid b ts from (declares_class {o = o} {os = os} {ms = ms} {hs = xs} text pr
     (prefs_laid c prefs (ts ++ x ∷ []) (frame (ClassText prefix h ds ss) (text_used (ClassText prefix h ds ss)) ∷ o ∷ os) (i + 1) w l.stack.0 l.stack.1 (λ row at. ap is_prefixable (opened_kind c0 kind.Class text i l.stack.0 row l.stack.1 at)) l) in
     subst (λ z. Final z (ts ++ (x ∷ xs))) (sym (run_both c prefs ms))
     (record { to = p.to; laid = subst (λ z. Lay (run marked (run marked c prefs) ms) z [] p.to) (append_assoc ts (x ∷ []) xs) p.laid })
-run_laid b ts from (sets_class {o = o} {os = os} {ms = ms} {hs = xs} text y h ds ss w e g) a f =
+run_laid b ts from (standard_class {o = o} {os = os} {ms = ms} {hs = xs} p text y h ds ss e g) a f =
     let x : Held = Whole (ClassText (Some y) h ds ss) in
     let n : ℕ = f.stack.0 in
     let i : ℕ = h.name.token.0 in
     let c0 : BuildingOf = changed (declared b h.name (entry.Class (length b.tables.blocks))) holding_class b.current in
     let c : BuildingOf = opened c0 kind.Class text i in
     let top = opened_top c0 kind.Class text i in
-    let j : BuildingOf = run marked c (set_prefix i y) in
+    let j : BuildingOf = run marked c (whole_prefix p i y) in
     let k = named_laid b c0 h.name (entry.Class (length b.tables.blocks)) n ts o os from (class_step b h.name (length b.tables.blocks) n f.stack.1) a.0 f in
     let l = opened_laid c0 kind.Class text i ts x (o ∷ os) (o ∷ os) from (i + 1) tt a.0 (let z : i + 1 ≤ i + 1 = omega arith in z) k k.stack (pop_none c0 x i (o ∷ os)) in
-    let p = run_laid j ((ts ++ x ∷ []) ++ all_held set_texts) (i + 1) g a.1
-    (sets_run c top i y (ts ++ x ∷ []) (ClassText (Some y) h ds ss) (text_used (ClassText (Some y) h ds ss)) (o ∷ os) (i + 1) w (let z : i < i + 1 = omega arith in z) (λ row at. ap is_prefixable (opened_kind c0 kind.Class text i top.number row top.current at)) l) in
-    subst (λ z. Final z (ts ++ (x ∷ (all_held set_texts ++ xs)))) (sym (run_both c (set_prefix i y) ms))
-    (record { to = p.to; laid = subst (λ z. Lay (run marked j ms) z [] p.to) (append_assoc (ts ++ x ∷ []) (all_held set_texts) xs ∙ append_assoc ts (x ∷ []) (all_held set_texts ++ xs)) p.laid })
+    let q = run_laid j ((ts ++ x ∷ []) ++ all_held (brought_texts p)) (i + 1) g a.1
+    (standard_run p c top i y (ts ++ x ∷ []) (ClassText (Some y) h ds ss) (text_used (ClassText (Some y) h ds ss)) (o ∷ os) (i + 1) e (let z : i < i + 1 = omega arith in z) (λ row at. ap is_prefixable (opened_kind c0 kind.Class text i top.number row top.current at)) l) in
+    subst (λ z. Final z (ts ++ (x ∷ (all_held (brought_texts p) ++ xs)))) (sym (run_both c (whole_prefix p i y) ms))
+    (record { to = q.to; laid = subst (λ z. Lay (run marked j ms) z [] q.to) (append_assoc (ts ++ x ∷ []) (all_held (brought_texts p)) xs ∙ append_assoc ts (x ∷ []) (all_held (brought_texts p) ++ xs)) q.laid })
 run_laid b ts from (closes {os = os} x end g) a f =
     let row = row_of_text b ts (frame x [] ∷ os) from f f.stack.0 f.stack.2.0 f.stack.2.1 in run_laid (closed b end b.current) ts end g a.1 (closed_laid b end ts x os from a.0 f row.0 row.1)

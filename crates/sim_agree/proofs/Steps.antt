@@ -21,17 +21,18 @@ use Rattle.sim_scope.specs.declared.types.FormalKind.TheVariants as shape
 use Rattle.sim_scope.specs.declared.types.Mode.{Mode}
 use Rattle.sim_scope.specs.declared.types.Mode.TheVariants as mode
 use Rattle.sim_scope.specs.declared.types.SimType.{SimType}
+use Rattle.sim_scope.specs.declared.types.StandardPrefix.{StandardPrefix}
 use Rattle.sim_scope.specs.declared.types.WrittenMode.{WrittenMode}
 use Rattle.sim_scope.specs.Building.{BuildingOf, Mark, broken, broken_if, changed, changed_row, counted, counted_in, declared, declared_again, declared_at, declared_inside, declared_new, declared_twice, default_mode, entered, formal, headed, holding_class, in_class, inner, inner_at, inner_in, is_match, is_procedure, is_simple, marked, matched, mode_allowed, moded, moded_as, parameter, prefixed_by, qualified, row_of, specified, specified_as, token_in, unspecified_in, with_entry, with_mode, with_name, guards, guards_at, protecting}
 use Rattle.sim_scope.specs.Runs.{run}
 use Rattle.sim_scope.specs.Scopes.{declared_in, entry_in, entry_of, is_virtual, numbered}
+use Rattle.sim_scope.specs.Standard.{standard_prefix}
 use Rattle.sim_scope.specs.Tables.{BlockOf, Tables}
 use Rattle.sim_scope.proofs.Kept.{kept_set, more_here, more_other, set_here, set_other}
-use Rattle.sim_static.specs.UnbuiltNames.{is_unbuilt_name}
 use Rattle.sim_meaning.specs.Entries.{numbers_in}
 use Rattle.sim_sound.specs.Held.{Among, first, later}
 use Rattle.sim_agree.proofs.Groups.{OwnEntry, PlainFormal, Quals, qualifies, unqualified}
-use Rattle.sim_agree.proofs.Unprefixed.{Extras, NoExtras, NoVirtuals, Unprefixed, extras_in, is_wrong, no_extras, is_prefixable, brought_of}
+use Rattle.sim_agree.proofs.Unprefixed.{Extras, NoExtras, NoVirtuals, Unprefixed, extras_in, is_wrong, no_extras, is_prefixable, brings_of, spelt_as, spelt_before}
 
 -- ---- lists of numbers
 
@@ -102,10 +103,10 @@ abbrev pub AllEven : List BlockOf → Type 0
 AllEven bs = (j : ℕ) → Even (slice_get bs j)
 
 module _ (p : List ℕ → Bool) where
-  count_true : (x : List ℕ) (xs : List (List ℕ)) → p x ≡ true → position_or_len p (x ∷ xs) ≡ 0
+  pub count_true : (x : List ℕ) (xs : List (List ℕ)) → p x ≡ true → position_or_len p (x ∷ xs) ≡ 0
   count_true x xs is = ap (λ c. cond (not c) (1 + position_or_len p xs) 0) is
 
-  count_false : (x : List ℕ) (xs : List (List ℕ)) → p x ≡ false → position_or_len p (x ∷ xs) ≡ suc (position_or_len p xs)
+  pub count_false : (x : List ℕ) (xs : List (List ℕ)) → p x ≡ false → position_or_len p (x ∷ xs) ≡ suc (position_or_len p xs)
   count_false x xs is = ap (λ c. cond (not c) (1 + position_or_len p xs) 0) is ∙ (let e : 1 + position_or_len p xs ≡ suc (position_or_len p xs) = omega arith in e)
 
   count_more : (xs ys : List (List ℕ)) → position_or_len p xs < length xs → position_or_len p (xs ++ ys) ≡ position_or_len p xs
@@ -130,7 +131,7 @@ module _ (p : List ℕ → Bool) where
           let n : length (x ∷ xs) ≡ suc (length xs) = omega arith in
           count_false x (xs ++ y ∷ []) at ∙ ap suc (rest_is rest) ∙ sym n
 
-  found_at : (xs : List (List ℕ)) (ds : List DeclNo) (d : DeclNo) → numbered ds (position p xs) ≡ Some d → (position_or_len p xs < length xs) × (slice_get ds (position_or_len p xs) ≡ Some d)
+  pub found_at : (xs : List (List ℕ)) (ds : List DeclNo) (d : DeclNo) → numbered ds (position p xs) ≡ Some d → (position_or_len p xs < length xs) × (slice_get ds (position_or_len p xs) ≡ Some d)
   found_at xs ds d is = go (nat_lt (position_or_len p xs) (length xs)) refl is
     where
       go : (c : Bool) → nat_lt (position_or_len p xs) (length xs) ≡ c → numbered ds (cond c (Some (position_or_len p xs)) None) ≡ Some d → (position_or_len p xs < length xs) × (slice_get ds (position_or_len p xs) ≡ Some d)
@@ -209,7 +210,8 @@ pub record Step (b c : BuildingOf) (New : ℕ → Declaration → Type 0) : Type
   pub looks : (j : ℕ) (name : List ℕ) (d : DeclNo) → declared_in (slice_get b.tables.blocks j) name ≡ Some d → declared_in (slice_get c.tables.blocks j) name ≡ Some d
   pub stays : (d : ℕ) (old : Declaration) → slice_get b.tables.declarations d ≡ Some old → (row : Declaration) × (slice_get c.tables.declarations d ≡ Some row) × Changed old row
   pub bare : Unprefixed b.tables → Unprefixed c.tables
-  pub brings : (j : ℕ) → brought_of (slice_get c.tables.blocks j) ≡ brought_of (slice_get b.tables.blocks j)
+  pub brings : (j : ℕ) → brings_of (slice_get c.tables.blocks j) ≡ brings_of (slice_get b.tables.blocks j)
+  pub spells : (j : ℕ) (p : StandardPrefix) → spelt_before (slice_get c.tables.blocks j) ≡ Some p → spelt_before (slice_get b.tables.blocks j) ≡ Some p
 
 -- nothing new
 abbrev pub Nothing : ℕ → Declaration → Type 0
@@ -235,12 +237,13 @@ same_step b c New t k = record {
   looks = λ j name d e. subst (λ (s : Tables). declared_in (slice_get s.blocks j) name ≡ Some d) (sym t) e;
   stays = λ d old e. (old, ap (λ (s : Tables). slice_get s.declarations d) t ∙ e, unchanged old);
   bare = λ w. subst Unprefixed (sym t) w;
-  brings = λ j. ap (λ (s : Tables). brought_of (slice_get s.blocks j)) t;
+  brings = λ j. ap (λ (s : Tables). brings_of (slice_get s.blocks j)) t;
+  spells = λ j p e. ap (λ (s : Tables). spelt_before (slice_get s.blocks j)) (sym t) ∙ e;
 }
 
 -- a broken rule changes no table
 pub broken_step : (a : Bool) (b c : BuildingOf) (token : ℕ) (rule : Rule) (New : ℕ → Declaration → Type 0) → Step b c New → Step b (broken_if a c token rule) New
-broken_step true b c token rule New h = record { current = h.current; size = h.size; fixes = h.fixes; others = h.others; more = h.more; fewer = h.fewer; lists = h.lists; rows = h.rows; places = h.places; evens = h.evens; looks = h.looks; stays = h.stays; bare = h.bare; brings = h.brings }
+broken_step true b c token rule New h = record { current = h.current; size = h.size; fixes = h.fixes; others = h.others; more = h.more; fewer = h.fewer; lists = h.lists; rows = h.rows; places = h.places; evens = h.evens; looks = h.looks; stays = h.stays; bare = h.bare; brings = h.brings; spells = h.spells }
 broken_step false b c token rule New h = h
 
 -- ---- a declaration
@@ -268,7 +271,8 @@ new_step b x e n row plain cur at fresh_name = record {
   looks = λ j name d is. looks j name d (nat_eq n j) refl is;
   stays = λ d old is. (old, more_other ds fresh d (within d old is) ∙ is, unchanged old);
   bare = λ w. record { blocks = λ j. kept_set extras_in bs n row new at refl j ∙ w.blocks j; virtuals = λ d found is. plainly d found w.virtuals (nat_eq d (length ds)) refl is };
-  brings = λ j. kept_set brought_of bs n row new at refl j;
+  brings = λ j. kept_set brings_of bs n row new at refl j;
+  spells = λ j p e. sym (kept_set spelt_before bs n row new at refl j) ∙ e;
 }
   where
     bs : List BlockOf
@@ -462,7 +466,8 @@ counted_step b c n (Some row) New cur at h = record {
   looks = λ j name d is. kept_set (λ o. declared_in o name) bs n row new at refl j ∙ h.looks j name d is;
   stays = h.stays;
   bare = λ w. let v = h.bare w in record { blocks = λ j. kept_set extras_in bs n row new at refl j ∙ v.blocks j; virtuals = v.virtuals };
-  brings = λ j. kept_set brought_of bs n row new at refl j ∙ h.brings j;
+  brings = λ j. kept_set brings_of bs n row new at refl j ∙ h.brings j;
+  spells = λ j p e. h.spells j p (sym (kept_set spelt_before bs n row new at refl j) ∙ e);
 }
   where
     bs : List BlockOf
@@ -511,6 +516,7 @@ entry_step b d w e (Some row) plain at is fine param = record {
   stays = λ f old p. stays f old (nat_eq d.0 f) refl p;
   bare = λ v. record { blocks = v.blocks; virtuals = λ f found p. plainly f found v.virtuals (nat_eq d.0 f) refl p };
   brings = λ j. refl;
+  spells = λ j p e. e;
 }
   where
     ds : List Declaration
@@ -592,7 +598,7 @@ abbrev pub met : BuildingOf → Option DeclNo → BuildingOf
 met b o = record b { latest = o }
 
 met_step : (b c : BuildingOf) (o : Option DeclNo) → Step (met b o) c Nothing → Step b c Nothing
-met_step b c o h = record { current = h.current; size = h.size; fixes = h.fixes; others = h.others; more = h.more; fewer = h.fewer; lists = h.lists; rows = h.rows; places = h.places; evens = h.evens; looks = h.looks; stays = h.stays; bare = h.bare; brings = h.brings }
+met_step b c o h = record { current = h.current; size = h.size; fixes = h.fixes; others = h.others; more = h.more; fewer = h.fewer; lists = h.lists; rows = h.rows; places = h.places; evens = h.evens; looks = h.looks; stays = h.stays; bare = h.bare; brings = h.brings; spells = h.spells }
 
 pub specified_met : (b : BuildingOf) (token : TokenNo) (k : FormalKind) (ty : Option SimType) (o : Option DeclNo) → PlainFormal k ty → Step b (specified (met b o) token k ty o) Nothing
 specified_met b token k ty o p = met_step b (specified (met b o) token k ty o) o (specified_step (met b o) token k ty o p)
@@ -621,6 +627,7 @@ qualified_step b c New x (Some d) h = record {
   stays = h.stays;
   bare = λ w. let v = h.bare w in record { blocks = v.blocks; virtuals = v.virtuals };
   brings = h.brings;
+  spells = h.spells;
 }
 
 pub quals_step : (b c : BuildingOf) (New : ℕ → Declaration → Type 0) (R : Type 0) (quals : List Mark) → Quals R quals → Step b c New → Step b (run marked c quals) New
@@ -629,10 +636,10 @@ quals_step b c New R quals (unqualified free) h = h
 quals_step b c New R quals (qualifies x r) h = qualified_step b c New x c.latest h
 
 -- a row of a block is replaced by one that declares the same
-bare_row_step : (b c : BuildingOf) (New : ℕ → Declaration → Type 0) (n : ℕ) (row new : BlockOf) → b.current ≡ Some n → slice_get c.tables.blocks n ≡ Some row → fixed (Some new) ≡ fixed (Some row) → new.numbers ≡ row.numbers → new.names ≡ row.names → new.brought ≡ row.brought
-    → (extras_in (Some row) ≡ no_extras → extras_in (Some new) ≡ no_extras)
+bare_row_step : (b c : BuildingOf) (New : ℕ → Declaration → Type 0) (n : ℕ) (row new : BlockOf) → b.current ≡ Some n → slice_get c.tables.blocks n ≡ Some row → fixed (Some new) ≡ fixed (Some row) → new.numbers ≡ row.numbers → new.names ≡ row.names → brings_of (Some new) ≡ brings_of (Some row)
+    → (extras_in (Some row) ≡ no_extras → extras_in (Some new) ≡ no_extras) → ((p : StandardPrefix) → spelt_as new.prefix ≡ Some p → spelt_as row.prefix ≡ Some p)
     → Step b c New → Step b (record c { tables = record c.tables { blocks = slice_set c.tables.blocks n new } }) New
-bare_row_step b c New n row new cur at alike numbers names brought extras h = record {
+bare_row_step b c New n row new cur at alike numbers names brought extras spelt h = record {
   current = h.current;
   size = length-set bs n new ∙ h.size;
   fixes = λ j. kept_set fixed bs n row new at alike j ∙ h.fixes j;
@@ -646,7 +653,8 @@ bare_row_step b c New n row new cur at alike numbers names brought extras h = re
   looks = λ j name d is. kept_set (λ o. declared_in o name) bs n row new at (named name) j ∙ h.looks j name d is;
   stays = h.stays;
   bare = λ w. let v = h.bare w in record { blocks = λ j. bare_there v.blocks j (nat_eq n j) refl; virtuals = v.virtuals };
-  brings = λ j. kept_set brought_of bs n row new at brought j ∙ h.brings j;
+  brings = λ j. kept_set brings_of bs n row new at brought j ∙ h.brings j;
+  spells = λ j p e. h.spells j p (spells j p (nat_eq n j) refl e);
 }
   where
     bs : List BlockOf
@@ -665,6 +673,12 @@ bare_row_step b c New n row new cur at alike numbers names brought extras h = re
     named : (name : List ℕ) → declared_in (Some new) name ≡ declared_in (Some row) name
     named name = ap (λ z. numbered z (position (bytes_eq name) new.names)) numbers ∙ ap (λ z. numbered row.numbers (position (bytes_eq name) z)) names
 
+    spells : (j : ℕ) (p : StandardPrefix) (a : Bool) → nat_eq n j ≡ a → spelt_before (slice_get (slice_set bs n new) j) ≡ Some p → spelt_before (slice_get bs j) ≡ Some p
+    spells j p true is e =
+        let same : n ≡ j = grind (arith, nat_tests) in
+        subst (λ z. spelt_before (slice_get bs z) ≡ Some p) same (ap spelt_before at ∙ spelt p (sym (ap spelt_before (set_here bs n row new at)) ∙ ap (λ z. spelt_before (slice_get (slice_set bs n new) z)) same ∙ e))
+    spells j p false is e = sym (ap spelt_before (set_other bs n j new is)) ∙ e
+
     even : (j : ℕ) (c : Bool) → nat_eq n j ≡ c → Even (slice_get bs j) → Even (slice_get (slice_set bs n new) j)
     even j true is a =
         let same : n ≡ j = grind (arith, nat_tests) in
@@ -677,14 +691,14 @@ bare_row_step b c New n row new cur at alike numbers names brought extras h = re
     listed d found (inl q) = inl q
     listed d found (inr q) = inr (q.0, subst (λ z. Among (record { 0 = d }) z) (sym (kept_set numbers_in bs n row new at numbers found.block)) q.1, λ a. kept_set (λ o. declared_in o found.name) bs n row new at (named found.name) found.block ∙ q.2 a)
 
-pub row_step : (b c : BuildingOf) (New : ℕ → Declaration → Type 0) (n : ℕ) (row new : BlockOf) → b.current ≡ Some n → slice_get c.tables.blocks n ≡ Some row → fixed (Some new) ≡ fixed (Some row) → new.numbers ≡ row.numbers → new.names ≡ row.names → new.brought ≡ row.brought → extras_in (Some new) ≡ extras_in (Some row)
+pub row_step : (b c : BuildingOf) (New : ℕ → Declaration → Type 0) (n : ℕ) (row new : BlockOf) → b.current ≡ Some n → slice_get c.tables.blocks n ≡ Some row → fixed (Some new) ≡ fixed (Some row) → new.numbers ≡ row.numbers → new.names ≡ row.names → brings_of (Some new) ≡ brings_of (Some row) → extras_in (Some new) ≡ extras_in (Some row) → new.prefix ≡ row.prefix
     → Step b c New → Step b (record c { tables = record c.tables { blocks = slice_set c.tables.blocks n new } }) New
-row_step b c New n row new cur at alike numbers names brought extras h = bare_row_step b c New n row new cur at alike numbers names brought (λ e. extras ∙ e) h
+row_step b c New n row new cur at alike numbers names brought extras prefix h = bare_row_step b c New n row new cur at alike numbers names brought (λ e. extras ∙ e) (λ p e. ap spelt_as (sym prefix) ∙ e) h
 
-changed_at : (b c : BuildingOf) (New : ℕ → Declaration → Type 0) (change : BlockOf → BlockOf) (n : ℕ) (o : Option BlockOf) → ((row : BlockOf) → (fixed (Some (change row)) ≡ fixed (Some row)) × ((change row).numbers ≡ row.numbers) × ((change row).names ≡ row.names) × ((change row).brought ≡ row.brought) × (extras_in (Some (change row)) ≡ extras_in (Some row)))
+changed_at : (b c : BuildingOf) (New : ℕ → Declaration → Type 0) (change : BlockOf → BlockOf) (n : ℕ) (o : Option BlockOf) → ((row : BlockOf) → (fixed (Some (change row)) ≡ fixed (Some row)) × ((change row).numbers ≡ row.numbers) × ((change row).names ≡ row.names) × (brings_of (Some (change row)) ≡ brings_of (Some row)) × (extras_in (Some (change row)) ≡ extras_in (Some row)) × ((change row).prefix ≡ row.prefix))
     → b.current ≡ Some n → slice_get c.tables.blocks n ≡ o → Step b c New → Step b (changed_row c change n o) New
 changed_at b c New change n None alike cur at h = h
-changed_at b c New change n (Some row) alike cur at h = let q = alike row in row_step b c New n row (change row) cur at q.0 q.1 q.2 q.3 q.4 h
+changed_at b c New change n (Some row) alike cur at h = let q = alike row in row_step b c New n row (change row) cur at q.0 q.1 q.2 q.3 q.4 q.5 h
 
 -- the innermost block has a class
 pub class_step : (b : BuildingOf) (x : Identifier) (k n : ℕ) → b.current ≡ Some n → Step b (changed (declared b x (entry.Class k)) holding_class b.current) (Declared (length b.tables.declarations) x (entry.Class k) n)
@@ -692,11 +706,11 @@ class_step b x k n cur =
     let c : BuildingOf = declared b x (entry.Class k) in
     let h : Step b c (Declared (length b.tables.declarations) x (entry.Class k) n) = declared_step b x (entry.Class k) n (class_unmatched b.tables k) cur in
     subst (λ o. Step b (changed c holding_class o) (Declared (length b.tables.declarations) x (entry.Class k) n)) (sym cur)
-    (changed_at b c (Declared (length b.tables.declarations) x (entry.Class k) n) holding_class n (slice_get c.tables.blocks n) (λ row. (refl, refl, refl, refl, refl)) cur refl h)
+    (changed_at b c (Declared (length b.tables.declarations) x (entry.Class k) n) holding_class n (slice_get c.tables.blocks n) (λ row. (refl, refl, refl, refl, refl, refl)) cur refl h)
 
 -- `inner` in the innermost block
 inner_row : (b : BuildingOf) (token n : ℕ) (row : BlockOf) (o : Option ℕ) → b.current ≡ Some n → slice_get b.tables.blocks n ≡ Some row → Step b (inner_in b token n row o) Nothing
-inner_row b token n row None cur at = row_step b b Nothing n row (record row { inner = Some token }) cur at refl refl refl refl refl (same_step b b Nothing refl refl)
+inner_row b token n row None cur at = row_step b b Nothing n row (record row { inner = Some token }) cur at refl refl refl refl refl refl (same_step b b Nothing refl refl)
 inner_row b token n row (Some other) cur at = same_step b _ Nothing refl refl
 
 inner_found : (b : BuildingOf) (token n : ℕ) (o : Option BlockOf) → b.current ≡ Some n → slice_get b.tables.blocks n ≡ o → Step b (inner_at b token n o) Nothing
@@ -707,11 +721,11 @@ pub inner_step : (b : BuildingOf) (token : ℕ) (o : Option ℕ) → b.current �
 inner_step b token None cur = same_step b b Nothing refl refl
 inner_step b token (Some n) cur = inner_found b token n (slice_get b.tables.blocks n) cur refl
 
--- a prefix in front of the innermost block, which is a class or a block that may have one
-prefix_found : (b : BuildingOf) (x : Identifier) (n : ℕ) (o : Option BlockOf) → b.current ≡ Some n → slice_get b.tables.blocks n ≡ o → is_unbuilt_name x.name ≡ false → ((row : BlockOf) → o ≡ Some row → is_prefixable row.kind ≡ true) → Step b (changed_row b (prefixed_by x) n o) Nothing
+-- a prefix that is no standard one in front of the innermost block, which is a class or a block that may have one
+prefix_found : (b : BuildingOf) (x : Identifier) (n : ℕ) (o : Option BlockOf) → b.current ≡ Some n → slice_get b.tables.blocks n ≡ o → standard_prefix x.name ≡ None → ((row : BlockOf) → o ≡ Some row → is_prefixable row.kind ≡ true) → Step b (changed_row b (prefixed_by x) n o) Nothing
 prefix_found b x n None cur at plain class = same_step b b Nothing refl refl
 prefix_found b x n (Some row) cur at plain class =
-    bare_row_step b b Nothing n row (prefixed_by x row) cur at refl refl refl refl (λ e. ap (λ z. of_row z row) right ∙ ap without e) (same_step b b Nothing refl refl)
+    bare_row_step b b Nothing n row (prefixed_by x row) cur at refl refl refl refl (λ e. ap (λ z. of_row z row) right ∙ ap without e) (λ p e. absurd (let f : None ≡ Some p = sym plain ∙ e in cc)) (same_step b b Nothing refl refl)
   where
     of_row : Bool → BlockOf → Extras
     of_row z row = record { wrong = z; standard = row.standard }
@@ -720,16 +734,16 @@ prefix_found b x n (Some row) cur at plain class =
     without z = record { wrong = false; standard = z.standard }
 
     right : is_wrong row.kind (Some x) ≡ false
-    right = ap (λ k. not k || is_unbuilt_name x.name) (class row refl) ∙ plain
+    right = ap not (class row refl)
 
-pub prefix_step : (b : BuildingOf) (x : Identifier) (n : ℕ) → b.current ≡ Some n → is_unbuilt_name x.name ≡ false → ((row : BlockOf) → slice_get b.tables.blocks n ≡ Some row → is_prefixable row.kind ≡ true) → Step b (changed b (prefixed_by x) b.current) Nothing
+pub prefix_step : (b : BuildingOf) (x : Identifier) (n : ℕ) → b.current ≡ Some n → standard_prefix x.name ≡ None → ((row : BlockOf) → slice_get b.tables.blocks n ≡ Some row → is_prefixable row.kind ≡ true) → Step b (changed b (prefixed_by x) b.current) Nothing
 prefix_step b x n cur plain class = subst (λ o. Step b (changed b (prefixed_by x) o) Nothing) (sym cur) (prefix_found b x n (slice_get b.tables.blocks n) cur refl plain class)
 
 -- an attribute that the innermost block hides or protects
 guards_found : (b : BuildingOf) (hides keeps : Bool) (x : Identifier) (n : ℕ) (o : Option BlockOf) → b.current ≡ Some n → slice_get b.tables.blocks n ≡ o → Step b (guards_at b hides keeps x n o) Nothing
 guards_found b hides keeps x n None cur at = same_step b b Nothing refl refl
 guards_found b hides keeps x n (Some row) cur at =
-    let h = row_step b b Nothing n row (protecting hides keeps x.name row) cur at refl refl refl refl refl (same_step b b Nothing refl refl) in record {
+    let h = row_step b b Nothing n row (protecting hides keeps x.name row) cur at refl refl refl refl refl refl (same_step b b Nothing refl refl) in record {
       current = h.current;
       size = h.size;
       fixes = h.fixes;
@@ -744,6 +758,7 @@ guards_found b hides keeps x n (Some row) cur at =
       stays = h.stays;
       bare = λ w. let v = h.bare w in record { blocks = v.blocks; virtuals = v.virtuals };
       brings = h.brings;
+      spells = h.spells;
     }
 
 pub guards_step : (b : BuildingOf) (hides keeps : Bool) (x : Identifier) (o : Option ℕ) → b.current ≡ o → Step b (guards b hides keeps x o) Nothing

@@ -11,14 +11,14 @@ use Rattle.sim_scope.specs.declared.types.BlockKind.{BlockKind}
 use Rattle.sim_scope.specs.declared.types.BlockKind.TheVariants as kind
 use Rattle.sim_scope.specs.declared.types.Entry.{Entry}
 use Rattle.sim_scope.specs.declared.types.Entry.TheVariants as entry
-use Rattle.sim_scope.specs.declared.types.FormalKind.TheVariants as shape
-use Rattle.sim_scope.specs.declared.types.SimType.TheVariants as t
 use Rattle.sim_scope.specs.declared.types.WrittenMode.{WrittenMode}
 use Rattle.sim_scope.specs.declared.types.StandardClass.{StandardClass}
+use Rattle.sim_scope.specs.declared.types.StandardPrefix.{StandardPrefix}
+use Rattle.sim_scope.specs.declared.types.StandardPrefix.TheVariants as prefixes
 use Rattle.sim_scope.specs.Access.{around, encloser, joined}
 use Rattle.sim_scope.specs.Building.{attribute_entry, place_of}
 use Rattle.sim_scope.specs.Declare.{declared_by, declaring, empty, result_named}
-use Rattle.sim_scope.specs.Levels.{base, base_in, class_block, class_block_in, is_standard_class}
+use Rattle.sim_scope.specs.Levels.{standard_in, base, base_in, class_block, class_block_in, is_standard_class}
 use Rattle.sim_scope.specs.Scopes.{entry_in, entry_of}
 use Rattle.sim_scope.specs.Source.{Source, block_of, block_of_row, level_in, level_of}
 use Rattle.sim_scope.specs.Tables.{BlockOf, Tables, deeper}
@@ -37,15 +37,14 @@ use Rattle.sim_agree.proofs.Owned.{Owned}
 use Rattle.sim_agree.proofs.CleanRuns.{run_clean}
 use Rattle.sim_agree.proofs.Completing.{AllReferences, Completes, HasNext, Retyped, bare_row, entry_is_class, has_base, kind_in, prefixable_base}
 use Rattle.sim_agree.proofs.Prefixing.{Based, PrefixOf, complete, prefix_more, prefixed_tables, showing_kept}
-use Rattle.sim_agree.proofs.Fine.{Agree, IsStandard, SetGroup, attribute_row, first_or_none, own_base, KindIs, Rising, RowIn, RowOf, class_row, deeper_in, formal_row, own_row, owner_in, procedure_row}
+use Rattle.sim_agree.proofs.Fine.{Agree, Headed, IsStandard, StandardGroup, attribute_row, simulation_row, first_or_none, own_base, KindIs, Rising, RowIn, RowOf, class_row, deeper_in, formal_row, own_row, owner_in, procedure_row}
 use Rattle.sim_agree.proofs.FineRuns.{run_agrees}
 use Rattle.sim_agree.proofs.Groups.{NoBreaks, OfReferences, PlainKind, program_grouped, Declaring}
 use Rattle.sim_agree.proofs.Laid.{program_held, program_laid}
 use Rattle.sim_agree.proofs.Openings.{Opened, program_opened}
 use Rattle.sim_agree.proofs.Spots.{Final, Here, Lay, run_laid}
-use Rattle.sim_agree.proofs.PlainNames.{SetsOrNone}
-use Rattle.sim_agree.proofs.SetBlocks.{no_base, no_standard, set_base, showing}
-use Rattle.sim_agree.proofs.Unprefixed.{Showing, StandsIn, nothing_bare, is_prefixable}
+use Rattle.sim_agree.proofs.StandardBlocks.{no_base, no_standard, showing, standard_base_of}
+use Rattle.sim_agree.proofs.Unprefixed.{Brings, Named, Showing, brings_of, StandsIn, is_prefixable, nothing_bare}
 use Rattle.sim_agree.proofs.ClassRows.{class_entry, class_of_kind, class_stands, levels_of_kind, no_connection}
 use Rattle.sim_meaning.specs.Levels.{has_levels, is_class}
 use Rattle.sim_agree.proofs.Retypes.{alike_new, bare_around, bare_deeper, bare_first, bare_kind, bare_level, bare_numbers, bare_owner, class_new, kind_bare, param_now, param_was, parametric_new, unspecified_was, virtual_new}
@@ -73,9 +72,11 @@ nothing_agrees = record {
     rising = λ k n m d e at to lt. absurd (cc);
     based = λ k. nothing_based k;
     bare = nothing_bare;
-    sets = λ k which is. absurd (cc);
+    standards = λ k which is. absurd (cc);
+    headed = λ n p e. absurd (cc);
     textless = λ k. nothing_textless k;
     brought = λ k d a. absurd (elim a [ ]);
+    named = λ k i name d x y. absurd (cc);
   };
   rows = λ d row is. absurd (cc);
 }
@@ -208,7 +209,7 @@ pub completes : (s : Source) → TablesOf s → Plain s.program → InOrder s.pr
 unfolding base
 completes s of plain order =
     subst (λ z. Completes D z (IsClassText s.program)) (sym of.tables)
-    (complete D s.program (IsClassText s.program) (program_prefixed s.program plain) (all_references D D.qualifications (program_clean s.program plain of.unbroken).refs) classes set_bases conn (program_opened s.program plain))
+    (complete D s.program (IsClassText s.program) (program_prefixed s.program plain) (all_references D D.qualifications (program_clean s.program plain of.unbroken).refs) classes standard_bases conn (program_opened s.program plain))
   where
     D : Tables
     D = (declared_by s.program).tables
@@ -223,10 +224,10 @@ completes s of plain order =
         go None q = absurd q
         go (Some x) q = class_entry x D.blocks (program_texts s.program.prefix s.program.block) d row n e q
 
-    set_bases : (k c : ℕ) → base D k ≡ Some c → HasNext D k × IsClassText s.program c
-    set_bases k c e =
-        let q = set_base (declared_by s.program) (program_texts s.program.prefix s.program.block) [] agree.fine k c e in
-        ((q.0, q.1, inr (ap has_base q.2.kind)), ap is_class q.2.linkage)
+    standard_bases : (k c : ℕ) → base D k ≡ Some c → HasNext D k × IsClassText s.program c
+    standard_bases k c e =
+        let q = standard_base_of (declared_by s.program) (program_texts s.program.prefix s.program.block) [] agree.fine k c e in
+        ((q.0, q.1, inr (ap has_base q.2.kind)), ap is_class q.2.above_text)
 
     conn : (i k : ℕ) → Opened D.blocks i → joined (slice_get D.places i) ≡ Some k → (row : BlockOf) × (slice_get D.blocks k ≡ Some row) × (row.kind ≡ kind.Connection)
     conn i k o at =
@@ -299,7 +300,7 @@ module _ (s : Source) (of : TablesOf s) (plain : Plain s.program) (order : InOrd
   -- what is looked for in them
   pub shows : Showing s.tables
   shows =
-      showing_kept (declared_by s.program).tables s.tables (showing (declared_by s.program) (program_texts s.program.prefix s.program.block) [] agree.fine) C.blocks (λ k. subst SetsOrNone (sym (C.standards k)) (P.standards k)) stands_now
+      showing_kept (declared_by s.program).tables s.tables (showing (declared_by s.program) (program_texts s.program.prefix s.program.block) [] agree.fine) C.blocks stands_now
       (λ d row at. (let w = C.rows.was d row at in virtual_new w.0.entry row.entry w.2.entry (agree.fine.bare.virtuals d w.0 w.1)))
 
   pub nesting : (t u : ℕ) → encloser s.tables t ≡ Some u → u < t
@@ -389,10 +390,10 @@ module _ (s : Source) (of : TablesOf s) (plain : Plain s.program) (order : InOrd
   pub rising : (k : ℕ) → Rising (numbers_of s k)
   rising k = subst Rising (sym (same_numbers k)) (agree.fine.rising k)
 
-  -- a class of SIMSET has its next level from the start
-  set_base_stays : (k : ℕ) (which : StandardClass) → text s k ≡ Some (StandardText which) → base_in (slice_get s.tables.blocks k) ≡ base_in (slice_get (declared_by s.program).tables.blocks k)
+  -- a standard class has its next level from the start
+  standard_base_stays : (k : ℕ) (which : StandardClass) → text s k ≡ Some (StandardText which) → base_in (slice_get s.tables.blocks k) ≡ base_in (slice_get (declared_by s.program).tables.blocks k)
   unfolding text base
-  set_base_stays k which is = C.steady k other ∙ go (base_in (slice_get (prefixed (declared_by s.program).tables).blocks k)) refl (base_in (slice_get (declared_by s.program).tables.blocks k)) refl
+  standard_base_stays k which is = C.steady k other ∙ go (base_in (slice_get (prefixed (declared_by s.program).tables).blocks k)) refl (base_in (slice_get (declared_by s.program).tables.blocks k)) refl
     where
       kind_is : (row : BlockOf) → slice_get (declared_by s.program).tables.blocks k ≡ Some row → row.kind ≡ kind.StandardClass which
       kind_is row at = subst (λ o. KindIs (Some row) o) is (subst (λ o. KindIs o (slice_get Ts k)) at (agree.fine.kinds k))
@@ -416,15 +417,30 @@ module _ (s : Source) (of : TablesOf s) (plain : Plain s.program) (order : InOrd
           pick (inr q) = sym q ∙ f
       go None e (Some c) f = absurd (let h : None ≡ Some c = sym e ∙ P.kept k c f in cc)
 
-  pub group_now : (n : ℕ) (first : DeclNo) → SetGroup (declared_by s.program).tables.blocks Ts n first → SetGroup Bs Ts n first
+  pub group_now : (p : StandardPrefix) (n : ℕ) (first : DeclNo) → StandardGroup p (declared_by s.program).tables.blocks Ts n first → StandardGroup p Bs Ts n first
   unfolding text
-  group_now n first g = record {
+  group_now p n first g = record {
     host = g.host;
     texts = g.texts;
-    bases = λ which p. set_base_stays (n + 1 + place_of which) which (g.texts which p) ∙ g.bases which p;
-    around = λ which p. same_around (n + 1 + place_of which) ∙ g.around which p;
-    owners = λ which p. same_owner (n + 1 + place_of which) ∙ g.owners which p;
+    bases = λ which is. standard_base_stays (n + 1 + place_of which) which (g.texts which is) ∙ g.bases which is;
+    around = λ which is. same_around (n + 1 + place_of which) ∙ g.around which is;
+    owners = λ which is. same_owner (n + 1 + place_of which) ∙ g.owners which is;
   }
+
+  -- what a block brings is found by its name
+  pub named_now : (k : ℕ) → Named s.tables.declarations (brings_of (slice_get s.tables.blocks k))
+  named_now k i name d x y =
+      let same : brings_of (slice_get s.tables.blocks k) ≡ brings_of (slice_get (declared_by s.program).tables.blocks k) = sym (brings_bare (slice_get s.tables.blocks k)) ∙ ap brings_of (C.blocks k) ∙ brings_bare (slice_get (declared_by s.program).tables.blocks k) in
+      let old = agree.fine.named k i name d (subst (λ (z : Brings). slice_get z.names i ≡ Some name) same x) (subst (λ (z : Brings). slice_get z.numbers i ≡ Some d) same y) in
+      let new = C.rows.stays d.0 old.0 old.1 in (new.0, new.1, new.2.name ∙ old.2)
+    where
+      brings_bare : (o : Option BlockOf) → brings_of (bare_row o) ≡ brings_of o
+      brings_bare None = refl
+      brings_bare (Some row) = refl
+
+  -- behind a block with a standard prefix stand its classes
+  pub headed_now : (k : ℕ) (p : StandardPrefix) → standard_in (slice_get s.tables.blocks k) ≡ Some p → Headed p Bs Ts k
+  headed_now k p e = let h = agree.fine.headed k p (P.standards k p (sym (C.standards k) ∙ e)) in (h.0, group_now p k h.0 h.1)
 
   row_in : (x : Text) (d : ℕ) (old new : Declaration) → Retyped old new → RowIn (declared_by s.program).tables.blocks Ts x d old → RowIn Bs Ts x d new
   row_in x d old new r (own_row y p) = own_row y (record { entry = p.entry; fits = p.fits; alike = alike_new old.entry new.entry r.entry p.entry p.alike; name = p.name; named = p.named ∙ sym r.name; token = p.token ∙ sym r.token; listed = r.listed ∙ p.listed; mark = p.mark })
@@ -441,14 +457,19 @@ module _ (s : Source) (of : TablesOf s) (plain : Plain s.program) (order : InOrd
         owner = same_owner p.number ∙ p.owner;
       })
   row_in x d old new r (class_row y p) =
-      class_row y (record { class = p.class; is = p.is; number = p.number; entry = class_new old.entry new.entry r.entry p.number p.entry; listed = still p.listed; text = p.text; around = same_around p.number ∙ p.around ∙ ap Some (sym r.block); owner = same_owner p.number ∙ p.owner })
+      class_row y (record { class = p.class; is = p.is; number = p.number; entry = class_new old.entry new.entry r.entry p.number p.entry; listed = still p.listed; hidden = λ q. r.listed ∙ p.hidden q; named = λ w q. r.name ∙ p.named w q; text = p.text; around = same_around p.number ∙ p.around ∙ ap Some (sym r.block); owner = same_owner p.number ∙ p.owner })
     where
       still : (old.listed ≡ true) ⊎ IsStandard p.class → (new.listed ≡ true) ⊎ IsStandard p.class
       still (inl l) = inl (r.listed ∙ l)
       still (inr q) = inr q
   row_in x d old new r (formal_row y p l) = formal_row y (parametric_new old.entry new.entry r.entry p) (r.listed ∙ l)
   row_in x d old new r (attribute_row y p) =
-      attribute_row y (record { name = p.name; class = p.class; owner = p.owner; is_set = p.is_set; block = p.block; first = p.first; group = group_now p.block p.first p.group; is = p.is; entry = go r.entry; listed = r.listed ∙ p.listed; stands = r.block ∙ p.stands })
+      attribute_row y (record { name = p.name; class = p.class; owner = p.owner; is_attribute = p.is_attribute; prefix = p.prefix; block = p.block; first = p.first; group = group_now p.prefix p.block p.first p.group; is = p.is; entry = go r.entry; listed = r.listed ∙ p.listed; stands = r.block ∙ p.stands })
+    where
+      go : (new.entry ≡ old.entry) ⊎ (OfReferences old.entry × ((class : DeclNo) × (new.entry ≡ entry_to class old.entry))) → new.entry ≡ attribute_entry (Some p.first) p.name
+      go (inl e) = e ∙ p.entry
+      go (inr q) = absurd (subst OfReferences p.entry q.0)
+  row_in x d old new r (simulation_row y p) = simulation_row y (record { name = p.name; is_simulation = p.is_simulation; first = p.first; group = subst (λ n. StandardGroup prefixes.Simulation Bs Ts n p.first) (sym r.block) (group_now prefixes.Simulation old.block p.first p.group); entry = go r.entry; listed = r.listed ∙ p.listed })
     where
       go : (new.entry ≡ old.entry) ⊎ (OfReferences old.entry × ((class : DeclNo) × (new.entry ≡ entry_to class old.entry))) → new.entry ≡ attribute_entry (Some p.first) p.name
       go (inl e) = e ∙ p.entry
@@ -581,7 +602,7 @@ module _ (s : Source) (of : TablesOf s) (plain : Plain s.program) (order : InOrd
   pub next_there : (k b : ℕ) → PrefixOf (declared_by s.program).tables (prefixed (declared_by s.program).tables) k b ⊎ (base (declared_by s.program).tables k ≡ Some b) → is_connection (text s k) ≡ false
   unfolding base
   next_there k b (inl p) = prefixed_other k p.row p.at (prefixable_base p.row.kind p.kind)
-  next_there k b (inr e) = let q = set_base (declared_by s.program) (program_texts s.program.prefix s.program.block) [] agree.fine k b e in prefixed_other k q.0 q.1 (ap has_base q.2.kind)
+  next_there k b (inr e) = let q = standard_base_of (declared_by s.program) (program_texts s.program.prefix s.program.block) [] agree.fine k b e in prefixed_other k q.0 q.1 (ap has_base q.2.kind)
 
   -- what a prefix gives stays
   pub base_stays : (k b : ℕ) → base (prefixed (declared_by s.program).tables) k ≡ Some b → base s.tables k ≡ Some b
@@ -591,7 +612,7 @@ module _ (s : Source) (of : TablesOf s) (plain : Plain s.program) (order : InOrd
   prefix_is k b other e = go (P.bases k b (sym (own_base_of k other) ∙ e))
     where
       go : PrefixOf (declared_by s.program).tables (prefixed (declared_by s.program).tables) k b ⊎ (base (declared_by s.program).tables k ≡ Some b) → PrefixOf (declared_by s.program).tables s.tables k b ⊎ (base (declared_by s.program).tables k ≡ Some b)
-      go (inl p) = inl (prefix_more (declared_by s.program).tables (prefixed (declared_by s.program).tables) s.tables base_stays k b p)
+      go (inl p) = inl (prefix_more (declared_by s.program).tables (prefixed (declared_by s.program).tables) s.tables base_stays (λ j h. (h.0, C.standards j ∙ h.1)) k b p)
       go (inr f) = inr f
 
   -- nothing stands in a connection
@@ -606,6 +627,7 @@ module _ (s : Source) (of : TablesOf s) (plain : Plain s.program) (order : InOrd
       none ConnectionText e (class_row y p) = y
       none ConnectionText e (formal_row y p l) = y
       none ConnectionText e (attribute_row y p) = y
+      none ConnectionText e (simulation_row y p) = y
       none (BlockText i ds ss) e q = cc
       none (ProcedureText result h b) e q = cc
       none (ClassText prefix h ds ss) e q = cc

@@ -8,16 +8,18 @@ use Rattle.sim_tree.specs.declared.stmt.TypeName.{TypeName}
 use Rattle.sim_tree.specs.declared.stmt.TypeName.TheVariants as type_name
 use Rattle.sim_tree.specs.declared.stmt.Variable.{Variable}
 use Rattle.sim_tree.specs.Named.{named}
-use Rattle.sim_tree.specs.Syntax.{Also, Arms, Arrayed, Arrays, Begin, Block, BoundPair, Declarations, DeclareClass, DeclareProcedure, Element, Expression, Heading, Interface, NoArm, NoDeclaration, NoStatement, Prefix, Statement, Statements, Variables, When, With, Expressions}
+use Rattle.sim_tree.specs.Syntax.{Also, Arms, Arrayed, Arrays, Begin, Block, BoundPair, Declarations, DeclareClass, DeclareProcedure, Element, Expression, Heading, Interface, NoArm, NoDeclaration, NoStatement, Prefix, Schedule, Statement, Statements, Variables, When, With, Expressions}
 use Rattle.sim_tree.specs.Syntax as syntax
+use Rattle.sim_scope.specs.declared.types.StandardPrefix.{StandardPrefix}
+use Rattle.sim_scope.specs.declared.types.StandardPrefix.TheVariants as prefixes
 use Rattle.sim_scope.specs.declared.scopes.Declaration.{Declaration}
 use Rattle.sim_scope.specs.Source.{Source}
 use Rattle.sim_meaning.specs.Texts.{BlockText, ClassText, Text, arms_texts, block_texts, declaration_texts, declarations_texts, declared_at, number_from, program_texts, statement_texts, statements_texts, text, prefix_texts, PrefixedText, prefixed_texts}
 use Rattle.sim_sound.specs.Held.{Among, first, later}
 use Rattle.sim_sound.specs.Typed.{Distinct, arrays_in_segments, arrays_named, arrays_of_block, of_option}
-use Rattle.sim_tree.specs.Order.{Ascends, Behind, InOrder, Spot, Token, in_arms, in_block, in_bounds, in_declarations, in_each, in_element, in_expression, in_name, in_result, in_segment, in_side, in_statement, in_statements, in_type, in_variable, tokens, in_prefix}
-use Rattle.sim_agree.specs.Plain.{Plain, PlainArms, PlainBlock, PlainDeclarations, PlainStatement, PlainStatements, PlainPrefix, PlainName, PlainStart}
-use Rattle.sim_agree.proofs.PlainNames.{behind_prefix}
+use Rattle.sim_tree.specs.Order.{Ascends, Behind, InOrder, Spot, Token, in_arms, in_block, in_bounds, in_declarations, in_each, in_element, in_expression, in_name, in_result, in_schedule, in_segment, in_side, in_statement, in_statements, in_type, in_variable, tokens, in_prefix}
+use Rattle.sim_agree.specs.Plain.{Plain, PlainArms, PlainBlock, PlainDeclarations, PlainStatement, PlainStatements, PlainStart}
+use Rattle.sim_agree.proofs.StandardPrefixes.{behind_prefix, brought_texts}
 
 -- ---- tokens between two
 
@@ -77,8 +79,12 @@ prefix_past None i l a = (i, (let z : i ≤ i = omega arith in z), a)
 prefix_past (Some class) i l a = (class.token.0 + 1, (let z : i ≤ class.token.0 = a.0 in let y : i ≤ class.token.0 + 1 = omega arith in y), a.1)
 
 -- behind the texts of a prefix
-past_prefix : (prefix : Option Identifier) → PlainPrefix prefix → (xs : List Text) → AllInOrder xs → AllInOrder (prefix_texts prefix ++ xs)
-past_prefix prefix w xs a = behind_prefix AllInOrder prefix w xs a (tt, (tt, (tt, a)))
+past_prefix : (prefix : Option Identifier) (xs : List Text) → AllInOrder xs → AllInOrder (prefix_texts prefix ++ xs)
+past_prefix prefix xs a = behind_prefix AllInOrder prefix xs a go
+  where
+    go : (p : StandardPrefix) → AllInOrder (brought_texts p ++ xs)
+    go prefixes.Simset = (tt, (tt, (tt, a)))
+    go prefixes.Simulation = (tt, (tt, (tt, (tt, a))))
 
 all_both : (xs ys : List Text) → AllInOrder xs → AllInOrder ys → AllInOrder (xs ++ ys)
 all_both [] ys a b = b
@@ -105,6 +111,14 @@ each_past : {A : Type 0} (f : A → List Spot → List Spot) → ((x : A) → Pa
 unfolding Past
 each_past f one [] i l a = (i, (let z : i ≤ i = omega arith in z), a)
 each_past f one (x ∷ xs) i l a = let r = one x i (in_each f xs l) a in let t = each_past f one xs r.0 l r.2 in let lo : i ≤ r.0 = r.1 in let hi : r.0 ≤ t.0 = t.1 in (t.0, omega arith, t.2)
+
+schedule_past : (e : Schedule) → Past (in_schedule e)
+unfolding Past
+schedule_past syntax.Now i l h = (i, (let z : i ≤ i = omega arith in z), h)
+schedule_past (syntax.At n a prior) i l h = expression_past a i l h
+schedule_past (syntax.Delay n a prior) i l h = expression_past a i l h
+schedule_past (syntax.Before n a) i l h = expression_past a i l h
+schedule_past (syntax.After n a) i l h = expression_past a i l h
 
 element_past : (e : Element) → Past (in_element e)
 unfolding Past
@@ -170,7 +184,7 @@ mutual
       let q = each_past in_element element_past es (y.token.0 + 1) (in_statement x l) a.1 in
       let r = statement_past x p.1 q.0 l q.2 in
       let zero_ : i ≤ y.token.0 = a.0 in let one : y.token.0 + 1 ≤ q.0 = q.1 in let two : q.0 ≤ r.0 = r.1 in (r.0, omega arith, r.2, r.3)
-  statement_past (syntax.Prefixed y args b) p i l a = prefixed_past y args b p.0 p.2 i l a
+  statement_past (syntax.Prefixed y args b) p i l a = prefixed_past y args b p.1 i l a
   statement_past (syntax.Inner n) p i l a = (n + 1, (let le : i ≤ n = a.0 in omega arith), a.1, tt)
   statement_past (syntax.Inspect n object d x e rest) p i l a =
       let q = expression_past object i (Token d ∷ in_statement x (Behind e ∷ in_statements rest l)) a in
@@ -184,13 +198,15 @@ mutual
       let t = statements_past rest p.2 r.0 l r.2 in
       let one : i ≤ q.0 = q.1 in let two : q.0 ≤ r.0 = r.1 in let three : r.0 ≤ t.0 = t.1 in
       (t.0, omega arith, t.2, all_both (arms_texts whens) (statements_texts rest) r.3 t.3)
-  statement_past (syntax.Activate n word process schedule) p i l a = absurd p
+  statement_past (syntax.Activate n word process schedule) p i l a =
+      let q = two_past (in_expression process) (in_schedule schedule) (expression_past process) (schedule_past schedule) (n + 1) l a.1 in
+      let zero_ : i ≤ n = a.0 in let one : n + 1 ≤ q.0 = q.1 in (q.0, omega arith, q.2, tt)
 
   arms_past : (arms : Arms) → PlainArms arms → (i : ℕ) (l : List Spot) → Ascends i (in_arms arms l) → (j : ℕ) × (i ≤ j) × Ascends j l × AllInOrder (arms_texts arms)
   arms_past NoArm p i l a = (i, (let z : i ≤ i = omega arith in z), a, tt)
   arms_past (When n class d x e more) p i l a =
-      let r = statement_past x p.1 (d + 1) (Behind e ∷ in_arms more l) a.1.1 in
-      let t = arms_past more p.2 e l r.2.1 in
+      let r = statement_past x p.0 (d + 1) (Behind e ∷ in_arms more l) a.1.1 in
+      let t = arms_past more p.1 e l r.2.1 in
       let one : i ≤ class.token.0 = a.0 in let two : class.token.0 + 1 ≤ d = a.1.0 in let three : d + 1 ≤ r.0 = r.1 in let four : r.0 ≤ e = r.2.0 in let five : e ≤ t.0 = t.1 in
       (t.0, omega arith, t.2, (tt, all_both (statement_texts x) (arms_texts more) r.3 t.3))
 
@@ -200,8 +216,8 @@ mutual
       let q = statement_past x p.0 i (in_statements more l) a in
       let r = statements_past more p.1 q.0 l q.2 in let one : i ≤ q.0 = q.1 in let two : q.0 ≤ r.0 = r.1 in (r.0, omega arith, r.2, all_both (statement_texts x) (statements_texts more) q.3 r.3)
 
-  prefixed_past : (class : Identifier) (args : Expressions) (b : Block) → PlainName class → PlainBlock b → (i : ℕ) (l : List Spot) → Ascends i (in_expression (syntax.Named class args) (in_block b l)) → (j : ℕ) × (i ≤ j) × Ascends j l × AllInOrder (prefixed_texts class args b)
-  prefixed_past class args (Begin m ds ss e) w p i l a =
+  prefixed_past : (class : Identifier) (args : Expressions) (b : Block) → PlainBlock b → (i : ℕ) (l : List Spot) → Ascends i (in_expression (syntax.Named class args) (in_block b l)) → (j : ℕ) × (i ≤ j) × Ascends j l × AllInOrder (prefixed_texts class args b)
+  prefixed_past class args (Begin m ds ss e) p i l a =
       let u = expression_past (syntax.Named class args) i (in_block (Begin m ds ss e) l) a in
       let q = declarations_past ds p.0 (m + 1) (in_statements ss (Behind e ∷ l)) u.2.1 in
       let r = statements_past ss p.1 q.0 (Behind e ∷ l) q.2 in
@@ -210,7 +226,7 @@ mutual
       let one : m + 1 ≤ q.0 = between_le (own_tokens ds) (m + 1) q.0 q.1 in
       let two : q.0 ≤ r.0 = r.1 in
       let three : r.0 ≤ e = r.2.0 in
-      (e, omega arith, r.2.1, ((m + 1, q.0, q.1), past_prefix (Some class) w (declarations_texts ds ++ statements_texts ss) (all_both (declarations_texts ds) (statements_texts ss) q.3 r.3)))
+      (e, omega arith, r.2.1, ((m + 1, q.0, q.1), past_prefix (Some class) (declarations_texts ds ++ statements_texts ss) (all_both (declarations_texts ds) (statements_texts ss) q.3 r.3)))
 
   block_past : (b : Block) → PlainBlock b → (i : ℕ) (l : List Spot) → Ascends i (in_block b l) → (j : ℕ) × (i ≤ j) × Ascends j l × AllInOrder (block_texts b)
   block_past (Begin n NoDeclaration ss e) p i l a =
@@ -240,7 +256,7 @@ mutual
   declarations_past (With (DeclareProcedure result n h x e) ds) p i l a =
       let u = result_past result i (Token h.name.token.0 ∷ in_each in_name h.formals (in_statement x (Behind e ∷ in_declarations ds l))) a in
       let q = names_between h.formals (h.name.token.0 + 1) (in_statement x (Behind e ∷ in_declarations ds l)) u.2.1 in
-      let r = statement_past x p.0.2 q.0 (Behind e ∷ in_declarations ds l) q.2 in
+      let r = statement_past x p.0.1 q.0 (Behind e ∷ in_declarations ds l) q.2 in
       let t = declarations_past ds p.1 e l r.2.1 in
       let first_ : i ≤ u.0 = u.1 in
       let zero_ : u.0 ≤ h.name.token.0 = u.2.0 in
@@ -251,7 +267,7 @@ mutual
   declarations_past (With (DeclareClass prefix n h interface x e) ds) p i l a =
       let u = prefix_past prefix i (in_name h.name (in_each in_name h.formals (in_statement x (Behind e ∷ in_declarations ds l)))) a in
       let q = names_between h.formals (h.name.token.0 + 1) (in_statement x (Behind e ∷ in_declarations ds l)) u.2.1 in
-      let r = class_past prefix p.0.0 n h interface x e p.0.3 q.0 (Behind e ∷ in_declarations ds l) q.2 (λ j m b. statement_past x p.0.3 j m b) in
+      let r = class_past prefix n h interface x e p.0.2 q.0 (Behind e ∷ in_declarations ds l) q.2 (λ j m b. statement_past x p.0.2 j m b) in
       let t = declarations_past ds p.1 e l r.2.1 in
       let first_ : i ≤ u.0 = u.1 in
       let zero_ : u.0 ≤ h.name.token.0 = u.2.0 in
@@ -261,27 +277,27 @@ mutual
       (t.0, between_lower (own_tokens ds) i e t.0 (omega arith) t.1, t.2, all_both (declaration_texts (DeclareClass prefix n h interface x e)) (declarations_texts ds) r.3 t.3)
 
   -- the body of a class
-  class_past : (prefix : Option Identifier) → PlainPrefix prefix → (n : ℕ) (h : Heading) (interface : Interface) (x : Statement) (e : ℕ) → PlainStatement x → (i : ℕ) (l : List Spot) → Ascends i (in_statement x l)
+  class_past : (prefix : Option Identifier) (n : ℕ) (h : Heading) (interface : Interface) (x : Statement) (e : ℕ) → PlainStatement x → (i : ℕ) (l : List Spot) → Ascends i (in_statement x l)
       → ((i : ℕ) (l : List Spot) → Ascends i (in_statement x l) → (j : ℕ) × (i ≤ j) × Ascends j l × AllInOrder (statement_texts x)) → (j : ℕ) × (i ≤ j) × Ascends j l × AllInOrder (declaration_texts (DeclareClass prefix n h interface x e))
-  class_past prefix w n h interface (syntax.Compound (Begin m ds ss k)) e p i l a one =
+  class_past prefix n h interface (syntax.Compound (Begin m ds ss k)) e p i l a one =
       let q = declarations_past ds p.0 (m + 1) (in_statements ss (Behind k ∷ l)) a.1 in
       let r = statements_past ss p.1 q.0 (Behind k ∷ l) q.2 in
       let zero_ : i ≤ m = a.0 in
       let first_ : m + 1 ≤ q.0 = between_le (own_tokens ds) (m + 1) q.0 q.1 in
       let two : q.0 ≤ r.0 = r.1 in
       let three : r.0 ≤ k = r.2.0 in
-      (k, omega arith, r.2.1, ((m + 1, q.0, q.1), past_prefix prefix w (declarations_texts ds ++ statements_texts ss) (all_both (declarations_texts ds) (statements_texts ss) q.3 r.3)))
-  class_past prefix w n h interface (syntax.Empty m) e p i l a one = let q = one i l a in (q.0, q.1, q.2, ((0, 0, (let z : 0 ≤ 0 = omega arith in z)), past_prefix prefix w (statement_texts (syntax.Empty m)) q.3))
-  class_past prefix w n h interface (syntax.Inner m) e p i l a one = let q = one i l a in (q.0, q.1, q.2, ((0, 0, (let z : 0 ≤ 0 = omega arith in z)), past_prefix prefix w (statement_texts (syntax.Inner m)) q.3))
-  class_past prefix w n h interface (syntax.Call c) e p i l a one = let q = one i l a in (q.0, q.1, q.2, ((0, 0, (let z : 0 ≤ 0 = omega arith in z)), past_prefix prefix w (statement_texts (syntax.Call c)) q.3))
-  class_past prefix w n h interface (syntax.Assign c sides) e p i l a one = let q = one i l a in (q.0, q.1, q.2, ((0, 0, (let z : 0 ≤ 0 = omega arith in z)), past_prefix prefix w (statement_texts (syntax.Assign c sides)) q.3))
-  class_past prefix w n h interface (syntax.Choose m c y rest) e p i l a one = let q = one i l a in (q.0, q.1, q.2, ((0, 0, (let z : 0 ≤ 0 = omega arith in z)), past_prefix prefix w (statement_texts (syntax.Choose m c y rest)) q.3))
-  class_past prefix w n h interface (syntax.Repeat m c y) e p i l a one = let q = one i l a in (q.0, q.1, q.2, ((0, 0, (let z : 0 ≤ 0 = omega arith in z)), past_prefix prefix w (statement_texts (syntax.Repeat m c y)) q.3))
-  class_past prefix w n h interface (syntax.For m y sign o es z) e p i l a one = let q = one i l a in (q.0, q.1, q.2, ((0, 0, (let z : 0 ≤ 0 = omega arith in z)), past_prefix prefix w (statement_texts (syntax.For m y sign o es z)) q.3))
-  class_past prefix w n h interface (syntax.Inspect m object d y k rest) e p i l a one = let q = one i l a in (q.0, q.1, q.2, ((0, 0, (let z : 0 ≤ 0 = omega arith in z)), past_prefix prefix w (statement_texts (syntax.Inspect m object d y k rest)) q.3))
-  class_past prefix w n h interface (syntax.InspectWhen m object arms rest) e p i l a one = let q = one i l a in (q.0, q.1, q.2, ((0, 0, (let z : 0 ≤ 0 = omega arith in z)), past_prefix prefix w (statement_texts (syntax.InspectWhen m object arms rest)) q.3))
-  class_past prefix w n h interface (syntax.Prefixed y args b) e p i l a one = let q = one i l a in (q.0, q.1, q.2, ((0, 0, (let z : 0 ≤ 0 = omega arith in z)), past_prefix prefix w (statement_texts (syntax.Prefixed y args b)) q.3))
-  class_past prefix w n h interface (syntax.Activate m word process schedule) e p i l a one = absurd p
+      (k, omega arith, r.2.1, ((m + 1, q.0, q.1), past_prefix prefix (declarations_texts ds ++ statements_texts ss) (all_both (declarations_texts ds) (statements_texts ss) q.3 r.3)))
+  class_past prefix n h interface (syntax.Empty m) e p i l a one = let q = one i l a in (q.0, q.1, q.2, ((0, 0, (let z : 0 ≤ 0 = omega arith in z)), past_prefix prefix (statement_texts (syntax.Empty m)) q.3))
+  class_past prefix n h interface (syntax.Inner m) e p i l a one = let q = one i l a in (q.0, q.1, q.2, ((0, 0, (let z : 0 ≤ 0 = omega arith in z)), past_prefix prefix (statement_texts (syntax.Inner m)) q.3))
+  class_past prefix n h interface (syntax.Call c) e p i l a one = let q = one i l a in (q.0, q.1, q.2, ((0, 0, (let z : 0 ≤ 0 = omega arith in z)), past_prefix prefix (statement_texts (syntax.Call c)) q.3))
+  class_past prefix n h interface (syntax.Assign c sides) e p i l a one = let q = one i l a in (q.0, q.1, q.2, ((0, 0, (let z : 0 ≤ 0 = omega arith in z)), past_prefix prefix (statement_texts (syntax.Assign c sides)) q.3))
+  class_past prefix n h interface (syntax.Choose m c y rest) e p i l a one = let q = one i l a in (q.0, q.1, q.2, ((0, 0, (let z : 0 ≤ 0 = omega arith in z)), past_prefix prefix (statement_texts (syntax.Choose m c y rest)) q.3))
+  class_past prefix n h interface (syntax.Repeat m c y) e p i l a one = let q = one i l a in (q.0, q.1, q.2, ((0, 0, (let z : 0 ≤ 0 = omega arith in z)), past_prefix prefix (statement_texts (syntax.Repeat m c y)) q.3))
+  class_past prefix n h interface (syntax.For m y sign o es z) e p i l a one = let q = one i l a in (q.0, q.1, q.2, ((0, 0, (let z : 0 ≤ 0 = omega arith in z)), past_prefix prefix (statement_texts (syntax.For m y sign o es z)) q.3))
+  class_past prefix n h interface (syntax.Inspect m object d y k rest) e p i l a one = let q = one i l a in (q.0, q.1, q.2, ((0, 0, (let z : 0 ≤ 0 = omega arith in z)), past_prefix prefix (statement_texts (syntax.Inspect m object d y k rest)) q.3))
+  class_past prefix n h interface (syntax.InspectWhen m object arms rest) e p i l a one = let q = one i l a in (q.0, q.1, q.2, ((0, 0, (let z : 0 ≤ 0 = omega arith in z)), past_prefix prefix (statement_texts (syntax.InspectWhen m object arms rest)) q.3))
+  class_past prefix n h interface (syntax.Prefixed y args b) e p i l a one = let q = one i l a in (q.0, q.1, q.2, ((0, 0, (let z : 0 ≤ 0 = omega arith in z)), past_prefix prefix (statement_texts (syntax.Prefixed y args b)) q.3))
+  class_past prefix n h interface (syntax.Activate m word process schedule) e p i l a one = let q = one i l a in (q.0, q.1, q.2, ((0, 0, (let z : 0 ≤ 0 = omega arith in z)), past_prefix prefix (statement_texts (syntax.Activate m word process schedule)) q.3))
 
 -- each text of a program
 pub text_in_order : (s : Source) → Plain s.program → InOrder s.program → (k : ℕ) (x : Text) → text s k ≡ Some x → TextInOrder x
@@ -296,7 +312,7 @@ text_in_order s plain order k x at = among (program_texts s.program.prefix s.pro
     all : (prefix : Option Prefix) (b : Block) → PlainStart prefix → PlainBlock b → Ascends 0 (in_block b []) → AllInOrder (program_texts prefix b)
     all (Some p) (Begin i ds ss end) e q a =
         let d = declarations_past ds q.0 (i + 1) (in_statements ss (Behind end ∷ [])) a.1 in
-        let r = statements_past ss q.1 d.0 (Behind end ∷ []) d.2 in ((i + 1, d.0, d.1), past_prefix (Some p.class) e.0 (declarations_texts ds ++ statements_texts ss) (all_both (declarations_texts ds) (statements_texts ss) d.3 r.3))
+        let r = statements_past ss q.1 d.0 (Behind end ∷ []) d.2 in ((i + 1, d.0, d.1), past_prefix (Some p.class) (declarations_texts ds ++ statements_texts ss) (all_both (declarations_texts ds) (statements_texts ss) d.3 r.3))
     all None (Begin i ds ss end) e q a =
         let d = declarations_past ds q.0 (i + 1) (in_statements ss (Behind end ∷ [])) a.1 in
         let r = statements_past ss q.1 d.0 (Behind end ∷ []) d.2 in ((i + 1, d.0, d.1), all_both (declarations_texts ds) (statements_texts ss) d.3 r.3)

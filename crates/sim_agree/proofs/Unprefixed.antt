@@ -1,7 +1,7 @@
 -- Tables without virtuals. What is looked for in them is found by the blocks, by the levels of their prefixes, and by the classes that are
 -- connected.
 use Rattle.std.proofs.Common.{◌≡◌, ◌⊎◌, inl, inr, ℕ, zero, suc, Bool, true, false, List, [], ◌∷◌, length, Option, Some, None, refl, sym, ap, ◌∙◌, subst, if◌then◌else◌}
-use Rattle.std.specs.Prelude.{◌&&◌, ◌||◌, not, position, slice_get}
+use Rattle.std.specs.Prelude.{◌&&◌, not, position, slice_get}
 use Rattle.std.specs.Option.{option_or}
 use Rattle.std.specs.Str.{bytes_eq}
 use Rattle.sim_base.specs.declared.numbering.DeclNo.{DeclNo}
@@ -14,14 +14,12 @@ use Rattle.sim_scope.specs.declared.types.BlockKind.TheVariants as kind
 use Rattle.sim_scope.specs.declared.types.StandardPrefix.{StandardPrefix}
 use Rattle.sim_scope.specs.Access.{block_at, encloser, some_around}
 use Rattle.sim_scope.specs.Declare.{empty}
-use Rattle.sim_scope.specs.Levels.{base}
+use Rattle.sim_scope.specs.Levels.{base, standard_in}
 use Rattle.sim_scope.specs.Scopes.{beyond, binding, brought_by, brought_in, declaration_from, declared_in, declared_or_standard, ends_search, entry_in, entry_is, entry_of, is_detach, is_procedure_entry, is_virtual, level_shows, lookup, numbered, or_itself, outward, represented, represented_row, seen, shown_of, shows_detach, standard_at, virtual_among, virtual_of, seen_from}
-use Rattle.sim_scope.specs.Standard.{standard_name}
+use Rattle.sim_scope.specs.Standard.{standard_name, standard_prefix}
 use Rattle.sim_scope.specs.Tables.{BlockOf, Tables}
-use Rattle.sim_static.specs.UnbuiltNames.{is_unbuilt_name}
 use Rattle.sim_meaning.specs.Entries.{numbers_in}
 use Rattle.sim_sound.specs.Held.{Among, first, later}
-use Rattle.sim_agree.proofs.PlainNames.{SetsOrNone}
 
 -- what may have a prefix: a class or a block
 abbrev pub is_prefixable : BlockKind → Bool
@@ -29,10 +27,19 @@ is_prefixable kind.Class = true
 is_prefixable kind.Prefixed = true
 is_prefixable _ = false
 
--- a prefix where none may be: in front of what is neither, or one that is spelt as a standard name that is not built
+-- a prefix where none may be: in front of what is neither
 abbrev pub is_wrong : BlockKind → Option Identifier → Bool
 is_wrong k None = false
-is_wrong k (Some x) = not (is_prefixable k) || is_unbuilt_name x.name
+is_wrong k (Some x) = not (is_prefixable k)
+
+-- the standard prefix that the one in front of a block is spelt as
+abbrev pub spelt_as : Option Identifier → Option StandardPrefix
+spelt_as None = None
+spelt_as (Some x) = standard_prefix x.name
+
+abbrev pub spelt_before : Option BlockOf → Option StandardPrefix
+spelt_before None = None
+spelt_before (Some row) = spelt_as row.prefix
 
 -- what a block has of prefixes
 pub record Extras : Type 0 where
@@ -61,14 +68,38 @@ abbrev pub brought_of : Option BlockOf → List DeclNo
 brought_of None = []
 brought_of (Some row) = row.brought
 
+-- with the names by which it is found
+pub record Brings : Type 0 where
+  pub names : List (List ℕ)
+  pub numbers : List DeclNo
+
+abbrev pub brings_of : Option BlockOf → Brings
+brings_of None = record { names = []; numbers = [] }
+brings_of (Some row) = record { names = row.brought_names; numbers = row.brought }
+
+pub brings_numbers : (o : Option BlockOf) → (brings_of o).numbers ≡ brought_of o
+brings_numbers None = refl
+brings_numbers (Some row) = refl
+
+-- which are those of its declarations
+abbrev pub Named : List Declaration → Brings → Type 0
+Named ds x = (i : ℕ) (name : List ℕ) (d : DeclNo) → slice_get x.names i ≡ Some name → slice_get x.numbers i ≡ Some d → (row : Declaration) × (slice_get ds d.0 ≡ Some row) × (row.name ≡ name)
+
 -- a declaration of a block
 abbrev pub StandsIn : Tables → (block : ℕ) → DeclNo → Type 0
 StandsIn s k d = (row : Declaration) × (slice_get s.declarations d.0 ≡ Some row) × (row.block ≡ k)
 
--- What is looked for in tables without virtuals: what a block lists is declared in it, and so is what its standard prefix brings, which is `simset`.
+-- the standard prefix of a block
+abbrev pub HasStandard : Tables → (block : ℕ) → Type 0
+HasStandard s k = (which : StandardPrefix) × (standard_in (slice_get s.blocks k) ≡ Some which)
+
+-- a declaration of a block that it shows: it lists it, or its standard prefix brings it
+abbrev pub Shown : Tables → (block : ℕ) → DeclNo → Type 0
+Shown s k d = StandsIn s k d × (Among d (numbers_in (slice_get s.blocks k)) ⊎ HasStandard s k)
+
+-- What is looked for in tables without virtuals: what a block lists is declared in it, and so is what its standard prefix brings.
 pub record Showing (s : Tables) : Type 0 where
   pub right : (k : ℕ) → (extras_in (slice_get s.blocks k)).wrong ≡ false
-  pub standards : (k : ℕ) → SetsOrNone (extras_in (slice_get s.blocks k)).standard
   pub virtuals : NoVirtuals s.declarations
   pub lists : (k : ℕ) (d : DeclNo) → Among d (numbers_in (slice_get s.blocks k)) → StandsIn s k d
   pub brings : (k : ℕ) (d : DeclNo) → Among d (brought_of (slice_get s.blocks k)) → StandsIn s k d
@@ -97,25 +128,25 @@ numbered_among (m ∷ ns) (Some zero) d e = subst (λ z. Among d (z ∷ ns)) (le
 numbered_among (m ∷ ns) (Some (suc n)) d e = later (numbered_among ns (Some n) d e)
 
 module _ (s : Tables) (w : Showing s) where
-  lookup_stands : (k : ℕ) (name : List ℕ) (d : DeclNo) → lookup s k name ≡ Some d → StandsIn s k d
+  lookup_stands : (k : ℕ) (name : List ℕ) (d : DeclNo) → lookup s k name ≡ Some d → Shown s k d
   unfolding lookup
   lookup_stands k name d e = go (slice_get s.blocks k) refl e
     where
-      go : (o : Option BlockOf) → slice_get s.blocks k ≡ o → declared_in o name ≡ Some d → StandsIn s k d
+      go : (o : Option BlockOf) → slice_get s.blocks k ≡ o → declared_in o name ≡ Some d → Shown s k d
       go None at f = absurd (cc)
-      go (Some row) at f = w.lists k d (subst (λ o. Among d (numbers_in o)) (sym at) (numbered_among row.numbers (position (bytes_eq name) row.names) d f))
+      go (Some row) at f = let a = subst (λ o. Among d (numbers_in o)) (sym at) (numbered_among row.numbers (position (bytes_eq name) row.names) d f) in (w.lists k d a, inl a)
 
-  pub brought_stands : (k : ℕ) (name : List ℕ) (d : DeclNo) → brought_by s k name ≡ Some d → StandsIn s k d
+  pub brought_stands : (k : ℕ) (name : List ℕ) (d : DeclNo) → brought_by s k name ≡ Some d → Shown s k d
   unfolding brought_by
   brought_stands k name d e = go (slice_get s.blocks k) refl e
     where
-      of_row : (row : BlockOf) → slice_get s.blocks k ≡ Some row → (p : Option StandardPrefix) → (elim p [ None ↦ None | Some which ↦ numbered row.brought (position (bytes_eq name) row.brought_names) ]) ≡ Some d → StandsIn s k d
-      of_row row at None f = absurd (cc)
-      of_row row at (Some which) f = w.brings k d (subst (λ o. Among d (brought_of o)) (sym at) (numbered_among row.brought (position (bytes_eq name) row.brought_names) d f))
+      of_row : (row : BlockOf) → slice_get s.blocks k ≡ Some row → (p : Option StandardPrefix) → row.standard ≡ p → (elim p [ None ↦ None | Some which ↦ numbered row.brought (position (bytes_eq name) row.brought_names) ]) ≡ Some d → Shown s k d
+      of_row row at None p f = absurd (cc)
+      of_row row at (Some which) p f = (w.brings k d (subst (λ o. Among d (brought_of o)) (sym at) (numbered_among row.brought (position (bytes_eq name) row.brought_names) d f)), inr (which, ap standard_in at ∙ p))
 
-      go : (o : Option BlockOf) → slice_get s.blocks k ≡ o → brought_in o name ≡ Some d → StandsIn s k d
+      go : (o : Option BlockOf) → slice_get s.blocks k ≡ o → brought_in o name ≡ Some d → Shown s k d
       go None at f = absurd (cc)
-      go (Some row) at f = of_row row at row.standard f
+      go (Some row) at f = of_row row at row.standard refl f
 
   pub seen_there : (from : Option ℕ) (o : Option DeclNo) (d : DeclNo) → seen s from o ≡ Some d → o ≡ Some d
   seen_there from None d e = e
@@ -126,42 +157,42 @@ module _ (s : Tables) (w : Showing s) where
       go false h = absurd (cc)
 
   -- what a level shows is declared in it
-  shows_there : (from : Option ℕ) (k : ℕ) (name : List ℕ) (d : DeclNo) → level_shows s from k name ≡ Some d → StandsIn s k d
+  shows_there : (from : Option ℕ) (k : ℕ) (name : List ℕ) (d : DeclNo) → level_shows s from k name ≡ Some d → Shown s k d
   unfolding level_shows
   shows_there from k name d e = go (seen s from (lookup s k name)) refl e
     where
-      go : (o : Option DeclNo) → seen s from (lookup s k name) ≡ o → option_or o (brought_by s k name) ≡ Some d → StandsIn s k d
+      go : (o : Option DeclNo) → seen s from (lookup s k name) ≡ o → option_or o (brought_by s k name) ≡ Some d → Shown s k d
       go (Some f) at h = lookup_stands k name d (seen_there from (lookup s k name) d (at ∙ h))
       go None at h = brought_stands k name d h
 
   -- what a block shows is declared in it, or shown by its next level
-  pub shown_next : (n : ℕ) (from : Option ℕ) (k : ℕ) (name : List ℕ) (d : DeclNo) → shown_of s (suc n) from k name ≡ Some d → StandsIn s k d ⊎ ((c : ℕ) × (base s k ≡ Some c) × (shown_of s n from c name ≡ Some d))
+  pub shown_next : (n : ℕ) (from : Option ℕ) (k : ℕ) (name : List ℕ) (d : DeclNo) → shown_of s (suc n) from k name ≡ Some d → Shown s k d ⊎ ((c : ℕ) × (base s k ≡ Some c) × (shown_of s n from c name ≡ Some d))
   unfolding shown_of
   shown_next n from k name d e = go (level_shows s from k name) (base s k) refl refl e
     where
       go : (o : Option DeclNo) (b : Option ℕ) → level_shows s from k name ≡ o → base s k ≡ b → option_or o (beyond (λ b. shown_of s n from b name) b) ≡ Some d
-          → StandsIn s k d ⊎ ((c : ℕ) × (b ≡ Some c) × (shown_of s n from c name ≡ Some d))
+          → Shown s k d ⊎ ((c : ℕ) × (b ≡ Some c) × (shown_of s n from c name ≡ Some d))
       go (Some f) b at out h = inl (shows_there from k name d (at ∙ h))
       go None None at out h = absurd (cc)
       go None (Some c) at out h = inr (c, refl, h)
 
   pub shown_levels : (n : ℕ) (from : Option ℕ) (k : ℕ) (name : List ℕ) (d : DeclNo) → shown_of s n from k name ≡ Some d
-      → StandsIn s k d ⊎ ((c : ℕ) × (m : ℕ) × (base s k ≡ Some c) × (shown_of s m from c name ≡ Some d))
+      → Shown s k d ⊎ ((c : ℕ) × (m : ℕ) × (base s k ≡ Some c) × (shown_of s m from c name ≡ Some d))
   unfolding shown_of
   shown_levels zero from k name d e = absurd (cc)
   shown_levels (suc n) from k name d e = go (level_shows s from k name) (base s k) refl refl e
     where
       go : (o : Option DeclNo) (b : Option ℕ) → level_shows s from k name ≡ o → base s k ≡ b → option_or o (beyond (λ b. shown_of s n from b name) b) ≡ Some d
-          → StandsIn s k d ⊎ ((c : ℕ) × (m : ℕ) × (b ≡ Some c) × (shown_of s m from c name ≡ Some d))
+          → Shown s k d ⊎ ((c : ℕ) × (m : ℕ) × (b ≡ Some c) × (shown_of s m from c name ≡ Some d))
       go (Some f) b at out h = inl (shows_there from k name d (at ∙ h))
       go None None at out h = absurd (cc)
       go None (Some c) at out h = inr (c, n, refl, h)
 
   -- one without a next level shows what it declares
-  pub shown_alone : (n : ℕ) (from : Option ℕ) (k : ℕ) (name : List ℕ) (d : DeclNo) → base s k ≡ None → shown_of s n from k name ≡ Some d → StandsIn s k d
+  pub shown_alone : (n : ℕ) (from : Option ℕ) (k : ℕ) (name : List ℕ) (d : DeclNo) → base s k ≡ None → shown_of s n from k name ≡ Some d → Shown s k d
   shown_alone n from k name d none e = go (shown_levels n from k name d e)
     where
-      go : StandsIn s k d ⊎ ((c : ℕ) × (m : ℕ) × (base s k ≡ Some c) × (shown_of s m from c name ≡ Some d)) → StandsIn s k d
+      go : Shown s k d ⊎ ((c : ℕ) × (m : ℕ) × (base s k ≡ Some c) × (shown_of s m from c name ≡ Some d)) → Shown s k d
       go (inl q) = q
       go (inr q) = absurd (let f : None ≡ Some q.0 = sym none ∙ q.2 in cc)
 

@@ -14,7 +14,7 @@ use Rattle.sim_agree.proofs.Findings as f
 use Rattle.sim_agree.proofs.Headings as h
 use Rattle.sim_agree.proofs.Insides as i
 use Rattle.sim_agree.proofs.SetLevels as l
-use Rattle.sim_agree.proofs.SetRows as r
+use Rattle.sim_agree.proofs.StandardRows as r
 use Rattle.sim_agree.proofs.Tables as t
 use Rattle.sim_agree.proofs.TextOrder as o
 use Rattle.sim_agree.proofs.Tokens as n
@@ -34,7 +34,6 @@ tables_agree s of plain order =
       connections = i.connections s of plain order;
       prefixed_kinds = i.prefixed_kinds s of plain order;
       prefixes = c.prefixes s of plain order;
-      not_simulation = i.not_simulation s of plain order;
       connects = t.connects s of plain order;
       nothing_in_connections = t.nothing_in_connections s of plain order;
       outward = i.outward s of plain order;
@@ -73,7 +72,13 @@ tables_agree s of plain order =
         stays = i.stays s of plain order k (ap has_levels is);
       };
       set_classes = r.class_there s of plain order;
+      attribute_names = r.attribute_names s of plain order;
       set_procedures = r.procedure_there s of plain order;
+      bare = r.bare s of plain order;
+      processes_brought = r.process_brought s of plain order;
+      simulations = r.simulation_classes s of plain order;
+      processes = r.process_there s of plain order;
+      simulation_procedures = r.simulation_there s of plain order;
       block_prefixes = b.block_prefix s of plain order;
       no_set_block = λ k u which class es ds ss is level at. l.no_set_level s of plain order k class es ds ss is u which level at;
       there = f.there s of plain order;

@@ -11,20 +11,23 @@ use Rattle.sim_scope.specs.declared.types.Mode.{Mode}
 use Rattle.sim_scope.specs.declared.types.Mode.TheVariants as mode
 use Rattle.sim_scope.specs.declared.types.SimType.{SimType}
 use Rattle.sim_scope.specs.declared.types.SimType.TheVariants as t
-use Rattle.sim_scope.specs.declared.types.StandardPrefix.TheVariants as prefix
+use Rattle.sim_scope.specs.declared.types.StandardClass.{StandardClass}
+use Rattle.sim_scope.specs.declared.types.StandardPrefix.{StandardPrefix}
+use Rattle.sim_scope.specs.Building.{name_of}
 use Rattle.sim_scope.specs.Calls.{attribute_in, is_inside}
 use Rattle.sim_scope.specs.Access.{block_at, has_text_of_levels, is_connection as is_connection_kind, is_kind}
-use Rattle.sim_scope.specs.Levels.{base, has_level, owner_of_level}
+use Rattle.sim_scope.specs.Levels.{base, has_classes, has_level, is_simulation_block, owner_of_level}
 use Rattle.sim_scope.specs.Scopes.{binding, class_formals, entry_of, found_in}
 use Rattle.sim_scope.specs.Source.{Source, block_of}
 use Rattle.sim_values.specs.declared.standard.Standard.{Standard}
 use Rattle.sim_values.specs.Plain.{Plain, kind_of}
-use Rattle.sim_code.specs.Sets.{is_set_name}
+use Rattle.sim_code.specs.Sets.{is_attribute_name}
+use Rattle.sim_code.specs.Simulations.{is_simulation_name}
 use Rattle.sim_meaning.specs.Attributes.{is_connection}
 use Rattle.sim_meaning.specs.Closing.{class_parameters}
 use Rattle.sim_meaning.specs.Entries.{formals_of, numbers_of}
 use Rattle.sim_meaning.specs.Levels.{is_class, has_levels}
-use Rattle.sim_meaning.specs.Texts.{constant_of, kind_of_type, text, PrefixedText}
+use Rattle.sim_meaning.specs.Texts.{constant_of, kind_of_type, text, PrefixedText, StandardText}
 use Rattle.sim_sound.specs.Held.{Around}
 use Rattle.sim_sound.specs.Typed.{FormalsAre, Prefixes}
 use Rattle.sim_scope.specs.Statements.{prefix_in}
@@ -46,10 +49,11 @@ pub record BlockPrefix (s : Source) (k : ℕ) : Type 0 where
   pub denoted : prefix_in s.tables (slice_get s.tables.blocks k) ≡ Some (denotation.Declared declaration)
   pub parameters : class_parameters s (Some k) ≡ class_parameters s (Some class.block)
 
--- Or the prefix of a block is `simset`, which gives no level and has no parameters.
-pub record SetPrefix (s : Source) (k : ℕ) : Type 0 where
+-- Or the prefix of a block is a standard one, which gives no level and has no parameters.
+pub record StandardPrefixed (s : Source) (k : ℕ) : Type 0 where
+  pub which : StandardPrefix
   pub based : base s.tables k ≡ None
-  pub denoted : prefix_in s.tables (slice_get s.tables.blocks k) ≡ Some (denotation.Standard (standard.Prefix prefix.Simset))
+  pub denoted : prefix_in s.tables (slice_get s.tables.blocks k) ≡ Some (denotation.Standard (standard.Prefix which))
   pub parameters : class_formals s.tables k ≡ []
 
 -- the types of values that are no references
@@ -80,11 +84,9 @@ ProperFormal s m shape.Procedure type = ⊥
 ProperFormal s m k None = ⊥
 ProperFormal s m k (Some type) = ProperType s type
 
--- the parameter of a procedure of SIMSET: a reference
-abbrev pub ProperGiven : Source → Option SimType → Type 0
-ProperGiven s None = Unit {0}
-ProperGiven s (Some (t.Ref d)) = IsClass s d
-ProperGiven s _ = ⊥
+-- an attribute of a standard class, or of `simulation` itself
+abbrev pub IsAttribute : Standard → Type 0
+IsAttribute name = (is_attribute_name name ≡ true) ⊎ (is_simulation_name name ≡ true)
 
 -- what a declaration may be
 abbrev pub ProperEntry : Source → Entry → Type 0
@@ -94,7 +96,7 @@ ProperEntry s (entry.Array element dimensions) = ProperType s element
 ProperEntry s (entry.Procedure result k) = ProperResult s result
 ProperEntry s (entry.Class k) = Unit {0}
 ProperEntry s (entry.Formal f) = ProperFormal s f.mode f.kind f.ty
-ProperEntry s (entry.Attribute name parameter result) = (is_set_name name ≡ true) × ProperGiven s parameter × ProperResult s result
+ProperEntry s (entry.Attribute name parameter result) = IsAttribute name × ProperResult s parameter × ProperResult s result
 ProperEntry s _ = ⊥
 
 -- a constant has a value, of its type
@@ -127,16 +129,24 @@ pub record Tabled (s : Source) : Type 0 where
   pub classes : (d : DeclNo) (k : ℕ) → entry_of s.tables d ≡ Some (entry.Class k) → (is_class (text s k) ≡ true) × (owner_of_level s.tables (Some k) ≡ Some d)
   pub owners : (k : ℕ) (d : DeclNo) → is_class (text s k) ≡ true → owner_of_level s.tables (Some k) ≡ Some d → entry_of s.tables d ≡ Some (entry.Class k)
   pub constants : (d : DeclNo) (type : SimType) → entry_of s.tables d ≡ Some (entry.Constant type) → ConstantIs s d type
-  -- an attribute is declared in a class
-  pub attribute_owners : (d : DeclNo) (name : Standard) (parameter result : Option SimType) → entry_of s.tables d ≡ Some (entry.Attribute name parameter result) → is_class (text s (block_of s d)) ≡ true
+  -- an attribute of a standard class is declared in a class, one of `simulation` itself in a class or a block that has levels
+  pub attribute_owners : (d : DeclNo) (name : Standard) (parameter result : Option SimType) → entry_of s.tables d ≡ Some (entry.Attribute name parameter result) → is_attribute_name name ≡ true → is_class (text s (block_of s d)) ≡ true
   -- it is found in a block around
   pub around : (token k : ℕ) (name : List ℕ) (d : DeclNo) → block_at s.tables token ≡ Some k → binding s.tables token name ≡ Some (denotation.Declared d) → Found s token k name d
   -- a token inside the text of a block
   pub inside : (token k j : ℕ) → block_at s.tables token ≡ Some k → is_inside s.tables token j ≡ true → Around s.tables k j
   -- no class is found through a connection
   pub outside : (token found : ℕ) (name : List ℕ) (d : DeclNo) (k : ℕ) → binding s.tables token name ≡ Some (denotation.Declared d) → entry_of s.tables d ≡ Some (entry.Class k) → found_in s.tables token name ≡ Some found → is_connection (text s found) ≡ false
-  -- the prefix of a block is a declared class, or `simset`
-  pub block_prefixes : (k : ℕ) (class : Identifier) (es : Expressions) (ds : Declarations) (ss : Statements) → text s k ≡ Some (PrefixedText class es ds ss) → BlockPrefix s k ⊎ SetPrefix s k
+  -- what is connected declares no class
+  pub connected : (k c : ℕ) → is_connection (text s k) ≡ true → base s.tables k ≡ Some c → has_classes s.tables c ≡ false
+  -- an attribute of `simulation` itself is found in a class or a block that it is in front of
+  pub simulates : (token : ℕ) (name : List ℕ) (d : DeclNo) (n : Standard) (parameter result : Option SimType) → binding s.tables token name ≡ Some (denotation.Declared d) → entry_of s.tables d ≡ Some (entry.Attribute n parameter result) → is_simulation_name n ≡ true → is_simulation_block s.tables (block_of s d) ≡ true
+  pub simulates_behind : (token block : ℕ) (name : List ℕ) (d : DeclNo) (n : Standard) (parameter result : Option SimType) → attribute_in s.tables token block name ≡ Some (denotation.Declared d) → entry_of s.tables d ≡ Some (entry.Attribute n parameter result) → is_simulation_name n ≡ true → is_simulation_block s.tables (block_of s d) ≡ true
+  pub simulation_levels : (k : ℕ) → is_simulation_block s.tables k ≡ true → has_levels (text s k) ≡ true
+  -- a standard class is found by its name
+  pub class_named : (token : ℕ) (name : List ℕ) (d : DeclNo) (k : ℕ) (which : StandardClass) → binding s.tables token name ≡ Some (denotation.Declared d) → entry_of s.tables d ≡ Some (entry.Class k) → text s k ≡ Some (StandardText which) → name ≡ name_of which
+  -- the prefix of a block is a declared class, or a standard one
+  pub block_prefixes : (k : ℕ) (class : Identifier) (es : Expressions) (ds : Declarations) (ss : Statements) → text s k ≡ Some (PrefixedText class es ds ss) → BlockPrefix s k ⊎ StandardPrefixed s k
   -- a class has levels, and so has a block of the kind of a class or of one with a prefix
   pub class_levels : (k : ℕ) → is_class (text s k) ≡ true → has_levels (text s k) ≡ true
   pub level_kinds : (k : ℕ) → is_kind has_text_of_levels s.tables k ≡ true → has_levels (text s k) ≡ true

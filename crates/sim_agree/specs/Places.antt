@@ -15,7 +15,7 @@ use Rattle.sim_scope.specs.Tables.{Tables}
 use Rattle.sim_sound.specs.Statements.{BlockIs, ConnectionIs, InnerIs}
 use Rattle.sim_tree.specs.declared.expr.Identifier.{Identifier}
 use Rattle.sim_tree.specs.Syntax as s
-use Rattle.sim_tree.specs.Syntax.{Expression, Expressions, Statement, Statements, Arms, Block, Declarations, RightSide, Element, BoundPair, Arrayed}
+use Rattle.sim_tree.specs.Syntax.{Expression, Expressions, Statement, Statements, Arms, Block, Declarations, RightSide, Element, Schedule, BoundPair, Arrayed}
 use Rattle.sim_agree.specs.Plain.{Each}
 use Rattle.sim_meaning.specs.Texts.{PrefixedText, text}
 use Rattle.sim_scope.specs.Walk.{begin_of}
@@ -50,6 +50,13 @@ abbrev pub PlacedElement : Tables → (block : ℕ) → Element → Type 0
 PlacedElement t k (s.Once a) = PlacedExpression t k a
 PlacedElement t k (s.Step a i b c) = PlacedExpression t k a × PlacedExpression t k b × PlacedExpression t k c
 PlacedElement t k (s.While a i b) = PlacedExpression t k a × PlacedExpression t k b
+
+abbrev pub PlacedSchedule : Tables → (block : ℕ) → Schedule → Type 0
+PlacedSchedule t k s.Now = Unit {0}
+PlacedSchedule t k (s.At i a prior) = PlacedExpression t k a
+PlacedSchedule t k (s.Delay i a prior) = PlacedExpression t k a
+PlacedSchedule t k (s.Before i a) = PlacedExpression t k a
+PlacedSchedule t k (s.After i a) = PlacedExpression t k a
 
 abbrev pub PlacedBounds : Tables → (block : ℕ) → BoundPair → Type 0
 PlacedBounds t k b = PlacedExpression t k b.lower × PlacedExpression t k b.upper
@@ -102,7 +109,7 @@ abbrev mutual
   PlacedStatement x k (s.Inspect i e opening a end b) =
       PlacedExpression x.tables k e × (c : PlacedConnection x k opening (class_of_type x.tables (judge_side x.tables extent.Statement e).value.ty)) × PlacedStatement x c.connection.number a × PlacedStatements x k b
   PlacedStatement x k (s.InspectWhen i e arms b) = PlacedExpression x.tables k e × PlacedArms x k arms × PlacedStatements x k b
-  PlacedStatement x k _ = Unit {0}
+  PlacedStatement x k (s.Activate i word e schedule) = (block_at x.tables i ≡ Some k) × PlacedExpression x.tables k e × PlacedSchedule x.tables k schedule
 
   pub PlacedArms : Source → (block : ℕ) → Arms → Type 0
   PlacedArms x k s.NoArm = Unit {0}

@@ -1,18 +1,16 @@
--- Programs that have no form that is not built: no class has virtual procedures, no parameter is called by name or is a procedure, there are no
--- activations, and what is used is not spelt as a standard name that is not built.
+-- Programs that have no form that is not built: no class has virtual procedures, no parameter is called by name or is a procedure, and no object
+-- is generated of a class that is spelt `process`.
 use Rattle.std.specs.Prelude.{◌≡◌, false, List, [], ◌∷◌, Option, Some, None}
 use Rattle.sim_tree.specs.declared.expr.Identifier.{Identifier}
 use Rattle.sim_tree.specs.declared.stmt.Mode.{Mode as Word}
 use Rattle.sim_tree.specs.declared.stmt.Mode.TheVariants as word
-use Rattle.sim_tree.specs.declared.stmt.TypeName.{TypeName}
-use Rattle.sim_tree.specs.declared.stmt.TypeName.TheVariants as type_name
 use Rattle.sim_static.specs.UnbuiltNames.{is_unbuilt_name}
 use Rattle.sim_tree.specs.Syntax as s
-use Rattle.sim_tree.specs.Syntax.{Expression, Expressions, Statement, Statements, Arms, Block, Declarations, Declaration, RightSide, Element, BoundPair, Arrayed, Heading, Interface, Moded, Specification, Specified, Prefix, Program}
+use Rattle.sim_tree.specs.Syntax.{Expression, Expressions, Statement, Statements, Arms, Block, Declarations, Declaration, RightSide, Element, Schedule, BoundPair, Arrayed, Heading, Interface, Moded, Specification, Specified, Prefix, Program}
 
--- an identifier that is not spelt as a standard name that is not built
-abbrev pub PlainName : Identifier → Type 0
-PlainName x = is_unbuilt_name x.name ≡ false
+-- a class of which an object is generated
+abbrev pub PlainClass : Identifier → Type 0
+PlainClass x = is_unbuilt_name x.name ≡ false
 
 abbrev mutual
   pub PlainExpression : Expression → Type 0
@@ -20,13 +18,13 @@ abbrev mutual
   PlainExpression (s.Binary operator i a b) = PlainExpression a × PlainExpression b
   PlainExpression (s.Not i a) = PlainExpression a
   PlainExpression (s.Signed sign i a) = PlainExpression a
-  PlainExpression (s.Member m i a class) = PlainExpression a × PlainName class
+  PlainExpression (s.Member m i a class) = PlainExpression a
   PlainExpression (s.Dot i a name es) = PlainExpression a × PlainExpressions es
-  PlainExpression (s.Qua i a class) = PlainExpression a × PlainName class
+  PlainExpression (s.Qua i a class) = PlainExpression a
   PlainExpression (s.Constant literal i) = Unit {0}
-  PlainExpression (s.Named name es) = PlainName name × PlainExpressions es
-  PlainExpression (s.This i class) = PlainName class
-  PlainExpression (s.New i class es) = PlainName class × PlainExpressions es
+  PlainExpression (s.Named name es) = PlainExpressions es
+  PlainExpression (s.This i class) = Unit {0}
+  PlainExpression (s.New i class es) = PlainClass class × PlainExpressions es
   PlainExpression (s.Parentheses i a) = PlainExpression a
 
   pub PlainExpressions : Expressions → Type 0
@@ -46,18 +44,12 @@ PlainElement (s.Once a) = PlainExpression a
 PlainElement (s.Step a i b c) = PlainExpression a × PlainExpression b × PlainExpression c
 PlainElement (s.While a i b) = PlainExpression a × PlainExpression b
 
-abbrev pub PlainType : TypeName → Type 0
-PlainType (type_name.Reference i class) = PlainName class
-PlainType _ = Unit {0}
-
-abbrev pub PlainResult : Option TypeName → Type 0
-PlainResult None = Unit {0}
-PlainResult (Some t) = PlainType t
-
--- a prefix of a class; `simulation` is none
-abbrev pub PlainPrefix : Option Identifier → Type 0
-PlainPrefix None = Unit {0}
-PlainPrefix (Some x) = PlainName x
+abbrev pub PlainSchedule : Schedule → Type 0
+PlainSchedule s.Now = Unit {0}
+PlainSchedule (s.At i a prior) = PlainExpression a
+PlainSchedule (s.Delay i a prior) = PlainExpression a
+PlainSchedule (s.Before i a) = PlainExpression a
+PlainSchedule (s.After i a) = PlainExpression a
 
 abbrev pub PlainBounds : BoundPair → Type 0
 PlainBounds b = PlainExpression b.lower × PlainExpression b.upper
@@ -75,8 +67,8 @@ PlainMode m = PlainWord m.mode
 
 -- no `procedure` among the specifications
 abbrev pub PlainSpecified : Specified → Type 0
-PlainSpecified (s.Simple t) = PlainType t
-PlainSpecified (s.Array t i) = PlainType t
+PlainSpecified (s.Simple t) = Unit {0}
+PlainSpecified (s.Array t i) = Unit {0}
 PlainSpecified (s.Procedure result i) = ⊥
 
 abbrev pub PlainSpecification : Specification → Type 0
@@ -93,7 +85,7 @@ abbrev mutual
   pub PlainStatement : Statement → Type 0
   PlainStatement (s.Empty i) = Unit {0}
   PlainStatement (s.Compound b) = PlainBlock b
-  PlainStatement (s.Prefixed class es b) = PlainName class × PlainExpressions es × PlainBlock b
+  PlainStatement (s.Prefixed class es b) = PlainExpressions es × PlainBlock b
   PlainStatement (s.Inner i) = Unit {0}
   PlainStatement (s.Call e) = PlainExpression e
   PlainStatement (s.Assign e sides) = PlainExpression e × Each PlainSide sides
@@ -102,7 +94,7 @@ abbrev mutual
   PlainStatement (s.For i name sign j elements x) = Each PlainElement elements × PlainStatement x
   PlainStatement (s.Inspect i e opening x end y) = PlainExpression e × PlainStatement x × PlainStatements y
   PlainStatement (s.InspectWhen i e arms y) = PlainExpression e × PlainArms arms × PlainStatements y
-  PlainStatement (s.Activate i word process schedule) = ⊥
+  PlainStatement (s.Activate i word process schedule) = PlainExpression process × PlainSchedule schedule
 
   pub PlainStatements : Statements → Type 0
   PlainStatements s.NoStatement = Unit {0}
@@ -110,7 +102,7 @@ abbrev mutual
 
   pub PlainArms : Arms → Type 0
   PlainArms s.NoArm = Unit {0}
-  PlainArms (s.When i class opening x end arms) = PlainName class × PlainStatement x × PlainArms arms
+  PlainArms (s.When i class opening x end arms) = PlainStatement x × PlainArms arms
 
   pub PlainBlock : Block → Type 0
   PlainBlock (s.Begin i ds xs end) = PlainDeclarations ds × PlainStatements xs
@@ -120,15 +112,15 @@ abbrev mutual
   PlainDeclarations (s.With d ds) = PlainDeclaration d × PlainDeclarations ds
 
   pub PlainDeclaration : Declaration → Type 0
-  PlainDeclaration (s.Variables t vs) = PlainType t
-  PlainDeclaration (s.Arrays t i segments) = PlainType t × Each PlainSegment segments
-  PlainDeclaration (s.DeclareProcedure result i heading x end) = PlainResult result × PlainHeading heading × PlainStatement x
-  PlainDeclaration (s.DeclareClass prefix i heading interface x end) = PlainPrefix prefix × PlainHeading heading × PlainInterface interface × PlainStatement x
+  PlainDeclaration (s.Variables t vs) = Unit {0}
+  PlainDeclaration (s.Arrays t i segments) = Each PlainSegment segments
+  PlainDeclaration (s.DeclareProcedure result i heading x end) = PlainHeading heading × PlainStatement x
+  PlainDeclaration (s.DeclareClass prefix i heading interface x end) = PlainHeading heading × PlainInterface interface × PlainStatement x
 
 -- a prefix of the program itself
 abbrev pub PlainStart : Option Prefix → Type 0
 PlainStart None = Unit {0}
-PlainStart (Some x) = PlainName x.class × PlainExpressions x.arguments
+PlainStart (Some x) = PlainExpressions x.arguments
 
 pub record Plain (p : Program) : Type 0 where
   pub start : PlainStart p.prefix

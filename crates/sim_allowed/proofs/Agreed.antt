@@ -1,6 +1,6 @@
 -- The tables of an allowed plain program agree with its texts as far as its being typed rests on them: from the agreement of tables alone, where
 -- the parts of each text stand in it.
-use Rattle.std.proofs.Common.{◌≡◌, ℕ, ◌+◌, Bool, true, false, List, [], ◌∷◌, Option, Some, None, refl, sym, ap, ◌∙◌, arith, if◌then◌else◌}
+use Rattle.std.proofs.Common.{◌≡◌, ℕ, ◌+◌, ◌⊎◌, inl, inr, Bool, true, false, List, [], ◌∷◌, Option, Some, None, refl, sym, ap, ◌∙◌, arith, if◌then◌else◌}
 use Rattle.std.proofs.lemmas.Bool.{false≢true}
 use Rattle.std.specs.List.{list_any}
 use Rattle.std.specs.Prelude.{slice_get}
@@ -39,10 +39,10 @@ use Rattle.sim_meaning.specs.Entries.{formals_of, is_held, numbers_of}
 use Rattle.sim_meaning.specs.Levels.{is_class, qualification}
 use Rattle.sim_meaning.specs.Texts.{BlockText, ClassText, ConnectionText, ProcedureText, StandardText, Text, is_class_free, text, PrefixedText}
 use Rattle.sim_sound.specs.Held.{Among, ArrayOf, Holds, entry_holds, first, held_by, later, reference_to}
-use Rattle.sim_sound.specs.Typed.{ConnectionTyped, FormalsAre, NoFormal, NoFormals, SetClasses, SetProcedureThere, owner_place}
+use Rattle.sim_sound.specs.Typed.{ConnectionTyped, FormalsAre, IsAttribute, NoFormal, NoFormals, SetClasses, SetProcedureThere, owner_place}
 use Rattle.sim_agree.specs.Facts.{Tabled}
 use Rattle.sim_agree.specs.Plain.{Plain}
-use Rattle.sim_agree.specs.TablesAgree.{TablesAgree}
+use Rattle.sim_agree.specs.TablesAgree.{TablesAgree, is_attribute}
 use Rattle.sim_agree.specs.TablesOf.{TablesOf}
 use Rattle.sim_agree.proofs.Connected.{connections_connect}
 use Rattle.sim_agree.proofs.Enclosed.{connection_enclosed}
@@ -50,11 +50,12 @@ use Rattle.sim_agree.proofs.Fitted.{AllConnect}
 use Rattle.sim_agree.proofs.Placing.{block_placed, body_placed, class_placed, prefixed_placed}
 use Rattle.sim_agree.proofs.Proper.{proper}
 use Rattle.sim_agree.proofs.Results.{result_written}
+use Rattle.sim_agree.proofs.Simulating.{attribute_simulates, found_named, found_simulates}
 use Rattle.sim_agree.proofs.Whole.{tables_agree}
 use Rattle.sim_allowed.proofs.Allowed.{AllowedIs}
 use Rattle.sim_allowed.proofs.Bounds.{ArraysNamed}
 use Rattle.sim_allowed.proofs.Constants.{constant_is, constant_plain}
-use Rattle.sim_allowed.proofs.Outside.{outside}
+use Rattle.sim_allowed.proofs.Outside.{connected_fine, outside}
 use Rattle.sim_allowed.proofs.Whole.{Agreed}
 
 -- What of the texts is known beside: the names of one array declaration are of one type, and a procedure that is not class-free keeps no instances.
@@ -129,39 +130,65 @@ no_standard block_kind.Class e = refl
 no_standard block_kind.Prefixed e = refl
 no_standard (block_kind.StandardClass which) e = absurd (false≢true e)
 
--- a class has no cell, and all else is listed
+-- neither a class nor a standard attribute has a cell, and all else is listed
 class_no_cell : (s : Source) (e : Entry) (k : ℕ) (h : Holds) → e ≡ entry.Class k → entry_holds s true (Some e) ≡ Some h → ⊥
 class_no_cell s e k h is holds = let none : None ≡ Some h = sym (ap (λ z. entry_holds s true (Some z)) is) ∙ holds in cc
+
+attribute_no_cell : (s : Source) (e : Entry) (h : Holds) → is_attribute e ≡ true → entry_holds s true (Some e) ≡ Some h → ⊥
+attribute_no_cell s (entry.Attribute name w result) h is holds = cc
+attribute_no_cell s (entry.Variable type) h is holds = false≢true is
+attribute_no_cell s (entry.Constant type) h is holds = false≢true is
+attribute_no_cell s (entry.Array element n) h is holds = false≢true is
+attribute_no_cell s (entry.Procedure result k) h is holds = false≢true is
+attribute_no_cell s (entry.Class k) h is holds = false≢true is
+attribute_no_cell s (entry.Virtual result own) h is holds = false≢true is
+attribute_no_cell s (entry.Formal f) h is holds = false≢true is
+attribute_no_cell s (entry.Unspecified w) h is holds = false≢true is
+
+attribute_entry_is : (e : Entry) → is_attribute e ≡ true → IsAttribute (Some e)
+attribute_entry_is (entry.Attribute name w result) is = tt
+attribute_entry_is (entry.Variable type) is = absurd (false≢true is)
+attribute_entry_is (entry.Constant type) is = absurd (false≢true is)
+attribute_entry_is (entry.Array element n) is = absurd (false≢true is)
+attribute_entry_is (entry.Procedure result k) is = absurd (false≢true is)
+attribute_entry_is (entry.Class k) is = absurd (false≢true is)
+attribute_entry_is (entry.Virtual result own) is = absurd (false≢true is)
+attribute_entry_is (entry.Formal f) is = absurd (false≢true is)
+attribute_entry_is (entry.Unspecified w) is = absurd (false≢true is)
 
 cells_listed : (s : Source) → TablesAgree s → (d : DeclNo) (row : Declaration) (h : Holds) → slice_get s.tables.declarations d.0 ≡ Some row → entry_holds s true (Some row.entry) ≡ Some h → Among d (numbers_of s row.block)
 cells_listed s g d row h at holds = go row.listed refl
   where
     go : (b : Bool) → row.listed ≡ b → Among d (numbers_of s row.block)
     go true is = g.listed d row at is
-    go false is = let q = g.unlisted d row at is in absurd (class_no_cell s row.entry q.0 h q.1 holds)
+    go false is = absurd (unlisted (g.unlisted d row at is))
+      where
+        unlisted : ((k : ℕ) × (row.entry ≡ entry.Class k)) ⊎ (is_attribute row.entry ≡ true) → ⊥
+        unlisted (inl q) = class_no_cell s row.entry q.0 h q.1 holds
+        unlisted (inr q) = attribute_no_cell s row.entry h q holds
 
--- the class of SIMSET in which an attribute is declared
-class_of_sets : (s : Source) (linkage : ℕ) → SetClasses s linkage → (o : Owner) (place : ℕ) → owner_place o ≡ Some place → is_class (text s (linkage + place)) ≡ true
-class_of_sets s linkage c o place e = go o place e
+-- the standard class in which an attribute is declared
+attribute_class : (s : Source) (d : DeclNo) (name : Standard) (parameter result : Option SimType) → SetProcedureThere s d name parameter result → is_class (text s (block_of s d)) ≡ true
+attribute_class s d name parameter result p = ap (λ z. is_class (text s z)) p.declared ∙ go (row_of name).owner p.place p.placed p.of_process
   where
     at : (k : ℕ) (which : StandardClass) (n : ℕ) → k ≡ n → text s n ≡ Some (StandardText which) → is_class (text s k) ≡ true
     at k which n same is = ap (λ z. is_class (text s z)) same ∙ ap is_class is
 
-    go : (o : Owner) (place : ℕ) → owner_place o ≡ Some place → is_class (text s (linkage + place)) ≡ true
-    go owner.Linkage place e = let zero : 0 ≡ place = cc in at (linkage + place) standard.Linkage linkage (omega (arith, zero)) c.linkage_is
-    go owner.Link place e = let one : 1 ≡ place = cc in at (linkage + place) standard.Link (linkage + 1) (omega (arith, one)) c.link_is
-    go owner.Head place e = let two : 2 ≡ place = cc in at (linkage + place) standard.Head (linkage + 2) (omega (arith, two)) c.head_is
-    go owner.Environment place e = absurd (cc)
-    go owner.Text place e = absurd (cc)
-    go owner.Sysin place e = absurd (cc)
-    go owner.Sysout place e = absurd (cc)
-    go owner.Images place e = absurd (cc)
-    go owner.Object place e = absurd (cc)
-    go owner.Process place e = absurd (cc)
-    go owner.Simulation place e = absurd (cc)
+    c : SetClasses s p.linkage
+    c = p.classes
 
-attribute_class : (s : Source) (d : DeclNo) (name : Standard) (parameter result : Option SimType) → SetProcedureThere s d name parameter result → is_class (text s (block_of s d)) ≡ true
-attribute_class s d name parameter result p = ap (λ z. is_class (text s z)) p.declared ∙ class_of_sets s p.linkage p.classes (row_of name).owner p.place p.placed
+    go : (o : Owner) (place : ℕ) → owner_place o ≡ Some place → (place ≡ 3 → text s (p.linkage + 3) ≡ Some (StandardText standard.Process)) → is_class (text s (p.linkage + place)) ≡ true
+    go owner.Linkage place e last = let zero : 0 ≡ place = cc in at (p.linkage + place) standard.Linkage p.linkage (omega (arith, zero)) c.linkage_is
+    go owner.Link place e last = let one : 1 ≡ place = cc in at (p.linkage + place) standard.Link (p.linkage + 1) (omega (arith, one)) c.link_is
+    go owner.Head place e last = let two : 2 ≡ place = cc in at (p.linkage + place) standard.Head (p.linkage + 2) (omega (arith, two)) c.head_is
+    go owner.Process place e last = let three : 3 ≡ place = cc in at (p.linkage + place) standard.Process (p.linkage + 3) (omega (arith, three)) (last (sym three))
+    go owner.Environment place e last = absurd (cc)
+    go owner.Text place e last = absurd (cc)
+    go owner.Sysin place e last = absurd (cc)
+    go owner.Sysout place e last = absurd (cc)
+    go owner.Images place e last = absurd (cc)
+    go owner.Object place e last = absurd (cc)
+    go owner.Simulation place e last = absurd (cc)
 
 -- the parameters of a class
 class_heading_is : (s : Source) → TablesAgree s → (k : ℕ) → is_class (text s k) ≡ true → FormalsAre s (class_formals s.tables k) (class_parameters s (Some k))
@@ -205,10 +232,15 @@ module _ (s : Source) (a : AllowedIs s) (plain : Plain s.program) where
     classes = λ d k e. (let c = g.classes d k e in (c.0.is, c.1));
     owners = g.owners;
     constants = constant_is s tables_of plain a.filled a.order a.says;
-    attribute_owners = λ d name parameter result e. attribute_class s d name parameter result (g.set_procedures d name parameter result e).1;
+    attribute_owners = λ d name parameter result e is. attribute_class s d name parameter result (g.set_procedures d name parameter result e is);
     around = g.around;
     inside = g.inside;
     outside = not_found_outside;
+    connected = connected_fine s tables_of plain a.order a.says;
+    simulates = found_simulates s tables_of plain a.order;
+    simulates_behind = attribute_simulates s tables_of plain a.order;
+    simulation_levels = λ k e. (g.simulations k e).has;
+    class_named = found_named s tables_of plain a.order;
     block_prefixes = g.block_prefixes;
     class_levels = g.class_levels;
     level_kinds = g.level_kinds;
@@ -250,7 +282,11 @@ module _ (s : Source) (a : AllowedIs s) (plain : Plain s.program) where
       procedures = g.procedures;
       classes = λ d k e. (g.classes d k e).0;
       set_classes = g.set_classes;
-      set_procedures = λ d name parameter result e. (g.set_procedures d name parameter result e).1;
+      set_procedures = g.set_procedures;
+      simulations = g.simulations;
+      processes = g.processes;
+      simulation_procedures = g.simulation_procedures;
+      bare = λ d row which at is. attribute_entry_is row.entry (g.bare d row which at is);
       blocks = λ k i ds ss is. (let b = g.blocks k i ds ss is in let p = block_placed s tables_of plain a.order connects k i ds ss is in record {
         no_formals = b.no_formals;
         distinct = b.arrays.distinct;
@@ -272,7 +308,6 @@ module _ (s : Source) (a : AllowedIs s) (plain : Plain s.program) where
         arrays = p.0;
         statements = p.1;
         stays = b.stays;
-        not_simulation = g.not_simulation k;
       });
       prefixed_bodies = λ k class es ds ss is. (let b = g.prefixed_texts k class es ds ss is in let p = prefixed_placed s tables_of plain a.order connects k class es ds ss is in record {
         formals = b.formals;
@@ -285,7 +320,6 @@ module _ (s : Source) (a : AllowedIs s) (plain : Plain s.program) where
         arrays = p.0;
         statements = p.1;
         stays = b.stays;
-        not_simulation = g.not_simulation k;
       });
       standard_bodies = λ k which is. (let b = g.standard_texts k which is in record {
         formals = b.formals;
@@ -298,7 +332,6 @@ module _ (s : Source) (a : AllowedIs s) (plain : Plain s.program) where
         arrays = tt;
         statements = tt;
         stays = b.stays;
-        not_simulation = g.not_simulation k;
       });
       connections = connection_typed;
       not_class_free = g.outward;

@@ -10,7 +10,6 @@ use Rattle.sim_scope.specs.declared.outcome.Extent.TheVariants as extent
 use Rattle.sim_scope.specs.declared.scopes.Denotation.{Denotation}
 use Rattle.sim_scope.specs.declared.scopes.Denotation.TheVariants as denotation
 use Rattle.sim_scope.specs.declared.standard.StandardName.TheVariants as standard
-use Rattle.sim_scope.specs.declared.types.StandardPrefix.TheVariants as standard_prefix
 use Rattle.sim_scope.specs.Access.{block_at}
 use Rattle.sim_scope.specs.Actuals.{formal_or_none, no_actuals, parameter_at, parameter_of}
 use Rattle.sim_scope.specs.Assignments.{fine, told, wrong}
@@ -25,7 +24,7 @@ use Rattle.sim_tree.specs.Syntax.{Expressions, NoMore, Then}
 use Rattle.sim_meaning.specs.Closing.{class_parameters, formals_from}
 use Rattle.sim_sound.specs.Held.{In}
 use Rattle.sim_sound.specs.Expressions.{ActualsFit}
-use Rattle.sim_agree.specs.Facts.{BlockPrefix, SetPrefix, Tabled}
+use Rattle.sim_agree.specs.Facts.{BlockPrefix, StandardPrefixed, Tabled}
 use Rattle.sim_allowed.proofs.Actuals.{AllActuals, AllKnown, actuals_are, all_formals, size}
 use Rattle.sim_allowed.proofs.Classes.{class_row}
 use Rattle.sim_allowed.proofs.Headings.{class_heading}
@@ -82,23 +81,23 @@ module _ (s : Source) (known : Tabled s) (k : ℕ) (class : Identifier) (es : Ex
       let more = next_says s (actuals s.tables extent.Statement (Some (denotation.Declared prefix.declaration)) no_actuals es) (prefixed_with s.tables class.token.0 (Some (denotation.Declared prefix.declaration))) parts.1 in
       fits (actuals_are s known (In k) extent.Statement (Some (denotation.Declared prefix.declaration)) es all no_actuals more.0) more.1
 
--- `simset` in front of a block has no parameters
-module _ (s : Source) (known : Tabled s) (k : ℕ) (class : Identifier) (es : Expressions) (begin number : ℕ) (placed : block_around s begin ≡ Some number) (prefix : SetPrefix s number) (all : AllKnown s (In k) extent.Statement es) where
-  abbrev simset : Denotation
-  simset = denotation.Standard (standard.Prefix standard_prefix.Simset)
+-- a standard prefix in front of a block has no parameters
+module _ (s : Source) (known : Tabled s) (k : ℕ) (class : Identifier) (es : Expressions) (begin number : ℕ) (placed : block_around s begin ≡ Some number) (prefix : StandardPrefixed s number) (all : AllKnown s (In k) extent.Statement es) where
+  abbrev own : Denotation
+  own = denotation.Standard (standard.Prefix prefix.which)
 
-  set_denotes : prefix_at s.tables begin ≡ Some simset
+  standard_denotes : prefix_at s.tables begin ≡ Some own
   unfolding prefix_at block_around block_at
-  set_denotes = ap (prefix_of_block s.tables) placed ∙ prefix.denoted
+  standard_denotes = ap (prefix_of_block s.tables) placed ∙ prefix.denoted
 
   abbrev given : Actuals
-  given = (actuals s.tables extent.Statement (Some simset) no_actuals es).value
+  given = (actuals s.tables extent.Statement (Some own) no_actuals es).value
 
   nothing_given : (es : Expressions) → size es ≡ 0 → ActualsFit s (In k) es []
   nothing_given NoMore none = tt
   nothing_given (Then e es) none = absurd (omega (arith, none))
 
-  nothing_fits : AllActuals s (In k) (Some simset) es no_actuals given → AllSay s (prefixed_with s.tables class.token.0 (Some simset) given).events → ActualsFit s (In k) es (class_parameters s (Some number))
+  nothing_fits : AllActuals s (In k) (Some own) es no_actuals given → AllSay s (prefixed_with s.tables class.token.0 (Some own) given).events → ActualsFit s (In k) es (class_parameters s (Some number))
   unfolding prefixed_with fine wrong telling gives
   nothing_fits are said = subst (λ ds. ActualsFit s (In k) es (formals_from s ds)) (sym prefix.parameters) (nothing_given es (none (typed given.typed refl said)))
     where
@@ -106,22 +105,22 @@ module _ (s : Source) (known : Tabled s) (k : ℕ) (class : Identifier) (es : Ex
       counted true same said = grind (arith, nat_tests)
       counted false same said = absurd said.0
 
-      typed : (b : Bool) → given.typed ≡ b → AllSay s (if b then prefix_applied s.tables class.token.0 simset given else fine).events → given.count ≡ 0
+      typed : (b : Bool) → given.typed ≡ b → AllSay s (if b then prefix_applied s.tables class.token.0 own given else fine).events → given.count ≡ 0
       typed true is said = counted (nat_eq 0 given.count) refl said
       typed false is said = absurd (false≢true (sym is ∙ are.typed refl))
 
       none : given.count ≡ 0 → size es ≡ 0
       none zero = let count = are.count in omega (arith, zero, count)
 
-  set_fits : AllSay s (prefixed_events s.tables class es begin) → ActualsFit s (In k) es (class_parameters s (Some number))
+  standard_fits : AllSay s (prefixed_events s.tables class es begin) → ActualsFit s (In k) es (class_parameters s (Some number))
   unfolding prefixed_events telling
-  set_fits said =
-      let events = subst (λ o. AllSay s (next (prefix_used class.token.0 o) (λ d. next (actuals s.tables extent.Statement d no_actuals es) (prefixed_with s.tables class.token.0 d))).events) set_denotes said in
-      let parts = next_says s (prefix_used class.token.0 (Some simset)) (λ d. next (actuals s.tables extent.Statement d no_actuals es) (prefixed_with s.tables class.token.0 d)) events in
-      let more = next_says s (actuals s.tables extent.Statement (Some simset) no_actuals es) (prefixed_with s.tables class.token.0 (Some simset)) parts.1 in
-      nothing_fits (actuals_are s known (In k) extent.Statement (Some simset) es all no_actuals more.0) more.1
+  standard_fits said =
+      let events = subst (λ o. AllSay s (next (prefix_used class.token.0 o) (λ d. next (actuals s.tables extent.Statement d no_actuals es) (prefixed_with s.tables class.token.0 d))).events) standard_denotes said in
+      let parts = next_says s (prefix_used class.token.0 (Some own)) (λ d. next (actuals s.tables extent.Statement d no_actuals es) (prefixed_with s.tables class.token.0 d)) events in
+      let more = next_says s (actuals s.tables extent.Statement (Some own) no_actuals es) (prefixed_with s.tables class.token.0 (Some own)) parts.1 in
+      nothing_fits (actuals_are s known (In k) extent.Statement (Some own) es all no_actuals more.0) more.1
 
-pub prefix_fits : (s : Source) → Tabled s → (k : ℕ) (class : Identifier) (es : Expressions) (begin number : ℕ) → block_around s begin ≡ Some number → BlockPrefix s number ⊎ SetPrefix s number → AllKnown s (In k) extent.Statement es
+pub prefix_fits : (s : Source) → Tabled s → (k : ℕ) (class : Identifier) (es : Expressions) (begin number : ℕ) → block_around s begin ≡ Some number → BlockPrefix s number ⊎ StandardPrefixed s number → AllKnown s (In k) extent.Statement es
     → AllSay s (prefixed_events s.tables class es begin) → ActualsFit s (In k) es (class_parameters s (Some number))
 prefix_fits s known k class es begin number placed (inl prefix) all said = class_fits s known k class es begin number placed prefix all said
-prefix_fits s known k class es begin number placed (inr prefix) all said = set_fits s known k class es begin number placed prefix all said
+prefix_fits s known k class es begin number placed (inr prefix) all said = standard_fits s known k class es begin number placed prefix all said

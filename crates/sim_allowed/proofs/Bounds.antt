@@ -64,7 +64,7 @@ module _ (s : Source) (known : Tabled s) (k : ℕ) (instance : is_connection (te
       let c = both_there s (segments_constants segments) (declarations_constants ds) there in
       let parts = both_say s (type_events s.tables type ++ each (array_events s.tables) segments) (declarations_events (judging s.tables) ds) said in
       let own = both_say s (type_events s.tables type) (each (array_events s.tables) segments) parts.0 in
-      (n.0, n.1, segments_are n.0 segments p.0.1 l.0 n.2 c.0 own.1, arrays_typed ds p.1 l.1 n.3 c.1 parts.1)
+      (n.0, n.1, segments_are n.0 segments p.0 l.0 n.2 c.0 own.1, arrays_typed ds p.1 l.1 n.3 c.1 parts.1)
   arrays_typed (With (Variables type vs) ds) p l n there said =
       let c = both_there s (declaration_constants (Variables type vs)) (declarations_constants ds) there in
       let parts = both_say s (declaration_events (judging s.tables) (Variables type vs)) (declarations_events (judging s.tables) ds) said in

@@ -1,7 +1,7 @@
 -- What an expression is that uses a declaration: an identifier, or an attribute of an object, alone or with operands.
 use Rattle.std.proofs.Common.{◌≡◌, inl, inr, ℕ, Bool, true, false, length, Option, Some, None, refl, sym, ap, ◌∙◌, subst, arith, if◌then◌else◌}
 use Rattle.std.proofs.lemmas.Bool.Decides.{nat_tests}
-use Rattle.std.specs.Prelude.{◌+◌, nat_eq}
+use Rattle.std.specs.Prelude.{◌+◌, List, nat_eq}
 use Rattle.sim_base.specs.declared.numbering.DeclNo.{DeclNo}
 use Rattle.sim_base.specs.declared.rule.Rule.TheVariants as r
 use Rattle.sim_scope.specs.declared.found.Fault.{Fault}
@@ -29,14 +29,13 @@ use Rattle.sim_scope.specs.Source.{Source, type_at}
 use Rattle.sim_tree.specs.declared.expr.Identifier.{Identifier}
 use Rattle.sim_tree.specs.Syntax.{Expression, Expressions, NoMore, Then}
 use Rattle.sim_values.specs.declared.standard.Standard.{Standard}
-use Rattle.sim_code.specs.Sets.{is_set_name}
 use Rattle.sim_meaning.specs.Attributes.{attribute_formals}
 use Rattle.sim_meaning.specs.Closing.{has_type, is_text, is_text_type, result_meant, stream_of, typed_token}
 use Rattle.sim_meaning.specs.Entries.{formals_of as meant_formals}
 use Rattle.sim_meaning.specs.Levels.{qualification}
 use Rattle.sim_meaning.specs.Statements.{denoted_leaves, entry_leaves}
 use Rattle.sim_meaning.specs.Texts.{kind_of_type}
-use Rattle.sim_sound.specs.Held.{ArrayOf, Fits, Holds, Place, Simply, formal_holds, held_by, reference_to}
+use Rattle.sim_sound.specs.Held.{ArrayOf, Fits, FitsIn, Holds, Place, Simply, formal_holds, given_by, held_by, reference_to}
 use Rattle.sim_sound.specs.Expressions.{ActualsFit, AreIntegers, DeclaredGives, ExprIs, HeldNames}
 use Rattle.sim_sound.specs.Statements.{LeftHeld, PlaceDeclared, is_given}
 use Rattle.sim_agree.specs.Facts.{ProperEntry, ProperFormal, ProperResult, ProperType, Tabled}
@@ -86,12 +85,17 @@ abbrev pub GivenFor : Source → (Option Holds → Type 0) → Option SimType �
 GivenFor s Given None = Given None
 GivenFor s Given (Some type) = (h : Holds) → Takes s type h → Given (Some h)
 
+-- what a declaration gives, with attributes of `simulation` itself
+abbrev pub UseGives : Source → (Known : Type 0) → DeclNo → Expressions → (Indices : Type 0) → (Actuals : List Formal → Type 0) → Option Entry → Option Holds → Type 0
+UseGives s Known d es Indices Actuals (Some (entry.Attribute name w result)) h = FitsIn s (given_by s result) h × Known × Actuals (attribute_formals w)
+UseGives s Known d es Indices Actuals e h = DeclaredGives s Known d es Indices Actuals e h
+
 -- An expression uses a declaration, which is known where it stands.
 pub record UseIs (s : Source) (from : Place) (e : Expression) (naming : ℕ) (d : DeclNo) (es : Expressions) (Known : Type 0) : Type 0 where
   pub at : typed_token e ≡ naming
   pub stream : stream_of s e ≡ None
-  pub value : (h : Holds) → DeclaredGives s Known d es (AreIntegers s from es) (λ fs. ActualsFit s from es fs) (entry_of s.tables d) (Some h) → ExprIs s from e h
-  pub call : (h : Option Holds) → DeclaredGives s Known d es (AreIntegers s from es) (λ fs. ActualsFit s from es fs) (entry_of s.tables d) h → denoted_leaves s (Some (denotation.Declared d)) ≡ is_given h → CallGiven s from e h
+  pub value : (h : Holds) → UseGives s Known d es (AreIntegers s from es) (λ fs. ActualsFit s from es fs) (entry_of s.tables d) (Some h) → ExprIs s from e h
+  pub call : (h : Option Holds) → UseGives s Known d es (AreIntegers s from es) (λ fs. ActualsFit s from es fs) (entry_of s.tables d) h → denoted_leaves s (Some (denotation.Declared d)) ≡ is_given h → CallGiven s from e h
   pub calls : (result : Option SimType) → GivenFor s (CallGiven s from e) result → CallsFor s from e result
   pub place : (type : SimType) → PlaceDeclared s Known es (AreIntegers s from es) (entry_of s.tables d) (held_by s type) → Varies s from e type
   pub unowned : NoResult (entry_of s.tables d) es → result_meant s e ≡ None
@@ -154,11 +158,11 @@ module _ (s : Source) (known : Tabled s) (from : Place) (e : Expression) (naming
       record { proper = proper_value s type p; texts = ap is_text_type typed; stream = it.stream; typed = typed; value = v }
 
   -- what the entry of the declaration gives
-  gives_at : (x : Entry) → entry_of s.tables d ≡ Some x → (h : Holds) → DeclaredGives s Known d NoMore (AreIntegers s from NoMore) (λ fs. ActualsFit s from NoMore fs) (Some x) (Some h) → ExprIs s from e h
-  gives_at x there h a = it.value h (subst (λ z. DeclaredGives s Known d NoMore (AreIntegers s from NoMore) (λ fs. ActualsFit s from NoMore fs) z (Some h)) (sym there) a)
+  gives_at : (x : Entry) → entry_of s.tables d ≡ Some x → (h : Holds) → UseGives s Known d NoMore (AreIntegers s from NoMore) (λ fs. ActualsFit s from NoMore fs) (Some x) (Some h) → ExprIs s from e h
+  gives_at x there h a = it.value h (subst (λ z. UseGives s Known d NoMore (AreIntegers s from NoMore) (λ fs. ActualsFit s from NoMore fs) z (Some h)) (sym there) a)
 
   varies_alone : (x : Entry) → entry_of s.tables d ≡ Some x → (type : SimType) → ProperType s type
-      → ((h : Holds) → Fits s (held_by s type) h → DeclaredGives s Known d NoMore (AreIntegers s from NoMore) (λ fs. ActualsFit s from NoMore fs) (Some x) (Some h))
+      → ((h : Holds) → Fits s (held_by s type) h → UseGives s Known d NoMore (AreIntegers s from NoMore) (λ fs. ActualsFit s from NoMore fs) (Some x) (Some h))
       → PlaceDeclared s Known NoMore (AreIntegers s from NoMore) (Some x) (held_by s type) → NoResult (Some x) NoMore → AllSay s (varies naming type).events → Means true s from e (varies naming type).value
   unfolding varies telling
   varies_alone x there type p a left none said = (
@@ -192,20 +196,20 @@ module _ (s : Source) (known : Tabled s) (from : Place) (e : Expression) (naming
 
   -- what a call gives
   given : (result : Option SimType) (k : ℕ) → ProperResult s result → entry_of s.tables d ≡ Some (entry.Procedure result k) → ActualsFit s from NoMore (meant_formals s k) → GivenFor s (CallGiven s from e) result
-  given None k p there fit = it.call None (subst (λ z. DeclaredGives s Known d NoMore (AreIntegers s from NoMore) (λ fs. ActualsFit s from NoMore fs) z None) (sym there) (tt, sees, fit)) (leaves_result s d None k there)
+  given None k p there fit = it.call None (subst (λ z. UseGives s Known d NoMore (AreIntegers s from NoMore) (λ fs. ActualsFit s from NoMore fs) z None) (sym there) (tt, sees, fit)) (leaves_result s d None k there)
   given (Some type) k p there fit = λ h f.
-      it.call (Some h) (subst (λ z. DeclaredGives s Known d NoMore (AreIntegers s from NoMore) (λ fs. ActualsFit s from NoMore fs) z (Some h)) (sym there) (proper_takes s type h p f, sees, fit)) (leaves_result s d (Some type) k there)
+      it.call (Some h) (subst (λ z. UseGives s Known d NoMore (AreIntegers s from NoMore) (λ fs. ActualsFit s from NoMore fs) z (Some h)) (sym there) (proper_takes s type h p f, sees, fit)) (leaves_result s d (Some type) k there)
 
-  -- what a procedure of SIMSET gives
-  set_given : (name : Standard) (w result : Option SimType) → is_set_name name ≡ true → ProperResult s result → entry_of s.tables d ≡ Some (entry.Attribute name w result) → w ≡ None → GivenFor s (CallGiven s from e) result
-  set_given name w None set p there none =
+  -- what an attribute gives
+  set_given : (name : Standard) (w result : Option SimType) → ProperResult s result → entry_of s.tables d ≡ Some (entry.Attribute name w result) → w ≡ None → GivenFor s (CallGiven s from e) result
+  set_given name w None p there none =
       it.call None
-      (subst (λ z. DeclaredGives s Known d NoMore (AreIntegers s from NoMore) (λ fs. ActualsFit s from NoMore fs) z None) (sym there)
-      (set, tt, sees, subst (λ z. ActualsFit s from NoMore (attribute_formals z)) (sym none) tt)) (set_leaves s d name w None there)
-  set_given name w (Some type) set p there none = λ h f.
+      (subst (λ z. UseGives s Known d NoMore (AreIntegers s from NoMore) (λ fs. ActualsFit s from NoMore fs) z None) (sym there)
+      (tt, sees, subst (λ z. ActualsFit s from NoMore (attribute_formals z)) (sym none) tt)) (set_leaves s d name w None there)
+  set_given name w (Some type) p there none = λ h f.
       it.call (Some h)
-      (subst (λ z. DeclaredGives s Known d NoMore (AreIntegers s from NoMore) (λ fs. ActualsFit s from NoMore fs) z (Some h)) (sym there)
-      (set, proper_takes s type h p f, sees, subst (λ z. ActualsFit s from NoMore (attribute_formals z)) (sym none) tt)) (set_leaves s d name w (Some type) there)
+      (subst (λ z. UseGives s Known d NoMore (AreIntegers s from NoMore) (λ fs. ActualsFit s from NoMore fs) z (Some h)) (sym there)
+      (proper_takes s type h p f, sees, subst (λ z. ActualsFit s from NoMore (attribute_formals z)) (sym none) tt)) (set_leaves s d name w (Some type) there)
 
   type_there : (result : Option SimType) (o : Outcome) → ProperResult s result → AllSay s (typed_if naming result o).events → TypeThere s e result
   unfolding telling gives is_text
@@ -239,7 +243,7 @@ module _ (s : Source) (known : Tabled s) (from : Place) (e : Expression) (naming
         result = result;
         declared = there;
         typed = type_there result o p.2 said;
-        calls = λ none. it.calls result (set_given name w result p.0 p.2 there none);
+        calls = λ none. it.calls result (set_given name w result p.2 there none);
         no_own = refl;
         unowned = it.unowned (subst (λ z. NoResult z NoMore) (sym there) tt);
       }))
@@ -256,7 +260,7 @@ module _ (s : Source) (known : Tabled s) (from : Place) (e : Expression) (naming
   Them = Then first rest
 
   abbrev Gives : Entry → Option Holds → Type 0
-  Gives x h = DeclaredGives s Known d Them (AreIntegers s from Them) (λ fs. ActualsFit s from Them fs) (Some x) h
+  Gives x h = UseGives s Known d Them (AreIntegers s from Them) (λ fs. ActualsFit s from Them fs) (Some x) h
 
   with_type : (type : SimType) → ProperType s type → type_at s naming ≡ Some type → ((h : Holds) → Takes s type h → ExprIs s from e h) → ValueIs s from e type
   unfolding is_text
@@ -272,16 +276,16 @@ module _ (s : Source) (known : Tabled s) (from : Place) (e : Expression) (naming
   element_means x there element p subscripts value left none (Some f) same said = absurd said.0
   element_means x there element p subscripts value left none None same said =
       let indices = all_integers s from (Some (denotation.Declared d)) (λ i. declared_parameters s d x there i ∙ subscripts i) 0 Them (fits same) in (
-        with_type element p said.0 (λ h f. it.value h (subst (λ z. DeclaredGives s Known d Them (AreIntegers s from Them) (λ fs. ActualsFit s from Them fs) z (Some h)) (sym there) (value indices h (proper_takes s element h p f)))),
+        with_type element p said.0 (λ h f. it.value h (subst (λ z. UseGives s Known d Them (AreIntegers s from Them) (λ fs. ActualsFit s from Them fs) z (Some h)) (sym there) (value indices h (proper_takes s element h p f)))),
         p,
         it.place element (subst (λ z. PlaceDeclared s Known Them (AreIntegers s from Them) z (held_by s element)) (sym there) (left indices)),
         it.unowned (subst (λ z. NoResult z Them) (sym there) none),
       )
 
   call_given : (result : Option SimType) (k : ℕ) → ProperResult s result → entry_of s.tables d ≡ Some (entry.Procedure result k) → ActualsFit s from Them (meant_formals s k) → GivenFor s (CallGiven s from e) result
-  call_given None k p there fit = it.call None (subst (λ z. DeclaredGives s Known d Them (AreIntegers s from Them) (λ fs. ActualsFit s from Them fs) z None) (sym there) (tt, sees, fit)) (leaves_result s d None k there)
+  call_given None k p there fit = it.call None (subst (λ z. UseGives s Known d Them (AreIntegers s from Them) (λ fs. ActualsFit s from Them fs) z None) (sym there) (tt, sees, fit)) (leaves_result s d None k there)
   call_given (Some type) k p there fit = λ h f.
-      it.call (Some h) (subst (λ z. DeclaredGives s Known d Them (AreIntegers s from Them) (λ fs. ActualsFit s from Them fs) z (Some h)) (sym there) (proper_takes s type h p f, sees, fit)) (leaves_result s d (Some type) k there)
+      it.call (Some h) (subst (λ z. UseGives s Known d Them (AreIntegers s from Them) (λ fs. ActualsFit s from Them fs) z (Some h)) (sym there) (proper_takes s type h p f, sees, fit)) (leaves_result s d (Some type) k there)
 
   result_there : (result : Option SimType) (o : Outcome) → ProperResult s result → AllSay s (typed_if naming result o).events → TypeThere s e result
   unfolding telling gives is_text
@@ -299,7 +303,7 @@ module _ (s : Source) (known : Tabled s) (from : Place) (e : Expression) (naming
       subst (λ z. Means true s from e z) (sym (typed_is naming result (call_of result)))
       (call_means s from e result (result_there result (call_of result) p said) (it.calls result (call_given result k p there fit)) true (it.unowned (subst (λ z. NoResult z Them) (sym there) tt)))
 
-  -- a procedure of SIMSET, with the actual parameter of its formal parameter
+  -- an attribute, with the actual parameter of its formal parameter
   set_fits : (name : Standard) (w result : Option SimType) → entry_of s.tables d ≡ Some (entry.Attribute name w result) → attribute_count w ≡ size Them → AllFit s from (Some (denotation.Declared d)) 0 Them → ActualsFit s from Them (attribute_formals w)
   set_fits name None result there same fit = absurd (omega (arith, same))
   set_fits name (Some type) result there same fit = go rest (omega (arith, same))
@@ -311,11 +315,11 @@ module _ (s : Source) (known : Tabled s) (from : Place) (e : Expression) (naming
       go NoMore none = (one, tt)
       go (Then other more) none = absurd (omega (arith, none))
 
-  set_call_given : (name : Standard) (w result : Option SimType) → is_set_name name ≡ true → ProperResult s result → entry_of s.tables d ≡ Some (entry.Attribute name w result) → ActualsFit s from Them (attribute_formals w) → GivenFor s (CallGiven s from e) result
-  set_call_given name w None set p there fit =
-      it.call None (subst (λ z. DeclaredGives s Known d Them (AreIntegers s from Them) (λ fs. ActualsFit s from Them fs) z None) (sym there) (set, tt, sees, fit)) (set_leaves s d name w None there)
-  set_call_given name w (Some type) set p there fit = λ h f.
-      it.call (Some h) (subst (λ z. DeclaredGives s Known d Them (AreIntegers s from Them) (λ fs. ActualsFit s from Them fs) z (Some h)) (sym there) (set, proper_takes s type h p f, sees, fit)) (set_leaves s d name w (Some type) there)
+  set_call_given : (name : Standard) (w result : Option SimType) → ProperResult s result → entry_of s.tables d ≡ Some (entry.Attribute name w result) → ActualsFit s from Them (attribute_formals w) → GivenFor s (CallGiven s from e) result
+  set_call_given name w None p there fit =
+      it.call None (subst (λ z. UseGives s Known d Them (AreIntegers s from Them) (λ fs. ActualsFit s from Them fs) z None) (sym there) (tt, sees, fit)) (set_leaves s d name w None there)
+  set_call_given name w (Some type) p there fit = λ h f.
+      it.call (Some h) (subst (λ z. UseGives s Known d Them (AreIntegers s from Them) (λ fs. ActualsFit s from Them fs) z (Some h)) (sym there) (proper_takes s type h p f, sees, fit)) (set_leaves s d name w (Some type) there)
 
   set_with : (name : Standard) (w result : Option SimType) → entry_of s.tables d ≡ Some (entry.Attribute name w result) → ProperEntry s (entry.Attribute name w result) → attribute_count w ≡ a.count
       → (m : Option Fault) → a.misfit ≡ m → AllSay s (resulting naming m result).events → Means true s from e (resulting naming m result).value
@@ -324,7 +328,7 @@ module _ (s : Source) (known : Tabled s) (from : Place) (e : Expression) (naming
   set_with name w result there p same None is said =
       let fit = set_fits name w result there (same ∙ count) (fits is) in
       subst (λ z. Means true s from e z) (sym (typed_is naming result (call_of result)))
-      (call_means s from e result (result_there result (call_of result) p.2 said) (it.calls result (set_call_given name w result p.0 p.2 there fit)) true (it.unowned (subst (λ z. NoResult z Them) (sym there) tt)))
+      (call_means s from e result (result_there result (call_of result) p.2 said) (it.calls result (set_call_given name w result p.2 there fit)) true (it.unowned (subst (λ z. NoResult z Them) (sym there) tt)))
 
   abbrev element_judged : Option SimType → Judged Outcome
   element_judged result = (elim result as (λ z. Judged Outcome) [ None ↦ gives is.Refused | Some element ↦ element_of naming a.misfit element ])

@@ -26,7 +26,7 @@ use Rattle.sim_sound.specs.Held.{Place, Simply}
 use Rattle.sim_sound.specs.Expressions.{KnownAt}
 use Rattle.sim_agree.specs.Facts.{Tabled}
 use Rattle.sim_agree.specs.Places.{PlacedExpression, PlacedExpressions}
-use Rattle.sim_agree.specs.Plain.{PlainExpression, PlainExpressions, PlainName}
+use Rattle.sim_agree.specs.Plain.{PlainClass, PlainExpression, PlainExpressions}
 use Rattle.sim_allowed.proofs.Actuals.{AllFit, AllKnown, Known, actuals_are, size}
 use Rattle.sim_allowed.proofs.Calls.{OperandIs, parentheses_mean, side_means}
 use Rattle.sim_allowed.proofs.Classes.{plain_value}
@@ -168,9 +168,9 @@ module _ (s : Source) (known : Tabled s) (from : Place) (sight : Sight s from (e
       go (inl c) said = this_means s known from i class (class_named s.tables X class).value c placed said
       go (inr c) said = absurd (this_refused s X i class (class_named s.tables X class).value c said)
 
-  generated : (i : ℕ) (class : Identifier) (es : Expressions) → block_at s.tables class.token.0 ≡ Some (text_of from) → AllKnown s from X es → Known s from X (syntax.New i class es)
+  generated : (i : ℕ) (class : Identifier) (es : Expressions) → block_at s.tables class.token.0 ≡ Some (text_of from) → PlainClass class → AllKnown s from X es → Known s from X (syntax.New i class es)
   unfolding judge next
-  generated i class es placed all said =
+  generated i class es placed plain all said =
       let parts = next_says s (class_named s.tables X class) (λ o. next (actuals s.tables X o.denotes no_actuals es) (new_object s.tables i class o)) said in
       let more = next_says s (actuals s.tables X (class_named s.tables X class).value.denotes no_actuals es) (new_object s.tables i class (class_named s.tables X class).value) parts.1 in
       go (class_named s.tables X class).value (class_means s known X class parts.0) more.0 more.1
@@ -184,11 +184,11 @@ module _ (s : Source) (known : Tabled s) (from : Place) (sight : Sight s from (e
           let here = sight class.token.0 class.name c.declaration placed (b.binds ∙ ap Some c.same) (let open_to = b.open_to in subst (λ z. is_barred s.tables X class.token.0 z ≡ false) c.same open_to) b.found in
           let seen = subst (λ z. KnownAt s from z c.declaration) (class_unconnected s known X class o c (text_of from) placed) here.0 in
           let y = (actuals s.tables X o.denotes no_actuals es).value in
-          new_means s known from X class o c seen es y (from_zero y.count (size es) a.count) (a.typed refl) (λ h. subst (λ (z : Occurrence). AllFit s from z.denotes 0 es) c.is (a.fits h).1) i said
+          new_means s known from X class o c seen es y (from_zero y.count (size es) a.count) (a.typed refl) (λ h. subst (λ (z : Occurrence). AllFit s from z.denotes 0 es) c.is (a.fits h).1) plain i said
 
-  named : (name : Identifier) (es : Expressions) → PlainName name → PlacedExpression s.tables (text_of from) (syntax.Named name es) → AllKnown s from X es → Known s from X (syntax.Named name es)
+  named : (name : Identifier) (es : Expressions) → PlacedExpression s.tables (text_of from) (syntax.Named name es) → AllKnown s from X es → Known s from X (syntax.Named name es)
   unfolding judge next actuals gives
-  named name es plain placed all said =
+  named name es placed all said =
       let parts = next_says s (bound s.tables X name) (λ d. next (actuals s.tables X d.denotes no_actuals es) (used s.tables name.token.0 name d)) said in
       let d = (bound s.tables X name).value in
       let more = next_says s (actuals s.tables X d.denotes no_actuals es) (used s.tables name.token.0 name d) parts.1 in
@@ -200,9 +200,9 @@ module _ (s : Source) (known : Tabled s) (from : Place) (sight : Sight s from (e
       go : (es : Expressions) → AllKnown s from X es → AllSay s (actuals s.tables X (bound s.tables X name).value.denotes no_actuals es).events
           → AllSay s (used s.tables name.token.0 name (bound s.tables X name).value (actuals s.tables X (bound s.tables X name).value.denotes no_actuals es).value).events
           → Means true s from (syntax.Named name es) (used s.tables name.token.0 name (bound s.tables X name).value (actuals s.tables X (bound s.tables X name).value.denotes no_actuals es).value).value
-      go NoMore all first last = named_alone s known from X sight name placed.0 plain (bound s.tables X name).value bound_to last
+      go NoMore all first last = named_alone s known from X sight name placed.0 (bound s.tables X name).value bound_to last
       go (Then e es) all first last =
-          named_with s known from X sight name placed.0 plain e es (bound s.tables X name).value bound_to (actuals s.tables X (bound s.tables X name).value.denotes no_actuals (Then e es)).value
+          named_with s known from X sight name placed.0 e es (bound s.tables X name).value bound_to (actuals s.tables X (bound s.tables X name).value.denotes no_actuals (Then e es)).value
           (actuals_are s known from X (bound s.tables X name).value.denotes (Then e es) all no_actuals first) last
 
   behind_dot : (i : ℕ) (a : Expression) (name : Identifier) (es : Expressions) → nat_eq i name.token.0 ≡ false → Known s from X a → AllKnown s from X es → Known s from X (syntax.Dot i a name es)
@@ -244,12 +244,12 @@ module _ (s : Source) (known : Tabled s) (from : Place) (sight : Sight s from (e
         let h = both_there s (expression_constants a) (expressions_constants es) there in
         behind_dot i a name es l.1 (expression_known a p.0 l.0 h.0) (expressions_known es p.1 l.2 h.1)
     expression_known (syntax.Constant literal' i) p l there = literal i literal' there
-    expression_known (syntax.Named name es) p l there = named name es p.0 l (expressions_known es p.1 l.1 there)
+    expression_known (syntax.Named name es) p l there = named name es l (expressions_known es p l.1 there)
     expression_known (syntax.Parentheses i a) p l there = in_brackets i a (expression_known a p l there)
-    expression_known (syntax.Member m i a class) p l there = compared m i a class (expression_known a p.0 l.0 there)
-    expression_known (syntax.Qua i a class) p l there = qualifying i a class (expression_known a p.0 l.0 there)
+    expression_known (syntax.Member m i a class) p l there = compared m i a class (expression_known a p l.0 there)
+    expression_known (syntax.Qua i a class) p l there = qualifying i a class (expression_known a p l.0 there)
     expression_known (syntax.This i class) p l there = this_one i class l
-    expression_known (syntax.New i class es) p l there = generated i class es l.0 (expressions_known es p.1 l.1 there)
+    expression_known (syntax.New i class es) p l there = generated i class es l.0 p.0 (expressions_known es p.1 l.1 there)
 
     pub expressions_known : (es : Expressions) → PlainExpressions es → PlacedExpressions s.tables (text_of from) es → AllThere s (expressions_constants es) → AllKnown s from X es
     expressions_known NoMore p l there = tt

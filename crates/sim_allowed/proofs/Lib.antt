@@ -9,6 +9,8 @@ pub mod Operators
 pub mod Actuals
 pub mod Declared
 pub mod Uses
+pub mod Simulations
+pub mod Activations
 pub mod Sights
 pub mod Nowhere
 pub mod Detached

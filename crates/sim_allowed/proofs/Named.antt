@@ -25,9 +25,8 @@ use Rattle.sim_scope.specs.Judged.{Judged, bars, gives, next, telling}
 use Rattle.sim_scope.specs.Levels.{class_block, has_classes}
 use Rattle.sim_scope.specs.Outcomes.{side}
 use Rattle.sim_scope.specs.Scopes.{binding, block_in, declared_or_standard, entry_of, formals_of, found_in, is_detach, result_in, result_of, shown}
-use Rattle.sim_scope.specs.Source.{Source, denoted, found_at}
+use Rattle.sim_scope.specs.Source.{Source, block_of, denoted, found_at}
 use Rattle.sim_scope.specs.Standard.{signature, sysin_attribute, sysout_attribute, text_attribute}
-use Rattle.sim_static.specs.UnbuiltNames.{is_unbuilt_name}
 use Rattle.sim_tree.specs.declared.expr.Identifier.{Identifier}
 use Rattle.sim_tree.specs.Syntax.{Expression, Expressions, NoMore, Then}
 use Rattle.sim_tree.specs.Syntax as syntax
@@ -46,13 +45,14 @@ use Rattle.sim_agree.specs.Facts.{IsClass, PlainGiven, Tabled}
 use Rattle.sim_allowed.proofs.Actuals.{AllActuals, AllFit, size}
 use Rattle.sim_allowed.proofs.Calls.{side_means}
 use Rattle.sim_allowed.proofs.Classes.{class_held, class_row, own_level, simply}
-use Rattle.sim_allowed.proofs.Declared.{alone_means, with_means}
+use Rattle.sim_allowed.proofs.Declared.{UseIs, alone_means, with_means}
 use Rattle.sim_allowed.proofs.Detached.{detach_stands}
 use Rattle.sim_allowed.proofs.Meant.{CallGiven, CallsFor, InText, Means, OwnResult, ValueIs}
 use Rattle.sim_allowed.proofs.Names.{IsProcedure, OfTexts, alone_proper, attribute_gives, attribute_proper, attribute_transfers_none, detach_alone, given_by, kinds_of, procedure_proper, procedure_transfers_none, standard_gives, standard_left, sysin_name, sysout_name, text_name}
 use Rattle.sim_allowed.proofs.Nowhere.{is_nowhere}
 use Rattle.sim_allowed.proofs.Said.{AllSay, next_says}
 use Rattle.sim_allowed.proofs.Sights.{Sight, text_of}
+use Rattle.sim_allowed.proofs.Simulations.{AttributeThere, attribute_there, either_attribute, level_classes}
 use Rattle.sim_allowed.proofs.Uses.{BoundIs, KnownHere, bound_name, dot_calls, dot_detaches, dot_given, dot_use, known_here, named_use, own_declared, plain_given, standard_call, standard_transfers, standard_with, standard_without, unconnected_none}
 
 pub from_zero : (n m : ℕ) → n ≡ 0 + m → n ≡ m
@@ -155,7 +155,7 @@ standard_owner s x (Then e es) name says = unconnected_none (connection_at s x.t
 
 -- ---- an identifier
 
-module _ (s : Source) (known : Tabled s) (from : Place) (e : Extent) (sight : Sight s from e) (x : Identifier) (placed : block_at s.tables x.token.0 ≡ Some (text_of from)) (plain : is_unbuilt_name x.name ≡ false) where
+module _ (s : Source) (known : Tabled s) (from : Place) (e : Extent) (sight : Sight s from e) (x : Identifier) (placed : block_at s.tables x.token.0 ≡ Some (text_of from)) where
   -- what it denotes is known where it stands
   abbrev Here : DeclNo → Type 0
   Here d = KnownHere s from x.token.0 (connection_at s x.token.0) (own_attribute s x.token.0) d
@@ -165,6 +165,11 @@ module _ (s : Source) (known : Tabled s) (from : Place) (e : Extent) (sight : Si
   here d says binds open_to at =
       let seen = sight x.token.0 x.name d placed binds open_to at in
       known_here s from x.token.0 d (connection_at s x.token.0) (own_attribute s x.token.0) (own_declared s x.token.0 d says) seen.0 seen.1
+
+  -- and how it is used
+  use_of : (es : Expressions) (d : DeclNo) → denoted s x.token.0 ≡ Some (denotation.Declared d) → binding s.tables x.token.0 x.name ≡ Some (denotation.Declared d) → is_barred s.tables e x.token.0 (denotation.Declared d) ≡ false
+      → ((block : ℕ) → found_in s.tables x.token.0 x.name ≡ Some block → found_at s x.token.0 ≡ Some block) → UseIs s from (syntax.Named x es) x.token.0 d es (Here d)
+  use_of es d says binds open_to at = named_use s from x es d says (either_attribute s known d) (sight x.token.0 x.name d placed binds open_to at).2
 
   -- `detach` is found around
   detach_seen : (name : StandardName) → binding s.tables x.token.0 x.name ≡ Some (denotation.Standard name) → ((block : ℕ) → found_in s.tables x.token.0 x.name ≡ Some block → found_at s x.token.0 ≡ Some block)
@@ -179,10 +184,10 @@ module _ (s : Source) (known : Tabled s) (from : Place) (e : Extent) (sight : Si
       go (denotation.Declared d) is says binds open_to said =
           let t = known.there x.token.0 x.name d binds in
           subst (λ z. Means true s from (syntax.Named x NoMore) (declared_alone s.tables x.token.0 x d z).value) (sym t.1)
-          (alone_means s known from (syntax.Named x NoMore) x.token.0 d (Here d) (here d says binds open_to b.found) (named_use s from x NoMore d says) x t.0 t.1 (known.proper d t.0 t.1)
+          (alone_means s known from (syntax.Named x NoMore) x.token.0 d (Here d) (here d says binds open_to b.found) (use_of NoMore d says binds open_to b.found) x t.0 t.1 (known.proper d t.0 t.1)
           (λ result k there. own_means s known from x placed d says binds b.found result k there) (subst (λ z. AllSay s (declared_alone s.tables x.token.0 x d z).events) t.1 said))
       go (denotation.Standard name) is says binds open_to said =
-          let alone = bound_name s x.token.0 x.name name plain binds in
+          let alone = bound_name s x.token.0 x.name name binds in
           standard_without s from (syntax.Named x NoMore) name x.token.0 refl (ap stream_denoted says) (standard_owner s x NoMore name says) (alone_proper name alone) x.token
           (λ other class are. standard_call s from x NoMore name says (unconnected s e x o b name is) (detach_seen name binds b.found) alone other class (alone_proper name alone) are) said
 
@@ -209,10 +214,10 @@ module _ (s : Source) (known : Tabled s) (from : Place) (e : Extent) (sight : Si
       go (denotation.Declared d) is says binds open_to fits said =
           let t = known.there x.token.0 x.name d binds in
           subst (λ z. Means true s from (syntax.Named x (Then first rest)) (declared_applied x.token.0 x.token.0 z (length (formals_of s.tables d)) a).value) (sym t.1)
-          (with_means s known from (syntax.Named x (Then first rest)) x.token.0 d (Here d) (here d says binds open_to b.found) first rest (named_use s from x (Then first rest) d says) a (from_zero a.count (suc (size rest)) all.count) fits
+          (with_means s known from (syntax.Named x (Then first rest)) x.token.0 d (Here d) (here d says binds open_to b.found) first rest (use_of (Then first rest) d says binds open_to b.found) a (from_zero a.count (suc (size rest)) all.count) fits
           x.token.0 t.0 t.1 (known.proper d t.0 t.1) (subst (λ z. AllSay s (declared_applied x.token.0 x.token.0 z (length (formals_of s.tables d)) a).events) t.1 said))
       go (denotation.Standard name) is says binds open_to fits said =
-          let alone = bound_name s x.token.0 x.name name plain binds in
+          let alone = bound_name s x.token.0 x.name name binds in
           standard_with s from (syntax.Named x (Then first rest)) name x.token.0 refl (ap stream_denoted says) (standard_owner s x (Then first rest) name says) (alone_proper name alone) (Then first rest)
           (λ other class are. standard_call s from x (Then first rest) name says (unconnected s e x o b name is) (detach_seen name binds b.found) alone other class (alone_proper name alone) are) a (from_zero a.count (suc (size rest)) all.count) fits x.token.0 said
 
@@ -225,7 +230,7 @@ OfWhich s from a name =
 -- what stands behind the dot: a name of sysin or sysout, an attribute of a text, or `detach` of an object; or a declared attribute of an object
 pub data AttributeIs (s : Source) (from : Place) (a : Expression) (x : Identifier) (o : Occurrence) : Type 0 where
   standard : (name : StandardName) → o ≡ occurs (Some (denotation.Standard name)) false → denoted s x.token.0 ≡ Some (denotation.Standard name) → OfWhich s from a name → AttributeIs s from a x o
-  declared : (d : DeclNo) → o ≡ occurs (Some (denotation.Declared d)) false → denoted s x.token.0 ≡ Some (denotation.Declared d) → (b : Entry) → entry_of s.tables d ≡ Some b → ObjectHas s (λ c. ExprIs s from a (Refers c)) d → AttributeIs s from a x o
+  declared : (d : DeclNo) → o ≡ occurs (Some (denotation.Declared d)) false → denoted s x.token.0 ≡ Some (denotation.Declared d) → (b : Entry) → entry_of s.tables d ≡ Some b → AttributeThere (entry_of s.tables d) → ObjectHas s (λ c. ExprIs s from a (Refers c)) d → AttributeIs s from a x o
 
 module _ (s : Source) (known : Tabled s) (from : Place) (a : Expression) (e : Extent) (x : Identifier) where
   found_attribute : (P : StandardName → Type 0) → ((name : StandardName) → P name → OfWhich s from a name) → (o : Option StandardName) → ((name : StandardName) → o ≡ Some name → P name) → AllSay s (attribute_found x o).events → AttributeIs s from a x (attribute_found x o).value
@@ -237,7 +242,7 @@ module _ (s : Source) (known : Tabled s) (from : Place) (a : Expression) (e : Ex
   remote_is : (class : DeclNo) (c : IsClass s class) → ValueIs s from a (t.Ref class) → AllSay s (remote s.tables e x class).events → AttributeIs s from a x (remote s.tables e x class).value
   unfolding remote next gives telling bars attribute_in
   remote_is class c v said =
-      subst (λ z. AttributeIs s from a x (remote_in s.tables e x z).value) (sym row) (open_to (has_classes s.tables c.block) (subst (λ z. AllSay s (remote_in s.tables e x z).events) row said))
+      subst (λ z. AttributeIs s from a x (remote_in s.tables e x z).value) (sym row) (open_to (has_classes s.tables c.block) refl (subst (λ z. AllSay s (remote_in s.tables e x z).events) row said))
     where
       row : class_block s.tables class ≡ Some c.block
       row = class_row s.tables class c.block c.declares
@@ -245,26 +250,30 @@ module _ (s : Source) (known : Tabled s) (from : Place) (a : Expression) (e : Ex
       object : ExprIs s from a (Refers c.block)
       object = v.value (Refers c.block) (subst (λ z. Fits s z (Refers c.block)) (sym (class_held s class c)) (own_level s.tables c.block known.some_block))
 
-      of : (d : Denotation) → attribute_in s.tables x.token.0 c.block x.name ≡ Some d → denoted s x.token.0 ≡ Some d → AttributeIs s from a x (occurs (Some d) false)
-      of (denotation.Declared d) is says = let there = known.attributes x.token.0 c.block x.name d is in declared d refl says there.0 there.1 (c.block, c.is, there.2, object)
-      of (denotation.Standard name) is says = standard name refl says (inr (inr (it (shown s.tables (Some x.token.0) c.block x.name) (is_detach x.name) is, simply s from a (t.Ref class) v)))
+      of : has_classes s.tables c.block ≡ false → (d : Denotation) → attribute_in s.tables x.token.0 c.block x.name ≡ Some d → denoted s x.token.0 ≡ Some d → AttributeIs s from a x (occurs (Some d) false)
+      of none (denotation.Declared d) is says =
+          let there = known.attributes x.token.0 c.block x.name d is in
+          declared d refl says there.0 there.1
+          (attribute_there s known d (λ n w result simulation at. false≢true (sym none ∙ level_classes s.tables c.block (block_of s d) there.2 (known.simulates_behind x.token.0 c.block x.name d n w result is at simulation))))
+          (c.block, c.is, there.2, object)
+      of none (denotation.Standard name) is says = standard name refl says (inr (inr (it (shown s.tables (Some x.token.0) c.block x.name) (is_detach x.name) is, simply s from a (t.Ref class) v)))
         where
           it : (o : Option DeclNo) (b : Bool) → declared_or_standard s.tables o (if b then Some (found.Procedure detach.Detach) else None) ≡ Some (denotation.Standard name) → name ≡ found.Procedure detach.Detach
           it None true is = (let same : found.Procedure detach.Detach ≡ name = cc in sym same)
           it None false is = absurd (cc)
           it (Some d) b is = absurd (cc)
 
-      barred : (d : Denotation) → attribute_in s.tables x.token.0 c.block x.name ≡ Some d → (b : Bool) → AllSay s (used_or_barred x.token.0 d b).events → AttributeIs s from a x (barred_if false (used_or_barred x.token.0 d b).value)
-      barred d is true said = absurd said.0
-      barred d is false said = let says = said.0 in of d is says.0
+      barred : has_classes s.tables c.block ≡ false → (d : Denotation) → attribute_in s.tables x.token.0 c.block x.name ≡ Some d → (b : Bool) → AllSay s (used_or_barred x.token.0 d b).events → AttributeIs s from a x (barred_if false (used_or_barred x.token.0 d b).value)
+      barred none d is true said = absurd said.0
+      barred none d is false said = let says = said.0 in of none d is says.0
 
-      at : (o : Option Denotation) → attribute_in s.tables x.token.0 c.block x.name ≡ o → AllSay s (remote_as s.tables e x c.block o).events → AttributeIs s from a x (barred_if false (remote_as s.tables e x c.block o).value)
-      at None is said = absurd said.0
-      at (Some d) is said = barred d is (is_barred s.tables e x.token.0 d) said
+      at : has_classes s.tables c.block ≡ false → (o : Option Denotation) → attribute_in s.tables x.token.0 c.block x.name ≡ o → AllSay s (remote_as s.tables e x c.block o).events → AttributeIs s from a x (barred_if false (remote_as s.tables e x c.block o).value)
+      at none None is said = absurd said.0
+      at none (Some d) is said = barred none d is (is_barred s.tables e x.token.0 d) said
 
-      open_to : (b : Bool) → AllSay s (next (bars b x.token.0 r.ClassWithClasses) (remote_at s.tables e x c.block)).events → AttributeIs s from a x (next (bars b x.token.0 r.ClassWithClasses) (remote_at s.tables e x c.block)).value
-      open_to true said = absurd said.0
-      open_to false said = at (attribute_in s.tables x.token.0 c.block x.name) refl (next_says s (remote_as s.tables e x c.block (attribute_in s.tables x.token.0 c.block x.name)) (λ o. gives (barred_if false o)) said).0
+      open_to : (b : Bool) → has_classes s.tables c.block ≡ b → AllSay s (next (bars b x.token.0 r.ClassWithClasses) (remote_at s.tables e x c.block)).events → AttributeIs s from a x (next (bars b x.token.0 r.ClassWithClasses) (remote_at s.tables e x c.block)).value
+      open_to true is said = absurd said.0
+      open_to false is said = at is (attribute_in s.tables x.token.0 c.block x.name) refl (next_says s (remote_as s.tables e x c.block (attribute_in s.tables x.token.0 c.block x.name)) (λ o. gives (barred_if false o)) said).0
 
   of_text : (first : ℕ) (type : SimType) → ValueIs s from a type → AllSay s (attribute_of_type s.tables e x first (Some type)).events → AttributeIs s from a x (attribute_of_type s.tables e x first (Some type)).value
   unfolding telling gives
@@ -365,13 +374,13 @@ module _ (s : Source) (from : Place) (i : ℕ) (a : Expression) (x : Identifier)
 
 -- ---- behind a dot: any attribute
 
-declared_with : (s : Source) → Tabled s → (from : Place) (i : ℕ) (a : Expression) (x : Identifier) (d : DeclNo) → denoted s x.token.0 ≡ Some (denotation.Declared d) → (b : Entry) → entry_of s.tables d ≡ Some b
+declared_with : (s : Source) → Tabled s → (from : Place) (i : ℕ) (a : Expression) (x : Identifier) (d : DeclNo) → denoted s x.token.0 ≡ Some (denotation.Declared d) → (b : Entry) → entry_of s.tables d ≡ Some b → AttributeThere (entry_of s.tables d)
     → ObjectHas s (λ c. ExprIs s from a (Refers c)) d → (first : Expression) (rest : Expressions) (y : Actuals) → y.count ≡ size (Then first rest) → (y.misfit ≡ None → AllFit s from (Some (denotation.Declared d)) 0 (Then first rest))
     → AllSay s (applied s.tables i x.token.0 (denotation.Declared d) y).events → Means true s from (syntax.Dot i a x (Then first rest)) (applied s.tables i x.token.0 (denotation.Declared d) y).value
 unfolding applied
-declared_with s known from i a x d says b there has first rest y count fits said =
+declared_with s known from i a x d says b there plain has first rest y count fits said =
     subst (λ z. Means true s from (syntax.Dot i a x (Then first rest)) (declared_applied i x.token.0 z (length (formals_of s.tables d)) y).value) (sym there)
-    (with_means s known from (syntax.Dot i a x (Then first rest)) i d (ObjectHas s (λ c. ExprIs s from a (Refers c)) d) has first rest (dot_use s from i a x (Then first rest) d says) y count fits x.token.0 b there (known.proper d b there)
+    (with_means s known from (syntax.Dot i a x (Then first rest)) i d (ObjectHas s (λ c. ExprIs s from a (Refers c)) d) has first rest (dot_use s from i a x (Then first rest) d says plain) y count fits x.token.0 b there (known.proper d b there)
     (subst (λ z. AllSay s (declared_applied i x.token.0 z (length (formals_of s.tables d)) y).events) there said))
 
 module _ (s : Source) (known : Tabled s) (from : Place) (i : ℕ) (a : Expression) (x : Identifier) (apart : nat_eq i x.token.0 ≡ false) (o : Occurrence) where
@@ -379,10 +388,10 @@ module _ (s : Source) (known : Tabled s) (from : Place) (i : ℕ) (a : Expressio
   unfolding used result_meant alone
   dot_alone (standard name is says which) said =
       subst (λ z. Means true s from (syntax.Dot i a x NoMore) (used s.tables i x z no_actuals).value) (sym is) (standard_alone s from i a x name says which (subst (λ z. AllSay s (used s.tables i x z no_actuals).events) is said))
-  dot_alone (declared d is says b there has) said =
+  dot_alone (declared d is says b there plain has) said =
       subst (λ z. Means true s from (syntax.Dot i a x NoMore) (used s.tables i x z no_actuals).value) (sym is)
       (subst (λ z. Means true s from (syntax.Dot i a x NoMore) (declared_alone s.tables i x d z).value) (sym there)
-      (alone_means s known from (syntax.Dot i a x NoMore) i d (ObjectHas s (λ c. ExprIs s from a (Refers c)) d) has (dot_use s from i a x NoMore d says) x b there (known.proper d b there) (λ result k at. own result k)
+      (alone_means s known from (syntax.Dot i a x NoMore) i d (ObjectHas s (λ c. ExprIs s from a (Refers c)) d) has (dot_use s from i a x NoMore d says plain) x b there (known.proper d b there) (λ result k at. own result k)
       (subst (λ z. AllSay s (declared_alone s.tables i x d z).events) there (subst (λ z. AllSay s (used s.tables i x z no_actuals).events) is said))))
     where
       own : (result : Option SimType) (k : ℕ) → OwnResult s from (syntax.Dot i a x NoMore) (own_undotted s.tables x (is_undotted i x) (Some d)) d result k
@@ -407,14 +416,14 @@ module _ (s : Source) (known : Tabled s) (from : Place) (i : ℕ) (a : Expressio
       fits : (d : Denotation) → o ≡ occurs (Some d) false → y.misfit ≡ None → AllFit s from (Some d) 0 (Then first rest)
       fits d is h = subst (λ (z : Occurrence). AllFit s from z.denotes 0 (Then first rest)) is (all.fits h).1
 
-      declared_means : (d : DeclNo) → denoted s x.token.0 ≡ Some (denotation.Declared d) → (b : Entry) → entry_of s.tables d ≡ Some b → ObjectHas s (λ c. ExprIs s from a (Refers c)) d → (y.misfit ≡ None → AllFit s from (Some (denotation.Declared d)) 0 (Then first rest))
+      declared_means : (d : DeclNo) → denoted s x.token.0 ≡ Some (denotation.Declared d) → (b : Entry) → entry_of s.tables d ≡ Some b → AttributeThere (entry_of s.tables d) → ObjectHas s (λ c. ExprIs s from a (Refers c)) d → (y.misfit ≡ None → AllFit s from (Some (denotation.Declared d)) 0 (Then first rest))
           → AllSay s (applied s.tables i x.token.0 (denotation.Declared d) y).events → Means true s from (syntax.Dot i a x (Then first rest)) (applied s.tables i x.token.0 (denotation.Declared d) y).value
-      declared_means d says b there has fits said = declared_with s known from i a x d says b there has first rest y (from_zero y.count (suc (size rest)) all.count) fits said
+      declared_means d says b there plain has fits said = declared_with s known from i a x d says b there plain has first rest y (from_zero y.count (suc (size rest)) all.count) fits said
 
       go : AttributeIs s from a x o → Means true s from (syntax.Dot i a x (Then first rest)) (used s.tables i x o y).value
       go (standard name is says which) =
           let d = denotation.Standard name in
           subst (λ (z : Judged Outcome). Means true s from (syntax.Dot i a x (Then first rest)) z.value) (sym (used_is d is)) (standard_applies s from i a x name says which first rest y (from_zero y.count (suc (size rest)) all.count) (fits d is) (subst (λ (z : Judged Outcome). AllSay s z.events) (used_is d is) said))
-      go (declared d is says b there has) =
+      go (declared d is says b there plain has) =
           let c = denotation.Declared d in
-          subst (λ (z : Judged Outcome). Means true s from (syntax.Dot i a x (Then first rest)) z.value) (sym (used_is c is)) (declared_means d says b there has (fits c is) (subst (λ (z : Judged Outcome). AllSay s z.events) (used_is c is) said))
+          subst (λ (z : Judged Outcome). Means true s from (syntax.Dot i a x (Then first rest)) z.value) (sym (used_is c is)) (declared_means d says b there plain has (fits c is) (subst (λ (z : Judged Outcome). AllSay s z.events) (used_is c is) said))

@@ -1,7 +1,6 @@
 -- The standard names, as the rules and as the meaning have them.
 use Rattle.std.proofs.Common.{◌≡◌, ◌⊎◌, inl, inr, ℕ, Bool, true, false, List, [], ◌∷◌, Option, Some, None, refl, subst, if◌then◌else◌}
 use Rattle.std.proofs.lemmas.Bool.{false≢true}
-use Rattle.std.proofs.lemmas.Slice.Eq.{bytes_eq-Decides}
 use Rattle.std.specs.Prelude.{◌||◌, ◌&&◌, codes}
 use Rattle.std.specs.Str.{bytes_eq}
 use Rattle.sim_scope.specs.declared.standard.Place.{Place}
@@ -13,7 +12,6 @@ use Rattle.sim_scope.specs.declared.types.SimType.{SimType}
 use Rattle.sim_scope.specs.declared.types.StandardPrefix.{StandardPrefix}
 use Rattle.sim_scope.specs.Scopes.{is_detach}
 use Rattle.sim_scope.specs.Standard.{first_named, is_seen, named_beside, plain_or_none, prefix_or_none, procedure_or, signature, standard_name, standard_prefix, sysin_attribute, sysout_attribute, text_attribute}
-use Rattle.sim_static.specs.UnbuiltNames.{is_unbuilt_name}
 use Rattle.sim_values.specs.declared.kind.Kind.{Kind}
 use Rattle.sim_values.specs.declared.kind.Kind.TheVariants as kind
 use Rattle.sim_values.specs.declared.standard.Standard.{Standard}
@@ -47,11 +45,11 @@ abbrev pub given_by : Option SimType → Option Holds
 given_by None = None
 given_by (Some ty) = Some (Simply (kind_of_type ty))
 
--- a name of the table that is seen alone, and is built
+-- a name of the table that is seen alone
 abbrev pub IsAlone : Standard → Type 0
-IsAlone x = (is_seen place.Alone (row_of x).owner ≡ true) × (is_unbuilt_name (row_of x).spelling ≡ false)
+IsAlone x = is_seen place.Alone (row_of x).owner ≡ true
 
--- a name that is no attribute of texts, and is built
+-- a name that is no attribute of texts
 abbrev pub NoAttribute : StandardName → Type 0
 NoAttribute (found.Procedure x) = IsAlone x
 NoAttribute found.Sysin = Unit {0}
@@ -63,7 +61,7 @@ abbrev pub OfTexts : StandardName → Type 0
 OfTexts (found.Procedure x) = is_seen place.Text (row_of x).owner ≡ true
 OfTexts _ = ⊥
 
--- a procedure that is no attribute of texts and no transfer of control, and is built
+-- a procedure that is no attribute of texts and no transfer of control
 abbrev pub IsProcedure : StandardName → Type 0
 IsProcedure (found.Procedure x) = IsAlone x × (transfer_of x ≡ None)
 IsProcedure _ = ⊥
@@ -100,16 +98,14 @@ beside_name name k e = go (bytes_eq name (codes "sysin")) (bytes_eq name (codes 
     go false true e = let same : found.Sysout ≡ k = cc in subst NoAttribute same tt
     go false false e = prefix_name (standard_prefix name) k e
 
-pub alone_name : (name : List ℕ) (k : StandardName) → is_unbuilt_name name ≡ false → standard_name name ≡ Some k → NoAttribute k
+pub alone_name : (name : List ℕ) (k : StandardName) → standard_name name ≡ Some k → NoAttribute k
 unfolding standard_name
-alone_name name k plain e = go (first_named place.Alone name STANDARD_NAMES) refl e
+alone_name name k e = go (first_named place.Alone name STANDARD_NAMES) refl e
   where
     go : (o : Option Standard) → first_named place.Alone name STANDARD_NAMES ≡ o → procedure_or o (named_beside name) ≡ Some k → NoAttribute k
     go None is e = beside_name name k e
     go (Some x) is e =
-        let seen = first_seen place.Alone name x STANDARD_NAMES is in
-        let same : found.Procedure x ≡ k = cc in
-        subst NoAttribute same (seen.0, subst (λ z. is_unbuilt_name z ≡ false) ((bytes_eq-Decides name (row_of x).spelling).0 seen.1) plain)
+        let same : found.Procedure x ≡ k = cc in subst NoAttribute same (first_seen place.Alone name x STANDARD_NAMES is).0
 
 pub text_name : (name : List ℕ) (k : StandardName) → text_attribute name ≡ Some k → OfTexts k
 unfolding text_attribute
@@ -117,31 +113,31 @@ text_name name k e = found_behind OfTexts place.Text name k (λ x seen. seen) e
 
 -- the names of sysin and sysout are seen alone
 sysin_alone : (x : Standard) → is_seen place.Sysin (row_of x).owner ≡ true → IsProcedure (found.Procedure x)
-unfolding row_of is_unbuilt_name
-sysin_alone name.Inimage seen = ((refl, refl), refl)
-sysin_alone name.Inchar seen = ((refl, refl), refl)
-sysin_alone name.Inint seen = ((refl, refl), refl)
-sysin_alone name.Intext seen = ((refl, refl), refl)
-sysin_alone name.Lastitem seen = ((refl, refl), refl)
-sysin_alone name.Endfile seen = ((refl, refl), refl)
-sysin_alone name.Image seen = ((refl, refl), refl)
-sysin_alone name.Pos seen = ((refl, refl), refl)
-sysin_alone name.Setpos seen = ((refl, refl), refl)
-sysin_alone name.More seen = ((refl, refl), refl)
-sysin_alone name.Length seen = ((refl, refl), refl)
+unfolding row_of
+sysin_alone name.Inimage seen = (refl, refl)
+sysin_alone name.Inchar seen = (refl, refl)
+sysin_alone name.Inint seen = (refl, refl)
+sysin_alone name.Intext seen = (refl, refl)
+sysin_alone name.Lastitem seen = (refl, refl)
+sysin_alone name.Endfile seen = (refl, refl)
+sysin_alone name.Image seen = (refl, refl)
+sysin_alone name.Pos seen = (refl, refl)
+sysin_alone name.Setpos seen = (refl, refl)
+sysin_alone name.More seen = (refl, refl)
+sysin_alone name.Length seen = (refl, refl)
 sysin_alone _ seen = absurd (false≢true seen)
 
 sysout_alone : (x : Standard) → is_seen place.Sysout (row_of x).owner ≡ true → IsProcedure (found.Procedure x)
-unfolding row_of is_unbuilt_name
-sysout_alone name.Outimage seen = ((refl, refl), refl)
-sysout_alone name.Outchar seen = ((refl, refl), refl)
-sysout_alone name.Outtext seen = ((refl, refl), refl)
-sysout_alone name.Outint seen = ((refl, refl), refl)
-sysout_alone name.Image seen = ((refl, refl), refl)
-sysout_alone name.Pos seen = ((refl, refl), refl)
-sysout_alone name.Setpos seen = ((refl, refl), refl)
-sysout_alone name.More seen = ((refl, refl), refl)
-sysout_alone name.Length seen = ((refl, refl), refl)
+unfolding row_of
+sysout_alone name.Outimage seen = (refl, refl)
+sysout_alone name.Outchar seen = (refl, refl)
+sysout_alone name.Outtext seen = (refl, refl)
+sysout_alone name.Outint seen = (refl, refl)
+sysout_alone name.Image seen = (refl, refl)
+sysout_alone name.Pos seen = (refl, refl)
+sysout_alone name.Setpos seen = (refl, refl)
+sysout_alone name.More seen = (refl, refl)
+sysout_alone name.Length seen = (refl, refl)
 sysout_alone _ seen = absurd (false≢true seen)
 
 pub sysin_name : (name : List ℕ) (k : StandardName) → sysin_attribute name ≡ Some k → IsProcedure k
@@ -154,44 +150,44 @@ sysout_name name k e = found_behind IsProcedure place.Sysout name k sysout_alone
 
 -- what a name alone, or behind `sysin` or `sysout`, gives
 row_gives : (x : Standard) → IsProcedure (found.Procedure x) → (Operands : List Kind → Type 0) → Operands (kinds_of (signature (found.Procedure x))) → StandardGives (Some x) Operands (given_by (signature (found.Procedure x)).result)
-unfolding signature row_of is_unbuilt_name
-row_gives name.Abs p Operands a = (((refl, refl), refl), a)
-row_gives name.Sign p Operands a = (((refl, refl), refl), a)
-row_gives name.Min p Operands a = (((refl, refl), refl), a)
-row_gives name.Max p Operands a = (((refl, refl), refl), a)
-row_gives name.Mod p Operands a = (((refl, refl), refl), a)
-row_gives name.Rem p Operands a = (((refl, refl), refl), a)
-row_gives name.Maxint p Operands a = (((refl, refl), refl), a)
-row_gives name.Minint p Operands a = (((refl, refl), refl), a)
-row_gives name.Char p Operands a = (((refl, refl), refl), a)
-row_gives name.Rank p Operands a = (((refl, refl), refl), a)
-row_gives name.Isochar p Operands a = (((refl, refl), refl), a)
-row_gives name.Isorank p Operands a = (((refl, refl), refl), a)
-row_gives name.Digit p Operands a = (((refl, refl), refl), a)
-row_gives name.Letter p Operands a = (((refl, refl), refl), a)
-row_gives name.Blanks p Operands a = (((refl, refl), refl), a)
-row_gives name.Copy p Operands a = (((refl, refl), refl), a)
-row_gives name.Upcase p Operands a = (((refl, refl), refl), a)
-row_gives name.Lowcase p Operands a = (((refl, refl), refl), a)
-row_gives name.Inimage p Operands a = (((refl, refl), refl), a)
-row_gives name.Inchar p Operands a = (((refl, refl), refl), a)
-row_gives name.Inint p Operands a = (((refl, refl), refl), a)
-row_gives name.Intext p Operands a = (((refl, refl), refl), a)
-row_gives name.Lastitem p Operands a = (((refl, refl), refl), a)
-row_gives name.Endfile p Operands a = (((refl, refl), refl), a)
-row_gives name.Outimage p Operands a = (((refl, refl), refl), a)
-row_gives name.Outchar p Operands a = (((refl, refl), refl), a)
-row_gives name.Outtext p Operands a = (((refl, refl), refl), a)
-row_gives name.Outint p Operands a = (((refl, refl), refl), a)
+unfolding signature row_of
+row_gives name.Abs p Operands a = (((refl, refl, refl), refl), a)
+row_gives name.Sign p Operands a = (((refl, refl, refl), refl), a)
+row_gives name.Min p Operands a = (((refl, refl, refl), refl), a)
+row_gives name.Max p Operands a = (((refl, refl, refl), refl), a)
+row_gives name.Mod p Operands a = (((refl, refl, refl), refl), a)
+row_gives name.Rem p Operands a = (((refl, refl, refl), refl), a)
+row_gives name.Maxint p Operands a = (((refl, refl, refl), refl), a)
+row_gives name.Minint p Operands a = (((refl, refl, refl), refl), a)
+row_gives name.Char p Operands a = (((refl, refl, refl), refl), a)
+row_gives name.Rank p Operands a = (((refl, refl, refl), refl), a)
+row_gives name.Isochar p Operands a = (((refl, refl, refl), refl), a)
+row_gives name.Isorank p Operands a = (((refl, refl, refl), refl), a)
+row_gives name.Digit p Operands a = (((refl, refl, refl), refl), a)
+row_gives name.Letter p Operands a = (((refl, refl, refl), refl), a)
+row_gives name.Blanks p Operands a = (((refl, refl, refl), refl), a)
+row_gives name.Copy p Operands a = (((refl, refl, refl), refl), a)
+row_gives name.Upcase p Operands a = (((refl, refl, refl), refl), a)
+row_gives name.Lowcase p Operands a = (((refl, refl, refl), refl), a)
+row_gives name.Inimage p Operands a = (((refl, refl, refl), refl), a)
+row_gives name.Inchar p Operands a = (((refl, refl, refl), refl), a)
+row_gives name.Inint p Operands a = (((refl, refl, refl), refl), a)
+row_gives name.Intext p Operands a = (((refl, refl, refl), refl), a)
+row_gives name.Lastitem p Operands a = (((refl, refl, refl), refl), a)
+row_gives name.Endfile p Operands a = (((refl, refl, refl), refl), a)
+row_gives name.Outimage p Operands a = (((refl, refl, refl), refl), a)
+row_gives name.Outchar p Operands a = (((refl, refl, refl), refl), a)
+row_gives name.Outtext p Operands a = (((refl, refl, refl), refl), a)
+row_gives name.Outint p Operands a = (((refl, refl, refl), refl), a)
 row_gives name.Image p Operands a = (refl, a)
-row_gives name.Pos p Operands a = (((refl, refl), refl), [], refl, a)
-row_gives name.Setpos p Operands a = (((refl, refl), refl), kind.Integer ∷ [], refl, a)
-row_gives name.More p Operands a = (((refl, refl), refl), [], refl, a)
-row_gives name.Length p Operands a = (((refl, refl), refl), [], refl, a)
+row_gives name.Pos p Operands a = (((refl, refl, refl), refl), [], refl, a)
+row_gives name.Setpos p Operands a = (((refl, refl, refl), refl), kind.Integer ∷ [], refl, a)
+row_gives name.More p Operands a = (((refl, refl, refl), refl), [], refl, a)
+row_gives name.Length p Operands a = (((refl, refl, refl), refl), [], refl, a)
 row_gives name.Detach p Operands a = absurd (let f : Some Detaching ≡ None = p.1 in cc)
 row_gives name.Call p Operands a = absurd (let f : Some Calling ≡ None = p.1 in cc)
 row_gives name.Resume p Operands a = absurd (let f : Some Resuming ≡ None = p.1 in cc)
-row_gives _ p Operands a = absurd (false≢true p.0.0)
+row_gives _ p Operands a = absurd (false≢true p.0)
 
 pub standard_gives : (k : StandardName) → IsProcedure k → (Operands : List Kind → Type 0) → Operands (kinds_of (signature k)) → StandardGives (procedure_named k) Operands (given_by (signature k).result)
 standard_gives (found.Procedure x) p Operands a = row_gives x p Operands a
@@ -200,19 +196,19 @@ standard_gives _ p Operands a = absurd p
 -- what an attribute of texts gives
 row_of_text_gives : (x : Standard) → OfTexts (found.Procedure x) → (Object : Type 0) → Object → (Operands : List Kind → Type 0) → Operands (kinds_of (signature (found.Procedure x))) → AttributeGives (Some x) Object Operands (given_by (signature (found.Procedure x)).result)
 unfolding signature row_of
-row_of_text_gives name.TextConstant p Object t Operands a = (t, (((refl, refl), refl), [], refl, a))
-row_of_text_gives name.TextStart p Object t Operands a = (t, (((refl, refl), refl), [], refl, a))
-row_of_text_gives name.TextLength p Object t Operands a = (t, (((refl, refl), refl), [], refl, a))
-row_of_text_gives name.TextPos p Object t Operands a = (t, (((refl, refl), refl), [], refl, a))
-row_of_text_gives name.TextMore p Object t Operands a = (t, (((refl, refl), refl), [], refl, a))
-row_of_text_gives name.TextMain p Object t Operands a = (t, (((refl, refl), refl), [], refl, a))
-row_of_text_gives name.TextSetpos p Object t Operands a = (t, (((refl, refl), refl), kind.Integer ∷ [], refl, a))
-row_of_text_gives name.TextGetchar p Object t Operands a = (t, (((refl, refl), refl), [], refl, a))
-row_of_text_gives name.TextPutchar p Object t Operands a = (t, (((refl, refl), refl), kind.Character ∷ [], refl, a))
-row_of_text_gives name.TextSub p Object t Operands a = (t, (((refl, refl), refl), kind.Integer ∷ kind.Integer ∷ [], refl, a))
-row_of_text_gives name.TextStrip p Object t Operands a = (t, (((refl, refl), refl), [], refl, a))
-row_of_text_gives name.TextGetint p Object t Operands a = (t, (((refl, refl), refl), [], refl, a))
-row_of_text_gives name.TextPutint p Object t Operands a = (t, (((refl, refl), refl), kind.Integer ∷ [], refl, a))
+row_of_text_gives name.TextConstant p Object t Operands a = (t, (((refl, refl, refl), refl), [], refl, a))
+row_of_text_gives name.TextStart p Object t Operands a = (t, (((refl, refl, refl), refl), [], refl, a))
+row_of_text_gives name.TextLength p Object t Operands a = (t, (((refl, refl, refl), refl), [], refl, a))
+row_of_text_gives name.TextPos p Object t Operands a = (t, (((refl, refl, refl), refl), [], refl, a))
+row_of_text_gives name.TextMore p Object t Operands a = (t, (((refl, refl, refl), refl), [], refl, a))
+row_of_text_gives name.TextMain p Object t Operands a = (t, (((refl, refl, refl), refl), [], refl, a))
+row_of_text_gives name.TextSetpos p Object t Operands a = (t, (((refl, refl, refl), refl), kind.Integer ∷ [], refl, a))
+row_of_text_gives name.TextGetchar p Object t Operands a = (t, (((refl, refl, refl), refl), [], refl, a))
+row_of_text_gives name.TextPutchar p Object t Operands a = (t, (((refl, refl, refl), refl), kind.Character ∷ [], refl, a))
+row_of_text_gives name.TextSub p Object t Operands a = (t, (((refl, refl, refl), refl), kind.Integer ∷ kind.Integer ∷ [], refl, a))
+row_of_text_gives name.TextStrip p Object t Operands a = (t, (((refl, refl, refl), refl), [], refl, a))
+row_of_text_gives name.TextGetint p Object t Operands a = (t, (((refl, refl, refl), refl), [], refl, a))
+row_of_text_gives name.TextPutint p Object t Operands a = (t, (((refl, refl, refl), refl), kind.Integer ∷ [], refl, a))
 row_of_text_gives _ p Object t Operands a = absurd (false≢true p)
 
 pub attribute_gives : (k : StandardName) → OfTexts k → (Object : Type 0) → Object → (Operands : List Kind → Type 0) → Operands (kinds_of (signature k)) → AttributeGives (procedure_named k) Object Operands (given_by (signature k).result)
@@ -252,14 +248,14 @@ seen_second false b e = e
 
 pub alone_proper : (k : StandardName) → NoAttribute k → PlainGiven (signature k).result
 unfolding signature
-alone_proper (found.Procedure x) p = row_proper x (seen_first _ _ p.0)
+alone_proper (found.Procedure x) p = row_proper x (seen_first _ _ p)
 alone_proper found.Sysin p = tt
 alone_proper found.Sysout p = tt
 alone_proper (found.Prefix which) p = tt
 
 pub procedure_proper : (k : StandardName) → IsProcedure k → PlainGiven (signature k).result
 unfolding signature
-procedure_proper (found.Procedure x) p = row_proper x (seen_first _ _ p.0.0)
+procedure_proper (found.Procedure x) p = row_proper x (seen_first _ _ p.0)
 procedure_proper _ p = absurd p
 
 pub attribute_proper : (k : StandardName) → OfTexts k → PlainGiven (signature k).result
@@ -319,8 +315,8 @@ unfolding signature row_of
 resume_result = refl
 
 pub detach_alone : NoAttribute (found.Procedure name.Detach)
-unfolding row_of is_unbuilt_name
-detach_alone = (refl, refl)
+unfolding row_of
+detach_alone = refl
 
 -- `detach` is spelt so
 prefix_no_procedure : (o : Option StandardPrefix) (x : Standard) → prefix_or_none o ≡ Some (found.Procedure x) → ⊥

@@ -1,7 +1,6 @@
 -- No class is found through a connection: a class that is connected declares none.
-use Rattle.std.proofs.Common.{◌≡◌, ℕ, zero, suc, Bool, true, false, ◌||◌, List, [], ◌∷◌, ◌++◌, length, Option, Some, None, refl, sym, ap, ◌∙◌, subst, arith, if◌then◌else◌}
+use Rattle.std.proofs.Common.{◌≡◌, ℕ, Bool, true, false, List, [], ◌∷◌, ◌++◌, length, Option, Some, None, refl, sym, ap, ◌∙◌, subst, if◌then◌else◌}
 use Rattle.std.proofs.lemmas.Bool.{false≢true}
-use Rattle.std.proofs.lemmas.Bool.Decides.{nat_tests}
 use Rattle.std.specs.Prelude.{nat_eq}
 use Rattle.sim_base.specs.declared.numbering.DeclNo.{DeclNo}
 use Rattle.sim_base.specs.declared.rule.Rule.TheVariants as r
@@ -24,13 +23,12 @@ use Rattle.sim_scope.specs.Assignments.{fine, wrong}
 use Rattle.sim_scope.specs.Calls.{bound, occurs}
 use Rattle.sim_scope.specs.Expressions.{judge_side}
 use Rattle.sim_scope.specs.Judged.{gives, next, telling}
-use Rattle.sim_scope.specs.Levels.{base, class_block, has_classes, has_level, holds, holds_class, level_beyond, some_level_of}
+use Rattle.sim_scope.specs.Levels.{base, class_block, has_classes, has_level, holds_class, level_beyond, some_level_of}
 use Rattle.sim_scope.specs.References.{as_class, class_fits, class_named, declared_class}
 use Rattle.sim_scope.specs.Runs.{each}
 use Rattle.sim_scope.specs.Scopes.{binding, entry_of, found_in, if_found}
 use Rattle.sim_scope.specs.Source.{Source, block_of}
 use Rattle.sim_scope.specs.Statements.{arm_connected, arm_events, arm_fits, class_connected, connected_by, inspect_events, inspect_when_events, judging, needs_reference, type_connected, prefixed_events}
-use Rattle.sim_scope.specs.Tables.{Tables}
 use Rattle.sim_scope.specs.Walk.{arm_classes, arms_events, begin_of, block_events, class_events, declaration_events, declarations_events, program_events, statement_events, statements_events, whole_events}
 use Rattle.inspect_types.specs.Connecting.{Connecting, Connects, Looks, Names, class_of_name, class_of_type, connections}
 use Rattle.sim_meaning.specs.Attributes.{is_connection}
@@ -42,6 +40,7 @@ use Rattle.sim_agree.specs.TablesOf.{TablesOf}
 use Rattle.sim_agree.proofs.Connected.{AllMet, connects_met}
 use Rattle.sim_agree.proofs.ClassBlocks.{found_class_held}
 use Rattle.sim_allowed.proofs.Said.{AllSay, both_say, next_says}
+use Rattle.sim_allowed.proofs.Simulations.{some_holds}
 use Rattle.sim_allowed.proofs.Uses.{bound_is}
 
 -- ---- what the rules say of a class that is connected
@@ -115,7 +114,7 @@ mutual
   statement_checked s ClassBody (syntax.Compound b) p said = class_checked s b p said
   statement_checked s ClassStatement (syntax.Compound b) p said = block_checked s b p said
   statement_checked s Inside (syntax.Compound b) p said = block_checked s b p said
-  statement_checked s q (syntax.Prefixed x args b) p said = whole_checked s b p.2 (both_say s (prefixed_events s.tables x args (begin_of b)) (whole_events (judging s.tables) b) said).1
+  statement_checked s q (syntax.Prefixed x args b) p said = whole_checked s b p.1 (both_say s (prefixed_events s.tables x args (begin_of b)) (whole_events (judging s.tables) b) said).1
   statement_checked s q (syntax.Inner i) p said = tt
   statement_checked s q (syntax.Call e) p said = tt
   statement_checked s q (syntax.Assign e sides) p said = tt
@@ -138,7 +137,7 @@ mutual
       let x = both_say s (v.inspect_when i e (arm_classes arms)) (arms_events v arms ++ statements_events v Inside rest) said in
       let y = both_say s (arms_events v arms) (statements_events v Inside rest) x.1 in
       both_checked s (arms_events connections arms) (statements_events connections Inside rest) (arms_checked s i (judge_side s.tables extent.Statement e).value arms p.1 (when_says s i e (arm_classes arms) x.0) y.0) (statements_checked s Inside rest p.2 y.1)
-  statement_checked s q (syntax.Activate i word process schedule) p said = absurd p
+  statement_checked s q (syntax.Activate i word process schedule) p said = tt
 
   statements_checked : (s : Source) (q : Position) (ss : Statements) → PlainStatements ss → AllSay s (statements_events (judging s.tables) q ss) → Checked s (statements_events connections q ss)
   statements_checked s q NoStatement p said = tt
@@ -155,7 +154,7 @@ mutual
       let y = both_say s (statement_events v Inside a ++ []) (arms_events v more) said in
       let z = both_say s (statement_events v Inside a) [] y.0 in (
         named_fine s i object x w.0,
-        both_checked s (statement_events connections Inside a ++ []) (arms_events connections more) (both_checked s (statement_events connections Inside a) [] (statement_checked s Inside a p.1 z.0) tt) (arms_checked s i object more p.2 w.1 y.1),
+        both_checked s (statement_events connections Inside a ++ []) (arms_events connections more) (both_checked s (statement_events connections Inside a) [] (statement_checked s Inside a p.0 z.0) tt) (arms_checked s i object more p.1 w.1 y.1),
       )
 
   whole_checked : (s : Source) (b : Block) → PlainBlock b → AllSay s (whole_events (judging s.tables) b) → Checked s (whole_events connections b)
@@ -197,12 +196,12 @@ mutual
       let v = judging s.tables in
       let x = both_say s (v.procedure result i h) (statement_events v Inside a ++ []) said in
       let y = both_say s (statement_events v Inside a) [] x.1 in
-      both_checked s (statement_events connections Inside a) [] (statement_checked s Inside a p.2 y.0) tt
+      both_checked s (statement_events connections Inside a) [] (statement_checked s Inside a p.1 y.0) tt
   declaration_checked s (DeclareClass prefix i h interface a end) p said =
       let v = judging s.tables in
       let x = both_say s (v.class prefix i h interface) (statement_events v ClassBody a ++ []) said in
       let y = both_say s (statement_events v ClassBody a) [] x.1 in
-      both_checked s (statement_events connections ClassBody a) [] (statement_checked s ClassBody a p.3 y.0) tt
+      both_checked s (statement_events connections ClassBody a) [] (statement_checked s ClassBody a p.2 y.0) tt
 
 program_checked : (s : Source) → Plain s.program → AllSay s (program_events (judging s.tables) s.program) → Checked s (program_events connections s.program)
 unfolding program_events judging connections
@@ -217,21 +216,6 @@ connected_fine s of plain order said k c is e = connects_met s of plain order (F
 
 some_same : {A : Type 0} (a b : A) → Some a ≡ Some b → a ≡ b
 some_same a b e = cc
-
--- what holds of a level holds of some level
-some_holds : (s : Tables) (n k b : ℕ) (test : ℕ → Bool) → test b ≡ true → some_level_of s n (λ x. nat_eq x b) k ≡ true → some_level_of s n test k ≡ true
-unfolding some_level_of
-some_holds s zero k b test h e = absurd (cc)
-some_holds s (suc n) k b test h e = go (nat_eq k b) refl (base s k) e (λ c f. some_holds s n c b test h f)
-  where
-    or_true : (x y : Bool) → y ≡ true → (x || y) ≡ true
-    or_true true y f = refl
-    or_true false y f = f
-
-    go : (z : Bool) → nat_eq k b ≡ z → (o : Option ℕ) → (z || holds (λ x. some_level_of s n (λ x. nat_eq x b) x) o) ≡ true → ((c : ℕ) → some_level_of s n (λ x. nat_eq x b) c ≡ true → some_level_of s n test c ≡ true) → (test k || holds (λ x. some_level_of s n test x) o) ≡ true
-    go true is o f rest = let same : k ≡ b = grind (arith, nat_tests) in ap (λ z. z || holds (λ x. some_level_of s n test x) o) (ap test same ∙ h)
-    go false is None f rest = absurd (cc)
-    go false is (Some c) f rest = or_true (test k) _ (rest c f)
 
 pub outside : (s : Source) (of : TablesOf s) (plain : Plain s.program) (order : InOrder s.program) → TablesAgree s → AllSay s (program_events (judging s.tables) s.program)
     → (token found : ℕ) (name : List ℕ) (d : DeclNo) (k : ℕ) → binding s.tables token name ≡ Some (denotation.Declared d) → entry_of s.tables d ≡ Some (entry.Class k) → found_in s.tables token name ≡ Some found → is_connection (text s found) ≡ false

@@ -1,5 +1,5 @@
 -- Classes in expressions: behind `new`, `this`, `qua`, `is` and `in`.
-use Rattle.std.proofs.Common.{◌≡◌, ◌⊎◌, inl, inr, ℕ, Bool, true, false, length, Option, Some, None, refl, sym, ap, ◌∙◌, subst, arith, if◌then◌else◌}
+use Rattle.std.proofs.Common.{◌≡◌, ◌⊎◌, inl, inr, ℕ, List, Bool, true, false, length, Option, Some, None, refl, sym, ap, ◌∙◌, subst, arith, if◌then◌else◌}
 use Rattle.std.proofs.lemmas.Bool.{false≢true}
 use Rattle.std.proofs.lemmas.Bool.Decides.{nat_tests}
 use Rattle.std.specs.Prelude.{◌||◌, ◌&&◌, ◌+◌, nat_eq, not, slice_get}
@@ -21,10 +21,11 @@ use Rattle.sim_scope.specs.declared.types.SimType.TheVariants as t
 use Rattle.sim_scope.specs.Actuals.{formal_or_none, parameter_at, parameter_of}
 use Rattle.sim_scope.specs.Calls.{bound, misfitting_or, occurs}
 use Rattle.sim_scope.specs.Judged.{Judged, bars, gives, next, telling}
-use Rattle.sim_scope.specs.Levels.{class_block}
+use Rattle.sim_scope.specs.Building.{name_of}
+use Rattle.sim_scope.specs.Levels.{class_block, is_for_prefixing}
 use Rattle.sim_scope.specs.Operators.{is_reference}
 use Rattle.sim_scope.specs.Outcomes.{breaks, has}
-use Rattle.sim_scope.specs.References.{as_class, class_barred, class_compared, class_denoted, class_fits, class_named, class_type, class_value, declared_class, formal_count, formal_count_of, generated, generates, is_no_reference, is_only_prefix, member, new_object, new_of, new_of_class, no_class, only_prefix, other_chain, qualified, truth_of, wrong_number}
+use Rattle.sim_scope.specs.References.{as_class, class_barred, class_compared, class_denoted, class_fits, class_named, class_type, class_value, declared_class, formal_count, formal_count_of, generated, for_prefixing, generates, is_no_reference, is_only_prefix, member, new_object, new_of, new_of_class, no_class, only_prefix, other_chain, qualified, truth_of, wrong_number}
 use Rattle.sim_scope.specs.Scopes.{class_formals}
 use Rattle.sim_scope.specs.Source.{Source, denoted, type_at}
 use Rattle.sim_scope.specs.Standard.{is_standard_class}
@@ -35,9 +36,13 @@ use Rattle.sim_tree.specs.Syntax as syntax
 use Rattle.sim_values.specs.declared.kind.Kind.TheVariants as kind
 use Rattle.sim_meaning.specs.Closing.{class_parameters, is_text, is_text_type, result_meant, stream_of}
 use Rattle.sim_meaning.specs.Levels.{class_at, class_denoted as class_meant, class_text}
-use Rattle.sim_meaning.specs.Texts.{kind_of_type}
+use Rattle.sim_meaning.specs.Attributes.{is_bare_process}
+use Rattle.sim_meaning.specs.Texts.{BlockText, ClassText, ConnectionText, PrefixedText, ProcedureText, StandardText, Text, kind_of_type, text}
 use Rattle.sim_sound.specs.Held.{Fits, Holds, Place, Sees, Simply}
 use Rattle.sim_sound.specs.Expressions.{ClassNamed, ExprIs}
+use Rattle.sim_scope.specs.declared.types.StandardClass.TheVariants as standard_class
+use Rattle.sim_static.specs.UnbuiltNames.{is_unbuilt_name}
+use Rattle.sim_agree.specs.Plain.{PlainClass}
 use Rattle.sim_agree.specs.Facts.{IsClass, Tabled}
 use Rattle.sim_allowed.proofs.Actuals.{AllFit, all_formals, size}
 use Rattle.sim_allowed.proofs.Calls.{OperandIs}
@@ -216,8 +221,35 @@ module _ (s : Source) (known : Tabled s) (from : Place) (x : Extent) (a : Expres
 
 -- ---- `new`
 
+-- what is no class `process` itself
+made_of : (o : Option Text) → (o ≡ Some (StandardText standard_class.Process) → ⊥) → is_bare_process o ≡ false
+made_of (Some (StandardText standard_class.Process)) never = absurd (never refl)
+made_of (Some (StandardText standard_class.Linkage)) never = refl
+made_of (Some (StandardText standard_class.Link)) never = refl
+made_of (Some (StandardText standard_class.Head)) never = refl
+made_of (Some (BlockText i ds ss)) never = refl
+made_of (Some (ProcedureText result h a)) never = refl
+made_of (Some (ClassText before h ds ss)) never = refl
+made_of (Some ConnectionText) never = refl
+made_of (Some (PrefixedText class es ds ss)) never = refl
+made_of None never = refl
+
+-- `process` is not written behind `new`
+no_process : (name : List ℕ) → is_unbuilt_name name ≡ false → name ≡ name_of standard_class.Process → ⊥
+unfolding is_unbuilt_name
+no_process name plain same = false≢true (sym plain ∙ ap is_unbuilt_name same)
+
 module _ (s : Source) (known : Tabled s) (from : Place) (x : Extent) (class : Identifier) (o : Occurrence) (c : ClassIs s x class o) (sees : Sees s from c.declaration) (es : Expressions) (a : Actuals) (count : a.count ≡ size es) (typed : a.typed ≡ true)
-    (fits : a.misfit ≡ None → AllFit s from (Some (denotation.Declared c.declaration)) 0 es) where
+    (fits : a.misfit ≡ None → AllFit s from (Some (denotation.Declared c.declaration)) 0 es) (plain : PlainClass class) where
+  made : is_bare_process (text s c.class.block) ≡ false
+  made =
+      let b = c.found in
+      made_of (text s c.class.block) (λ at. no_process class.name plain (known.class_named class.token.0 class.name c.declaration c.class.block standard_class.Process (b.binds ∙ ap Some c.same) c.class.declares at))
+
+  single : is_only_prefix s.tables (denotation.Declared c.declaration) ≡ false → is_for_prefixing s.tables c.class.block ≡ false
+  unfolding is_only_prefix
+  single e = sym (ap (for_prefixing s.tables) (class_row s.tables c.declaration c.class.block c.class.declares)) ∙ e
+
   class_parameter : (i : ℕ) → parameter_at s.tables (Some (denotation.Declared c.declaration)) i ≡ formal_or_none (slice_get (class_parameters s (Some c.class.block)) i)
   unfolding parameter_at
   class_parameter i = ap (parameter_of s.tables c.declaration i) c.class.declares ∙ ap formal_or_none ((class_heading s known c.declaration c.class.block c.class.declares).places i)
@@ -231,16 +263,16 @@ module _ (s : Source) (known : Tabled s) (from : Place) (x : Extent) (class : Id
       d : Denotation
       d = denotation.Declared c.declaration
 
-      given : (b : Bool) → a.typed ≡ b → (m : Option Fault) → a.misfit ≡ m → nat_eq (formal_count s.tables d) a.count ≡ true → AllSay s (if b then misfitting_or m (generates i (class_type d)) else gives is.Refused).events
+      given : is_for_prefixing s.tables c.class.block ≡ false → (b : Bool) → a.typed ≡ b → (m : Option Fault) → a.misfit ≡ m → nat_eq (formal_count s.tables d) a.count ≡ true → AllSay s (if b then misfitting_or m (generates i (class_type d)) else gives is.Refused).events
           → Means true s from (syntax.New i class es) (if b then misfitting_or m (generates i (class_type d)) else gives is.Refused).value
-      given false is m fit same said = absurd (false≢true (sym is ∙ typed))
-      given true is (Some f) fit same said = absurd said.0
-      given true is None fit same said =
+      given alone false is m fit same said = absurd (false≢true (sym is ∙ typed))
+      given alone true is (Some f) fit same said = absurd said.0
+      given alone true is None fit same said =
           let head = class_heading s known c.declaration c.class.block c.class.declares in
           let counted : formal_count s.tables d ≡ length (class_formals s.tables c.class.block) = ap (formal_count_of s.tables) (class_row s.tables c.declaration c.class.block c.class.declares) in
           let number : formal_count s.tables d ≡ a.count = grind (arith, nat_tests) in
           let actuals = all_formals s from (Some d) 0 es (class_parameters s (Some c.class.block)) (λ j. (let zero_more : 0 + j ≡ j = omega arith in ap (parameter_at s.tables (Some d)) zero_more ∙ class_parameter j)) head.proper (sym count ∙ sym number ∙ counted ∙ head.count) (fits fit) in
-          let value : (h : Holds) → Takes s (t.Ref c.declaration) h → ExprIs s from (syntax.New i class es) h = λ h f. (record { declaration = c.declaration; denotes = class_says s x class o c; class = c.class.block; declares = c.class.declares; seen = sees; actuals = actuals }, subst (λ z. Fits s z h) (class_held s c.declaration c.class) f) in
+          let value : (h : Holds) → Takes s (t.Ref c.declaration) h → ExprIs s from (syntax.New i class es) h = λ h f. (record { declaration = c.declaration; denotes = class_says s x class o c; class = c.class.block; declares = c.class.declares; made = made; single = alone; seen = sees; actuals = actuals }, subst (λ z. Fits s z h) (class_held s c.declaration c.class) f) in
           (record { proper = c.class; texts = ap is_text_type said.0; stream = refl; typed = said.0; value = value }, value, refl)
 
       go : AllSay s (new_of s.tables i class.token.0 d false a).events → Means true s from (syntax.New i class es) (new_of s.tables i class.token.0 d false a).value
@@ -252,7 +284,7 @@ module _ (s : Source) (known : Tabled s) (from : Place) (x : Extent) (class : Id
           let barred : ((bars (wrong_number s.tables d a) class.token.0 r.WrongNumber).value || (bars (is_only_prefix s.tables d) class.token.0 r.OnlyForPrefixing).value || false) ≡ false =
           ap (λ z. z || (bars (is_only_prefix s.tables d) class.token.0 r.OnlyForPrefixing).value || false) k1.1 ∙ ap (λ z. z || false) k2.1 in
           subst (λ z. Means true s from (syntax.New i class es) (generated i d a z).value) (sym barred)
-          (given a.typed refl a.misfit refl (counted (nat_eq (formal_count s.tables d) a.count) refl k1.0) (subst (λ z. AllSay s (generated i d a z).events) barred second.1))
+          (given (single k2.0) a.typed refl a.misfit refl (counted (nat_eq (formal_count s.tables d) a.count) refl k1.0) (subst (λ z. AllSay s (generated i d a z).events) barred second.1))
         where
           counted : (b : Bool) → nat_eq (formal_count s.tables d) a.count ≡ b → (a.typed && not (nat_eq (formal_count s.tables d) a.count)) ≡ false → nat_eq (formal_count s.tables d) a.count ≡ true
           counted true is e = is

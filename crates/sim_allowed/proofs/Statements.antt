@@ -33,38 +33,41 @@ use Rattle.sim_scope.specs.Runs.{each}
 use Rattle.sim_scope.specs.References.{class_fits, class_named}
 use Rattle.sim_scope.specs.Scopes.{binding, entry_of, found_in}
 use Rattle.sim_scope.specs.Source.{Source, denoted, found_at, type_at}
-use Rattle.sim_scope.specs.Statements.{arm_connected, arm_events, arm_fits, assignment_events, call_alone, call_events, connected_by, control_events, controlled, element_events, entry_controlled, first_step, first_value, formal_controlled, inspect_events, inspect_when_events, integer_from, judging, moded_controlled, needs, needs_reference, reference_needed, required, simple, stands, starts, taken_by, told_unless, type_connected, type_needed, type_taken, variable_controlled, prefixed_events}
+use Rattle.sim_scope.specs.Statements.{activate_events, activates, arm_connected, arm_events, arm_fits, assignment_events, call_alone, call_events, connected_by, control_events, controlled, element_events, entry_controlled, first_step, first_value, formal_controlled, in_simulation, inspect_events, inspect_when_events, integer_from, judging, moded_controlled, needs, needs_reference, process_at, process_events, reference_needed, required, schedule_events, simple, stands, starts, taken_by, told_unless, type_activated, type_connected, type_needed, type_taken, variable_controlled, prefixed_events}
 use Rattle.sim_scope.specs.Walk.{arm_classes, arms_events, block_events, statement_events, statements_events, begin_of as first_token, whole_events}
 use Rattle.sim_tree.specs.declared.expr.Identifier.{Identifier}
 use Rattle.sim_tree.specs.declared.stmt.Assignment.{Assignment}
 use Rattle.sim_tree.specs.declared.stmt.Assignment.TheVariants as assignment
-use Rattle.sim_tree.specs.Syntax.{Also, Arms, Begin, Block, Element, Expression, Expressions, NoArm, NoDeclaration, NoMore, NoStatement, RightSide, Statement, Statements, When, With, first_of}
+use Rattle.sim_tree.specs.Syntax.{Also, Arms, Begin, Block, Element, Expression, Expressions, NoArm, NoDeclaration, NoMore, NoStatement, RightSide, Schedule, Statement, Statements, When, With, first_of}
+use Rattle.sim_tree.specs.declared.stmt.Activation.{Activation}
 use Rattle.sim_tree.specs.Syntax as syntax
 use Rattle.sim_values.specs.declared.kind.Kind.{Kind}
 use Rattle.sim_values.specs.declared.kind.Kind.TheVariants as kind
 use Rattle.sim_code.specs.Transfers.{Transfer}
 use Rattle.sim_meaning.specs.Attributes.{connection_at, own_attribute, transfer_at}
 use Rattle.sim_meaning.specs.Closing.{is_text, is_text_type, class_parameters}
-use Rattle.sim_meaning.specs.Constants.{arms_constants, block_constants, element_constants, elements_constants, expression_constants, right_constants, statement_constants, statements_constants, expressions_constants}
+use Rattle.sim_meaning.specs.Constants.{arms_constants, block_constants, element_constants, elements_constants, expression_constants, right_constants, schedule_constants, statement_constants, statements_constants, expressions_constants}
 use Rattle.sim_meaning.specs.Levels.{class_at, qualification}
 use Rattle.sim_meaning.specs.Texts.{kind_of_type}
 use Rattle.sim_sound.specs.Held.{Fits, Holds, In, Place, Refers, Simply, formal_holds, held_by, reference_to as holds_reference}
-use Rattle.sim_sound.specs.Expressions.{ActualsFit, AreIntegers, AreOf, DeclaredGives, ExprIs, HeldNames}
-use Rattle.sim_sound.specs.Statements.{ArmsAre, CallIs, CompoundIs, ControlIs, ElementIs, ElementsAre, LeftHeld, OrTransferIs, PlaceDeclared, PlaceIs, ReferenceAt, StatementIs, StatementsAre, TextLeft, TransferIs, PrefixedIs, is_given}
+use Rattle.sim_sound.specs.Expressions.{ActualsFit, AreIntegers, AreOf, ExprIs, HeldNames}
+use Rattle.sim_sound.specs.Statements.{ArmsAre, CallIs, CompoundIs, ControlIs, ElementIs, ElementsAre, LeftHeld, OrTransferIs, PlaceDeclared, PlaceIs, ReferenceAt, StatementIs, StatementsAre, TextLeft, TimingIs, TransferIs, PrefixedIs, is_given}
 use Rattle.sim_agree.specs.Facts.{PlainType, ProperEntry, ProperFormal, ProperType, Tabled}
-use Rattle.sim_agree.specs.Places.{PlacedArms, PlacedBlock, PlacedElement, PlacedExpression, PlacedName, PlacedSide, PlacedStatement, PlacedStatements, class_of_name, class_of_type, PlacedPrefixed}
-use Rattle.sim_agree.specs.Plain.{Each, PlainArms, PlainBlock, PlainElement, PlainExpression, PlainSide, PlainStatement, PlainStatements}
+use Rattle.sim_agree.specs.Places.{PlacedArms, PlacedBlock, PlacedElement, PlacedExpression, PlacedName, PlacedSchedule, PlacedSide, PlacedStatement, PlacedStatements, class_of_name, class_of_type, PlacedPrefixed}
+use Rattle.sim_agree.specs.Plain.{Each, PlainArms, PlainBlock, PlainElement, PlainExpression, PlainSchedule, PlainSide, PlainStatement, PlainStatements}
 use Rattle.sim_allowed.proofs.Actuals.{Known}
 use Rattle.sim_allowed.proofs.Assigned.{Assignable, TargetsKnown, lefts_are, place_is_left}
 use Rattle.sim_allowed.proofs.Calls.{called_means}
 use Rattle.sim_allowed.proofs.Classes.{class_held, class_qualifies, class_row, own_level, simply, simply_takes}
-use Rattle.sim_allowed.proofs.Declared.{NoResult, UseIs, formal_type, never_procedure, never_untyped, simple_held, variable_left, variable_names}
+use Rattle.sim_allowed.proofs.Declared.{NoResult, UseGives, UseIs, formal_type, never_procedure, never_untyped, simple_held, variable_left, variable_names}
 use Rattle.sim_allowed.proofs.Expressions.{AllThere, both_there, expression_known, operand, expressions_known}
 use Rattle.sim_allowed.proofs.Meant.{CallGiven, CallsFor, DotAs, Means, NamedAs, ValueIs}
 use Rattle.sim_allowed.proofs.Operators.{no_misfit, same_type}
 use Rattle.sim_allowed.proofs.References.{ClassIs, PrefixIs, class_means, class_meets, fits_refused}
 use Rattle.sim_allowed.proofs.Said.{AllSay, both_say, next_says}
-use Rattle.sim_allowed.proofs.Sights.{Sight, statement_sight}
+use Rattle.sim_allowed.proofs.Sights.{Sight, ThroughSeen, statement_sight}
+use Rattle.sim_allowed.proofs.Simulations.{either_attribute}
+use Rattle.sim_allowed.proofs.Activations.{simulation_is}
 use Rattle.sim_allowed.proofs.This.{extent_of}
 use Rattle.sim_allowed.proofs.Uses.{BoundIs, KnownHere, bound_is, known_here, named_use, own_declared}
 use Rattle.sim_meaning.specs.Statements.{begin_of, leaves}
@@ -259,14 +262,14 @@ module _ (s : Source) (known : Tabled s) (k : ℕ) (sight : Sight s (In k) exten
     abbrev Here : DeclNo → Type 0
     Here d = KnownHere s (In k) x.token.0 (connection_at s x.token.0) (own_attribute s x.token.0) d
 
-    module _ (d : DeclNo) (says : denoted s x.token.0 ≡ Some (denotation.Declared d)) (seen : Here d) where
+    module _ (d : DeclNo) (says : denoted s x.token.0 ≡ Some (denotation.Declared d)) (seen : Here d) (through : ThroughSeen s x.token.0 d) where
       use_is : UseIs s (In k) (syntax.Named x NoMore) x.token.0 d NoMore (Here d)
-      use_is = named_use s (In k) x NoMore d says
+      use_is = named_use s (In k) x NoMore d says (either_attribute s known d) through
 
       -- a variable, which holds what its type does
       assigns : (e : Entry) → entry_of s.tables d ≡ Some e → NoResult (Some e) NoMore → (ty : SimType) → ProperType s ty
           → PlaceDeclared s (Here d) NoMore (AreIntegers s (In k) NoMore) (Some e) (held_by s ty)
-          → ((h : Holds) → Fits s (held_by s ty) h → DeclaredGives s (Here d) d NoMore (AreIntegers s (In k) NoMore) (λ fs. ActualsFit s (In k) NoMore fs) (Some e) (Some h))
+          → ((h : Holds) → Fits s (held_by s ty) h → UseGives s (Here d) d NoMore (AreIntegers s (In k) NoMore) (λ fs. ActualsFit s (In k) NoMore fs) (Some e) (Some h))
           → type_at s x.token.0 ≡ Some ty → Assignable s k (syntax.Named x NoMore) ty
       assigns e there none ty p a g typed =
           let it = use_is in
@@ -277,7 +280,7 @@ module _ (s : Source) (known : Tabled s) (k : ℕ) (sight : Sight s (In k) exten
             typed = typed;
             left = place_is_left s k (syntax.Named x NoMore) (held_by s ty) place;
             text = λ is. subst (λ z. TextLeft s k (syntax.Named x NoMore) z) (sym own)
-                (it.value (Simply kind.Text) (subst (λ z. DeclaredGives s (Here d) d NoMore (AreIntegers s (In k) NoMore) (λ fs. ActualsFit s (In k) NoMore fs) z (Some (Simply kind.Text))) (sym there)
+                (it.value (Simply kind.Text) (subst (λ z. UseGives s (Here d) d NoMore (AreIntegers s (In k) NoMore) (λ fs. ActualsFit s (In k) NoMore fs) z (Some (Simply kind.Text))) (sym there)
                 (g (Simply kind.Text) (subst (λ z. Fits s (held_by s z) (Simply kind.Text)) (sym is) refl))));
             reference = λ c is class held. subst (λ z. ReferenceAt s k (syntax.Named x NoMore) z class) (sym own) (subst (λ z. PlaceIs s k (syntax.Named x NoMore) z) (ap (held_by s) is ∙ held) place);
           }
@@ -319,7 +322,7 @@ module _ (s : Source) (known : Tabled s) (k : ℕ) (sight : Sight s (In k) exten
             let both = sight x.token.0 x.name d placed binds open_to found in
             let here = known_here s (In k) x.token.0 d (connection_at s x.token.0) (own_attribute s x.token.0) (own_declared s x.token.0 d says) both.0 both.1 in
             subst (λ z. ControlledIs s k sign x (entry_controlled sign x.token.0 z).value) (sym there.1)
-            (entry_is d says here there.0 there.1 (known.proper d there.0 there.1) (subst (λ z. AllSay s (entry_controlled sign x.token.0 z).events) there.1 said))
+            (entry_is d says here both.2 there.0 there.1 (known.proper d there.0 there.1) (subst (λ z. AllSay s (entry_controlled sign x.token.0 z).events) there.1 said))
         denotes (denotation.Standard name) says binds open_to found said = absurd said.0
 
         go : (o : Occurrence) → BoundIs s extent.Statement x o → AllSay s (simple s.tables sign x.token.0 o.denotes).events → ControlledIs s k sign x (simple s.tables sign x.token.0 o.denotes).value
@@ -469,6 +472,45 @@ module _ (s : Source) (known : Tabled s) (k : ℕ) (sight : Sight s (In k) exten
   unfolding inspect_when_events
   inspect_when_parts token e classes said = both_say s (next (judge_side s.tables extent.Statement e) needs_reference).events (each (arm_events s.tables token (judge_side s.tables extent.Statement e).value) classes) said
 
+  -- ---- activations
+
+  -- a process is a reference
+  activated : (process : DeclNo) (x : Side) (ty : SimType) → x.ty ≡ Some ty → AllSay s (activates s.tables (Some process) x).events → kind_of_type ty ≡ kind.Reference
+  unfolding activates wrong telling
+  activated process x ty is said = go (misfit_of s.tables (t.Ref process) ty) refl (subst (λ z. AllSay s (type_activated s.tables (Some process) x z).events) is said)
+    where
+      go : (m : Option Rule) → misfit_of s.tables (t.Ref process) ty ≡ m → AllSay s (told_unless x.first.0 m).events → kind_of_type ty ≡ kind.Reference
+      go None same said = no_misfit s.tables (t.Ref process) ty same
+      go (Some rule) same said = absurd said.0
+
+  process_is : (process : DeclNo) (e : Expression) → PlainExpression e → PlacedExpression s.tables k e → AllThere s (expression_constants e) → AllSay s (process_events s.tables (Some process) e) → ExprIs s (In k) e (Simply kind.Reference)
+  unfolding process_events
+  process_is process e p l there said =
+      let parts = next_says s (judge_side s.tables extent.Statement e) (activates s.tables (Some process)) said in
+      let v = operand s known (In k) sight e (in_statement e p l there) parts.0 in
+      subst (λ z. ExprIs s (In k) e (Simply z)) (activated process (judge_side s.tables extent.Statement e).value v.ty v.is parts.1) (simply s (In k) e v.ty v.value)
+
+  timing_is : (process : DeclNo) (x : Schedule) → PlainSchedule x → PlacedSchedule s.tables k x → AllThere s (schedule_constants x) → AllSay s (schedule_events s.tables (Some process) x) → TimingIs s k x
+  timing_is process syntax.Now p l there said = tt
+  timing_is process (syntax.At i e prior) p l there said = wanted_is t.Integer tt e p l there said
+  timing_is process (syntax.Delay i e prior) p l there said = wanted_is t.Integer tt e p l there said
+  timing_is process (syntax.Before i e) p l there said = process_is process e p l there said
+  timing_is process (syntax.After i e) p l there said = process_is process e p l there said
+
+  activation_typed : (i : ℕ) (word : Activation) (e : Expression) (schedule : Schedule) → PlainStatement (syntax.Activate i word e schedule) → PlacedStatement s k (syntax.Activate i word e schedule) → AllThere s (statement_constants (syntax.Activate i word e schedule))
+      → AllSay s (activate_events s.tables i e schedule) → StatementIs s k (syntax.Activate i word e schedule)
+  unfolding activate_events
+  activation_typed i word e schedule p l there said =
+      let b = both_there s (expression_constants e) (schedule_constants schedule) there in
+      go (process_at s.tables i) refl b.0 b.1 (both_say s (in_simulation i (process_at s.tables i)) (process_events s.tables (process_at s.tables i) e ++ schedule_events s.tables (process_at s.tables i) schedule) said)
+    where
+      go : (o : Option DeclNo) → process_at s.tables i ≡ o → AllThere s (expression_constants e) → AllThere s (schedule_constants schedule) → AllSay s (in_simulation i o) × AllSay s (process_events s.tables o e ++ schedule_events s.tables o schedule)
+          → StatementIs s k (syntax.Activate i word e schedule)
+      go None at first second parts = absurd parts.0.0
+      go (Some process) at first second parts =
+          let more = both_say s (process_events s.tables (Some process) e) (schedule_events s.tables (Some process) schedule) parts.1 in
+          (simulation_is s known k i process l.0 at, process_is process e p.0 l.1 first more.0, timing_is process schedule p.1 l.2 second more.1)
+
 -- ---- each statement of a text, and of the connections in it
 
 -- it is not the body of a class
@@ -539,10 +581,10 @@ module _ (s : Source) (known : Tabled s) where
     statement_typed k q (syntax.Prefixed class es b) c p l there said =
         let t = both_there s (expressions_constants es) (block_constants b) there in
         let placed = l.1 in
-        let actuals = prefix_fits s known k class es (first_token b) placed.number placed.around (known.block_prefixes placed.number placed.class placed.arguments placed.declarations placed.statements placed.is) (expressions_known s known (In k) (statement_sight s known k) es p.1 l.0 t.0)
+        let actuals = prefix_fits s known k class es (first_token b) placed.number placed.around (known.block_prefixes placed.number placed.class placed.arguments placed.declarations placed.statements placed.is) (expressions_known s known (In k) (statement_sight s known k) es p.0 l.0 t.0)
         (both_say s (prefixed_events s.tables class es (first_token b)) (whole_events (judging s.tables) b) said).0 in
         block_there k es b placed actuals
-    statement_typed k q (syntax.Activate i word e schedule) c p l there said = absurd p
+    statement_typed k q (syntax.Activate i word e schedule) c p l there said = activation_typed s known k (statement_sight s known k) i word e schedule p l there said
 
     block_there : (k : ℕ) (es : Expressions) (b : Block) → (l : PlacedPrefixed s k (first_token b)) → ActualsFit s (In k) es (class_parameters s (Some l.number)) → PrefixedIs s k (begin_of b) (λ fs. ActualsFit s (In k) es fs)
     block_there k es (Begin i ds ss end) l fit = record { number = l.number; around = l.around; stands_in = l.stands_in; class = l.class; arguments = l.arguments; declarations = l.declarations; statements = l.statements; is = l.is; actuals = fit }
@@ -557,7 +599,7 @@ module _ (s : Source) (known : Tabled s) where
         let inside = both_say s (statement_events v Inside a) [] parts.0 in
         let connection = l.0 in
         let c = arm_is s known k (statement_sight s known k) token x class first.0 in
-        (connection.connection, c.0, c.1, connection.connects ∙ c.2, statement_typed connection.connection.number Inside a tt p.1 l.1 b.0 inside.0, arms_typed k token x more p.2 l.2 b.1 first.1 parts.1)
+        (connection.connection, c.0, c.1, connection.connects ∙ c.2, statement_typed connection.connection.number Inside a tt p.0 l.1 b.0 inside.0, arms_typed k token x more p.1 l.2 b.1 first.1 parts.1)
 
     pub statements_typed : (k : ℕ) (q : Position) (ss : Statements) → NoBody q → PlainStatements ss → PlacedStatements s k ss → AllThere s (statements_constants ss) → AllSay s (statements_events (judging s.tables) q ss) → StatementsAre s k ss
     statements_typed k q NoStatement c p l there said = tt

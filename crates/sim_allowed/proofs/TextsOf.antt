@@ -4,6 +4,8 @@ use Rattle.std.proofs.lemmas.Bool.Decides.{nat_tests}
 use Rattle.std.specs.Prelude.{◌==◌, slice_get}
 use Rattle.sim_scope.specs.declared.types.Position.{Position}
 use Rattle.sim_scope.specs.declared.types.Position.TheVariants.{ClassBody, ClassStatement, Inside}
+use Rattle.sim_scope.specs.declared.types.StandardPrefix.{StandardPrefix}
+use Rattle.sim_scope.specs.declared.types.StandardPrefix.TheVariants as prefixes
 use Rattle.sim_scope.specs.Found.{Event}
 use Rattle.sim_scope.specs.Source.{Source}
 use Rattle.sim_scope.specs.Statements.{judging, prefixed_events}
@@ -17,11 +19,11 @@ use Rattle.sim_values.specs.Plain.{Plain as Value, kind_of}
 use Rattle.sim_code.specs.Rows.{text_value}
 use Rattle.sim_meaning.specs.Constants.{TextConstant, arms_constants, block_constants, constant_from, declaration_constants, declarations_constants, elements_constants, expression_constants, prefix_constants, statement_constants, statements_constants, text_constant, text_constants, expressions_constants}
 use Rattle.sim_meaning.specs.Texts.{BlockText, ClassText, ConnectionText, ProcedureText, StandardText, Text, arms_texts, block_texts, declaration_texts, declarations_texts, prefix_texts, program_texts, statement_texts, statements_texts, text, PrefixedText, prefixed_texts}
-use Rattle.sim_agree.specs.Plain.{Plain, PlainArms, PlainBlock, PlainDeclaration, PlainDeclarations, PlainStatement, PlainStart, PlainStatements, PlainPrefix, PlainName}
+use Rattle.sim_agree.specs.Plain.{Plain, PlainArms, PlainBlock, PlainDeclaration, PlainDeclarations, PlainStatement, PlainStatements}
 use Rattle.sim_allowed.proofs.Expressions.{AllThere, IsThere, both_there}
 use Rattle.sim_allowed.proofs.Said.{AllSay, both_say}
 use Rattle.sim_allowed.proofs.Statements.{InClass, NoBody, in_class}
-use Rattle.sim_agree.proofs.PlainNames.{behind_prefix}
+use Rattle.sim_agree.proofs.StandardPrefixes.{behind_prefix, brought_texts}
 
 -- what is known of a text: it is plain, its text constants are there, and its events are as the source says
 abbrev pub StatementFine : Source → Statement → Type 0
@@ -48,8 +50,12 @@ both_fine s [] ys a b = b
 both_fine s (x ∷ xs) ys a b = (a.0, both_fine s xs ys a.1 b)
 
 -- and so are the texts that a prefix brings
-behind_fine : (s : Source) (prefix : Option Identifier) → PlainPrefix prefix → (xs : List Text) → AllFine s xs → AllFine s (prefix_texts prefix ++ xs)
-behind_fine s prefix w xs a = behind_prefix (AllFine s) prefix w xs a (tt, (tt, (tt, a)))
+brought_fine : (s : Source) (p : StandardPrefix) (xs : List Text) → AllFine s xs → AllFine s (brought_texts p ++ xs)
+brought_fine s prefixes.Simset xs a = (tt, (tt, (tt, a)))
+brought_fine s prefixes.Simulation xs a = (tt, (tt, (tt, (tt, a))))
+
+behind_fine : (s : Source) (prefix : Option Identifier) (xs : List Text) → AllFine s xs → AllFine s (prefix_texts prefix ++ xs)
+behind_fine s prefix xs a = behind_prefix (AllFine s) prefix xs a (λ p. brought_fine s p xs a)
 
 -- where a statement stands makes no difference to what is told of it, but for the body of a class
 body_events : (s : Source) (a : Statement) → InClass ClassBody a → statement_events (judging s.tables) ClassBody a ≡ statement_events (judging s.tables) ClassStatement a
@@ -76,11 +82,11 @@ all_say_none s [] a = tt
 all_say_none s (x ∷ xs) a = (a.0, all_say_none s xs a.1)
 
 -- a class whose body is no block
-alone_fine : (s : Source) (prefix : Option Identifier) (h : Heading) (a : Statement) → PlainPrefix prefix → InClass ClassBody a → PlainStatement a → FilledStatement a → AllThere s (statement_constants a) → AllSay s (statement_events (judging s.tables) ClassBody a)
+alone_fine : (s : Source) (prefix : Option Identifier) (h : Heading) (a : Statement) → InClass ClassBody a → PlainStatement a → FilledStatement a → AllThere s (statement_constants a) → AllSay s (statement_events (judging s.tables) ClassBody a)
     → AllFine s (statement_texts a) → AllFine s (ClassText prefix h NoDeclaration (Also a NoStatement) ∷ (prefix_texts prefix ++ statement_texts a))
-alone_fine s prefix h a w c p q there said all = (
+alone_fine s prefix h a c p q there said all = (
   ((tt, tt, tt), ((p, tt), all_none s (statement_constants a) there, all_say_none s (statement_events (judging s.tables) ClassStatement a) (subst (λ z. AllSay s z) (body_events s a c) said)), tt),
-  behind_fine s prefix w (statement_texts a) all,
+  behind_fine s prefix (statement_texts a) all,
 )
 
 alone_texts : (prefix : Option Identifier) (a : Statement) → InClass ClassBody a → (i : ℕ) (h : Heading) (interface : Interface) (end : ℕ)
@@ -106,7 +112,7 @@ class_alone_fine s prefix i h interface a end c p q there said deep =
     let v = judging s.tables in
     let x = both_say s (v.class prefix i h interface) (statement_events v ClassBody a ++ v.leave end) said in
     let y = both_say s (statement_events v ClassBody a) (v.leave end) x.1 in
-    subst (λ z. AllFine s z) (sym (alone_texts prefix a c i h interface end)) (alone_fine s prefix h a p.0 c p.3 q there y.0 (deep p.3 q there y.0))
+    subst (λ z. AllFine s z) (sym (alone_texts prefix a c i h interface end)) (alone_fine s prefix h a c p.2 q there y.0 (deep p.2 q there y.0))
 
 mutual
   unfolding judging
@@ -152,8 +158,8 @@ mutual
       both_fine s (arms_texts arms) (statements_texts other) (arms_fine s arms p.1 f.0 j.0 y.0) (statements_fine s Inside other tt p.2 f.1 j.1 y.1)
   statement_fine s q (syntax.Prefixed class es b) c p f there said =
       let h = both_there s (expressions_constants es) (block_constants b) there in
-      prefixed_fine s class es b p.0 p.2 f h.1 (both_say s (prefixed_events s.tables class es (begin_of b)) (whole_events (judging s.tables) b) said).1
-  statement_fine s q (syntax.Activate i word e schedule) c p f there said = absurd p
+      prefixed_fine s class es b p.1 f h.1 (both_say s (prefixed_events s.tables class es (begin_of b)) (whole_events (judging s.tables) b) said).1
+  statement_fine s q (syntax.Activate i word e schedule) c p f there said = tt
 
   arms_fine : (s : Source) (arms : Arms) → PlainArms arms → FilledArms arms → AllThere s (arms_constants arms) → AllSay s (arms_events (judging s.tables) arms) → AllFine s (arms_texts arms)
   arms_fine s NoArm p f there said = tt
@@ -162,7 +168,7 @@ mutual
       let h = both_there s (statement_constants a) (arms_constants more) there in
       let x = both_say s (statement_events v Inside a ++ []) (arms_events v more) said in
       let y = both_say s (statement_events v Inside a) [] x.0 in
-      (tt, both_fine s (statement_texts a) (arms_texts more) (statement_fine s Inside a tt p.1 f.0 h.0 y.0) (arms_fine s more p.2 f.1 h.1 x.1))
+      (tt, both_fine s (statement_texts a) (arms_texts more) (statement_fine s Inside a tt p.0 f.0 h.0 y.0) (arms_fine s more p.1 f.1 h.1 x.1))
 
   statements_fine : (s : Source) (q : Position) (ss : Statements) → NoBody q → PlainStatements ss → FilledStatements ss → AllThere s (statements_constants ss) → AllSay s (statements_events (judging s.tables) q ss) → AllFine s (statements_texts ss)
   statements_fine s q NoStatement c p f there said = tt
@@ -172,14 +178,14 @@ mutual
       let x = both_say s (statement_events v q a) (statements_events v q more) said in
       both_fine s (statement_texts a) (statements_texts more) (statement_fine s q a (in_class q a c) p.0 f.0 h.0 x.0) (statements_fine s q more c p.1 f.1 h.1 x.1)
 
-  prefixed_fine : (s : Source) (class : Identifier) (es : Expressions) (b : Block) → PlainName class → PlainBlock b → FilledBlock b → AllThere s (block_constants b) → AllSay s (whole_events (judging s.tables) b) → AllFine s (prefixed_texts class es b)
-  prefixed_fine s class es (Begin i ds ss end) w p q there said =
+  prefixed_fine : (s : Source) (class : Identifier) (es : Expressions) (b : Block) → PlainBlock b → FilledBlock b → AllThere s (block_constants b) → AllSay s (whole_events (judging s.tables) b) → AllFine s (prefixed_texts class es b)
+  prefixed_fine s class es (Begin i ds ss end) p q there said =
       let v = judging s.tables in
       let c = both_there s (declarations_constants ds) (statements_constants ss) there in
       let x = both_say s (declarations_events v ds) (statements_events v Inside ss ++ v.leave end) said in
       let y = both_say s (statements_events v Inside ss) (v.leave end) x.1 in (
         ((p.0, c.0, x.0), (p.1, c.1, y.0), q.0),
-        behind_fine s (Some class) w (declarations_texts ds ++ statements_texts ss) (both_fine s (declarations_texts ds) (statements_texts ss) (declarations_fine s ds p.0 q.0 c.0 x.0) (statements_fine s Inside ss tt p.1 q.1 c.1 y.0)),
+        behind_fine s (Some class) (declarations_texts ds ++ statements_texts ss) (both_fine s (declarations_texts ds) (statements_texts ss) (declarations_fine s ds p.0 q.0 c.0 x.0) (statements_fine s Inside ss tt p.1 q.1 c.1 y.0)),
       )
 
   block_fine : (s : Source) (b : Block) → PlainBlock b → FilledBlock b → AllThere s (block_constants b) → AllSay s (block_events (judging s.tables) b) → AllFine s (block_texts b)
@@ -212,23 +218,23 @@ mutual
       let v = judging s.tables in
       let x = both_say s (v.procedure result i h) (statement_events v Inside a ++ v.leave end) said in
       let y = both_say s (statement_events v Inside a) (v.leave end) x.1 in
-      ((p.2, there, y.0), statement_fine s Inside a tt p.2 q there y.0)
+      ((p.1, there, y.0), statement_fine s Inside a tt p.1 q there y.0)
   declaration_fine s (DeclareClass prefix i h interface (syntax.Compound b) end) p q there said =
       let v = judging s.tables in
       let x = both_say s (v.class prefix i h interface) (class_events v b ++ v.leave end) said in
       let y = both_say s (class_events v b) (v.leave end) x.1 in
-      class_fine s prefix p.0 i h interface b end p.3 q there y.0
+      class_fine s prefix i h interface b end p.2 q there y.0
   declaration_fine s (DeclareClass prefix i h interface a end) p q there said = class_alone_fine s prefix i h interface a end tt p q there said (λ c d t say. statement_fine s ClassBody a tt c d t say)
 
   -- a class whose body is a block
-  class_fine : (s : Source) (prefix : Option Identifier) → PlainPrefix prefix → (i : ℕ) (h : Heading) (interface : Interface) (b : Block) (end : ℕ) → PlainBlock b → FilledBlock b → AllThere s (block_constants b) → AllSay s (class_events (judging s.tables) b)
+  class_fine : (s : Source) (prefix : Option Identifier) (i : ℕ) (h : Heading) (interface : Interface) (b : Block) (end : ℕ) → PlainBlock b → FilledBlock b → AllThere s (block_constants b) → AllSay s (class_events (judging s.tables) b)
       → AllFine s (declaration_texts (DeclareClass prefix i h interface (syntax.Compound b) end))
-  class_fine s prefix w i h interface (Begin j ds ss e) end p q there said =
+  class_fine s prefix i h interface (Begin j ds ss e) end p q there said =
       let v = judging s.tables in
       let c = both_there s (declarations_constants ds) (statements_constants ss) there in
       let x = both_say s (declarations_events v ds) (statements_events v ClassStatement ss) said in (
         ((p.0, c.0, x.0), (p.1, c.1, x.1), q.0),
-        behind_fine s prefix w (declarations_texts ds ++ statements_texts ss) (both_fine s (declarations_texts ds) (statements_texts ss) (declarations_fine s ds p.0 q.0 c.0 x.0) (statements_fine s ClassStatement ss tt p.1 q.1 c.1 x.1)),
+        behind_fine s prefix (declarations_texts ds ++ statements_texts ss) (both_fine s (declarations_texts ds) (statements_texts ss) (declarations_fine s ds p.0 q.0 c.0 x.0) (statements_fine s ClassStatement ss tt p.1 q.1 c.1 x.1)),
       )
 
 program_fine : (s : Source) (b : Block) → PlainBlock b → FilledBlock b → AllThere s (block_constants b) → AllSay s (whole_events (judging s.tables) b) → AllFine s (program_texts None b)
@@ -239,9 +245,9 @@ program_fine s (Begin i ds ss end) p q there said =
     let y = both_say s (statements_events v Inside ss) (v.leave end) x.1 in
     (((p.0, h.0, x.0), (p.1, h.1, y.0), q.0), both_fine s (declarations_texts ds) (statements_texts ss) (declarations_fine s ds p.0 q.0 h.0 x.0) (statements_fine s Inside ss tt p.1 q.1 h.1 y.0))
 
-start_fine : (s : Source) (o : Option Prefix) (b : Block) → PlainStart o → PlainBlock b → FilledBlock b → AllThere s (block_constants b) → AllSay s (whole_events (judging s.tables) b) → AllFine s (program_texts o b)
-start_fine s None b w p q there said = program_fine s b p q there said
-start_fine s (Some x) (Begin i ds ss end) w p q there said = prefixed_fine s x.class x.arguments (Begin i ds ss end) w.0 p q there said
+start_fine : (s : Source) (o : Option Prefix) (b : Block) → PlainBlock b → FilledBlock b → AllThere s (block_constants b) → AllSay s (whole_events (judging s.tables) b) → AllFine s (program_texts o b)
+start_fine s None b p q there said = program_fine s b p q there said
+start_fine s (Some x) (Begin i ds ss end) p q there said = prefixed_fine s x.class x.arguments (Begin i ds ss end) p q there said
 
 fine_at : (s : Source) (xs : List Text) (k : ℕ) (x : Text) → AllFine s xs → slice_get xs k ≡ Some x → TextFine s x
 fine_at s [] k x a e = absurd (cc)
@@ -255,7 +261,7 @@ text_fine s p q there said k x e =
     let b = s.program.block in
     let c = both_there s (prefix_constants s.program.prefix) (block_constants b) there in
     let y = both_say s (v.program s.program.prefix (begin_of b)) (whole_events v b) said in
-    fine_at s (program_texts s.program.prefix b) k x (start_fine s s.program.prefix b p.start p.block q c.1 y.1) e
+    fine_at s (program_texts s.program.prefix b) k x (start_fine s s.program.prefix b p.block q c.1 y.1) e
 
 -- ---- text constants
 

@@ -2,6 +2,7 @@
 use Rattle.std.proofs.Common.{Bool, List, None, Option, Some, [], arith, false, if◌then◌else◌, refl, true, ℕ, ◌++◌, ◌+◌, ◌<◌, ◌∷◌, ◌≡◌, ◌≤◌}
 use Rattle.std.proofs.lemmas.Bool.Decides.{nat_tests}
 use Rattle.std.specs.Prelude.{nat_eq}
+use Rattle.sim_base.specs.declared.numbering.DeclNo.{DeclNo}
 use Rattle.sim_base.specs.declared.rule.Rule.{Rule}
 use Rattle.sim_base.specs.declared.rule.Rule.TheVariants as r
 use Rattle.sim_scope.specs.declared.outcome.Extent.TheVariants as extent
@@ -28,7 +29,7 @@ use Rattle.sim_scope.specs.Runs.{each}
 use Rattle.sim_scope.specs.Levels.{class_block, has_classes}
 use Rattle.sim_scope.specs.References.{block_of_class, class_fits, class_named, formal_count}
 use Rattle.sim_scope.specs.Scopes.{binding, entry_of, found_in}
-use Rattle.sim_scope.specs.Statements.{arm_connected, arm_events, arm_fits, array_events, class_connected, class_events, class_prefix_events, class_used, connected_by, constant_token, constant_type, control_events, controlled, element_events, entry_controlled, first_step, first_value, formal_controlled, has_type, inspect_events, inspect_when_events, integer_from, judging, moded_controlled, needs_reference, not_simple, pair_events, program_prefix_events, reference_needed, required, result_events, simple, starts, taken_by, told_unless, type_connected, type_events, type_taken, value_fits, value_type, variable_controlled, variable_events, prefix_at, prefix_used, prefix_applied, prefixed_events, prefixed_with}
+use Rattle.sim_scope.specs.Statements.{activate_events, activates, arm_connected, arm_events, arm_fits, array_events, class_connected, class_events, class_prefix_events, class_used, connected_by, constant_token, constant_type, control_events, controlled, element_events, entry_controlled, first_step, first_value, formal_controlled, has_type, in_simulation, inspect_events, inspect_when_events, integer_from, judging, moded_controlled, needs_reference, not_simple, pair_events, process_at, process_events, program_prefix_events, reference_needed, required, result_events, schedule_events, simple, starts, taken_by, told_unless, type_activated, type_connected, type_events, type_taken, value_fits, value_type, variable_controlled, variable_events, prefix_at, prefix_used, prefix_applied, prefixed_events, prefixed_with}
 use Rattle.sim_scope.specs.Tables.{Tables}
 use Rattle.sim_scope.specs.Walk.{begin_of, arm_classes, arms_events, block_events, class_events as class_body_events, declaration_events, declarations_events, program_events, statement_events, statements_events, whole_events}
 use Rattle.sim_tree.specs.declared.expr.Identifier.{Identifier}
@@ -37,8 +38,8 @@ use Rattle.sim_tree.specs.declared.stmt.Constant.{Constant}
 use Rattle.sim_tree.specs.declared.stmt.TypeName.{TypeName}
 use Rattle.sim_tree.specs.declared.stmt.TypeName.TheVariants as type_name
 use Rattle.sim_tree.specs.declared.stmt.Variable.{Variable}
-use Rattle.sim_tree.specs.Order.{Ascends, Behind, Spot, Token, in_block, in_arms, in_bounds, in_declaration, in_declarations, in_each, in_element, in_expression, in_name, in_result, in_segment, in_statement, in_statements, in_type, in_variable, in_prefix, tokens}
-use Rattle.sim_tree.specs.Syntax.{Also, Arms, Arrayed, Arrays, Begin, Block, BoundPair, Declaration, Declarations, DeclareClass, DeclareProcedure, Element, Expression, Heading, NoArm, NoDeclaration, NoStatement, Prefix, Program, Statement, Statements, Variables, When, With, Expressions}
+use Rattle.sim_tree.specs.Order.{Ascends, Behind, Spot, Token, in_block, in_arms, in_bounds, in_declaration, in_declarations, in_each, in_element, in_expression, in_name, in_result, in_schedule, in_segment, in_statement, in_statements, in_type, in_variable, in_prefix, tokens}
+use Rattle.sim_tree.specs.Syntax.{Also, Arms, Arrayed, Arrays, Begin, Block, BoundPair, Declaration, Declarations, DeclareClass, DeclareProcedure, Element, Expression, Heading, NoArm, NoDeclaration, NoStatement, Prefix, Program, Schedule, Statement, Statements, Variables, When, With, Expressions}
 use Rattle.sim_tree.specs.Syntax as syntax
 use Rattle.sim_agree.specs.Plain.{Plain, PlainArms, PlainBlock, PlainDeclaration, PlainDeclarations, PlainStatement, PlainStatements}
 use Rattle.sim_allowed.proofs.Counts.{About, Binding, Silent, Typing, binding_then_silent, bound_binds, class_binds, class_fits_silent, here, silent_break, silent_next, silent_none, told, told_both, typing_one, typing_silent, used_in_binds, binding_one}
@@ -161,6 +162,45 @@ unfolding control_events
 control_fills s x sign es l =
     let a = (controlled s sign x).value in
     fills_both (controlled s sign x).events (each (element_events s a) es) l (in_each in_element es l) (in_name x (in_each in_element es l)) (controlled_fills s sign x (in_each in_element es l)) (each_fills (element_events s a) in_element (element_fills s a) es l)
+
+-- ---- activations
+
+activates_silent : (s : Tables) (process : Option DeclNo) (x : Side) → Silent (activates s process x).events
+unfolding activates fine wrong telling gives
+activates_silent s process x = go process x.ty
+  where
+    told : (o : Option Rule) → Silent (told_unless x.first.0 o).events
+    told None = silent_none
+    told (Some rule) = silent_break x.first.0 rule
+
+    go : (o : Option DeclNo) (w : Option SimType) → Silent (type_activated s o x w).events
+    go None w = silent_none
+    go (Some d) None = silent_none
+    go (Some d) (Some ty) = told (misfit_of s (t.Ref d) ty)
+
+process_fills : (s : Tables) (process : Option DeclNo) (e : Expression) (l : List Spot) → Fills (process_events s process e) l (in_expression e l)
+unfolding process_events next
+process_fills s process e l = fills_then (judge_side s extent.Statement e).events (activates s process (judge_side s extent.Statement e).value).events l (in_expression e l) (side_fills s extent.Statement e l) (activates_silent s process (judge_side s extent.Statement e).value)
+
+schedule_fills : (s : Tables) (process : Option DeclNo) (x : Schedule) (l : List Spot) → Fills (schedule_events s process x) l (in_schedule x l)
+schedule_fills s process syntax.Now l = fills_silent [] l silent_none
+schedule_fills s process (syntax.At i e prior) l = required_fills s extent.Statement t.Integer e l
+schedule_fills s process (syntax.Delay i e prior) l = required_fills s extent.Statement t.Integer e l
+schedule_fills s process (syntax.Before i e) l = process_fills s process e l
+schedule_fills s process (syntax.After i e) l = process_fills s process e l
+
+activate_fills : (s : Tables) (i : ℕ) (e : Expression) (schedule : Schedule) (l : List Spot) → Fills (activate_events s i e schedule) l (Token i ∷ in_expression e (in_schedule schedule l))
+unfolding activate_events
+activate_fills s i e schedule l =
+    let o = process_at s i in
+    let m = in_schedule schedule l in
+    fills_more (in_simulation i o ++ (process_events s o e ++ schedule_events s o schedule)) i l (in_expression e m)
+    (fills_both (in_simulation i o) (process_events s o e ++ schedule_events s o schedule) l (in_expression e m) (in_expression e m) (fills_silent (in_simulation i o) (in_expression e m) (outside o))
+    (fills_both (process_events s o e) (schedule_events s o schedule) l m (in_expression e m) (process_fills s o e m) (schedule_fills s o schedule l)))
+  where
+    outside : (o : Option DeclNo) → Silent (in_simulation i o)
+    outside None = silent_break i r.ActivationOutsideSimulation
+    outside (Some d) = silent_none
 
 -- ---- declarations
 
@@ -375,15 +415,15 @@ module _ (s : Tables) where
         let m = in_statements b l in
         object_fills s i e (arm_classes whens) (arms_events v whens) (statements_events v Inside b) l m (in_arms whens m) (arms_fill i (judge_side s extent.Statement e).value whens p.1 m) (statements_fill Inside b p.2 l)
     statement_fills q (syntax.Prefixed class es b) p l =
-        fills_both (prefixed_events s class es (begin_of b)) (whole_events (judging s) b) l (in_block b l) (in_expression (syntax.Named class es) (in_block b l)) (block_prefix_fills s class es (begin_of b) (in_block b l)) (whole_fills b p.2 l)
-    statement_fills q (syntax.Activate i word e schedule) p l = absurd p
+        fills_both (prefixed_events s class es (begin_of b)) (whole_events (judging s) b) l (in_block b l) (in_expression (syntax.Named class es) (in_block b l)) (block_prefix_fills s class es (begin_of b) (in_block b l)) (whole_fills b p.1 l)
+    statement_fills q (syntax.Activate i word e schedule) p l = activate_fills s i e schedule l
 
     arms_fill : (i : ℕ) (x : Side) (whens : Arms) → PlainArms whens → (l : List Spot) (k : About) (t : ℕ) → (told k t (each (arm_events s i x) (arm_classes whens)) + told k t (arms_events (judging s) whens)) + among t l ≤ among t (in_arms whens l)
     arms_fill i x NoArm p l k t = omega arith
     arms_fill i x (When n class j a end more) p l k t =
         let u = in_arms more l in
         beside_arm class.token.0 end (each (arm_events s i x) (arm_classes more)) (statement_events (judging s) Inside a) (arm_events s i x class) (arms_events (judging s) more) l u (Token j ∷ in_statement a (Behind end ∷ u))
-        (arm_binds s i x class) (fills_more (statement_events (judging s) Inside a) j (Behind end ∷ u) (in_statement a (Behind end ∷ u)) (statement_fills Inside a p.1 (Behind end ∷ u))) (arms_fill i x more p.2 l) k t
+        (arm_binds s i x class) (fills_more (statement_events (judging s) Inside a) j (Behind end ∷ u) (in_statement a (Behind end ∷ u)) (statement_fills Inside a p.0 (Behind end ∷ u))) (arms_fill i x more p.1 l) k t
 
     statements_fill : (q : Position) (ss : Statements) → PlainStatements ss → (l : List Spot) → Fills (statements_events (judging s) q ss) l (in_statements ss l)
     statements_fill q NoStatement p l = fills_silent [] l silent_none
@@ -442,12 +482,12 @@ module _ (s : Tables) where
         let v = judging s in
         let u = Behind end ∷ l in
         let m = in_each in_name h.formals (in_statement a u) in
-        fills_both (result_events s result) (statement_events v Inside a ++ []) l (Token h.name.token.0 ∷ m) (in_result result (Token h.name.token.0 ∷ m)) (result_fills s result (Token h.name.token.0 ∷ m)) (headed_fills h end (statement_events v Inside a) l (in_statement a u) (statement_fills Inside a p.2 u))
+        fills_both (result_events s result) (statement_events v Inside a ++ []) l (Token h.name.token.0 ∷ m) (in_result result (Token h.name.token.0 ∷ m)) (result_fills s result (Token h.name.token.0 ∷ m)) (headed_fills h end (statement_events v Inside a) l (in_statement a u) (statement_fills Inside a p.1 u))
     declaration_fills (DeclareClass prefix i h interface a end) p l =
         let v = judging s in
         let u = Behind end ∷ l in
         let m = in_each in_name h.formals (in_statement a u) in
-        fills_both (class_prefix_events s prefix h.name.token.0) (statement_events v ClassBody a ++ []) l (Token h.name.token.0 ∷ m) (in_prefix prefix (Token h.name.token.0 ∷ m)) (prefix_fills s prefix h.name.token.0 (Token h.name.token.0 ∷ m)) (headed_fills h end (statement_events v ClassBody a) l (in_statement a u) (statement_fills ClassBody a p.3 u))
+        fills_both (class_prefix_events s prefix h.name.token.0) (statement_events v ClassBody a ++ []) l (Token h.name.token.0 ∷ m) (in_prefix prefix (Token h.name.token.0 ∷ m)) (prefix_fills s prefix h.name.token.0 (Token h.name.token.0 ∷ m)) (headed_fills h end (statement_events v ClassBody a) l (in_statement a u) (statement_fills ClassBody a p.2 u))
 
   start_fills : (o : Option Prefix) (b : Block) → PlainBlock b → Fills (program_prefix_events s o (begin_of b) ++ whole_events (judging s) b) [] (in_start o (in_block b []))
   unfolding program_prefix_events

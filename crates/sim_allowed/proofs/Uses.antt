@@ -18,6 +18,7 @@ use Rattle.sim_scope.specs.declared.standard.StandardName.{StandardName}
 use Rattle.sim_scope.specs.declared.standard.StandardName.TheVariants as found
 use Rattle.sim_scope.specs.declared.types.Entry.{Entry}
 use Rattle.sim_scope.specs.declared.types.Entry.TheVariants as entry
+use Rattle.sim_scope.specs.declared.types.Formal.{Formal}
 use Rattle.sim_scope.specs.declared.types.SimType.{SimType}
 use Rattle.sim_scope.specs.Calls.{bound, found_as, is_barred, located, misfitting_or, occurs, parameter_count, resulting, standard_applied, typed_if, used_in, used_or_barred}
 use Rattle.sim_scope.specs.Judged.{Judged, gives, next, telling}
@@ -25,30 +26,32 @@ use Rattle.sim_scope.specs.Outcomes.{breaks, call_of, is_stream}
 use Rattle.sim_scope.specs.Scopes.{binding, entry_of, found_in}
 use Rattle.sim_scope.specs.Source.{Source, denoted, found_at, type_at}
 use Rattle.sim_scope.specs.Standard.{is_standard_class, signature}
-use Rattle.sim_static.specs.UnbuiltNames.{is_unbuilt_name}
 use Rattle.sim_tree.specs.declared.expr.Identifier.{Identifier}
 use Rattle.sim_tree.specs.Syntax.{Expression, Expressions, NoMore, Then}
 use Rattle.sim_tree.specs.Syntax as syntax
 use Rattle.sim_values.specs.declared.kind.Kind.TheVariants as kind
 use Rattle.sim_values.specs.declared.standard.Standard.TheVariants as name_of
+use Rattle.sim_code.specs.Simulations.{is_simulation_name}
 use Rattle.sim_code.specs.Transfers.{Calling, Detaching, Resuming, Transfer}
 use Rattle.sim_meaning.specs.Attributes.{attribute_denoted, attribute_if, connection_at, is_standard_attribute, own_attribute, transfer_at, transfer_denoted, transfer_named}
 use Rattle.sim_meaning.specs.Closing.{is_text, is_text_type, own_block, own_block_denoted, own_result, result_meant, stream_denoted, stream_of, typed_token, unless_connected}
 use Rattle.sim_meaning.specs.Names.{procedure_named, stream_named}
 use Rattle.sim_meaning.specs.Statements.{denoted_leaves, leaves}
 use Rattle.sim_sound.specs.Held.{Holds, In, InBound, Place, Refers, Simply, held_by}
-use Rattle.sim_sound.specs.Expressions.{ActualsFit, AreIntegers, AreOf, DeclaredGives, DotGives, ExprIs, IdentifierGives, KnownAt, NamedGives, ObjectHas, OwnKnown, ThisFound}
+use Rattle.sim_sound.specs.Expressions.{ActualsFit, AreIntegers, AreOf, DeclaredGives, DotGives, ExprIs, IdentifierGives, KnownAt, NamedGives, ObjectHas, OwnGives, OwnKnown, OwnNameGives, SetGives, SimulationGives, SimulationKnown, ThisFound}
 use Rattle.sim_sound.specs.Statements.{LeftDeclared, LeftDot, NoText, OrTransferIs, PlaceDeclared, PlaceNamed, TransferIs, is_given}
 use Rattle.sim_agree.specs.Facts.{PlainGiven}
 use Rattle.sim_agree.proofs.Unprefixed.{standard_is as standard_found}
 use Rattle.sim_allowed.proofs.Actuals.{AllFit, all_operands, size}
 use Rattle.sim_allowed.proofs.Calls.{call_means}
 use Rattle.sim_allowed.proofs.Classes.{plain_proper, plain_same}
-use Rattle.sim_allowed.proofs.Declared.{GivenFor, NoResult, UseIs}
+use Rattle.sim_allowed.proofs.Declared.{GivenFor, NoResult, UseGives, UseIs}
 use Rattle.sim_allowed.proofs.Meant.{CallGiven, CallsFor, DotAs, GivesNone, InText, Means, NamedAs, TypeThere, Varies}
 use Rattle.sim_allowed.proofs.Names.{IsProcedure, NoAttribute, alone_name, call_kinds, call_result, detach_kinds, detach_result, given_by, kinds_of, parameter_kinds, resume_kinds, resume_result, standard_gives, standard_left, which_transfer}
 use Rattle.sim_allowed.proofs.Nowhere.{is_nowhere}
 use Rattle.sim_allowed.proofs.Said.{AllSay, both_say}
+use Rattle.sim_allowed.proofs.Sights.{OwnHere, ThroughSeen}
+use Rattle.sim_allowed.proofs.Simulations.{AttributeThere, EitherAttribute, of_class}
 
 -- ---- what an identifier denotes
 
@@ -81,9 +84,9 @@ bound_is s x name said = go (binding s.tables name.token.0 name.name) refl said
         let both = both_say s (located name.token.0 (found_in s.tables name.token.0 name.name)).events (used_or_barred name.token.0 d (is_barred s.tables x name.token.0 d)).events said in
         barred d e (located_says s name.token.0 (found_in s.tables name.token.0 name.name) both.0) (is_barred s.tables x name.token.0 d) refl both.1
 
--- a standard name that is found alone is no attribute of texts, and is built
-pub bound_name : (s : Source) (token : ℕ) (name : List ℕ) (k : StandardName) → is_unbuilt_name name ≡ false → binding s.tables token name ≡ Some (denotation.Standard k) → NoAttribute k
-bound_name s token name k plain e = alone_name name k plain (standard_found s.tables token name k e)
+-- a standard name that is found alone is no attribute of texts
+pub bound_name : (s : Source) (token : ℕ) (name : List ℕ) (k : StandardName) → binding s.tables token name ≡ Some (denotation.Standard k) → NoAttribute k
+bound_name s token name k e = alone_name name k (standard_found s.tables token name k e)
 
 -- ---- types of what is named
 
@@ -330,7 +333,7 @@ no_own s x d NoMore says none = ap (own_block_denoted s x.token.0) says ∙ go (
 
 -- how what an identifier denotes is known where it stands
 abbrev pub KnownHere : Source → Place → (token : ℕ) → (connection : Option ℕ) → (own : Option DeclNo) → DeclNo → Type 0
-KnownHere s from token None (Some q) d = OwnKnown s from token d
+KnownHere s from token None (Some q) d = OwnHere s from token d (entry_of s.tables d)
 KnownHere s from token None None d = KnownAt s from None d
 KnownHere s from token (Some k) own d = KnownAt s from (Some k) d
 
@@ -347,17 +350,68 @@ own_is s q d e = go (is_standard_attribute (entry_of s.tables d)) refl e
     go false is e = absurd (cc)
 
 pub known_here : (s : Source) (from : Place) (token : ℕ) (d : DeclNo) (c : Option ℕ) (own : Option DeclNo) → own ≡ attribute_if (is_standard_attribute (entry_of s.tables d)) d → KnownAt s from c d
-    → (is_standard_attribute (entry_of s.tables d) ≡ true → c ≡ None → OwnKnown s from token d) → KnownHere s from token c own d
+    → (is_standard_attribute (entry_of s.tables d) ≡ true → c ≡ None → OwnHere s from token d (entry_of s.tables d)) → KnownHere s from token c own d
 known_here s from token d (Some k) own e at seen = at
 known_here s from token d None None e at seen = at
 known_here s from token d None (Some q) e at seen = seen (own_is s q d e).is refl
 
-identifier_gives : (s : Source) (from : Place) (x : Identifier) (es : Expressions) (d : DeclNo) → denoted s x.token.0 ≡ Some (denotation.Declared d) → (c : Option ℕ) (own : Option DeclNo) → own ≡ attribute_if (is_standard_attribute (entry_of s.tables d)) d → (h : Option Holds)
-    → DeclaredGives s (KnownHere s from x.token.0 c own d) d es (AreIntegers s from es) (λ fs. ActualsFit s from es fs) (entry_of s.tables d) h → IdentifierAs s from x es c own h
-identifier_gives s from x es d says (Some k) own e h a = subst (λ z. NamedGives s from (Some k) z es (AreIntegers s from es) (λ ks. AreOf s from es ks) (λ fs. ActualsFit s from es fs) h) (sym says) a
-identifier_gives s from x es d says None None e h a = subst (λ z. NamedGives s from None z es (AreIntegers s from es) (λ ks. AreOf s from es ks) (λ fs. ActualsFit s from es fs) h) (sym says) a
-identifier_gives s from x es d says None (Some q) e h a =
-    subst (λ z. DeclaredGives s (OwnKnown s from x.token.0 z) z es (AreIntegers s from es) (λ fs. ActualsFit s from es fs) (entry_of s.tables z) h) (own_is s q d e).same a
+-- where it is none of `simulation` itself it gives what is declared
+declared_gives : (s : Source) (Known Indices : Type 0) (Actuals : List Formal → Type 0) (d : DeclNo) (es : Expressions) (o : Option Entry) (h : Option Holds) → AttributeThere o → UseGives s Known d es Indices Actuals o h → DeclaredGives s Known d es Indices Actuals o h
+declared_gives s K I A d es (Some (entry.Attribute name w result)) h is a = (is, a.0, a.1, a.2)
+declared_gives s K I A d es (Some (entry.Variable type)) h is a = a
+declared_gives s K I A d es (Some (entry.Constant type)) h is a = a
+declared_gives s K I A d es (Some (entry.Array type n)) h is a = a
+declared_gives s K I A d es (Some (entry.Procedure result k)) h is a = a
+declared_gives s K I A d es (Some (entry.Class k)) h is a = a
+declared_gives s K I A d es (Some (entry.Virtual result own)) h is a = a
+declared_gives s K I A d es (Some (entry.Formal f)) h is a = a
+declared_gives s K I A d es (Some (entry.Unspecified w)) h is a = a
+declared_gives s K I A d es None h is a = a
+
+-- and an attribute is one of both
+own_gives : (s : Source) (from : Place) (token : ℕ) (d : DeclNo) (es : Expressions) (I : Type 0) (A : List Formal → Type 0) (o : Option Entry) (h : Option Holds) → EitherAttribute o → is_standard_attribute o ≡ true → UseGives s (OwnHere s from token d o) d es I A o h
+    → OwnGives s from token d A o h (DeclaredGives s (OwnKnown s from token d) d es I A o h)
+own_gives s from token d es I A (Some (entry.Attribute name w result)) h either e a = go (is_simulation_name name) refl a.1
+  where
+    go : (c : Bool) → is_simulation_name name ≡ c → OwnNameGives c (SimulationKnown s from token d) (OwnKnown s from token d)
+        → OwnNameGives c (SimulationGives s (SimulationKnown s from token d) w result A h) (SetGives s (OwnKnown s from token d) name w result A h)
+    go true is known = (a.0, known, a.2)
+    go false is known = (of_class name either is, a.0, known, a.2)
+own_gives s from token d es I A (Some (entry.Variable type)) h either e a = absurd (false≢true e)
+own_gives s from token d es I A (Some (entry.Constant type)) h either e a = absurd (false≢true e)
+own_gives s from token d es I A (Some (entry.Array type n)) h either e a = absurd (false≢true e)
+own_gives s from token d es I A (Some (entry.Procedure result k)) h either e a = absurd (false≢true e)
+own_gives s from token d es I A (Some (entry.Class k)) h either e a = absurd (false≢true e)
+own_gives s from token d es I A (Some (entry.Virtual result own)) h either e a = absurd (false≢true e)
+own_gives s from token d es I A (Some (entry.Formal f)) h either e a = absurd (false≢true e)
+own_gives s from token d es I A (Some (entry.Unspecified w)) h either e a = absurd (false≢true e)
+own_gives s from token d es I A None h either e a = absurd (false≢true e)
+
+none_attribute : (o : Option Entry) (d : DeclNo) → None ≡ attribute_if (is_standard_attribute o) d → AttributeThere o
+none_attribute (Some (entry.Attribute name w result)) d e = absurd (cc)
+none_attribute (Some (entry.Variable type)) d e = tt
+none_attribute (Some (entry.Constant type)) d e = tt
+none_attribute (Some (entry.Array type n)) d e = tt
+none_attribute (Some (entry.Procedure result k)) d e = tt
+none_attribute (Some (entry.Class k)) d e = tt
+none_attribute (Some (entry.Virtual result own)) d e = tt
+none_attribute (Some (entry.Formal f)) d e = tt
+none_attribute (Some (entry.Unspecified w)) d e = tt
+none_attribute None d e = tt
+
+identifier_gives : (s : Source) (from : Place) (x : Identifier) (es : Expressions) (d : DeclNo) → denoted s x.token.0 ≡ Some (denotation.Declared d) → EitherAttribute (entry_of s.tables d) → (c : Option ℕ) → ((k : ℕ) → c ≡ Some k → AttributeThere (entry_of s.tables d))
+    → (own : Option DeclNo) → own ≡ attribute_if (is_standard_attribute (entry_of s.tables d)) d → (h : Option Holds)
+    → UseGives s (KnownHere s from x.token.0 c own d) d es (AreIntegers s from es) (λ fs. ActualsFit s from es fs) (entry_of s.tables d) h → IdentifierAs s from x es c own h
+identifier_gives s from x es d says either (Some k) through own e h a =
+    subst (λ z. NamedGives s from (Some k) z es (AreIntegers s from es) (λ ks. AreOf s from es ks) (λ fs. ActualsFit s from es fs) h) (sym says)
+    (declared_gives s (KnownAt s from (Some k) d) (AreIntegers s from es) (λ fs. ActualsFit s from es fs) d es (entry_of s.tables d) h (through k refl) a)
+identifier_gives s from x es d says either None through None e h a =
+    subst (λ z. NamedGives s from None z es (AreIntegers s from es) (λ ks. AreOf s from es ks) (λ fs. ActualsFit s from es fs) h) (sym says)
+    (declared_gives s (KnownAt s from None d) (AreIntegers s from es) (λ fs. ActualsFit s from es fs) d es (entry_of s.tables d) h (none_attribute (entry_of s.tables d) d e) a)
+identifier_gives s from x es d says either None through (Some q) e h a =
+    let own = own_is s q d e in
+    subst (λ z. OwnGives s from x.token.0 z (λ fs. ActualsFit s from es fs) (entry_of s.tables z) h (DeclaredGives s (OwnKnown s from x.token.0 z) z es (AreIntegers s from es) (λ fs. ActualsFit s from es fs) (entry_of s.tables z) h)) own.same
+    (own_gives s from x.token.0 d es (AreIntegers s from es) (λ fs. ActualsFit s from es fs) (entry_of s.tables d) h either own.is a)
 
 -- it is no place
 attribute_no_place : (s : Source) (Known Indices : Type 0) (es : Expressions) (o : Option Entry) (h : Holds) → is_standard_attribute o ≡ true → PlaceDeclared s Known es Indices o h → ⊥
@@ -377,16 +431,16 @@ identifier_place : (s : Source) (from : Place) (token : ℕ) (es : Expressions) 
     → PlaceDeclared s (KnownHere s from token c own d) es Indices (entry_of s.tables d) h → PlaceDeclared s (KnownAt s from c d) es Indices (entry_of s.tables d) h
 identifier_place s from token es I d (Some k) own e h a = a
 identifier_place s from token es I d None None e h a = a
-identifier_place s from token es I d None (Some q) e h a = absurd (attribute_no_place s (OwnKnown s from token d) I es (entry_of s.tables d) h (own_is s q d e).is a)
+identifier_place s from token es I d None (Some q) e h a = absurd (attribute_no_place s (OwnHere s from token d (entry_of s.tables d)) I es (entry_of s.tables d) h (own_is s q d e).is a)
 
-pub named_use : (s : Source) (from : Place) (x : Identifier) (es : Expressions) (d : DeclNo) → denoted s x.token.0 ≡ Some (denotation.Declared d) → UseIs s from (syntax.Named x es) x.token.0 d es (KnownHere s from x.token.0 (connection_at s x.token.0) (own_attribute s x.token.0) d)
+pub named_use : (s : Source) (from : Place) (x : Identifier) (es : Expressions) (d : DeclNo) → denoted s x.token.0 ≡ Some (denotation.Declared d) → EitherAttribute (entry_of s.tables d) → ThroughSeen s x.token.0 d → UseIs s from (syntax.Named x es) x.token.0 d es (KnownHere s from x.token.0 (connection_at s x.token.0) (own_attribute s x.token.0) d)
 unfolding stream_of result_meant
-named_use s from x es d says = record {
+named_use s from x es d says either through = record {
   at = refl;
   stream = ap stream_denoted says;
-  value = λ h a. identifier_gives s from x es d says (connection_at s x.token.0) (own_attribute s x.token.0) (own_declared s x.token.0 d says) (Some h) a;
+  value = λ h a. identifier_gives s from x es d says either (connection_at s x.token.0) through (own_attribute s x.token.0) (own_declared s x.token.0 d says) (Some h) a;
   call = λ h a left.
-      named_given s from x es h (declared_transfers s x.token.0 d says) (identifier_gives s from x es d says (connection_at s x.token.0) (own_attribute s x.token.0) (own_declared s x.token.0 d says) h a) (ap (denoted_leaves s) says ∙ left);
+      named_given s from x es h (declared_transfers s x.token.0 d says) (identifier_gives s from x es d says either (connection_at s x.token.0) through (own_attribute s x.token.0) (own_declared s x.token.0 d says) h a) (ap (denoted_leaves s) says ∙ left);
   calls = λ result g. named_calls s from x es result g;
   place = λ type a. place from type a;
   unowned = λ none. ap (unless_connected (connection_at s x.token.0)) (no_own s x d es says none) ∙ unconnected_none (connection_at s x.token.0);
@@ -398,14 +452,14 @@ named_use s from x es d says = record {
         subst (λ z. PlaceNamed s t (connection_at s x.token.0) z es (AreIntegers s (In t) es) (held_by s type)) (sym says)
         (identifier_place s (In t) x.token.0 es (AreIntegers s (In t) es) d (connection_at s x.token.0) (own_attribute s x.token.0) (own_declared s x.token.0 d says) (held_by s type) a)
 
-pub dot_use : (s : Source) (from : Place) (i : ℕ) (b : Expression) (x : Identifier) (es : Expressions) (d : DeclNo) → denoted s x.token.0 ≡ Some (denotation.Declared d) → UseIs s from (syntax.Dot i b x es) i d es (ObjectHas s (λ c. ExprIs s from b (Refers c)) d)
+pub dot_use : (s : Source) (from : Place) (i : ℕ) (b : Expression) (x : Identifier) (es : Expressions) (d : DeclNo) → denoted s x.token.0 ≡ Some (denotation.Declared d) → AttributeThere (entry_of s.tables d) → UseIs s from (syntax.Dot i b x es) i d es (ObjectHas s (λ c. ExprIs s from b (Refers c)) d)
 unfolding stream_of result_meant
-dot_use s from i b x es d says = record {
+dot_use s from i b x es d says plain = record {
   at = refl;
   stream = refl;
-  value = λ h a. subst (λ z. DotGives s z (stream_of s b) (ExprIs s from b (Simply kind.Text)) (λ c. ExprIs s from b (Refers c)) es (AreIntegers s from es) (λ ks. AreOf s from es ks) (λ fs. ActualsFit s from es fs) (Some h)) (sym says) a;
+  value = λ h a. subst (λ z. DotGives s z (stream_of s b) (ExprIs s from b (Simply kind.Text)) (λ c. ExprIs s from b (Refers c)) es (AreIntegers s from es) (λ ks. AreOf s from es ks) (λ fs. ActualsFit s from es fs) (Some h)) (sym says) (declared_gives s (ObjectHas s (λ c. ExprIs s from b (Refers c)) d) (AreIntegers s from es) (λ fs. ActualsFit s from es fs) d es (entry_of s.tables d) (Some h) plain a);
   call = λ h a left.
-      dot_given s from i b x es h (declared_transfers s x.token.0 d says) (subst (λ z. DotGives s z (stream_of s b) (ExprIs s from b (Simply kind.Text)) (λ c. ExprIs s from b (Refers c)) es (AreIntegers s from es) (λ ks. AreOf s from es ks) (λ fs. ActualsFit s from es fs) h) (sym says) a)
+      dot_given s from i b x es h (declared_transfers s x.token.0 d says) (subst (λ z. DotGives s z (stream_of s b) (ExprIs s from b (Simply kind.Text)) (λ c. ExprIs s from b (Refers c)) es (AreIntegers s from es) (λ ks. AreOf s from es ks) (λ fs. ActualsFit s from es fs) h) (sym says) (declared_gives s (ObjectHas s (λ c. ExprIs s from b (Refers c)) d) (AreIntegers s from es) (λ fs. ActualsFit s from es fs) d es (entry_of s.tables d) h plain a))
       (ap (denoted_leaves s) says ∙ left);
   calls = λ result g. dot_calls s from i b x es result g;
   place = λ type a. place from type a;

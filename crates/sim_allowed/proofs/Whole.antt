@@ -8,8 +8,9 @@ use Rattle.sim_scope.specs.declared.types.Entry.TheVariants as entry
 use Rattle.sim_scope.specs.declared.types.Position.TheVariants.{ClassStatement, Inside}
 use Rattle.sim_scope.specs.declared.types.SimType.{SimType}
 use Rattle.sim_scope.specs.declared.types.StandardClass.{StandardClass}
+use Rattle.sim_scope.specs.declared.types.StandardClass.TheVariants as standard
 use Rattle.sim_scope.specs.Access.{encloser}
-use Rattle.sim_scope.specs.Levels.{has_level, is_simulation_block}
+use Rattle.sim_scope.specs.Levels.{base, has_level, is_simulation_block}
 use Rattle.sim_scope.specs.Scopes.{class_formals, entry_of}
 use Rattle.sim_scope.specs.Source.{Source, level_of}
 use Rattle.sim_scope.specs.Statements.{judging}
@@ -20,11 +21,13 @@ use Rattle.sim_tree.specs.Filled.{Filled}
 use Rattle.sim_tree.specs.Syntax.{Declarations, Expressions, Heading, NoDeclaration, NoStatement, Statement, Statements}
 use Rattle.sim_meaning.specs.Attributes.{is_connection}
 use Rattle.sim_values.specs.declared.standard.Standard.{Standard}
+use Rattle.sim_code.specs.Sets.{is_attribute_name}
+use Rattle.sim_code.specs.Simulations.{is_simulation_name}
 use Rattle.sim_meaning.specs.Closing.{class_parameters}
 use Rattle.sim_meaning.specs.Entries.{formals_of, is_held, numbers_of}
 use Rattle.sim_meaning.specs.Texts.{BlockText, ClassText, ConnectionText, PrefixedText, ProcedureText, StandardText, Text, is_class_free, text}
 use Rattle.sim_sound.specs.Held.{Among, ArrayOf, Holds, IsFormal, entry_holds, result_holds}
-use Rattle.sim_sound.specs.Typed.{BlockTyped, ClassThere, ClassTyped, ConnectionTyped, Distinct, FormalsAre, NoFormals, ProcedureThere, ResultWritten, SetClassThere, SetProcedureThere, Starts, TextTyped, Typed, arrays_of_block}
+use Rattle.sim_sound.specs.Typed.{BlockTyped, ClassThere, ClassTyped, ConnectionTyped, Distinct, FormalsAre, IsAttribute, NoFormals, ProcedureThere, ProcessClassThere, ResultWritten, SetClassThere, SetProcedureThere, SimulationClasses, SimulationProcedureThere, Starts, TextTyped, Typed, arrays_of_block}
 use Rattle.sim_agree.specs.Facts.{Tabled}
 use Rattle.sim_agree.specs.Places.{PlacedArrays, PlacedStatement, PlacedStatements}
 use Rattle.sim_agree.specs.Plain.{Plain}
@@ -61,7 +64,6 @@ pub record ClassIs (s : Source) (k : ℕ) (ds : Declarations) (ss : Statements) 
   pub arrays : PlacedArrays s.tables k ds
   pub statements : PlacedStatements s k ss
   pub stays : is_class_free s k ≡ false
-  pub not_simulation : is_simulation_block s.tables k ≡ false
 
 pub record Agreed (s : Source) : Type 0 where
   pub tabled : Tabled s
@@ -72,7 +74,11 @@ pub record Agreed (s : Source) : Type 0 where
   pub procedures : (d : DeclNo) (result : Option SimType) (k : ℕ) → entry_of s.tables d ≡ Some (entry.Procedure result k) → ProcedureThere s d k
   pub classes : (d : DeclNo) (k : ℕ) → entry_of s.tables d ≡ Some (entry.Class k) → ClassThere s d k
   pub set_classes : (k : ℕ) (which : StandardClass) → text s k ≡ Some (StandardText which) → SetClassThere s k which
-  pub set_procedures : (d : DeclNo) (name : Standard) (parameter result : Option SimType) → entry_of s.tables d ≡ Some (entry.Attribute name parameter result) → SetProcedureThere s d name parameter result
+  pub set_procedures : (d : DeclNo) (name : Standard) (parameter result : Option SimType) → entry_of s.tables d ≡ Some (entry.Attribute name parameter result) → is_attribute_name name ≡ true → SetProcedureThere s d name parameter result
+  pub simulations : (k : ℕ) → is_simulation_block s.tables k ≡ true → SimulationClasses s k
+  pub processes : (c k : ℕ) → is_connection (text s c) ≡ false → base s.tables c ≡ Some k → text s k ≡ Some (StandardText standard.Process) → ProcessClassThere s k
+  pub simulation_procedures : (d : DeclNo) (name : Standard) (parameter result : Option SimType) → entry_of s.tables d ≡ Some (entry.Attribute name parameter result) → is_simulation_name name ≡ true → SimulationProcedureThere s d name parameter result
+  pub bare : (d : DeclNo) (row : Declaration) (which : StandardClass) → slice_get s.tables.declarations d.0 ≡ Some row → text s row.block ≡ Some (StandardText which) → IsAttribute (Some row.entry)
   pub blocks : (k i : ℕ) (ds : Declarations) (ss : Statements) → text s k ≡ Some (BlockText i ds ss) → BlockIs s k ds ss
   pub bodies : (k : ℕ) (result : Option TypeName) (h : Heading) (a : Statement) → text s k ≡ Some (ProcedureText result h a) → ProcedureIs s k result a
   pub class_bodies : (k : ℕ) (prefix : Option Identifier) (h : Heading) (ds : Declarations) (ss : Statements) → text s k ≡ Some (ClassText prefix h ds ss) → ClassIs s k ds ss
@@ -112,7 +118,6 @@ module _ (s : Source) (agreed : Agreed s) (plain : Plain s.program) (filled : Fi
         own = b.own;
         statements = statements_typed s agreed.tabled k q ss no_body fine.1.0 b.statements fine.1.1 fine.1.2;
         stays = b.stays;
-        not_simulation = b.not_simulation;
       }
 
   texts_typed : (k : ℕ) (x : Text) → text s k ≡ Some x → TextTyped s k x
@@ -136,7 +141,11 @@ module _ (s : Source) (agreed : Agreed s) (plain : Plain s.program) (filled : Fi
     procedures = agreed.procedures;
     classes = agreed.classes;
     set_classes = agreed.set_classes;
-    set_procedures = λ d name parameter result e set. agreed.set_procedures d name parameter result e;
+    set_procedures = agreed.set_procedures;
+    simulations = agreed.simulations;
+    processes = agreed.processes;
+    simulation_procedures = agreed.simulation_procedures;
+    bare = agreed.bare;
     texts = texts_typed;
     not_class_free = agreed.not_class_free;
     prefixes = tabled.prefixes;

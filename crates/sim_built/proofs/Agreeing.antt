@@ -1,9 +1,11 @@
 -- The tables of typed programs agree, as far as code rests on it.
-use Rattle.std.proofs.Common.{◌≡◌, ◌<◌, ◌≤◌, ℕ, zero, suc, Bool, if◌then◌else◌, true, false, List, [], ◌∷◌, length, Option, Some, None, refl, sym, ap, ◌∙◌, subst, arith}
+use Rattle.std.proofs.Common.{◌≡◌, ◌<◌, ◌≤◌, ◌+◌, ℕ, zero, suc, Bool, if◌then◌else◌, true, false, List, [], ◌∷◌, length, Option, Some, None, refl, sym, ap, ◌∙◌, subst, arith}
 use Rattle.std.specs.Prelude.{slice_get}
 use Rattle.sim_base.specs.declared.numbering.DeclNo.{DeclNo}
 use Rattle.sim_scope.specs.declared.types.Entry.TheVariants as entry
 use Rattle.sim_scope.specs.declared.types.SimType.{SimType}
+use Rattle.sim_scope.specs.declared.types.StandardClass.{StandardClass}
+use Rattle.sim_scope.specs.declared.types.StandardClass.TheVariants as standard
 use Rattle.sim_scope.specs.Access.{encloser}
 use Rattle.sim_scope.specs.Levels.{base}
 use Rattle.sim_scope.specs.Scopes.{entry_of}
@@ -12,16 +14,17 @@ use Rattle.sim_tree.specs.declared.stmt.TypeName.{TypeName}
 use Rattle.sim_meaning.specs.Attributes.{is_connection}
 use Rattle.sim_meaning.specs.Closing.{has_type}
 use Rattle.sim_meaning.specs.Entries.{numbers_of}
+use Rattle.sim_meaning.specs.Levels.{has_levels, is_class}
 use Rattle.sim_meaning.specs.Meaning.{has_result}
 use Rattle.sim_meaning.specs.Texts.{BlockText, ClassText, ConnectionText, PrefixedText, ProcedureText, StandardText, Text, text}
 use Rattle.sim_sound.specs.Held.{Among, first, given_by, later}
-use Rattle.sim_sound.specs.Typed.{ConnectionTyped, Distinct, Ends as BaseEnds, Home, ResultWritten, Typed, connected, outermost, prefixed, stands}
+use Rattle.sim_sound.specs.Typed.{ConnectionTyped, Distinct, Ends as BaseEnds, Home, ResultWritten, Typed, connected, outermost, prefixed, set_place, stands}
 use Rattle.sim_sound.proofs.Attributes.{holds_result}
 use Rattle.sim_sound.proofs.Lists.{same_some}
-use Rattle.sim_sound.proofs.Prefixes.{level_is, level_number, prefix_level, same_level as own_level}
+use Rattle.sim_sound.proofs.Prefixes.{level_has, level_is, level_number, prefix_level, same_level as own_level}
 use Rattle.sim_sound.proofs.Prefixes as prefixes
 use Rattle.codegen_expr.specs.Sites.{LevelOf, frame_text, frame_within, innermost, is_connected, outer, outward_or, prefix_of}
-use Rattle.codegen.specs.Agrees.{Agrees, Ends, PrefixThere, ProcedureThere, before, last}
+use Rattle.codegen.specs.Agrees.{Agrees, Ends, PrefixThere, ProcedureThere, ProcessBrought, before, is_prefixed, last}
 use Rattle.sim_built.specs.Laid.{Laid}
 use Rattle.sim_built.proofs.Cells.{class_is_solid, front_is, level_solid, no_front}
 
@@ -51,6 +54,9 @@ both_given s None None w = refl
 both_given s (Some t) (Some ty) w = refl
 both_given s None (Some ty) w = absurd w
 both_given s (Some t) None w = absurd w
+
+place_same : (which : StandardClass) (m n : ℕ) → set_place which ≡ Some m → set_place which ≡ Some n → m ≡ n
+place_same which m n e f = let same : Some m ≡ Some n = sym e ∙ f in cc
 
 module _ (s : Source) (ok : Typed s) (laid : Laid s) where
   connection_typed : (k : ℕ) → is_connected s.tables k ≡ true → ConnectionTyped s k
@@ -143,6 +149,122 @@ module _ (s : Source) (ok : Typed s) (laid : Laid s) where
       by_text true is = one_level (length s.tables.blocks) k ok.some_block (no_front s ok laid k is)
       by_text false is = solid_ends is ((ok.prefixes).ends k is)
 
+  -- ---- standard classes
+
+  -- what is in front of a text that is no connection is one of its levels
+  level_back : {u v : ℕ} → is_connection (text s u) ≡ false → LevelOf s.tables u v → prefixes.LevelOf s u v
+  level_back solid innermost = own_level
+  level_back {u = u} solid (outer {u = b} e l) =
+      let based : base s.tables u ≡ Some b = sym (front_is s ok laid u solid) ∙ e in
+      prefix_level based (level_back (class_is_solid (text s b) ((ok.prefixes).prefixed_by u b solid based).prefix) l)
+
+  -- no block has one among its levels
+  blocks : (k u : ℕ) (which : StandardClass) → is_prefixed s.tables k ≡ true → LevelOf s.tables k u → text s u ≡ Some (StandardText which) → ⊥
+  blocks k u which e l is = let q = laid.prefixed k e in by_text (text s k) refl q.0 q.1
+    where
+      by_text : (x : Option Text) → text s k ≡ x → has_levels x ≡ true → is_class x ≡ false → ⊥
+      by_text (Some (PrefixedText class es ds ss)) at a b = let solid : is_connection (text s k) ≡ false = ap is_connection at in ok.no_set_block k u which class es ds ss at (level_has s ok k u solid (level_back solid l)) is
+      by_text (Some (BlockText begin ds ss)) at a b = absurd (cc)
+      by_text (Some (ProcedureText result h x)) at a b = absurd (cc)
+      by_text (Some (ClassText prefix h ds ss)) at a b = absurd (cc)
+      by_text (Some ConnectionText) at a b = absurd (cc)
+      by_text (Some (StandardText other)) at a b = absurd (cc)
+      by_text None at a b = absurd (cc)
+
+  solid_standard : (k : ℕ) (which : StandardClass) → text s k ≡ Some (StandardText which) → is_connection (text s k) ≡ false
+  solid_standard k which e = ap is_connection e
+
+  other_text : (k : ℕ) (a b : StandardClass) → text s k ≡ Some (StandardText a) → text s k ≡ Some (StandardText b) → a ≡ b
+  other_text k a b e f = let same : Some (StandardText a) ≡ Some (StandardText b) = sym e ∙ f in cc
+
+  -- `linkage` has no other level, `link` and `head` have `linkage`
+  under_linkage : (j k : ℕ) → text s j ≡ Some (StandardText standard.Linkage) → base s.tables j ≡ None → text s k ≡ Some (StandardText standard.Process) → prefixes.LevelOf s j k → ⊥
+  under_linkage j k e none p own_level = let same = other_text j standard.Linkage standard.Process e p in cc
+  under_linkage j k e none p (prefix_level {b = b} f l) = let same : None ≡ Some b = sym none ∙ f in cc
+
+  under_class : (j k linkage : ℕ) (which : StandardClass) → text s j ≡ Some (StandardText which) → (which ≡ standard.Process → ⊥) → base s.tables j ≡ Some linkage → text s linkage ≡ Some (StandardText standard.Linkage) → base s.tables linkage ≡ None
+      → text s k ≡ Some (StandardText standard.Process) → prefixes.LevelOf s j k → ⊥
+  under_class j k linkage which e other based front none p own_level = other (other_text j which standard.Process e p)
+  under_class j k linkage which e other based front none p (prefix_level {b = b} f l) =
+      let same : linkage ≡ b = same_some (base s.tables j) linkage b based f in
+      under_linkage linkage k front none p (subst (λ z. prefixes.LevelOf s z k) (sym same) l)
+
+  no_link : standard.Link ≡ standard.Process → ⊥
+  no_link f = cc
+
+  no_head : standard.Head ≡ standard.Process → ⊥
+  no_head f = cc
+
+  -- `process` has `link`
+  under_process : (j k : ℕ) → text s j ≡ Some (StandardText standard.Process) → text s k ≡ Some (StandardText standard.Process) → prefixes.LevelOf s j k → j ≡ k
+  under_process j k e p own_level = refl
+  under_process j k e p (prefix_level {b = b} f l) =
+      let there = laid.processes j e in
+      let sets = there.sets in
+      let same : there.block + 2 ≡ b = same_some (base s.tables j) (there.block + 2) b there.base f in
+      let link_at : there.block + 1 + 1 ≡ b = next there.block ∙ same in
+      absurd (under_class b k (there.block + 1) standard.Link (ap (text s) (sym link_at) ∙ sets.link_is) no_link (ap (base s.tables) (sym link_at) ∙ sets.link_prefix) sets.linkage_is sets.first p l)
+    where
+      next : (n : ℕ) → n + 1 + 1 ≡ n + 2
+      next n = omega arith
+
+  standards : (j k : ℕ) (which : StandardClass) → text s j ≡ Some (StandardText which) → text s k ≡ Some (StandardText standard.Process) → LevelOf s.tables j k → j ≡ k
+  standards j k which e p l = go which e (level_back (solid_standard j which e) l)
+    where
+      -- its place among those that were brought together
+      linkage : text s j ≡ Some (StandardText standard.Linkage) → prefixes.LevelOf s j k → j ≡ k
+      linkage e l =
+          let there = ok.set_classes j standard.Linkage e in
+          let zero_ : 0 ≡ there.place = place_same standard.Linkage 0 there.place refl there.placed in
+          let c = there.classes in
+          let same : j ≡ there.linkage = there.is ∙ at_place there.linkage there.place zero_ in
+          absurd (under_linkage j k e (ap (base s.tables) same ∙ c.first) p l)
+        where
+          at_place : (n m : ℕ) → 0 ≡ m → n + m ≡ n
+          at_place n m z = omega (arith, z)
+
+      link : text s j ≡ Some (StandardText standard.Link) → prefixes.LevelOf s j k → j ≡ k
+      link e l =
+          let there = ok.set_classes j standard.Link e in
+          let one : 1 ≡ there.place = place_same standard.Link 1 there.place refl there.placed in
+          let c = there.classes in
+          let same : j ≡ there.linkage + 1 = there.is ∙ ap (λ m. there.linkage + m) (sym one) in
+          absurd (under_class j k there.linkage standard.Link e no_link (ap (base s.tables) same ∙ c.link_prefix) c.linkage_is c.first p l)
+
+      head : text s j ≡ Some (StandardText standard.Head) → prefixes.LevelOf s j k → j ≡ k
+      head e l =
+          let there = ok.set_classes j standard.Head e in
+          let two : 2 ≡ there.place = place_same standard.Head 2 there.place refl there.placed in
+          let c = there.classes in
+          let same : j ≡ there.linkage + 2 = there.is ∙ ap (λ m. there.linkage + m) (sym two) in
+          absurd (under_class j k there.linkage standard.Head e no_head (ap (base s.tables) same ∙ c.head_prefix) c.linkage_is c.first p l)
+
+      go : (w : StandardClass) → text s j ≡ Some (StandardText w) → prefixes.LevelOf s j k → j ≡ k
+      go standard.Linkage e l = linkage e l
+      go standard.Link e l = link e l
+      go standard.Head e l = head e l
+      go standard.Process e l = under_process j k e p l
+
+  -- a class `process` is the fourth of those that were brought together
+  process_brought : (k : ℕ) → text s k ≡ Some (StandardText standard.Process) → ProcessBrought s k
+  process_brought k e =
+      let there = laid.processes k e in
+      let sets = there.sets in record {
+        block = there.block;
+        is = there.is;
+        has = there.has;
+        linkage = sets.linkage_is;
+        link = ap (text s) (sym (second there.block)) ∙ sets.link_is;
+        head = ap (text s) (sym (third there.block)) ∙ sets.head_is;
+        around = there.around;
+      }
+    where
+      second : (n : ℕ) → n + 1 + 1 ≡ n + 2
+      second n = omega arith
+
+      third : (n : ℕ) → n + 1 + 2 ≡ n + 3
+      third n = omega arith
+
   pub agrees : Agrees s
   agrees = record {
     outermost = ok.outermost;
@@ -160,4 +282,7 @@ module _ (s : Source) (ok : Typed s) (laid : Laid s) where
     formals = laid.formals;
     classes = λ d k e. (ok.classes d k e).around;
     procedures = procedure;
+    processes = process_brought;
+    blocks = blocks;
+    standards = standards;
   }

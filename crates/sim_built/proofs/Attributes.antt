@@ -22,7 +22,7 @@ use Rattle.sim_sound.specs.Held.{ArrayOf, Holds, Simply, entry_holds, formal_hol
 use Rattle.sim_sound.specs.Expressions.{ArrayNames, ConstantNames, DeclaredGives, HeldNames, SetGives}
 use Rattle.sim_sound.specs.Statements.{LeftHeld, PlaceDeclared}
 use Rattle.sim_sound.specs.Typed.{Typed}
-use Rattle.sim_sound.proofs.Closing.{formals_same}
+use Rattle.sim_sound.proofs.Formals.{formals_same}
 use Rattle.codegen_expr.specs.Built.{AreBuilt, ArrayBuilt, ArrayOfBuilt, ArrayPlaceBuilt, ArrayPlaceOfBuilt, CellBuilt, ConstantBuilt, ConstantOfBuilt, DeclaredBuilt, DeclaredPlaceBuilt, FormalBuilt, FormalPlaceBuilt, HasBuilt, OfObjectBuilt, ParameterOfBuilt, ParameterPlaceOfBuilt, PlaceOfObjectBuilt, StandsIn, VariableBuilt, VariableOfBuilt}
 use Rattle.codegen_expr.specs.CodeExpr.{SetNamed, operands}
 use Rattle.sim_built.specs.Laid.{Laid}

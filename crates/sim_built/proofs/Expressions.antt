@@ -1,5 +1,5 @@
 -- Typed expressions are built.
-use Rattle.std.proofs.Common.{◌≡◌, ℕ, suc, Bool, true, false, List, [], ◌∷◌, length, Option, Some, None, refl, sym, ap, ◌∙◌, subst}
+use Rattle.std.proofs.Common.{◌≡◌, ◌+◌, ℕ, suc, Bool, true, false, List, [], ◌∷◌, length, Option, Some, None, refl, sym, ap, ◌∙◌, subst}
 use Rattle.std.specs.Prelude.{◌&&◌, ◌||◌, if◌then◌else◌}
 use Rattle.sim_base.specs.declared.numbering.DeclNo.{DeclNo}
 use Rattle.sim_scope.specs.declared.scopes.Denotation.{Denotation}
@@ -22,24 +22,26 @@ use Rattle.sim_values.specs.declared.kind.Kind.TheVariants as kind
 use Rattle.sim_values.specs.declared.standard.Standard.{Standard}
 use Rattle.sim_values.specs.declared.standard.StandardType.{StandardType}
 use Rattle.sim_values.specs.Standard.{is_image, moves_position, on_image, operands_of, row_of}
-use Rattle.sim_meaning.specs.Attributes.{attribute_denoted, attribute_if, connection_at, is_connection, is_standard_attribute, own_attribute}
-use Rattle.sim_meaning.specs.Closing.{class_parameters, formals_at, is_attribute, is_attribute_denoted, is_image_behind, is_variable, is_variable_denoted, is_variable_entry, stream_of}
+use Rattle.sim_code.specs.Simulations.{is_simulation_name}
+use Rattle.sim_meaning.specs.Attributes.{attribute_denoted, attribute_formals, attribute_if, class_made, class_unless, connection_at, is_connection, is_standard_attribute, own_attribute}
+use Rattle.sim_meaning.specs.Closing.{class_parameters, formals_at, formals_declared, is_attribute, is_attribute_denoted, is_image_behind, is_variable, is_variable_denoted, is_variable_entry, stream_of}
 use Rattle.sim_meaning.specs.Levels.{class_at, class_denoted, class_text, has_levels, is_class}
 use Rattle.sim_meaning.specs.Names.{procedure_named}
 use Rattle.sim_meaning.specs.Statements.{has_value, standard_leaves}
 use Rattle.sim_meaning.specs.Texts.{text}
-use Rattle.sim_sound.specs.Held.{ArrayOf, Holds, Place, Refers, Sees, SeesConnected, Simply, StandsAround, held_by}
-use Rattle.sim_sound.specs.Expressions.{ActualFits, ActualsFit, AreIntegers, AreOf, AttributeGives, ClassNamed, DeclaredGives, DotGives, ExprIs, Generates, IdentifierGives, LiteralIs, NameGives, NamedGives, ObjectHas, OfText, OwnKnown, StandardGives, ThisFound, ThisIs, passed, some_holds, standard_kind}
+use Rattle.sim_sound.specs.Held.{ArrayOf, FitsIn, Holds, Place, Refers, Sees, SeesConnected, Simply, StandsAround, given_by, held_by}
+use Rattle.sim_sound.specs.Expressions.{ActualFits, ActualsFit, AreIntegers, AreOf, AttributeGives, ClassNamed, DeclaredGives, DotGives, ExprIs, Generates, IdentifierGives, LiteralIs, NameGives, NamedGives, ObjectHas, OfText, OwnGives, OwnKnown, OwnNameGives, SetGives, SimulationGives, SimulationKnown, StandardGives, ThisFound, ThisIs, passed, some_holds, standard_kind}
 use Rattle.sim_sound.specs.Statements.{is_given}
 use Rattle.sim_sound.specs.Typed.{Typed}
 use Rattle.sim_sound.proofs.Calls.{not_own, own_denoted, own_is_attribute}
-use Rattle.codegen_expr.specs.Built.{ActualBuilt, ActualsBuilt, AreBuilt, AttributeBuilt, ClassBuilt, ConnectedBuilt, ConnectedNameBuilt, ConstantBuilt, DotBuilt, GenerationBuilt, ImageNameBuilt, IsBuilt, LiteralBuilt, NameBuilt, NamedBuilt, NamedPlaceBuilt, NothingMore, ObjectBuilt, OfObjectBuilt, OwnBuilt, PlaceBehindBuilt, PlaceBuilt, StandardBuilt, StandsIn, StreamBuilt, ThisFoundBuilt, ThisOfBuilt, ThroughBuilt}
+use Rattle.codegen_expr.specs.Built.{ActualBuilt, ActualsBuilt, AreBuilt, AttributeBuilt, ClassBuilt, ConnectedBuilt, ConnectedNameBuilt, ConstantBuilt, DotBuilt, GenerationBuilt, ImageNameBuilt, IsBuilt, LiteralBuilt, NameBuilt, NamedBuilt, NamedPlaceBuilt, NothingMore, ObjectBuilt, OfObjectBuilt, OwnBuilt, OwnByBuilt, OwnNameBuilt, PlaceBehindBuilt, SimulationFoundBuilt, PlaceBuilt, StandardBuilt, StandsIn, StreamBuilt, ThisFoundBuilt, ThisOfBuilt, ThroughBuilt}
 use Rattle.codegen_expr.specs.CodeExpr.{gives, gives_entry, operands}
 use Rattle.sim_built.specs.Laid.{Laid}
 use Rattle.sim_built.proofs.Attributes.{declared_built, declared_place_built, of_object_built, place_of_built}
 use Rattle.sim_built.proofs.Cells.{class_is_solid, connection_has, level_solid, text_built}
 use Rattle.sim_built.proofs.Lists.{gives_place}
 use Rattle.sim_built.proofs.Names.{image_gives, on_image_gives}
+use Rattle.sim_built.proofs.SetNames.{simulation_named}
 
 -- ---- values of names
 
@@ -79,12 +81,35 @@ named_gives s from (Some k) (Some (denotation.Declared d)) es Indices Operands A
 named_gives s from None (Some (denotation.Standard n)) es Indices Operands Actuals h a = standard_gives (procedure_named n) Operands h a
 named_gives s from (Some k) (Some (denotation.Standard n)) es Indices Operands Actuals h a = absurd a
 
--- an identifier, which may be a procedure of SIMSET of the object around
+-- an attribute that is seen without a dot
+own_gives : (s : Source) (from : Place) (token : ℕ) (d : DeclNo) (es : Expressions) (Indices : Type 0) (Actuals : List Formal → Type 0) (e : Option Entry) (h : Option Holds) → OwnGives s from token d Actuals e h (DeclaredGives s (OwnKnown s from token d) d es Indices Actuals e h) → gives_entry e ≡ is_given h
+own_gives s from token d es I A (Some (entry.Attribute name parameter result)) h a = go (is_simulation_name name) a
+  where
+    result_given : (r : Option SimType) (h : Option Holds) → FitsIn s (given_by s r) h → gives_entry (Some (entry.Attribute name parameter r)) ≡ is_given h
+    result_given None None f = refl
+    result_given None (Some g) f = absurd f
+    result_given (Some t) None f = absurd f
+    result_given (Some t) (Some g) f = refl
+
+    go : (c : Bool) → OwnNameGives c (SimulationGives s (SimulationKnown s from token d) parameter result A h) (SetGives s (OwnKnown s from token d) name parameter result A h) → gives_entry (Some (entry.Attribute name parameter result)) ≡ is_given h
+    go true a = result_given result h a.0
+    go false a = result_given result h a.1
+own_gives s from token d es I A (Some (entry.Procedure result k)) h a = declared_gives s (OwnKnown s from token d) d es I A (Some (entry.Procedure result k)) h a
+own_gives s from token d es I A (Some (entry.Variable t)) h a = declared_gives s (OwnKnown s from token d) d es I A (Some (entry.Variable t)) h a
+own_gives s from token d es I A (Some (entry.Constant t)) h a = declared_gives s (OwnKnown s from token d) d es I A (Some (entry.Constant t)) h a
+own_gives s from token d es I A (Some (entry.Array t n)) h a = declared_gives s (OwnKnown s from token d) d es I A (Some (entry.Array t n)) h a
+own_gives s from token d es I A (Some (entry.Class k)) h a = declared_gives s (OwnKnown s from token d) d es I A (Some (entry.Class k)) h a
+own_gives s from token d es I A (Some (entry.Virtual result own)) h a = declared_gives s (OwnKnown s from token d) d es I A (Some (entry.Virtual result own)) h a
+own_gives s from token d es I A (Some (entry.Formal f)) h a = declared_gives s (OwnKnown s from token d) d es I A (Some (entry.Formal f)) h a
+own_gives s from token d es I A (Some (entry.Unspecified w)) h a = declared_gives s (OwnKnown s from token d) d es I A (Some (entry.Unspecified w)) h a
+own_gives s from token d es I A None h a = declared_gives s (OwnKnown s from token d) d es I A None h a
+
+-- an identifier, which may be an attribute of the object around
 pub identifier_gives : (s : Source) (from : Place) (token : ℕ) (c : Option ℕ) (own : Option DeclNo) (es : Expressions) (Indices : Type 0) (Operands : List Kind → Type 0) (Actuals : List Formal → Type 0) (h : Option Holds) → own_attribute s token ≡ own → IdentifierGives s from token c own es Indices Operands Actuals h → gives s (denoted s token) ≡ is_given h
 identifier_gives s from token None None es Indices Operands Actuals h e a = named_gives s from None (denoted s token) es Indices Operands Actuals h a
 identifier_gives s from token (Some k) own es Indices Operands Actuals h e a = named_gives s from (Some k) (denoted s token) es Indices Operands Actuals h a
 identifier_gives s from token None (Some d) es Indices Operands Actuals h e a =
-    ap (gives s) (own_denoted s token d e) ∙ declared_gives s (OwnKnown s from token d) d es Indices Actuals (entry_of s.tables d) h a
+    ap (gives s) (own_denoted s token d e) ∙ own_gives s from token d es Indices Actuals (entry_of s.tables d) h a
 
 attribute_gives : (n : Option Standard) (Object : Type 0) (Operands : List Kind → Type 0) (h : Option Holds) → AttributeGives n Object Operands h → standard_leaves n ≡ is_given h
 attribute_gives None Object Operands h a = absurd a
@@ -234,13 +259,48 @@ module _ (s : Source) (ok : Typed s) (laid : Laid s) (t : ℕ) (from : Place) (s
         of_object_built s ok laid t d (SeesConnected s from k d) (λ z. stands.behind k d z) es (AreIntegers s from es) integers (ConnectedBuilt s t k) (λ z. stands.connected k d z) Actuals Given (entry_of s.tables d) h refl given count a
     connected_name_built k (Some (denotation.Standard n)) h a = absurd a
 
-    -- an identifier, which may be a procedure of SIMSET of the object around
+    -- an attribute of the object around
+    own_object : (token : ℕ) (d : DeclNo) (h : Option Holds) (y : Option Entry) → entry_of s.tables d ≡ y → DeclaredGives s (OwnKnown s from token d) d es (AreIntegers s from es) Actuals y h
+        → OfObjectBuilt s d y es (ThisFoundBuilt s t (found_at s token)) (AreBuilt s t es) (Given (formals_at s d))
+    own_object token d h y e a =
+        of_object_built s ok laid t d (OwnKnown s from token d) (λ z. object_solid (λ c. ThisFound s from (found_at s token) (Refers c)) d z) es (AreIntegers s from es) integers (ThisFoundBuilt s t (found_at s token)) (λ z. this_built (found_at s token) (Refers z.0) z.3) Actuals Given y h e given count a
+
+    -- a procedure of a simulation block, which is a text around
+    simulation_built : (token : ℕ) (d : DeclNo) (name : Standard) (parameter result : Option SimType) (h : Option Holds) → entry_of s.tables d ≡ Some (entry.Attribute name parameter result) → is_simulation_name name ≡ true
+        → SimulationGives s (SimulationKnown s from token d) parameter result Actuals h → SimulationFoundBuilt s t (found_at s token) name result es (Given (formals_at s d))
+    simulation_built token d name parameter result h e is a =
+        let there = ok.simulation_procedures d name parameter result e is in
+        let known = a.1 in
+        subst (λ z. SimulationFoundBuilt s t z name result es (Given (formals_at s d))) (sym known.is_found) (
+          simulation_named s name parameter result (block_of s d + 1) es is (count (attribute_formals parameter) a.2) there.parameter_is there.result_is,
+          stands.around known.found known.around,
+          subst Given (sym (ap (formals_declared s d) e)) (given (attribute_formals parameter) a.2),
+        )
+
+    own_built : (token : ℕ) (d : DeclNo) (h : Option Holds) (y : Option Entry) → entry_of s.tables d ≡ y → OwnGives s from token d Actuals y h (DeclaredGives s (OwnKnown s from token d) d es (AreIntegers s from es) Actuals y h)
+        → OwnNameBuilt s t (found_at s token) y es (Given (formals_at s d)) (OfObjectBuilt s d y es (ThisFoundBuilt s t (found_at s token)) (AreBuilt s t es) (Given (formals_at s d)))
+    own_built token d h (Some (entry.Attribute name parameter result)) e a = go (is_simulation_name name) refl a
+      where
+        go : (c : Bool) → is_simulation_name name ≡ c → OwnNameGives c (SimulationGives s (SimulationKnown s from token d) parameter result Actuals h) (SetGives s (OwnKnown s from token d) name parameter result Actuals h)
+            → OwnByBuilt c (SimulationFoundBuilt s t (found_at s token) name result es (Given (formals_at s d))) (OfObjectBuilt s d (Some (entry.Attribute name parameter result)) es (ThisFoundBuilt s t (found_at s token)) (AreBuilt s t es) (Given (formals_at s d)))
+        go true is a = simulation_built token d name parameter result h e is a
+        go false is a = own_object token d h (Some (entry.Attribute name parameter result)) e a
+    own_built token d h (Some (entry.Procedure result k)) e a = own_object token d h (Some (entry.Procedure result k)) e a
+    own_built token d h (Some (entry.Variable ty)) e a = own_object token d h (Some (entry.Variable ty)) e a
+    own_built token d h (Some (entry.Constant ty)) e a = own_object token d h (Some (entry.Constant ty)) e a
+    own_built token d h (Some (entry.Array ty n)) e a = own_object token d h (Some (entry.Array ty n)) e a
+    own_built token d h (Some (entry.Class k)) e a = own_object token d h (Some (entry.Class k)) e a
+    own_built token d h (Some (entry.Virtual result own)) e a = own_object token d h (Some (entry.Virtual result own)) e a
+    own_built token d h (Some (entry.Formal f)) e a = own_object token d h (Some (entry.Formal f)) e a
+    own_built token d h (Some (entry.Unspecified w)) e a = own_object token d h (Some (entry.Unspecified w)) e a
+    own_built token d h None e a = own_object token d h None e a
+
+    -- an identifier, which may be an attribute of the object around
     pub identifier_built : (token : ℕ) (c : Option ℕ) (own : Option DeclNo) (h : Option Holds) → own_attribute s token ≡ own → IdentifierGives s from token c own es (AreIntegers s from es) (λ ks. AreOf s from es ks) Actuals h
-        → ThroughBuilt c (λ k. ConnectedNameBuilt s t k (denoted s token) es (AreBuilt s t es) Given) (OwnBuilt own (λ d. OfObjectBuilt s d (entry_of s.tables d) es (ThisFoundBuilt s t (found_at s token)) (AreBuilt s t es) (Given (formals_at s d))) (NamedBuilt s t (denoted s token) es (AreBuilt s t es) Given))
+        → ThroughBuilt c (λ k. ConnectedNameBuilt s t k (denoted s token) es (AreBuilt s t es) Given) (OwnBuilt own (λ d. OwnNameBuilt s t (found_at s token) (entry_of s.tables d) es (Given (formals_at s d)) (OfObjectBuilt s d (entry_of s.tables d) es (ThisFoundBuilt s t (found_at s token)) (AreBuilt s t es) (Given (formals_at s d)))) (NamedBuilt s t (denoted s token) es (AreBuilt s t es) Given))
     identifier_built token None None h e a = named_built (denoted s token) h (not_own s token e) a
     identifier_built token (Some k) own h e a = connected_name_built k (denoted s token) h a
-    identifier_built token None (Some d) h e a =
-        of_object_built s ok laid t d (OwnKnown s from token d) (λ z. object_solid (λ c. ThisFound s from (found_at s token) (Refers c)) d z) es (AreIntegers s from es) integers (ThisFoundBuilt s t (found_at s token)) (λ z. this_built (found_at s token) (Refers z.0) z.3) Actuals Given (entry_of s.tables d) h refl given count a
+    identifier_built token None (Some d) h e a = own_built token d h (entry_of s.tables d) refl a
 
     pub dot_built : (Text Place Value : Type 0) (Object : ℕ → Type 0) (x : Option Denotation) (stream : Option ℕ) (is_variable : Bool) (h : Option Holds) → (is_variable ≡ true → Text → Place) → (Text → Value) → ((c : ℕ) → Object c → Value) → DotGives s x stream Text Object es (AreIntegers s from es) (λ ks. AreOf s from es ks) Actuals h → DotBuilt s x stream is_variable es Place Value (AreBuilt s t es) Given
     dot_built Text Place Value Object None stream is_variable h p v o a = absurd a
@@ -278,11 +338,13 @@ module _ (s : Source) (ok : Typed s) (laid : Laid s) (t : ℕ) (from : Place) (s
 
   -- ---- objects
 
-  generation_built : (token : ℕ) (Actuals Given : List Formal → Type 0) → ((fs : List Formal) → Actuals fs → Given fs) → Generates s from token Actuals → GenerationBuilt s t (denoted s token) (class_at s token) (Given (class_parameters s (class_at s token)))
+  generation_built : (token : ℕ) (Actuals Given : List Formal → Type 0) → ((fs : List Formal) → Actuals fs → Given fs) → Generates s from token Actuals → GenerationBuilt s t (denoted s token) (class_made s (class_at s token)) (Given (class_parameters s (class_at s token)))
   unfolding class_at
   generation_built token Actuals Given given g =
-      subst (λ x. GenerationBuilt s t x (class_denoted s x) (Given (class_parameters s (class_denoted s x)))) (sym g.denotes)
-      (subst (λ c. GenerationBuilt s t (Some (denotation.Declared g.declaration)) c (Given (class_parameters s c))) (sym (class_there s ok g.declaration g.class g.declares)) (stands.seen g.declaration g.seen, given (class_parameters s (Some g.class)) g.actuals))
+      subst (λ x. GenerationBuilt s t x (class_made s (class_denoted s x)) (Given (class_parameters s (class_denoted s x)))) (sym g.denotes)
+      (subst (λ c. GenerationBuilt s t (Some (denotation.Declared g.declaration)) (class_made s c) (Given (class_parameters s c))) (sym (class_there s ok g.declaration g.class g.declares))
+      (subst (λ c. GenerationBuilt s t (Some (denotation.Declared g.declaration)) c (Given (class_parameters s (Some g.class)))) (sym (ap (λ b. class_unless b g.class) g.made))
+      (stands.seen g.declaration g.seen, given (class_parameters s (Some g.class)) g.actuals)))
 
   -- ---- expressions
 

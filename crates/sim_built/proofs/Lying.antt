@@ -60,6 +60,7 @@ lies s a inners = record {
   falls = a.nesting;
   prefixed = λ k e. prefixed_text (text s k) (sym (a.prefixed_kinds k) ∙ sym (prefixed_in_row (slice_get s.tables.blocks k)) ∙ e);
   with_prefix = λ k class es ds ss e. prefixed_in_row (slice_get s.tables.blocks k) ∙ a.prefixed_kinds k ∙ ap is_prefixed_text e;
+  processes = a.processes_brought;
   owned = a.owned;
   different = a.different;
   formals = a.parameters;

@@ -3,7 +3,8 @@ use Rattle.std.proofs.Common.{◌≡◌, ℕ, zero, suc, ◌+◌, Bool, true, fa
 use Rattle.std.specs.Prelude.{slice_get}
 use Rattle.sim_base.specs.declared.numbering.DeclNo.{DeclNo}
 use Rattle.sim_scope.specs.declared.types.StandardClass.{StandardClass}
-use Rattle.sim_scope.specs.declared.types.StandardClass.TheVariants as standard
+use Rattle.sim_scope.specs.declared.types.StandardPrefix.{StandardPrefix}
+use Rattle.sim_scope.specs.declared.types.StandardPrefix.TheVariants as prefixes
 use Rattle.sim_scope.specs.Source.{Source}
 use Rattle.sim_tree.specs.declared.expr.Identifier.{Identifier}
 use Rattle.sim_tree.specs.Filled.{Filled, FilledArms, FilledBlock, FilledDeclaration, FilledDeclarations, FilledStatement, FilledStatements}
@@ -15,13 +16,13 @@ use Rattle.sim_meaning.specs.Entries.{numbers_of}
 use Rattle.sim_meaning.specs.Levels.{writes_inner}
 use Rattle.sim_meaning.specs.Texts.{BlockText, ClassText, ConnectionText, PrefixedText, ProcedureText, StandardText, Text, arms_texts, block_texts, declaration_texts, declarations_texts, declared_at, prefix_texts, prefixed_texts, program_texts, statement_texts, statements_texts, text}
 use Rattle.sim_agree.specs.Inners.{InnersIn}
-use Rattle.sim_agree.specs.Plain.{Each, Plain, PlainArms, PlainBlock, PlainDeclaration, PlainDeclarations, PlainPrefix, PlainStart, PlainStatement, PlainStatements}
-use Rattle.sim_agree.proofs.PlainNames.{behind_prefix}
+use Rattle.sim_agree.specs.Plain.{Each, Plain, PlainArms, PlainBlock, PlainDeclaration, PlainDeclarations, PlainStatement, PlainStatements}
+use Rattle.sim_agree.proofs.StandardPrefixes.{behind_prefix, brought_texts}
 use Rattle.sim_sound.specs.Held.{Among, ArrayOf, Holds, InBound, Simply, entry_holds, first, held_by, later}
 use Rattle.sim_sound.specs.Statements.{StatementsAre}
-use Rattle.sim_sound.specs.Typed.{ArraysAre, ArraysTyped, BoundsAre, SegmentsAre, SomeName, Starts, TextTyped, Typed, arrays_in_segments, arrays_named, arrays_of_block, as_block, as_prefixed, of_option, set_place}
+use Rattle.sim_sound.specs.Typed.{ArraysAre, ArraysTyped, BoundsAre, SegmentsAre, SomeName, Starts, TextTyped, Typed, arrays_in_segments, arrays_named, arrays_of_block, as_block, as_prefixed, of_option}
 use Rattle.codegen_expr.specs.Sites.{is_constant}
-use Rattle.codegen.specs.BuiltProgram.{ArraysBuilt, BoundsBuilt, KeptBuilt, LevelBuilt, MadeBuilt, NamesBuilt, OnlyLevel, ProgramBuilt, SegmentsBuilt, SetClass, StatementsBuilt, TextBuilt, TextsBuilt, texts_of}
+use Rattle.codegen.specs.BuiltProgram.{ArraysBuilt, BoundsBuilt, KeptBuilt, LevelBuilt, MadeBuilt, NamesBuilt, OnlyLevel, ProgramBuilt, SegmentsBuilt, StatementsBuilt, TextBuilt, TextsBuilt, texts_of}
 use Rattle.sim_built.specs.Laid.{Laid}
 use Rattle.sim_built.proofs.Agreeing.{agrees}
 use Rattle.sim_built.proofs.Cells.{front_is, slot_listed}
@@ -96,9 +97,13 @@ both_each : (xs ys : List Text) → Each Fit xs → Each Fit ys → Each Fit (xs
 both_each [] ys a b = b
 both_each (x ∷ xs) ys a b = (a.0, both_each xs ys a.1 b)
 
--- a prefix brings the texts of the classes of SIMSET, or none
-fit_prefix : (prefix : Option Identifier) → PlainPrefix prefix → (xs : List Text) → Each Fit xs → Each Fit (prefix_texts prefix ++ xs)
-fit_prefix prefix p xs a = behind_prefix (λ z. Each Fit z) prefix p xs a (tt, (tt, (tt, a)))
+-- a prefix brings the texts of standard classes, or none
+brought_fit : (p : StandardPrefix) (xs : List Text) → Each Fit xs → Each Fit (brought_texts p ++ xs)
+brought_fit prefixes.Simset xs a = (tt, (tt, (tt, a)))
+brought_fit prefixes.Simulation xs a = (tt, (tt, (tt, (tt, a))))
+
+fit_prefix : (prefix : Option Identifier) (xs : List Text) → Each Fit xs → Each Fit (prefix_texts prefix ++ xs)
+fit_prefix prefix xs a = behind_prefix (λ z. Each Fit z) prefix xs a (λ p. brought_fit p xs a)
 
 mutual
   statement_fit : (a : Statement) → PlainStatement a → FilledStatement a → Each Fit (statement_texts a)
@@ -112,16 +117,16 @@ mutual
   statement_fit (syntax.Inner i) p f = tt
   statement_fit (syntax.Inspect i e opening x end other) p f = (tt, both_each (statement_texts x) (statements_texts other) (statement_fit x p.1 f.0) (statements_fit other p.2 f.1))
   statement_fit (syntax.InspectWhen i e arms other) p f = both_each (arms_texts arms) (statements_texts other) (arms_fit arms p.1 f.0) (statements_fit other p.2 f.1)
-  statement_fit (syntax.Prefixed class arguments b) p f = prefixed_fit class arguments b p.0 p.2 f
-  statement_fit (syntax.Activate i word e schedule) p f = absurd p
+  statement_fit (syntax.Prefixed class arguments b) p f = prefixed_fit class arguments b p.1 f
+  statement_fit (syntax.Activate i word e schedule) p f = tt
 
-  prefixed_fit : (class : Identifier) (es : Expressions) (b : Block) → PlainPrefix (Some class) → PlainBlock b → FilledBlock b → Each Fit (prefixed_texts class es b)
-  prefixed_fit class es (Begin i ds ss end) n p f =
-      (f.1, fit_prefix (Some class) n (declarations_texts ds ++ statements_texts ss) (both_each (declarations_texts ds) (statements_texts ss) (declarations_fit ds p.0 f.0) (statements_fit ss p.1 f.1)))
+  prefixed_fit : (class : Identifier) (es : Expressions) (b : Block) → PlainBlock b → FilledBlock b → Each Fit (prefixed_texts class es b)
+  prefixed_fit class es (Begin i ds ss end) p f =
+      (f.1, fit_prefix (Some class) (declarations_texts ds ++ statements_texts ss) (both_each (declarations_texts ds) (statements_texts ss) (declarations_fit ds p.0 f.0) (statements_fit ss p.1 f.1)))
 
   arms_fit : (arms : Arms) → PlainArms arms → FilledArms arms → Each Fit (arms_texts arms)
   arms_fit NoArm p f = tt
-  arms_fit (When i class opening x end more) p f = (tt, both_each (statement_texts x) (arms_texts more) (statement_fit x p.1 f.0) (arms_fit more p.2 f.1))
+  arms_fit (When i class opening x end more) p f = (tt, both_each (statement_texts x) (arms_texts more) (statement_fit x p.0 f.0) (arms_fit more p.1 f.1))
 
   statements_fit : (ss : Statements) → PlainStatements ss → FilledStatements ss → Each Fit (statements_texts ss)
   statements_fit NoStatement p f = tt
@@ -139,25 +144,25 @@ mutual
   declaration_fit : (d : Declaration) → PlainDeclaration d → FilledDeclaration d → Each Fit (declaration_texts d)
   declaration_fit (Variables type vs) p f = tt
   declaration_fit (Arrays type i gs) p f = tt
-  declaration_fit (DeclareProcedure result i h a end) p f = (f, statement_fit a p.2 f)
+  declaration_fit (DeclareProcedure result i h a end) p f = (f, statement_fit a p.1 f)
   declaration_fit (DeclareClass prefix i h interface (syntax.Compound (Begin j ds ss e)) end) p f =
-      (f.1, fit_prefix prefix p.0 (declarations_texts ds ++ statements_texts ss) (both_each (declarations_texts ds) (statements_texts ss) (declarations_fit ds (p.3).0 f.0) (statements_fit ss (p.3).1 f.1)))
-  declaration_fit (DeclareClass prefix i h interface (syntax.Empty j) end) p f = ((f, tt), fit_prefix prefix p.0 (statement_texts (syntax.Empty j)) (statement_fit (syntax.Empty j) p.3 f))
-  declaration_fit (DeclareClass prefix i h interface (syntax.Call e) end) p f = ((f, tt), fit_prefix prefix p.0 (statement_texts (syntax.Call e)) (statement_fit (syntax.Call e) p.3 f))
-  declaration_fit (DeclareClass prefix i h interface (syntax.Assign e rs) end) p f = ((f, tt), fit_prefix prefix p.0 (statement_texts (syntax.Assign e rs)) (statement_fit (syntax.Assign e rs) p.3 f))
-  declaration_fit (DeclareClass prefix i h interface (syntax.Choose j c x y) end) p f = ((f, tt), fit_prefix prefix p.0 (statement_texts (syntax.Choose j c x y)) (statement_fit (syntax.Choose j c x y) p.3 f))
-  declaration_fit (DeclareClass prefix i h interface (syntax.Repeat j c x) end) p f = ((f, tt), fit_prefix prefix p.0 (statement_texts (syntax.Repeat j c x)) (statement_fit (syntax.Repeat j c x) p.3 f))
-  declaration_fit (DeclareClass prefix i h interface (syntax.For j name sign assign es x) end) p f = ((f, tt), fit_prefix prefix p.0 (statement_texts (syntax.For j name sign assign es x)) (statement_fit (syntax.For j name sign assign es x) p.3 f))
-  declaration_fit (DeclareClass prefix i h interface (syntax.Inner j) end) p f = ((f, tt), fit_prefix prefix p.0 (statement_texts (syntax.Inner j)) (statement_fit (syntax.Inner j) p.3 f))
-  declaration_fit (DeclareClass prefix i h interface (syntax.Inspect j e opening x close other) end) p f = ((f, tt), fit_prefix prefix p.0 (statement_texts (syntax.Inspect j e opening x close other)) (statement_fit (syntax.Inspect j e opening x close other) p.3 f))
-  declaration_fit (DeclareClass prefix i h interface (syntax.InspectWhen j e arms other) end) p f = ((f, tt), fit_prefix prefix p.0 (statement_texts (syntax.InspectWhen j e arms other)) (statement_fit (syntax.InspectWhen j e arms other) p.3 f))
-  declaration_fit (DeclareClass prefix i h interface (syntax.Prefixed class arguments b) end) p f = ((f, tt), fit_prefix prefix p.0 (statement_texts (syntax.Prefixed class arguments b)) (statement_fit (syntax.Prefixed class arguments b) p.3 f))
-  declaration_fit (DeclareClass prefix i h interface (syntax.Activate j word e schedule) end) p f = absurd p.3
+      (f.1, fit_prefix prefix (declarations_texts ds ++ statements_texts ss) (both_each (declarations_texts ds) (statements_texts ss) (declarations_fit ds (p.2).0 f.0) (statements_fit ss (p.2).1 f.1)))
+  declaration_fit (DeclareClass prefix i h interface (syntax.Empty j) end) p f = ((f, tt), fit_prefix prefix (statement_texts (syntax.Empty j)) (statement_fit (syntax.Empty j) p.2 f))
+  declaration_fit (DeclareClass prefix i h interface (syntax.Call e) end) p f = ((f, tt), fit_prefix prefix (statement_texts (syntax.Call e)) (statement_fit (syntax.Call e) p.2 f))
+  declaration_fit (DeclareClass prefix i h interface (syntax.Assign e rs) end) p f = ((f, tt), fit_prefix prefix (statement_texts (syntax.Assign e rs)) (statement_fit (syntax.Assign e rs) p.2 f))
+  declaration_fit (DeclareClass prefix i h interface (syntax.Choose j c x y) end) p f = ((f, tt), fit_prefix prefix (statement_texts (syntax.Choose j c x y)) (statement_fit (syntax.Choose j c x y) p.2 f))
+  declaration_fit (DeclareClass prefix i h interface (syntax.Repeat j c x) end) p f = ((f, tt), fit_prefix prefix (statement_texts (syntax.Repeat j c x)) (statement_fit (syntax.Repeat j c x) p.2 f))
+  declaration_fit (DeclareClass prefix i h interface (syntax.For j name sign assign es x) end) p f = ((f, tt), fit_prefix prefix (statement_texts (syntax.For j name sign assign es x)) (statement_fit (syntax.For j name sign assign es x) p.2 f))
+  declaration_fit (DeclareClass prefix i h interface (syntax.Inner j) end) p f = ((f, tt), fit_prefix prefix (statement_texts (syntax.Inner j)) (statement_fit (syntax.Inner j) p.2 f))
+  declaration_fit (DeclareClass prefix i h interface (syntax.Inspect j e opening x close other) end) p f = ((f, tt), fit_prefix prefix (statement_texts (syntax.Inspect j e opening x close other)) (statement_fit (syntax.Inspect j e opening x close other) p.2 f))
+  declaration_fit (DeclareClass prefix i h interface (syntax.InspectWhen j e arms other) end) p f = ((f, tt), fit_prefix prefix (statement_texts (syntax.InspectWhen j e arms other)) (statement_fit (syntax.InspectWhen j e arms other) p.2 f))
+  declaration_fit (DeclareClass prefix i h interface (syntax.Prefixed class arguments b) end) p f = ((f, tt), fit_prefix prefix (statement_texts (syntax.Prefixed class arguments b)) (statement_fit (syntax.Prefixed class arguments b) p.2 f))
+  declaration_fit (DeclareClass prefix i h interface (syntax.Activate j word e schedule) end) p f = ((f, tt), fit_prefix prefix (statement_texts (syntax.Activate j word e schedule)) (statement_fit (syntax.Activate j word e schedule) p.2 f))
 
-program_fit : (prefix : Option Prefix) (b : Block) → PlainStart prefix → PlainBlock b → FilledBlock b → Each Fit (program_texts prefix b)
-program_fit None (Begin i ds ss end) n p f = (f.1, both_each (declarations_texts ds) (statements_texts ss) (declarations_fit ds p.0 f.0) (statements_fit ss p.1 f.1))
-program_fit (Some x) (Begin i ds ss end) n p f =
-    (f.1, fit_prefix (Some x.class) n.0 (declarations_texts ds ++ statements_texts ss) (both_each (declarations_texts ds) (statements_texts ss) (declarations_fit ds p.0 f.0) (statements_fit ss p.1 f.1)))
+program_fit : (prefix : Option Prefix) (b : Block) → PlainBlock b → FilledBlock b → Each Fit (program_texts prefix b)
+program_fit None (Begin i ds ss end) p f = (f.1, both_each (declarations_texts ds) (statements_texts ss) (declarations_fit ds p.0 f.0) (statements_fit ss p.1 f.1))
+program_fit (Some x) (Begin i ds ss end) p f =
+    (f.1, fit_prefix (Some x.class) (declarations_texts ds ++ statements_texts ss) (both_each (declarations_texts ds) (statements_texts ss) (declarations_fit ds p.0 f.0) (statements_fit ss p.1 f.1)))
 
 module _ (s : Source) (ok : Typed s) (laid : Laid s) where
   level_built : (k : ℕ) (prefix : Option Identifier) (h : Heading) (ds : Declarations) (ss : Statements) → text s k ≡ Some (ClassText prefix h ds ss) → (written : Bool) → InnersIn written (ClassText prefix h ds ss) → FilledStatements ss → StatementsAre s k ss → LevelBuilt s k written ss
@@ -189,13 +194,6 @@ module _ (s : Source) (ok : Typed s) (laid : Laid s) where
   only_level class es ds ss e (as_block block) = absurd (cc)
   only_level class es ds ss e (as_prefixed block none bare) = front_is s ok laid 0 (ap is_connection e) ∙ none
 
-  -- no class of SIMSET is a process
-  set_class : (which : StandardClass) (place : ℕ) → set_place which ≡ Some place → SetClass which
-  set_class standard.Linkage place e = tt
-  set_class standard.Link place e = tt
-  set_class standard.Head place e = tt
-  set_class standard.Process place e = absurd (cc)
-
   text_built : (k : ℕ) (x : Text) → text s k ≡ Some x → Fit x → TextTyped s k x → TextBuilt s k x
   text_built k (BlockText begin ds ss) e f a = (
     arrays_built s ok laid k (BlockText begin ds ss) e (ap is_connection e) ds a.own a.arrays,
@@ -208,7 +206,7 @@ module _ (s : Source) (ok : Typed s) (laid : Laid s) where
   text_built (suc k) (PrefixedText class es ds ss) e f a = prefixed_built (suc k) class es ds ss e f a
   text_built k ConnectionText e f a = tt
   text_built zero (StandardText which) e f a = absurd (no_first_standard which e ok.starts)
-  text_built (suc k) (StandardText which) e f a = let there = ok.set_classes (suc k) which e in set_class which there.place there.placed
+  text_built (suc k) (StandardText which) e f a = tt
 
   texts_built : (k : ℕ) (xs : List Text) → ((i : ℕ) (x : Text) → slice_get xs i ≡ Some x → text s (k + i) ≡ Some x) → Each Fit xs → TextsBuilt s k xs
   texts_built k [] at f = tt
@@ -222,7 +220,7 @@ module _ (s : Source) (ok : Typed s) (laid : Laid s) where
   pub program_built : Plain s.program → Filled s.program → ProgramBuilt s
   unfolding texts_of text
   program_built p f =
-      let fit = program_fit s.program.prefix s.program.block p.start p.block f in
+      let fit = program_fit s.program.prefix s.program.block p.block f in
       record {
         texts = texts_built 0 (program_texts s.program.prefix s.program.block) (λ i x e. ap (slice_get (program_texts s.program.prefix s.program.block)) (omega arith) ∙ e) fit;
         agrees = agrees s ok laid;

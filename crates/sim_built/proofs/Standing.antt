@@ -13,7 +13,7 @@ use Rattle.sim_built.proofs.Cells.{class_is_solid, connection_has, level_solid, 
 use Rattle.sim_built.proofs.Expressions.{Stands}
 
 module _ (s : Source) (ok : Typed s) (laid : Laid s) (t : ℕ) (x : Text) (there : text s t ≡ Some x) where
-  seen_here : (v : ℕ) → Seen s t v → StandsIn s t v
+  pub seen_here : (v : ℕ) → Seen s t v → StandsIn s t v
   seen_here v a = stands_level s ok laid t a.found v x there a.around a.instance a.level
 
   seen_solid : (u v : ℕ) → Seen s u v → is_connection (text s v) ≡ false

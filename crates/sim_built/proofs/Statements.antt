@@ -7,7 +7,7 @@ use Rattle.sim_scope.specs.Levels.{base}
 use Rattle.sim_scope.specs.Scopes.{entry_of}
 use Rattle.sim_scope.specs.Source.{Source, block_around, denoted, found_at, line_at}
 use Rattle.sim_tree.specs.Filled.{FilledArms, FilledStatement, FilledStatements, SomeElement, SomeSide}
-use Rattle.sim_tree.specs.Syntax.{Also, Arms, Begin, Element, Expression, Expressions, NoArm, NoDeclaration, NoMore, NoStatement, RightSide, Statement, Statements, Then, When, With}
+use Rattle.sim_tree.specs.Syntax.{Also, Arms, Begin, Element, Expression, Expressions, NoArm, NoDeclaration, NoMore, NoStatement, RightSide, Schedule, Statement, Statements, Then, When, With}
 use Rattle.sim_tree.specs.Syntax as syntax
 use Rattle.sim_values.specs.declared.kind.Kind.{Kind}
 use Rattle.sim_values.specs.declared.kind.Kind.TheVariants as kind
@@ -15,17 +15,17 @@ use Rattle.sim_code.specs.Transfers.{Calling, Detaching, Resuming, Transfer}
 use Rattle.sim_meaning.specs.Attributes.{cell_of_connection, connection_at, is_connection, own_attribute, transfer_at}
 use Rattle.sim_meaning.specs.Closing.{class_parameters, formals_at, is_attribute, is_text, is_variable, stream_of}
 use Rattle.sim_meaning.specs.Pending.{Connection}
-use Rattle.sim_meaning.specs.Statements.{begin_of, leaves}
+use Rattle.sim_meaning.specs.Statements.{begin_of, leaves, simulation_around}
 use Rattle.sim_meaning.specs.Texts.{ConnectionText, PrefixedText, Text, text}
 use Rattle.sim_agree.specs.Inners.{NoInner, NoInnerArms, NoInners, OneInner, behind, here}
 use Rattle.sim_sound.specs.Held.{Holds, In, Refers, Simply, reference_to}
 use Rattle.sim_sound.specs.Expressions.{ActualsFit, AreIntegers, AreOf, DotGives, ExprIs, IdentifierGives}
-use Rattle.sim_sound.specs.Statements.{ArmsAre, BlockIs, CallIs, ConnectionIs, ElementIs, ElementsAre, LeftsAre, OrTransferIs, PrefixedIs, StatementIs, StatementsAre, TransferIs, is_given}
+use Rattle.sim_sound.specs.Statements.{ArmsAre, BlockIs, CallIs, ConnectionIs, ElementIs, ElementsAre, LeftsAre, OrTransferIs, PrefixedIs, SimulationIs, StatementIs, StatementsAre, TimingIs, TransferIs, is_given}
 use Rattle.sim_sound.specs.Typed.{Typed}
-use Rattle.codegen_expr.specs.Built.{ActualsBuilt, AreBuilt, ClassBuilt, ConnectedNameBuilt, DotBuilt, IsBuilt, NamedBuilt, OfObjectBuilt, OwnBuilt, PlaceBuilt, ThisFoundBuilt, ThroughBuilt, is_there, slot_in}
+use Rattle.codegen_expr.specs.Built.{ActualsBuilt, AreBuilt, ClassBuilt, ConnectedNameBuilt, DotBuilt, IsBuilt, NamedBuilt, OfObjectBuilt, OwnBuilt, OwnNameBuilt, PlaceBuilt, ThisFoundBuilt, ThroughBuilt, is_there, slot_in}
 use Rattle.codegen_expr.specs.CodeExpr.{gives}
 use Rattle.codegen_expr.specs.Sites.{frame_text}
-use Rattle.codegen.specs.BuiltProgram.{ArmsBuilt, AssignBuilt, CalledBuilt, ConnectsBuilt, ElementBuilt, ElementsBuilt, EnterBuilt, ForBuilt, InnerOrBuilt, LeftsBuilt, ListBuilt, OrTransferBuilt, PrefixBuilt, StatementBuilt, StatementsBuilt, StepsBuilt, TransferBuilt, WithInnerBuilt}
+use Rattle.codegen.specs.BuiltProgram.{ActivatesBuilt, ArmsBuilt, AssignBuilt, CalledBuilt, ConnectsBuilt, ElementBuilt, ElementsBuilt, EnterBuilt, ForBuilt, InnerOrBuilt, LeftsBuilt, ListBuilt, OperandBuilt, OrTransferBuilt, PrefixBuilt, StatementBuilt, StatementsBuilt, StepsBuilt, TransferBuilt, WithInnerBuilt}
 use Rattle.codegen.specs.CodeFor.{Variable, assigned_by, variable_of}
 use Rattle.codegen.specs.CodeLeft.{each_stored}
 use Rattle.codegen.specs.CodeStm.{inner_of}
@@ -33,7 +33,7 @@ use Rattle.sim_built.specs.Laid.{Laid}
 use Rattle.sim_built.proofs.Cells.{connection_has}
 use Rattle.sim_built.proofs.Expressions.{Stands, actuals_built, are_built, dot_built, dot_gives, fitted, identifier_built, identifier_gives, integers_built, text_place, this_built}
 use Rattle.sim_built.proofs.LeftSides.{Controls, built, controls, side_built}
-use Rattle.sim_built.proofs.Standing.{stands_here}
+use Rattle.sim_built.proofs.Standing.{seen_here, stands_here}
 
 module _ (s : Source) (ok : Typed s) (laid : Laid s) (t : ℕ) (x : Text) (there : text s t ≡ Some x) where
   value : (e : Expression) (h : Holds) → ExprIs s (In t) e h → IsBuilt s t e
@@ -100,7 +100,7 @@ module _ (s : Source) (ok : Typed s) (laid : Laid s) (t : ℕ) (x : Text) (there
       ((h : Option Holds) × IdentifierGives s (In t) name.token.0 (connection_at s name.token.0) (own_attribute s name.token.0) es (AreIntegers s (In t) es) (λ ks. AreOf s (In t) es ks) (λ fs. ActualsFit s (In t) es fs) h × (leaves s (syntax.Named name es) ≡ is_given h))
       ((leaves s (syntax.Named name es) ≡ gives s (denoted s name.token.0))
       × ThroughBuilt (connection_at s name.token.0) (λ k. ConnectedNameBuilt s t k (denoted s name.token.0) es (AreBuilt s t es) (λ fs. ActualsBuilt s t es fs))
-      (OwnBuilt (own_attribute s name.token.0) (λ d. OfObjectBuilt s d (entry_of s.tables d) es (ThisFoundBuilt s t (found_at s name.token.0)) (AreBuilt s t es) (ActualsBuilt s t es (formals_at s d))) (NamedBuilt s t (denoted s name.token.0) es (AreBuilt s t es) (λ fs. ActualsBuilt s t es fs))))
+      (OwnBuilt (own_attribute s name.token.0) (λ d. OwnNameBuilt s t (found_at s name.token.0) (entry_of s.tables d) es (ActualsBuilt s t es (formals_at s d)) (OfObjectBuilt s d (entry_of s.tables d) es (ThisFoundBuilt s t (found_at s name.token.0)) (AreBuilt s t es) (ActualsBuilt s t es (formals_at s d)))) (NamedBuilt s t (denoted s name.token.0) es (AreBuilt s t es) (λ fs. ActualsBuilt s t es fs))))
       (λ c y. transfer_built c (found_at s name.token.0) es y)
       (λ y. (
         y.2 ∙ sym (identifier_gives s (In t) name.token.0 (connection_at s name.token.0) (own_attribute s name.token.0) es (AreIntegers s (In t) es) (λ ks. AreOf s (In t) es ks) (λ fs. ActualsFit s (In t) es fs) y.0 refl y.1),
@@ -145,6 +145,17 @@ module _ (s : Source) (ok : Typed s) (laid : Laid s) (t : ℕ) (x : Text) (there
       by_number zero e is fit = let none = ok.outermost in absurd (cc)
       by_number (suc k) e is fit = (laid.with_prefix (suc k) a.class a.arguments a.declarations a.statements is, e, actuals_built s ok laid t (In t) standing es (class_parameters s (Some (suc k))) fit)
 
+  -- an activation, whose simulation is a text around
+  operand_built : (schedule : Schedule) → TimingIs s t schedule → OperandBuilt s t schedule
+  operand_built syntax.Now a = tt
+  operand_built (syntax.At i e prior) a = value e (Simply kind.Integer) a
+  operand_built (syntax.Delay i e prior) a = value e (Simply kind.Integer) a
+  operand_built (syntax.Before i e) a = value e (Simply kind.Reference) a
+  operand_built (syntax.After i e) a = value e (Simply kind.Reference) a
+
+  activates_built : (token : ℕ) (e : Expression) (schedule : Schedule) → SimulationIs s t token → ExprIs s (In t) e (Simply kind.Reference) → TimingIs s t schedule → ActivatesBuilt s t (simulation_around s token) e schedule
+  activates_built token e schedule a b c = subst (λ z. ActivatesBuilt s t z e schedule) (sym a.is) (seen_here s ok laid t x there a.block a.seen, value e (Simply kind.Reference) b, operand_built schedule c)
+
   -- a connection is that which begins at its token
   connects_built : (opening : ℕ) (Body : ℕ → Type 0) → (c : ConnectionIs s t opening) → Body c.number → ConnectsBuilt s t opening (block_around s opening) Body
   connects_built opening Body c body = subst (λ z. ConnectsBuilt s t opening z Body) (sym c.around) (record {
@@ -179,7 +190,7 @@ module _ (s : Source) (ok : Typed s) (laid : Laid s) where
     statement_built t x there (syntax.InspectWhen i e arms other) n f a = (value s ok laid t x there e (Simply kind.Reference) a.0, arms_built t x there arms n.0 f.0 a.1, statements_built t x there other n.1 f.1 a.2)
     statement_built t x there (syntax.Inner i) n f a = absurd n
     statement_built t x there (syntax.Prefixed class arguments b) n f a = prefixed_built s ok laid t x there arguments (begin_of b) a
-    statement_built t x there (syntax.Activate i word e schedule) n f a = absurd a
+    statement_built t x there (syntax.Activate i word e schedule) n f a = activates_built s ok laid t x there i e schedule a.0 a.1 a.2
 
     arms_built : (t : ℕ) (x : Text) → text s t ≡ Some x → (arms : Arms) → NoInnerArms arms → FilledArms arms → ArmsAre s t arms → ArmsBuilt s t arms
     arms_built t x there NoArm n f a = tt

@@ -13,20 +13,19 @@ ghost use Rattle.sim_tree.specs.Filled.{Filled};
 ghost use Rattle.sim_built.specs.Allowed.{IsAllowed};
 ghost use Rattle.sim_built.specs.Laid.{Laid};
 
-/// A typed program without `simulation`, parameters by name and formal procedures is built, where its tables lie as those of a program do.
+/// A typed program that has only forms that are built is built, where its tables lie as those of a program do.
 pub fn typed_programs_are_built()
     ensures { (s : Source) → Typed s → Laid s → Plain s.program → Filled s.program → ProgramBuilt s }
 {}
 
 /// Tables that agree with the texts of their program, also in where `inner` stands, lie as code needs them.
-#[tactic(auto, using(crate::proofs::Lying::lies))]
 pub fn tables_lie()
     ensures { (s : Source) → TablesAgree s → Inners s → Laid s }
 {}
 
-/// A program that breaks no rule and has no `simulation`, parameters by name and formal procedures is built, and never comes to where its
-/// meaning has no rule, whatever the limits and the input are. At each moment of its run the instance that operates lives with its
-/// enclosers, and stands at no other place of the chains; and a reference that it took last into its hand names an object.
+/// A program that breaks no rule and has only forms that are built is built, and never comes to where its meaning has no rule, whatever the
+/// limits and the input are. At each moment of its run the instance that operates lives with its enclosers, and stands at no other place of
+/// the chains; and each reference in hand names an object, or the main program of a simulation, which is there.
 pub fn allowed_programs_run()
     ensures built { (tokens : List Token) (tree : Tree) (s : Source) → IsAllowed tokens tree s → ProgramBuilt s }
     ensures ruled { (tokens : List Token) (tree : Tree) (s : Source) → IsAllowed tokens tree s → HasRules s }

@@ -12,14 +12,15 @@ use Rattle.sim_values.specs.declared.value.TextVal.{TextVal}
 use Rattle.sim_values.specs.declared.kind.Kind.{Kind}
 use Rattle.sim_values.specs.Operators.{Answer, one_of, step_test, two_of}
 use Rattle.sim_values.specs.Images.{OutputState, is_used_up, all_placed, integer_field, last_image, outchar, outchars, outimage, outint, outtext, placed, with_room}
-use Rattle.sim_values.specs.Plain.{Plain, Integer, Truth, Character, Text, Object, Nothing}
+use Rattle.sim_values.specs.Plain.{Plain, Integer, Truth, Character, Text, Object, MainOf, Nothing}
 use Rattle.sim_values.specs.Standard.{Function, applied, elsewhere, of_character, of_integer, of_integers, of_nothing, of_text, of_text_and_character, of_text_and_integer, of_text_and_integers, operands_of, row_of, standard_effect, take_character, take_integer, take_nothing, take_text}
 use Rattle.sim_values.specs.Store.{Effect, Store, output_of, writes}
 use Rattle.sim_values.specs.Texts.{assign, characters}
 use Rattle.sim_values.specs.Words.{array_words, is_exhausted}
 use Rattle.sim_code.specs.Outcome.{ArrayOf, Ending, Ended, Going, Run, World, after, next}
-use Rattle.sim_code.specs.Events.{answering, applying_one, applying_two, assigning, choosing, computing, entering, having, integer_in, no_rule, performing, pop_integers, pop_many, pop_object, pop_operands, pop_plain, pop_text, pop_truth, popping, putting_back, referring, stopping, taking, testing_step, text_val, ticking, truth_in, when, with_texts}
+use Rattle.sim_code.specs.Events.{answering, applying_one, applying_two, assigning, choosing, computing, entering, having, integer_in, no_rule, not_nothing, performing, pop_integers, pop_many, pop_object, pop_operands, pop_plain, pop_reference, pop_text, pop_truth, popping, putting_back, referring, stopping, taking, testing_step, text_val, ticking, truth_in, when, with_texts}
 use Rattle.sim_code.specs.Arrays.{copying_array, element_place, finding_element, keeping_array, live_array, making_array}
+use Rattle.sim_code.specs.Simulations.{named_in}
 use Rattle.sim_code.specs.Sets.{SetEffect, linkage_given, linkage_named, performing_set, pop_given, set_effect, takes_linkage}
 use Rattle.sim_code.specs.Growing.{Grown, written}
 
@@ -128,6 +129,7 @@ took_integer s (Truth b ∷ rest) go h = tt
 took_integer s (Character c ∷ rest) go h = tt
 took_integer s (Text t ∷ rest) go h = tt
 took_integer s (Object j ∷ rest) go h = tt
+took_integer s (MainOf b ∷ rest) go h = tt
 took_integer s (Nothing ∷ rest) go h = tt
 
 took_character : (s : Store) (vs : List Plain) (go : ℕ → List Plain → Option Effect) → ((c : ℕ) (rest : List Plain) → If s (go c rest)) → If s (take_character vs go)
@@ -138,6 +140,7 @@ took_character s (Truth b ∷ rest) go h = tt
 took_character s (Character c ∷ rest) go h = h c rest
 took_character s (Text t ∷ rest) go h = tt
 took_character s (Object j ∷ rest) go h = tt
+took_character s (MainOf b ∷ rest) go h = tt
 took_character s (Nothing ∷ rest) go h = tt
 
 took_text : (s : Store) (vs : List Plain) (go : TextVal → List Plain → Option Effect) → ((t : TextVal) (rest : List Plain) → If s (go t rest)) → If s (take_text vs go)
@@ -148,6 +151,7 @@ took_text s (Truth b ∷ rest) go h = tt
 took_text s (Character c ∷ rest) go h = tt
 took_text s (Text t ∷ rest) go h = h t rest
 took_text s (Object j ∷ rest) go h = tt
+took_text s (MainOf b ∷ rest) go h = tt
 took_text s (Nothing ∷ rest) go h = tt
 
 applied_lasts : (f : Function) (vs : List Plain) (s : Store) → Leaves f → If s (applied f vs s)
@@ -337,6 +341,7 @@ module _ (S : Type 0) where
     grows_referring : (line : ℕ) (p : Plain) (o : World) (go : ℕ → Run S) → ((j : ℕ) → Grows o.store.written (go j)) → Grows o.store.written (referring line p o go)
     unfolding referring
     grows_referring line (Object j) o go h = h j
+    grows_referring line (MainOf b) o go h = grows_no_rule o
     grows_referring line Nothing o go h = grows_stopping _ o
     grows_referring line (Integer z) o go h = grows_no_rule o
     grows_referring line (Truth b) o go h = grows_no_rule o
@@ -347,6 +352,20 @@ module _ (S : Type 0) where
     unfolding pop_object
     grows_object line vals o go h = grows_plain vals o _ (λ p rest. grows_referring line p o _ (λ j. h j rest))
 
+    grows_not_nothing : (line : ℕ) (p : Plain) (o : World) (r : Run S) → Grows o.store.written r → Grows o.store.written (not_nothing line p o r)
+    unfolding not_nothing
+    grows_not_nothing line (Object j) o r h = h
+    grows_not_nothing line (MainOf b) o r h = h
+    grows_not_nothing line Nothing o r h = grows_stopping _ o
+    grows_not_nothing line (Integer z) o r h = grows_no_rule o
+    grows_not_nothing line (Truth b) o r h = grows_no_rule o
+    grows_not_nothing line (Character c) o r h = grows_no_rule o
+    grows_not_nothing line (Text t) o r h = grows_no_rule o
+
+    pub grows_reference : (line : ℕ) (vals : List V) (o : World) (go : Plain → List V → Run S) → ((v : Plain) (rest : List V) → Grows o.store.written (go v rest)) → Grows o.store.written (pop_reference plain line vals o go)
+    unfolding pop_reference
+    grows_reference line vals o go h = grows_plain vals o _ (λ v rest. grows_not_nothing line v o _ (h v rest))
+
     grows_given : (takes : Bool) (vals : List V) (o : World) (go : Option ℕ → List V → Run S) → ((x : Option ℕ) (rest : List V) → Grows o.store.written (go x rest)) → Grows o.store.written (pop_given plain takes vals o go)
     unfolding pop_given
     grows_given false vals o go h = h None vals
@@ -356,7 +375,7 @@ module _ (S : Type 0) where
     unfolding performing_set
     grows_set name vals o go h =
         grows_given (takes_linkage name) vals o _ (λ given rest. grows_plain rest o _ (λ p rest. grows_having ℕ (linkage_named o.members p) o _ (λ x _.
-        grows_having SetEffect (set_effect name o.members x given) o _ (λ effect _. h (record o { members = effect.members }) effect.value rest))))
+        grows_having SetEffect (set_effect name (named_in o.simulations) o.members x given) o _ (λ effect _. h (record o { members = effect.members }) effect.value rest))))
 
     pub grows_assigning : (line : ℕ) (vals : List V) (o : World) (go : World → List V → Run S) → ((p : World) (rest : List V) → Grows p.store.written (go p rest)) → Grows o.store.written (assigning plain line vals o go)
     unfolding assigning

@@ -9,7 +9,11 @@ use Rattle.sim_values.specs.declared.operators.Dyadic.{Dyadic}
 use Rattle.sim_values.specs.declared.operators.Monadic.{Monadic}
 use Rattle.sim_values.specs.declared.standard.Standard.{Standard}
 use Rattle.sim_values.specs.declared.value.TextVal.{TextVal}
-use Rattle.sim_values.specs.Plain.{Plain, Text}
+use Rattle.notices.specs.declared.next.Next.{Next}
+use Rattle.notices.specs.declared.next.Next.TheVariants as next
+use Rattle.notices.specs.declared.notice.Notice.{Notice}
+use Rattle.notices.specs.Scheduling.{next_of}
+use Rattle.sim_values.specs.Plain.{Plain, Integer, Truth, Character, Text, Object, MainOf, Nothing}
 use Rattle.sim_values.specs.Store.{Store, image_at, with_image}
 use Rattle.sim_values.specs.Texts.{same_text}
 use Rattle.simset.specs.Sets.{Linkage}
@@ -22,18 +26,21 @@ use Rattle.sim_code.specs.declared.instr.Instr.TheVariants as i
 use Rattle.sim_code.specs.declared.instr.Lined.{Lined}
 use Rattle.sim_code.specs.declared.stage.Stage.{Stage}
 use Rattle.sim_code.specs.Code.{BlockOf, ClassOf, CodeOf}
-use Rattle.sim_code.specs.Outcome.{ArrayOf, Going, Run, World}
-use Rattle.sim_code.specs.Events.{image_moved, image_set, no_rule, text_val}
+use Rattle.sim_code.specs.Outcome.{ArrayOf, Going, Run, Simulation, World}
+use Rattle.sim_code.specs.Events.{computing, having, image_moved, image_set, no_rule, text_val}
 use Rattle.sim_code.specs.Arrays.{element, element_set, element_set_in, giving_back, handed_over, live_array, owned_by, with_array}
-use Rattle.sim_code.specs.Instances.{CellPlace, ElementPlace, ImagePlace, Place, at_level, ended_as, going_below, is_given_at_end, is_live, main_goes_on, object_ended, system_head}
+use Rattle.sim_code.specs.Instances.{CellPlace, ElementPlace, ImagePlace, Place, at_level, encloser_of, ended_as, going_below, is_given_at_end, is_live, main_goes_on, object_ended, system_head}
 use Rattle.sim_code.specs.Sets.{enrolled, is_set_name}
+use Rattle.sim_code.specs.Simulations.{begun_in, is_process_name, is_simulation_name, joined, joined_at, located, with_simulation}
+use Rattle.sim_code.specs.Scheduling.{Timing, component_of, deciding, going_to}
 use Rattle.sim_code.specs.Transfers.{Calling, Detaching, Resuming, Transfer, component_in, transferred, transferring}
-use Rattle.sim_code.specs.Machine.{Activation, Address, ArrayValue, Cells, Frames, Link, Machine, Of, ProcedureValue, ThunkValue, Value, arrays_among, arrays_by_value, variable_in, words_of_block, array_in, block_at, cell, cell_at, cell_set, frame_in, index, jumping, leaving, level, link_in, number, operand, own_block, owner, place_in, plain, pushing, pushing_any, same_kind, value_at, with_result}
-use Rattle.sim_code.specs.Classes.{admitting, class_named, in_class, is_in, is_of, may_stand, qualifying}
-use Rattle.sim_code.specs.Levels.{after_declarations, at_inner, at_stage, class_at_level, declarations_done, ended_by_kind, entering_prefixed, generating, inner_reached, leading, level_ended, levelled, linkage_of_class, objects_of, outermost_ended, own_levels}
-use Rattle.sim_code.specs.Rows.{class_at, code_of, comparison_of, element_kind, entering_procedure, first_stage, mstep, mrun, no_class, on_chain, one_row, opening, pushed, put_back, putting, qualified, row, standard_of, standard_row, storing, truth_of, two_row, without_class}
+use Rattle.sim_code.specs.Machine.{Activation, Address, ArrayValue, Cells, Frames, Link, Machine, Of, ProcedureValue, ThunkValue, Value, arrays_among, arrays_by_value, variable_in, words_of_block, array_in, block_at, cell, cell_at, cell_set, frame_in, index, jumping, leaving, level, link_in, number, operand, own_block, owner, place_in, plain, pushing, pushing_any, same_kind, value_at, waiting, with_result}
+use Rattle.sim_code.specs.Classes.{admitting, class_named, in_process, is_in, is_of, may_stand, qualifying}
+use Rattle.sim_code.specs.Levels.{after_declarations, at_inner, at_stage, class_at_level, declarations_done, ended_by_kind, ending_process, entering_prefixed, generating, inner_reached, is_process_class, is_simulation_class, leading, level_ended, levelled, linkage_of_class, objects_of, outermost_ended, own_levels, words_of_object}
+use Rattle.sim_code.specs.Rows.{activation_of, class_at, code_of, comparison_of, decided, element_kind, entering_procedure, first_stage, mstep, mrun, no_class, on_chain, one_row, opening, program_begun, pushed, put_back, putting, qualified, row, standard_of, standard_row, storing, truth_of, two_row, without_class}
 use Rattle.sim_code.specs.Growing.{Grown, OutputGrows, written}
-use Rattle.sim_code.proofs.Growing.{Grows, after_grows, after_more, grown_same, grows_assigning, grows_choosing, grows_computing, grows_copying, grows_entering, grows_finding, grows_having, grows_if, grows_integers, grows_keeping, grows_making, grows_many, grows_no_rule, grows_object, grows_one, grows_performing, grows_plain, grows_popping, grows_set, grows_step, grows_stopping, grows_ticking, grows_truth, grows_two, grows_when}
+use Rattle.sim_code.proofs.Growing.{Grows, after_grows, after_more, grown_same, grows_assigning, grows_choosing, grows_computing, grows_copying, grows_entering, grows_finding, grows_having, grows_if, grows_integers, grows_keeping, grows_making, grows_many, grows_no_rule, grows_object, grows_one, grows_performing, grows_plain, grows_popping, grows_reference, grows_set, grows_step, grows_stopping, grows_ticking, grows_truth, grows_two, grows_when}
+use Rattle.sim_code.proofs.GrowingSimulations.{grows_activation, grows_process, grows_simulation}
 
 -- going on here writes nothing
 abbrev Here : World → Run Machine → Type 0
@@ -96,6 +103,18 @@ handed_same owner (n ∷ rest) o = handed_same owner rest _ ∙ owned_same (slic
     owned_same : (a : Option ArrayOf) (n owner : ℕ) (o : World) → (owned_by owner a o n).store.written ≡ o.store.written
     owned_same None n owner o = refl
     owned_same (Some a) n owner o = refl
+
+begun_same : (is_simulation : Bool) (block : ℕ) (o : World) → (begun_in is_simulation block o).store.written ≡ o.store.written
+begun_same false b o = refl
+begun_same true b o = refl
+
+joined_same : (is_process : Bool) (block object : ℕ) (o : World) → (joined is_process block object o).store.written ≡ o.store.written
+joined_same false b j o = refl
+joined_same true b j o = at_place (located o.simulations b)
+  where
+    at_place : (x : Option (ℕ × Simulation)) → (joined_at j o x).store.written ≡ o.store.written
+    at_place None = refl
+    at_place (Some x) = refl
 
 enrolled_same : (object : ℕ) (linkage : Option Linkage) (o : World) → (enrolled object linkage o).store.written ≡ o.store.written
 enrolled_same object None o = refl
@@ -203,15 +222,16 @@ objects_grow code z o go h =
 new_grows : (code : CodeOf) (l : Limits) (o : World) (m : Frames) (a : Activation) (below : List Activation) (line : ℕ) (z n : ℤ) → Here o (generating code l o m a below line z n)
 new_grows code l o m a below line z n =
     index_grows n o _ (λ n. grows_many Machine Value plain n [] a.stack o _ (λ values stack. grows_popping Machine Value plain stack o _ (λ v stack. grows_having Machine ℕ (link_in v) o _ (λ parent _. grows_when Machine (is_live m parent) o _ (
-    objects_grow code z o _ (λ k b start. grows_having Machine Cells _ o _ (λ cells _. pushed_grows a.room stack _ o _ (λ stack. grows_entering Machine l line (words_of_block b) o _ (λ p.
+    objects_grow code z o _ (λ k b start. grows_having Machine Cells _ o _ (λ cells _. pushed_grows a.room stack _ o _ (λ stack. grows_entering Machine l line (words_of_object code b) o _ (λ p.
     let j = length m.instances in
-    record { more = subst (λ w. Grown p.store.written w) (sym (enrolled_same j (linkage_of_class code b.class) (handed_over j (arrays_among values) p) ∙ handed_same j (arrays_among values) p)) (grown_same p.store.written) })))))))))
+    let same = joined_same (is_process_class code b.class) parent j (enrolled j (linkage_of_class code b.class) (handed_over j (arrays_among values) p)) ∙ enrolled_same j (linkage_of_class code b.class) (handed_over j (arrays_among values) p) ∙ handed_same j (arrays_among values) p in
+    record { more = subst (λ w. Grown p.store.written w) (sym same) (grown_same p.store.written) })))))))))
 
 prefixed_grows : (code : CodeOf) (l : Limits) (o : World) (m : Frames) (a : Activation) (below : List Activation) (line : ℕ) (z n : ℤ) → Here o (entering_prefixed code l o m a below line z n)
 prefixed_grows code l o m a below line z n =
     index_grows n o _ (λ n. grows_many Machine Value plain n [] a.stack o _ (λ values stack.
     index_grows z o _ (λ k. levelled_grows code _ k o _ (λ b start. grows_having Machine Cells _ o _ (λ cells _. grows_entering Machine l line (words_of_block b) o _ (λ p.
-    record { more = subst (λ w. Grown p.store.written w) (sym (handed_same (length m.instances) (arrays_among values) p)) (grown_same p.store.written) }))))))
+    record { more = subst (λ w. Grown p.store.written w) (sym (begun_same (is_simulation_class code b.class) (length m.instances) (handed_over (length m.instances) (arrays_among values) p) ∙ handed_same (length m.instances) (arrays_among values) p)) (grown_same p.store.written) }))))))
 
 own_levels_grow : (code : CodeOf) (m : Frames) (a : Activation) (stage : Stage) (o : World) (go : List ℕ → Run Machine) → ((cs : List ℕ) → Here o (go cs)) → Here o (own_levels code m a stage o go)
 unfolding own_levels
@@ -262,9 +282,32 @@ ended_grows o m j below = by_standing (slice_get m.standings j)
 
 transfer_grows : (t : Transfer) (line : ℕ) (o : World) (chain : List Activation) (m : Frames) (v : Plain) → Here o (transferring owner t line o chain m v)
 unfolding transferring
-transfer_grows t line o chain m v =
-    grows_having Machine (Option ℕ) (component_in v) o _ (λ y _. grows_having Machine (Result (Components Activation) RunError) (transferred owner t (system_head m) _ y) o _ (λ r _.
-    grows_computing Machine (Components Activation) line r o _ (λ c. below_grows o c.operating _)))
+transfer_grows t line o chain m v = by_value v
+  where
+    by_component : (y : Option (Option ℕ)) → Here o (having y o (λ y. having (transferred owner t (system_head m) (record { operating = chain; standings = m.standings }) y) o (λ r. computing line r o (λ c. going_below o c.operating (record m { standings = c.standings })))))
+    by_component y = grows_having Machine (Option ℕ) y o _ (λ y _. grows_having Machine (Result (Components Activation) RunError) (transferred owner t (system_head m) _ y) o _ (λ r _.
+        grows_computing Machine (Components Activation) line r o _ (λ c. below_grows o c.operating _)))
+
+    by_value : (v : Plain) → Here o (transferring owner t line o chain m v)
+    by_value (MainOf b) = grows_stopping Machine _ o
+    by_value (Integer z) = by_component (component_in (Integer z))
+    by_value (Truth b) = by_component (component_in (Truth b))
+    by_value (Character c) = by_component (component_in (Character c))
+    by_value (Text x) = by_component (component_in (Text x))
+    by_value (Object j) = by_component (component_in (Object j))
+    by_value Nothing = by_component (component_in Nothing)
+
+-- who goes on after a scheduling procedure
+going_grows : (line : ℕ) (o : World) (chain : List Activation) (m : Frames) (x : Simulation) (next : Next) → Here o (going_to owner line o chain m x next)
+going_grows line o chain m x next.Stay = below_grows o chain m
+going_grows line o chain m x (next.Resume p) =
+    grows_having Machine (Option ℕ) (component_of x p.0) o _ (λ y _. grows_computing Machine (Components Activation) line _ o _ (λ c. below_grows o c.operating _))
+
+decided_grows : (o : World) (m : Frames) (a : Activation) (below : List Activation) (line : ℕ) (p : World) (x : ℕ × Simulation) (r : Result (List Notice) RunError) (stack : List Value) → Here p (decided o m a below line p x r stack)
+unfolding deciding
+decided_grows o m a below line p x r stack =
+    grows_computing Machine (List Notice) line r p _ (λ notices. grows_computing Machine Next line (next_of x.1.notices notices) p _ (λ next.
+    going_grows line (with_simulation p x.0 (record x.1 { notices = notices })) (waiting a stack ∷ below) m x.1 next))
 
 outermost_grows : (code : CodeOf) (l : Limits) (o : World) (m : Frames) (a : Activation) (below : List Activation) (j k : ℕ) → Here o (outermost_ended code l o m a below j k)
 outermost_grows code l o m a below j k = grows_when Machine _ o _ (grows_having Machine BlockOf _ o _ (λ b _. by_kind b b.kind))
@@ -280,11 +323,15 @@ level_ends code l o m a below zero =
     grows_having Machine ℕ (owner a) o _ (λ j _. grows_having Machine ℕ _ o _ (λ k _. grows_choosing Machine (k == 0) o _ _ (grows_stopping Machine _ o) (outermost_grows code l o m a below j k)))
 level_ends code l o m a below (suc n) = own_levels_grow code m a _ o _ (λ cs. grows_having Machine ClassOf _ o _ (λ x _. stage_grows code o m a below _ x.after_inner))
 
-standard_grows : (l : Limits) (o : World) (m : Frames) (a : Activation) (below : List Activation) (line : ℕ) (name : Standard) → Here o (standard_row l o m a below line name)
-standard_grows l o m a below line name =
+standard_grows : (code : CodeOf) (l : Limits) (o : World) (m : Frames) (a : Activation) (below : List Activation) (line : ℕ) (name : Standard) → Here o (standard_row code l o m a below line name)
+standard_grows code l o m a below line name =
     grows_choosing Machine (is_set_name name) o _ _
     (grows_set Machine Value plain name a.stack o _ (λ p value stack. going p _))
-    (grows_when Machine _ o _ (grows_performing Machine Value Frames operand put_back back_grows l line name a.stack o m _ (λ p m value stack. going p _)))
+    (grows_choosing Machine (is_process_name name) o _ _
+    (grows_process Machine Value plain (encloser_of m) name line a.stack o _ (λ value stack. going o _))
+    (grows_choosing Machine (is_simulation_name name) o _ _
+    (grows_simulation Machine Value plain link_in (in_process code m) (ending_process code m a) name a.stack o _ _ (λ value stack. going o _) (decided_grows o m a below line))
+    (grows_when Machine _ o _ (grows_performing Machine Value Frames operand put_back back_grows l line name a.stack o m _ (λ p m value stack. going p _)))))
 
 row_grows : (code : CodeOf) (l : Limits) (o : World) (m : Frames) (a : Activation) (below : List Activation) (line : ℕ) (x : Instr) → Here o (row code l o m a below line x)
 row_grows code l o m a below line i.Halt = grows_stopping Machine _ o
@@ -324,7 +371,7 @@ row_grows code l o m a below line i.Imp = two_grows o m a below line _
 row_grows code l o m a below line i.Eqv = two_grows o m a below line _
 row_grows code l o m a below line (i.Is z) = grows_having Machine ℕ (class_named code z) o _ (λ c _. grows_plain Machine Value plain a.stack o _ (λ v stack. grows_having Machine Bool (is_of code m c v) o _ (λ b _. going o _)))
 row_grows code l o m a below line (i.In z) = grows_having Machine ℕ (class_named code z) o _ (λ c _. grows_plain Machine Value plain a.stack o _ (λ v stack. grows_having Machine Bool (is_in code m c v) o _ (λ b _. going o _)))
-row_grows code l o m a below line (i.Qua z) = grows_having Machine ℕ (class_named code z) o _ (λ c _. grows_object Machine Value plain line a.stack o _ (λ j stack. qualifying_grows line (in_class code m c j) o _ (going o _)))
+row_grows code l o m a below line (i.Qua z) = grows_having Machine ℕ (class_named code z) o _ (λ c _. grows_reference Machine Value plain line a.stack o _ (λ v stack. qualifying_grows line (is_in code m c v) o _ (going o _)))
 row_grows code l o m a below line (i.Jump q) = jump_grows code a.pc q o _ (λ q. going o _)
 row_grows code l o m a below line (i.JumpF q) = grows_truth Machine Value plain a.stack o _ (λ b stack. grows_choosing Machine b o _ _ (going o _) (jump_grows code a.pc q o _ (λ q. going o _)))
 row_grows code l o m a below line i.Tick = grows_ticking Machine l o _ (λ p. going p _)
@@ -351,18 +398,25 @@ row_grows code l o m a below line (i.Array z n) = grows_having Machine Kind (ele
 row_grows code l o m a below line i.CopyArr = grows_popping Machine Value plain a.stack o _ (λ v stack. grows_having Machine ℕ (array_in v) o _ (λ array _. grows_copying Machine l line a.home array o _ (λ copy p. going p _)))
 row_grows code l o m a below line i.Keep = grows_popping Machine Value plain a.stack o _ (λ v stack. grows_having Machine ℕ (array_in v) o _ (λ array _. grows_keeping Machine array o _ (λ p. going p _)))
 row_grows code l o m a below line i.AssignT = grows_assigning Machine Value plain line a.stack o _ (λ p stack. going p _)
-row_grows code l o m a below line (i.Std z) = grows_having Machine Standard (standard_of z) o _ (λ name _. standard_grows l o m a below line name)
-row_grows code l o m a below line (i.Act z) = none o
+row_grows code l o m a below line (i.Std z) = grows_having Machine Standard (standard_of z) o _ (λ name _. standard_grows code l o m a below line name)
+row_grows code l o m a below line (i.Act z) = grows_having Machine (Bool × Timing) (activation_of z) o _ (λ f _. grows_activation Machine Value plain link_in (in_process code m) f.0 f.1 a.stack o _ (decided_grows o m a below line))
 row_grows code l o m a below line i.Detach = grows_plain Machine Value plain a.stack o _ (λ v stack. transfer_grows Detaching line o _ m v)
 row_grows code l o m a below line i.Attach = grows_plain Machine Value plain a.stack o _ (λ v stack. transfer_grows Calling line o _ m v)
 row_grows code l o m a below line i.Resume = grows_plain Machine Value plain a.stack o _ (λ v stack. transfer_grows Resuming line o _ m v)
-row_grows code l o m a below line i.NotNone = grows_object Machine Value plain line a.stack o _ (λ j stack. going o _)
+row_grows code l o m a below line i.NotNone = grows_reference Machine Value plain line a.stack o _ (λ v stack. going o _)
 
 -- ---- runs
 
+program_same : (code : CodeOf) (b : BlockOf) (kind : BlockKind) (o : World) → (program_begun code (record b { kind = kind }) o).store.written ≡ o.store.written
+program_same code b block.SubBlock o = refl
+program_same code b block.Procedure o = refl
+program_same code b block.Object o = refl
+program_same code b block.Prefixed o = begun_same (is_simulation_class code b.class) 0 o
+
 step_grows : (code : CodeOf) (l : Limits) (o : World) (m : Frames) (chain : List Activation) → Here o (on_chain code l o m chain)
 step_grows code l o m [] =
-    grows_when Machine _ o _ (grows_having Machine BlockOf _ o _ (λ b _. grows_having Machine Stage (first_stage b.kind) o _ (λ s _. grows_having Machine Lined _ o _ (λ x _. grows_entering Machine l x.line.0 (words_of_block b) o _ (λ p. going p _)))))
+    grows_when Machine _ o _ (grows_having Machine BlockOf _ o _ (λ b _. grows_having Machine Stage (first_stage b.kind) o _ (λ s _. grows_having Machine Lined _ o _ (λ x _. grows_entering Machine l x.line.0 (words_of_block b) o _ (λ p.
+    record { more = subst (λ w. Grown p.store.written w) (sym (program_same code b b.kind p)) (grown_same p.store.written) })))))
 step_grows code l o m (a ∷ below) = grows_having Machine Lined (slice_get code.instrs a.pc) o _ (λ x _. row_grows code l o m a below x.line.0 x.instr)
 
 pub output_grows : OutputGrows

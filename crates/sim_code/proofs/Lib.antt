@@ -1,6 +1,8 @@
+pub mod Deciding
 pub mod Ends
 pub mod Growing
 pub mod GrowingRows
+pub mod GrowingSimulations
 pub mod Lifts
 pub mod Moves
 pub mod Simulation

@@ -13,7 +13,7 @@ module _ (C A : Type 0) (o : World) (m : Memory C A) where
   goes_on [] standings = refl
   goes_on (a ∷ below) standings = (record { chain = a ∷ below; memory = record m { standings = standings } }, refl, refl, refl)
 
-  goes_as : (line : ℕ) (r : Result (Components A) RunError) → GoesAs o line m r (computing line r o (λ c. going_below o c.operating (record m { standings = c.standings })))
+  pub goes_as : (line : ℕ) (r : Result (Components A) RunError) → GoesAs o line m r (computing line r o (λ c. going_below o c.operating (record m { standings = c.standings })))
   unfolding computing
   goes_as line (Ok c) = goes_on c.operating c.standings
   goes_as line (Err e) = refl

@@ -9,16 +9,19 @@ use Rattle.sim_code.specs.Rows.{put_back, putting}
 use Rattle.sim_values.specs.Operators.{calculate, compare, compare_as_texts, connect, same_objects, same_texts, two_of, one_of, step_test}
 use Rattle.sim_values.specs.Standard.{take_integer, take_character, take_text, take_nothing, row_of, standard_effect}
 use Rattle.sim_code.specs.Examples.{Worked}
-use Rattle.sim_code.specs.Classes.{levels}
+use Rattle.sim_code.specs.Classes.{levels, process_class}
 use Rattle.sim_code.specs.Levels.{leading, levelled, objects_of, own_levels, parameter_cell}
-use Rattle.sim_code.specs.Events.{pop_object, referring}
+use Rattle.sim_code.specs.Events.{not_nothing, pop_object, pop_reference, referring}
 use Rattle.sim_code.specs.ClassExamples.{Worked as WorkedClasses}
 use Rattle.sim_code.specs.CoroutineExamples.{Worked as WorkedCoroutines}
 use Rattle.sim_code.specs.Transfers.{transferring}
 use Rattle.simset.specs.Sets.{cardinal_of, clear, follow, head_of, into, out, precede, pred_of, prev_of, suc_of}
-use Rattle.sim_code.specs.Levels.{linkage_with}
+use Rattle.sim_code.specs.Levels.{ending_process, linkage_with}
 use Rattle.sim_code.specs.Sets.{performing_set, pop_given}
 use Rattle.sim_code.specs.SetExamples.{Worked as WorkedSets}
+use Rattle.sim_code.specs.SimulationExamples.{Worked as WorkedSimulations}
+use Rattle.sim_code.specs.Simulations.{located}
+use Rattle.sim_code.specs.Scheduling.{deciding, performing_activation, performing_process, performing_simulation, pop_block, pop_operand_if}
 
 pub worked : Worked
 unfolding digits element_place making_array copying_array keeping_array finding_element giving_back handed_over stopping no_rule ticking taking entering having when computing choosing popping pop_many pop_plain pop_truth pop_integers pop_operands pop_text answering applying_one applying_two testing_step performing putting_back assigning making_text joining at_level kept_on pushing index level_of_machine cell_at jumping block_at own_block leaving with_result putting put_back calculate compare compare_as_texts connect same_objects same_texts two_of one_of step_test take_integer take_character take_text take_nothing row_of standard_effect
@@ -43,7 +46,7 @@ worked = record {
 }
 
 pub worked_classes : WorkedClasses
-unfolding digits element_place making_array copying_array keeping_array finding_element giving_back handed_over stopping no_rule ticking taking entering having when computing choosing popping pop_many pop_plain pop_truth pop_integers pop_operands pop_text answering applying_one applying_two testing_step performing putting_back assigning making_text joining at_level kept_on pushing index level_of_machine cell_at jumping block_at own_block leaving with_result putting put_back calculate compare compare_as_texts connect same_objects same_texts two_of one_of step_test take_integer take_character take_text take_nothing row_of standard_effect levels pop_object referring parameter_cell leading levelled objects_of own_levels object_ended linkage_with
+unfolding digits element_place making_array copying_array keeping_array finding_element giving_back handed_over stopping no_rule ticking taking entering having when computing choosing popping pop_many pop_plain pop_truth pop_integers pop_operands pop_text answering applying_one applying_two testing_step performing putting_back assigning making_text joining at_level kept_on pushing index level_of_machine cell_at jumping block_at own_block leaving with_result putting put_back calculate compare compare_as_texts connect same_objects same_texts two_of one_of step_test take_integer take_character take_text take_nothing row_of standard_effect levels pop_object referring pop_reference not_nothing parameter_cell leading levelled objects_of own_levels object_ended linkage_with process_class
 worked_classes = record {
   outermost_first = refl;
   without_prefix = refl;
@@ -82,7 +85,7 @@ worked_classes = record {
 }
 
 pub worked_coroutines : WorkedCoroutines
-unfolding digits element_place making_array copying_array keeping_array finding_element giving_back handed_over stopping no_rule ticking taking entering having when computing choosing popping pop_many pop_plain pop_truth pop_integers pop_operands pop_text answering applying_one applying_two testing_step performing putting_back assigning making_text joining at_level kept_on pushing index level_of_machine cell_at jumping block_at own_block leaving with_result putting put_back calculate compare compare_as_texts connect same_objects same_texts two_of one_of step_test take_integer take_character take_text take_nothing row_of standard_effect levels pop_object referring parameter_cell leading levelled objects_of own_levels object_ended transferring system_head linkage_with
+unfolding digits element_place making_array copying_array keeping_array finding_element giving_back handed_over stopping no_rule ticking taking entering having when computing choosing popping pop_many pop_plain pop_truth pop_integers pop_operands pop_text answering applying_one applying_two testing_step performing putting_back assigning making_text joining at_level kept_on pushing index level_of_machine cell_at jumping block_at own_block leaving with_result putting put_back calculate compare compare_as_texts connect same_objects same_texts two_of one_of step_test take_integer take_character take_text take_nothing row_of standard_effect levels pop_object referring pop_reference not_nothing parameter_cell leading levelled objects_of own_levels object_ended transferring system_head linkage_with
 worked_coroutines = record {
   both_end = refl;
   terminated = refl;
@@ -105,7 +108,7 @@ worked_coroutines = record {
 }
 
 pub worked_sets : WorkedSets
-unfolding digits element_place making_array copying_array keeping_array finding_element giving_back handed_over stopping no_rule ticking taking entering having when computing choosing popping pop_many pop_plain pop_truth pop_integers pop_operands pop_text answering applying_one applying_two testing_step performing putting_back assigning making_text joining at_level kept_on pushing index level_of_machine cell_at jumping block_at own_block leaving with_result putting put_back calculate compare compare_as_texts connect same_objects same_texts two_of one_of step_test take_integer take_character take_text take_nothing row_of standard_effect levels pop_object referring parameter_cell leading levelled objects_of own_levels object_ended transferring system_head linkage_with pop_given performing_set head_of suc_of pred_of prev_of cardinal_of out follow precede into clear
+unfolding digits element_place making_array copying_array keeping_array finding_element giving_back handed_over stopping no_rule ticking taking entering having when computing choosing popping pop_many pop_plain pop_truth pop_integers pop_operands pop_text answering applying_one applying_two testing_step performing putting_back assigning making_text joining at_level kept_on pushing index level_of_machine cell_at jumping block_at own_block leaving with_result putting put_back calculate compare compare_as_texts connect same_objects same_texts two_of one_of step_test take_integer take_character take_text take_nothing row_of standard_effect levels pop_object referring pop_reference not_nothing parameter_cell leading levelled objects_of own_levels object_ended transferring system_head linkage_with pop_given performing_set head_of suc_of pred_of prev_of cardinal_of out follow precede into clear
 worked_sets = record {
   of_linkage = refl;
   with_link_in_front = refl;
@@ -130,4 +133,37 @@ worked_sets = record {
   no_object = refl;
   no_head_given = refl;
   no_linkage_given = refl;
+}
+
+pub worked_simulations : WorkedSimulations
+unfolding digits element_place making_array copying_array keeping_array finding_element giving_back handed_over stopping no_rule ticking taking entering having when computing choosing popping pop_many pop_plain pop_truth pop_integers pop_operands pop_text answering applying_one applying_two testing_step performing putting_back assigning making_text joining at_level kept_on pushing index level_of_machine cell_at jumping block_at own_block leaving with_result putting put_back calculate compare compare_as_texts connect same_objects same_texts two_of one_of step_test take_integer take_character take_text take_nothing row_of standard_effect levels pop_object referring pop_reference not_nothing parameter_cell leading levelled objects_of own_levels object_ended transferring system_head linkage_with pop_given performing_set head_of suc_of pred_of prev_of cardinal_of out follow precede into clear process_class located performing_process performing_simulation performing_activation pop_block pop_operand_if deciding ending_process
+worked_simulations = record {
+  process_of_block = refl;
+  process_of_none = refl;
+  processes_are_links = refl;
+  main_is_process = refl;
+  main_is_no_link = refl;
+  main_in_link = refl;
+  main_not_below = refl;
+  no_main_of_process = refl;
+  time_goes_on = refl;
+  process_first = refl;
+  behind_equal_times = refl;
+  placed_beside = refl;
+  current_moved = refl;
+  none_left = refl;
+  none_left_but_main = refl;
+  none_left_at_end = refl;
+  time_too_large = refl;
+  no_event_time = refl;
+  no_process = refl;
+  terminated_at_end = refl;
+  second_end = refl;
+  main_not_called = refl;
+  main_not_resumed = refl;
+  main_not_detached = refl;
+  process_in_set = refl;
+  main_in_set = refl;
+  other_block = refl;
+  no_simulation_block = refl;
 }

@@ -1,8 +1,8 @@
 -- Classes of the code, and of which classes objects are.
-use Rattle.std.specs.Prelude.{ℕ, zero, suc, Bool, true, false, ◌==◌, nat_lt, if◌then◌else◌, ℤ, List, [], ◌∷◌, ◌++◌, slice_get, Option, Some, None}
+use Rattle.std.specs.Prelude.{ℕ, zero, suc, ◌+◌, Bool, true, false, ◌==◌, nat_lt, if◌then◌else◌, ℤ, List, [], ◌∷◌, ◌++◌, slice_get, Option, Some, None}
 use Rattle.std.specs.List.{list_any}
 use Rattle.sim_base.specs.declared.run_error.RunError.TheVariants.{OutsideQualification}
-use Rattle.sim_values.specs.Plain.{Plain, Nothing, Object}
+use Rattle.sim_values.specs.Plain.{MainOf, Plain, Nothing, Object}
 use Rattle.sim_code.specs.declared.code.BlockKind.{BlockKind}
 use Rattle.sim_code.specs.declared.code.BlockKind.TheVariants as block
 use Rattle.sim_code.specs.Code.{BlockOf, ClassOf, CodeOf}
@@ -47,6 +47,59 @@ levels_within (suc n) code c = levels_by (levels_within n code) c (class_numbere
 unfoldable pub levels : CodeOf → (class : ℕ) → Option (List ℕ)
 levels code c = levels_within c code c
 
+-- ---- the classes that `simset` and `simulation` bring
+
+-- The block of the objects of such a class has a mark in the field of the entry, which tells which class that is.
+abbrev pub linkage_mark : ℕ
+linkage_mark = 1
+
+abbrev pub head_mark : ℕ
+head_mark = 3
+
+abbrev pub process_mark : ℕ
+process_mark = 4
+
+abbrev pub is_mark_of : (mark : ℕ) → BlockKind → (entry : ℕ) → Bool
+is_mark_of mark block.Object entry = entry == mark
+is_mark_of mark _ entry = false
+
+abbrev pub is_marked_in : (mark : ℕ) → Option BlockOf → Bool
+is_marked_in mark None = false
+is_marked_in mark (Some b) = is_mark_of mark b.kind b.entry
+
+abbrev pub block_in_record : CodeOf → Option ClassOf → Option BlockOf
+block_in_record code None = None
+block_in_record code (Some x) = slice_get code.blocks x.block
+
+abbrev pub is_marked : CodeOf → (mark class : ℕ) → Bool
+is_marked code mark c = is_marked_in mark (block_in_record code (class_numbered code c))
+
+abbrev pub class_if : Bool → Option BlockOf → Option ℕ
+class_if false b = None
+class_if true None = None
+class_if true (Some b) = Some b.class
+
+-- The classes of `simulation` follow directly behind the block or the class that has it in front, and `process` is the fourth.
+abbrev pub process_behind : CodeOf → Option ClassOf → Option ℕ
+process_behind code None = None
+process_behind code (Some x) = class_if (is_marked_in process_mark (slice_get code.blocks (x.block + 4))) (slice_get code.blocks (x.block + 4))
+
+abbrev pub or_else : Option ℕ → Option ℕ → Option ℕ
+or_else None other = other
+or_else (Some c) other = Some c
+
+abbrev pub process_among : CodeOf → List ℕ → Option ℕ
+process_among code [] = None
+process_among code (c ∷ cs) = or_else (process_behind code (class_numbered code c)) (process_among code cs)
+
+-- the class `process` that one of the levels of a class has directly behind it
+abbrev pub process_of_levels : CodeOf → Option (List ℕ) → Option ℕ
+process_of_levels code None = None
+process_of_levels code (Some cs) = process_among code cs
+
+unfoldable pub process_class : CodeOf → (class : ℕ) → Option ℕ
+process_class code c = process_of_levels code (levels code c)
+
 -- ---- objects
 
 -- the class of the objects of a block, or of the prefixed block that it is
@@ -84,23 +137,46 @@ is_among c (Some ks) = Some (list_any (λ k. k == c) ks)
 abbrev pub in_class : CodeOf → Frames → (class object : ℕ) → Option Bool
 in_class code m c j = is_among c (levels_in code (class_of code m j))
 
+-- the class `process` of the simulation block that an instance is
+abbrev pub process_in : CodeOf → Option ℕ → Option ℕ
+process_in code None = None
+process_in code (Some c) = process_class code c
+
+abbrev pub process_at : CodeOf → Frames → (block : ℕ) → Option ℕ
+process_at code m b = process_in code (class_of code m b)
+
+-- a main program is of that class
+abbrev pub main_in_class : CodeOf → Frames → (class block : ℕ) → Option Bool
+main_in_class code m c b = is_among c (levels_in code (process_at code m b))
+
 -- `is`: just this class
 abbrev pub is_of : CodeOf → Frames → (class : ℕ) → Plain → Option Bool
 is_of code m c (Object j) = is_class c (class_of code m j)
+is_of code m c (MainOf b) = is_class c (process_at code m b)
 is_of code m c Nothing = Some false
 is_of code m c _ = None
 
 -- `in`: this class, or one that has it in front
 abbrev pub is_in : CodeOf → Frames → (class : ℕ) → Plain → Option Bool
 is_in code m c (Object j) = in_class code m c j
+is_in code m c (MainOf b) = main_in_class code m c b
 is_in code m c Nothing = Some false
 is_in code m c _ = None
 
 -- what may stand where references of a class stand: `none`, or what is in the class
 abbrev pub may_stand : CodeOf → Frames → (class : ℕ) → Option Plain → Option Bool
 may_stand code m c (Some (Object j)) = in_class code m c j
+may_stand code m c (Some (MainOf b)) = main_in_class code m c b
 may_stand code m c (Some Nothing) = Some true
 may_stand code m c _ = None
+
+-- whether a reference names something in the class `process` of a simulation block
+abbrev pub in_process_class : CodeOf → Frames → (class : Option ℕ) → Plain → Option Bool
+in_process_class code m None p = None
+in_process_class code m (Some c) p = is_in code m c p
+
+abbrev pub in_process : CodeOf → Frames → (block : ℕ) → Plain → Option Bool
+in_process code m b p = in_process_class code m (process_at code m b) p
 
 -- goes on where a test holds, or ends with E7
 abbrev pub qualifying : (line : ℕ) → Option Bool → World → Run Machine → Run Machine

@@ -9,7 +9,7 @@ use Rattle.sim_values.specs.declared.operators.Monadic.{Monadic}
 use Rattle.sim_values.specs.declared.standard.Standard.{Standard}
 use Rattle.sim_values.specs.declared.value.TextVal.{TextVal}
 use Rattle.sim_values.specs.Operators.{Answer, one_of, step_test, two_of}
-use Rattle.sim_values.specs.Plain.{Plain, Integer, Truth, Text, Object, Nothing}
+use Rattle.sim_values.specs.Plain.{Plain, Integer, Truth, Text, Object, MainOf, Nothing}
 use Rattle.sim_values.specs.Standard.{operands_of, row_of, standard_effect}
 use Rattle.sim_values.specs.Store.{closing_store, image_at, with_frames, with_image}
 use Rattle.sim_values.specs.Texts.{Frame, Making, assign, concatenated, same_text}
@@ -116,9 +116,20 @@ referring line _ o go = no_rule o
 unfoldable pub pop_object : {V S : Type 0} → (plain : V → Option Plain) → (line : ℕ) → List V → World → (ℕ → List V → Run S) → Run S
 pop_object plain line stack o go = pop_plain plain stack o (λ v rest. referring line v o (λ j. go j rest))
 
--- goes on where a reference is none, or where its object passes the test of a qualification; else E7
-unfoldable pub qualifying : {S : Type 0} → (line : ℕ) → (is_in : ℕ → Bool) → Plain → World → Run S → Run S
-qualifying line is_in (Object j) o r = if is_in j then r else stopping (RunFault OutsideQualification line) o
+-- the reference itself, to an object or a main program; E6 for none
+unfoldable pub not_nothing : {S : Type 0} → (line : ℕ) → Plain → World → Run S → Run S
+not_nothing line (Object j) o r = r
+not_nothing line (MainOf b) o r = r
+not_nothing line Nothing o r = stopping (RunFault AccessThroughNone line) o
+not_nothing line _ o r = no_rule o
+
+unfoldable pub pop_reference : {V S : Type 0} → (plain : V → Option Plain) → (line : ℕ) → List V → World → (Plain → List V → Run S) → Run S
+pop_reference plain line stack o go = pop_plain plain stack o (λ v rest. not_nothing line v o (go v rest))
+
+-- goes on where a reference is none, or where what it names passes the test of a qualification; else E7
+unfoldable pub qualifying : {S : Type 0} → (line : ℕ) → (is_in : Plain → Bool) → Plain → World → Run S → Run S
+qualifying line is_in (Object j) o r = if is_in (Object j) then r else stopping (RunFault OutsideQualification line) o
+qualifying line is_in (MainOf b) o r = if is_in (MainOf b) then r else stopping (RunFault OutsideQualification line) o
 qualifying line is_in Nothing o r = r
 qualifying line is_in _ o r = no_rule o
 

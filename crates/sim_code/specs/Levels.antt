@@ -1,9 +1,10 @@
 -- Objects and prefixed blocks: how they are entered with their parameters, how they go from stage to stage, and how they end.
-use Rattle.std.specs.Prelude.{ℕ, zero, suc, ◌+◌, ◌-◌, Bool, true, false, ◌==◌, nat_lt, if◌then◌else◌, ℤ, List, [], ◌∷◌, length, slice_get, Option, Some, None}
+use Rattle.std.specs.Prelude.{ℕ, zero, suc, ◌+◌, ◌-◌, Bool, true, false, ◌==◌, nat_lt, if◌then◌else◌, ℤ, List, [], ◌∷◌, length, is_some, slice_get, Option, Some, None}
 use Rattle.std.specs.List.{list_any}
 use Rattle.sim_base.specs.declared.limits.Limits.{Limits}
 use Rattle.simset.specs.Sets.{Linkage}
 use Rattle.sim_values.specs.Plain.{Object}
+use Rattle.sim_values.specs.Words.{instance_words}
 use Rattle.sim_code.specs.declared.code.BlockKind.{BlockKind}
 use Rattle.sim_code.specs.declared.code.BlockKind.TheVariants as block
 use Rattle.sim_code.specs.declared.stage.Stage.{Stage}
@@ -14,7 +15,8 @@ use Rattle.sim_code.specs.Events.{choosing, entering, having, no_rule, pop_many,
 use Rattle.sim_code.specs.Arrays.{handed_over}
 use Rattle.sim_code.specs.Instances.{is_live, object_ended}
 use Rattle.sim_code.specs.Sets.{enrolled, linkage_by}
-use Rattle.sim_code.specs.Classes.{class_named, class_numbered, class_of, levels, levels_in}
+use Rattle.sim_code.specs.Simulations.{begun_in, joined}
+use Rattle.sim_code.specs.Classes.{block_in_record, class_named, class_numbered, class_of, head_mark, is_marked, levels, levels_in, linkage_mark, process_class, process_mark}
 use Rattle.sim_code.specs.Machine.{Activation, Cells, Frames, Machine, Of, Value, arrays_among, at, first_cells, in_object, in_prefixed, index, leaving, link_in, on, owner, pushing, put_in, same_kind, text_in, waiting, words_of_block}
 
 -- ---- levels
@@ -32,10 +34,6 @@ unfoldable pub leading : {S : Type 0} → CodeOf → (index : ℕ) → World →
 leading code q o r = having (slice_get code.instrs q) o (λ x. r)
 
 -- ---- parameters
-
-abbrev pub block_in_record : CodeOf → Option ClassOf → Option BlockOf
-block_in_record code None = None
-block_in_record code (Some x) = slice_get code.blocks x.block
 
 abbrev pub extent : Option BlockOf → Option (ℕ × ℕ)
 extent None = None
@@ -77,21 +75,7 @@ filled_by place k (v ∷ vs) (Some cells) = filled_by place (suc k) vs (put_at (
 abbrev pub supplied : CodeOf → (class : ℕ) → BlockOf → List Value → Option Cells
 supplied code c b values = if length values == length b.formals then filled_by (parameter_cell code c) 0 values (Some (first_cells b)) else None
 
--- ---- linkages
-
--- The block of the objects of a class that `simset` or `simulation` brings has a mark in the field of the entry, which tells which class that is.
-abbrev pub linkage_mark : ℕ
-linkage_mark = 1
-
-abbrev pub head_mark : ℕ
-head_mark = 3
-
-abbrev pub is_marked_in : (mark : ℕ) → Option BlockOf → Bool
-is_marked_in mark None = false
-is_marked_in mark (Some b) = b.entry == mark
-
-abbrev pub is_marked : CodeOf → (mark class : ℕ) → Bool
-is_marked code mark c = is_marked_in mark (block_in_record code (class_numbered code c))
+-- ---- linkages and processes
 
 -- what an object with these levels is made as, if it is a linkage
 unfoldable pub linkage_with : CodeOf → (levels : List ℕ) → Option Linkage
@@ -113,6 +97,28 @@ linkage_in code (Some cs) = linkage_with code cs
 abbrev pub linkage_of_class : CodeOf → (class : ℕ) → Option Linkage
 linkage_of_class code c = linkage_in code (levels code c)
 
+-- The record of a class tells whether its objects are processes, which take four words more.
+abbrev pub is_process_record : Option ClassOf → Bool
+is_process_record None = false
+is_process_record (Some x) = x.process
+
+abbrev pub is_process_class : CodeOf → (class : ℕ) → Bool
+is_process_class code c = is_process_record (class_numbered code c)
+
+abbrev pub words_of_object : CodeOf → BlockOf → ℕ
+words_of_object code b = instance_words b.cells (is_process_class code b.class)
+
+-- a block that has `simulation` in front of one of its levels
+abbrev pub is_simulation_class : CodeOf → (class : ℕ) → Bool
+is_simulation_class code c = is_some (process_class code c)
+
+-- a prefixed block is entered, or an object is made in the frame in which its class is declared
+abbrev pub block_begun : CodeOf → (class block : ℕ) → World → World
+block_begun code c b o = begun_in (is_simulation_class code c) b o
+
+abbrev pub object_made : CodeOf → (class parent object : ℕ) → World → World
+object_made code c parent j o = joined (is_process_class code c) parent j (enrolled j (linkage_of_class code c) o)
+
 -- the block of the objects of a class, which has this class
 unfoldable pub objects_of : {S : Type 0} → CodeOf → (class : ℤ) → World → (ℕ → BlockOf → (start : ℕ) → Run S) → Run S
 objects_of code z o go =
@@ -120,7 +126,8 @@ objects_of code z o go =
     levelled code block.Object x.block o (λ b start. when (b.class == c) o (go x.block b start))))
 
 -- The values of an object's parameters, and the link to the frame in which its class is declared, are taken. The frame that generates the
--- object gets the reference at once, and waits. The arrays among the values go over to the object, which becomes a linkage if its class is one.
+-- object gets the reference at once, and waits. The arrays among the values go over to the object, which becomes a linkage or a process if its
+-- class is one.
 abbrev pub generating : CodeOf → Limits → World → Frames → Activation → List Activation → (line : ℕ) → (class values : ℤ) → Run Machine
 generating code l o m a below line z n =
     index n o (λ n. pop_many n [] a.stack o (λ values stack.
@@ -128,17 +135,17 @@ generating code l o m a below line z n =
     objects_of code z o (λ k b start.
     having (supplied code b.class b values) o (λ cells.
     pushing a.room stack (Of (Object (length m.instances))) o (λ stack.
-    entering l line (words_of_block b) o (λ p.
-    in_object (enrolled (length m.instances) (linkage_of_class code b.class) (handed_over (length m.instances) (arrays_among values) p)) m k b start parent cells (waiting a stack ∷ below))))))))))
+    entering l line (words_of_object code b) o (λ p.
+    in_object (object_made code b.class parent (length m.instances) (handed_over (length m.instances) (arrays_among values) p)) m k b start parent cells (waiting a stack ∷ below))))))))))
 
--- the same of a prefixed block, whose encloser is the frame on top
+-- the same of a prefixed block, whose encloser is the frame on top, and which may be a simulation block
 abbrev pub entering_prefixed : CodeOf → Limits → World → Frames → Activation → List Activation → (line : ℕ) → (block values : ℤ) → Run Machine
 entering_prefixed code l o m a below line z n =
     index n o (λ n. pop_many n [] a.stack o (λ values stack.
     index z o (λ k. levelled code block.Prefixed k o (λ b start.
     having (supplied code b.class b values) o (λ cells.
     entering l line (words_of_block b) o (λ p.
-    in_prefixed (handed_over (length m.instances) (arrays_among values) p) m k b start a.home cells (waiting a stack ∷ below)))))))
+    in_prefixed (block_begun code b.class (length m.instances) (handed_over (length m.instances) (arrays_among values) p)) m k b start a.home cells (waiting a stack ∷ below)))))))
 
 -- ---- from stage to stage
 
@@ -176,6 +183,26 @@ abbrev pub inner_reached : CodeOf → World → Frames → Activation → List A
 inner_reached code o m a below n = own_levels code m a (stage.Stating n) o (λ cs. at_inner code o m a below n (class_at_level code cs (suc n)))
 
 -- ---- ends
+
+-- The frame on top is a process that comes to its end where it stands in the part after `inner` of its level of the class `process`.
+abbrev pub is_behind : CodeOf → Stage → (levels : List ℕ) → Bool
+is_behind code (stage.Behind n) cs = is_marked_level code (slice_get cs n)
+  where
+    is_marked_level : CodeOf → Option ℕ → Bool
+    is_marked_level code None = false
+    is_marked_level code (Some c) = is_marked code process_mark c
+is_behind code _ cs = false
+
+abbrev pub ends_process : CodeOf → Stage → Option (List ℕ) → Bool
+ends_process code stage None = false
+ends_process code stage (Some cs) = is_behind code stage cs
+
+abbrev pub frame_if : Bool → Option ℕ → Option ℕ
+frame_if true j = j
+frame_if false j = None
+
+unfoldable pub ending_process : CodeOf → Frames → Activation → Option ℕ
+ending_process code m a = frame_if (ends_process code a.stage (levels_in code (class_of code m a.home))) (owner a)
 
 -- The outermost level ends: an object takes the tick of its end and is terminated, a prefixed block ends as a sub-block does.
 abbrev pub ended_by_kind : Limits → World → Frames → List Activation → (frame : ℕ) → BlockOf → BlockKind → Run Machine

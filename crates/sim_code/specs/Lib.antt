@@ -3,8 +3,11 @@ pub mod Outcome
 pub mod Events
 pub mod Arrays
 pub mod Instances
+pub mod Simulations
 pub mod Sets
 pub mod Transfers
+pub mod Scheduling
+pub mod Deciding
 pub mod Machine
 pub mod Classes
 pub mod Levels
@@ -16,3 +19,4 @@ pub mod Examples
 pub mod ClassExamples
 pub mod CoroutineExamples
 pub mod SetExamples
+pub mod SimulationExamples

@@ -26,15 +26,23 @@ pub record ArrayOf : Type 0 where
   pub kept : Bool
   pub given_back : Bool
 
+-- A simulation block: its instance; the objects of its processes, in the order in which they were made; of each of them whether it is
+-- terminated; and the event notices. The number of a process is its place among these, from 1 on; 0 is that of the main program.
+pub record Simulation : Type 0 where
+  pub block : ℕ
+  pub processes : List ℕ
+  pub ended : List Bool
+  pub notices : List Notice
+
 -- What every step gets and hands on: the ticks taken, the words in use, the texts with both images, the input left and the output so
--- far, the arrays, the linkages with their sets, and the event notices of each simulation block.
+-- far, the arrays, the linkages with their sets, and the simulation blocks that were entered.
 pub record World : Type 0 where
   pub ticks : ℕ
   pub words : ℕ
   pub store : Store
   pub arrays : List ArrayOf
   pub members : Memberships
-  pub notices : List (List Notice)
+  pub simulations : List Simulation
 
 -- a run that goes on from a state, or has ended
 pub data Run (S : Type 0) : Type 0 where
@@ -67,7 +75,7 @@ shown (Ended o e) = shown_world o (Some e)
 
 -- the world before the first step, with these text constants and this input
 abbrev pub first_world : (constants : List (List ℕ)) → Limits → (input : List ℕ) → World
-first_world constants l input = record { ticks = 0; words = 0; store = first_store constants l.in_length l.out_length input; arrays = []; members = record { instances = []; sets = [] }; notices = [] }
+first_world constants l input = record { ticks = 0; words = 0; store = first_store constants l.in_length l.out_length input; arrays = []; members = record { instances = []; sets = [] }; simulations = [] }
 
 -- how the machine says that a run has ended; `at` is the place where it has no rule
 abbrev pub answer_of : Ending → (at : ℕ) → Answer

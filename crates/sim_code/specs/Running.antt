@@ -1,5 +1,4 @@
--- What of the table the machine that is built does: all but the names of components and simulations, and those of both images, which have no
--- row.
+-- What of the table the machine that is built does: all but the names of components and those of both images, which have no row.
 use Rattle.std.specs.Prelude.{◌≡◌, ℕ, Bool, true, false, List, slice_get, Option, Some, None}
 use Rattle.sim_values.specs.declared.standard.Standard.{Standard}
 use Rattle.sim_values.specs.declared.standard.Standard.TheVariants as name
@@ -8,7 +7,7 @@ use Rattle.sim_code.specs.declared.instr.Instr.TheVariants as i
 use Rattle.sim_code.specs.declared.instr.Lined.{Lined}
 use Rattle.sim_code.specs.Rows.{standard_of}
 
--- the names of numbers, characters, texts, the input, the output and sets
+-- the names of numbers, characters, texts, the input, the output, sets and simulations
 abbrev pub name_runs : Standard → Bool
 name_runs name.Abs = true
 name_runs name.Sign = true
@@ -63,6 +62,17 @@ name_runs name.Last = true
 name_runs name.Empty = true
 name_runs name.Cardinal = true
 name_runs name.Clear = true
+name_runs name.Idle = true
+name_runs name.Terminated = true
+name_runs name.Evtime = true
+name_runs name.Nextev = true
+name_runs name.Time = true
+name_runs name.Current = true
+name_runs name.Main = true
+name_runs name.Hold = true
+name_runs name.Passivate = true
+name_runs name.Wait = true
+name_runs name.Cancel = true
 name_runs _ = false
 
 abbrev pub standard_runs : Option Standard → Bool

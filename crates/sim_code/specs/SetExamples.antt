@@ -12,6 +12,7 @@ use Rattle.sim_code.specs.declared.instr.Lined.{Lined}
 use Rattle.sim_code.specs.Code.{BlockOf, ClassOf, CodeOf}
 use Rattle.sim_code.specs.Outcome.{Normal, RunFault}
 use Rattle.sim_code.specs.Levels.{linkage_of_class}
+use Rattle.sim_code.specs.Simulations.{named_in}
 use Rattle.sim_code.specs.Sets.{gives, linkage_given, linkage_named, set_effect}
 use Rattle.sim_code.specs.Examples.{at, limits, main, seen, shows, stops_at}
 use Rattle.sim_code.specs.ClassExamples.{by_value, class, code, objects_with}
@@ -123,10 +124,10 @@ pub record Worked : Type 0 where
   pub none_given : linkage_given members Nothing ≡ Some None
   pub linkage_as_given : linkage_given members (Object 3) ≡ Some (Some 1)
   pub other_given : linkage_given members (Object 4) ≡ None
-  pub first_is_object : set_effect name.First members 0 None ≡ gives members (Object 5)
-  pub before_is_head : set_effect name.Prev members 2 None ≡ gives members (Object 2)
-  pub none_after : set_effect name.Suc members 1 None ≡ gives members Nothing
-  pub number_of_links : set_effect name.Cardinal members 0 None ≡ gives members (Integer (pos 1))
+  pub first_is_object : set_effect name.First (named_in []) members 0 None ≡ gives members (Object 5)
+  pub before_is_head : set_effect name.Prev (named_in []) members 2 None ≡ gives members (Object 2)
+  pub none_after : set_effect name.Suc (named_in []) members 1 None ≡ gives members Nothing
+  pub number_of_links : set_effect name.Cardinal (named_in []) members 0 None ≡ gives members (Integer (pos 1))
   pub in_and_out_done : seen in_and_out (limits 1000 100) 200 ≡ shows (codes " 2 1 2 2\n") 9 26 (RunFault AccessThroughNone 59)
   pub placed_done : seen placed (limits 1000 100) 200 ≡ shows (codes " 2 3 3 2 0\n") 9 27 Normal
   pub other_object : stops_at of_other 9 ≡ Some 14

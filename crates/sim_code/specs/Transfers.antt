@@ -1,9 +1,10 @@
 -- Transfers of control from component to component, for the meaning and the machine: what `detach`, `call` and `resume` make of the chains.
 use Rattle.std.specs.Prelude.{◌≡◌, ℕ, List, [], ◌∷◌, slice_get, Option, Some, None, Result, Ok, Err}
 use Rattle.sim_base.specs.declared.run_error.RunError.{RunError}
+use Rattle.sim_base.specs.declared.run_error.RunError.TheVariants.{ComponentIsAttached, ObjectNotOperating, ResumedIsAttached}
 use Rattle.sim_chains.specs.Chains.{Cut, cut_at}
 use Rattle.sim_chains.specs.Components.{AttachedObject, Components, NoObject, ResumedObject, call, detach, finish, resume}
-use Rattle.sim_values.specs.Plain.{Nothing, Object, Plain}
+use Rattle.sim_values.specs.Plain.{MainOf, Nothing, Object, Plain}
 use Rattle.sim_code.specs.Outcome.{Ended, Going, NoRule, Run, RunFault, World}
 use Rattle.sim_code.specs.Events.{computing, having, stopping}
 use Rattle.sim_code.specs.Instances.{Memory, State, components, going_below, object_ended, system_head}
@@ -20,6 +21,12 @@ component_in (Object j) = Some (Some j)
 component_in Nothing = Some None
 component_in _ = None
 
+-- A main program counts as an attached object on no chain.
+abbrev pub refused_of_main : Transfer → RunError
+refused_of_main Detaching = ObjectNotOperating
+refused_of_main Calling = ComponentIsAttached
+refused_of_main Resuming = ResumedIsAttached
+
 -- `owner` of an activation as for chains; `head` gives the system head of an object
 module _ {A : Type 0} (owner : A → Option ℕ) where
   -- there is no rule to detach none
@@ -31,6 +38,7 @@ module _ {A : Type 0} (owner : A → Option ℕ) where
 
   -- Control goes on where the operating chain leads then, or the transfer is refused. `chain` is the operating chain before.
   unfoldable pub transferring : {C : Type 0} → Transfer → (line : ℕ) → World → (chain : List A) → Memory C A → Plain → Run (State C A)
+  transferring t line o chain m (MainOf b) = stopping (RunFault (refused_of_main t) line) o
   transferring t line o chain m v =
       having (component_in v) o (λ y.
       having (transferred t (system_head m) (record { operating = chain; standings = m.standings }) y) o (λ r.

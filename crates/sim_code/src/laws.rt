@@ -4,9 +4,11 @@ ghost use Rattle.sim_code.specs.Examples.{Worked};
 ghost use Rattle.sim_code.specs.ClassExamples.{Worked as WorkedClasses};
 ghost use Rattle.sim_code.specs.CoroutineExamples.{Worked as WorkedCoroutines};
 ghost use Rattle.sim_code.specs.SetExamples.{Worked as WorkedSets};
+ghost use Rattle.sim_code.specs.SimulationExamples.{Worked as WorkedSimulations};
 ghost use Rattle.sim_code.specs.Growing.{OutputGrows};
 ghost use Rattle.sim_code.specs.Instances.{Memory};
-ghost use Rattle.sim_code.specs.Outcome.{World};
+ghost use Rattle.sim_code.specs.Deciding.{DecidesAsComponents};
+ghost use Rattle.sim_code.specs.Outcome.{Simulation, World};
 ghost use Rattle.sim_code.specs.Transfers.{EndsAsComponent, TransfersAsComponents};
 
 /// Small codes show in the end what they should: their output, their ticks and words, and how they end; and where they have no rule.
@@ -30,6 +32,12 @@ pub fn worked_sets()
     ensures { WorkedSets }
 {}
 
+/// The same of codes with simulations: who goes on after each scheduling procedure and each form of activation, how a process ends, what is
+/// refused, and what a main program is.
+pub fn worked_simulations()
+    ensures { WorkedSimulations }
+{}
+
 /// What a run has written stays written: later output begins with it.
 pub fn output_grows()
     ensures { OutputGrows }
@@ -44,4 +52,10 @@ pub fn objects_end<C, A>()
 /// it ends with their error at the line of the word.
 pub fn transfers_move<C, A>()
     ensures { (owner : A → Option ℕ) (line : ℕ) (o : World) (chain : List A) (m : Memory C A) → TransfersAsComponents owner line o chain m }
+{}
+
+/// A scheduling procedure or an activation of a simulation block moves control as among components: the process of the first notice goes on, or
+/// the run ends with the error of the procedure or of the move, or with E50 where no notice is left.
+pub fn scheduling_moves<C, A>()
+    ensures { (owner : A → Option ℕ) (line : ℕ) (o : World) (chain : List A) (m : Memory C A) (x : ℕ × Simulation) → DecidesAsComponents owner line o chain m x }
 {}

@@ -71,8 +71,8 @@ abbrev pub CheckedCompiles : Command → List Token → Tree → Checked → Com
 CheckedCompiles command tokens tree (Refused fault) compiled = compiled ≡ Rejected fault.rule (token_line tokens fault.token.0)
 CheckedCompiles command tokens tree (Allowed tables uses found_in types) compiled = AllowedCompiles command (source_with tree tables uses found_in types) compiled
 
--- What else is not built, for `run`: a standard name of simulation; virtual procedures, a parameter by name, a procedure as a parameter, an
--- activation. `check` knows all forms.
+-- What else is not built, for `run`: `process` directly behind `new`; virtual procedures, a parameter by name, a procedure as a parameter.
+-- `check` knows all forms.
 abbrev pub lacks_form : Command → List Token → Program → Bool
 lacks_form Run tokens p = has_unbuilt_name tokens || has_unbuilt_form p
 lacks_form Check tokens p = false

@@ -23,7 +23,9 @@ use Rattle.sim_values.specs.Plain.{Plain}
 use Rattle.sim_values.specs.Standard.{is_image, moves_position, on_image}
 use Rattle.sim_meaning.specs.Closing.{actual_term, array_place, array_term, attribute_term, behind_dot, class_parameters, close, close_actuals, close_all, close_place, constant_term, declared_place, declared_term, dot_term, formal_place, formal_term, formals_at, given_term, home_of, home_of_class, image_place, in_instance, is_attribute, is_text, is_text_type, is_variable, Joining, Lazily, literal_term, name_term, named_place, named_term, Negated, object_term, Plainly, signed_term, Sort, sort_of, standard_term, stream_of, sysout, two_term, variable_place, variable_term}
 use Rattle.sim_code.specs.Instances.{at_level}
-use Rattle.sim_meaning.specs.Attributes.{array_attribute, attribute, attribute_place, connected_object, connection_at, connection_in, declared_attribute, element_at, entry_at, entry_attribute, fitting, generation, if_any, kept_if, membership_term, own_attribute, parameter_at, parameter_attribute, parameter_qualification, place_of_attribute, qua_term, this_instance, this_term, transfer_at, transfer_term, variable_at, variable_attribute, with_arrays_kept}
+use Rattle.sim_meaning.specs.Attributes.{array_attribute, attribute, attribute_of_object, attribute_place, block_found, class_made, connected_object, connection_at, connection_in, declared_attribute, element_at, entry_at, entry_attribute, fitting, generation, if_any, kept_if, membership_term, own_attribute, own_term, parameter_at, parameter_attribute, parameter_qualification, place_of_attribute, process_term, qua_term, simulation_term, this_instance, this_term, transfer_at, transfer_term, variable_at, variable_attribute, with_arrays_kept}
+use Rattle.sim_code.specs.Sets.{is_set_name}
+use Rattle.sim_code.specs.Simulations.{is_process_name, is_simulation_name}
 use Rattle.sim_code.specs.Transfers.{Calling, Detaching, Resuming, Transfer}
 use Rattle.sim_meaning.specs.Constants.{text_constant}
 use Rattle.sim_meaning.specs.Levels.{class_at}
@@ -223,7 +225,15 @@ module _ (s : Source) (line : ℕ) (object : Term) (terms : Terms) (n : ℕ) (mo
   attribute_place_small : (es : Expressions) (d : DeclNo) → term_weight (place_of_attribute s line object es terms d) ≤ n
   attribute_place_small es d = entry_at_small d (entry_of s.tables d) es
 
+  of_process_small : (of_process : Bool) (name : Standard) → term_weight (process_term of_process name line object) ≤ n
+  of_process_small true name = omega (arith, most)
+  of_process_small false name = omega (arith, most)
+
   module _ (actuals : DeclNo → Terms) (few : (d : DeclNo) → 4 + (term_weight object + terms_weight (actuals d)) ≤ n) where
+    of_object_small : (of_set : Bool) (name : Standard) (d : DeclNo) → term_weight (attribute_of_object of_set name line object (actuals d)) ≤ n
+    of_object_small true name d = omega (arith, few d)
+    of_object_small false name d = of_process_small (is_process_name name) name
+
     entry_attribute_small : (d : DeclNo) (e : Option Entry) (es : Expressions) → term_weight (entry_attribute s line d e object es terms (actuals d)) ≤ n
     entry_attribute_small d None es = omega (arith, most)
     entry_attribute_small d (Some (entry.Variable t)) es = variable_attribute_small d es
@@ -234,10 +244,27 @@ module _ (s : Source) (line : ℕ) (object : Term) (terms : Terms) (n : ℕ) (mo
     entry_attribute_small d (Some (entry.Virtual result own)) es = omega (arith, most)
     entry_attribute_small d (Some (entry.Formal f)) es = parameter_attribute_small d f.kind es
     entry_attribute_small d (Some (entry.Unspecified w)) es = omega (arith, most)
-    entry_attribute_small d (Some (entry.Attribute name parameter result)) es = omega (arith, few d)
+    entry_attribute_small d (Some (entry.Attribute name parameter result)) es = of_object_small (is_set_name name) name d
 
     attribute_of_small : (es : Expressions) (d : DeclNo) → term_weight (attribute s line object es terms actuals d) ≤ n
     attribute_of_small es d = entry_attribute_small d (entry_of s.tables d) es
+
+own_small : (s : Source) (e : Option Entry) (block : Option ℕ) (actuals : Terms) (line : ℕ) (other : Term) (n : ℕ) → 2 + terms_weight actuals ≤ n → term_weight other ≤ n → term_weight (own_term s e block actuals line other) ≤ n
+own_small s (Some (entry.Attribute name parameter result)) block actuals line other n few less = of_block (is_simulation_name name) block
+  where
+    of_block : (of_simulation : Bool) (j : Option ℕ) → term_weight (simulation_term s of_simulation name j actuals line other) ≤ n
+    of_block true None = omega (arith, few)
+    of_block true (Some j) = few
+    of_block false j = less
+own_small s None block actuals line other n few less = less
+own_small s (Some (entry.Variable t)) block actuals line other n few less = less
+own_small s (Some (entry.Constant t)) block actuals line other n few less = less
+own_small s (Some (entry.Array t k)) block actuals line other n few less = less
+own_small s (Some (entry.Procedure result k)) block actuals line other n few less = less
+own_small s (Some (entry.Class k)) block actuals line other n few less = less
+own_small s (Some (entry.Virtual result own)) block actuals line other n few less = less
+own_small s (Some (entry.Formal f)) block actuals line other n few less = less
+own_small s (Some (entry.Unspecified w)) block actuals line other n few less = less
 
 generation_small : (x class : Option ℕ) (terms : Terms) (line : ℕ) → term_weight (generation x class terms line) ≤ 2 + terms_weight terms
 generation_small None class terms line = omega arith
@@ -327,15 +354,16 @@ mutual
       (λ d. close_actuals s m i line es (formals_at s d)) (λ d. omega (arith, connected_small s m i k, close_actuals_small s m i line es (formals_at s d))) es)
       (omega arith))
       (if_small (own_attribute s name.token.0) _ _ (9 + expressions_weight es)
+      (λ d. own_small s (entry_of s.tables d) (block_found s m i (found_at s name.token.0)) (close_actuals s m i line es (formals_at s d)) line _ (9 + expressions_weight es) (omega (arith, close_actuals_small s m i line es (formals_at s d)))
       (attribute_of_small s line (this_term s m i (found_at s name.token.0)) (close_all s m i es) (9 + expressions_weight es) (omega (arith, this_small s m i (found_at s name.token.0), close_all_small s m i es))
-      (λ d. close_actuals s m i line es (formals_at s d)) (λ d. omega (arith, this_small s m i (found_at s name.token.0), close_actuals_small s m i line es (formals_at s d))) es)
+      (λ d. close_actuals s m i line es (formals_at s d)) (λ d. omega (arith, this_small s m i (found_at s name.token.0), close_actuals_small s m i line es (formals_at s d))) es d))
       (named_small s m i (9 + expressions_weight es) (omega arith) line (close_all s m i es) (omega (arith, close_all_small s m i es))
       (λ fs. close_actuals s m i line es fs) (λ fs. omega (arith, close_actuals_small s m i line es fs)) (denoted s name.token.0) es)))
   close_small s m i (syntax.This token class) = this_small s m i (found_at s token)
   close_small s m i (syntax.New token class es) =
       let line = line_at s class.token.0 in
       let fs = class_parameters s (class_at s class.token.0) in
-      omega (arith, generation_small (home_of_class s m i (denoted s class.token.0)) (class_at s class.token.0) (with_arrays_kept fs (close_actuals s m i line es fs)) (line_at s token), close_kept_small s m i line es fs)
+      omega (arith, generation_small (home_of_class s m i (denoted s class.token.0)) (class_made s (class_at s class.token.0)) (with_arrays_kept fs (close_actuals s m i line es fs)) (line_at s token), close_kept_small s m i line es fs)
   close_small s m i (syntax.Parentheses token a) = close_small s m i a
 
   close_place_small : (s : Source) (m : Instances) (i : ℕ) (e : Expression) → term_weight (close_place s m i e) ≤ expression_weight e

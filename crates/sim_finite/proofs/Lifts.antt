@@ -10,11 +10,12 @@ use Rattle.sim_values.specs.declared.operators.Monadic.{Monadic}
 use Rattle.sim_values.specs.declared.standard.Standard.{Standard}
 use Rattle.sim_values.specs.declared.value.TextVal.{TextVal}
 use Rattle.sim_values.specs.Operators.{Answer}
-use Rattle.sim_values.specs.Plain.{Character, Integer, Nothing, Object, Plain, Text, Truth}
+use Rattle.sim_values.specs.Plain.{Character, Integer, MainOf, Nothing, Object, Plain, Text, Truth}
 use Rattle.sim_values.specs.Words.{array_words, is_exhausted}
 use Rattle.sim_code.specs.Outcome.{Ended, Ending, Going, Run, World}
 use Rattle.sim_values.specs.Texts.{Making, assign, concatenated}
-use Rattle.sim_code.specs.Events.{answering, applying_one, applying_two, assigning, choosing, computing, entering, having, integer_in, joining, making_text, no_rule, performing, pop_integers, pop_object, pop_many, pop_operands, pop_plain, pop_text, pop_truth, popping, putting_back, qualifying, referring, stopping, taking, testing_step, text_val, ticking, truth_in, when, with_texts}
+use Rattle.sim_code.specs.Events.{answering, applying_one, applying_two, assigning, choosing, computing, entering, having, integer_in, joining, making_text, no_rule, not_nothing, performing, pop_integers, pop_many, pop_object, pop_operands, pop_plain, pop_reference, pop_text, pop_truth, popping, putting_back, qualifying, referring, stopping, taking, testing_step, text_val, ticking, truth_in, when, with_texts}
+use Rattle.sim_code.specs.Simulations.{named_in}
 use Rattle.sim_code.specs.Sets.{linkage_given, linkage_named, performing_set, pop_given, set_effect, takes_linkage}
 use Rattle.sim_code.specs.Arrays.{copying_array, finding_element, keeping_array, live_array, making_array, words_of_array}
 
@@ -72,9 +73,10 @@ module _ {S : Type 0} (P : World → S → Type 0) where
   computing_goes line (Ok a) o f x = x a
   computing_goes line (Err e) o f x = stops _ o
 
-  pub qualifying_goes : (line : ℕ) (is_in : ℕ → Bool) (p : Plain) (o : World) (r : Run S) → Goes P r → Goes P (qualifying line is_in p o r)
+  pub qualifying_goes : (line : ℕ) (is_in : Plain → Bool) (p : Plain) (o : World) (r : Run S) → Goes P r → Goes P (qualifying line is_in p o r)
   unfolding qualifying
-  qualifying_goes line is_in (Object j) o r x = goes_if (is_in j) r (stopping _ o) (λ _. x) (stops _ o)
+  qualifying_goes line is_in (Object j) o r x = goes_if (is_in (Object j)) r (stopping _ o) (λ _. x) (stops _ o)
+  qualifying_goes line is_in (MainOf b) o r x = goes_if (is_in (MainOf b)) r (stopping _ o) (λ _. x) (stops _ o)
   qualifying_goes line is_in Nothing o r x = x
   qualifying_goes line is_in (Integer z) o r x = none o
   qualifying_goes line is_in (Truth b) o r x = none o
@@ -84,11 +86,22 @@ module _ {S : Type 0} (P : World → S → Type 0) where
   referring_goes : (line : ℕ) (p : Plain) (o : World) (f : ℕ → Run S) → ((j : ℕ) → Goes P (f j)) → Goes P (referring line p o f)
   unfolding referring
   referring_goes line (Object j) o f x = x j
+  referring_goes line (MainOf b) o f x = none o
   referring_goes line Nothing o f x = stops _ o
   referring_goes line (Integer z) o f x = none o
   referring_goes line (Truth b) o f x = none o
   referring_goes line (Character c) o f x = none o
   referring_goes line (Text t) o f x = none o
+
+  not_nothing_goes : (line : ℕ) (p : Plain) (o : World) (r : Run S) → Goes P r → Goes P (not_nothing line p o r)
+  unfolding not_nothing
+  not_nothing_goes line (Object j) o r x = x
+  not_nothing_goes line (MainOf b) o r x = x
+  not_nothing_goes line Nothing o r x = stops _ o
+  not_nothing_goes line (Integer z) o r x = none o
+  not_nothing_goes line (Truth b) o r x = none o
+  not_nothing_goes line (Character c) o r x = none o
+  not_nothing_goes line (Text t) o r x = none o
 
   pub choosing_goes : (b : Bool) (r q : Run S) → Goes P r → Goes P q → Goes P (choosing b r q)
   unfolding choosing
@@ -148,11 +161,15 @@ module _ {S : Type 0} (P : World → S → Type 0) where
       unfolding performing_set
       linkage_goes name stack o f x =
           given_goes (takes_linkage name) stack o _ (λ given rest. plain_goes rest o _ (λ p rest. having_goes (linkage_named o.members p) o _ (λ y.
-          having_goes (set_effect name o.members y given) o _ (λ effect. x (record o { members = effect.members }) effect.value rest refl))))
+          having_goes (set_effect name (named_in o.simulations) o.members y given) o _ (λ effect. x (record o { members = effect.members }) effect.value rest refl))))
 
       pub object_goes : (line : ℕ) (stack : List V) (o : World) (f : ℕ → List V → Run S) → ((j : ℕ) (rest : List V) → Goes P (f j rest)) → Goes P (pop_object plain line stack o f)
       unfolding pop_object
       object_goes line stack o f x = plain_goes stack o _ (λ p rest. referring_goes line p o _ (λ j. x j rest))
+
+      pub reference_goes : (line : ℕ) (stack : List V) (o : World) (f : Plain → List V → Run S) → ((p : Plain) (rest : List V) → Goes P (f p rest)) → Goes P (pop_reference plain line stack o f)
+      unfolding pop_reference
+      reference_goes line stack o f x = plain_goes stack o _ (λ p rest. not_nothing_goes line p o _ (x p rest))
 
       pub truth_goes : (stack : List V) (o : World) (f : Bool → List V → Run S) → ((b : Bool) (rest : List V) → Goes P (f b rest)) → Goes P (pop_truth plain stack o f)
       unfolding pop_truth

@@ -8,11 +8,11 @@ use Rattle.sim_code.specs.Instances.{no_instances}
 use Rattle.sim_meaning.specs.Constants.{constants_of}
 use Rattle.sim_meaning.specs.Meaning.{do_chain, do_item, do_work, program_entered, step}
 use Rattle.sim_meaning.specs.Pending.{Activation, Configuration, Do, EndBlock, EndLevel, EndObject, EndPrefixed, EndProcedure, EndProgram, Instances, Item, Result, Val, cell}
-use Rattle.sim_meaning.specs.Levels.{levels}
+use Rattle.sim_meaning.specs.Levels.{is_simulation_text, levels}
 use Rattle.sim_meaning.specs.Texts.{BlockText, PrefixedText, ProcedureText, Text, text}
 use Rattle.sim_finite.specs.Coming.{ComesToAnEnd}
 use Rattle.sim_finite.proofs.Lifts.{Goes, entering_goes, having_goes, none, stops, when_goes}
-use Rattle.sim_finite.proofs.Operators.{leaving_falls, object_ended_falls, op_falls}
+use Rattle.sim_finite.proofs.Operators.{begun_ticks, leaving_falls, object_ended_falls, op_falls}
 use Rattle.sim_finite.proofs.Weights.{Lower, chain_weight, item_weight, kept_weight, lighter, ticked, weight, work_weight}
 
 -- ---- one step
@@ -40,7 +40,8 @@ module _ (s : Source) (l : Limits) (o : World) where
   program_falls m (Some (BlockText begin ds ss)) = entering_goes (From (0 + kept_weight m)) l _ _ o _ (λ p more most. ticked (omega (arith, more)) most)
   program_falls m (Some (ProcedureText result h a)) = none (From (0 + kept_weight m)) o
   program_falls m (Some (PrefixedText class arguments ds ss)) =
-      having_goes (From (0 + kept_weight m)) (levels s 0) o _ (λ xs. entering_goes (From (0 + kept_weight m)) l _ _ o _ (λ p more most. ticked (omega (arith, more)) most))
+      having_goes (From (0 + kept_weight m)) (levels s 0) o _ (λ xs. entering_goes (From (0 + kept_weight m)) l _ _ o _ (λ p more most.
+      let same = begun_ticks (is_simulation_text s 0) (length m.instances) p in ticked (omega (arith, more, same)) (omega (arith, most, same))))
   program_falls m (Some _) = none (From (0 + kept_weight m)) o
 
   chain_falls : (m : Instances) (chain : List Activation) → Goes (From (chain_weight chain + kept_weight m)) (do_chain s l o m chain)

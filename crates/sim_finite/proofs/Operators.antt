@@ -15,31 +15,38 @@ use Rattle.sim_tree.specs.Syntax as syntax
 use Rattle.sim_values.specs.declared.operators.Calculation.TheVariants as calculation
 use Rattle.sim_values.specs.declared.operators.Dyadic.TheVariants as dyadic
 use Rattle.sim_values.specs.declared.kind.Kind.{Kind}
-use Rattle.sim_values.specs.Plain.{Character, Integer, Nothing, Object, Plain, Text, Truth}
+use Rattle.sim_values.specs.Plain.{Character, Integer, Nothing, Object, Plain, Text, Truth, MainOf}
 use Rattle.sim_values.specs.declared.value.TextVal.{TextVal}
 use Rattle.sim_values.specs.Store.{image_at, with_image}
 use Rattle.sim_values.specs.Texts.{same_text}
-use Rattle.sim_code.specs.Outcome.{ArrayOf, Run, World}
+use Rattle.sim_code.specs.Outcome.{ArrayOf, Run, World, Simulation}
 use Rattle.sim_code.specs.Events.{computing, having, image_moved, text_val, ticking}
 use Rattle.sim_code.specs.Arrays.{element, element_set_in, giving_back, handed_over, live_array, owned_by, pairs}
-use Rattle.sim_code.specs.Instances.{CellPlace, ElementPlace, ImagePlace, Instance, Place, cells_of, cells_put, ended_as, given, given_in, going_below, is_given_at_end, is_live, live, main_goes_on, object_ended, system_head, with_instance}
+use Rattle.sim_code.specs.Instances.{CellPlace, ElementPlace, ImagePlace, Instance, Place, cells_of, cells_put, ended_as, given, given_in, going_below, is_given_at_end, is_live, live, main_goes_on, object_ended, system_head, with_instance, encloser_of}
 use Rattle.sim_code.specs.Sets.{enrolled}
 use Rattle.sim_code.specs.Transfers.{Transfer, component_in, transferred, transferring}
+use Rattle.notices.specs.declared.next.Next.TheVariants as next
+use Rattle.notices.specs.declared.next.Next.{Next}
+use Rattle.notices.specs.declared.notice.Notice.{Notice}
+use Rattle.notices.specs.Scheduling.{next_of}
+use Rattle.sim_code.specs.Simulations.{begun_in, joined, joined_at, located, with_simulation}
+use Rattle.sim_code.specs.Scheduling.{component_of, deciding, going_to}
 use Rattle.sim_meaning.specs.Connections.{arm_tried, arms_tried, connected, object_connected}
-use Rattle.sim_meaning.specs.Levels.{class_at, has_procedure, is_in, levels, linkage_of_text, text_at}
-use Rattle.sim_meaning.specs.Objects.{cells_of_levels, filled_in, generated, inner_done, is_member, object_entered, prefix_done, prefixed_entered, putting_reference, with_inner}
+use Rattle.sim_meaning.specs.Levels.{class_at, has_procedure, is_in, levels, linkage_of_text, text_at, end_line, in_process, is_process_text, is_simulation_text, stands_in}
+use Rattle.sim_meaning.specs.Objects.{cells_of_levels, filled_in, generated, inner_done, is_member, object_entered, prefix_done, prefixed_entered, putting_reference, with_inner, arrays_given, decided, no_line, process_begun, process_done, words_of_object}
 use Rattle.sim_meaning.specs.Entries.{arrays_among, arrays_by_value, arrays_declared, arrays_of, bounds_of, filled_behind, first_array, further_arrays, segments_of, first_cells, formals_of, words_of_cells}
 use Rattle.sim_meaning.specs.Meaning.{called, do_op, leaving, procedure_entered, sub_block_entered}
-use Rattle.sim_meaning.specs.Pending.{Activation, Address, AgainOp, array_in, ArrayOp, AttributeOf, AttributeOp, BackOp, BranchOp, CallOf, CallOp, Cell, cell, cell_made, cell_set, ChooseOp, Configuration, Connection, ConnectOp, CopyOf, CopyOp, DeclareOp, Do, DropOp, Either, ElementOf, ElementOp, ElementsOp, EndLevel, EndPrefixed, EnterOp, Eval, Exec, Execs, FetchOp, FitsOf, FitsOp, Further, Given, GiveOp, Held, IfOp, ImageOf, InnerOp, instance_in, Instances, Item, Joined, JoinOp, KeepOp, KeptOf, Key, Level, LevelOp, Link, made_in, MemberOf, MemberOp, NewOf, NewOp, NoTerm, NotNoneOf, NotNoneOp, ObjectOp, Of, One, OneOp, Op, owner, PastOp, place_in, PlaceOf, plain, PrefixedOp, ProcedureValue, put_in, QualifiedElementOf, QualifiedElementOp, QualifiedPlaceOf, QuaOf, QuaOp, RaiseOp, ReferOp, RemoteCallOf, SetOf, SetOp, ShareOp, StandardOf, StandardOp, StepOp, StepTestOp, StoreOp, SwapOp, Target, Term, Terms, TestOp, ToAddress, ToCell, ToPlace, ToReference, ToReferenceAt, ToText, ToTextAt, ToTextOf, TransferOf, TransferOp, Tree, Two, TwoOp, Unbuilt, Val, ValueAt, WhenOp, WhileElementOp, variable_in}
+use Rattle.sim_meaning.specs.Pending.{Activation, Address, AgainOp, array_in, ArrayOp, AttributeOf, AttributeOp, BackOp, BranchOp, CallOf, CallOp, Cell, cell, cell_made, cell_set, ChooseOp, Configuration, Connection, ConnectOp, CopyOf, CopyOp, DeclareOp, Do, DropOp, Either, ElementOf, ElementOp, ElementsOp, EndLevel, EndPrefixed, EnterOp, Eval, Exec, Execs, FetchOp, FitsOf, FitsOp, Further, Given, GiveOp, Held, IfOp, ImageOf, InnerOp, instance_in, Instances, Item, Joined, JoinOp, KeepOp, KeptOf, Key, Level, LevelOp, Link, made_in, MemberOf, MemberOp, NewOf, NewOp, NoTerm, NotNoneOf, NotNoneOp, ObjectOp, Of, One, OneOp, Op, owner, PastOp, place_in, PlaceOf, plain, PrefixedOp, ProcedureValue, put_in, QualifiedElementOf, QualifiedElementOp, QualifiedPlaceOf, QuaOf, QuaOp, RaiseOp, ReferOp, RemoteCallOf, SetOf, SetOp, ShareOp, StandardOf, StandardOp, StepOp, StepTestOp, StoreOp, SwapOp, Target, Term, Terms, TestOp, ToAddress, ToCell, ToPlace, ToReference, ToReferenceAt, ToText, ToTextAt, ToTextOf, TransferOf, TransferOp, Tree, Two, TwoOp, Unbuilt, Val, ValueAt, WhenOp, WhileElementOp, variable_in, ActivateOp, BlockOp, EndProcessOp, ProcessOf, ProcessOp, SelfOp, SimulationOf, SimulationOp}
 use Rattle.sim_meaning.specs.Pending as pending
 use Rattle.sim_meaning.specs.Statements as statement
-use Rattle.sim_meaning.specs.Statements.{assigned, begin_of, compound, elements, entered_at, exec, execs, first_branch, inner_begun, levels_of_instance, looping, prefix_begun, raised, reading}
+use Rattle.sim_meaning.specs.Statements.{assigned, begin_of, compound, elements, entered_at, exec, execs, first_branch, inner_begun, levels_of_instance, looping, prefix_begun, raised, reading, activated, simulation_home}
 use Rattle.sim_meaning.specs.Steps.{count, each, eval, put_back, putting, stored, value_at}
 use Rattle.sim_meaning.specs.Texts.{BlockText, ProcedureText, declared_at, kind_named}
 use Rattle.sim_meaning.specs.Texts as texts
 use Rattle.sim_finite.proofs.Closing.{close_small}
-use Rattle.sim_finite.proofs.Lifts.{Goes, assigning_goes, choosing_goes, copying_goes, entering_goes, finding_goes, having_goes, having_knows, integers_goes, joining_goes, keeping_goes, making_goes, many_goes, none, object_goes, one_goes, performing_goes, plain_goes, popping_goes, linkage_goes, qualifying_goes, step_goes, stops, ticking_goes, truth_goes, two_goes, when_goes}
-use Rattle.sim_finite.proofs.Transfers.{NotMore, NotMoreIn, transfer_small}
+use Rattle.sim_finite.proofs.Lifts.{Goes, assigning_goes, choosing_goes, copying_goes, entering_goes, finding_goes, having_goes, having_knows, integers_goes, joining_goes, keeping_goes, making_goes, many_goes, none, object_goes, one_goes, performing_goes, plain_goes, popping_goes, linkage_goes, qualifying_goes, step_goes, stops, ticking_goes, truth_goes, two_goes, when_goes, computing_goes, reference_goes}
+use Rattle.sim_finite.proofs.Scheduling.{activation_goes, process_goes, simulation_goes}
+use Rattle.sim_finite.proofs.Transfers.{NotMore, NotMoreIn, transfer_small, given_small}
 use Rattle.sim_finite.proofs.Weights.{Lower, arms_weight, bounds_weight, chain_weight, declarations_weight, elements_weight, expression_weight, kept_weight, levels_weight, lighter, names_weight, op_weight, segments_weight, standings_weight, statements_weight, target_weight, term_weight, terms_weight, ticked, work_weight}
 
 -- ---- worlds with the same ticks
@@ -61,6 +68,18 @@ handed_ticks owner (n ∷ rest) o = handed_ticks owner rest _ ∙ owned_ticks (s
 enrolled_ticks : (object : ℕ) (linkage : Option Linkage) (o : World) → (enrolled object linkage o).ticks ≡ o.ticks
 enrolled_ticks object None o = refl
 enrolled_ticks object (Some linkage) o = refl
+
+pub begun_ticks : (is_simulation : Bool) (block : ℕ) (o : World) → (begun_in is_simulation block o).ticks ≡ o.ticks
+begun_ticks false b o = refl
+begun_ticks true b o = refl
+
+joined_ticks : (is_process : Bool) (block object : ℕ) (o : World) → (joined is_process block object o).ticks ≡ o.ticks
+joined_ticks false b j o = refl
+joined_ticks true b j o = at_place (located o.simulations b)
+  where
+    at_place : (x : Option (ℕ × Simulation)) → (joined_at j o x).ticks ≡ o.ticks
+    at_place None = refl
+    at_place (Some x) = refl
 
 -- ---- memories that keep the same chains
 
@@ -121,9 +140,9 @@ module _ (P : World → Configuration → Type 0) where
   pub putting_reference_goes : (s : Source) (line : ℕ) (p : Place Key (Option ℕ)) (v : Plain) (o : World) (m : Instances) (f : World → Instances → Run Configuration) → ((q : World) (n : Instances) → q.ticks ≡ o.ticks → kept_weight n ≡ kept_weight m → Goes P (f q n)) → Goes P (putting_reference s line p v o m f)
   unfolding putting_reference
   putting_reference_goes s line (CellPlace j key None) v o m f x = none P o
-  putting_reference_goes s line (CellPlace j key (Some k)) v o m f x = qualifying_goes P line (is_in s m k) v o _ (having_knows P (cell_set m j key (Of v)) o _ (λ n is. x o n refl (cell_kept m j key (Of v) n is)))
+  putting_reference_goes s line (CellPlace j key (Some k)) v o m f x = qualifying_goes P line (stands_in s m k) v o _ (having_knows P (cell_set m j key (Of v)) o _ (λ n is. x o n refl (cell_kept m j key (Of v) n is)))
   putting_reference_goes s line (ElementPlace a n None) v o m f x = none P o
-  putting_reference_goes s line (ElementPlace a n (Some k)) v o m f x = qualifying_goes P line (is_in s m k) v o _ (set_goes a n v (live_array o a) (element o a n) o _ (λ q same. x q m same refl))
+  putting_reference_goes s line (ElementPlace a n (Some k)) v o m f x = qualifying_goes P line (stands_in s m k) v o _ (set_goes a n v (live_array o a) (element o a n) o _ (λ q same. x q m same refl))
   putting_reference_goes s line (ImagePlace n) v o m f x = none P o
 
 -- ---- what is pending of operands, and of a controlled variable
@@ -152,13 +171,21 @@ module _ (P : World → Configuration → Type 0) where
   pub prefixed_goes : (s : Source) (l : Limits) (o : World) (m : Instances) (rest : List Activation) (k line : ℕ) (values : List Val) (encloser : Option ℕ) (end : Item) (xs : List Level) → ((p : World) (c : Configuration) → o.ticks < p.ticks → p.ticks ≤ l.ticks → P p c) → Goes P (prefixed_entered s l o m rest k line values encloser end xs)
   prefixed_goes s l o m rest k line values encloser end xs x =
       having_goes P (filled_in values (Some (cells_of_levels s xs)) (class_formals s.tables k)) o _ (λ filled. entering_goes P l line (words_of_cells (cells_of_levels s xs)) o _ (λ p more most.
-      let same = handed_ticks (length m.instances) (arrays_among values) p in x _ _ (omega (arith, more, same)) (omega (arith, most, same))))
+      let same = begun_ticks (is_simulation_text s k) (length m.instances) (arrays_given (length m.instances) values p) ∙ handed_ticks (length m.instances) (arrays_among values) p in x _ _ (omega (arith, more, same)) (omega (arith, most, same))))
 
 -- ---- what is pending of levels
 
 inner_weight : (last : Bool) (xs : List Level) (w : List Item) → work_weight (with_inner last xs w) ≤ levels_weight xs + work_weight w
 inner_weight true xs w = omega arith
 inner_weight false xs w = omega arith
+
+done_weight : (process : Bool) (w : List Item) → work_weight (process_done process w) ≤ 1 + work_weight w
+done_weight true w = omega arith
+done_weight false w = omega arith
+
+begun_weight : (process : Bool) (line : ℕ) (w : List Item) → work_weight (process_begun process line w) ≤ 2 + work_weight w
+begun_weight true line w = omega arith
+begun_weight false line w = omega arith
 
 further_some : (s : Source) (i : ℕ) (first : DeclNo) (x : Identifier) (xs : List Identifier) (w : List Item) (d : DeclNo) → declared_at s x.token.0 ≡ Some d → work_weight (further_arrays s i first (x ∷ xs) w) ≡ 3 + work_weight (further_arrays s i first xs w)
 further_some s i first x xs w d e = rw e (omega arith)
@@ -236,6 +263,8 @@ module _ (s : Source) (l : Limits) (o : World) (m : Instances) (i : ℕ) (w : Li
   eval_falls (NotNoneOf line a) = lighter refl (omega arith)
   eval_falls (TransferOf t line a) = lighter refl (omega arith)
   eval_falls (SetOf name ts) = lighter refl (omega (arith, each_weight ts (Do (SetOp name) ∷ w)))
+  eval_falls (ProcessOf name line a) = lighter refl (omega arith)
+  eval_falls (SimulationOf j name ts line) = lighter refl (omega (arith, each_weight ts (Do (SimulationOp name line) ∷ w)))
   eval_falls Unbuilt = none (From 1) o
 
   store_falls : (t : Target) → Falls (target_weight t) (stored o m i w vals rest t)
@@ -271,9 +300,9 @@ module _ (s : Source) (l : Limits) (o : World) (m : Instances) (i : ℕ) (w : Li
   -- so do the entries of objects and of prefixed blocks
   object_falls : (vals : List Val) (k line : ℕ) (values : List Val) (j : ℕ) (xs : List Level) → Falls 1 (object_entered s l o m i w vals rest k line values j xs)
   object_falls vals k line values j xs =
-      having_goes (From 1) (filled_in values (Some (cells_of_levels s xs)) (class_formals s.tables k)) o _ (λ filled. entering_goes (From 1) l line (words_of_cells (cells_of_levels s xs)) o _ (λ p more most.
-      let j = length m.instances in
-      let same = enrolled_ticks j (linkage_of_text s k) (handed_over j (arrays_among values) p) ∙ handed_ticks j (arrays_among values) p in ticked (omega (arith, more, same)) (omega (arith, most, same))))
+      having_goes (From 1) (filled_in values (Some (cells_of_levels s xs)) (class_formals s.tables k)) o _ (λ filled. entering_goes (From 1) l line (words_of_object s k (cells_of_levels s xs)) o _ (λ p more most.
+      let n = length m.instances in
+      let same = joined_ticks (is_process_text s k) j n (enrolled n (linkage_of_text s k) (arrays_given n values p)) ∙ enrolled_ticks n (linkage_of_text s k) (arrays_given n values p) ∙ handed_ticks n (arrays_among values) p in ticked (omega (arith, more, same)) (omega (arith, most, same))))
 
   generation_falls : (k n line : ℕ) → Falls 1 (generated s l o m i w vals rest k n line)
   generation_falls k n line =
@@ -322,32 +351,40 @@ module _ (s : Source) (l : Limits) (o : World) (m : Instances) (i : ℕ) (w : Li
       by_target p lt le (Some t) = ticked lt le
   exec_falls (syntax.Inspect token object opening a end other) = ticking_goes (From 1) l o _ (λ p more most. ticked (omega (arith, more)) most)
   exec_falls (syntax.InspectWhen token object arms other) = ticking_goes (From 1) l o _ (λ p more most. ticked (omega (arith, more)) most)
-  exec_falls (syntax.Activate token word process schedule) = none (From 1) o
+  exec_falls (syntax.Activate token word process schedule) = ticking_goes (From 1) l o _ (λ p more most. by_block p (omega (arith, more)) most (simulation_home s m i token))
+    where
+      by_block : (p : World) → o.ticks < p.ticks → p.ticks ≤ l.ticks → (b : Option ℕ) → Falls 1 (activated s p m i w vals rest b token word process schedule)
+      by_block p lt le None = none (From 1) p
+      by_block p lt le (Some b) = ticked lt le
 
   execs_falls : (ss : Statements) → Falls (statements_weight ss) (execs o m i w vals rest ss)
   execs_falls NoStatement = lighter refl (omega arith)
   execs_falls (Also a more) = lighter refl (omega arith)
 
   -- connections: one arm is left less, or a statement is begun
-  connected_falls : (n k j : ℕ) (vals : List Val) (a : Statement) → 3 ≤ n → Falls n (connected o m i w vals rest k j a)
-  connected_falls n k j vals a h = having_knows (From n) (cell_made m i (Connection k) (Of (Object j))) o _ (λ made is. lighter refl (omega (arith, h, made_kept m i (Connection k) (Of (Object j)) made is)))
+  connected_falls : (n k : ℕ) (p : Plain) (vals : List Val) (a : Statement) → 3 ≤ n → Falls n (connected o m i w vals rest k p a)
+  connected_falls n k p vals a h = having_knows (From n) (cell_made m i (Connection k) (Of p)) o _ (λ made is. lighter refl (omega (arith, h, made_kept m i (Connection k) (Of p) made is)))
 
   inspect_falls : (vals : List Val) (k : ℕ) (a : Statement) (other : Statements) (p : Plain) → Falls (3 + statements_weight other) (object_connected o m i w vals rest k a other p)
-  inspect_falls vals k a other (Object j) = connected_falls (3 + statements_weight other) k j vals a (omega arith)
+  inspect_falls vals k a other (Object j) = connected_falls (3 + statements_weight other) k (Object j) vals a (omega arith)
+  inspect_falls vals k a other (MainOf b) = connected_falls (3 + statements_weight other) k (MainOf b) vals a (omega arith)
   inspect_falls vals k a other Nothing = lighter refl (omega arith)
   inspect_falls vals k a other (Integer z) = none (From (3 + statements_weight other)) o
   inspect_falls vals k a other (Truth b) = none (From (3 + statements_weight other)) o
   inspect_falls vals k a other (Character c) = none (From (3 + statements_weight other)) o
   inspect_falls vals k a other (Text t) = none (From (3 + statements_weight other)) o
 
-  arm_falls : (vals : List Val) (fits : Bool) (k j : ℕ) (a : Statement) (more : Arms) (other : Statements) → Falls (3 + ((1 + arms_weight more) + statements_weight other)) (arm_tried o m i w vals rest fits k j a more other)
-  arm_falls vals true k j a more other = connected_falls (3 + ((1 + arms_weight more) + statements_weight other)) k j vals a (omega arith)
-  arm_falls vals false k j a more other = lighter refl (omega arith)
+  arm_falls : (vals : List Val) (fits : Bool) (k : ℕ) (p : Plain) (a : Statement) (more : Arms) (other : Statements) → Falls (3 + ((1 + arms_weight more) + statements_weight other)) (arm_tried o m i w vals rest fits k p a more other)
+  arm_falls vals true k p a more other = connected_falls (3 + ((1 + arms_weight more) + statements_weight other)) k p vals a (omega arith)
+  arm_falls vals false k p a more other = lighter refl (omega arith)
 
   arms_falls : (vals : List Val) (arms : Arms) (other : Statements) (p : Plain) → Falls (3 + (arms_weight arms + statements_weight other)) (arms_tried s o m i w vals rest arms other p)
   arms_falls vals (When token class opening a end more) other (Object j) =
-      having_goes (From (3 + ((1 + arms_weight more) + statements_weight other))) (class_at s class.token.0) o _ (λ k. arm_falls vals (is_in s m k j) opening j a more other)
+      having_goes (From (3 + ((1 + arms_weight more) + statements_weight other))) (class_at s class.token.0) o _ (λ k. arm_falls vals (stands_in s m k (Object j)) opening (Object j) a more other)
+  arms_falls vals (When token class opening a end more) other (MainOf b) =
+      having_goes (From (3 + ((1 + arms_weight more) + statements_weight other))) (class_at s class.token.0) o _ (λ k. arm_falls vals (stands_in s m k (MainOf b)) opening (MainOf b) a more other)
   arms_falls vals NoArm other (Object j) = lighter refl (omega arith)
+  arms_falls vals NoArm other (MainOf b) = lighter refl (omega arith)
   arms_falls vals NoArm other Nothing = lighter refl (omega arith)
   arms_falls vals (When token class opening a end more) other Nothing = lighter refl (omega arith)
   arms_falls vals NoArm other (Integer z) = none (From (3 + (0 + statements_weight other))) o
@@ -360,23 +397,49 @@ module _ (s : Source) (l : Limits) (o : World) (m : Instances) (i : ℕ) (w : Li
   arms_falls vals (When token class opening a end more) other (Text t) = none (From (3 + ((1 + arms_weight more) + statements_weight other))) o
 
   -- a transfer of control
-  below_falls : (operating : List Activation) (standings : List (Standing Activation)) → chain_weight operating + standings_weight standings ≤ work_weight w + chain_weight rest + kept_weight m → Falls 1 (going_below o operating (record m { standings = standings }))
-  below_falls [] standings less = tt
-  below_falls (a ∷ below) standings less = lighter refl (omega (arith, less))
+  below_falls : (p : World) → p.ticks ≡ o.ticks → (operating : List Activation) (standings : List (Standing Activation)) → chain_weight operating + standings_weight standings ≤ work_weight w + chain_weight rest + kept_weight m → Falls 1 (going_below p operating (record m { standings = standings }))
+  below_falls p same [] standings less = tt
+  below_falls p same (a ∷ below) standings less = lighter same (omega (arith, less))
 
-  moved_falls : (line : ℕ) (r : Result (Components Activation) RunError) → NotMore (work_weight w + chain_weight rest + kept_weight m) r → Falls 1 (computing line r o (λ c. going_below o c.operating (record m { standings = c.standings })))
+  moved_falls : (p : World) → p.ticks ≡ o.ticks → (line : ℕ) (r : Result (Components Activation) RunError) → NotMore (work_weight w + chain_weight rest + kept_weight m) r → Falls 1 (computing line r p (λ c. going_below p c.operating (record m { standings = c.standings })))
   unfolding computing
-  moved_falls line (Ok c) less = below_falls c.operating c.standings less
-  moved_falls line (Err e) less = stops (From 1) _ o
+  moved_falls p same line (Ok c) less = below_falls p same c.operating c.standings less
+  moved_falls p same line (Err e) less = stops (From 1) _ p
 
   transfer_falls : (vals : List Val) (t : Transfer) (line : ℕ) (p : Plain) → Falls 1 (transferring owner t line o (record { instance = i; work = w; values = vals } ∷ rest) m p)
   unfolding transferring
-  transfer_falls vals t line p =
-      having_goes (From 1) (component_in p) o _ (λ y. having_knows (From 1) (transferred owner t (system_head m) _ y) o _ (λ r is. moved_falls line r (subst (NotMoreIn (work_weight w + chain_weight rest + kept_weight m)) is (transfer_small t (system_head m) _ y))))
+  transfer_falls vals t line p = by_value p
+    where
+      by_component : (y : Option (Option ℕ)) → Falls 1 (having y o (λ y. having (transferred owner t (system_head m) (record { operating = record { instance = i; work = w; values = vals } ∷ rest; standings = m.standings }) y) o (λ r. computing line r o (λ c. going_below o c.operating (record m { standings = c.standings })))))
+      by_component y = having_goes (From 1) y o _ (λ y. having_knows (From 1) (transferred owner t (system_head m) _ y) o _ (λ r is. moved_falls o refl line r (subst (NotMoreIn (work_weight w + chain_weight rest + kept_weight m)) is (transfer_small t (system_head m) _ y))))
+
+      by_value : (p : Plain) → Falls 1 (transferring owner t line o (record { instance = i; work = w; values = vals } ∷ rest) m p)
+      by_value (MainOf b) = stops (From 1) _ o
+      by_value (Object j) = by_component (component_in (Object j))
+      by_value Nothing = by_component (component_in Nothing)
+      by_value (Integer z) = by_component (component_in (Integer z))
+      by_value (Truth b) = by_component (component_in (Truth b))
+      by_value (Character c) = by_component (component_in (Character c))
+      by_value (Text x) = by_component (component_in (Text x))
+
+  -- so does scheduling, or control stays where it is
+  next_falls : (vals : List Val) (line : ℕ) (p : World) → p.ticks ≡ o.ticks → (x : Simulation) (next : Next) → Falls 1 (going_to owner line p (record { instance = i; work = w; values = vals } ∷ rest) m x next)
+  next_falls vals line p same x next.Stay = lighter same (omega arith)
+  next_falls vals line p same x (next.Resume n) =
+      having_goes (From 1) (component_of x n.0) p _ (λ y. moved_falls p same line _ (given_small (system_head m) (record { operating = record { instance = i; work = w; values = vals } ∷ rest; standings = m.standings }) x.block y))
+
+  decided_falls : (line : ℕ) (p : World) (x : ℕ × Simulation) (r : Result (List Notice) RunError) (vals : List Val) → p.ticks ≡ o.ticks → Falls 1 (decided m i w rest line p x r vals)
+  unfolding deciding
+  decided_falls line p x r vals same =
+      computing_goes (From 1) line r p _ (λ notices. computing_goes (From 1) line (next_of x.1.notices notices) p _ (λ next.
+      next_falls vals line (with_simulation p x.0 (record x.1 { notices = notices })) same x.1 next))
 
   inner_falls : (xs : List Level) → Falls (levels_weight xs) (inner_done o m i w vals rest xs)
   inner_falls [] = lighter refl (omega arith)
-  inner_falls (x ∷ xs) = lighter refl (omega (arith, inner_weight x.inner_last xs (EndLevel x.text ∷ w)))
+  inner_falls (x ∷ xs) =
+      let behind = process_done x.process (EndLevel x.text ∷ w) in
+      let inside = with_inner x.inner_last xs behind in
+      lighter refl (omega (arith, begun_weight x.process no_line (Do (Execs x.statements) ∷ inside), inner_weight x.inner_last xs behind, done_weight x.process (EndLevel x.text ∷ w)))
 
   elements_falls : (t : Target) (es : List Element) (a : Statement) → Falls (elements_weight t es) (elements s l o m i w vals rest t es a)
   elements_falls t [] a = lighter refl (omega arith)
@@ -407,12 +470,15 @@ module _ (s : Source) (l : Limits) (o : World) (m : Instances) (i : ℕ) (w : Li
   op_falls (ObjectOp k line) = object_goes (From 1) plain line vals o _ (λ j vals. when_goes (From 1) (has_procedure s m k j) o _ (lighter refl (omega arith)))
   op_falls (QualifiedElementOp n line k) = finding_goes (From 1) plain array_in n line vals o _ (λ a k vals. lighter refl (omega arith))
   op_falls (MemberOp member k) = plain_goes (From 1) plain vals o _ (λ p vals. having_goes (From 1) (is_member s m member k p) o _ (λ b. lighter refl (omega arith)))
-  op_falls (QuaOp k line) = object_goes (From 1) plain line vals o _ (λ j vals. qualifying_goes (From 1) line (is_in s m k) (Object j) o _ (lighter refl (omega arith)))
-  op_falls (FitsOp k line) = plain_goes (From 1) plain vals o _ (λ p vals. qualifying_goes (From 1) line (is_in s m k) p o _ (lighter refl (omega arith)))
+  op_falls (QuaOp k line) = reference_goes (From 1) plain line vals o _ (λ p vals. qualifying_goes (From 1) line (stands_in s m k) p o _ (lighter refl (omega arith)))
+  op_falls (FitsOp k line) = plain_goes (From 1) plain vals o _ (λ p vals. qualifying_goes (From 1) line (stands_in s m k) p o _ (lighter refl (omega arith)))
   op_falls KeepOp = popping_goes (From 1) vals o _ (λ v vals. having_goes (From 1) (array_in v) o _ (λ a. keeping_goes (From 1) a o _ (λ p same. lighter same (omega arith))))
-  op_falls (NotNoneOp line) = object_goes (From 1) plain line vals o _ (λ j vals. lighter refl (omega arith))
+  op_falls (NotNoneOp line) = reference_goes (From 1) plain line vals o _ (λ p vals. lighter refl (omega arith))
   op_falls (TransferOp t line) = plain_goes (From 1) plain vals o _ (λ p vals. transfer_falls vals t line p)
   op_falls (SetOp name) = linkage_goes (From 1) plain name vals o _ (λ p value vals same. lighter same (omega arith))
+  op_falls (ProcessOp name line) = process_goes (From 1) plain (encloser_of m) name line vals o _ (λ p vals. lighter refl (omega arith))
+  op_falls (SimulationOp name line) =
+      simulation_goes (From 1) plain instance_in (in_process s m) o (decided m i w rest line) (decided_falls line) None name vals _ (λ p vals. lighter refl (omega arith))
   op_falls DropOp = popping_goes (From 1) vals o _ (λ v vals. lighter refl (omega arith))
   op_falls AgainOp = popping_goes (From 1) vals o _ (λ v vals. lighter refl (omega arith))
   op_falls SwapOp = popping_goes (From 1) vals o _ (λ v vals. popping_goes (From 1) vals o _ (λ u vals. lighter refl (omega arith)))
@@ -429,6 +495,10 @@ module _ (s : Source) (l : Limits) (o : World) (m : Instances) (i : ℕ) (w : Li
   op_falls (DeclareOp ds) = lighter refl (omega (arith, declarations_small s m i ds w))
   op_falls (LevelOp k) = lighter refl (omega arith)
   op_falls (InnerOp xs) = inner_falls xs
+  op_falls SelfOp = lighter refl (omega arith)
+  op_falls EndProcessOp = having_goes (From 1) (encloser_of m i) o _ (λ b. having_goes (From 1) (located o.simulations b) o _ (λ x. decided_falls (end_line s m i) o _ _ vals refl))
+  op_falls (BlockOp b) = lighter refl (omega arith)
+  op_falls (ActivateOp again timing line) = activation_goes (From 1) plain instance_in (in_process s m) o (decided m i w rest line) (decided_falls line) again timing vals
   op_falls (ConnectOp k a other) = plain_goes (From (3 + statements_weight other)) plain vals o _ (λ p vals. inspect_falls vals k a other p)
   op_falls (WhenOp arms other) = plain_goes (From (3 + (arms_weight arms + statements_weight other))) plain vals o _ (λ p vals. arms_falls vals arms other p)
   op_falls (ChooseOp a b) =

@@ -4,7 +4,7 @@ use Rattle.std.specs.Prelude.{Result, Ok, Err, if◌then◌else◌, slice_index_
 use Rattle.std.specs.Option.{option_map}
 use Rattle.sim_base.specs.declared.run_error.RunError.{RunError}
 use Rattle.sim_chains.specs.Chains.{Cut, cut_at, is_instance, outermost, under, upper}
-use Rattle.sim_chains.specs.Components.{AttachedObject, Components, DetachedObject, NoObject, ResumedObject, Standing, TerminatedObject, call_by, detach_by, give_up_at, kept, kept_as, kept_by, leave_at, main_at, main_by, resume_at, resume_by, standing_of}
+use Rattle.sim_chains.specs.Components.{AttachedObject, Components, DetachedObject, NoObject, ResumedObject, Standing, TerminatedObject, call_by, detach_by, give_control_to, give_up_at, kept, kept_as, kept_by, leave_at, main_at, main_by, resume_at, resume_by, standing_of}
 use Rattle.sim_code.specs.Transfers.{Calling, Detaching, Resuming, Transfer, transferred}
 use Rattle.sim_meaning.specs.Pending.{Activation, owner}
 use Rattle.sim_finite.proofs.Weights.{chain_weight, standing_weight, standings_weight, work_weight}
@@ -141,3 +141,8 @@ transfer_small Calling head c None = tt
 transfer_small Calling head c (Some y) = called_small c y (standing_of c y) refl
 transfer_small Resuming head c None = tt
 transfer_small Resuming head c (Some y) = resuming_small c (head y) y (standing_of c y) refl
+
+-- and where scheduling gives control to another process
+pub given_small : (head : ℕ → ℕ) (c : Components Activation) (s : ℕ) (process : Option ℕ) → NotMore (all_weight c) (give_control_to owner head c s process)
+given_small head c s None = main_goes_small c s (standing_of c s) refl
+given_small head c s (Some y) = resuming_small c (head y) y (standing_of c y) refl

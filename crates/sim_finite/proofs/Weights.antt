@@ -6,7 +6,7 @@ use Rattle.sim_tree.specs.declared.expr.Identifier.{Identifier}
 use Rattle.sim_tree.specs.Syntax.{Also, Arms, Arrayed, Arrays, BoundPair, Declarations, DeclareClass, DeclareProcedure, Element, Expression, Expressions, NoArm, NoDeclaration, NoMore, NoStatement, Statements, Then, Variables, When, With}
 use Rattle.sim_tree.specs.Syntax as syntax
 use Rattle.sim_code.specs.Outcome.{World}
-use Rattle.sim_meaning.specs.Pending.{Activation, AgainOp, ArrayOp, AttributeOf, AttributeOp, BackOp, BranchOp, CallOf, CallOp, Cell, ChooseOp, Configuration, ConnectOp, CopyOf, CopyOp, DeclareOp, Do, DropOp, Either, ElementOf, ElementOp, ElementsOp, EndBlock, EndLevel, EndObject, EndPrefixed, EndProcedure, EndProgram, EnterOp, Eval, Exec, Execs, FetchOp, FitsOf, FitsOp, Further, Given, GiveOp, IfOp, ImageOf, InnerOp, Instances, Item, Joined, JoinOp, KeepOp, KeptOf, Level, LevelOp, MemberOf, MemberOp, NewOf, NewOp, NoTerm, NotNoneOf, NotNoneOp, ObjectOp, One, OneOp, Op, PastOp, PlaceOf, PrefixedOp, QualifiedElementOf, QualifiedElementOp, QualifiedPlaceOf, QuaOf, QuaOp, RaiseOp, ReferOp, RemoteCallOf, SetOf, SetOp, ShareOp, StandardOf, StandardOp, StepOp, StepTestOp, StoreOp, SwapOp, Target, Term, Terms, TestOp, ToAddress, ToCell, ToPlace, ToReference, ToReferenceAt, ToText, ToTextAt, ToTextOf, TransferOf, TransferOp, Two, TwoOp, Unbuilt, ValueAt, WhenOp, WhileElementOp}
+use Rattle.sim_meaning.specs.Pending.{Activation, ActivateOp, AgainOp, ArrayOp, AttributeOf, AttributeOp, BackOp, BlockOp, BranchOp, CallOf, CallOp, Cell, ChooseOp, Configuration, ConnectOp, CopyOf, CopyOp, DeclareOp, Do, DropOp, Either, ElementOf, ElementOp, ElementsOp, EndBlock, EndLevel, EndObject, EndPrefixed, EndProcedure, EndProcessOp, EndProgram, EnterOp, Eval, Exec, Execs, FetchOp, FitsOf, FitsOp, Further, Given, GiveOp, IfOp, ImageOf, InnerOp, Instances, Item, Joined, JoinOp, KeepOp, KeptOf, Level, LevelOp, MemberOf, MemberOp, NewOf, NewOp, NoTerm, NotNoneOf, NotNoneOp, ObjectOp, One, OneOp, Op, PastOp, PlaceOf, PrefixedOp, ProcessOf, ProcessOp, QualifiedElementOf, QualifiedElementOp, QualifiedPlaceOf, QuaOf, QuaOp, RaiseOp, ReferOp, RemoteCallOf, SelfOp, SetOf, SetOp, ShareOp, SimulationOf, SimulationOp, StandardOf, StandardOp, StepOp, StepTestOp, StoreOp, SwapOp, Target, Term, Terms, TestOp, ToAddress, ToCell, ToPlace, ToReference, ToReferenceAt, ToText, ToTextAt, ToTextOf, TransferOf, TransferOp, Two, TwoOp, Unbuilt, ValueAt, WhenOp, WhileElementOp}
 
 -- the steps that a closed tree takes
 abbrev mutual
@@ -36,6 +36,8 @@ abbrev mutual
   term_weight (NotNoneOf line a) = 2 + term_weight a
   term_weight (TransferOf t line a) = 2 + term_weight a
   term_weight (SetOf name ts) = 2 + terms_weight ts
+  term_weight (ProcessOf name line a) = 2 + term_weight a
+  term_weight (SimulationOf j name ts line) = 2 + terms_weight ts
   term_weight Unbuilt = 1
 
   pub terms_weight : Terms → ℕ
@@ -112,10 +114,10 @@ declarations_weight (With (Arrays type token segments) ds) = segments_weight seg
 declarations_weight (With (DeclareProcedure result token h a end) ds) = declarations_weight ds
 declarations_weight (With (DeclareClass prefix token h interface a end) ds) = declarations_weight ds
 
--- the statements of levels, each inside the one before
+-- the statements of levels, each inside the one before, with what a process does before them and behind them
 abbrev pub levels_weight : List Level → ℕ
 levels_weight [] = 1
-levels_weight (x ∷ xs) = 2 + (statements_weight x.statements + levels_weight xs)
+levels_weight (x ∷ xs) = 5 + (statements_weight x.statements + levels_weight xs)
 
 -- A statement that is not empty takes a tick.
 abbrev pub op_weight : Op → ℕ
@@ -140,6 +142,8 @@ op_weight KeepOp = 1
 op_weight (NotNoneOp line) = 1
 op_weight (TransferOp t line) = 1
 op_weight (SetOp name) = 1
+op_weight (ProcessOp name line) = 1
+op_weight (SimulationOp name line) = 1
 op_weight DropOp = 1
 op_weight AgainOp = 1
 op_weight SwapOp = 1
@@ -155,6 +159,10 @@ op_weight (PrefixedOp k n line) = 1
 op_weight (DeclareOp ds) = 1 + declarations_weight ds
 op_weight (LevelOp k) = 1
 op_weight (InnerOp xs) = levels_weight xs
+op_weight SelfOp = 1
+op_weight EndProcessOp = 1
+op_weight (BlockOp j) = 1
+op_weight (ActivateOp again timing line) = 1
 op_weight (ConnectOp k a other) = 3 + statements_weight other
 op_weight (WhenOp arms other) = 3 + (arms_weight arms + statements_weight other)
 op_weight (ChooseOp a b) = 3 + statements_weight b

@@ -3,3 +3,4 @@ pub mod WorkedClasses
 pub mod WorkedCoroutines
 pub mod WorkedSets
 pub mod TextsOfBodies
+pub mod WorkedSimulations

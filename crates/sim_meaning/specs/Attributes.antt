@@ -12,6 +12,7 @@ use Rattle.sim_scope.specs.declared.types.FormalKind.TheVariants as shape
 use Rattle.sim_scope.specs.declared.types.Mode.{Mode}
 use Rattle.sim_scope.specs.declared.types.Mode.TheVariants as mode
 use Rattle.sim_scope.specs.declared.types.SimType.{SimType}
+use Rattle.sim_scope.specs.declared.types.StandardClass.TheVariants as standard
 use Rattle.sim_scope.specs.Scopes.{entry_of}
 use Rattle.sim_scope.specs.Source.{Source, block_of, denoted, found_at, level_of}
 use Rattle.sim_scope.specs.Tables.{BlockOf}
@@ -21,11 +22,13 @@ use Rattle.sim_values.specs.declared.standard.Standard.{Standard}
 use Rattle.sim_values.specs.declared.standard.Standard.TheVariants as name_of
 use Rattle.sim_values.specs.Plain.{Object}
 use Rattle.sim_code.specs.Instances.{at_level}
+use Rattle.sim_code.specs.Sets.{is_set_name}
+use Rattle.sim_code.specs.Simulations.{is_process_name, is_simulation_name}
 use Rattle.sim_code.specs.Transfers.{Calling, Detaching, Resuming, Transfer}
 use Rattle.sim_meaning.specs.Names.{procedure_named}
 use Rattle.sim_meaning.specs.Levels.{qualification}
-use Rattle.sim_meaning.specs.Texts.{ConnectionText, Text, text}
-use Rattle.sim_meaning.specs.Pending.{AttributeOf, Cell, Connection, Declared, ElementOf, FitsOf, Further, Given, Instances, KeptOf, Key, MemberOf, NewOf, NoTerm, NotNoneOf, PlaceOf, QuaOf, QualifiedElementOf, QualifiedPlaceOf, RemoteCallOf, SetOf, Term, Terms, TransferOf, Unbuilt, ValueAt}
+use Rattle.sim_meaning.specs.Texts.{ConnectionText, StandardText, Text, text}
+use Rattle.sim_meaning.specs.Pending.{AttributeOf, Cell, Connection, Declared, ElementOf, FitsOf, Further, Given, Instances, KeptOf, Key, MemberOf, NewOf, NoTerm, NotNoneOf, PlaceOf, ProcessOf, QuaOf, QualifiedElementOf, QualifiedPlaceOf, RemoteCallOf, SetOf, SimulationOf, Term, Terms, TransferOf, Unbuilt, ValueAt}
 
 -- what is there, or else another tree
 abbrev pub if_any : {A : Type 0} → Option A → (A → Term) → Term → Term
@@ -77,14 +80,22 @@ parameter_attribute line shape.Simple place es terms = variable_attribute place 
 parameter_attribute line shape.Array place es terms = array_attribute line place es terms
 parameter_attribute line shape.Procedure place es terms = Unbuilt
 
--- A procedure of SIMSET is done on the object: E6 of none, before its actual parameter.
+-- A procedure of SIMSET, or one of a process, is done on the object: E6 of none, before its actual parameter.
+abbrev pub process_term : Bool → Standard → (line : ℕ) → (object : Term) → Term
+process_term true name line object = ProcessOf name line (NotNoneOf line object)
+process_term false name line object = Unbuilt
+
+abbrev pub attribute_of_object : Bool → Standard → (line : ℕ) → (object : Term) → (actuals : Terms) → Term
+attribute_of_object true name line object actuals = SetOf name (Further (NotNoneOf line object) actuals)
+attribute_of_object false name line object actuals = process_term (is_process_name name) name line object
+
 abbrev pub entry_attribute : Source → (line : ℕ) → DeclNo → Option Entry → (object : Term) → Expressions → Terms → (actuals : Terms) → Term
 entry_attribute s line d (Some (entry.Variable type)) object es terms actuals = variable_attribute (attribute_place s line d object) es
 entry_attribute s line d (Some (entry.Constant type)) object es terms actuals = variable_attribute (attribute_place s line d object) es
 entry_attribute s line d (Some (entry.Array element dimensions)) object es terms actuals = array_attribute line (attribute_place s line d object) es terms
 entry_attribute s line d (Some (entry.Formal f)) object es terms actuals = parameter_attribute line f.kind (attribute_place s line d object) es terms
 entry_attribute s line d (Some (entry.Procedure result block)) object es terms actuals = RemoteCallOf object block actuals line
-entry_attribute s line d (Some (entry.Attribute name parameter result)) object es terms actuals = SetOf name (Further (NotNoneOf line object) actuals)
+entry_attribute s line d (Some (entry.Attribute name parameter result)) object es terms actuals = attribute_of_object (is_set_name name) name line object actuals
 entry_attribute s line d _ object es terms actuals = Unbuilt
 
 -- the attribute of an object, with its operands, as they are closed for themselves and for formal parameters
@@ -122,6 +133,19 @@ place_of_attribute s line object es terms d = entry_at s line d (entry_of s.tabl
 
 -- ---- classes
 
+-- Objects of `process` itself are not built; those of its subclasses are.
+abbrev pub is_bare_process : Option Text → Bool
+is_bare_process (Some (StandardText standard.Process)) = true
+is_bare_process _ = false
+
+abbrev pub class_unless : Bool → ℕ → Option ℕ
+class_unless true k = None
+class_unless false k = Some k
+
+abbrev pub class_made : Source → Option ℕ → Option ℕ
+class_made s None = None
+class_made s (Some k) = class_unless (is_bare_process (text s k)) k
+
 -- `new`; `is` and `in`; `qua`
 abbrev pub generation : Option ℕ → (class : Option ℕ) → (actuals : Terms) → (line : ℕ) → Term
 generation (Some j) (Some k) terms line = NewOf j k terms line
@@ -142,7 +166,7 @@ abbrev pub this_term : Source → Instances → ℕ → (found : Option ℕ) →
 this_term s m i None = Unbuilt
 this_term s m i (Some k) = if_any (connection_in s (Some k)) (λ c. connected_object s m i c) (this_instance (at_level m (level_of s k) i))
 
--- ---- procedures of SIMSET
+-- ---- procedures of SIMSET and SIMULATION
 
 -- one that is seen without a dot, by its declaration
 abbrev pub is_standard_attribute : Option Entry → Bool
@@ -160,10 +184,24 @@ attribute_denoted s _ = None
 unfoldable pub own_attribute : Source → (token : ℕ) → Option DeclNo
 own_attribute s token = attribute_denoted s (denoted s token)
 
--- the formal parameter of a procedure of SIMSET, if it has one: a reference
+-- the formal parameter of a standard attribute, if it has one: a reference, of `hold` an integer
 abbrev pub attribute_formals : Option SimType → List Formal
 attribute_formals None = []
 attribute_formals (Some type) = record { mode = mode.ByReference; kind = shape.Simple; ty = Some type } ∷ []
+
+-- one of a simulation block is done on that
+abbrev pub simulation_term : Source → Bool → Standard → (block : Option ℕ) → (actuals : Terms) → (line : ℕ) → (other : Term) → Term
+simulation_term s true name (Some j) actuals line other = SimulationOf j name actuals line
+simulation_term s true name None actuals line other = Unbuilt
+simulation_term s false name j actuals line other = other
+
+abbrev pub block_found : Source → Instances → ℕ → (found : Option ℕ) → Option ℕ
+block_found s m i None = None
+block_found s m i (Some k) = at_level m (level_of s k) i
+
+abbrev pub own_term : Source → Option Entry → (block : Option ℕ) → (actuals : Terms) → (line : ℕ) → (other : Term) → Term
+own_term s (Some (entry.Attribute name parameter result)) j actuals line other = simulation_term s (is_simulation_name name) name j actuals line other
+own_term s e j actuals line other = other
 
 -- ---- transfers of control
 

@@ -39,7 +39,7 @@ use Rattle.sim_values.specs.Plain.{Character, Integer, Nothing, Plain, Text, Tru
 use Rattle.sim_values.specs.Standard.{is_image, moves_position, on_image}
 use Rattle.sim_values.specs.Texts.{notext}
 use Rattle.sim_code.specs.Instances.{at_level}
-use Rattle.sim_meaning.specs.Attributes.{attribute, attribute_formals, connected_object, connection_at, declared_attribute, detach_term, fitting, generation, if_any, membership_term, own_attribute, parameter_qualification, place_of_attribute, qua_term, qualified_place, this_term, transfer_at, transfer_term, with_arrays_kept}
+use Rattle.sim_meaning.specs.Attributes.{attribute, attribute_formals, connected_object, connection_at, declared_attribute, detach_term, fitting, block_found, class_made, generation, if_any, membership_term, own_attribute, own_term, parameter_qualification, place_of_attribute, qua_term, qualified_place, this_term, transfer_at, transfer_term, with_arrays_kept}
 use Rattle.sim_meaning.specs.Constants.{text_constant}
 use Rattle.sim_meaning.specs.Levels.{class_at, qualification}
 use Rattle.sim_meaning.specs.Names.{is_image_in, procedure_named, stream_named}
@@ -350,11 +350,12 @@ abbrev mutual
       (attribute s (line_at s name.token.0) (connected_object s m i k) es (close_all s m i es) (λ d. close_actuals s m i (line_at s name.token.0) es (formals_at s d)))
       Unbuilt)
       (if_any (own_attribute s name.token.0)
-      (attribute s (line_at s name.token.0) (this_term s m i (found_at s name.token.0)) es (close_all s m i es) (λ d. close_actuals s m i (line_at s name.token.0) es (formals_at s d)))
+      (λ d. own_term s (entry_of s.tables d) (block_found s m i (found_at s name.token.0)) (close_actuals s m i (line_at s name.token.0) es (formals_at s d)) (line_at s name.token.0)
+      (attribute s (line_at s name.token.0) (this_term s m i (found_at s name.token.0)) es (close_all s m i es) (λ d. close_actuals s m i (line_at s name.token.0) es (formals_at s d)) d))
       (named_term s m i (line_at s name.token.0) (denoted s name.token.0) es (close_all s m i es) (λ formals. close_actuals s m i (line_at s name.token.0) es formals))))
   close s m i (syntax.This token class) = this_term s m i (found_at s token)
   close s m i (syntax.New token class es) =
-      generation (home_of_class s m i (denoted s class.token.0)) (class_at s class.token.0)
+      generation (home_of_class s m i (denoted s class.token.0)) (class_made s (class_at s class.token.0))
       (with_arrays_kept (class_parameters s (class_at s class.token.0)) (close_actuals s m i (line_at s class.token.0) es (class_parameters s (class_at s class.token.0)))) (line_at s token)
   close s m i (syntax.Parentheses token a) = close s m i a
 

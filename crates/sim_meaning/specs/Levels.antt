@@ -1,6 +1,6 @@
 -- Classes and their levels. A class has the attributes and the statements of its prefix, of the prefix of that, and so on: these are its
 -- levels, the outermost prefix first and the class itself last. So has a prefixed block. An object is in each of the levels of its class.
-use Rattle.std.specs.Prelude.{ℕ, zero, suc, Bool, true, false, not, ◌==◌, if◌then◌else◌, List, [], ◌∷◌, ◌++◌, length, slice_get, Option, Some, None}
+use Rattle.std.specs.Prelude.{ℕ, zero, suc, ◌+◌, ◌-◌, Bool, true, false, not, ◌==◌, if◌then◌else◌, List, [], ◌∷◌, ◌++◌, length, is_some, slice_get, Option, Some, None}
 use Rattle.std.specs.List.{list_any}
 use Rattle.sim_scope.specs.declared.scopes.Denotation.{Denotation}
 use Rattle.sim_scope.specs.declared.scopes.Denotation.TheVariants as denotation
@@ -9,8 +9,8 @@ use Rattle.sim_scope.specs.declared.types.SimType.TheVariants as t
 use Rattle.sim_scope.specs.declared.types.StandardClass.{StandardClass}
 use Rattle.sim_scope.specs.declared.types.StandardClass.TheVariants as standard
 use Rattle.sim_scope.specs.Access.{encloser}
-use Rattle.sim_scope.specs.Levels.{base, class_block, has_level, is_simulation_block}
-use Rattle.sim_scope.specs.Source.{Source, denoted}
+use Rattle.sim_scope.specs.Levels.{base, class_block, has_level}
+use Rattle.sim_scope.specs.Source.{Source, denoted, line_at}
 use Rattle.sim_scope.specs.Tables.{BlockOf, Tables}
 use Rattle.sim_tree.specs.declared.expr.Membership.{Membership}
 use Rattle.sim_tree.specs.declared.expr.Membership.TheVariants as membership
@@ -18,6 +18,7 @@ use Rattle.sim_tree.specs.Syntax.{NoDeclaration, NoStatement}
 use Rattle.simset.specs.Sets.{Linkage}
 use Rattle.sim_code.specs.Instances.{Instance}
 use Rattle.sim_code.specs.Sets.{linkage_by}
+use Rattle.sim_values.specs.Plain.{MainOf, Object, Plain}
 use Rattle.sim_meaning.specs.Pending.{Held, Instances, Level}
 use Rattle.sim_meaning.specs.Texts.{ClassText, PrefixedText, StandardText, Text, text}
 
@@ -49,20 +50,19 @@ is_written (Some token) = true
 abbrev pub writes_inner : Source → (text : ℕ) → Bool
 writes_inner s k = is_written (written_in (slice_get s.tables.blocks k))
 
-abbrev pub unless_simulation : (simulation : Bool) → Level → Option Level
-unless_simulation true x = None
-unless_simulation false x = Some x
+abbrev pub is_process_class : StandardClass → Bool
+is_process_class standard.Process = true
+is_process_class _ = false
 
--- the classes of SIMSET have no declarations and no statements of their own
-abbrev pub standard_level : (text : ℕ) → StandardClass → Option Level
-standard_level k standard.Process = None
-standard_level k _ = Some (record { text = k; declarations = NoDeclaration; statements = NoStatement; inner_last = true })
+-- The classes of SIMSET and SIMULATION have no declarations, and no statements but for what `process` does.
+abbrev pub standard_level : (text : ℕ) → StandardClass → Level
+standard_level k which = record { text = k; declarations = NoDeclaration; statements = NoStatement; inner_last = true; process = is_process_class which }
 
--- Levels with `simulation` in front, and processes, are not built. `simset` in front gives no level of its own.
+-- `simset` and `simulation` in front give no level of their own.
 abbrev pub level_made : Source → (text : ℕ) → Option Text → Option Level
-level_made s k (Some (ClassText prefix h ds ss)) = unless_simulation (is_simulation_block s.tables k) (record { text = k; declarations = ds; statements = ss; inner_last = not (writes_inner s k) })
-level_made s k (Some (PrefixedText class arguments ds ss)) = unless_simulation (is_simulation_block s.tables k) (record { text = k; declarations = ds; statements = ss; inner_last = true })
-level_made s k (Some (StandardText which)) = standard_level k which
+level_made s k (Some (ClassText prefix h ds ss)) = Some (record { text = k; declarations = ds; statements = ss; inner_last = not (writes_inner s k); process = false })
+level_made s k (Some (PrefixedText class arguments ds ss)) = Some (record { text = k; declarations = ds; statements = ss; inner_last = true; process = false })
+level_made s k (Some (StandardText which)) = Some (standard_level k which)
 level_made s k _ = None
 
 abbrev pub both : Option Level → Option (List Level) → Option (List Level)
@@ -122,7 +122,63 @@ is_in_any s m (Some class) j = is_in s m class j
 unfoldable pub has_procedure : Source → Instances → (text object : ℕ) → Bool
 has_procedure s m k j = is_in_any s m (encloser s.tables k) j
 
+-- ---- simulation blocks
+
+-- whether a text is a standard class of a kind
+abbrev pub is_standard_text : (StandardClass → Bool) → Option Text → Bool
+is_standard_text test (Some (StandardText which)) = test which
+is_standard_text test _ = false
+
+-- The classes of `simulation` are the texts directly behind the level that has it in front of it, and `process` is the fourth.
+abbrev pub process_if : Bool → ℕ → Option ℕ
+process_if false k = None
+process_if true k = Some k
+
+abbrev pub process_behind : Source → (level : ℕ) → Option ℕ
+process_behind s k = process_if (is_standard_text is_process_class (text s (k + 4))) (k + 4)
+
+abbrev pub or_else : Option ℕ → Option ℕ → Option ℕ
+or_else None other = other
+or_else (Some k) other = Some k
+
+abbrev pub process_among : Source → List ℕ → Option ℕ
+process_among s [] = None
+process_among s (k ∷ ks) = or_else (process_behind s k) (process_among s ks)
+
+-- the class `process` of a simulation block, whose outermost level has it behind it
+unfoldable pub process_class : Source → (text : ℕ) → Option ℕ
+process_class s k = process_among s (levels_of s k)
+
+abbrev pub is_simulation_text : Source → (text : ℕ) → Bool
+is_simulation_text s k = is_some (process_class s k)
+
+abbrev pub process_in : Source → Option ℕ → Option ℕ
+process_in s None = None
+process_in s (Some k) = process_class s k
+
+-- the class `process` of an instance that is a simulation block; its main program is of that class
+abbrev pub process_at : Source → Instances → (block : ℕ) → Option ℕ
+process_at s m b = process_in s (text_at m b)
+
+-- a reference names something in a class
+unfoldable pub stands_in : Source → Instances → (class : ℕ) → Plain → Bool
+stands_in s m class (Object j) = is_in s m class j
+stands_in s m class (MainOf b) = text_is_in s class (process_at s m b)
+stands_in s m class _ = false
+
+-- it names something in the class `process` of a simulation block
+abbrev pub in_process_class : Source → Instances → (class : Option ℕ) → Plain → Option Bool
+in_process_class s m None p = None
+in_process_class s m (Some k) p = Some (stands_in s m k p)
+
+abbrev pub in_process : Source → Instances → (block : ℕ) → Plain → Option Bool
+in_process s m b p = in_process_class s m (process_at s m b) p
+
 -- `is` and `in`
+abbrev pub main_belongs : Source → Instances → Membership → (class block : ℕ) → Bool
+main_belongs s m membership.Is class b = text_is class (process_at s m b)
+main_belongs s m membership.In class b = stands_in s m class (MainOf b)
+
 unfoldable pub belongs : Source → Instances → Membership → (class object : ℕ) → Bool
 belongs s m membership.Is class j = is_of m class j
 belongs s m membership.In class j = is_in s m class j
@@ -153,10 +209,6 @@ qualification s _ = None
 
 -- ---- linkages
 
-abbrev pub is_standard_text : (StandardClass → Bool) → Option Text → Bool
-is_standard_text test (Some (StandardText which)) = test which
-is_standard_text test _ = false
-
 abbrev pub is_linkage_class : StandardClass → Bool
 is_linkage_class standard.Linkage = true
 is_linkage_class _ = false
@@ -172,3 +224,21 @@ has_standard_class s test k = list_any (λ level. is_standard_text test (text s 
 -- what the objects of a class are made as, if they are linkages
 unfoldable pub linkage_of_text : Source → (text : ℕ) → Option Linkage
 linkage_of_text s k = linkage_by (has_standard_class s is_head_class k) (has_standard_class s is_linkage_class k)
+
+-- ---- processes
+
+-- whether the objects of a class are processes
+unfoldable pub is_process_text : Source → (text : ℕ) → Bool
+is_process_text s k = has_standard_class s is_process_class k
+
+abbrev pub end_in : Option BlockOf → ℕ
+end_in None = 0
+end_in (Some b) = b.end
+
+-- A process comes to its end at the last token of its own class.
+abbrev pub end_line_of : Source → Option ℕ → ℕ
+end_line_of s None = 0
+end_line_of s (Some k) = line_at s (end_in (slice_get s.tables.blocks k) - 1)
+
+abbrev pub end_line : Source → Instances → (process : ℕ) → ℕ
+end_line s m i = end_line_of s (text_at m i)

@@ -17,3 +17,4 @@ pub mod TextExamples
 pub mod ClassExamples
 pub mod CoroutineExamples
 pub mod SetExamples
+pub mod SimulationExamples

@@ -4,19 +4,20 @@ use Rattle.sim_base.specs.declared.limits.Limits.{Limits}
 use Rattle.sim_scope.specs.Source.{Source, line_at}
 use Rattle.sim_tree.specs.declared.stmt.TypeName.{TypeName}
 use Rattle.sim_tree.specs.Syntax.{Declarations, Statements}
+use Rattle.sim_values.specs.Plain.{Object}
 use Rattle.sim_code.specs.Outcome.{Going, Normal, Run, World, after, first_world}
 use Rattle.sim_code.specs.Events.{applying_one, applying_two, choosing, entering, having, joining, no_rule, performing, pop_integers, pop_many, pop_truth, popping, stopping, testing_step, ticking, when}
 use Rattle.sim_code.specs.Arrays.{giving_back, handed_over, making_array, pairs}
 use Rattle.sim_code.specs.Instances.{Instance, given, is_given_at_end, is_live, no_instances, object_ended}
 use Rattle.sim_code.specs.Sets.{performing_set}
-use Rattle.sim_meaning.specs.Pending.{Activation, AgainOp, ArrayOp, ArrayValue, AttributeOp, BackOp, BranchOp, CallOp, ChooseOp, Configuration, ConnectOp, CopyOp, DeclareOp, Do, DropOp, ElementOp, ElementsOp, EndBlock, EndLevel, EndObject, EndPrefixed, EndProcedure, EndProgram, EnterOp, Eval, Exec, Execs, FetchOp, FitsOp, GiveOp, Held, IfOp, InnerOp, Instances, Item, JoinOp, KeepOp, LevelOp, MemberOp, NewOp, NotNoneOp, ObjectOp, Of, OneOp, Op, PastOp, PrefixedOp, QuaOp, QualifiedElementOp, RaiseOp, ReferOp, Result, SetOp, ShareOp, StandardOp, StepOp, StepTestOp, StoreOp, SwapOp, TestOp, TransferOp, TwoOp, Val, WhenOp, WhileElementOp, cell, instance_in, owner, plain}
+use Rattle.sim_meaning.specs.Pending.{Activation, ActivateOp, AgainOp, ArrayOp, ArrayValue, AttributeOp, BackOp, BlockOp, BranchOp, CallOp, ChooseOp, Configuration, ConnectOp, CopyOp, DeclareOp, Do, DropOp, ElementOp, ElementsOp, EndBlock, EndLevel, EndObject, EndPrefixed, EndProcedure, EndProcessOp, EndProgram, EnterOp, Eval, Exec, Execs, FetchOp, FitsOp, GiveOp, Held, IfOp, InnerOp, Instances, Item, JoinOp, KeepOp, LevelOp, Link, MemberOp, NewOp, NotNoneOp, ObjectOp, Of, OneOp, Op, PastOp, PrefixedOp, ProcessOp, QuaOp, QualifiedElementOp, RaiseOp, ReferOp, Result, SelfOp, SetOp, SimulationOp, ShareOp, StandardOp, StepOp, StepTestOp, StoreOp, SwapOp, TestOp, TransferOp, TwoOp, Val, WhenOp, WhileElementOp, cell, instance_in, owner, plain}
 use Rattle.sim_meaning.specs.Constants.{constants_of}
 use Rattle.sim_meaning.specs.Texts.{BlockText, PrefixedText, ProcedureText, Text, text}
 use Rattle.sim_meaning.specs.Levels.{levels}
 use Rattle.sim_meaning.specs.Closing.{close}
 use Rattle.sim_meaning.specs.Steps.{copied, element_found, eval, fetched, given_to, go, operand, put_back, stored, with_value}
 use Rattle.sim_meaning.specs.Statements.{elements, exec, execs, first_branch, raised, step_tested, while_element}
-use Rattle.sim_meaning.specs.Objects.{attribute_found, cells_of_levels, fitted, generated, inner_done, kept, member_tested, levels_work, not_none, object_found, prefix_done, qua_tested, qualified_element_found, referred, transfer_done}
+use Rattle.sim_meaning.specs.Objects.{activation_done, attribute_found, block_begun, cells_of_levels, fitted, generated, inner_done, kept, member_tested, levels_work, not_none, object_found, prefix_done, process_ended, process_told, qua_tested, qualified_element_found, referred, simulation_done, transfer_done}
 use Rattle.sim_meaning.specs.Connections.{inspected, inspected_when}
 use Rattle.sim_meaning.specs.Entries.{arrays_by_value, arrays_declared, filled_behind, first_cells, formals_of, in_instance, instances_kept, words_of_cells}
 
@@ -106,6 +107,8 @@ do_op s l o m i w vals rest (FitsOp k line) = fitted s o m i w vals rest k line
 do_op s l o m i w vals rest KeepOp = kept o m i w vals rest
 do_op s l o m i w vals rest (NotNoneOp line) = not_none o m i w vals rest line
 do_op s l o m i w vals rest (TransferOp t line) = transfer_done o m i w vals rest t line
+do_op s l o m i w vals rest (ProcessOp name line) = process_told o m i w vals rest name line
+do_op s l o m i w vals rest (SimulationOp name line) = simulation_done s o m i w vals rest name line
 do_op s l o m i w vals rest (SetOp name) = performing_set plain name vals o (λ p value vals. go p m i w (with_value value vals) rest)
 -- values in hand, and assignments
 do_op s l o m i w vals rest DropOp = popping vals o (λ v vals. go o m i w vals rest)
@@ -124,6 +127,10 @@ do_op s l o m i w vals rest (PrefixedOp k n line) = prefix_done s l o m i w vals
 do_op s l o m i w vals rest (DeclareOp ds) = go o m i (arrays_declared s m i ds w) vals rest
 do_op s l o m i w vals rest (LevelOp k) = go o m i w vals rest
 do_op s l o m i w vals rest (InnerOp xs) = inner_done o m i w vals rest xs
+do_op s l o m i w vals rest SelfOp = go o m i w (Of (Object i) ∷ vals) rest
+do_op s l o m i w vals rest EndProcessOp = process_ended s o m i w vals rest
+do_op s l o m i w vals rest (BlockOp b) = go o m i w (Link b ∷ vals) rest
+do_op s l o m i w vals rest (ActivateOp again timing line) = activation_done s o m i w vals rest again timing line
 do_op s l o m i w vals rest (ConnectOp k a other) = inspected o m i w vals rest k a other
 do_op s l o m i w vals rest (WhenOp arms other) = inspected_when s o m i w vals rest arms other
 do_op s l o m i w vals rest (ChooseOp a b) = pop_truth plain vals o (λ c vals. choosing c (go o m i (Do (Exec a) ∷ first_branch b w) vals rest) (go o m i (Do (Execs b) ∷ w) vals rest))
@@ -162,7 +169,7 @@ program_entered s l o m (Some (BlockText begin ds ss)) =
     in_instance s p m 0 None cells (λ now. Do PastOp ∷ block_work s now (length m.instances) ds ss EndProgram) [])
 program_entered s l o m (Some (PrefixedText class arguments ds ss)) =
     having (levels s 0) o (λ xs. entering l (line_at s class.token.0) (words_of_cells (cells_of_levels s xs)) o (λ p.
-    in_instance s p m 0 None (cells_of_levels s xs) (λ now. Do PastOp ∷ levels_work xs EndProgram) []))
+    in_instance s (block_begun s 0 (length m.instances) p) m 0 None (cells_of_levels s xs) (λ now. Do PastOp ∷ levels_work xs EndProgram) []))
 program_entered s l o m _ = no_rule o
 
 abbrev pub first_step : Source → Limits → World → Instances → Run Configuration

@@ -1,23 +1,30 @@
 -- Objects: how they are generated, how their attributes are found, how references are held against classes, and how objects end. And
 -- prefixed blocks, which are entered in the same way.
-use Rattle.std.specs.Prelude.{ℕ, Bool, true, false, List, [], ◌∷◌, ◌++◌, length, Option, Some, None}
+use Rattle.std.specs.Prelude.{ℕ, Bool, true, false, List, [], ◌∷◌, ◌++◌, length, Option, Some, None, Result, Ok}
 use Rattle.sim_base.specs.declared.limits.Limits.{Limits}
 use Rattle.sim_base.specs.declared.numbering.DeclNo.{DeclNo}
+use Rattle.sim_base.specs.declared.run_error.RunError.{RunError}
+use Rattle.notices.specs.declared.notice.Notice.{Notice}
+use Rattle.notices.specs.Scheduling.{passivated}
 use Rattle.sim_chains.specs.Components.{AttachedObject}
 use Rattle.sim_scope.specs.declared.types.Entry.{Entry}
 use Rattle.sim_scope.specs.declared.types.Entry.TheVariants as entry
 use Rattle.sim_scope.specs.Scopes.{class_formals, entry_of}
 use Rattle.sim_scope.specs.Source.{Source}
 use Rattle.sim_tree.specs.declared.expr.Membership.{Membership}
-use Rattle.sim_values.specs.Plain.{Nothing, Object, Plain, Truth}
-use Rattle.sim_code.specs.Outcome.{Going, Run, World}
-use Rattle.sim_code.specs.Events.{entering, having, no_rule, pop_many, pop_object, pop_plain, popping, qualifying, when}
+use Rattle.sim_values.specs.declared.standard.Standard.{Standard}
+use Rattle.sim_values.specs.Plain.{MainOf, Nothing, Object, Plain, Truth}
+use Rattle.sim_values.specs.Words.{instance_words}
+use Rattle.sim_code.specs.Outcome.{Going, Run, Simulation, World}
+use Rattle.sim_code.specs.Events.{entering, having, no_rule, pop_many, pop_object, pop_plain, pop_reference, popping, qualifying, when}
 use Rattle.sim_code.specs.Arrays.{element_set, finding_element, handed_over, keeping_array}
-use Rattle.sim_code.specs.Instances.{CellPlace, ElementPlace, Place, entered, is_live}
+use Rattle.sim_code.specs.Instances.{CellPlace, ElementPlace, Place, encloser_of, entered, is_live}
+use Rattle.sim_code.specs.Simulations.{begun_in, joined, located, with_ended}
+use Rattle.sim_code.specs.Scheduling.{Timing, deciding, performing_activation, performing_process, performing_simulation}
 use Rattle.sim_code.specs.Sets.{enrolled}
-use Rattle.sim_code.specs.Transfers.{Transfer, transferring}
-use Rattle.sim_meaning.specs.Levels.{belongs, has_procedure, is_in, levels, linkage_of_text}
-use Rattle.sim_meaning.specs.Pending.{Activation, Address, ArrayValue, Configuration, Declared, DeclareOp, Do, EndLevel, EndObject, EndPrefixed, Execs, Held, InnerOp, Instances, Item, Key, Level, LevelOp, Link, Of, Val, array_in, cell_set, held_set, instance_in, owner, place_in, plain}
+use Rattle.sim_code.specs.Transfers.{Detaching, Transfer, transferring}
+use Rattle.sim_meaning.specs.Levels.{belongs, end_line, has_procedure, in_process, is_in, is_process_text, is_simulation_text, levels, linkage_of_text, main_belongs, stands_in}
+use Rattle.sim_meaning.specs.Pending.{Activation, Address, ArrayValue, Configuration, Declared, DeclareOp, Do, EndLevel, EndProcessOp, EndObject, EndPrefixed, Execs, Held, InnerOp, Instances, Item, Key, Level, LevelOp, Link, Of, SelfOp, TransferOp, Val, array_in, cell_set, held_set, instance_in, owner, place_in, plain}
 use Rattle.sim_meaning.specs.Texts.{constant_of}
 use Rattle.sim_meaning.specs.Steps.{go}
 use Rattle.sim_meaning.specs.Entries.{arrays_among, cell_before, in_instance, new_instance, numbers_of, with_cell, words_of_cells}
@@ -42,6 +49,7 @@ qualified_element_found o m i w vals rest n line k =
 -- `is` and `in` are false of none
 abbrev pub is_member : Source → Instances → Membership → (class : ℕ) → Plain → Option Bool
 is_member s m member k (Object j) = Some (belongs s m member k j)
+is_member s m member k (MainOf b) = Some (main_belongs s m member k b)
 is_member s m member k Nothing = Some false
 is_member s m member k _ = None
 
@@ -49,22 +57,22 @@ abbrev pub member_tested : Source → World → Instances → ℕ → List Item 
 member_tested s o m i w vals rest member k =
     pop_plain plain vals o (λ p vals. having (is_member s m member k p) o (λ b. go o m i w (Of (Truth b) ∷ vals) rest))
 
--- `qua`: E6 of none, and E7 where the object is not in the class
+-- `qua`: E6 of none, and E7 where what is named is not in the class
 abbrev pub qua_tested : Source → World → Instances → ℕ → List Item → List Val → List Activation → (class line : ℕ) → Run Configuration
 qua_tested s o m i w vals rest k line =
-    pop_object plain line vals o (λ j vals. qualifying line (is_in s m k) (Object j) o (go o m i w (Of (Object j) ∷ vals) rest))
+    pop_reference plain line vals o (λ p vals. qualifying line (stands_in s m k) p o (go o m i w (Of p ∷ vals) rest))
 
 -- a reference that is passed on: E7 where it is neither none nor in the class
 abbrev pub fitted : Source → World → Instances → ℕ → List Item → List Val → List Activation → (class line : ℕ) → Run Configuration
-fitted s o m i w vals rest k line = pop_plain plain vals o (λ p vals. qualifying line (is_in s m k) p o (go o m i w (Of p ∷ vals) rest))
+fitted s o m i w vals rest k line = pop_plain plain vals o (λ p vals. qualifying line (stands_in s m k) p o (go o m i w (Of p ∷ vals) rest))
 
 abbrev pub kept : World → Instances → ℕ → List Item → List Val → List Activation → Run Configuration
 kept o m i w vals rest = popping vals o (λ v vals. having (array_in v) o (λ array. keeping_array array o (λ p. go p m i w (ArrayValue array ∷ vals) rest)))
 
 -- A reference is put where an address leads, and held against the qualification there.
 unfoldable pub putting_reference : Source → (line : ℕ) → Place Key (Option ℕ) → Plain → World → Instances → (World → Instances → Run Configuration) → Run Configuration
-putting_reference s line (CellPlace j key (Some k)) p o m go = qualifying line (is_in s m k) p o (having (cell_set m j key (Of p)) o (λ m. go o m))
-putting_reference s line (ElementPlace a n (Some k)) p o m go = qualifying line (is_in s m k) p o (having (element_set o a n p) o (λ o. go o m))
+putting_reference s line (CellPlace j key (Some k)) p o m go = qualifying line (stands_in s m k) p o (having (cell_set m j key (Of p)) o (λ m. go o m))
+putting_reference s line (ElementPlace a n (Some k)) p o m go = qualifying line (stands_in s m k) p o (having (element_set o a n p) o (λ o. go o m))
 putting_reference s line _ p o m go = no_rule o
 
 abbrev pub referred : Source → World → Instances → ℕ → List Item → List Val → List Activation → (line : ℕ) → Run Configuration
@@ -74,13 +82,35 @@ referred s o m i w vals rest line =
 
 -- ---- transfers of control
 
--- the object in hand; E6 for none
+-- the reference in hand, to an object or a main program; E6 for none
 abbrev pub not_none : World → Instances → ℕ → List Item → List Val → List Activation → (line : ℕ) → Run Configuration
-not_none o m i w vals rest line = pop_object plain line vals o (λ j vals. go o m i w (Of (Object j) ∷ vals) rest)
+not_none o m i w vals rest line = pop_reference plain line vals o (λ p vals. go o m i w (Of p ∷ vals) rest)
 
 -- `detach`, `call` or `resume` of the object in hand; the instance that does it goes on when control returns to it
 abbrev pub transfer_done : World → Instances → ℕ → List Item → List Val → List Activation → Transfer → (line : ℕ) → Run Configuration
 transfer_done o m i w vals rest t line = pop_plain plain vals o (λ p vals. transferring owner t line o (record { instance = i; work = w; values = vals } ∷ rest) m p)
+
+-- ---- scheduling
+
+-- who goes on is decided by the event notices; the instance that scheduled waits
+abbrev pub decided : Instances → ℕ → List Item → List Activation → (line : ℕ) → World → (ℕ × Simulation) → Result (List Notice) RunError → List Val → Run Configuration
+decided m i w rest line o x r vals = deciding owner line o (record { instance = i; work = w; values = vals } ∷ rest) m x r
+
+abbrev pub simulation_done : Source → World → Instances → ℕ → List Item → List Val → List Activation → Standard → (line : ℕ) → Run Configuration
+simulation_done s o m i w vals rest name line =
+    performing_simulation plain instance_in (in_process s m) None name vals o (λ p vals. go o m i w (Of p ∷ vals) rest) (decided m i w rest line)
+
+abbrev pub activation_done : Source → World → Instances → ℕ → List Item → List Val → List Activation → (again : Bool) → Timing → (line : ℕ) → Run Configuration
+activation_done s o m i w vals rest again timing line = performing_activation plain instance_in (in_process s m) again timing vals o (decided m i w rest line)
+
+abbrev pub process_told : World → Instances → ℕ → List Item → List Val → List Activation → Standard → (line : ℕ) → Run Configuration
+process_told o m i w vals rest name line = performing_process plain (encloser_of m) name line vals o (λ p vals. go o m i w (Of p ∷ vals) rest)
+
+-- a process that comes to its end is terminated, and passivates; what is behind is for the case that it gets or keeps control
+abbrev pub process_ended : Source → World → Instances → ℕ → List Item → List Val → List Activation → Run Configuration
+process_ended s o m i w vals rest =
+    having (encloser_of m i) o (λ b. having (located o.simulations b) o (λ x.
+    decided m i w rest (end_line s m i) o (x.0, with_ended i x.1) (Ok (passivated x.1.notices)) vals))
 
 -- ---- the work of an instance with levels
 
@@ -94,8 +124,21 @@ abbrev pub with_inner : (last : Bool) → (inside : List Level) → List Item �
 with_inner true xs w = Do (InnerOp xs) ∷ w
 with_inner false xs w = w
 
+-- A process detaches at once. What comes behind its own statements ends it: it is terminated, and passivates. No tick is taken.
+abbrev pub process_begun : (process : Bool) → (line : ℕ) → List Item → List Item
+process_begun true line w = Do SelfOp ∷ Do (TransferOp Detaching line) ∷ w
+process_begun false line w = w
+
+abbrev pub process_done : (process : Bool) → List Item → List Item
+process_done true w = Do EndProcessOp ∷ w
+process_done false w = w
+
+-- It can always detach there, so that the line of that is never told.
+abbrev pub no_line : ℕ
+no_line = 1
+
 abbrev pub level_work : Level → (inside : List Level) → List Item → List Item
-level_work x xs w = Do (Execs x.statements) ∷ with_inner x.inner_last xs w
+level_work x xs w = process_begun x.process no_line (Do (Execs x.statements) ∷ with_inner x.inner_last xs (process_done x.process w))
 
 abbrev pub levels_work : List Level → (end : Item) → List Item
 levels_work [] end = end ∷ []
@@ -146,13 +189,21 @@ abbrev pub in_object : Source → World → Instances → (text encloser : ℕ) 
 in_object s o m k encloser cells xs rest =
     Going o (record { chain = record { instance = length m.instances; work = levels_work xs EndObject; values = [] } ∷ rest; memory = entered m (new_instance s k (Some encloser) cells) AttachedObject })
 
--- The actuals were evaluated, and now the object is made, as a linkage if its class is one. The instance that generates it has its reference in
+-- A process takes four words more.
+abbrev pub words_of_object : Source → (text : ℕ) → List Held → ℕ
+words_of_object s k hs = instance_words (length hs) (is_process_text s k)
+
+-- the object becomes a linkage or a process, if its class is one
+abbrev pub object_made : Source → (text encloser object : ℕ) → World → World
+object_made s k j object o = joined (is_process_text s k) j object (enrolled object (linkage_of_text s k) o)
+
+-- The actuals were evaluated, and now the object is made. The instance that generates it has its reference in
 -- hand, and waits until control first returns.
 abbrev pub object_entered : Source → Limits → World → Instances → ℕ → List Item → List Val → List Activation → (text line : ℕ) → List Val → (encloser : ℕ) → List Level → Run Configuration
 object_entered s l o m i w vals rest k line values j xs =
     having (filled_in values (Some (cells_of_levels s xs)) (class_formals s.tables k)) o (λ filled.
-    entering l line (words_of_cells (cells_of_levels s xs)) o (λ p.
-    in_object s (enrolled (length m.instances) (linkage_of_text s k) (arrays_given (length m.instances) values p)) m k j filled xs (record { instance = i; work = w; values = Of (Object (length m.instances)) ∷ vals } ∷ rest)))
+    entering l line (words_of_object s k (cells_of_levels s xs)) o (λ p.
+    in_object s (object_made s k j (length m.instances) (arrays_given (length m.instances) values p)) m k j filled xs (record { instance = i; work = w; values = Of (Object (length m.instances)) ∷ vals } ∷ rest)))
 
 abbrev pub generated : Source → Limits → World → Instances → ℕ → List Item → List Val → List Activation → (text actuals line : ℕ) → Run Configuration
 generated s l o m i w vals rest k n line =
@@ -161,12 +212,16 @@ generated s l o m i w vals rest k n line =
 
 -- ---- prefixed blocks
 
+-- a prefixed block may be a simulation block
+abbrev pub block_begun : Source → (text block : ℕ) → World → World
+block_begun s k b o = begun_in (is_simulation_text s k) b o
+
 -- a prefixed block: its encloser is the instance in which it stands, and it is no object
 abbrev pub prefixed_entered : Source → Limits → World → Instances → List Activation → (text line : ℕ) → List Val → (encloser : Option ℕ) → (end : Item) → List Level → Run Configuration
 prefixed_entered s l o m rest k line values encloser end xs =
     having (filled_in values (Some (cells_of_levels s xs)) (class_formals s.tables k)) o (λ filled.
     entering l line (words_of_cells (cells_of_levels s xs)) o (λ p.
-    in_instance s (arrays_given (length m.instances) values p) m k encloser filled (λ now. levels_work xs end) rest))
+    in_instance s (block_begun s k (length m.instances) (arrays_given (length m.instances) values p)) m k encloser filled (λ now. levels_work xs end) rest))
 
 abbrev pub prefix_done : Source → Limits → World → Instances → ℕ → List Item → List Val → List Activation → (text actuals line : ℕ) → Run Configuration
 prefix_done s l o m i w vals rest k n line =

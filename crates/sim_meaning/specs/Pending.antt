@@ -9,6 +9,7 @@ use Rattle.sim_values.specs.declared.standard.Standard.{Standard}
 use Rattle.sim_values.specs.Plain.{Plain}
 use Rattle.sim_code.specs.Instances.{CellPlace, ElementPlace, Memory, Place, State, cells_of, with_cells}
 use Rattle.sim_code.specs.Transfers.{Transfer}
+use Rattle.sim_code.specs.Scheduling.{Timing}
 
 -- A cell of an instance: that of a declaration, by its number; that of the result of a procedure; or that of a connection, by its token.
 pub data Key : Type 0 where
@@ -57,6 +58,9 @@ mutual
     TransferOf : Transfer → (line : ℕ) → (object : Term) → Term
     -- a procedure of SIMSET: of an object, and with its actual parameter, if it has one
     SetOf : Standard → (operands : Terms) → Term
+    -- an attribute of a process, and a procedure of a simulation block
+    ProcessOf : Standard → (line : ℕ) → (process : Term) → Term
+    SimulationOf : (block : ℕ) → Standard → (actuals : Terms) → (line : ℕ) → Term
     -- a form that is not built
     Unbuilt : Term
 
@@ -110,12 +114,13 @@ pub data Target : Type 0 where
   ToReferenceAt : (place : Term) → (line : ℕ) → Target
 
 -- A level of a class or of a prefixed block: its text, with its declarations and statements; and whether the statements of the levels inside
--- come behind these, as they do where no `inner` is written.
+-- come behind these, as they do where no `inner` is written; and whether it is that of the class `process`.
 pub record Level : Type 0 where
   pub text : ℕ
   pub declarations : Declarations
   pub statements : Statements
   pub inner_last : Bool
+  pub process : Bool
 
 -- What is still to be done. An operator takes the values that it needs from those in hand.
 pub data Op : Type 0 where
@@ -141,6 +146,8 @@ pub data Op : Type 0 where
   NotNoneOp : (line : ℕ) → Op
   TransferOp : Transfer → (line : ℕ) → Op
   SetOp : Standard → Op
+  ProcessOp : Standard → (line : ℕ) → Op
+  SimulationOp : Standard → (line : ℕ) → Op
   -- the value in hand is dropped, or there once more; the last two change places
   DropOp : Op
   AgainOp : Op
@@ -164,6 +171,12 @@ pub data Op : Type 0 where
   DeclareOp : Declarations → Op
   LevelOp : (text : ℕ) → Op
   InnerOp : List Level → Op
+  -- of a process: the object itself, which detaches at once; and its end
+  SelfOp : Op
+  EndProcessOp : Op
+  -- the block of an activation, and the activation
+  BlockOp : (block : ℕ) → Op
+  ActivateOp : (again : Bool) → Timing → (line : ℕ) → Op
   -- an object is connected, in a connection that begins at a token, or by one of some arms
   ConnectOp : (connection : ℕ) → Statement → (otherwise : Statements) → Op
   WhenOp : Arms → (otherwise : Statements) → Op

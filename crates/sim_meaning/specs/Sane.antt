@@ -5,10 +5,10 @@ use Rattle.sim_base.specs.declared.limits.Limits.{Limits}
 use Rattle.sim_chains.specs.Components.{DetachedObject, NoObject, Standing}
 use Rattle.sim_chains.specs.WellFormed.{IsWellFormed}
 use Rattle.sim_scope.specs.Source.{Source}
-use Rattle.sim_values.specs.Plain.{Object}
+use Rattle.sim_values.specs.Plain.{MainOf, Object}
 use Rattle.sim_code.specs.Outcome.{Ended, Going, NoRule, World}
 use Rattle.sim_code.specs.Instances.{Instance, Memory, components, live, system_head}
-use Rattle.sim_meaning.specs.Levels.{has_levels}
+use Rattle.sim_meaning.specs.Levels.{has_levels, is_simulation_text}
 use Rattle.sim_meaning.specs.Meaning.{run}
 use Rattle.sim_meaning.specs.Pending.{Activation, Configuration, Held, Instances, Val}
 use Rattle.sim_meaning.specs.Pending as pending
@@ -60,19 +60,26 @@ pub record IsObject (s : Source) (m : Instances) (object : ℕ) : Type 0 where
   pub lives : live m object ≡ Some instance
   pub levels : has_levels (text s instance.text) ≡ true
 
+-- What a reference to a main program names is a simulation block, and is there.
+pub record IsSimulation (s : Source) (m : Instances) (block : ℕ) : Type 0 where
+  pub instance : Instance (List Held)
+  pub lives : live m block ≡ Some instance
+  pub simulates : is_simulation_text s instance.text ≡ true
+
 abbrev pub Names : Source → Instances → Val → Type 0
 Names s m (pending.Of (Object j)) = IsObject s m j
+Names s m (pending.Of (MainOf b)) = IsSimulation s m b
 Names s m _ = ⊤
 
--- of the value that was in hand last
-abbrev pub LastNames : Source → Instances → List Val → Type 0
-LastNames s m [] = ⊤
-LastNames s m (v ∷ vals) = Names s m v
+-- of all values in hand
+abbrev pub AllName : Source → Instances → List Val → Type 0
+AllName s m [] = ⊤
+AllName s m (v ∷ vals) = Names s m v × AllName s m vals
 
 abbrev pub NamesOn : Source → Instances → List Activation → Type 0
 NamesOn s m [] = ⊤
-NamesOn s m (a ∷ rest) = LastNames s m a.values
+NamesOn s m (a ∷ rest) = AllName s m a.values
 
--- A reference that the operating instance took last into its hand names an object, at each moment of a run.
+-- Each reference that the operating instance has in hand names an object, at each moment of a run.
 abbrev pub NamesObjects : Source → Type 0
 NamesObjects s = (l : Limits) (input : List ℕ) (n : ℕ) (o : World) (c : Configuration) → run s l input n ≡ Going o c → NamesOn s c.memory c.chain

@@ -1,5 +1,5 @@
 -- What a statement does when it begins, and what is pending of it then.
-use Rattle.std.specs.Prelude.{ℕ, Bool, true, false, List, [], ◌∷◌, ◌++◌, reverse, Option, Some, None}
+use Rattle.std.specs.Prelude.{ℕ, Bool, true, false, List, [], ◌∷◌, ◌++◌, length, reverse, Option, Some, None}
 use Rattle.sim_base.specs.declared.limits.Limits.{Limits}
 use Rattle.sim_base.specs.declared.numbering.DeclNo.{DeclNo}
 use Rattle.sim_scope.specs.declared.scopes.Denotation.{Denotation}
@@ -8,11 +8,15 @@ use Rattle.sim_scope.specs.Assignments.{LeftSide, last_value, left_sides}
 use Rattle.sim_scope.specs.declared.types.Entry.{Entry}
 use Rattle.sim_scope.specs.declared.types.Entry.TheVariants as entry
 use Rattle.sim_scope.specs.Scopes.{entry_of, result_of}
-use Rattle.sim_scope.specs.Source.{Source, block_around, denoted, line_at}
+use Rattle.sim_scope.specs.Levels.{level_beyond}
+use Rattle.sim_scope.specs.Source.{Source, block_around, denoted, level_of, line_at}
+use Rattle.sim_scope.specs.Statements.{simulation_of}
 use Rattle.sim_tree.specs.declared.expr.Identifier.{Identifier}
+use Rattle.sim_tree.specs.declared.stmt.Activation.{Activation}
+use Rattle.sim_tree.specs.declared.stmt.Activation.TheVariants as activation
 use Rattle.sim_tree.specs.declared.stmt.Assignment.{Assignment}
 use Rattle.sim_tree.specs.declared.stmt.Assignment.TheVariants as assignment
-use Rattle.sim_tree.specs.Syntax.{Also, Begin, Block, Element, Expression, Expressions, NoDeclaration, NoMore, NoStatement, Statement, Statements, With}
+use Rattle.sim_tree.specs.Syntax.{Also, Begin, Block, Element, Expression, Expressions, NoDeclaration, NoMore, NoStatement, Schedule, Statement, Statements, With}
 use Rattle.sim_tree.specs.Syntax as syntax
 use Rattle.sim_values.specs.declared.operators.Calculation.TheVariants as calculation
 use Rattle.sim_values.specs.declared.operators.Dyadic.TheVariants as dyadic
@@ -21,9 +25,11 @@ use Rattle.sim_values.specs.declared.standard.StandardType.{StandardType}
 use Rattle.sim_values.specs.Standard.{row_of}
 use Rattle.sim_code.specs.Outcome.{Run, World}
 use Rattle.sim_code.specs.Events.{having, no_rule, ticking}
+use Rattle.sim_code.specs.Instances.{at_level}
+use Rattle.sim_code.specs.Scheduling.{AtTime, Beside, Directly, Timing, WithDelay}
 use Rattle.sim_meaning.specs.Levels.{levels, levels_inside, text_at}
 use Rattle.sim_meaning.specs.Names.{procedure_named}
-use Rattle.sim_meaning.specs.Pending.{Activation, AgainOp, BackOp, BranchOp, Cell, ChooseOp, Configuration, ConnectOp, Do, DropOp, ElementsOp, EnterOp, Eval, Exec, Execs, InnerOp, Instances, Item, Level, Op, PastOp, PrefixedOp, RaiseOp, ShareOp, StepOp, StepTestOp, StoreOp, Key, Target, Term, Terms, TestOp, ToAddress, ToCell, ToPlace, ToReference, ToReferenceAt, ToText, ToTextAt, ToTextOf, TwoOp, Val, ValueAt, WhenOp, WhileElementOp}
+use Rattle.sim_meaning.specs.Pending.{Activation as Waiting, ActivateOp, AgainOp, BlockOp, BackOp, BranchOp, Cell, ChooseOp, Configuration, ConnectOp, Do, DropOp, ElementsOp, EnterOp, Eval, Exec, Execs, InnerOp, Instances, Item, Level, Op, PastOp, PrefixedOp, RaiseOp, ShareOp, StepOp, StepTestOp, StoreOp, Key, Target, Term, Terms, TestOp, ToAddress, ToCell, ToPlace, ToReference, ToReferenceAt, ToText, ToTextAt, ToTextOf, TwoOp, Val, ValueAt, WhenOp, WhileElementOp}
 use Rattle.sim_meaning.specs.Closing.{Left, LeftAddress, LeftCell, LeftReference, LeftText, class_parameters, close, close_left, close_parameters, has_type, is_text, left_variable, reference_place}
 use Rattle.sim_meaning.specs.Steps.{count, each, go}
 
@@ -80,18 +86,18 @@ abbrev pub assigning : List Target → Op
 assigning (t ∷ []) = StoreOp t
 assigning ts = ShareOp (reverse ts)
 
-abbrev pub assigned : Source → World → Instances → ℕ → List Item → List Val → List Activation → Option Lefts → Expression → Run Configuration
+abbrev pub assigned : Source → World → Instances → ℕ → List Item → List Val → List Waiting → Option Lefts → Expression → Run Configuration
 assigned s o m i w vals rest (Some x) e = go o m i (x.work ++ Do (Eval (close s m i e)) ∷ Do (assigning x.targets) ∷ w) vals rest
 assigned s o m i w vals rest None e = no_rule o
 
 -- ---- blocks
 
-abbrev pub entered_at : World → Instances → ℕ → List Item → List Val → List Activation → Option ℕ → (line : ℕ) → Run Configuration
+abbrev pub entered_at : World → Instances → ℕ → List Item → List Val → List Waiting → Option ℕ → (line : ℕ) → Run Configuration
 entered_at o m i w vals rest None line = no_rule o
 entered_at o m i w vals rest (Some k) line = go o m i (Do (EnterOp k line) ∷ w) vals rest
 
 -- a block without declarations is a compound statement, any other a sub-block
-abbrev pub compound : Source → World → Instances → ℕ → List Item → List Val → List Activation → Block → Run Configuration
+abbrev pub compound : Source → World → Instances → ℕ → List Item → List Val → List Waiting → Block → Run Configuration
 compound s o m i w vals rest (Begin token NoDeclaration ss end) = go o m i (Do (Execs ss) ∷ w) vals rest
 compound s o m i w vals rest (Begin token (With d ds) ss end) = entered_at o m i w vals rest (block_around s token) (line_at s token)
 
@@ -101,10 +107,10 @@ abbrev pub begin_of : Block → ℕ
 begin_of (Begin token ds ss end) = token
 
 -- A block prefix: its actual parameters are evaluated, and then the block is entered.
-abbrev pub prefix_at : World → Instances → ℕ → List Item → List Val → List Activation → (text line : ℕ) → Terms → Run Configuration
+abbrev pub prefix_at : World → Instances → ℕ → List Item → List Val → List Waiting → (text line : ℕ) → Terms → Run Configuration
 prefix_at o m i w vals rest k line terms = go o m i (each terms (Do (PrefixedOp k (count terms) line) ∷ w)) vals rest
 
-abbrev pub prefix_begun : Source → World → Instances → ℕ → List Item → List Val → List Activation → (class : Identifier) → Expressions → Option ℕ → Run Configuration
+abbrev pub prefix_begun : Source → World → Instances → ℕ → List Item → List Val → List Waiting → (class : Identifier) → Expressions → Option ℕ → Run Configuration
 prefix_begun s o m i w vals rest class es None = no_rule o
 prefix_begun s o m i w vals rest class es (Some k) =
     prefix_at o m i w vals rest k (line_at s class.token.0) (close_parameters s m i (line_at s class.token.0) es (class_parameters s (Some k)))
@@ -114,7 +120,7 @@ abbrev pub levels_of_instance : Source → Option ℕ → Option (List Level)
 levels_of_instance s None = None
 levels_of_instance s (Some k) = levels s k
 
-abbrev pub inner_begun : Source → World → Instances → ℕ → List Item → List Val → List Activation → Option ℕ → Run Configuration
+abbrev pub inner_begun : Source → World → Instances → ℕ → List Item → List Val → List Waiting → Option ℕ → Run Configuration
 inner_begun s o m i w vals rest None = no_rule o
 inner_begun s o m i w vals rest (Some k) = having (levels_of_instance s (text_at m i)) o (λ xs. go o m i (Do (InnerOp (levels_inside k xs)) ∷ w) vals rest)
 
@@ -144,7 +150,7 @@ abbrev pub controlled_left : (text : Bool) → Assignment → Source → Instanc
 controlled_left false assignment.Reference s m i e = LeftReference 0 (reference_place s m i e)
 controlled_left _ _ s m i e = left_variable s m i e
 
-abbrev pub looping : World → Instances → ℕ → List Item → List Val → List Activation → Option Target → List Element → Statement → Run Configuration
+abbrev pub looping : World → Instances → ℕ → List Item → List Val → List Waiting → Option Target → List Element → Statement → Run Configuration
 looping o m i w vals rest (Some t) es a = go o m i (Do (ElementsOp t es a) ∷ w) vals rest
 looping o m i w vals rest None es a = no_rule o
 
@@ -170,7 +176,7 @@ finding (ToTextAt a line) w = Do (Eval (ValueAt a)) ∷ w
 finding (ToReferenceAt a line) w = w
 
 -- The elements of a `for` list are taken in turn. A plain element takes its tick and gives one turn.
-abbrev pub elements : Source → Limits → World → Instances → ℕ → List Item → List Val → List Activation → Target → List Element → Statement → Run Configuration
+abbrev pub elements : Source → Limits → World → Instances → ℕ → List Item → List Val → List Waiting → Target → List Element → Statement → Run Configuration
 elements s l o m i w vals rest t [] a = go o m i w vals rest
 elements s l o m i w vals rest t (syntax.Once e ∷ es) a =
     ticking l o (λ p. go p m i (finding t (Do (Eval (close s m i e)) ∷ Do (StoreOp t) ∷ Do (Exec a) ∷ Do (ElementsOp t es a) ∷ w)) vals rest)
@@ -179,24 +185,61 @@ elements s l o m i w vals rest t (syntax.Step first token step limit ∷ es) a =
     go o m i (Do (Eval (close s m i first)) ∷ Do (StoreOp t) ∷ Do (Eval (close s m i step)) ∷ Do (StepTestOp t (line_at s token) step limit a) ∷ Do (ElementsOp t es a) ∷ w) vals rest
 
 -- A while element takes a tick for each evaluation, and none for its test.
-abbrev pub while_element : Source → Limits → World → Instances → ℕ → List Item → List Val → List Activation → Target → (value condition : Expression) → Statement → Run Configuration
+abbrev pub while_element : Source → Limits → World → Instances → ℕ → List Item → List Val → List Waiting → Target → (value condition : Expression) → Statement → Run Configuration
 while_element s l o m i w vals rest t e c a =
     ticking l o (λ p. go p m i (finding t (Do (Eval (close s m i e)) ∷ Do (StoreOp t) ∷ Do (Eval (close s m i c)) ∷ Do (BranchOp a (BackOp (WhileElementOp t e c a))) ∷ w)) vals rest)
 
 -- The test of a step element, with the step in hand: first its tick, then the variable, then the limit.
-abbrev pub step_tested : Source → Limits → World → Instances → ℕ → List Item → List Val → List Activation → Target → (line : ℕ) → (step limit : Expression) → Statement → Run Configuration
+abbrev pub step_tested : Source → Limits → World → Instances → ℕ → List Item → List Val → List Waiting → Target → (line : ℕ) → (step limit : Expression) → Statement → Run Configuration
 step_tested s l o m i w vals rest t line step limit a =
     ticking l o (λ p. go p m i (reading t (Do (Eval (close s m i limit)) ∷ Do (StepOp line) ∷ Do (BranchOp a (RaiseOp t line step limit a)) ∷ w)) vals rest)
 
 -- After a turn: the step is evaluated, and the variable raised by it; the step stays in hand for the next test.
-abbrev pub raised : Source → World → Instances → ℕ → List Item → List Val → List Activation → Target → (line : ℕ) → (step limit : Expression) → Statement → Run Configuration
+abbrev pub raised : Source → World → Instances → ℕ → List Item → List Val → List Waiting → Target → (line : ℕ) → (step limit : Expression) → Statement → Run Configuration
 raised s o m i w vals rest t line step limit a =
     go o m i (Do (Eval (close s m i step)) ∷ Do AgainOp ∷ reading t (Do (TwoOp (dyadic.Calculate calculation.Add) line) ∷ Do (StoreOp t) ∷ Do (BackOp (StepTestOp t line step limit a)) ∷ w)) vals rest
+
+-- ---- activations
+
+-- the block of the nearest simulation around a token, seen from an instance
+abbrev pub simulation_around : Source → (token : ℕ) → Option ℕ
+simulation_around s token = level_beyond (λ b. simulation_of s.tables (length s.tables.blocks) b) (block_around s token)
+
+unfoldable pub simulation_home : Source → Instances → ℕ → (token : ℕ) → Option ℕ
+simulation_home s m i token = level_beyond (λ k. at_level m (level_of s k) i) (simulation_around s token)
+
+abbrev pub is_said : Option ℕ → Bool
+is_said None = false
+is_said (Some token) = true
+
+abbrev pub timing : Schedule → Timing
+timing syntax.Now = Directly
+timing (syntax.At token e prior) = AtTime (is_said prior)
+timing (syntax.Delay token e prior) = WithDelay (is_said prior)
+timing (syntax.Before token e) = Beside true
+timing (syntax.After token e) = Beside false
+
+abbrev pub operand_work : Source → Instances → ℕ → Schedule → List Item → List Item
+operand_work s m i syntax.Now w = w
+operand_work s m i (syntax.At token e prior) w = Do (Eval (close s m i e)) ∷ w
+operand_work s m i (syntax.Delay token e prior) w = Do (Eval (close s m i e)) ∷ w
+operand_work s m i (syntax.Before token e) w = Do (Eval (close s m i e)) ∷ w
+operand_work s m i (syntax.After token e) w = Do (Eval (close s m i e)) ∷ w
+
+abbrev pub is_again : Activation → Bool
+is_again activation.Activate = false
+is_again activation.Reactivate = true
+
+-- the process, then the operand; errors have the line of the word
+abbrev pub activated : Source → World → Instances → ℕ → List Item → List Val → List Waiting → (block : Option ℕ) → (token : ℕ) → Activation → Expression → Schedule → Run Configuration
+activated s o m i w vals rest None token word e schedule = no_rule o
+activated s o m i w vals rest (Some b) token word e schedule =
+    go o m i (Do (BlockOp b) ∷ Do (Eval (close s m i e)) ∷ operand_work s m i schedule (Do (ActivateOp (is_again word) (timing schedule) (line_at s token)) ∷ w)) vals rest
 
 -- ---- statements
 
 -- Each statement that is not empty takes its tick when it begins.
-abbrev pub exec : Source → Limits → World → Instances → ℕ → List Item → List Val → List Activation → Statement → Run Configuration
+abbrev pub exec : Source → Limits → World → Instances → ℕ → List Item → List Val → List Waiting → Statement → Run Configuration
 exec s l o m i w vals rest (syntax.Empty token) = go o m i w vals rest
 exec s l o m i w vals rest (syntax.Compound b) = ticking l o (λ p. compound s p m i w vals rest b)
 exec s l o m i w vals rest (syntax.Call e) = ticking l o (λ p. go p m i (Do (Eval (close s m i e)) ∷ dropping (leaves s e) w) vals rest)
@@ -208,9 +251,9 @@ exec s l o m i w vals rest (syntax.Prefixed class es b) = ticking l o (λ p. pre
 exec s l o m i w vals rest (syntax.Inner token) = ticking l o (λ p. inner_begun s p m i w vals rest (block_around s token))
 exec s l o m i w vals rest (syntax.Inspect token e opening a end other) = ticking l o (λ p. go p m i (Do (Eval (close s m i e)) ∷ Do (ConnectOp opening a other) ∷ w) vals rest)
 exec s l o m i w vals rest (syntax.InspectWhen token e arms other) = ticking l o (λ p. go p m i (Do (Eval (close s m i e)) ∷ Do (WhenOp arms other) ∷ w) vals rest)
-exec s l o m i w vals rest (syntax.Activate token word e schedule) = no_rule o
+exec s l o m i w vals rest (syntax.Activate token word e schedule) = ticking l o (λ p. activated s p m i w vals rest (simulation_home s m i token) token word e schedule)
 
-abbrev pub execs : World → Instances → ℕ → List Item → List Val → List Activation → Statements → Run Configuration
+abbrev pub execs : World → Instances → ℕ → List Item → List Val → List Waiting → Statements → Run Configuration
 execs o m i w vals rest NoStatement = go o m i w vals rest
 execs o m i w vals rest (Also a more) = go o m i (Do (Exec a) ∷ Do (Execs more) ∷ w) vals rest
 

@@ -6,6 +6,7 @@ ghost use Rattle.sim_meaning.specs.ClassExamples.{WorkedClasses};
 ghost use Rattle.sim_meaning.specs.CoroutineExamples.{WorkedCoroutines};
 ghost use Rattle.sim_meaning.specs.Examples.{Worked};
 ghost use Rattle.sim_meaning.specs.SetExamples.{WorkedSets};
+ghost use Rattle.sim_meaning.specs.SimulationExamples.{WorkedSimulations};
 ghost use Rattle.sim_meaning.specs.TextExamples.{WorkedTexts};
 ghost use Rattle.sim_meaning.specs.Texts.{program_texts, text_of};
 
@@ -32,6 +33,11 @@ pub fn worked_programs_with_coroutines()
 /// Small programs with sets do so too.
 pub fn worked_programs_with_sets()
     ensures { WorkedSets }
+{}
+
+/// Small programs with simulations do so too.
+pub fn worked_programs_with_simulations()
+    ensures { WorkedSimulations }
 {}
 
 /// The texts of each program are what its bodies are made of, one for one and in their order. Since the blocks of the tables of scopes are

@@ -31,7 +31,7 @@ use Rattle.sim_tree.specs.SyntaxOf.{Tail, Operands, Selection, Take, Cast, chain
 use Rattle.sim_tree.proofs.Nests.{level_plain}
 use Rattle.sim_tree.proofs.ReadExpressions.{Full}
 use Rattle.sim_plain.specs.Clean.{Clean}
-use Rattle.sim_agree.specs.Plain.{PlainExpression, PlainExpressions, PlainName}
+use Rattle.sim_agree.specs.Plain.{PlainExpression, PlainExpressions}
 
 pub record Claim (x : Derivation) (e : Expression) : Type 0 where
   pub known : not (is_bare x.inside) ≡ true → Full x.inside → Clean x.inside → PlainExpression e
@@ -104,7 +104,7 @@ FactorClaim x = StepClaim (factor_derivation x) (factor_syntax x)
 
 abbrev PlainSelection : Selection → Type 0
 PlainSelection (Take i name es) = PlainExpressions es
-PlainSelection (Cast i class) = PlainName class
+PlainSelection (Cast i class) = Unit {0}
 
 abbrev PlainSelections : List Selection → Type 0
 PlainSelections [] = Unit {0}
@@ -113,7 +113,7 @@ PlainSelections (x ∷ xs) = PlainSelection x × PlainSelections xs
 plain_selected : (e : Expression) (xs : List Selection) → PlainExpression e → PlainSelections xs → PlainExpression (selected e xs)
 plain_selected e [] p ps = p
 plain_selected e (Take i name es ∷ xs) p ps = plain_selected (s.Dot i e name es) xs (p, ps.0) ps.1
-plain_selected e (Cast i class ∷ xs) p ps = plain_selected (s.Qua i e class) xs (p, ps.0) ps.1
+plain_selected e (Cast i class ∷ xs) p ps = plain_selected (s.Qua i e class) xs p ps.1
 
 abbrev SelectorClaim : Selector → Type 0
 SelectorClaim x = Full (selector_derivation x) → Clean (selector_derivation x) → PlainSelection (selector_syntax x)
@@ -277,8 +277,8 @@ expr_step (Expr-F.Or a v) = in_operated 8 k.Or o.Or g.NextOr (omega arith) a.val
 expr_step (Expr-F.And a v) = in_operated 7 k.And o.And g.NextAnd (omega arith) a.value.1 v.items
 expr_step (Expr-F.Not v a) = in_negated v.items a.value.1
 expr_step (Expr-F.Related a i r b) = record { known = λ bare full clean. (leveled 5 (omega arith) a.value.1 full.0 full.1 clean.0, leveled 5 (omega arith) b.value.1 full.2.1.0 full.2.1.1 clean.1.0.1.0) }
-expr_step (Expr-F.Member a i membership.Is x) = record { known = λ bare full clean. (leveled 5 (omega arith) a.value.1 full.0 full.1 clean.0, clean.1.0.1.0) }
-expr_step (Expr-F.Member a i membership.In x) = record { known = λ bare full clean. (leveled 5 (omega arith) a.value.1 full.0 full.1 clean.0, clean.1.0.1.0) }
+expr_step (Expr-F.Member a i membership.Is x) = record { known = λ bare full clean. leveled 5 (omega arith) a.value.1 full.0 full.1 clean.0 }
+expr_step (Expr-F.Member a i membership.In x) = record { known = λ bare full clean. leveled 5 (omega arith) a.value.1 full.0 full.1 clean.0 }
 expr_step (Expr-F.Concatenation a v) = in_operated 4 k.Ampersand o.Concatenate g.NextConcatenated (omega arith) a.value.1 v.items
 expr_step (Expr-F.Sum y a v) = in_summed y (map term_derivation (map first_term v.items)) (map term_syntax (map first_term v.items)) (each_term v.items) a.value.1
 expr_step (Expr-F.Product a v) = in_multiplied (map factor_derivation (map first_factor v.items)) (map factor_syntax (map first_factor v.items)) (each_factor v.items) a.value.1
@@ -291,8 +291,8 @@ expr_step (Expr-F.True i) = record { known = λ bare full clean. tt }
 expr_step (Expr-F.False i) = record { known = λ bare full clean. tt }
 expr_step (Expr-F.NoObject i) = record { known = λ bare full clean. tt }
 expr_step (Expr-F.Notext i) = record { known = λ bare full clean. tt }
-expr_step (Expr-F.Named x v) = record { known = λ bare full clean. (clean.0, actuals v.items full clean.1) }
-expr_step (Expr-F.This i x) = record { known = λ bare full clean. clean.1.0 }
+expr_step (Expr-F.Named x v) = record { known = λ bare full clean. actuals v.items full clean.1 }
+expr_step (Expr-F.This i x) = record { known = λ bare full clean. tt }
 expr_step (Expr-F.New i x v) = record { known = λ bare full clean. (clean.1.0, actuals v.items full clean.1.1) }
 expr_step (Expr-F.Parentheses i a) = record { known = λ bare full clean. valued a.value.1 full.0 full.1 clean.1.0 }
 
@@ -315,7 +315,7 @@ SelectorLayer x =
 selector_step : (y : Selector-F ExprPair SelectorPair FactorPair OperandPair TermPair)
     → SelectorLayer (map-Selector ExprPair SelectorPair FactorPair OperandPair TermPair Expr Selector Factor Operand Term first_expr first_selector first_factor first_operand first_term y)
 selector_step (Selector-F.Dot i x v) full clean = actuals v.items full clean.1.1
-selector_step (Selector-F.Qua i x) full clean = clean.1.0
+selector_step (Selector-F.Qua i x) full clean = tt
 
 selector_layer : (x : Selector-F Expr Selector Factor Operand Term) → SelectorLayer x → SelectorClaim (roll-Selector x)
 unfolding syntax_of operand_syntax term_syntax factor_syntax selector_syntax

@@ -1,4 +1,4 @@
--- A program of a derivation without names that are not built, and without forms that are not built, is plain.
+-- A program of a derivation without names that are not built where they stand, and without forms that are not built, is plain.
 use Rattle.std.proofs.Common.{◌≡◌, ℕ, Bool, true, false, ◌||◌, List, [], ◌∷◌, ◌++◌, Option, Some, None, map, refl, sym}
 use Rattle.std.proofs.lemmas.Bool.{false≢true}
 use Rattle.std.specs.List.{list_any}
@@ -27,8 +27,9 @@ use Rattle.sim_tree.specs.declared.stmt.Specification.{Specification}
 use Rattle.sim_tree.specs.declared.stmt.Specifier.{Specifier}
 use Rattle.sim_tree.specs.declared.stmt.Specifier.TheVariants as specifier
 use Rattle.sim_tree.specs.declared.stmt.Stmt.{Stmt}
+use Rattle.sim_tree.specs.declared.stmt.Timing.{Timing}
+use Rattle.sim_tree.specs.declared.stmt.Timing.TheVariants as timing
 use Rattle.sim_tree.specs.declared.stmt.TypeName.{TypeName}
-use Rattle.sim_tree.specs.declared.stmt.TypeName.TheVariants as type_name
 use Rattle.sim_tree.specs.declared.stmt.VirtualSpecification.{VirtualSpecification}
 use Rattle.sim_tree.specs.declared.stmt.When.{When}
 use Rattle.sim_tree.specs.Grammar as g
@@ -52,9 +53,9 @@ use Rattle.sim_scope.specs.declared.types.Position.{Position}
 use Rattle.sim_scope.specs.declared.types.Position.TheVariants.{ClassBody, ClassStatement, Inside}
 use Rattle.sim_scope.specs.Walk.{arms_events, block_events, declaration_events, declarations_events, enclosed, program_events, statement_events, statements_events, whole_events}
 use Rattle.sim_static.specs.UnbuiltForms.{forms, has_code, has_some, has_unbuilt_form, is_by_name, is_name, is_of_procedures, is_procedure, yes}
-use Rattle.sim_static.specs.UnbuiltNames.{has_unbuilt_name, is_dot}
+use Rattle.sim_static.specs.UnbuiltNames.{has_unbuilt_name, is_new}
 use Rattle.sim_plain.specs.Clean.{Clean, CleanBehind}
-use Rattle.sim_agree.specs.Plain.{Each, Plain, PlainArms, PlainBlock, PlainBounds, PlainDeclaration, PlainDeclarations, PlainElement, PlainExpression, PlainHeading, PlainInterface, PlainMode, PlainName, PlainPrefix, PlainResult, PlainSegment, PlainSide, PlainSpecification, PlainSpecified, PlainStart, PlainStatement, PlainStatements, PlainType, PlainWord}
+use Rattle.sim_agree.specs.Plain.{Each, Plain, PlainArms, PlainBlock, PlainBounds, PlainDeclaration, PlainDeclarations, PlainElement, PlainExpression, PlainHeading, PlainInterface, PlainMode, PlainSchedule, PlainSegment, PlainSide, PlainSpecification, PlainSpecified, PlainStart, PlainStatement, PlainStatements, PlainWord}
 use Rattle.sim_plain.proofs.Expressions.{operand_plain, plain_expr, valued, arguments_given}
 use Rattle.sim_plain.proofs.Tokens.{none_spells, reads_clean}
 
@@ -107,19 +108,19 @@ Says f e = has_token g.Statement f ≡ true → Full f → Clean f → (p : Posi
 
 abbrev Declares : Declared → Declaration → Type 0
 Declares (d.Plain f) e = Full f → Clean f → Free (declaration_events forms e) → PlainDeclaration e
-Declares (Prefixed x i f) e = PlainName x → Full f → Clean f → Free (declaration_events forms e) → PlainDeclaration e
+Declares (Prefixed x i f) e = Full f → Clean f → Free (declaration_events forms e) → PlainDeclaration e
 
 abbrev Blocks : Forest → BlockSyntax → Type 0
 Blocks f e = Full f → Clean f → (p : Position) → FreeBlock p e → PlainBlock e
 
 abbrev Classes : Forest → Classed → Type 0
-Classes f e = Full f → Clean f → (prefix : Option Identifier) → PlainPrefix prefix → (i : ℕ) → Free (declaration_events forms (e prefix i)) → PlainDeclaration (e prefix i)
+Classes f e = Full f → Clean f → (prefix : Option Identifier) (i : ℕ) → Free (declaration_events forms (e prefix i)) → PlainDeclaration (e prefix i)
 
 abbrev Procedures : Forest → Headed → Type 0
-Procedures f e = Full f → Clean f → (result : Option TypeName) (i : ℕ) → PlainResult result → Free (declaration_events forms (e result i)) → PlainDeclaration (e result i)
+Procedures f e = Full f → Clean f → (result : Option TypeName) (i : ℕ) → Free (declaration_events forms (e result i)) → PlainDeclaration (e result i)
 
 abbrev Arms : Forest → Arm → Type 0
-Arms f e = Full f → Clean f → Free (statement_events forms Inside e.body) → PlainName e.class × PlainStatement e.body
+Arms f e = Full f → Clean f → Free (statement_events forms Inside e.body) → PlainStatement e.body
 
 abbrev EachStatement : List Forest → List Statement → Type 0
 EachStatement = induction.EachStatement Says Declares Blocks Classes Procedures Arms
@@ -129,11 +130,11 @@ EachDeclaration = induction.EachDeclaration Says Declares Blocks Classes Procedu
 
 -- ---- parts of derivations
 
-clean_joined : (dotted : Bool) (f h : Forest) → CleanBehind dotted (joined f h) → CleanBehind dotted f × ((behind : Bool) × CleanBehind behind h)
-clean_joined dotted done h c = (tt, (dotted, c))
-clean_joined dotted (leaf i kind value f) h c = let r = clean_joined (is_dot kind) f h c.1 in ((c.0, r.0), r.1)
-clean_joined dotted (place i f) h c = clean_joined dotted f h c
-clean_joined dotted (node n inside f) h c = let r = clean_joined false f h c.1 in ((c.0, r.0), r.1)
+clean_joined : (behind_new : Bool) (f h : Forest) → CleanBehind behind_new (joined f h) → CleanBehind behind_new f × ((behind : Bool) × CleanBehind behind h)
+clean_joined behind_new done h c = (tt, (behind_new, c))
+clean_joined behind_new (leaf i kind value f) h c = let r = clean_joined (is_new kind) f h c.1 in ((c.0, r.0), r.1)
+clean_joined behind_new (place i f) h c = clean_joined behind_new f h c
+clean_joined behind_new (node n inside f) h c = let r = clean_joined false f h c.1 in ((c.0, r.0), r.1)
 
 clean_acted : (f rest : Forest) → Clean (acted f rest) → Clean f × ((behind : Bool) × CleanBehind behind rest)
 clean_acted (node g.Primary (leaf i k.Identifier value act) sel) rest c =
@@ -196,6 +197,13 @@ reference_elements_plain [] full c = tt
 reference_elements_plain (x ∷ xs) full c =
     (reference_element_plain x full.1 c.0, each_row g.NextReferenceElement d.next_reference_element t.reference_element_syntax PlainElement xs (λ x full c. reference_element_plain x full.1 c.0) full.2 c.1)
 
+timing_plain : (x : Option Timing) → Full (d.timing_derivation x) → Clean (d.timing_derivation x) → PlainSchedule (t.schedule_syntax x)
+timing_plain None full c = tt
+timing_plain (Some (timing.At i e p)) full c = expr_plain e full.1.0 full.1.1 c.0.1.0
+timing_plain (Some (timing.Delay i e p)) full c = expr_plain e full.1.0 full.1.1 c.0.1.0
+timing_plain (Some (timing.Before i e)) full c = expr_plain e full.1.0 full.1.1 c.0.1.0
+timing_plain (Some (timing.After i e)) full c = expr_plain e full.1.0 full.1.1 c.0.1.0
+
 called : (e : Expr) (rest : Forest) → Full (acted (raise 1 (derivation_of e)) rest) → Clean (acted (raise 1 (derivation_of e)) rest) → PlainExpression (syntax_of e)
 called e rest full c = let all = acted_full (raise 1 (derivation_of e)) rest full in operand_plain (plain_expr e) all.0 all.1 (clean_acted (raise 1 (derivation_of e)) rest c).0
 
@@ -206,14 +214,7 @@ assigned_plain e (x ∷ xs) token full c =
     let all = acted_full (raise 1 (derivation_of e)) rest full in
     (called e rest full c, each_row g.Assigned assigned_derivation t.right_side_syntax PlainSide (x ∷ xs) (λ x full c. expr_plain x.value full.0 full.1 c.1.0) all.2 (clean_acted (raise 1 (derivation_of e)) rest c).1.1)
 
--- ---- types and headings
-
-plain_type : (x : TypeName) → Clean (d.type_derivation x) → PlainType x
-plain_type (type_name.Integer i) c = tt
-plain_type (type_name.Boolean i) c = tt
-plain_type (type_name.Character i) c = tt
-plain_type (type_name.Text i) c = tt
-plain_type (type_name.Reference i class) c = c.1.0
+-- ---- headings
 
 plain_word : (w : Mode) → is_name w ≡ false → PlainWord w
 plain_word mode.Value h = tt
@@ -223,27 +224,19 @@ plain_modes : (ms : List ModePart) → list_any is_by_name (map t.mode_syntax ms
 plain_modes [] h = tt
 plain_modes (m ∷ ms) h = let both = either (is_name m.mode) (list_any is_by_name (map t.mode_syntax ms)) h in (plain_word m.mode both.0, plain_modes ms both.1)
 
-plain_specifier : (x : Specifier) (rest : Forest) → is_procedure (t.specifier_syntax x) ≡ false → Clean (d.specifier_derivation x rest) → PlainSpecified (t.specifier_syntax x)
-plain_specifier (specifier.Simple n) rest h c = plain_type n c.0
-plain_specifier (specifier.Array n i) rest h c = plain_type n c.0
-plain_specifier (specifier.Procedure n i) rest h c = absurd (no h)
+plain_specifier : (x : Specifier) → is_procedure (t.specifier_syntax x) ≡ false → PlainSpecified (t.specifier_syntax x)
+plain_specifier (specifier.Simple n) h = tt
+plain_specifier (specifier.Array n i) h = tt
+plain_specifier (specifier.Procedure n i) h = absurd (no h)
 
-plain_specifications : (xs : List Specification) → list_any is_of_procedures (map t.specification_syntax xs) ≡ false → Clean (row g.Specification (map d.specification_derivation xs) done) → Each PlainSpecification (map t.specification_syntax xs)
-plain_specifications [] h c = tt
-plain_specifications (x ∷ xs) h c =
+plain_specifications : (xs : List Specification) → list_any is_of_procedures (map t.specification_syntax xs) ≡ false → Each PlainSpecification (map t.specification_syntax xs)
+plain_specifications [] h = tt
+plain_specifications (x ∷ xs) h =
     let both = either (is_procedure (t.specifier_syntax x.specifier)) (list_any is_of_procedures (map t.specification_syntax xs)) h in
-    (plain_specifier x.specifier (node g.Identifiers (d.ids x.names.items) done) both.0 c.0, plain_specifications xs both.1 c.1)
+    (plain_specifier x.specifier both.0, plain_specifications xs both.1)
 
-specifications_of : (ps : List Identifier) (ms : List ModePart) (xs : List Specification) → Clean (d.heading_derivation ps ms xs) → Clean (row g.Specification (map d.specification_derivation xs) done)
-specifications_of [] [] [] c = tt
-specifications_of [] [] (x ∷ xs) c = c.1
-specifications_of [] (m ∷ ms) xs c = clean_behind_row g.Mode (map d.mode_derivation (m ∷ ms)) (row g.Specification (map d.specification_derivation xs) done) c.1
-specifications_of (p ∷ ps) ms xs c = clean_behind_row g.Mode (map d.mode_derivation ms) (row g.Specification (map d.specification_derivation xs) done) c.1
-
-plain_heading : (name : Identifier) (ps : List Identifier) (ms : List ModePart) (xs : List Specification) → has_code (t.heading_syntax name ps ms xs) ≡ false → Clean (d.heading_derivation ps ms xs) → PlainHeading (t.heading_syntax name ps ms xs)
-plain_heading name ps ms xs h c =
-    let both = either (list_any is_by_name (map t.mode_syntax ms)) (list_any is_of_procedures (map t.specification_syntax xs)) h in
-    (plain_modes ms both.0, plain_specifications xs both.1 (specifications_of ps ms xs c))
+plain_heading : (name : Identifier) (ps : List Identifier) (ms : List ModePart) (xs : List Specification) → has_code (t.heading_syntax name ps ms xs) ≡ false → PlainHeading (t.heading_syntax name ps ms xs)
+plain_heading name ps ms xs h = let both = either (list_any is_by_name (map t.mode_syntax ms)) (list_any is_of_procedures (map t.specification_syntax xs)) h in (plain_modes ms both.0, plain_specifications xs both.1)
 
 -- ---- blocks
 
@@ -279,7 +272,7 @@ contents_plain (d.Plain f ∷ ds) (x ∷ xs) fs es end all each full c p fd fe =
 contents_plain (Prefixed name i f ∷ ds) (x ∷ xs) fs es end all each full c p fd fe =
     let both = free_both (declaration_events forms x) (declarations_events forms (declarations xs)) fd in
     let rest = contents_plain ds xs fs es end all.1 each full.1.2.2.1 c.1.0.1.1.1.0 p both.1 fe in
-    ((all.0 c.0 full.1.1 c.1.0.1.0 both.0, rest.0), rest.1)
+    ((all.0 full.1.1 c.1.0.1.0 both.0, rest.0), rest.1)
 
 -- ---- classes and arms
 
@@ -312,7 +305,7 @@ arms_plain (x ∷ xs) full c free =
     let body = statement_events forms Inside (arm_syntax x.0).body in
     let both = free_both (body ++ []) (arms_events forms (t.arms (map arm_syntax (map first_when xs)))) free in
     let here = x.1 full.1 c.0 (free_both body [] both.0).0 in
-    (here.0, here.1, arms_plain xs full.2 c.1 both.1)
+    (here, arms_plain xs full.2 c.1 both.1)
 
 -- ---- each node
 
@@ -333,7 +326,7 @@ stmt_step (Stmt-F.Empty i) token full c p free = tt
 stmt_step (Stmt-F.Block b) token full c p free = let inside = free_compound p (block_syntax b.0) free in b.1 full.1 c.0 inside.0 inside.1
 stmt_step (Stmt-F.PrefixedBlock x b) token full c p free =
     let given = arguments_given x.arguments.items (node g.AfterFirstOperand (node g.Compound (block_derivation b.0) done) done) full c.1 in
-    (c.0, given.0, b.1 given.1.1.1 given.2.0.0 Inside (free_whole (block_syntax b.0) free))
+    (given.0, b.1 given.1.1.1 given.2.0.0 Inside (free_whole (block_syntax b.0) free))
 stmt_step (Stmt-F.Inner i) token full c p free = tt
 stmt_step (Stmt-F.Call e) token full c p free = called e done full c
 stmt_step (Stmt-F.Assignment e v) token full c p free = assigned_plain e v.items token full c
@@ -361,15 +354,15 @@ stmt_step (Stmt-F.InspectWhen i e v (Some b)) token full c p free =
     let y = statement_events forms Inside (statement_syntax b.value.0) in
     let both = free_both x (y ++ []) free in
     (expr_plain e full.0 full.1 c.1.0, arms_plain v.items full.2.1 c.1.1.0 both.0, (b.value.1 full.2.2.1.0 full.2.2.1.1 c.1.1.1.0.0 Inside (free_both y [] both.1).0, tt))
-stmt_step (Stmt-F.Activation i word e o) token full c p free = absurd (no free)
+stmt_step (Stmt-F.Activation i word e o) token full c p free = (expr_plain e full.0 full.1 c.1.0, timing_plain o full.2 c.1.1)
 
 decl_step : induction.DeclStep Says Declares Blocks Classes Procedures Arms
-decl_step (Decl-F.Variables n v) = λ full c free. plain_type n c.0
-decl_step (Decl-F.Arrays n i v) = λ full c free. (plain_type n c.0, segments_plain v.items full.2.1 c.1.0.1)
-decl_step (Decl-F.Procedure None i p) = λ full c free. p.1 full.1 c.1.0 None i.0 tt free
-decl_step (Decl-F.Procedure (Some n) i p) = λ full c free. p.1 full.2.1.1 c.1.0.1.0 (Some n) i.0 (plain_type n c.0) free
-decl_step (Decl-F.Class None i q) = λ full c free. q.1 full.1 c.1.0 None tt i.0 free
-decl_step (Decl-F.Class (Some x) i q) = λ name full c free. q.1 full c (Some x) name i.0 free
+decl_step (Decl-F.Variables n v) = λ full c free. tt
+decl_step (Decl-F.Arrays n i v) = λ full c free. segments_plain v.items full.2.1 c.1.0.1
+decl_step (Decl-F.Procedure None i p) = λ full c free. p.1 full.1 c.1.0 None i.0 free
+decl_step (Decl-F.Procedure (Some n) i p) = λ full c free. p.1 full.2.1.1 c.1.0.1.0 (Some n) i.0 free
+decl_step (Decl-F.Class None i q) = λ full c free. q.1 full.1 c.1.0 None i.0 free
+decl_step (Decl-F.Class (Some x) i q) = λ full c free. q.1 full c (Some x) i.0 free
 
 block_step : induction.BlockStep Says Declares Blocks Classes Procedures Arms
 block_step b full c p free =
@@ -378,31 +371,29 @@ block_step b full c p free =
     full.1 c.1.0 p free.0 free.1
 
 class_step : induction.ClassStep Says Declares Blocks Classes Procedures Arms
-class_step q full c prefix plain i free =
+class_step q full c prefix i free =
     let body = statement_events forms ClassBody (statement_syntax q.body.value.0) in
     let code = has_code (t.heading_syntax q.name q.parameters.items q.modes.items q.specifications.items) in
     let virtuals = has_some (map t.virtual_syntax q.virtuals.items) in
     let both = free_first (code || virtuals) (body ++ []) free in
     let parts = either code virtuals both.0 in
     let inside = past_interface q.protections.items q.virtuals.items (node g.Statement (statement_derivation q.body.value.0) (place q.end.0 done)) parts.1 full.2 c.1.1 in (
-      plain,
-      plain_heading q.name q.parameters.items q.modes.items q.specifications.items parts.0 c.1.0,
+      plain_heading q.name q.parameters.items q.modes.items q.specifications.items parts.0,
       plain_interface q.protections.items q.virtuals.items parts.1,
       q.body.value.1 inside.0.0 inside.0.1 inside.1.0 ClassBody (free_both body [] both.1).0,
     )
 
 procedure_step : induction.ProcedureStep Says Declares Blocks Classes Procedures Arms
-procedure_step p full c result i type free =
+procedure_step p full c result i free =
     let body = statement_events forms Inside (statement_syntax p.body.value.0) in
     let h = has_code (t.heading_syntax p.name p.parameters.items p.modes.items p.specifications.items) in
     let both = free_first h (body ++ []) free in (
-      type,
-      plain_heading p.name p.parameters.items p.modes.items p.specifications.items both.0 c.1.0,
+      plain_heading p.name p.parameters.items p.modes.items p.specifications.items both.0,
       p.body.value.1 full.2.0 full.2.1 c.1.1.0 Inside (free_both body [] both.1).0,
     )
 
 when_step : induction.WhenStep Says Declares Blocks Classes Procedures Arms
-when_step w full c free = (c.1.0, w.body.1 full.0 full.1 c.1.1.1.0 Inside free)
+when_step w full c free = w.body.1 full.0 full.1 c.1.1.1.0 Inside free
 
 plain_block : (b : Block) → Blocks (block_derivation b) (block_syntax b)
 plain_block = induction.each_block Says Declares Blocks Classes Procedures Arms stmt_step decl_step block_step class_step procedure_step when_step
@@ -415,7 +406,7 @@ start_of x = PlainStart (option_map t.prefix_syntax x)
 
 start_plain : (x : Option BlockPrefix) (f : Forest) → Full (d.prefixed x f) → Clean (d.prefixed x f) → start_of x × Full f × Clean f
 start_plain None f full c = (tt, full, c)
-start_plain (Some x) f full c = let given = arguments_given x.arguments.items f full c.1 in ((c.0, given.0), given.1, given.2)
+start_plain (Some x) f full c = arguments_given x.arguments.items f full c.1
 
 pub plain_program : (ws : List Token) (p : ProgramTree) → IsTree ws p → has_unbuilt_name ws ≡ false → has_unbuilt_form (program_syntax p) ≡ false → Plain (program_syntax p)
 unfolding program_syntax has_unbuilt_form program_events

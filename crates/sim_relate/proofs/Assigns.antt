@@ -22,8 +22,9 @@ use Rattle.sim_meaning.specs.Pending.{Activation, Configuration, cell, Do, Fetch
 use Rattle.sim_meaning.specs.Steps.{go, of_plain, putting, text_assigned}
 use Rattle.sim_meaning.specs.Steps as steps
 use Rattle.codegen_expr.specs.Sites.{HasCell, Is, slot_of, At, frame_text, own_end}
-use Rattle.sim_relate.proofs.Known.{FixedOf, IsRead, LinkTo, Located, OwnerOf, PlaceIs, Refers, RefersAt, Stands, is_declared, is_fixed, refers_cell, refers_element, Any, Every, HandAt, Kind, StackAt, ValAt, anys, array_at, element_at, link_at, more_at, plain_at, site_at, image_at, Runs, spot}
-use Rattle.sim_relate.proofs.Relation.{StoreIs, TargetAt, stays, ChainAt, Changed, OpAt, StateAt, WorkAt, there}
+use Rattle.sim_relate.proofs.Known.{FixedOf, IsRead, LinkTo, Located, OwnerOf, PlaceIs, Refers, RefersAt, Stands, is_declared, is_fixed, refers_cell, refers_element, Any, Every, HandAt, Kind, StackAt, ValAt, anys, array_at, element_at, link_at, more_at, plain_at, site_at, image_at, Runs, spot, Settled, LinkOf}
+use Rattle.sim_relate.proofs.Operations.{StoreIs, TargetAt}
+use Rattle.sim_relate.proofs.Relation.{stays, ChainAt, Changed, OpAt, StateAt, WorkAt, there}
 use Rattle.sim_relate.proofs.Carried.{all_every, kept_every}
 use Rattle.sim_relate.proofs.Frames.{same_frame}
 use Rattle.sim_relate.proofs.Hands.{hand_popping, hand_assigning}
@@ -60,7 +61,7 @@ pub value_both : (o : World) (m : Instances) (fs : Frames) (p : Place Key (Optio
 value_both o m fs _ _ (element_place {a} {n}) = plain_both (element o a n)
 value_both o m fs _ _ (image_place {n}) = plain_both (image_value o n)
 
-module _ (s : Source) (code : CodeOf) (l : Limits) (o : World) (m : Instances) (inst : ℕ) (w : List Item) (vals : List Val) (rest : List Activation) (fs : Frames) (t : ℕ) (b : Runs) (pc : ℕ) (stack : List Value) (below : List machine.Activation) (ks : List Kind) (here : Here s code m fs inst rest t b ks vals stack) (u q : ℕ) (ks' : List Kind) (low : own_end s code (frame_text s t) ≤ u) (k : WorkAt s code m fs (λ v. ChainAt s code m fs rest v below) inst t b u w q ks') where
+module _ (s : Source) (code : CodeOf) (l : Limits) (o : World) (m : Instances) (inst : ℕ) (w : List Item) (vals : List Val) (rest : List Activation) (fs : Frames) (t : ℕ) (b : Runs) (pc : ℕ) (stack : List Value) (below : List machine.Activation) (ks : List Kind) (here : Here s code m fs inst rest t b ks vals stack) (u q : ℕ) (ks' : List Kind) (low : Settled s code t b u) (k : WorkAt s code m fs (λ v. ChainAt s code m fs rest v below) inst t b u w q ks') where
   abbrev R : Configuration → Machine → Type 0
   R = StateAt s code
 
@@ -178,6 +179,7 @@ module _ (s : Source) (code : CodeOf) (l : Limits) (o : World) (m : Instances) (
       (put_cell v x vals2 stack2 h h2 place hp.instance hp.text hp.key hp.stands hp.own hp.has hp.varies hp.declared))
   puts_at line (LinkTo z) i v x p p' vals2 stack2 h hp h2 place = absurd i
   puts_at line (OwnerOf z) i v x p p' vals2 stack2 h hp h2 place = absurd i
+  puts_at line (LinkOf z) i v x p p' vals2 stack2 h hp h2 place = absurd i
   puts_at line (Refers z) i v x p p' vals2 stack2 h hp h2 place = absurd i
   puts_at line (FixedOf z) i v x p p' vals2 stack2 h hp h2 place = absurd i
 
@@ -221,7 +223,7 @@ module _ (s : Source) (code : CodeOf) (l : Limits) (o : World) (m : Instances) (
         there refl,
         again,
         low',
-        stays (record { temp = a.temp; x = x; like = h; «in_use» = in_use; is_temp = record { behind = a.is_temp.behind; within = a.is_temp.within }; holds = r.holds; gives = a.gives }) refl,
+        stays (record { temp = a.temp; x = x; like = h; «in_use» = in_use; is_temp = record { behind = a.is_temp.behind; within = a.is_temp.within }; holds = r.holds; gives = a.gives }) low.calm refl,
         work_more s code m r.frames (λ v. ChainAt s code m r.frames rest v below) inst t b u (suc a.temp) more w q ks'
             (work_moved s code r.changed here here.alone below u (λ n le within lt. r.others n (λ same. let no : ⊥ = omega (arith, same, lt, a.unused) in no)) w q ks' k),
       ) a.kept.is.on))))

@@ -1,5 +1,5 @@
 -- Standard names.
-use Rattle.std.proofs.Common.{◌≡◌, ◌<◌, ◌≤◌, ◌+◌, ℕ, zero, suc, Bool, true, false, List, ◌∷◌, length, Option, Some, None, refl, sym, ap, ◌∙◌, arith, subst, []}
+use Rattle.std.proofs.Common.{◌≡◌, ◌<◌, ◌+◌, ℕ, zero, suc, Bool, true, false, List, ◌∷◌, length, Option, Some, None, refl, sym, ap, ◌∙◌, arith, subst, []}
 use Rattle.std.specs.Prelude.{pos, Result, Ok, Err}
 use Rattle.sim_base.specs.declared.limits.Limits.{Limits}
 use Rattle.sim_scope.specs.Source.{Source}
@@ -16,6 +16,7 @@ use Rattle.sim_code.specs.Machine as machine
 use Rattle.sim_code.specs.Rows.{has_room, on_top, room_for, standard_of}
 use Rattle.sim_code.specs.Rows as rows
 use Rattle.sim_code.specs.Sets.{is_set_name}
+use Rattle.sim_code.specs.Simulations.{is_process_name, is_simulation_name}
 use Rattle.sim_code.proofs.Lifts.{alike_found, Both, alike_having, alike_no_rule, alike_same, alike_stopping, alike_taking}
 use Rattle.sim_code.proofs.Simulation.{Alike, unruled}
 use Rattle.sim_meaning.specs.Meaning.{do_op}
@@ -24,13 +25,14 @@ use Rattle.sim_meaning.specs.Pending as meaning
 use Rattle.sim_meaning.specs.Statements.{has_value}
 use Rattle.sim_meaning.specs.Steps.{go, with_value, of_plain, operand, plain_in, put_back, putting}
 use Rattle.sim_meaning.specs.Texts.{text}
-use Rattle.codegen_expr.specs.Sites.{HasCell, slot_of, frame_text, own_end}
-use Rattle.sim_relate.proofs.Known.{FixedOf, OwnerOf, Refers, is_declared, is_fixed, Every, HandAt, Kind, StackAt, given, more_at, plain_at, site_at, AllRead, Any, IsRead, LinkTo, Located, Stands, ValAt, array_at, element_at, image_at, link_at, Runs}
+use Rattle.codegen_expr.specs.Sites.{HasCell, slot_of, frame_text}
+use Rattle.sim_relate.proofs.Known.{FixedOf, OwnerOf, Refers, is_declared, is_fixed, Every, HandAt, Kind, StackAt, given, more_at, plain_at, site_at, AllRead, Any, IsRead, LinkTo, Located, Stands, ValAt, array_at, element_at, image_at, link_at, Runs, Settled, LinkOf}
 use Rattle.sim_relate.proofs.Relation.{ChainAt, Changed, OpAt, StateAt, WorkAt}
 use Rattle.sim_relate.proofs.Hands.{stack_length, FirstAt, hand_operands}
 use Rattle.sim_relate.proofs.Here.{Here, act, at_row, kinds_as}
 use Rattle.sim_relate.proofs.Operators.{chosen, onward, same_plain}
 use Rattle.sim_relate.proofs.SetNames.{set_elsewhere}
+use Rattle.sim_relate.proofs.SimulationNames.{process_elsewhere, simulation_elsewhere}
 use Rattle.sim_relate.proofs.Standards.{is_some, standard_valued}
 use Rattle.sim_base.specs.declared.run_error.RunError.{RunError}
 use Rattle.sim_values.specs.Store.{Effect}
@@ -50,7 +52,7 @@ has_room_is : (r : Option StandardType) (room values operands left : ℕ) → (h
 has_room_is None room values operands left f e = refl
 has_room_is (Some x) room values operands left f e = let lt : left < room = f refl in grind (arith, lt, e)
 
-module _ (s : Source) (code : CodeOf) (l : Limits) (o : World) (m : Instances) (inst : ℕ) (w : List Item) (vals : List Val) (rest : List Activation) (fs : Frames) (t : ℕ) (b : Runs) (pc : ℕ) (stack : List Value) (below : List machine.Activation) (ks : List Kind) (here : Here s code m fs inst rest t b ks vals stack) (u q : ℕ) (ks' : List Kind) (low : own_end s code (frame_text s t) ≤ u) (k : WorkAt s code m fs (λ v. ChainAt s code m fs rest v below) inst t b u w q ks') where
+module _ (s : Source) (code : CodeOf) (l : Limits) (o : World) (m : Instances) (inst : ℕ) (w : List Item) (vals : List Val) (rest : List Activation) (fs : Frames) (t : ℕ) (b : Runs) (pc : ℕ) (stack : List Value) (below : List machine.Activation) (ks : List Kind) (here : Here s code m fs inst rest t b ks vals stack) (u q : ℕ) (ks' : List Kind) (low : Settled s code t b u) (k : WorkAt s code m fs (λ v. ChainAt s code m fs rest v below) inst t b u w q ks') where
   abbrev R : Configuration → Machine → Type 0
   R = StateAt s code
 
@@ -84,6 +86,7 @@ module _ (s : Source) (code : CodeOf) (l : Limits) (o : World) (m : Instances) (
       ap (machine.operand o fs) (sym h.is_value)
   reads_same (LinkTo text) r v x h = absurd r
   reads_same (OwnerOf text) r v x h = absurd r
+  reads_same (LinkOf j) r v x h = absurd r
   reads_same (Refers class) r v x h = absurd r
   reads_same (FixedOf d) r v x h = absurd r
 
@@ -110,6 +113,7 @@ module _ (s : Source) (code : CodeOf) (l : Limits) (o : World) (m : Instances) (
         (subst (λ z. Alike R (put_back (meaning.Address (CellPlace h.instance h.key None)) t2 p m r) (rows.put_back z t2 p fs y)) (sym h.is_value) (cell_back h.instance h.text h.key h.stands h.own h.has h.varies h.declared))
     back (LinkTo text) i v x h = absurd i
     back (OwnerOf text) i v x h = absurd i
+    back (LinkOf j) i v x h = absurd i
     back (Refers class) i v x h = absurd i
     back (FixedOf d) i v x h = absurd i
 
@@ -168,11 +172,11 @@ module _ (s : Source) (code : CodeOf) (l : Limits) (o : World) (m : Instances) (
         hand_operands Configuration Machine R Val Value (HandAt s code m) (operand o m) (machine.operand o fs) reads_same (length (operands_of (row_of name).function)) ks left None None vals stack o _ _ tt r here.values
         (λ ps f f' vals' stack' b2 h. effected ps (standard_effect name ps o.store) f f' vals' stack' b2 h refl)
 
-  -- a name that is done on linkages has no rule as another standard name
-  by_name : (name : Standard) (line : ℕ) (c : Bool) → is_set_name name ≡ c → (x y : Run Machine) → Alike R (do_op s l o m inst w vals rest (StandardOp name line)) y → Alike R (do_op s l o m inst w vals rest (StandardOp name line)) (choosing c x y)
+  -- a name that is done on linkages, processes or simulation blocks has no rule as another standard name
+  by_name : (name : Standard) (line : ℕ) (c : Bool) → (c ≡ true → (row_of name).function ≡ elsewhere) → (x y : Run Machine) → Alike R (do_op s l o m inst w vals rest (StandardOp name line)) y → Alike R (do_op s l o m inst w vals rest (StandardOp name line)) (choosing c x y)
   unfolding choosing performing pop_operands standard_effect having no_rule
   by_name name line false e x y h = h
-  by_name name line true e x y h = refused (row_of name).function (set_elsewhere name e)
+  by_name name line true e x y h = refused (row_of name).function (e refl)
     where
       refused : (f : Function) → f ≡ elsewhere → Alike R (pop_operands (operand o m) (length (operands_of f)) None vals o (λ vs first rest'. having (applied f vs o.store) o (λ effect. taking l line effect.wanted o (λ p. computing line effect.answer (record p { store = effect.store }) (λ value. putting_back put_back first effect.moved (record p { store = effect.store }) m (λ p m. go p m inst w (with_value value rest') rest)))))) x
       refused f same = subst (λ f. Alike R (pop_operands (operand o m) (length (operands_of f)) None vals o (λ vs first rest'. having (applied f vs o.store) o (λ effect. taking l line effect.wanted o (λ p. computing line effect.answer (record p { store = effect.store }) (λ value. putting_back put_back first effect.moved (record p { store = effect.store }) m (λ p m. go p m inst w (with_value value rest') rest)))))) x) (sym same) unruled
@@ -182,6 +186,8 @@ module _ (s : Source) (code : CodeOf) (l : Limits) (o : World) (m : Instances) (
       let x = a.is in
       at_row s code l o fs a_top below _ (i.Std (pos x.number)) line q x.is
       (alike_found Configuration Machine R Standard (standard_of (pos x.number)) name o _ _ x.numbered
-      (by_name name line (is_set_name name) refl _ _
+      (by_name name line (is_set_name name) (set_elsewhere name) _ _
+      (by_name name line (is_process_name name) (process_elsewhere name) _ _
+      (by_name name line (is_simulation_name name) (simulation_elsewhere name) _ _
       (whenever (room_for name a_top) _ _ (roomy name a.many a.left x.as_many a.«in» x.fits)
-      (performed name line a.left a.out x.is.on (subst (λ n. AllRead n ks a.left) x.as_many a.«in»)))))
+      (performed name line a.left a.out x.is.on (subst (λ n. AllRead n ks a.left) x.as_many a.«in»)))))))

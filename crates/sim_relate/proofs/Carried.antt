@@ -3,20 +3,21 @@ use Rattle.std.proofs.Common.{◌≡◌, ◌<◌, ◌≤◌, ℕ, suc, Bool, fal
 use Rattle.std.specs.Prelude.{slice_get}
 use Rattle.sim_chains.specs.Components.{AttachedObject, DetachedObject, NoObject, ResumedObject, Standing, TerminatedObject}
 use Rattle.sim_scope.specs.Source.{Source, level_of}
-use Rattle.sim_values.specs.Plain.{Character, Integer, Nothing, Object, Plain, Text, Truth}
+use Rattle.sim_values.specs.Plain.{Character, Integer, Nothing, Object, Plain, Text, Truth, MainOf}
 use Rattle.sim_code.proofs.Lifts.{Both}
 use Rattle.sim_code.specs.declared.stage.Stage.{Stage}
 use Rattle.sim_code.specs.Code.{BlockOf, CodeOf}
 use Rattle.sim_code.specs.Machine.{Frames, Value}
 use Rattle.sim_code.specs.Machine as machine
-use Rattle.sim_meaning.specs.Pending.{Activation, AttributeOf, BackOp, BranchOp, CallOf, Cell, CopyOf, Do, Either, ElementOf, ElementsOp, EndBlock, EndLevel, EndObject, EndPrefixed, EndProcedure, EndProgram, Eval, FitsOf, Further, Given, GiveOp, IfOp, ImageOf, Instances, Item, Joined, KeptOf, Key, MemberOf, NewOf, NoTerm, NotNoneOf, One, Op, PlaceOf, QuaOf, QualifiedElementOf, QualifiedPlaceOf, RaiseOp, RemoteCallOf, SetOf, ShareOp, StandardOf, StepTestOp, StoreOp, Target, Term, Terms, ToAddress, ToCell, ToPlace, ToReference, ToReferenceAt, ToText, ToTextAt, ToTextOf, TransferOf, Two, Unbuilt, Val, ValueAt, WhileElementOp}
+use Rattle.sim_meaning.specs.Pending.{Activation, AttributeOf, BackOp, BranchOp, CallOf, Cell, CopyOf, Do, Either, ElementOf, ElementsOp, EndBlock, EndLevel, EndObject, EndPrefixed, EndProcedure, EndProgram, Eval, FitsOf, Further, Given, GiveOp, IfOp, ImageOf, Instances, Item, Joined, KeptOf, Key, MemberOf, NewOf, NoTerm, NotNoneOf, One, Op, PlaceOf, QuaOf, QualifiedElementOf, QualifiedPlaceOf, RaiseOp, RemoteCallOf, SetOf, ShareOp, StandardOf, StepTestOp, StoreOp, Target, Term, Terms, ToAddress, ToCell, ToPlace, ToReference, ToReferenceAt, ToText, ToTextAt, ToTextOf, TransferOf, Two, Unbuilt, Val, ValueAt, WhileElementOp, BlockOp, ProcessOf, SimulationOf, SimulationOp, ActivateOp}
 use Rattle.sim_meaning.specs.Sane.{AllKept, AllOf, KeptOf as KeptChains}
 use Rattle.codegen_expr.specs.Sites.{Site, class_number, frame_text, own_end}
 use Rattle.codegen.specs.CodeFor.{OfCell, OfPlace, OfReference, Variable}
-use Rattle.sim_relate.proofs.Known.{Any, Every, FixedOf, HandAt, Keeps, Kind, Later, LinkTo, Located, OwnerOf, Reaches, Refers, RefersAt, Runs, Spot, StackAt, Stands, more_at, none_at, placed, refers_cell, refers_element, site_at}
+use Rattle.sim_relate.proofs.Known.{Any, Every, FixedOf, HandAt, Keeps, Kind, Later, LinkTo, Located, OwnerOf, Reaches, Refers, RefersAt, Runs, Spot, StackAt, Stands, more_at, none_at, placed, refers_cell, refers_element, site_at, LinkOf}
 use Rattle.sim_relate.proofs.Trees.{CellPlaceIs, GivenIs, OperandAt, ReadsAt, TermAt, TermsAt}
 use Rattle.sim_relate.proofs.Waiting.{GetsIs, demand, suspended, suspended_in}
-use Rattle.sim_relate.proofs.Relation.{AtLevel, Bottom, ChainAt, ChainOn, Changed, ComesTo, DeclaredTo, EndAt, GivesIs, InStage, LevelEnds, ObjectIs, OpAt, PlaceStoreIs, StandingAt, StandingsAt, StoreIs, TargetAt, VariableIs, WorkAt, at_level, declares, inner_here, inner_last, over, returning, stays, there, to_first, to_next, with_inner}
+use Rattle.sim_relate.proofs.Operations.{GivesIs, PlaceStoreIs, StoreIs, TargetAt}
+use Rattle.sim_relate.proofs.Relation.{AtLevel, Bottom, ChainAt, ChainOn, Changed, ComesTo, DeclaredTo, EndAt, InStage, LevelEnds, ObjectIs, OpAt, StandingAt, StandingsAt, VariableIs, WorkAt, at_level, declares, inner_here, inner_last, over, returning, stays, there, to_first, to_next, with_inner, ends_process}
 
 end_later : (s : Source) (code : CodeOf) (Below Below' : Bool → Type 0) → ((v : Bool) → Below v → Below' v) → (t : ℕ) (b : Runs) (x : Item) (p : ℕ) (ks : List Kind) → EndAt s code Below t b x p ks → EndAt s code Below' t b x p ks
 end_later s code Below Below' f t b (Do op) p ks a = absurd a
@@ -54,11 +55,12 @@ module _ (s : Source) (code : CodeOf) (fs fs' : Frames) (inst : ℕ) where
   inner_kept v b u c place after ks ks' x keeps = subst (λ z. SpotKept z) (sym x.goes_on) keeps
 
   stage_kept : (Stays : Op → (p q : ℕ) → (before behind : List Kind) → Type 0) (v : ℕ) (b : Runs) (u : ℕ) (op : Op) (c : Spot) (p q : ℕ) (ks ks' : List Kind) → InStage s code Stays (site_at v b u) op b c p q ks ks' → TempsKept s code fs fs' inst v b u → SpotKept c
-  stage_kept Stays v b u op c p q ks ks' (stays a g) keeps = subst (λ z. SpotKept z) (sym g) keeps
+  stage_kept Stays v b u op c p q ks ks' (stays a calm g) keeps = subst (λ z. SpotKept z) (sym g) keeps
   stage_kept Stays v b u op c p q ks ks' (declares k e a) keeps = declared_kept b a.place c q a.to
   stage_kept Stays v b u op c p q ks ks' (inner_last xs e a) keeps = inner_kept v b u c a.place q ks ks' a.at keeps
   stage_kept Stays v b u op c p q ks ks' (inner_here token e a) keeps = inner_kept v b u c a.place q ks ks' a.at keeps
   stage_kept Stays v b u op c p q ks ks' (with_inner ss e a) keeps = inner_kept v b u c a.place a.after ks ks' a.at keeps
+  stage_kept Stays v b u op c p q ks ks' (ends_process e a) keeps = subst (λ z. SpotKept z) (sym a.goes_on) keeps
 
   ended_kept : (b : Runs) (c : Spot) (p q : ℕ) (ks : List Kind) → LevelEnds s code b c p q ks → SpotKept c
   ended_kept b c p q ks x = level_kept b x.text x.block _ (x.level).frame c x.goes_on
@@ -75,6 +77,7 @@ module _ (s : Source) (code : CodeOf) (m m' : Instances) (e : Later s m m') wher
   hand_later Any v x h = h
   hand_later Located v x h = record { instance = h.instance; text = h.text; key = h.key; is_val = h.is_val; is_value = h.is_value; stands = e.stands h.instance h.text h.stands; own = h.own; has = h.has; varies = h.varies; declared = h.declared }
   hand_later (LinkTo u) v x h = record { instance = h.instance; is_val = h.is_val; is_value = h.is_value; stands = e.stands h.instance u h.stands }
+  hand_later (LinkOf j) v x h = h
   hand_later (OwnerOf u) v x h = record { instance = h.instance; is_val = h.is_val; is_value = h.is_value; stands = e.stands h.instance u h.stands }
   hand_later (Refers k) v x h = refers_later k v x h
   hand_later (FixedOf d) v x h = record { instance = h.instance; text = h.text; is_val = h.is_val; is_value = h.is_value; stands = e.stands h.instance h.text h.stands; own = h.own; has = h.has; fixed = h.fixed }
@@ -90,6 +93,7 @@ module _ (s : Source) (code : CodeOf) (m m' : Instances) (e : Later s m m') wher
     given_later site n (Character c) p q a = a
     given_later site n (Text x) p q a = a
     given_later site n (Object j) p q a = record { text = a.text; push = a.push; reaches = reaches_later inst t a.text j st a.reaches }
+    given_later site n (MainOf x) p q a = absurd a
     given_later site n Nothing p q a = a
 
     place_later : (site : Site) (n j : ℕ) (key : Key) (class p q : ℕ) → CellPlaceIs s code m inst site n j key class p q → CellPlaceIs s code m' inst site n j key class p q
@@ -142,6 +146,7 @@ module _ (s : Source) (code : CodeOf) (m m' : Instances) (e : Later s m m') wher
         new = a.new;
         stands_in = a.stands_in;
         class = a.class;
+        made = a.made;
       }
       term_later site n (AttributeOf text key class line x) p q a = (a.0, (term_later site n x p a.0 (a.1).0, (a.1).1), a.2)
       term_later site n (RemoteCallOf x k ts line) p q a = record {
@@ -166,6 +171,16 @@ module _ (s : Source) (code : CodeOf) (m m' : Instances) (e : Later s m m') wher
       term_later site n (NotNoneOf line x) p q a = (a.0, (term_later site n x p a.0 (a.1).0, (a.1).1), a.2)
       term_later site n (TransferOf t line x) p q a = (a.0, (term_later site n x p a.0 (a.1).0, (a.1).1), a.2)
       term_later site n (SetOf name ts) p q a = (a.0, terms_later site n ts p a.0 a.1, a.2)
+      term_later site n (ProcessOf name line x) p q a = (a.0, (term_later site n x p a.0 (a.1).0, (a.1).1), a.2)
+      term_later site n (SimulationOf j name ts line) p q a = record {
+        text = a.text;
+        x = a.x;
+        y = a.y;
+        link = a.link;
+        reaches = reaches_later inst t a.text j st a.reaches;
+        actuals = terms_later site (suc n) ts a.x a.y a.actuals;
+        is = a.is;
+      }
       term_later site n Unbuilt p q a = a
 
       pub terms_later : (site : Site) (n : ℕ) (xs : Terms) (p q : ℕ) → TermsAt s code m inst site n xs p q → TermsAt s code m' inst site n xs p q
@@ -256,6 +271,9 @@ module _ (s : Source) (code : CodeOf) (m m' : Instances) (e : Later s m m') wher
       op_later b used keeps (WhileElementOp x f c y) p q ks ks' a = record { variable = a.variable; v = variable_later (site_at text b used) a.variable x a.v; element = a.element; out = a.out }
       op_later b used keeps (StepTestOp x line f c y) p q ks ks' a = (let r = a.0 in record { variable = r.variable; v = variable_later (site_at text b used) r.variable x r.v; start = r.start; at = r.at; element = r.element }, a.1, a.2)
       op_later b used keeps (RaiseOp x line f c y) p q ks ks' a = (let r = a.0 in record { variable = r.variable; v = variable_later (site_at text b used) r.variable x r.v; start = r.start; at = r.at; element = r.element }, a.1, a.2)
+      op_later b used keeps (SimulationOp name line) p q ks ks' a = record { many = a.many; is = a.is; text = a.text; block = a.block; reaches = reaches_later inst t a.text a.block st a.reaches; left = a.left; «in» = a.«in»; out = a.out }
+      op_later b used keeps (ActivateOp again timing line) p q ks ks' a = record { is = a.is; text = a.text; block = a.block; reaches = reaches_later inst t a.text a.block st a.reaches; «in» = a.«in» }
+      op_later b used keeps (BlockOp j) p q ks ks' a = record { text = a.text; link = a.link; reaches = reaches_later inst t a.text j st a.reaches; out = a.out }
       op_later b used keeps _ p q ks ks' a = a
 
       comes_later : (b : Runs) (used : ℕ) → TempsKept s code fs fs' inst text b used → (n q p : ℕ) → ComesTo s code fs inst text b used n q p → ComesTo s code fs' inst text b used n q p
@@ -265,11 +283,12 @@ module _ (s : Source) (code : CodeOf) (m m' : Instances) (e : Later s m m') wher
           returning (record { temp = r.temp; number = r.number; first = r.first; returns = r.returns; was = r.was; «in_use» = r.«in_use»; is_temp = r.is_temp; holds = keeps r.temp r.is_temp.behind r.is_temp.within r.«in_use» ∙ r.holds; leads = r.leads; back = r.back }) (comes_later b used keeps n q p' more)
 
       stage_later : (b : Runs) (used : ℕ) → TempsKept s code fs fs' inst text b used → (op : Op) (c : Spot) (p q : ℕ) (ks ks' : List Kind) → InStage s code (OpAt s code m fs inst (site_at text b used)) (site_at text b used) op b c p q ks ks' → InStage s code (OpAt s code m' fs' inst (site_at text b used)) (site_at text b used) op b c p q ks ks'
-      stage_later b used keeps op c p q ks ks' (stays a g) = stays (op_later b used keeps op p q ks ks' a) g
+      stage_later b used keeps op c p q ks ks' (stays a calm g) = stays (op_later b used keeps op p q ks ks' a) calm g
       stage_later b used keeps op c p q ks ks' (declares k e a) = declares k e a
       stage_later b used keeps op c p q ks ks' (inner_last xs e a) = inner_last xs e a
       stage_later b used keeps op c p q ks ks' (inner_here token e a) = inner_here token e a
       stage_later b used keeps op c p q ks ks' (with_inner ss e a) = with_inner ss e a
+      stage_later b used keeps op c p q ks ks' (ends_process e a) = ends_process e a
 
 module _ (s : Source) (code : CodeOf) (m m' : Instances) (e : Later s m m') (inst : ℕ) (fs fs' : Frames) (Below Below' : Bool → Type 0) (f : (v : Bool) → Below v → Below' v) where
   -- the work of an instance, at whatever level it goes on

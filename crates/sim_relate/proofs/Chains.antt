@@ -16,7 +16,7 @@ use Rattle.codegen_expr.specs.Sites.{frame_text}
 use Rattle.codegen.specs.Compiled.{Compiled}
 use Rattle.sim_relate.proofs.ClassLevels.{class_levels, level_levels}
 use Rattle.sim_relate.proofs.Known.{Kind, Runs, Spot, Stands, site_at}
-use Rattle.sim_relate.proofs.Relation.{AtLevel, Bottom, ChainAt, ChainOn, DeclaredTo, InStage, LevelEnds, ObjectIs, OpAt, StoreAt, WorkAt, declares, inner_here, inner_last, stays, to_first, to_next, with_inner}
+use Rattle.sim_relate.proofs.Relation.{AtLevel, Bottom, ChainAt, ChainOn, DeclaredTo, InStage, LevelEnds, ObjectIs, OpAt, StoreAt, WorkAt, declares, inner_here, inner_last, stays, to_first, to_next, with_inner, ends_process}
 use Rattle.sim_relate.proofs.Stores.{own_levels}
 use Rattle.sim_relate.proofs.Waiting.{demand, gives_value}
 
@@ -44,11 +44,12 @@ module _ (s : Source) (code : CodeOf) where
 
   -- the work behind an operator goes on in such a text
   stage_level : (Stays : Op → (p q : ℕ) → (before behind : List Kind) → Type 0) (v : ℕ) (b : Runs) (u : ℕ) (op : Op) (c : Spot) (p q : ℕ) (ks ks' : List Kind) → InStage s code Stays (site_at v b u) op b c p q ks ks' → Levelled v → Levelled c.text
-  stage_level Stays v b u op c p q ks ks' (stays a g) h = subst (λ z. Levelled z.text) (sym g) h
+  stage_level Stays v b u op c p q ks ks' (stays a calm g) h = subst (λ z. Levelled z.text) (sym g) h
   stage_level Stays v b u op c p q ks ks' (declares k e a) h = declared_level b a.place c q a.to
   stage_level Stays v b u op c p q ks ks' (inner_last xs e a) h = inner_level v b u c a.place q ks ks' a.at h
   stage_level Stays v b u op c p q ks ks' (inner_here token e a) h = inner_level v b u c a.place q ks ks' a.at h
   stage_level Stays v b u op c p q ks ks' (with_inner ss e a) h = inner_level v b u c a.place a.after ks ks' a.at h
+  stage_level Stays v b u op c p q ks ks' (ends_process e a) h = subst (λ z. Levelled z.text) (sym a.goes_on) h
 
   -- the end of a text with levels gives no value
   levels_give : (m : Instances) (fs : Frames) (Below : Bool → Type 0) (inst t : ℕ) → Levelled t → (b : Runs) (used : ℕ) (w : List Item) (p : ℕ) (ks : List Kind) → WorkAt s code m fs Below inst t b used w p ks → gives_value w ≡ false

@@ -144,12 +144,12 @@ module _ (s : Source) (code : CodeOf) (compiled : Compiled s code) where
   unconnected (Some (StandardText which)) h = refl
 
   -- its row in the tables
-  record RowThere (k : ℕ) : Type 0 where
-    row : scope.BlockOf
-    there : slice_get s.tables.blocks k ≡ Some row
-    unconnected : sites.is_connection row.kind ≡ false
+  pub record RowThere (k : ℕ) : Type 0 where
+    pub row : scope.BlockOf
+    pub there : slice_get s.tables.blocks k ≡ Some row
+    pub unconnected : sites.is_connection row.kind ≡ false
 
-  row_there : (k : ℕ) → has_levels (text s k) ≡ true → RowThere k
+  pub row_there : (k : ℕ) → has_levels (text s k) ≡ true → RowThere k
   unfolding text is_connected
   row_there k h =
       let x = text_there (text s k) h in
@@ -174,7 +174,7 @@ module _ (s : Source) (code : CodeOf) (compiled : Compiled s code) where
       above zero other = absurd (other refl)
       above (suc k) other = omega arith
 
-  one_number : (t k : ℕ) → has_levels (text s t) ≡ true → has_levels (text s k) ≡ true → block_number s t ≡ block_number s k → t < k → ⊥
+  pub one_number : (t k : ℕ) → has_levels (text s t) ≡ true → has_levels (text s k) ≡ true → block_number s t ≡ block_number s k → t < k → ⊥
   unfolding block_number
   one_number t k h h' e lt = let x = row_there t h in let less = fewer_before t k s.tables.blocks x.row x.there x.unconnected lt in omega (arith, less, e)
 
@@ -188,7 +188,7 @@ module _ (s : Source) (code : CodeOf) (compiled : Compiled s code) where
       let blocks : block_number s t ≡ block_number s k = sym x.has.is.of_block ∙ ap (λ z. z.block) record_same ∙ y.has.is.of_block in
       ⊎_elim (λ lt. absurd (one_number t k h h' blocks lt)) (λ ge. ⊎_elim (λ lt. absurd (one_number k t h' h (sym blocks) lt)) (λ le. omega (arith, ge, le)) (cases_lt k t)) (cases_lt t k)
 
-  class_test : (t k : ℕ) → has_levels (text s t) ≡ true → has_levels (text s k) ≡ true → (class_number s code t == class_number s code k) ≡ (t == k)
+  pub class_test : (t k : ℕ) → has_levels (text s t) ≡ true → has_levels (text s k) ≡ true → (class_number s code t == class_number s code k) ≡ (t == k)
   class_test t k h h' =
       ⊎_elim (λ e. ap (λ z. class_number s code z == class_number s code k) e ∙ equal_number (class_number s code k) ∙ sym (ap (λ z. z == k) e ∙ equal_number k))
       (λ other. other_number (class_number s code t) (class_number s code k) (λ e. other (same_class t k h h' e)) ∙ sym (other_number t k other)) (cases_eq t k)
@@ -285,7 +285,7 @@ module _ (s : Source) (code : CodeOf) (compiled : Compiled s code) where
   levels_numbers k h = numbers_within (class_number s code k) (length s.tables.blocks) k (compiled.agrees.ends k) h (omega arith)
 
   -- a class is among the levels on both sides or on neither
-  among_same : (t k : ℕ) → has_levels (text s t) ≡ true → has_levels (text s k) ≡ true → list_any (λ z. z == class_number s code k) (numbers t) ≡ has_level s.tables t k
+  pub among_same : (t k : ℕ) → has_levels (text s t) ≡ true → has_levels (text s k) ≡ true → list_any (λ z. z == class_number s code k) (numbers t) ≡ has_level s.tables t k
   among_same t k h h' = both_ways (list_any (λ z. z == class_number s code k) (numbers t)) (has_level s.tables t k) there back
     where
       there : list_any (λ z. z == class_number s code k) (numbers t) ≡ true → has_level s.tables t k ≡ true

@@ -26,30 +26,31 @@ use Rattle.sim_tree.specs.Syntax.{Expression, Expressions, Literal, NoMore, Then
 use Rattle.sim_tree.specs.Syntax as syntax
 use Rattle.sim_values.specs.declared.standard.Standard.{Standard}
 use Rattle.sim_values.specs.declared.standard.Standard.TheVariants as name_of
-use Rattle.sim_values.specs.Plain.{Plain, Character, Integer, Nothing, Object, Text, Truth}
+use Rattle.sim_values.specs.Plain.{Plain, Character, Integer, Nothing, Object, Text, Truth, MainOf}
 use Rattle.sim_values.specs.Standard.{is_image, moves_position, on_image, row_of}
 use Rattle.sim_code.specs.declared.instr.Instr.TheVariants as i
 use Rattle.sim_code.specs.Code.{CodeOf}
 use Rattle.sim_code.specs.Instances.{at_level}
 use Rattle.sim_code.specs.Transfers.{Transfer}
-use Rattle.sim_meaning.specs.Attributes.{array_attribute, attribute, attribute_place, cell_of_connection, connected_object, connection_at, declared_attribute, detach_term, entry_at, entry_attribute, fitting, generation, if_any, is_connection, kept_if, membership_term, own_attribute, parameter_at, parameter_attribute, parameter_qualification, place_of_attribute, qua_term, qualified, qualified_place, this_instance, this_term, transfer_at, transfer_term, variable_attribute, with_arrays_kept}
+use Rattle.sim_meaning.specs.Attributes.{array_attribute, attribute, attribute_place, block_found, cell_of_connection, class_made, connected_object, connection_at, declared_attribute, detach_term, entry_at, entry_attribute, fitting, generation, if_any, is_connection, kept_if, membership_term, own_attribute, own_term, parameter_at, parameter_attribute, parameter_qualification, place_of_attribute, qua_term, qualified, qualified_place, this_instance, this_term, transfer_at, transfer_term, variable_attribute, with_arrays_kept}
 use Rattle.sim_meaning.specs.Attributes as attributes
 use Rattle.sim_meaning.specs.Closing.{Joining, Lazily, Negated, Plainly, Sort, actual_term, array_place, array_term, attribute_term, behind_dot, class_parameters, close, close_actuals, close_all, close_parameters, close_place, constant_term, declared_place, declared_term, dot_term, formal_place, formal_term, formals_at, given_term, home_of, home_of_class, image_place, in_instance, is_attribute, is_text, is_text_type, is_variable, literal_term, name_term, named_place, named_term, object_term, reference_place, result_meant, result_place, signed_term, sort_of, standard_term, stream_denoted, stream_of, sysout, two_term, typed_token, variable_place, variable_term}
 use Rattle.sim_meaning.specs.Constants.{text_constant}
 use Rattle.sim_meaning.specs.Levels.{class_at, class_denoted, qualification}
 use Rattle.sim_meaning.specs.Names.{procedure_named, stream_named}
-use Rattle.sim_meaning.specs.Pending.{CallOf, Cell, Declared, ElementOf, Further, ImageOf, Instances, Key, NoTerm, NotNoneOf, PlaceOf, RemoteCallOf, Result, SetOf, Term, Terms, Unbuilt, ValueAt}
+use Rattle.sim_meaning.specs.Pending.{CallOf, Cell, Declared, ElementOf, Further, ImageOf, Instances, Key, NoTerm, PlaceOf, RemoteCallOf, Result, Term, Terms, Unbuilt, ValueAt}
 use Rattle.sim_meaning.specs.Statements.{has_value, standard_leaves}
 use Rattle.sim_meaning.specs.Steps.{count}
 use Rattle.sim_meaning.specs.Texts.{constant_of, text}
 use Rattle.codegen_expr.specs.Sites.{At, HasCell, Inside, Is, LevelOf, Pushes, Site, block_number, class_number, frame_text, is_constant, slot_of}
-use Rattle.codegen_expr.specs.CodeExpr.{ActualAt, ActualsAt, ArrayAt, ArrayOfAt, ArrayPlaceAt, ArrayPlaceOfAt, AttributeAt, AttributePlaceAt, BehindDotAt, CallAt, CellAt, ConnectedAt, ConnectedNameAt, ConstantAt, ConstantAttributeAt, DeclaredAt, DeclaredPlaceAt, DotAt, ElementAt, ElementOfAt, ExprAt, ExprsAt, FittingAt, FormalAt, FormalPlaceAt, GenerationAt, GivenAt, LiteralAt, MemberAt, NameAt, NamedAt, NamedPlaceAt, ObjectAt, OfObjectAt, OwnAt, ParameterOfAt, ParameterPlaceOfAt, PlaceAt, PlaceBehindAt, PlaceOfObjectAt, PlaceOrResultAt, PlainAt, QuaAt, QualifiedPlaceAt, ReferencePlaceAt, RemoteCallAt, SetAt, SignedAt, StandardAt, StandardIs, StreamPlaceAt, ThisFoundAt, ThisOfAt, ThroughAt, TwoAt, VariableAt, VariableOfAt, VariablePlaceAt, VariablePlaceOfAt, gives_entry, operands}
+use Rattle.codegen_expr.specs.CodeExpr.{ActualAt, ActualsAt, ArrayAt, ArrayOfAt, ArrayPlaceAt, ArrayPlaceOfAt, AttributeAt, AttributePlaceAt, BehindDotAt, CallAt, CellAt, ConnectedAt, ConnectedNameAt, ConstantAt, ConstantAttributeAt, DeclaredAt, DeclaredPlaceAt, DotAt, ElementAt, ElementOfAt, ExprAt, ExprsAt, FittingAt, FormalAt, FormalPlaceAt, GenerationAt, GivenAt, LiteralAt, MemberAt, NameAt, NamedAt, NamedPlaceAt, ObjectAt, OfObjectAt, OwnAt, OwnNameAt, ParameterOfAt, ParameterPlaceOfAt, PlaceAt, PlaceBehindAt, PlaceOfObjectAt, PlaceOrResultAt, PlainAt, QuaAt, QualifiedPlaceAt, ReferencePlaceAt, RemoteCallAt, SignedAt, StandardAt, StandardIs, StreamPlaceAt, ThisFoundAt, ThisOfAt, ThroughAt, TwoAt, VariableAt, VariableOfAt, VariablePlaceAt, VariablePlaceOfAt, gives_entry, operands}
 use Rattle.codegen_expr.specs.CodeExpr as code_gives
 use Rattle.codegen.specs.Agrees.{Agrees}
-use Rattle.sim_relate.proofs.ClassNames.{class_found, class_is, declared_class, denoted_classed, parameter_classed, qualification_classed}
+use Rattle.sim_relate.proofs.AttributeTerms.{object_attribute_at, own_name_at}
+use Rattle.sim_relate.proofs.ClassNames.{class_found, class_is, declared_class, denoted_classed, made_class, parameter_classed, qualification_classed}
 use Rattle.sim_relate.proofs.Formals.{actuals_counted, formals_same}
 use Rattle.sim_relate.proofs.Frames.{frame_idem, frame_level, own_frame}
-use Rattle.sim_relate.proofs.Known.{Any, Finds, FixedOf, IsImage, Kind, LeavesIs, Located, Refers, Stands, attribute_kind, gives, inside, is_read, kind_unless, of_input, of_output, outermost, read_given, reads, seen_at, text_gives}
+use Rattle.sim_relate.proofs.Known.{Any, Finds, FixedOf, IsImage, Kind, LeavesIs, Located, Refers, Stands, attribute_kind, gives, inside, is_process_in, is_read, kind_unless, of_input, of_output, outermost, read_given, reads, seen_at, text_gives}
 use Rattle.sim_relate.proofs.Roomy.{FitsWhere, connected_fits, expression_fits, this_fits}
 use Rattle.sim_relate.proofs.OwnNames.{own_denoted}
 use Rattle.sim_relate.proofs.TransferNames.{no_transfer}
@@ -111,6 +112,7 @@ module _ (s : Source) (code : CodeOf) (m : Instances) (inst : ℕ) (site : Site)
   plain_given (Character c) n p q a = a
   plain_given (Text t) n p q a = listed a.0 a.1
   plain_given (Object j) n p q a = absurd a
+  plain_given (MainOf j) n p q a = absurd a
   plain_given Nothing n p q a = absurd a
 
   given_at : (v : Option Plain) (n p q : ℕ) → GivenAt s code site n v p q → OperandAt s code m inst site n (given_term v) p q
@@ -427,19 +429,6 @@ module _ (s : Source) (code : CodeOf) (m : Instances) (inst : ℕ) (site : Site)
         ap text_gives y.is ∙ y.same,
       )
 
-  set_at : (d : DeclNo) (line n : ℕ) (name : Standard) (parameter result : Option SimType) (es : Expressions) (Base Actuals : ℕ → ℕ → Type 0) (x : Term) (terms : Terms) → ObjectIs n Base x → ActualsAre n es d Actuals terms → (p q : ℕ) → SetAt code line name result es Base Actuals p q
-      → NamedIs n (gives_entry (Some (entry.Attribute name parameter result))) (SetOf name (Further (NotNoneOf line x) terms)) p q
-  set_at d line n name parameter result es Base Actuals x terms f h p q a =
-      let inner = h a.y a.z a.actuals in
-      let named = a.named in (
-        (
-          a.z,
-          (a.y, ((a.x, f p a.x a.object, a.there), refl), inner.0),
-          record { is_name = named.is_name; as_many = ap suc (sym inner.1 ∙ named.as_many); number = a.number; numbered = a.numbered; done = record { line = line; is = a.done } },
-        ),
-        sym named.leaves,
-      )
-
   of_object_at : (d : DeclNo) (line n : ℕ) (o : Option Entry) (es : Expressions) (Base Inner Actuals : ℕ → ℕ → Type 0) (x : Term) (terms actuals : Terms) → ObjectIs n Base x → FitsWhere s code site n Base → ((p q : ℕ) → Inner p q → TermsAt s code m inst site (suc n) terms p q) → operands es ≡ count terms → ActualsAre n es d Actuals actuals
       → (p q : ℕ) → entry_of s.tables d ≡ o → OfObjectAt s code site n line d o es Base Inner Actuals p q → NamedIs n (gives_entry o) (entry_attribute s line d o x es terms actuals) p q
   of_object_at d line n (Some (entry.Variable type)) es Base Inner Actuals x terms actuals f fits g counts h p q is a = variable_of_at d es line n Base x f p q (ap is_constant is) a
@@ -450,7 +439,7 @@ module _ (s : Source) (code : CodeOf) (m : Instances) (inst : ℕ) (site : Site)
   of_object_at d line n (Some (entry.Class block)) es Base Inner Actuals x terms actuals f fits g counts h p q is a = absurd a
   of_object_at d line n (Some (entry.Virtual result own)) es Base Inner Actuals x terms actuals f fits g counts h p q is a = absurd a
   of_object_at d line n (Some (entry.Unspecified written)) es Base Inner Actuals x terms actuals f fits g counts h p q is a = absurd a
-  of_object_at d line n (Some (entry.Attribute name parameter result)) es Base Inner Actuals x terms actuals f fits g counts h p q is a = set_at d line n name parameter result es Base Actuals x actuals f h p q a
+  of_object_at d line n (Some (entry.Attribute name parameter result)) es Base Inner Actuals x terms actuals f fits g counts h p q is a = object_attribute_at s code m inst site line n name parameter result es Base Actuals x actuals f (λ p q b. let r = h p q b in (r.0, r.1)) p q a
   of_object_at d line n None es Base Inner Actuals x terms actuals f fits g counts h p q is a = absurd a
 
   -- where they lie
@@ -547,15 +536,18 @@ module _ (s : Source) (code : CodeOf) (m : Instances) (inst : ℕ) (site : Site)
   this_at None n p q a = absurd a
   this_at (Some t) n p q a = this_by t n p q (is_connection (text s t)) a
 
-  -- a procedure of SIMSET that is seen without a dot is one of the object around
+  -- an attribute that is seen without a dot: a procedure of the simulation block around, or one that the object around has
   own_at : (own : Option DeclNo) (u : Option Denotation) (found : Option ℕ) (line n : ℕ) (es : Expressions) (Operands Inner : ℕ → ℕ → Type 0) (Actuals : List Formal → ℕ → ℕ → Type 0) (terms : Terms) (actuals : List Formal → Terms) → ((d : DeclNo) → own ≡ Some d → u ≡ Some (denotation.Declared d))
       → ((p q : ℕ) → Operands p q → TermsAt s code m inst site n terms p q) → ((p q : ℕ) → Inner p q → TermsAt s code m inst site (suc n) terms p q) → operands es ≡ count terms → ((fs : List Formal) (p q : ℕ) → Actuals fs p q → TermsAt s code m inst site (suc n) (actuals fs) p q × (operands es ≡ count (actuals fs)) × (operands es ≡ length fs))
-      → (p q : ℕ) → OwnAt own (λ d. OfObjectAt s code site n line d (entry_of s.tables d) es (ThisFoundAt s code site n found) Inner (Actuals (formals_at s d))) (NamedAt s code site n line u es Operands Inner Actuals) p q
-      → NamedIs n (code_gives.gives s u) (if_any own (attribute s line (this_term s m inst found) es terms (λ d. actuals (formals_at s d))) (named_term s m inst line u es terms actuals)) p q
+      → (p q : ℕ) → OwnAt own (λ d. OwnNameAt s code site n line found (entry_of s.tables d) es (Actuals (formals_at s d)) (OfObjectAt s code site n line d (entry_of s.tables d) es (ThisFoundAt s code site n found) Inner (Actuals (formals_at s d)))) (NamedAt s code site n line u es Operands Inner Actuals) p q
+      → NamedIs n (code_gives.gives s u) (if_any own (λ d. own_term s (entry_of s.tables d) (block_found s m inst found) (actuals (formals_at s d)) line (attribute s line (this_term s m inst found) es terms (λ d. actuals (formals_at s d)) d)) (named_term s m inst line u es terms actuals)) p q
   own_at None u found line n es Operands Inner Actuals terms actuals is f0 f counts g p q a = named_at u line n es Operands Inner Actuals terms actuals f0 f counts g p q a
   own_at (Some d) u found line n es Operands Inner Actuals terms actuals is f0 f counts g p q a =
-      subst (λ z. NamedIs n (code_gives.gives s z) (attribute s line (this_term s m inst found) es terms (λ d. actuals (formals_at s d)) d) p q) (sym (is d refl))
-      (of_object_at d line n (entry_of s.tables d) es (ThisFoundAt s code site n found) Inner (Actuals (formals_at s d)) (this_term s m inst found) terms (actuals (formals_at s d)) (λ p q. this_at found n p q) (λ p q. this_fits s code site found n p q) f counts (g (formals_at s d)) p q refl a)
+      let fs = formals_at s d in
+      subst (λ z. NamedIs n (code_gives.gives s z) (own_term s (entry_of s.tables d) (block_found s m inst found) (actuals fs) line (attribute s line (this_term s m inst found) es terms (λ d. actuals (formals_at s d)) d)) p q) (sym (is d refl))
+      (own_name_at s code m inst site reach line n es (Actuals fs) (actuals fs) (λ p q b. let r = g fs p q b in (r.0, r.1)) found (entry_of s.tables d)
+      (OfObjectAt s code site n line d (entry_of s.tables d) es (ThisFoundAt s code site n found) Inner (Actuals fs)) (attribute s line (this_term s m inst found) es terms (λ d. actuals (formals_at s d)) d)
+      (λ p q b. of_object_at d line n (entry_of s.tables d) es (ThisFoundAt s code site n found) Inner (Actuals fs) (this_term s m inst found) terms (actuals fs) (λ p q. this_at found n p q) (λ p q. this_fits s code site found n p q) f counts (g fs) p q refl b) p q a)
 
   member_at : (member : Membership) (u : Option Denotation) (class : Option ℕ) → class_denoted s u ≡ class → (A : ℕ → ℕ → Type 0) (n : ℕ) (x : Term) → ObjectIs n A x → (p q : ℕ) → MemberAt s code member class A p q → OperandAt s code m inst site n (membership_term member class x) p q
   member_at member u None e A n x f p q a = absurd a
@@ -565,7 +557,7 @@ module _ (s : Source) (code : CodeOf) (m : Instances) (inst : ℕ) (site : Site)
   qua_at line u None e A n x f p q a = absurd a
   qua_at line u (Some k) e A n x f p q a = ((a.0, f p a.0 a.1, (denoted_classed s u k e, a.2)), refl)
 
-  generation_at : (u : Option Denotation) (class : Option ℕ) (line n : ℕ) (es : Expressions) (Actuals : ℕ → ℕ → Type 0) (terms : Terms) → class_denoted s u ≡ class → ((p q : ℕ) → Actuals p q → TermsAt s code m inst site (suc n) terms p q × (operands es ≡ count terms)) → (p q : ℕ) → GenerationAt s code site n line u class es Actuals p q
+  generation_at : (u : Option Denotation) (class : Option ℕ) (line n : ℕ) (es : Expressions) (Actuals : ℕ → ℕ → Type 0) (terms : Terms) → ((k : ℕ) → class ≡ Some k → (class_denoted s u ≡ Some k) × (is_process_in s k ≡ false)) → ((p q : ℕ) → Actuals p q → TermsAt s code m inst site (suc n) terms p q × (operands es ≡ count terms)) → (p q : ℕ) → GenerationAt s code site n line u class es Actuals p q
       → OperandAt s code m inst site n (generation (home_of_class s m inst u) class terms line) p q
   unfolding home_of
   generation_at None class line n es Actuals terms e h p q a = absurd a
@@ -573,7 +565,8 @@ module _ (s : Source) (code : CodeOf) (m : Instances) (inst : ℕ) (site : Site)
   generation_at (Some (denotation.Declared d)) None line n es Actuals terms e h p q a = absurd a
   generation_at (Some (denotation.Declared d)) (Some t) line n es Actuals terms e h p q a =
       let r = reach (block_of s d) a.inside in
-      let class = class_found s (class_block s.tables d) t e in
+      let made = e t refl in
+      let class = class_found s (class_block s.tables d) t made.0 in
       let inner = h a.x a.y a.actuals in
       subst (λ z. OperandAt s code m inst site n (generation z (Some t) terms line) p q) (sym r.2) (
         record {
@@ -586,6 +579,7 @@ module _ (s : Source) (code : CodeOf) (m : Instances) (inst : ℕ) (site : Site)
           new = subst (λ c. At code (i.New (pos (class_number s code t)) (pos c)) line a.y q) inner.1 a.new;
           stands_in = agrees.classes d t (declared_class s d t class.0);
           class = class.1;
+          made = made.1;
         },
         refl,
       )
@@ -651,7 +645,9 @@ module _ (s : Source) (code : CodeOf) (m : Instances) (inst : ℕ) (site : Site)
   -- what is seen without a dot and without a connection
   abbrev pub direct_tree : Identifier → Expressions → Term
   direct_tree name es =
-      if_any (own_attribute s name.token.0) (attribute s (line_at s name.token.0) (this_term s m inst (found_at s name.token.0)) es (close_all s m inst es) (λ d. close_actuals s m inst (line_at s name.token.0) es (formals_at s d)))
+      if_any (own_attribute s name.token.0)
+      (λ d. own_term s (entry_of s.tables d) (block_found s m inst (found_at s name.token.0)) (close_actuals s m inst (line_at s name.token.0) es (formals_at s d)) (line_at s name.token.0)
+      (attribute s (line_at s name.token.0) (this_term s m inst (found_at s name.token.0)) es (close_all s m inst es) (λ d. close_actuals s m inst (line_at s name.token.0) es (formals_at s d)) d))
       (named_term s m inst (line_at s name.token.0) (denoted s name.token.0) es (close_all s m inst es) (λ fs. close_actuals s m inst (line_at s name.token.0) es fs))
 
   abbrev pub named_tree : Identifier → Expressions → Term
@@ -666,7 +662,9 @@ module _ (s : Source) (code : CodeOf) (m : Instances) (inst : ℕ) (site : Site)
 
   abbrev pub DirectCallAt : Identifier → Expressions → (n p q : ℕ) → Type 0
   DirectCallAt name es n p q =
-      OwnAt (own_attribute s name.token.0) (λ d. OfObjectAt s code site n (line_at s name.token.0) d (entry_of s.tables d) es (ThisFoundAt s code site n (found_at s name.token.0)) (ExprsAt s code site (suc n) es) (ActualsAt s code site (suc n) (line_at s name.token.0) false es (formals_at s d)))
+      OwnAt (own_attribute s name.token.0)
+      (λ d. OwnNameAt s code site n (line_at s name.token.0) (found_at s name.token.0) (entry_of s.tables d) es (ActualsAt s code site (suc n) (line_at s name.token.0) false es (formals_at s d))
+      (OfObjectAt s code site n (line_at s name.token.0) d (entry_of s.tables d) es (ThisFoundAt s code site n (found_at s name.token.0)) (ExprsAt s code site (suc n) es) (ActualsAt s code site (suc n) (line_at s name.token.0) false es (formals_at s d))))
       (NamedAt s code site n (line_at s name.token.0) (denoted s name.token.0) es (ExprsAt s code site n es) (ExprsAt s code site (suc n) es) (λ fs. ActualsAt s code site (suc n) (line_at s name.token.0) false es fs)) p q
 
   abbrev pub NamedCallAt : Identifier → Expressions → (n p q : ℕ) → Type 0
@@ -722,7 +720,7 @@ module _ (s : Source) (code : CodeOf) (m : Instances) (inst : ℕ) (site : Site)
     close_at (syntax.This token class) n p q a = this_at (found_at s token) n p q a
     close_at (syntax.New token class es) n p q a =
         let fs = class_parameters s (class_at s class.token.0) in
-        generation_at (denoted s class.token.0) (class_at s class.token.0) (line_at s token) n es (ActualsAt s code site (suc n) (line_at s class.token.0) true es fs) (with_arrays_kept fs (close_actuals s m inst (line_at s class.token.0) es fs)) (class_is s class.token.0)
+        generation_at (denoted s class.token.0) (class_made s (class_at s class.token.0)) (line_at s token) n es (ActualsAt s code site (suc n) (line_at s class.token.0) true es fs) (with_arrays_kept fs (close_actuals s m inst (line_at s class.token.0) es fs)) (λ k e. let x = made_class s (class_at s class.token.0) k e in (class_is s class.token.0 ∙ x.0, x.1))
         (λ p q b. (close_actuals_at true (line_at s class.token.0) es fs (suc n) p q b, count_actuals (line_at s class.token.0) (suc n) true es fs p q b ∙ sym (count_kept fs (close_actuals s m inst (line_at s class.token.0) es fs)))) p q a
     close_at (syntax.Parentheses token x) n p q a = close_at x n p q a
 

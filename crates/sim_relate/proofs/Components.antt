@@ -4,21 +4,27 @@ use Rattle.std.specs.Prelude.{◌||◌, if◌then◌else◌, slice_get, slice_in
 use Rattle.sim_base.specs.declared.run_error.RunError.{RunError}
 use Rattle.sim_base.specs.declared.run_error.RunError.TheVariants.{ComponentIsAttached, ComponentIsResumed, ComponentIsTerminated, NoneIsNoComponent, ObjectNotOperating, ResumedIsAttached, SystemNotOperating}
 use Rattle.sim_chains.specs.Chains.{Cut, cut_at, outermost, stands_on, under, upper}
-use Rattle.sim_chains.specs.Components.{AttachedObject, Components, DetachedObject, NoObject, ResumedObject, Standing, TerminatedObject, call, call_by, detach, detach_by, give_up_at, kept, kept_as, kept_by, leave_at, main_at, main_by, resume, resume_at, resume_by, resume_main, with_operating, with_standing}
+use Rattle.sim_chains.specs.Components.{AttachedObject, Components, DetachedObject, NoObject, ResumedObject, Standing, TerminatedObject, call, call_by, detach, detach_by, give_control_to, give_up_at, kept, kept_as, kept_by, leave_at, main_at, main_by, resume, resume_at, resume_by, resume_main, with_operating, with_standing}
 use Rattle.sim_chains.specs.Heads.{head_within}
 use Rattle.sim_chains.specs.WellFormed.{IsWellFormed, is_object}
 use Rattle.sim_chains.proofs.Cuts.{IsCut, cut_is}
 use Rattle.sim_chains.proofs.Keeps.{kept_object}
 use Rattle.sim_scope.specs.Source.{Source}
-use Rattle.sim_values.specs.Plain.{Plain}
+use Rattle.notices.specs.declared.next.Next.{Next}
+use Rattle.notices.specs.declared.next.Next.TheVariants as next
+use Rattle.notices.specs.declared.notice.Notice.{Notice}
+use Rattle.notices.specs.Scheduling.{next_of}
+use Rattle.sim_values.specs.Plain.{Character, Integer, MainOf, Nothing, Object, Plain, Text, Truth}
 use Rattle.sim_code.specs.Code.{CodeOf}
 use Rattle.sim_code.specs.Events.{computing, having}
 use Rattle.sim_code.specs.Instances.{Instance, encloser_in, encloser_of, going_below, is_object_at, main_goes_on, or_first, system_head}
 use Rattle.sim_code.specs.Machine.{Cells, Frames, Machine}
 use Rattle.sim_code.specs.Machine as machine
-use Rattle.sim_code.specs.Outcome.{Run, RunFault, World}
-use Rattle.sim_code.specs.Transfers.{Calling, Detaching, Resuming, Transfer, component_in, transferred, transferring}
-use Rattle.sim_code.proofs.Lifts.{Both, alike_no_rule, alike_same, alike_stopping}
+use Rattle.sim_code.specs.Outcome.{Run, RunFault, Simulation, World}
+use Rattle.sim_code.specs.Scheduling.{component_of, deciding, going_to}
+use Rattle.sim_code.specs.Simulations.{with_simulation}
+use Rattle.sim_code.specs.Transfers.{Calling, Detaching, Resuming, Transfer, component_in, refused_of_main, transferred, transferring}
+use Rattle.sim_code.proofs.Lifts.{Both, alike_computing, alike_no_rule, alike_same, alike_stopping}
 use Rattle.sim_code.proofs.Simulation.{Alike, unruled}
 use Rattle.sim_meaning.specs.Pending.{Activation, Configuration, Held, Instances, Item, Val}
 use Rattle.sim_meaning.specs.Pending as meaning
@@ -55,6 +61,9 @@ module _ (s : Source) (code : CodeOf) (compiled : Compiled s code) (o : World) (
   same_encloser None (Some y) b = absurd b
   same_encloser (Some x) None b = absurd b
   same_encloser (Some x) (Some y) b = b.encloser
+
+  pub enclosers_same : (j : ℕ) → encloser_of fs j ≡ encloser_of m j
+  enclosers_same j = same_encloser (slice_get m.instances j) (slice_get fs.instances j) (store.at j)
 
   same_object : (j : ℕ) (x : Standing Activation) (y : Standing machine.Activation) → StandingAt s code m fs j x y → is_object y ≡ is_object x
   same_object j (NoObject None) (NoObject None) a = refl
@@ -393,6 +402,34 @@ module _ (s : Source) (code : CodeOf) (compiled : Compiled s code) (o : World) (
     moved_by Calling y = called y
     moved_by Resuming y = resumed y
 
+    moved_of : (way : Transfer) (v : Plain) → Alike R (having (component_in v) o (λ y. having (transferred meaning.owner way (system_head m) before y) o onward)) (having (component_in v) o (λ y. having (transferred machine.owner way (system_head fs) frames_before y) o frames_onward))
+    moved_of way v = alike_same Configuration Machine R (Option ℕ) (component_in v) o _ _ (λ y. moved_by way y)
+
     pub transfers : (way : Transfer) (v : Plain) → Alike R (transferring meaning.owner way line o chain m v) (transferring machine.owner way line o acts fs v)
     unfolding transferring
-    transfers way v = alike_same Configuration Machine R (Option ℕ) (component_in v) o _ _ (λ y. moved_by way y)
+    transfers way (MainOf j) = alike_stopping Configuration Machine R (RunFault (refused_of_main way) line) o
+    transfers way (Object j) = moved_of way (Object j)
+    transfers way Nothing = moved_of way Nothing
+    transfers way (Integer z) = moved_of way (Integer z)
+    transfers way (Truth z) = moved_of way (Truth z)
+    transfers way (Character z) = moved_of way (Character z)
+    transfers way (Text z) = moved_of way (Text z)
+
+    -- who goes on after a scheduling procedure: the main component of a system, or an object that is resumed
+    controlled : (head : ℕ) (y : Option ℕ) → Alike R (onward (give_control_to meaning.owner (system_head m) before head y)) (frames_onward (give_control_to machine.owner (system_head fs) frames_before head y))
+    controlled head None = main_component head
+    controlled head (Some y) = resumed (Some y)
+
+    gone_to : (x : Simulation) (n : Next) → Alike R (going_to meaning.owner line o chain m x n) (going_to machine.owner line o acts fs x n)
+    unfolding computing
+    gone_to x next.Stay = stays
+    gone_to x (next.Resume p) = alike_same Configuration Machine R (Option ℕ) (component_of x p.0) o _ _ (λ y. controlled x.block y)
+
+-- the list of notices that a procedure leaves decides
+pub decides : (s : Source) (code : CodeOf) → Compiled s code → (o : World) (m : Instances) (fs : Frames) → StoreAt s code m fs → StandingsAt s code m fs → (line : ℕ) (chain : List Activation) (acts : List machine.Activation) → ChainAt s code m fs chain false acts → IsWellFormed meaning.owner (system_head m) (record { operating = chain; standings = m.standings }) → (x : ℕ × Simulation) (r : Result (List Notice) RunError)
+    → Alike (StateAt s code) (deciding meaning.owner line o chain m x r) (deciding machine.owner line o acts fs x r)
+unfolding deciding
+decides s code compiled o m fs store parked line chain acts c formed x r =
+    alike_computing Configuration Machine (StateAt s code) (List Notice) line r o _ _
+    (λ notices. alike_computing Configuration Machine (StateAt s code) Next line (next_of x.1.notices notices) o _ _
+    (λ n. gone_to s code compiled (with_simulation o x.0 (record x.1 { notices = notices })) m fs store parked line chain acts c formed x.1 n))

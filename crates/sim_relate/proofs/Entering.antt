@@ -28,7 +28,7 @@ use Rattle.sim_meaning.specs.Entries.{new_instance, passes}
 use Rattle.sim_meaning.specs.Levels.{has_levels, text_in}
 use Rattle.sim_meaning.specs.Pending.{Activation, Configuration, Held, Instances, Item, Key, held}
 use Rattle.sim_meaning.specs.Texts.{BlockText, ConnectionText, PrefixedText, Text, is_class_free, program_texts, text}
-use Rattle.codegen_expr.specs.Sites.{HasCell, LevelOf, block_in_front, block_number, block_of_text, cells_in, frame_text, hidden_in, innermost, outer, own_part, place_of, prefix_of, slot_of, start_of, types_in}
+use Rattle.codegen_expr.specs.Sites.{HasCell, LevelOf, block_in_front, block_number, block_of_text, cells_in, frame_text, hidden_in, innermost, is_connected, outer, own_part, place_of, prefix_of, slot_of, start_of, types_in}
 use Rattle.codegen.specs.Agrees.{Agrees}
 use Rattle.codegen.specs.Compiled.{CodeHas, Compiled, RecordOf, TextCode, type_of_cell}
 use Rattle.sim_relate.proofs.Carried.{all_every, both_later, chain_later, kept_every}
@@ -82,6 +82,9 @@ coded s code k _ (Some b) e h = record { block = b; found = refl; has = h }
 pub code_there : (s : Source) (code : CodeOf) → Compiled s code → (k : ℕ) (x : Text) → text s k ≡ Some x → is_connection (Some x) ≡ false → Coded s code k x (slice_get code.blocks (block_number s k))
 code_there s code c k x e own = coded s code k x (slice_get code.blocks (block_number s k)) own (c.each k x e)
 
+pub solid_there : (s : Source) → Agrees s → (k : ℕ) (x : Text) → text s k ≡ Some x → is_connection (Some x) ≡ false → is_connected s.tables k ≡ false
+solid_there s a k x e own = a.connected k ∙ ap is_connection e ∙ own
+
 -- a text that is no connection has frames of its own
 pub frame_there : (s : Source) → Agrees s → (k : ℕ) (x : Text) → text s k ≡ Some x → is_connection (Some x) ≡ false → frame_text s k ≡ k
 frame_there s a k x e own = frame_self s a k (a.connected k ∙ ap is_connection e ∙ own)
@@ -132,9 +135,9 @@ module _ (s : Source) (code : CodeOf) where
   new_frame n b parent cells = record { text = n; level = b.level; encloser = parent; cells = cells; passing = machine.passes b.kind b.class_free; kept = false; given_back = false }
 
   -- an instance and its frame, whose cells stand for each other
-  pub instance_of : (k : ℕ) (kind : BlockKind) (result : CodeType) (b : BlockOf) → RecordOf s code k kind result b → slice_get code.blocks (block_number s k) ≡ Some b → passes (text s k) (is_class_free s k) ≡ machine.passes kind (is_class_free s k) → frame_text s k ≡ k → Laid s code k → (e : Option ℕ) (hs : List Held) (cells : Cells) → CellsOf s code k hs cells → length cells ≡ length b.types
+  pub instance_of : (k : ℕ) (kind : BlockKind) (result : CodeType) (b : BlockOf) → RecordOf s code k kind result b → slice_get code.blocks (block_number s k) ≡ Some b → passes (text s k) (is_class_free s k) ≡ machine.passes kind (is_class_free s k) → frame_text s k ≡ k → is_connected s.tables k ≡ false → Laid s code k → (e : Option ℕ) (hs : List Held) (cells : Cells) → CellsOf s code k hs cells → length cells ≡ length b.types
       → InstanceAt s code (new_instance s k e hs) (new_frame (block_number s k) b e cells)
-  instance_of k kind result b heads found free own laid e hs cells at size = record {
+  instance_of k kind result b heads found free own solid laid e hs cells at size = record {
     number = refl;
     level = heads.level;
     encloser = refl;
@@ -143,6 +146,7 @@ module _ (s : Source) (code : CodeOf) where
     kept = refl;
     given_back = refl;
     own = own;
+    solid = solid;
     laid = laid;
     cells = at.cells;
     there = at.there;
@@ -196,9 +200,9 @@ module _ (s : Source) (code : CodeOf) where
       pub first_none : (c : ℕ) → length (cells_in s k (text s k)) ≤ c → c < length (own_part s k) → joined (slice_get (machine.first_cells b) c) ≡ None
       first_none c le lt = ap (λ z. joined (slice_get (map first_value z) c)) flat_types ∙ empty_behind (cells_in s k (text s k)) (hidden_in s k) heads.temps c (hidden_empty s k) le lt
 
-      pub instance_at : slice_get code.blocks (block_number s k) ≡ Some b → passes (text s k) (is_class_free s k) ≡ machine.passes kind (is_class_free s k) → frame_text s k ≡ k → Laid s code k → (e : Option ℕ) (hs : List Held) (cells : Cells) → HeldAt s hs cells → map key_of hs ≡ map key_of (cells_in s k (text s k)) → length cells ≡ length b.types
+      pub instance_at : slice_get code.blocks (block_number s k) ≡ Some b → passes (text s k) (is_class_free s k) ≡ machine.passes kind (is_class_free s k) → frame_text s k ≡ k → is_connected s.tables k ≡ false → Laid s code k → (e : Option ℕ) (hs : List Held) (cells : Cells) → HeldAt s hs cells → map key_of hs ≡ map key_of (cells_in s k (text s k)) → length cells ≡ length b.types
           → ((c : ℕ) → length (cells_in s k (text s k)) ≤ c → c < length (own_part s k) → joined (slice_get cells c) ≡ None) → InstanceAt s code (new_instance s k e hs) (new_frame (block_number s k) b e cells)
-      instance_at found free own laid e hs cells at keys size none = instance_of k kind result b heads found free own laid e hs cells (cells_alone hs cells at keys none) size
+      instance_at found free own solid laid e hs cells at keys size none = instance_of k kind result b heads found free own solid laid e hs cells (cells_alone hs cells at keys none) size
 
   -- ---- a new instance on top
 

@@ -46,7 +46,7 @@ use Rattle.sim_relate.proofs.Actuals.{arrays_same, behind_result, both_kept, cou
 use Rattle.sim_relate.proofs.Carried.{all_every, chain_changed, kept_every, parked_changed}
 use Rattle.sim_relate.proofs.DeclaredArrays.{arrays_at}
 use Rattle.sim_relate.proofs.Ends.{chosen}
-use Rattle.sim_relate.proofs.Entering.{block_alike, chain_entered, chain_owners, code_there, enters, first_none, first_size, first_text, first_typed, frame_there, front_is, instance_at, later_fs, later_m, new_frame, parked_entered, program_alike, text_there}
+use Rattle.sim_relate.proofs.Entering.{block_alike, chain_entered, chain_owners, code_there, enters, first_none, first_size, first_text, first_typed, frame_there, front_is, instance_at, later_fs, later_m, new_frame, parked_entered, solid_there, program_alike, text_there}
 use Rattle.sim_relate.proofs.Formals.{formals_fit}
 use Rattle.sim_relate.proofs.Hands.{hand_integers, hand_popping, stack_length}
 use Rattle.sim_relate.proofs.Here.{Here, act, at_row, goes, kinds_as, with_values}
@@ -54,9 +54,10 @@ use Rattle.sim_relate.proofs.Laying.{laid}
 use Rattle.sim_relate.proofs.Living.{new_lives, new_lives_inside}
 use Rattle.sim_relate.proofs.Pending.{ends_at, pends}
 use Rattle.sim_relate.proofs.PrefixedProgram.{first_prefixed}
-use Rattle.sim_relate.proofs.Known.{Any, Every, FixedOf, HandAt, IsLink, Kind, LinkTo, Located, OwnerOf, Refers, Runs, StackAt, Stands, ValAt, anys, array_at, element_at, given, image_at, link_at, more_at, plain_at, site_at}
+use Rattle.sim_relate.proofs.Known.{Any, Every, FixedOf, HandAt, IsLink, Kind, LinkTo, Located, OwnerOf, Refers, Runs, StackAt, Stands, ValAt, anys, array_at, element_at, given, image_at, link_at, more_at, plain_at, site_at, Settled, LinkOf}
 use Rattle.sim_relate.proofs.Waiting.{GetsIs}
-use Rattle.sim_relate.proofs.Relation.{CallOpIs, ChainAt, Changed, EndAt, OpAt, StandingsAt, StateAt, StoreAt, WorkAt, straight}
+use Rattle.sim_relate.proofs.Operations.{CallOpIs}
+use Rattle.sim_relate.proofs.Relation.{ChainAt, Changed, EndAt, OpAt, StandingsAt, StateAt, StoreAt, WorkAt, straight}
 use Rattle.sim_relate.proofs.Slots.{HeldAt, Typed, VaryFirst, Written, cells_at, cells_filled_behind, cells_fit, key_of, machine_fills, put_behind, put_from, put_length, result_at, results}
 use Rattle.sim_relate.proofs.Stores.{is_live_same, new_inside, new_outermost}
 
@@ -105,8 +106,12 @@ module _ (s : Source) (code : CodeOf) (compiled : Compiled s code) (m : Instance
   pub block_pends : (ds : Declarations) (ss : Statements) (end : Item) (p y q : ℕ) → ArraysAt s code (site_of s code k b) ds p y → StmsAt s code (site_of s code k b) 0 ss y q → WorkAt s code m fs Below j k (plainly k b) (own_end s code k) (end ∷ []) q []
       → WorkAt s code m fs Below j k (plainly k b) (own_end s code k) (block_work s m j ds ss end) p []
   block_pends ds ss end p y q arrays stms ends =
-      let low = used_low s code compiled.agrees k own in
+      let low : Settled s code k (plainly k b) (own_end s code k) = record { low = used_low s code compiled.agrees k own; calm = refl } in
       arrays_at s code compiled.agrees m fs Below j k (plainly k b) (own_end s code k) low stands lives (Do (Execs ss) ∷ end ∷ []) ds p y arrays (pends s code m fs Below j k (plainly k b) (own_end s code k) low (end ∷ []) (Execs ss) y q [] [] (stms, refl) ends)
+
+-- a block without a prefix is no simulation block
+plain_begun : (code : CodeOf) (b : BlockOf) → b.kind ≡ block_kind.SubBlock → (p : World) → rows.program_begun code b p ≡ p
+plain_begun code b e p = rw e refl
 
 module _ (s : Source) (code : CodeOf) (compiled : Compiled s code) (l : Limits) (o : World) where
   abbrev R : Configuration → Machine → Type 0
@@ -115,7 +120,7 @@ module _ (s : Source) (code : CodeOf) (compiled : Compiled s code) (l : Limits) 
   -- ---- the first step
 
   first_block : (m : Instances) (fs : Frames) → StoreAt s code m fs → StandingsAt s code m fs → (begin : ℕ) (ds : Declarations) (ss : Statements) → text s 0 ≡ Some (BlockText begin ds ss) → (b : BlockOf) → slice_get code.blocks 0 ≡ Some b → ProgramOf s code begin ds ss b
-      → Alike R (program_entered s l o m (Some (BlockText begin ds ss))) (rows.program_block code o (λ b z x. entering l x.line.0 (words_of_block b) o (λ p. machine.in_new p fs 0 b b.entry z (NoObject None) None (machine.first_cells b) [])))
+      → Alike R (program_entered s l o m (Some (BlockText begin ds ss))) (rows.program_block code o (λ b z x. entering l x.line.0 (words_of_block b) o (λ p. machine.in_new (rows.program_begun code b p) fs 0 b b.entry z (NoObject None) None (machine.first_cells b) [])))
   unfolding block_number frame_text
   first_block m fs a parked begin ds ss is b found h =
       let heads = h.heads in
@@ -131,7 +136,7 @@ module _ (s : Source) (code : CodeOf) (compiled : Compiled s code) (l : Limits) 
       let stands : Stands s m' (length m.instances) 0 = new_outermost s m 0 new (NoObject None) refl refl refl agrees.outermost in
       let lives : Lives m' (length m.instances) = lives_alone (new_lives m new (NoObject None) refl) refl in
       let Below : Bool → Type 0 = λ v. ChainAt s code m' fs' [] v [] in
-      let low = used_low s code agrees 0 refl in
+      let low : Settled s code 0 (plainly 0 b) (own_end s code 0) = record { low = used_low s code agrees 0 refl; calm = refl } in
       let single : has_levels (text s 0) ≡ false = ap has_levels is in
       let room : b.room ≤ b.room = omega arith in
       let next = (h.enter).on in
@@ -139,11 +144,11 @@ module _ (s : Source) (code : CodeOf) (compiled : Compiled s code) (l : Limits) 
       let ahead : b.entry < h.start = omega (arith, next) in
       let work = block_pends s code compiled m' fs' Below (length m.instances) 0 b stands refl lives ds ss EndProgram h.start (body.body).0 body.stop (body.body).1 (body.body).2
       (ends_at s code m' fs' Below (length m.instances) 0 (plainly 0 b) (own_end s code 0) EndProgram [] body.stop [] (record { first = refl; last = body.last; at = body.ends; none = refl; below = record { still = refl; is = refl } })) in
-      let pair = instance_at s code agrees 0 single block_kind.SubBlock type.Nothing b heads found (ap (λ z. passes z (is_class_free s 0)) is) refl (laid s code compiled 0 (BlockText begin ds ss) is refl) None cells (machine.first_cells b) (block_first s code agrees 0 begin ds ss block_kind.SubBlock type.Nothing b is heads) (ap (λ z. map key_of (cells_in s 0 z)) (sym is)) (first_size s code agrees 0 single block_kind.SubBlock type.Nothing b heads) (first_none s code agrees 0 single block_kind.SubBlock type.Nothing b heads) in
-      going (enters s code m fs a new frame (NoObject None) (NoObject None) refl (parked_entered s code m fs a new frame (NoObject None) (NoObject None) refl tt parked) [] [] 0 (plainly 0 b) pair
+      let pair = instance_at s code agrees 0 single block_kind.SubBlock type.Nothing b heads found (ap (λ z. passes z (is_class_free s 0)) is) refl (solid_there s agrees 0 (BlockText begin ds ss) is refl) (laid s code compiled 0 (BlockText begin ds ss) is refl) None cells (machine.first_cells b) (block_first s code agrees 0 begin ds ss block_kind.SubBlock type.Nothing b is heads) (ap (λ z. map key_of (cells_in s 0 z)) (sym is)) (first_size s code agrees 0 single block_kind.SubBlock type.Nothing b heads) (first_none s code agrees 0 single block_kind.SubBlock type.Nothing b heads) in
+      subst (λ z. Alike R (Going p _) (Going z _)) (sym (plain_begun code b heads.is_kind p)) (going (enters s code m fs a new frame (NoObject None) (NoObject None) refl (parked_entered s code m fs a new frame (NoObject None) (NoObject None) refl tt parked) [] [] 0 (plainly 0 b) pair
       found stands stands refl room (Do PastOp ∷ block_work s m' (length m.instances) ds ss EndProgram) (own_end s code 0) b.entry
       (pends s code m' fs' Below (length m.instances) 0 (plainly 0 b) (own_end s code 0) low (block_work s m' (length m.instances) ds ss EndProgram) PastOp b.entry h.start [] []
-      (h.start, record { line = line_at s begin; is = h.enter }, record { forward = ahead; there = start }, refl) work))))
+      (h.start, record { line = line_at s begin; is = h.enter }, record { forward = ahead; there = start }, refl) work)))))
     where
       same_line : (x : Lined) → slice_get code.instrs b.entry ≡ Some x → slice_get code.instrs b.entry ≡ Some (lined (i.Jump (pos h.start)) (line_at s begin)) → x.line.0 ≡ line_at s begin
       same_line x e f = let same : x ≡ lined (i.Jump (pos h.start)) (line_at s begin) = cc in ap (λ z. z.line.0) same
@@ -151,26 +156,35 @@ module _ (s : Source) (code : CodeOf) (compiled : Compiled s code) (l : Limits) 
   pub when_equal : (b b' : Bool) (r : Run Configuration) (q : Run Machine) → b' ≡ b → Alike R r q → Alike R (when b o r) (when b' o q)
   when_equal b b' r q e h = subst (λ c. Alike R (when b o r) (when c o q)) (sym e) (alike_when Configuration Machine R b o r q h)
 
-  first_some : (m : Instances) (fs : Frames) → StoreAt s code m fs → StandingsAt s code m fs → (x : Text) → text s 0 ≡ Some x → Alike R (program_entered s l o m (Some x)) (rows.program_block code o (λ b z x. entering l x.line.0 (words_of_block b) o (λ p. machine.in_new p fs 0 b b.entry z (NoObject None) None (machine.first_cells b) [])))
+  when_so : (c : Bool) (r : Run Configuration) (q : Run Machine) → (c ≡ true → Alike R r q) → Alike R (when c o r) (when c o q)
+  unfolding when no_rule
+  when_so true r q h = h refl
+  when_so false r q h = unruled
+
+  -- before the first step there is no instance
+  when_empty : (n n' : ℕ) (r : Run Configuration) (q : Run Machine) → n' ≡ n → (n ≡ 0 → Alike R r q) → Alike R (when (n == 0) o r) (when (n' == 0) o q)
+  when_empty n n' r q e h = subst (λ z. Alike R (when (n == 0) o r) (when (z == 0) o q)) (sym e) (when_so (n == 0) r q (λ f. h (grind (arith, f))))
+
+  first_some : (m : Instances) (fs : Frames) → StoreAt s code m fs → StandingsAt s code m fs → length m.instances ≡ 0 → (x : Text) → text s 0 ≡ Some x → Alike R (program_entered s l o m (Some x)) (rows.program_block code o (λ b z x. entering l x.line.0 (words_of_block b) o (λ p. machine.in_new (rows.program_begun code b p) fs 0 b b.entry z (NoObject None) None (machine.first_cells b) [])))
   unfolding block_number no_rule
-  first_some m fs a parked (BlockText begin ds ss) is = let c = code_there s code compiled 0 (BlockText begin ds ss) is refl in first_block m fs a parked begin ds ss is c.block c.found c.has
-  first_some m fs a parked (ProcedureText result h body) is = unruled
-  first_some m fs a parked (ClassText prefix h ds ss) is = unruled
-  first_some m fs a parked (PrefixedText class arguments ds ss) is = let c = code_there s code compiled 0 (PrefixedText class arguments ds ss) is refl in first_prefixed s code compiled l o m fs a parked class arguments ds ss is c.block c.found c.has
-  first_some m fs a parked ConnectionText is = unruled
-  first_some m fs a parked (StandardText which) is = unruled
+  first_some m fs a parked empty (BlockText begin ds ss) is = let c = code_there s code compiled 0 (BlockText begin ds ss) is refl in first_block m fs a parked begin ds ss is c.block c.found c.has
+  first_some m fs a parked empty (ProcedureText result h body) is = unruled
+  first_some m fs a parked empty (ClassText prefix h ds ss) is = unruled
+  first_some m fs a parked empty (PrefixedText class arguments ds ss) is = let c = code_there s code compiled 0 (PrefixedText class arguments ds ss) is refl in first_prefixed s code compiled l o m fs a parked empty class arguments ds ss is c.block c.found c.has
+  first_some m fs a parked empty ConnectionText is = unruled
+  first_some m fs a parked empty (StandardText which) is = unruled
 
   -- both enter the program's block
   pub first_alike : (m : Instances) (fs : Frames) → StoreAt s code m fs → StandingsAt s code m fs → Alike R (first_step s l o m) (rows.first_step code l o fs)
   unfolding text
   first_alike m fs a parked =
       let x = first_text s.program.prefix s.program.block in
-      when_equal (length m.instances == 0) (length fs.instances == 0) (program_entered s l o m (text s 0)) _ (ap (λ n. n == 0) (sym a.as_many))
-      (subst (λ z. Alike R (program_entered s l o m z) (rows.program_block code o (λ b z x. entering l x.line.0 (words_of_block b) o (λ p. machine.in_new p fs 0 b b.entry z (NoObject None) None (machine.first_cells b) [])))) (sym x.1) (first_some m fs a parked x.0 x.1))
+      when_empty (length m.instances) (length fs.instances) (program_entered s l o m (text s 0)) _ (sym a.as_many)
+      (λ empty. subst (λ z. Alike R (program_entered s l o m z) (rows.program_block code o (λ b z x. entering l x.line.0 (words_of_block b) o (λ p. machine.in_new (rows.program_begun code b p) fs 0 b b.entry z (NoObject None) None (machine.first_cells b) [])))) (sym x.1) (first_some m fs a parked empty x.0 x.1))
 
 -- ---- entries from an instance
 
-module _ (s : Source) (code : CodeOf) (compiled : Compiled s code) (l : Limits) (o : World) (m : Instances) (inst : ℕ) (w : List Item) (vals : List Val) (rest : List Activation) (fs : Frames) (t : ℕ) (b : Runs) (pc : ℕ) (stack : List Value) (below : List machine.Activation) (ks : List Kind) (here : Here s code m fs inst rest t b ks vals stack) (u q : ℕ) (ks' : List Kind) (low : own_end s code (frame_text s t) ≤ u) (work : WorkAt s code m fs (λ v. ChainAt s code m fs rest v below) inst t b u w q ks') where
+module _ (s : Source) (code : CodeOf) (compiled : Compiled s code) (l : Limits) (o : World) (m : Instances) (inst : ℕ) (w : List Item) (vals : List Val) (rest : List Activation) (fs : Frames) (t : ℕ) (b : Runs) (pc : ℕ) (stack : List Value) (below : List machine.Activation) (ks : List Kind) (here : Here s code m fs inst rest t b ks vals stack) (u q : ℕ) (ks' : List Kind) (low : Settled s code t b u) (work : WorkAt s code m fs (λ v. ChainAt s code m fs rest v below) inst t b u w q ks') where
   abbrev Related : Configuration → Machine → Type 0
   Related = StateAt s code
 
@@ -229,7 +243,7 @@ module _ (s : Source) (code : CodeOf) (compiled : Compiled s code) (l : Limits) 
       let stands : Stands s m' (length m.instances) (suc k) = new_inside s m (suc k) inst t new (NoObject None) (sym own) refl refl (ap (encloser s.tables) own ∙ around) here.stands in
       let lives : Lives m' (length m.instances) = new_lives_inside m new (NoObject None) refl inst refl here.lives in
       let waiting_chain = chain_entered s code m fs here.store new frame (NoObject None) (NoObject None) refl chain false under (waits false ks vals stack here.values (λ no. absurd (cc)) e at.on) in
-      let pair = instance_at s code agrees (suc k) single block_kind.SubBlock type.Nothing new_block heads c.found (ap (λ z. passes z (is_class_free s (suc k))) is) own (laid s code compiled (suc k) (BlockText begin ds ss) is refl) (Some inst) cells (machine.first_cells new_block) (block_first s code agrees (suc k) begin ds ss block_kind.SubBlock type.Nothing new_block is heads) (ap (λ z. map key_of (cells_in s (suc k) z)) (sym is)) (first_size s code agrees (suc k) single block_kind.SubBlock type.Nothing new_block heads) (first_none s code agrees (suc k) single block_kind.SubBlock type.Nothing new_block heads) in
+      let pair = instance_at s code agrees (suc k) single block_kind.SubBlock type.Nothing new_block heads c.found (ap (λ z. passes z (is_class_free s (suc k))) is) own (solid_there s agrees (suc k) (BlockText begin ds ss) is refl) (laid s code compiled (suc k) (BlockText begin ds ss) is refl) (Some inst) cells (machine.first_cells new_block) (block_first s code agrees (suc k) begin ds ss block_kind.SubBlock type.Nothing new_block is heads) (ap (λ z. map key_of (cells_in s (suc k) z)) (sym is)) (first_size s code agrees (suc k) single block_kind.SubBlock type.Nothing new_block heads) (first_none s code agrees (suc k) single block_kind.SubBlock type.Nothing new_block heads) in
       going (enters s code m fs here.store new frame (NoObject None) (NoObject None) refl (parked_entered s code m fs here.store new frame (NoObject None) (NoObject None) refl tt here.parked) chain under (suc k) (plainly (suc k) new_block) pair
       (ap (λ z. slice_get code.blocks (block_number s z)) own ∙ c.found) stands stands refl room (block_work s m' (length m.instances) ds ss EndBlock) (own_end s code (suc k)) new_block.entry
       (block_pends s code compiled m' fs' Below (length m.instances) (suc k) new_block stands own lives ds ss EndBlock new_block.entry (body.body).0 body.stop (body.body).1 (body.body).2
@@ -337,9 +351,9 @@ module _ (s : Source) (code : CodeOf) (compiled : Compiled s code) (l : Limits) 
         let none : (c : ℕ) → length (cells_in s k (text s k)) ≤ c → c < length (own_part s k) → joined (slice_get cells' c) ≡ None = λ c le lt.
         (let past : results result + length values' ≤ c = omega (arith, le, n, fit, many, count) in
         ap joined (put_behind (results result) values' (machine.first_cells new_block) c past) ∙ first_none s code agrees k single block_kind.Procedure (type_of_name result) new_block heads c le lt) in
-        let pair = instance_at s code agrees k single block_kind.Procedure (type_of_name result) new_block heads found (ap (λ z. passes z (is_class_free s k)) is) own (laid s code compiled k (ProcedureText result heading body) is refl) (Some j) cells_written.now cells' cells_written.at (cells_written.keys ∙ ap (λ z. map key_of (cells_in s k z)) (sym is)) size none in
-        let low' = used_low s code agrees k own in
+        let pair = instance_at s code agrees k single block_kind.Procedure (type_of_name result) new_block heads found (ap (λ z. passes z (is_class_free s k)) is) own (solid_there s agrees k (ProcedureText result heading body) is refl) (laid s code compiled k (ProcedureText result heading body) is refl) (Some j) cells_written.now cells' cells_written.at (cells_written.keys ∙ ap (λ z. map key_of (cells_in s k z)) (sym is)) size none in
         let used = own_end s code k in
+        let low' : Settled s code k (plainly k new_block) used = record { low = used_low s code agrees k own; calm = refl } in
         enters s code kept_m kept_fs kept.store new frame (NoObject None) (NoObject None) refl (parked_entered s code kept_m kept_fs kept.store new frame (NoObject None) (NoObject None) refl tt parked_kept) chain under k (plainly k new_block) pair (ap (λ z. slice_get code.blocks (block_number s z)) own ∙ found) stands stands refl room (Do (Exec body) ∷ EndProcedure (has_result result) ∷ []) used new_block.entry
         (pends s code m' fs' Below (length kept_m.instances) k (plainly k new_block) used low' (EndProcedure (has_result result) ∷ []) (Exec body) new_block.entry code_body.stop [] [] (straight code_body.body, refl)
         (ends_at s code m' fs' Below (length kept_m.instances) k (plainly k new_block) used (EndProcedure (has_result result)) [] code_body.stop []
@@ -380,6 +394,7 @@ module _ (s : Source) (code : CodeOf) (compiled : Compiled s code) (l : Limits) 
   link_found Located text e v x h = absurd e
   link_found (Refers k) text e v x h = absurd e
   link_found (FixedOf d) text e v x h = absurd e
+  link_found (LinkOf j) text e v x h = absurd e
 
   called_at : (k n line : ℕ) (a : CallOpIs s code (site_at t b u) k n line pc q ks ks') → (values : List Val) (values' : List Value) → EachAt ValAt values values' → length values ≡ n → (v : Val) (x : Value) (vals2 : List Val) (stack2 : List Value) → LinkFound a.text v x → StackAt (HandAt s code m) a.left vals2 stack2
       → Alike Related (having (instance_in v) o (λ j. when (is_live m j) o (procedure_entered s l o m inst w vals2 rest k line values j (text s k))))

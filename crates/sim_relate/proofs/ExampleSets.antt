@@ -1,9 +1,11 @@
 -- The code of a program with a set stands for it: `simset` in front of its block, and the classes that it brings.
 use Rattle.std.proofs.Common.{Bool, true, ◌≡◌, ◌<◌, ◌≤◌, ℕ, zero, suc, [], Option, Some, None, refl, ap, ◌∙◌, subst, arith, false, sym}
 use Rattle.std.specs.Prelude.{pos, slice_get}
+use Rattle.sim_scope.specs.declared.types.StandardClass.{StandardClass}
+use Rattle.sim_scope.specs.declared.types.StandardClass.TheVariants as standard
 use Rattle.sim_scope.specs.declared.types.SimType.{SimType}
-use Rattle.sim_meaning.specs.Texts.{Text, text, is_class_free, declared_at, constant_of, standard_texts}
-use Rattle.codegen_expr.specs.Sites.{LevelOf, Site, block_number, innermost, itself, slot_of, is_connected, prefix_of, frame_text, hidden_in, block_in_front, class_number}
+use Rattle.sim_meaning.specs.Texts.{Text, text, is_class_free, declared_at, constant_of, standard_texts, StandardText}
+use Rattle.codegen_expr.specs.Sites.{LevelOf, Site, block_number, innermost, itself, slot_of, is_connected, prefix_of, outer as beyond, frame_text, hidden_in, block_in_front, class_number}
 use Rattle.codegen.specs.Agrees.{Agrees, Ends, PrefixThere, is_prefixed, before, last as one_level}
 use Rattle.codegen.specs.Compiled.{CodeHas, Compiled}
 use Rattle.sim_relate.proofs.Placed.{ins, push}
@@ -30,7 +32,7 @@ use Rattle.sim_scope.specs.Source.{source_of, denoted, type_at, line_at, level_o
 use Rattle.sim_scope.specs.Standard.{standard_name, text_attribute, sysin_attribute, sysout_attribute, signature, is_real_function, is_random_drawing, is_file_or_layout, is_environment_name, undeclared, standard_prefix}
 use Rattle.sim_scope.specs.Walk.{program_events, of_statement, of_branch, of_arm, of_block, of_whole, of_class_body, of_declaration}
 use Rattle.sim_meaning.specs.Attributes.{connection_at, is_connection, own_attribute, transfer_at}
-use Rattle.sim_meaning.specs.Levels.{has_levels, is_class, levels_of, levels, is_in, is_of, has_procedure, belongs, class_at, qualification}
+use Rattle.sim_meaning.specs.Levels.{has_levels, is_class, levels_of, levels, is_in, is_of, has_procedure, belongs, class_at, qualification, is_process_text}
 use Rattle.sim_scope.specs.Assignments.{fine, wrong, no_target, targets, assigned_to, call_assigned, target, sign_agrees, with_left, lefts, compared, assigned}
 use Rattle.sim_scope.specs.Found.{precedes, found}
 use Rattle.sim_relate.proofs.ExampleTables.{all_at, all_of, apart, not_both, not_some, once_at}
@@ -134,24 +136,24 @@ Has k None = Unit {0}
 Has k (Some x) = CodeHas own_set own_set_code k x (slice_get own_set_code.blocks (block_number own_set k))
 
 program_stands : Has 0 (text own_set 0)
-unfolding digits element_place making_array copying_array keeping_array finding_element giving_back handed_over stopping no_rule ticking taking entering having when computing choosing popping pop_many pop_plain pop_truth pop_integers pop_operands pop_text answering applying_one applying_two testing_step performing at_level kept_on pushing index level_of_machine cell_at jumping block_at own_block leaving with_result putting is_text home_of first_cells leaving_of_meaning constants_of text_constants putting_of_steps text is_class_free declared_at constant_of calculate compare compare_as_texts connect same_objects same_texts two_of one_of step_test take_integer take_character take_text take_nothing row_of standard_effect default_mode mode_allowed marked type_named result_named mode_named first_of_procedure first_of_class variable_marks array_marks parameter_marks moded_marks specified_marks headed_marks procedure_marks class_marks virtual_name_marks program_marks inner_marks declaring of_segment of_mode_part of_specification of_specifier of_virtual of_heading declared_by declarations_of run_of_runs lookup shown_of_scopes encloser searched block_at_of_scopes declaration_from binding entry_of formals_of formal_of result_of source_of denoted type_at line_at level_of block_of block_around standard_name text_attribute sysin_attribute sysout_attribute signature is_real_function is_random_drawing is_file_or_layout is_environment_name undeclared program_events of_statement of_branch of_arm of_block of_whole of_class_body of_declaration block_number slot_of accessible protects is_kind some_around_of some_around base brought_by level_shows shown_of is_detach ends_search outward virtual_of represented standard_at qualified_marks qualified_result connection_at own_attribute transfer_at levels_of levels is_in is_of has_procedure belongs class_at qualification stream_of is_variable is_attribute own_result result_meant standard_texts text_constant found_at shows_detach if_found found_in is_passed_over class_formals_of class_formals class_formal some_level_of has_level holds_class has_classes has_standard is_simulation_block is_for_prefixing simulation_level_of class_block is_in_chain on_one_chain shared_level_of shared_class names_hidden protector_of protector hides opens is_open fine wrong no_target targets assigned_to call_assigned target sign_agrees with_left lefts compared assigned precedes found is_connected prefix_of frame_text hidden_in block_in_front class_number putting_back assigning making_text joining put_back back_of_steps is_inside class_prefix_marks prefixed_marks prefix_marks standard_marks marks_of_standard standard_prefix object_ended pop_object qualifying referring first_along is_this this_block this_of with_entry_at putting_reference brings_class provides_attribute brought_marks
-program_stands = record { heads = record { is_kind = refl; level = refl; cells = refl; class_free = refl; gives = refl; formals = refl; temps = []; types = refl; counted = refl; roomy = le_0_6 }; alone = refl; class = the_program; is = record { numbered = refl; of_block = refl; prefix = refl; lower = lt_0_1; no_process = refl; no_matches = refl }; enter = record { at = refl; on = refl }; level = record { place = 0; placed = refl; x = 1; y = 2; declared_there = lt_1_31; declared = refl; next = ins own_set_code (i.NextDecl (pos 0)) 0 1 refl; stated_there = lt_2_31; stop = 14; stated = record { x = 13; statements = (7, (3, ins own_set_code (i.Tick) 0 2 refl, (4, record { address = push own_set_code outer 0 (i.Addr (pos 1) (pos 0) (pos 5)) 0 3 lt_0_6 refl; inside = itself; within = lt_0_1 }, (6, record { x = 5; y = 5; link = push own_set_code outer 1 (i.Link (pos 1)) 0 4 lt_1_6 refl; inside = itself; actuals = refl; new = record { at = refl; on = refl } }, record { at = refl; on = refl }))), (13, (8, 13, ins own_set_code (i.Tick) 0 7 refl, (refl, (12, (11, (refl, record { x = 9; y = 10; z = 10; named = record { is_name = refl; as_many = refl; leaves = refl }; object = (refl, record { load = push own_set_code outer 0 (i.Load (pos 1) (pos 0)) 0 8 lt_0_6 refl; inside = itself; within = lt_0_1 }); there = record { at = refl; on = refl }; actuals = refl; number = 59; numbered = refl; done = record { at = refl; on = refl } }), (12, push own_set_code outer 1 (i.Int (pos 2)) 0 11 lt_1_6 refl, refl)), record { as_many = refl; number = 40; numbered = refl; is = record { at = refl; on = refl }; fits = λ e. absurd (cc) })), refl), refl)); inner = ins own_set_code (i.Inner (pos 0)) 0 13 refl; on = refl }; behind_there = lt_14_31; last = 15; ends = ins own_set_code (i.EndLevel (pos 0)) 0 14 refl } }
+unfolding digits element_place making_array copying_array keeping_array finding_element giving_back handed_over stopping no_rule ticking taking entering having when computing choosing popping pop_many pop_plain pop_truth pop_integers pop_operands pop_text answering applying_one applying_two testing_step performing at_level kept_on pushing index level_of_machine cell_at jumping block_at own_block leaving with_result putting is_text home_of first_cells leaving_of_meaning constants_of text_constants putting_of_steps text is_class_free declared_at constant_of calculate compare compare_as_texts connect same_objects same_texts two_of one_of step_test take_integer take_character take_text take_nothing row_of standard_effect default_mode mode_allowed marked type_named result_named mode_named first_of_procedure first_of_class variable_marks array_marks parameter_marks moded_marks specified_marks headed_marks procedure_marks class_marks virtual_name_marks program_marks inner_marks declaring of_segment of_mode_part of_specification of_specifier of_virtual of_heading declared_by declarations_of run_of_runs lookup shown_of_scopes encloser searched block_at_of_scopes declaration_from binding entry_of formals_of formal_of result_of source_of denoted type_at line_at level_of block_of block_around standard_name text_attribute sysin_attribute sysout_attribute signature is_real_function is_random_drawing is_file_or_layout is_environment_name undeclared program_events of_statement of_branch of_arm of_block of_whole of_class_body of_declaration block_number slot_of accessible protects is_kind some_around_of some_around base brought_by level_shows shown_of is_detach ends_search outward virtual_of represented standard_at qualified_marks qualified_result connection_at own_attribute transfer_at levels_of levels is_in is_of has_procedure belongs class_at qualification stream_of is_variable is_attribute own_result result_meant standard_texts text_constant found_at shows_detach if_found found_in is_passed_over class_formals_of class_formals class_formal some_level_of has_level holds_class has_classes has_standard is_simulation_block is_for_prefixing simulation_level_of class_block is_in_chain on_one_chain shared_level_of shared_class names_hidden protector_of protector hides opens is_open fine wrong no_target targets assigned_to call_assigned target sign_agrees with_left lefts compared assigned precedes found is_connected prefix_of frame_text hidden_in block_in_front class_number putting_back assigning making_text joining put_back back_of_steps is_inside class_prefix_marks prefixed_marks prefix_marks standard_marks marks_of_standard standard_prefix object_ended pop_object qualifying referring first_along is_this this_block this_of with_entry_at putting_reference brings_class provides_attribute brought_marks is_process_text
+program_stands = record { heads = record { is_kind = refl; level = refl; cells = refl; class_free = refl; gives = refl; formals = refl; temps = []; types = refl; counted = refl; roomy = le_0_6 }; alone = refl; class = the_program; is = record { numbered = refl; of_block = refl; prefix = refl; lower = lt_0_1; process = refl; no_matches = refl }; enter = record { at = refl; on = refl }; level = record { place = 0; placed = refl; x = 1; y = 2; declared_there = lt_1_31; declared = refl; next = ins own_set_code (i.NextDecl (pos 0)) 0 1 refl; stated_there = lt_2_31; stop = 14; stated = record { x = 13; statements = (7, (3, ins own_set_code (i.Tick) 0 2 refl, (4, record { address = push own_set_code outer 0 (i.Addr (pos 1) (pos 0) (pos 5)) 0 3 lt_0_6 refl; inside = itself; within = lt_0_1 }, (6, record { x = 5; y = 5; link = push own_set_code outer 1 (i.Link (pos 1)) 0 4 lt_1_6 refl; inside = itself; actuals = refl; new = record { at = refl; on = refl } }, record { at = refl; on = refl }))), (13, (8, 13, ins own_set_code (i.Tick) 0 7 refl, (refl, (12, (11, (refl, record { x = 9; y = 10; z = 10; named = record { is_name = refl; as_many = refl; leaves = refl }; object = (refl, record { load = push own_set_code outer 0 (i.Load (pos 1) (pos 0)) 0 8 lt_0_6 refl; inside = itself; within = lt_0_1 }); there = record { at = refl; on = refl }; actuals = refl; number = 59; numbered = refl; done = record { at = refl; on = refl } }), (12, push own_set_code outer 1 (i.Int (pos 2)) 0 11 lt_1_6 refl, refl)), record { as_many = refl; number = 40; numbered = refl; is = record { at = refl; on = refl }; fits = λ e. absurd (cc) })), refl), refl)); inner = ins own_set_code (i.Inner (pos 0)) 0 13 refl; on = refl }; behind_there = lt_14_31; last = 15; ends = ins own_set_code (i.EndLevel (pos 0)) 0 14 refl } }
 
 linkage_stands : Has 1 (text own_set 1)
-unfolding digits element_place making_array copying_array keeping_array finding_element giving_back handed_over stopping no_rule ticking taking entering having when computing choosing popping pop_many pop_plain pop_truth pop_integers pop_operands pop_text answering applying_one applying_two testing_step performing at_level kept_on pushing index level_of_machine cell_at jumping block_at own_block leaving with_result putting is_text home_of first_cells leaving_of_meaning constants_of text_constants putting_of_steps text is_class_free declared_at constant_of calculate compare compare_as_texts connect same_objects same_texts two_of one_of step_test take_integer take_character take_text take_nothing row_of standard_effect default_mode mode_allowed marked type_named result_named mode_named first_of_procedure first_of_class variable_marks array_marks parameter_marks moded_marks specified_marks headed_marks procedure_marks class_marks virtual_name_marks program_marks inner_marks declaring of_segment of_mode_part of_specification of_specifier of_virtual of_heading declared_by declarations_of run_of_runs lookup shown_of_scopes encloser searched block_at_of_scopes declaration_from binding entry_of formals_of formal_of result_of source_of denoted type_at line_at level_of block_of block_around standard_name text_attribute sysin_attribute sysout_attribute signature is_real_function is_random_drawing is_file_or_layout is_environment_name undeclared program_events of_statement of_branch of_arm of_block of_whole of_class_body of_declaration block_number slot_of accessible protects is_kind some_around_of some_around base brought_by level_shows shown_of is_detach ends_search outward virtual_of represented standard_at qualified_marks qualified_result connection_at own_attribute transfer_at levels_of levels is_in is_of has_procedure belongs class_at qualification stream_of is_variable is_attribute own_result result_meant standard_texts text_constant found_at shows_detach if_found found_in is_passed_over class_formals_of class_formals class_formal some_level_of has_level holds_class has_classes has_standard is_simulation_block is_for_prefixing simulation_level_of class_block is_in_chain on_one_chain shared_level_of shared_class names_hidden protector_of protector hides opens is_open fine wrong no_target targets assigned_to call_assigned target sign_agrees with_left lefts compared assigned precedes found is_connected prefix_of frame_text hidden_in block_in_front class_number putting_back assigning making_text joining put_back back_of_steps is_inside class_prefix_marks prefixed_marks prefix_marks standard_marks marks_of_standard standard_prefix object_ended pop_object qualifying referring first_along is_this this_block this_of with_entry_at putting_reference brings_class provides_attribute brought_marks
-linkage_stands = record { heads = record { is_kind = refl; level = refl; cells = refl; class_free = refl; gives = refl; formals = refl; temps = []; types = refl; counted = refl; roomy = le_0_6 }; marked = refl; class = the_linkage; is = record { numbered = refl; of_block = refl; prefix = refl; lower = lt_0_2; no_process = refl; no_matches = refl }; level = record { place = 0; placed = refl; x = 15; y = 16; declared_there = lt_15_31; declared = refl; next = ins own_set_code (i.NextDecl (pos 0)) 0 15 refl; stated_there = lt_16_31; stop = 17; stated = record { x = 16; statements = refl; inner = ins own_set_code (i.Inner (pos 0)) 0 16 refl; on = refl }; behind_there = lt_17_31; last = 18; ends = ins own_set_code (i.EndLevel (pos 0)) 0 17 refl } }
+unfolding digits element_place making_array copying_array keeping_array finding_element giving_back handed_over stopping no_rule ticking taking entering having when computing choosing popping pop_many pop_plain pop_truth pop_integers pop_operands pop_text answering applying_one applying_two testing_step performing at_level kept_on pushing index level_of_machine cell_at jumping block_at own_block leaving with_result putting is_text home_of first_cells leaving_of_meaning constants_of text_constants putting_of_steps text is_class_free declared_at constant_of calculate compare compare_as_texts connect same_objects same_texts two_of one_of step_test take_integer take_character take_text take_nothing row_of standard_effect default_mode mode_allowed marked type_named result_named mode_named first_of_procedure first_of_class variable_marks array_marks parameter_marks moded_marks specified_marks headed_marks procedure_marks class_marks virtual_name_marks program_marks inner_marks declaring of_segment of_mode_part of_specification of_specifier of_virtual of_heading declared_by declarations_of run_of_runs lookup shown_of_scopes encloser searched block_at_of_scopes declaration_from binding entry_of formals_of formal_of result_of source_of denoted type_at line_at level_of block_of block_around standard_name text_attribute sysin_attribute sysout_attribute signature is_real_function is_random_drawing is_file_or_layout is_environment_name undeclared program_events of_statement of_branch of_arm of_block of_whole of_class_body of_declaration block_number slot_of accessible protects is_kind some_around_of some_around base brought_by level_shows shown_of is_detach ends_search outward virtual_of represented standard_at qualified_marks qualified_result connection_at own_attribute transfer_at levels_of levels is_in is_of has_procedure belongs class_at qualification stream_of is_variable is_attribute own_result result_meant standard_texts text_constant found_at shows_detach if_found found_in is_passed_over class_formals_of class_formals class_formal some_level_of has_level holds_class has_classes has_standard is_simulation_block is_for_prefixing simulation_level_of class_block is_in_chain on_one_chain shared_level_of shared_class names_hidden protector_of protector hides opens is_open fine wrong no_target targets assigned_to call_assigned target sign_agrees with_left lefts compared assigned precedes found is_connected prefix_of frame_text hidden_in block_in_front class_number putting_back assigning making_text joining put_back back_of_steps is_inside class_prefix_marks prefixed_marks prefix_marks standard_marks marks_of_standard standard_prefix object_ended pop_object qualifying referring first_along is_this this_block this_of with_entry_at putting_reference brings_class provides_attribute brought_marks is_process_text
+linkage_stands = record { heads = record { is_kind = refl; level = refl; cells = refl; class_free = refl; gives = refl; formals = refl; temps = []; types = refl; counted = refl; roomy = le_0_6 }; marked = refl; class = the_linkage; is = record { numbered = refl; of_block = refl; prefix = refl; lower = lt_0_2; process = refl; no_matches = refl }; level = record { place = 0; placed = refl; x = 15; y = 16; declared_there = lt_15_31; declared = refl; next = ins own_set_code (i.NextDecl (pos 0)) 0 15 refl; stated_there = lt_16_31; stop = 17; stated = record { x = 16; statements = refl; inner = ins own_set_code (i.Inner (pos 0)) 0 16 refl; on = refl }; behind_there = lt_17_31; last = 18; ends = ins own_set_code (i.EndLevel (pos 0)) 0 17 refl } }
 
 link_stands : Has 2 (text own_set 2)
-unfolding digits element_place making_array copying_array keeping_array finding_element giving_back handed_over stopping no_rule ticking taking entering having when computing choosing popping pop_many pop_plain pop_truth pop_integers pop_operands pop_text answering applying_one applying_two testing_step performing at_level kept_on pushing index level_of_machine cell_at jumping block_at own_block leaving with_result putting is_text home_of first_cells leaving_of_meaning constants_of text_constants putting_of_steps text is_class_free declared_at constant_of calculate compare compare_as_texts connect same_objects same_texts two_of one_of step_test take_integer take_character take_text take_nothing row_of standard_effect default_mode mode_allowed marked type_named result_named mode_named first_of_procedure first_of_class variable_marks array_marks parameter_marks moded_marks specified_marks headed_marks procedure_marks class_marks virtual_name_marks program_marks inner_marks declaring of_segment of_mode_part of_specification of_specifier of_virtual of_heading declared_by declarations_of run_of_runs lookup shown_of_scopes encloser searched block_at_of_scopes declaration_from binding entry_of formals_of formal_of result_of source_of denoted type_at line_at level_of block_of block_around standard_name text_attribute sysin_attribute sysout_attribute signature is_real_function is_random_drawing is_file_or_layout is_environment_name undeclared program_events of_statement of_branch of_arm of_block of_whole of_class_body of_declaration block_number slot_of accessible protects is_kind some_around_of some_around base brought_by level_shows shown_of is_detach ends_search outward virtual_of represented standard_at qualified_marks qualified_result connection_at own_attribute transfer_at levels_of levels is_in is_of has_procedure belongs class_at qualification stream_of is_variable is_attribute own_result result_meant standard_texts text_constant found_at shows_detach if_found found_in is_passed_over class_formals_of class_formals class_formal some_level_of has_level holds_class has_classes has_standard is_simulation_block is_for_prefixing simulation_level_of class_block is_in_chain on_one_chain shared_level_of shared_class names_hidden protector_of protector hides opens is_open fine wrong no_target targets assigned_to call_assigned target sign_agrees with_left lefts compared assigned precedes found is_connected prefix_of frame_text hidden_in block_in_front class_number putting_back assigning making_text joining put_back back_of_steps is_inside class_prefix_marks prefixed_marks prefix_marks standard_marks marks_of_standard standard_prefix object_ended pop_object qualifying referring first_along is_this this_block this_of with_entry_at putting_reference brings_class provides_attribute brought_marks
-link_stands = record { heads = record { is_kind = refl; level = refl; cells = refl; class_free = refl; gives = refl; formals = refl; temps = []; types = refl; counted = refl; roomy = le_6_6 }; marked = refl; class = the_link; is = record { numbered = refl; of_block = refl; prefix = refl; lower = lt_2_3; no_process = refl; no_matches = refl }; level = record { place = 1; placed = refl; x = 18; y = 19; declared_there = lt_18_31; declared = refl; next = ins own_set_code (i.NextDecl (pos 1)) 0 18 refl; stated_there = lt_19_31; stop = 20; stated = record { x = 19; statements = refl; inner = ins own_set_code (i.Inner (pos 1)) 0 19 refl; on = refl }; behind_there = lt_20_31; last = 21; ends = ins own_set_code (i.EndLevel (pos 1)) 0 20 refl } }
+unfolding digits element_place making_array copying_array keeping_array finding_element giving_back handed_over stopping no_rule ticking taking entering having when computing choosing popping pop_many pop_plain pop_truth pop_integers pop_operands pop_text answering applying_one applying_two testing_step performing at_level kept_on pushing index level_of_machine cell_at jumping block_at own_block leaving with_result putting is_text home_of first_cells leaving_of_meaning constants_of text_constants putting_of_steps text is_class_free declared_at constant_of calculate compare compare_as_texts connect same_objects same_texts two_of one_of step_test take_integer take_character take_text take_nothing row_of standard_effect default_mode mode_allowed marked type_named result_named mode_named first_of_procedure first_of_class variable_marks array_marks parameter_marks moded_marks specified_marks headed_marks procedure_marks class_marks virtual_name_marks program_marks inner_marks declaring of_segment of_mode_part of_specification of_specifier of_virtual of_heading declared_by declarations_of run_of_runs lookup shown_of_scopes encloser searched block_at_of_scopes declaration_from binding entry_of formals_of formal_of result_of source_of denoted type_at line_at level_of block_of block_around standard_name text_attribute sysin_attribute sysout_attribute signature is_real_function is_random_drawing is_file_or_layout is_environment_name undeclared program_events of_statement of_branch of_arm of_block of_whole of_class_body of_declaration block_number slot_of accessible protects is_kind some_around_of some_around base brought_by level_shows shown_of is_detach ends_search outward virtual_of represented standard_at qualified_marks qualified_result connection_at own_attribute transfer_at levels_of levels is_in is_of has_procedure belongs class_at qualification stream_of is_variable is_attribute own_result result_meant standard_texts text_constant found_at shows_detach if_found found_in is_passed_over class_formals_of class_formals class_formal some_level_of has_level holds_class has_classes has_standard is_simulation_block is_for_prefixing simulation_level_of class_block is_in_chain on_one_chain shared_level_of shared_class names_hidden protector_of protector hides opens is_open fine wrong no_target targets assigned_to call_assigned target sign_agrees with_left lefts compared assigned precedes found is_connected prefix_of frame_text hidden_in block_in_front class_number putting_back assigning making_text joining put_back back_of_steps is_inside class_prefix_marks prefixed_marks prefix_marks standard_marks marks_of_standard standard_prefix object_ended pop_object qualifying referring first_along is_this this_block this_of with_entry_at putting_reference brings_class provides_attribute brought_marks is_process_text
+link_stands = record { heads = record { is_kind = refl; level = refl; cells = refl; class_free = refl; gives = refl; formals = refl; temps = []; types = refl; counted = refl; roomy = le_6_6 }; marked = refl; class = the_link; is = record { numbered = refl; of_block = refl; prefix = refl; lower = lt_2_3; process = refl; no_matches = refl }; level = record { place = 1; placed = refl; x = 18; y = 19; declared_there = lt_18_31; declared = refl; next = ins own_set_code (i.NextDecl (pos 1)) 0 18 refl; stated_there = lt_19_31; stop = 20; stated = record { x = 19; statements = refl; inner = ins own_set_code (i.Inner (pos 1)) 0 19 refl; on = refl }; behind_there = lt_20_31; last = 21; ends = ins own_set_code (i.EndLevel (pos 1)) 0 20 refl } }
 
 head_stands : Has 3 (text own_set 3)
-unfolding digits element_place making_array copying_array keeping_array finding_element giving_back handed_over stopping no_rule ticking taking entering having when computing choosing popping pop_many pop_plain pop_truth pop_integers pop_operands pop_text answering applying_one applying_two testing_step performing at_level kept_on pushing index level_of_machine cell_at jumping block_at own_block leaving with_result putting is_text home_of first_cells leaving_of_meaning constants_of text_constants putting_of_steps text is_class_free declared_at constant_of calculate compare compare_as_texts connect same_objects same_texts two_of one_of step_test take_integer take_character take_text take_nothing row_of standard_effect default_mode mode_allowed marked type_named result_named mode_named first_of_procedure first_of_class variable_marks array_marks parameter_marks moded_marks specified_marks headed_marks procedure_marks class_marks virtual_name_marks program_marks inner_marks declaring of_segment of_mode_part of_specification of_specifier of_virtual of_heading declared_by declarations_of run_of_runs lookup shown_of_scopes encloser searched block_at_of_scopes declaration_from binding entry_of formals_of formal_of result_of source_of denoted type_at line_at level_of block_of block_around standard_name text_attribute sysin_attribute sysout_attribute signature is_real_function is_random_drawing is_file_or_layout is_environment_name undeclared program_events of_statement of_branch of_arm of_block of_whole of_class_body of_declaration block_number slot_of accessible protects is_kind some_around_of some_around base brought_by level_shows shown_of is_detach ends_search outward virtual_of represented standard_at qualified_marks qualified_result connection_at own_attribute transfer_at levels_of levels is_in is_of has_procedure belongs class_at qualification stream_of is_variable is_attribute own_result result_meant standard_texts text_constant found_at shows_detach if_found found_in is_passed_over class_formals_of class_formals class_formal some_level_of has_level holds_class has_classes has_standard is_simulation_block is_for_prefixing simulation_level_of class_block is_in_chain on_one_chain shared_level_of shared_class names_hidden protector_of protector hides opens is_open fine wrong no_target targets assigned_to call_assigned target sign_agrees with_left lefts compared assigned precedes found is_connected prefix_of frame_text hidden_in block_in_front class_number putting_back assigning making_text joining put_back back_of_steps is_inside class_prefix_marks prefixed_marks prefix_marks standard_marks marks_of_standard standard_prefix object_ended pop_object qualifying referring first_along is_this this_block this_of with_entry_at putting_reference brings_class provides_attribute brought_marks
-head_stands = record { heads = record { is_kind = refl; level = refl; cells = refl; class_free = refl; gives = refl; formals = refl; temps = []; types = refl; counted = refl; roomy = le_6_6 }; marked = refl; class = the_head; is = record { numbered = refl; of_block = refl; prefix = refl; lower = lt_2_4; no_process = refl; no_matches = refl }; level = record { place = 1; placed = refl; x = 21; y = 22; declared_there = lt_21_31; declared = refl; next = ins own_set_code (i.NextDecl (pos 1)) 0 21 refl; stated_there = lt_22_31; stop = 23; stated = record { x = 22; statements = refl; inner = ins own_set_code (i.Inner (pos 1)) 0 22 refl; on = refl }; behind_there = lt_23_31; last = 24; ends = ins own_set_code (i.EndLevel (pos 1)) 0 23 refl } }
+unfolding digits element_place making_array copying_array keeping_array finding_element giving_back handed_over stopping no_rule ticking taking entering having when computing choosing popping pop_many pop_plain pop_truth pop_integers pop_operands pop_text answering applying_one applying_two testing_step performing at_level kept_on pushing index level_of_machine cell_at jumping block_at own_block leaving with_result putting is_text home_of first_cells leaving_of_meaning constants_of text_constants putting_of_steps text is_class_free declared_at constant_of calculate compare compare_as_texts connect same_objects same_texts two_of one_of step_test take_integer take_character take_text take_nothing row_of standard_effect default_mode mode_allowed marked type_named result_named mode_named first_of_procedure first_of_class variable_marks array_marks parameter_marks moded_marks specified_marks headed_marks procedure_marks class_marks virtual_name_marks program_marks inner_marks declaring of_segment of_mode_part of_specification of_specifier of_virtual of_heading declared_by declarations_of run_of_runs lookup shown_of_scopes encloser searched block_at_of_scopes declaration_from binding entry_of formals_of formal_of result_of source_of denoted type_at line_at level_of block_of block_around standard_name text_attribute sysin_attribute sysout_attribute signature is_real_function is_random_drawing is_file_or_layout is_environment_name undeclared program_events of_statement of_branch of_arm of_block of_whole of_class_body of_declaration block_number slot_of accessible protects is_kind some_around_of some_around base brought_by level_shows shown_of is_detach ends_search outward virtual_of represented standard_at qualified_marks qualified_result connection_at own_attribute transfer_at levels_of levels is_in is_of has_procedure belongs class_at qualification stream_of is_variable is_attribute own_result result_meant standard_texts text_constant found_at shows_detach if_found found_in is_passed_over class_formals_of class_formals class_formal some_level_of has_level holds_class has_classes has_standard is_simulation_block is_for_prefixing simulation_level_of class_block is_in_chain on_one_chain shared_level_of shared_class names_hidden protector_of protector hides opens is_open fine wrong no_target targets assigned_to call_assigned target sign_agrees with_left lefts compared assigned precedes found is_connected prefix_of frame_text hidden_in block_in_front class_number putting_back assigning making_text joining put_back back_of_steps is_inside class_prefix_marks prefixed_marks prefix_marks standard_marks marks_of_standard standard_prefix object_ended pop_object qualifying referring first_along is_this this_block this_of with_entry_at putting_reference brings_class provides_attribute brought_marks is_process_text
+head_stands = record { heads = record { is_kind = refl; level = refl; cells = refl; class_free = refl; gives = refl; formals = refl; temps = []; types = refl; counted = refl; roomy = le_6_6 }; marked = refl; class = the_head; is = record { numbered = refl; of_block = refl; prefix = refl; lower = lt_2_4; process = refl; no_matches = refl }; level = record { place = 1; placed = refl; x = 21; y = 22; declared_there = lt_21_31; declared = refl; next = ins own_set_code (i.NextDecl (pos 1)) 0 21 refl; stated_there = lt_22_31; stop = 23; stated = record { x = 22; statements = refl; inner = ins own_set_code (i.Inner (pos 1)) 0 22 refl; on = refl }; behind_there = lt_23_31; last = 24; ends = ins own_set_code (i.EndLevel (pos 1)) 0 23 refl } }
 
 row_stands : Has 4 (text own_set 4)
-unfolding digits element_place making_array copying_array keeping_array finding_element giving_back handed_over stopping no_rule ticking taking entering having when computing choosing popping pop_many pop_plain pop_truth pop_integers pop_operands pop_text answering applying_one applying_two testing_step performing at_level kept_on pushing index level_of_machine cell_at jumping block_at own_block leaving with_result putting is_text home_of first_cells leaving_of_meaning constants_of text_constants putting_of_steps text is_class_free declared_at constant_of calculate compare compare_as_texts connect same_objects same_texts two_of one_of step_test take_integer take_character take_text take_nothing row_of standard_effect default_mode mode_allowed marked type_named result_named mode_named first_of_procedure first_of_class variable_marks array_marks parameter_marks moded_marks specified_marks headed_marks procedure_marks class_marks virtual_name_marks program_marks inner_marks declaring of_segment of_mode_part of_specification of_specifier of_virtual of_heading declared_by declarations_of run_of_runs lookup shown_of_scopes encloser searched block_at_of_scopes declaration_from binding entry_of formals_of formal_of result_of source_of denoted type_at line_at level_of block_of block_around standard_name text_attribute sysin_attribute sysout_attribute signature is_real_function is_random_drawing is_file_or_layout is_environment_name undeclared program_events of_statement of_branch of_arm of_block of_whole of_class_body of_declaration block_number slot_of accessible protects is_kind some_around_of some_around base brought_by level_shows shown_of is_detach ends_search outward virtual_of represented standard_at qualified_marks qualified_result connection_at own_attribute transfer_at levels_of levels is_in is_of has_procedure belongs class_at qualification stream_of is_variable is_attribute own_result result_meant standard_texts text_constant found_at shows_detach if_found found_in is_passed_over class_formals_of class_formals class_formal some_level_of has_level holds_class has_classes has_standard is_simulation_block is_for_prefixing simulation_level_of class_block is_in_chain on_one_chain shared_level_of shared_class names_hidden protector_of protector hides opens is_open fine wrong no_target targets assigned_to call_assigned target sign_agrees with_left lefts compared assigned precedes found is_connected prefix_of frame_text hidden_in block_in_front class_number putting_back assigning making_text joining put_back back_of_steps is_inside class_prefix_marks prefixed_marks prefix_marks standard_marks marks_of_standard standard_prefix object_ended pop_object qualifying referring first_along is_this this_block this_of with_entry_at putting_reference brings_class provides_attribute brought_marks
-row_stands = record { heads = record { is_kind = refl; level = refl; cells = refl; class_free = refl; gives = refl; formals = refl; temps = []; types = refl; counted = refl; roomy = le_6_6 }; marked = refl; class = the_row; is = record { numbered = refl; of_block = refl; prefix = refl; lower = lt_4_5; no_process = refl; no_matches = refl }; level = record { place = 2; placed = refl; x = 24; y = 25; declared_there = lt_24_31; declared = refl; next = ins own_set_code (i.NextDecl (pos 2)) 0 24 refl; stated_there = lt_25_31; stop = 30; stated = record { x = 29; statements = (29, (26, 29, ins own_set_code (i.Tick) 0 25 refl, (refl, record { x = 27; y = 28; z = 28; named = record { is_name = refl; as_many = refl; leaves = refl }; object = record { push = push own_set_code inner 0 (i.This (pos 2)) 0 26 lt_0_6 refl; inside = itself }; there = record { at = refl; on = refl }; actuals = refl; number = 60; numbered = refl; done = record { at = refl; on = refl } }), refl), refl); inner = ins own_set_code (i.Inner (pos 2)) 0 29 refl; on = refl }; behind_there = lt_30_31; last = 31; ends = ins own_set_code (i.EndLevel (pos 2)) 0 30 refl } }
+unfolding digits element_place making_array copying_array keeping_array finding_element giving_back handed_over stopping no_rule ticking taking entering having when computing choosing popping pop_many pop_plain pop_truth pop_integers pop_operands pop_text answering applying_one applying_two testing_step performing at_level kept_on pushing index level_of_machine cell_at jumping block_at own_block leaving with_result putting is_text home_of first_cells leaving_of_meaning constants_of text_constants putting_of_steps text is_class_free declared_at constant_of calculate compare compare_as_texts connect same_objects same_texts two_of one_of step_test take_integer take_character take_text take_nothing row_of standard_effect default_mode mode_allowed marked type_named result_named mode_named first_of_procedure first_of_class variable_marks array_marks parameter_marks moded_marks specified_marks headed_marks procedure_marks class_marks virtual_name_marks program_marks inner_marks declaring of_segment of_mode_part of_specification of_specifier of_virtual of_heading declared_by declarations_of run_of_runs lookup shown_of_scopes encloser searched block_at_of_scopes declaration_from binding entry_of formals_of formal_of result_of source_of denoted type_at line_at level_of block_of block_around standard_name text_attribute sysin_attribute sysout_attribute signature is_real_function is_random_drawing is_file_or_layout is_environment_name undeclared program_events of_statement of_branch of_arm of_block of_whole of_class_body of_declaration block_number slot_of accessible protects is_kind some_around_of some_around base brought_by level_shows shown_of is_detach ends_search outward virtual_of represented standard_at qualified_marks qualified_result connection_at own_attribute transfer_at levels_of levels is_in is_of has_procedure belongs class_at qualification stream_of is_variable is_attribute own_result result_meant standard_texts text_constant found_at shows_detach if_found found_in is_passed_over class_formals_of class_formals class_formal some_level_of has_level holds_class has_classes has_standard is_simulation_block is_for_prefixing simulation_level_of class_block is_in_chain on_one_chain shared_level_of shared_class names_hidden protector_of protector hides opens is_open fine wrong no_target targets assigned_to call_assigned target sign_agrees with_left lefts compared assigned precedes found is_connected prefix_of frame_text hidden_in block_in_front class_number putting_back assigning making_text joining put_back back_of_steps is_inside class_prefix_marks prefixed_marks prefix_marks standard_marks marks_of_standard standard_prefix object_ended pop_object qualifying referring first_along is_this this_block this_of with_entry_at putting_reference brings_class provides_attribute brought_marks is_process_text
+row_stands = record { heads = record { is_kind = refl; level = refl; cells = refl; class_free = refl; gives = refl; formals = refl; temps = []; types = refl; counted = refl; roomy = le_6_6 }; marked = refl; class = the_row; is = record { numbered = refl; of_block = refl; prefix = refl; lower = lt_4_5; process = refl; no_matches = refl }; level = record { place = 2; placed = refl; x = 24; y = 25; declared_there = lt_24_31; declared = refl; next = ins own_set_code (i.NextDecl (pos 2)) 0 24 refl; stated_there = lt_25_31; stop = 30; stated = record { x = 29; statements = (29, (26, 29, ins own_set_code (i.Tick) 0 25 refl, (refl, record { x = 27; y = 28; z = 28; named = record { is_name = refl; as_many = refl; leaves = refl }; object = record { push = push own_set_code inner 0 (i.This (pos 2)) 0 26 lt_0_6 refl; inside = itself }; there = record { at = refl; on = refl }; actuals = refl; number = 60; numbered = refl; done = record { at = refl; on = refl } }), refl), refl); inner = ins own_set_code (i.Inner (pos 2)) 0 29 refl; on = refl }; behind_there = lt_30_31; last = 31; ends = ins own_set_code (i.EndLevel (pos 2)) 0 30 refl } }
 
 no_more : (k : ℕ) → Has (suc (suc (suc (suc (suc k))))) (text own_set (suc (suc (suc (suc (suc k))))))
 unfolding digits element_place making_array copying_array keeping_array finding_element giving_back handed_over stopping no_rule ticking taking entering having when computing choosing popping pop_many pop_plain pop_truth pop_integers pop_operands pop_text answering applying_one applying_two testing_step performing at_level kept_on pushing index level_of_machine cell_at jumping block_at own_block leaving with_result putting is_text home_of first_cells leaving_of_meaning constants_of text_constants putting_of_steps text is_class_free declared_at constant_of calculate compare compare_as_texts connect same_objects same_texts two_of one_of step_test take_integer take_character take_text take_nothing row_of standard_effect default_mode mode_allowed marked type_named result_named mode_named first_of_procedure first_of_class variable_marks array_marks parameter_marks moded_marks specified_marks headed_marks procedure_marks class_marks virtual_name_marks program_marks inner_marks declaring of_segment of_mode_part of_specification of_specifier of_virtual of_heading declared_by declarations_of run_of_runs lookup shown_of_scopes encloser searched block_at_of_scopes declaration_from binding entry_of formals_of formal_of result_of source_of denoted type_at line_at level_of block_of block_around standard_name text_attribute sysin_attribute sysout_attribute signature is_real_function is_random_drawing is_file_or_layout is_environment_name undeclared program_events of_statement of_branch of_arm of_block of_whole of_class_body of_declaration block_number slot_of accessible protects is_kind some_around_of some_around base brought_by level_shows shown_of is_detach ends_search outward virtual_of represented standard_at qualified_marks qualified_result connection_at own_attribute transfer_at levels_of levels is_in is_of has_procedure belongs class_at qualification stream_of is_variable is_attribute own_result result_meant standard_texts text_constant found_at shows_detach if_found found_in is_passed_over class_formals_of class_formals class_formal some_level_of has_level holds_class has_classes has_standard is_simulation_block is_for_prefixing simulation_level_of class_block is_in_chain on_one_chain shared_level_of shared_class names_hidden protector_of protector hides opens is_open fine wrong no_target targets assigned_to call_assigned target sign_agrees with_left lefts compared assigned precedes found is_connected prefix_of frame_text hidden_in block_in_front class_number putting_back assigning making_text joining put_back back_of_steps is_inside class_prefix_marks prefixed_marks prefix_marks standard_marks marks_of_standard standard_prefix object_ended pop_object qualifying referring first_along is_this this_block this_of with_entry_at putting_reference brings_class provides_attribute brought_marks
@@ -435,6 +437,32 @@ prefixed_there (suc (suc (suc zero))) e = absurd (cc (e))
 prefixed_there (suc (suc (suc (suc zero)))) e = absurd (cc (e))
 prefixed_there (suc (suc (suc (suc (suc k))))) e = absurd (cc (e))
 
+no_process : (k : ℕ) → text own_set k ≡ Some (StandardText standard.Process) → ⊥
+unfolding digits element_place making_array copying_array keeping_array finding_element giving_back handed_over stopping no_rule ticking taking entering having when computing choosing popping pop_many pop_plain pop_truth pop_integers pop_operands pop_text answering applying_one applying_two testing_step performing at_level kept_on pushing index level_of_machine cell_at jumping block_at own_block leaving with_result putting is_text home_of first_cells leaving_of_meaning constants_of text_constants putting_of_steps text is_class_free declared_at constant_of calculate compare compare_as_texts connect same_objects same_texts two_of one_of step_test take_integer take_character take_text take_nothing row_of standard_effect default_mode mode_allowed marked type_named result_named mode_named first_of_procedure first_of_class variable_marks array_marks parameter_marks moded_marks specified_marks headed_marks procedure_marks class_marks virtual_name_marks program_marks inner_marks declaring of_segment of_mode_part of_specification of_specifier of_virtual of_heading declared_by declarations_of run_of_runs lookup shown_of_scopes encloser searched block_at_of_scopes declaration_from binding entry_of formals_of formal_of result_of source_of denoted type_at line_at level_of block_of block_around standard_name text_attribute sysin_attribute sysout_attribute signature is_real_function is_random_drawing is_file_or_layout is_environment_name undeclared program_events of_statement of_branch of_arm of_block of_whole of_class_body of_declaration block_number slot_of accessible protects is_kind some_around_of some_around base brought_by level_shows shown_of is_detach ends_search outward virtual_of represented standard_at qualified_marks qualified_result connection_at own_attribute transfer_at levels_of levels is_in is_of has_procedure belongs class_at qualification stream_of is_variable is_attribute own_result result_meant standard_texts text_constant found_at shows_detach if_found found_in is_passed_over class_formals_of class_formals class_formal some_level_of has_level holds_class has_classes has_standard is_simulation_block is_for_prefixing simulation_level_of class_block is_in_chain on_one_chain shared_level_of shared_class names_hidden protector_of protector hides opens is_open fine wrong no_target targets assigned_to call_assigned target sign_agrees with_left lefts compared assigned precedes found is_connected prefix_of frame_text hidden_in block_in_front class_number putting_back assigning making_text joining put_back back_of_steps is_inside class_prefix_marks prefixed_marks prefix_marks standard_marks marks_of_standard standard_prefix object_ended pop_object qualifying referring first_along is_this this_block this_of with_entry_at putting_reference brings_class provides_attribute brought_marks
+no_process zero e = cc (e)
+no_process (suc zero) e = cc (e)
+no_process (suc (suc zero)) e = cc (e)
+no_process (suc (suc (suc zero))) e = cc (e)
+no_process (suc (suc (suc (suc zero)))) e = cc (e)
+no_process (suc (suc (suc (suc (suc k))))) e = cc (e)
+
+program_plain : (which : StandardClass) → text own_set 0 ≡ Some (StandardText which) → ⊥
+unfolding digits element_place making_array copying_array keeping_array finding_element giving_back handed_over stopping no_rule ticking taking entering having when computing choosing popping pop_many pop_plain pop_truth pop_integers pop_operands pop_text answering applying_one applying_two testing_step performing at_level kept_on pushing index level_of_machine cell_at jumping block_at own_block leaving with_result putting is_text home_of first_cells leaving_of_meaning constants_of text_constants putting_of_steps text is_class_free declared_at constant_of calculate compare compare_as_texts connect same_objects same_texts two_of one_of step_test take_integer take_character take_text take_nothing row_of standard_effect default_mode mode_allowed marked type_named result_named mode_named first_of_procedure first_of_class variable_marks array_marks parameter_marks moded_marks specified_marks headed_marks procedure_marks class_marks virtual_name_marks program_marks inner_marks declaring of_segment of_mode_part of_specification of_specifier of_virtual of_heading declared_by declarations_of run_of_runs lookup shown_of_scopes encloser searched block_at_of_scopes declaration_from binding entry_of formals_of formal_of result_of source_of denoted type_at line_at level_of block_of block_around standard_name text_attribute sysin_attribute sysout_attribute signature is_real_function is_random_drawing is_file_or_layout is_environment_name undeclared program_events of_statement of_branch of_arm of_block of_whole of_class_body of_declaration block_number slot_of accessible protects is_kind some_around_of some_around base brought_by level_shows shown_of is_detach ends_search outward virtual_of represented standard_at qualified_marks qualified_result connection_at own_attribute transfer_at levels_of levels is_in is_of has_procedure belongs class_at qualification stream_of is_variable is_attribute own_result result_meant standard_texts text_constant found_at shows_detach if_found found_in is_passed_over class_formals_of class_formals class_formal some_level_of has_level holds_class has_classes has_standard is_simulation_block is_for_prefixing simulation_level_of class_block is_in_chain on_one_chain shared_level_of shared_class names_hidden protector_of protector hides opens is_open fine wrong no_target targets assigned_to call_assigned target sign_agrees with_left lefts compared assigned precedes found is_connected prefix_of frame_text hidden_in block_in_front class_number putting_back assigning making_text joining put_back back_of_steps is_inside class_prefix_marks prefixed_marks prefix_marks standard_marks marks_of_standard standard_prefix object_ended pop_object qualifying referring first_along is_this this_block this_of with_entry_at putting_reference brings_class provides_attribute brought_marks
+program_plain which e = cc (e)
+
+only_program : (k : ℕ) → is_prefixed own_set.tables (suc k) ≡ true → ⊥
+unfolding digits element_place making_array copying_array keeping_array finding_element giving_back handed_over stopping no_rule ticking taking entering having when computing choosing popping pop_many pop_plain pop_truth pop_integers pop_operands pop_text answering applying_one applying_two testing_step performing at_level kept_on pushing index level_of_machine cell_at jumping block_at own_block leaving with_result putting is_text home_of first_cells leaving_of_meaning constants_of text_constants putting_of_steps text is_class_free declared_at constant_of calculate compare compare_as_texts connect same_objects same_texts two_of one_of step_test take_integer take_character take_text take_nothing row_of standard_effect default_mode mode_allowed marked type_named result_named mode_named first_of_procedure first_of_class variable_marks array_marks parameter_marks moded_marks specified_marks headed_marks procedure_marks class_marks virtual_name_marks program_marks inner_marks declaring of_segment of_mode_part of_specification of_specifier of_virtual of_heading declared_by declarations_of run_of_runs lookup shown_of_scopes encloser searched block_at_of_scopes declaration_from binding entry_of formals_of formal_of result_of source_of denoted type_at line_at level_of block_of block_around standard_name text_attribute sysin_attribute sysout_attribute signature is_real_function is_random_drawing is_file_or_layout is_environment_name undeclared program_events of_statement of_branch of_arm of_block of_whole of_class_body of_declaration block_number slot_of accessible protects is_kind some_around_of some_around base brought_by level_shows shown_of is_detach ends_search outward virtual_of represented standard_at qualified_marks qualified_result connection_at own_attribute transfer_at levels_of levels is_in is_of has_procedure belongs class_at qualification stream_of is_variable is_attribute own_result result_meant standard_texts text_constant found_at shows_detach if_found found_in is_passed_over class_formals_of class_formals class_formal some_level_of has_level holds_class has_classes has_standard is_simulation_block is_for_prefixing simulation_level_of class_block is_in_chain on_one_chain shared_level_of shared_class names_hidden protector_of protector hides opens is_open fine wrong no_target targets assigned_to call_assigned target sign_agrees with_left lefts compared assigned precedes found is_connected prefix_of frame_text hidden_in block_in_front class_number putting_back assigning making_text joining put_back back_of_steps is_inside class_prefix_marks prefixed_marks prefix_marks standard_marks marks_of_standard standard_prefix object_ended pop_object qualifying referring first_along is_this this_block this_of with_entry_at putting_reference brings_class provides_attribute brought_marks is_prefixed
+only_program zero e = cc (e)
+only_program (suc zero) e = cc (e)
+only_program (suc (suc zero)) e = cc (e)
+only_program (suc (suc (suc zero))) e = cc (e)
+only_program (suc (suc (suc (suc k)))) e = cc (e)
+
+blocks_plain : (k u : ℕ) (which : StandardClass) → is_prefixed own_set.tables k ≡ true → LevelOf own_set.tables k u → text own_set u ≡ Some (StandardText which) → ⊥
+blocks_plain zero _ which p innermost e = program_plain which e
+blocks_plain zero u which p (beyond {u = front} f more) e = not_some (prefix_of own_set.tables 0) front no_prefix f
+blocks_plain (suc k) u which p level e = only_program k p
+
 agree : Agrees own_set
 unfolding digits element_place making_array copying_array keeping_array finding_element giving_back handed_over stopping no_rule ticking taking entering having when computing choosing popping pop_many pop_plain pop_truth pop_integers pop_operands pop_text answering applying_one applying_two testing_step performing at_level kept_on pushing index level_of_machine cell_at jumping block_at own_block leaving with_result putting is_text home_of first_cells leaving_of_meaning constants_of text_constants putting_of_steps text is_class_free declared_at constant_of calculate compare compare_as_texts connect same_objects same_texts two_of one_of step_test take_integer take_character take_text take_nothing row_of standard_effect default_mode mode_allowed marked type_named result_named mode_named first_of_procedure first_of_class variable_marks array_marks parameter_marks moded_marks specified_marks headed_marks procedure_marks class_marks virtual_name_marks program_marks inner_marks declaring of_segment of_mode_part of_specification of_specifier of_virtual of_heading declared_by declarations_of run_of_runs lookup shown_of_scopes encloser searched block_at_of_scopes declaration_from binding entry_of formals_of formal_of result_of source_of denoted type_at line_at level_of block_of block_around standard_name text_attribute sysin_attribute sysout_attribute signature is_real_function is_random_drawing is_file_or_layout is_environment_name undeclared program_events of_statement of_branch of_arm of_block of_whole of_class_body of_declaration block_number slot_of accessible protects is_kind some_around_of some_around base brought_by level_shows shown_of is_detach ends_search outward virtual_of represented standard_at qualified_marks qualified_result connection_at own_attribute transfer_at levels_of levels is_in is_of has_procedure belongs class_at qualification stream_of is_variable is_attribute own_result result_meant standard_texts text_constant found_at shows_detach if_found found_in is_passed_over class_formals_of class_formals class_formal some_level_of has_level holds_class has_classes has_standard is_simulation_block is_for_prefixing simulation_level_of class_block is_in_chain on_one_chain shared_level_of shared_class names_hidden protector_of protector hides opens is_open fine wrong no_target targets assigned_to call_assigned target sign_agrees with_left lefts compared assigned precedes found is_connected prefix_of frame_text hidden_in block_in_front class_number putting_back assigning making_text joining put_back back_of_steps is_inside class_prefix_marks prefixed_marks prefix_marks standard_marks marks_of_standard standard_prefix object_ended pop_object qualifying referring first_along is_this this_block this_of with_entry_at putting_reference brings_class provides_attribute brought_marks
 agree = record {
@@ -453,8 +481,11 @@ agree = record {
   formals = λ k n d e. all_at (λ d. (x : Formal) × (entry_of own_set.tables d ≡ Some (entry.Formal x))) (formals_in (slice_get own_set.tables.blocks k)) (formal_rows k) n d e;
   classes = λ d k e. classes_there d.0 k e;
   procedures = λ d result k e. absurd (no_procedure d.0 result k e);
+  processes = λ k e. absurd (no_process k e);
+  blocks = blocks_plain;
+  standards = λ j k which e f level. absurd (no_process k f);
 }
 
 pub own_set_compiled : Compiled own_set own_set_code
 unfolding digits element_place making_array copying_array keeping_array finding_element giving_back handed_over stopping no_rule ticking taking entering having when computing choosing popping pop_many pop_plain pop_truth pop_integers pop_operands pop_text answering applying_one applying_two testing_step performing at_level kept_on pushing index level_of_machine cell_at jumping block_at own_block leaving with_result putting is_text home_of first_cells leaving_of_meaning constants_of text_constants putting_of_steps text is_class_free declared_at constant_of calculate compare compare_as_texts connect same_objects same_texts two_of one_of step_test take_integer take_character take_text take_nothing row_of standard_effect default_mode mode_allowed marked type_named result_named mode_named first_of_procedure first_of_class variable_marks array_marks parameter_marks moded_marks specified_marks headed_marks procedure_marks class_marks virtual_name_marks program_marks inner_marks declaring of_segment of_mode_part of_specification of_specifier of_virtual of_heading declared_by declarations_of run_of_runs lookup shown_of_scopes encloser searched block_at_of_scopes declaration_from binding entry_of formals_of formal_of result_of source_of denoted type_at line_at level_of block_of block_around standard_name text_attribute sysin_attribute sysout_attribute signature is_real_function is_random_drawing is_file_or_layout is_environment_name undeclared program_events of_statement of_branch of_arm of_block of_whole of_class_body of_declaration block_number slot_of accessible protects is_kind some_around_of some_around base brought_by level_shows shown_of is_detach ends_search outward virtual_of represented standard_at qualified_marks qualified_result connection_at own_attribute transfer_at levels_of levels is_in is_of has_procedure belongs class_at qualification stream_of is_variable is_attribute own_result result_meant standard_texts text_constant found_at shows_detach if_found found_in is_passed_over class_formals_of class_formals class_formal some_level_of has_level holds_class has_classes has_standard is_simulation_block is_for_prefixing simulation_level_of class_block is_in_chain on_one_chain shared_level_of shared_class names_hidden protector_of protector hides opens is_open fine wrong no_target targets assigned_to call_assigned target sign_agrees with_left lefts compared assigned precedes found is_connected prefix_of frame_text hidden_in block_in_front class_number putting_back assigning making_text joining put_back back_of_steps is_inside class_prefix_marks prefixed_marks prefix_marks standard_marks marks_of_standard standard_prefix object_ended pop_object qualifying referring first_along is_this this_block this_of with_entry_at putting_reference brings_class provides_attribute brought_marks
-own_set_compiled = record { agrees = agree; texts = refl; each = λ k x e. subst (Has k) e (each_stands k) }
+own_set_compiled = record { agrees = agree; texts = refl; each = λ k x e. subst (Has k) e (each_stands k); as_many = refl }

@@ -1,10 +1,10 @@
 -- A reference that is passed on is held against a class: it is put into a temp at an address with the class, and taken from there.
-use Rattle.std.proofs.Common.{◌≡◌, ◌≤◌, ℕ, suc, Bool, true, false, List, ◌∷◌, length, Some, refl, sym, ap, ◌∙◌, subst, arith}
+use Rattle.std.proofs.Common.{◌≡◌, ℕ, suc, Bool, true, false, List, ◌∷◌, length, Some, refl, sym, ap, ◌∙◌, subst, arith}
 use Rattle.std.specs.Prelude.{pos, if◌then◌else◌}
 use Rattle.sim_base.specs.declared.limits.Limits.{Limits}
 use Rattle.sim_base.specs.declared.run_error.RunError.TheVariants.{OutsideQualification}
 use Rattle.sim_scope.specs.Source.{Source, level_of}
-use Rattle.sim_values.specs.Plain.{Character, Integer, Nothing, Object, Plain, Text, Truth}
+use Rattle.sim_values.specs.Plain.{Character, Integer, Nothing, Object, Plain, Text, Truth, MainOf}
 use Rattle.sim_code.specs.declared.instr.Instr.TheVariants as i
 use Rattle.sim_code.specs.Classes as classes
 use Rattle.sim_code.specs.Code.{CodeOf}
@@ -15,24 +15,24 @@ use Rattle.sim_code.specs.Machine as machine
 use Rattle.sim_code.specs.Instances.{CellPlace, at_level}
 use Rattle.sim_code.specs.Rows.{mstep}
 use Rattle.sim_code.proofs.Lifts.{alike_unruled}
-use Rattle.sim_meaning.specs.Levels.{is_in}
+use Rattle.sim_meaning.specs.Levels.{stands_in}
 use Rattle.sim_meaning.specs.Meaning.{do_op}
 use Rattle.sim_meaning.specs.Objects.{fitted}
 use Rattle.sim_meaning.specs.Pending.{Activation, Configuration, FitsOp, Instances, Item, Val, plain}
 use Rattle.sim_meaning.specs.Pending as meaning
-use Rattle.sim_meaning.specs.Sane.{IsObject, LastNames, Names}
+use Rattle.sim_meaning.specs.Sane.{AllName, Names}
 use Rattle.sim_meaning.specs.Steps.{go}
-use Rattle.codegen_expr.specs.Sites.{class_number, frame_text, own_end}
+use Rattle.codegen_expr.specs.Sites.{class_number}
 use Rattle.codegen.specs.Compiled.{Compiled}
 use Rattle.sim_relate.proofs.ClassLevels.{class_levels, counts, number_is}
 use Rattle.sim_relate.proofs.ClassTexts.{class_has}
 use Rattle.sim_relate.proofs.Hands.{stack_length}
 use Rattle.sim_relate.proofs.Here.{Here, goes, kinds_as}
-use Rattle.sim_relate.proofs.Known.{HandAt, Kind, Runs, StackAt, ValAt, anys, array_at, element_at, image_at, link_at, more_at, plain_at, site_at}
+use Rattle.sim_relate.proofs.Known.{HandAt, Kind, Runs, StackAt, ValAt, anys, array_at, element_at, image_at, link_at, more_at, plain_at, site_at, Settled, IsReference}
 use Rattle.sim_relate.proofs.Living.{own_level}
 use Rattle.sim_relate.proofs.Moved.{moved, work_moved}
 use Rattle.sim_relate.proofs.Ranked.{Follows, InEach, Meets, at_once, both_stopping, caught, in_steps, lags, simply}
-use Rattle.sim_relate.proofs.References.{class_named, in_class_same, object_here}
+use Rattle.sim_relate.proofs.ObjectsHere.{class_named, named_may_stand}
 use Rattle.sim_relate.proofs.Relation.{ChainAt, OpAt, StateAt, StoreAt, WorkAt}
 use Rattle.sim_relate.proofs.Silent.{addr_row, matched, place_at, put_row, put_stops, silent, steps_to, swap_row}
 use Rattle.sim_relate.proofs.Stores.{levels_same, temp_written}
@@ -53,23 +53,29 @@ module _ (s : Source) (code : CodeOf) (coding : Compiled s code) where
       let e = class_counts c h in
       subst (λ d. classes.admitting code fs line d v o z ≡ classes.qualifying line (classes.may_stand code fs d (machine.plain v)) o z) (sym e.1) refl
 
-  module _ (m : Instances) (fs : Frames) (store : StoreAt s code m fs) (o : World) (c line j : ℕ) (h : Classed s c) (n : IsObject s m j) where
-    -- an object is in the class on both sides, or on neither
-    tested : (b : Bool) → is_in s m c j ≡ b → (z : Run Machine) → classes.admitting code fs line (class_number s code c) (machine.Of (Object j)) o z ≡ (if b then z else stopping (RunFault OutsideQualification line) o)
+  module _ (m : Instances) (fs : Frames) (store : StoreAt s code m fs) (o : World) (c line : ℕ) (h : Classed s c) where
+    -- what is named is in the class on both sides, or on neither
+    tested : (p : Plain) → Names s m (meaning.Of p) → IsReference p → (b : Bool) → stands_in s m c p ≡ b → (z : Run Machine) → classes.admitting code fs line (class_number s code c) (machine.Of p) o z ≡ (if b then z else stopping (RunFault OutsideQualification line) o)
     unfolding having choosing
-    tested b e z =
-        admitting_is fs c line h (machine.Of (Object j)) o z ∙
-        ap (λ x. classes.qualifying line x o z) (in_class_same s code coding m fs store j c (object_here s code coding m fs store j n) h ∙ ap Some e)
+    tested p n i b e z =
+        admitting_is fs c line h (machine.Of p) o z ∙
+        ap (λ x. classes.qualifying line x o z) (named_may_stand s code coding m fs store c h p n i ∙ ap Some e)
 
-    qualified : (b : Bool) → is_in s m c j ≡ b → (r : Run Configuration) → qualifying line (is_in s m c) (Object j) o r ≡ (if b then r else stopping (RunFault OutsideQualification line) o)
+    qualified : (p : Plain) → IsReference p → (b : Bool) → stands_in s m c p ≡ b → (r : Run Configuration) → qualifying line (stands_in s m c) p o r ≡ (if b then r else stopping (RunFault OutsideQualification line) o)
     unfolding qualifying
-    qualified b e r = ap (λ x. if x then r else stopping (RunFault OutsideQualification line) o) e
+    qualified (Object j) i b e r = ap (λ x. if x then r else stopping (RunFault OutsideQualification line) o) e
+    qualified (MainOf j) i b e r = ap (λ x. if x then r else stopping (RunFault OutsideQualification line) o) e
+    qualified Nothing i b e r = absurd i
+    qualified (Integer z) i b e r = absurd i
+    qualified (Truth z) i b e r = absurd i
+    qualified (Character z) i b e r = absurd i
+    qualified (Text z) i b e r = absurd i
 
   none_admitted : (fs : Frames) (o : World) (c line : ℕ) → Classed s c → (z : Run Machine) → classes.admitting code fs line (class_number s code c) (machine.Of Nothing) o z ≡ z
   unfolding having choosing
   none_admitted fs o c line h z = admitting_is fs c line h (machine.Of Nothing) o z
 
-module _ (s : Source) (code : CodeOf) (coding : Compiled s code) (l : Limits) (o : World) (m : Instances) (inst : ℕ) (w : List Item) (vals : List Val) (rest : List Activation) (fs : Frames) (t : ℕ) (b : Runs) (pc : ℕ) (stack : List Value) (below : List machine.Activation) (ks : List Kind) (here : Here s code m fs inst rest t b ks vals stack) (u q : ℕ) (ks' : List Kind) (low : own_end s code (frame_text s t) ≤ u) (k : WorkAt s code m fs (λ v. ChainAt s code m fs rest v below) inst t b u w q ks') where
+module _ (s : Source) (code : CodeOf) (coding : Compiled s code) (l : Limits) (o : World) (m : Instances) (inst : ℕ) (w : List Item) (vals : List Val) (rest : List Activation) (fs : Frames) (t : ℕ) (b : Runs) (pc : ℕ) (stack : List Value) (below : List machine.Activation) (ks : List Kind) (here : Here s code m fs inst rest t b ks vals stack) (u q : ℕ) (ks' : List Kind) (low : Settled s code t b u) (k : WorkAt s code m fs (λ v. ChainAt s code m fs rest v below) inst t b u w q ks') where
   abbrev R : Configuration → Machine → Type 0
   R = StateAt s code
 
@@ -111,7 +117,7 @@ module _ (s : Source) (code : CodeOf) (coding : Compiled s code) (l : Limits) (o
 
     passes : ((z : Run Machine) → classes.admitting code fs line (class_number s code c) x o z ≡ z) → Meets g (InEach R) onward o (at pc (x ∷ stack') fs)
     passes admitted =
-        let r = temp_written s code m fs inst t b a.temp x here.store here.stands here.lives here.found (omega (arith, low, a.unused)) a.within in
+        let r = temp_written s code m fs inst t b a.temp x here.store here.stands here.lives here.found (omega (arith, low.low, a.unused)) a.within in
         let load = a.again.is in
         let fits = a.again.fits in
         let e = deep in
@@ -130,19 +136,20 @@ module _ (s : Source) (code : CodeOf) (coding : Compiled s code) (l : Limits) (o
         (caught (both_stopping (RunFault OutsideQualification line) o)))
 
   abbrev fitting : (c line : ℕ) → Plain → List Val → Run Configuration
-  fitting c line p vals' = qualifying line (is_in s m c) p o (go o m inst w (meaning.Of p ∷ vals') rest)
+  fitting c line p vals' = qualifying line (stands_in s m c) p o (go o m inst w (meaning.Of p ∷ vals') rest)
 
-  in_class : (c line : ℕ) (left : List Kind) → ks' ≡ anys 1 left → (a : FitsIs s code (site_at t b u) (length left) c line pc q) (j : ℕ) → IsObject s m j → (vals' : List Val) (stack' : List Value) → StackAt (HandAt s code m) left vals' stack' → (y : Bool) → is_in s m c j ≡ y → Follows g R (fitting c line (Object j) vals') o (at pc (machine.Of (Object j) ∷ stack') fs)
-  in_class c line left out a j n vals' stack' hs true e =
-      in_steps (subst (λ z. Meets g (InEach R) z o (at pc (machine.Of (Object j) ∷ stack') fs)) (sym (qualified s code coding m fs here.store o c line j a.is_class n true e (go o m inst w (meaning.Of (Object j) ∷ vals') rest)))
-      (passes c line left out a (Object j) vals' stack' hs (tested s code coding m fs here.store o c line j a.is_class n true e)))
-  in_class c line left out a j n vals' stack' hs false e =
-      in_steps (subst (λ z. Meets g (InEach R) z o (at pc (machine.Of (Object j) ∷ stack') fs)) (sym (qualified s code coding m fs here.store o c line j a.is_class n false e (go o m inst w (meaning.Of (Object j) ∷ vals') rest)))
-      (refused c line left out a (Object j) vals' stack' hs (tested s code coding m fs here.store o c line j a.is_class n false e)))
+  in_class : (c line : ℕ) (left : List Kind) → ks' ≡ anys 1 left → (a : FitsIs s code (site_at t b u) (length left) c line pc q) (p : Plain) → Names s m (meaning.Of p) → IsReference p → (vals' : List Val) (stack' : List Value) → StackAt (HandAt s code m) left vals' stack' → (y : Bool) → stands_in s m c p ≡ y → Follows g R (fitting c line p vals') o (at pc (machine.Of p ∷ stack') fs)
+  in_class c line left out a p n i vals' stack' hs true e =
+      in_steps (subst (λ z. Meets g (InEach R) z o (at pc (machine.Of p ∷ stack') fs)) (sym (qualified s code coding m fs here.store o c line a.is_class p i true e (go o m inst w (meaning.Of p ∷ vals') rest)))
+      (passes c line left out a p vals' stack' hs (tested s code coding m fs here.store o c line a.is_class p n i true e)))
+  in_class c line left out a p n i vals' stack' hs false e =
+      in_steps (subst (λ z. Meets g (InEach R) z o (at pc (machine.Of p ∷ stack') fs)) (sym (qualified s code coding m fs here.store o c line a.is_class p i false e (go o m inst w (meaning.Of p ∷ vals') rest)))
+      (refused c line left out a p vals' stack' hs (tested s code coding m fs here.store o c line a.is_class p n i false e)))
 
   held : (c line : ℕ) (left : List Kind) → ks' ≡ anys 1 left → (a : FitsIs s code (site_at t b u) (length left) c line pc q) (p : Plain) → Names s m (meaning.Of p) → (vals' : List Val) (stack' : List Value) → StackAt (HandAt s code m) left vals' stack' → Follows g R (fitting c line p vals') o (at pc (machine.Of p ∷ stack') fs)
   unfolding qualifying
-  held c line left out a (Object j) n vals' stack' hs = in_class c line left out a j n vals' stack' hs (is_in s m c j) refl
+  held c line left out a (Object j) n vals' stack' hs = in_class c line left out a (Object j) n tt vals' stack' hs (stands_in s m c (Object j)) refl
+  held c line left out a (MainOf j) n vals' stack' hs = in_class c line left out a (MainOf j) n tt vals' stack' hs (stands_in s m c (MainOf j)) refl
   held c line left out a Nothing n vals' stack' hs = in_steps (passes c line left out a Nothing vals' stack' hs (none_admitted s code coding fs o c line a.is_class))
   held c line left out a (Integer z) n vals' stack' hs = at_once (alike_unruled Configuration Machine R o _)
   held c line left out a (Truth z) n vals' stack' hs = at_once (alike_unruled Configuration Machine R o _)
@@ -157,9 +164,9 @@ module _ (s : Source) (code : CodeOf) (coding : Compiled s code) (l : Limits) (o
   by_value c line left out a _ _ element_at n vals' stack' hs = at_once (alike_unruled Configuration Machine R o _)
   by_value c line left out a _ _ image_at n vals' stack' hs = at_once (alike_unruled Configuration Machine R o _)
 
-  in_hand : (c line : ℕ) (left : List Kind) → ks' ≡ anys 1 left → (a : FitsIs s code (site_at t b u) (length left) c line pc q) (vs : List Val) (xs : List Value) → LastNames s m vs → StackAt (HandAt s code m) (anys 1 left) vs xs → Follows g R (fitted s o m inst w vs rest c line) o (at pc xs fs)
+  in_hand : (c line : ℕ) (left : List Kind) → ks' ≡ anys 1 left → (a : FitsIs s code (site_at t b u) (length left) c line pc q) (vs : List Val) (xs : List Value) → AllName s m vs → StackAt (HandAt s code m) (anys 1 left) vs xs → Follows g R (fitted s o m inst w vs rest c line) o (at pc xs fs)
   unfolding pop_plain popping
-  in_hand c line left out a _ _ n (more_at {v = v} {vals = vals'} {x = x} {stack = stack'} h hs) = by_value c line left out a v x h n vals' stack' hs
+  in_hand c line left out a _ _ n (more_at {v = v} {vals = vals'} {x = x} {stack = stack'} h hs) = by_value c line left out a v x h n.0 vals' stack' hs
 
   pub fits : (c line : ℕ) → OpAt s code m fs inst (site_at t b u) (FitsOp c line) pc q ks ks' → Follows g R (do_op s l o m inst w vals rest (FitsOp c line)) o (at pc stack fs)
   fits c line a = in_hand c line a.left a.out a.fits vals stack here.names (kinds_as s code a.«in» here.values)

@@ -1,5 +1,5 @@
 -- The value of a constant of an object: it is pushed in place of the object.
-use Rattle.std.proofs.Common.{◌≡◌, ◌≤◌, ℕ, List, ◌∷◌, length, Option, Some, None, ⊎_elim, refl, sym, ap, ◌∙◌, subst}
+use Rattle.std.proofs.Common.{◌≡◌, ℕ, List, ◌∷◌, length, Option, Some, None, ⊎_elim, refl, sym, ap, ◌∙◌, subst}
 use Rattle.sim_base.specs.declared.limits.Limits.{Limits}
 use Rattle.sim_scope.specs.Source.{Source}
 use Rattle.sim_values.specs.Plain.{Plain}
@@ -20,11 +20,10 @@ use Rattle.sim_meaning.specs.Steps.{go}
 use Rattle.sim_meaning.specs.Steps as steps
 use Rattle.sim_meaning.specs.Texts.{constant_of}
 use Rattle.codegen_expr.specs.CodeExpr.{GivenAt}
-use Rattle.codegen_expr.specs.Sites.{frame_text, own_end}
 use Rattle.codegen.specs.Compiled.{Compiled}
 use Rattle.sim_relate.proofs.Hands.{stack_length}
 use Rattle.sim_relate.proofs.Here.{Here, kinds_as}
-use Rattle.sim_relate.proofs.Known.{Any, FixedIs, FixedOf, HandAt, Kind, Runs, StackAt, more_at, plain_at, site_at}
+use Rattle.sim_relate.proofs.Known.{Any, FixedIs, FixedOf, HandAt, Kind, Runs, StackAt, more_at, plain_at, site_at, Settled}
 use Rattle.sim_relate.proofs.Operators.{onward}
 use Rattle.sim_relate.proofs.Ranked.{Follows, InEach, Meets, at_once, caught, in_steps, simply}
 use Rattle.sim_relate.proofs.Relation.{ChainAt, StateAt, WorkAt}
@@ -32,7 +31,7 @@ use Rattle.sim_relate.proofs.Silent.{dropped_row, matched, place_at, plain_pushe
 use Rattle.sim_relate.proofs.Stores.{constant_read}
 use Rattle.sim_relate.proofs.Trees.{ConstantPushed, FetchesAt}
 
-module _ (s : Source) (code : CodeOf) (coding : Compiled s code) (l : Limits) (o : World) (m : Instances) (inst : ℕ) (w : List Item) (vals : List Val) (rest : List Activation) (fs : Frames) (t : ℕ) (b : Runs) (pc : ℕ) (stack : List Value) (below : List machine.Activation) (ks : List Kind) (here : Here s code m fs inst rest t b ks vals stack) (u q : ℕ) (ks' : List Kind) (low : own_end s code (frame_text s t) ≤ u) (k : WorkAt s code m fs (λ v. ChainAt s code m fs rest v below) inst t b u w q ks') where
+module _ (s : Source) (code : CodeOf) (coding : Compiled s code) (l : Limits) (o : World) (m : Instances) (inst : ℕ) (w : List Item) (vals : List Val) (rest : List Activation) (fs : Frames) (t : ℕ) (b : Runs) (pc : ℕ) (stack : List Value) (below : List machine.Activation) (ks : List Kind) (here : Here s code m fs inst rest t b ks vals stack) (u q : ℕ) (ks' : List Kind) (low : Settled s code t b u) (k : WorkAt s code m fs (λ v. ChainAt s code m fs rest v below) inst t b u w q ks') where
   abbrev R : Configuration → Machine → Type 0
   R = StateAt s code
 

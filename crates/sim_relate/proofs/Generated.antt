@@ -1,5 +1,5 @@
 -- The entry of an object.
-use Rattle.std.proofs.Common.{◌≡◌, ◌≤◌, ℕ, false, true, List, [], ◌∷◌, length, Some, refl, sym, ap, ◌∙◌, subst, arith}
+use Rattle.std.proofs.Common.{◌≡◌, ℕ, false, true, List, [], ◌∷◌, length, Some, refl, sym, ap, ◌∙◌, subst, arith}
 use Rattle.std.specs.Prelude.{◌==◌, nat_lt, pos}
 use Rattle.sim_base.specs.declared.limits.Limits.{Limits}
 use Rattle.sim_chains.specs.Components.{AttachedObject}
@@ -13,20 +13,19 @@ use Rattle.sim_code.specs.Classes.{class_named, class_numbered, if_there}
 use Rattle.sim_code.specs.Code.{BlockOf, ClassOf, CodeOf}
 use Rattle.sim_code.specs.Events.{entering, having, no_rule, when}
 use Rattle.sim_code.specs.Instances.{is_live}
-use Rattle.sim_code.specs.Levels.{levelled, linkage_of_class, objects_of, supplied}
-use Rattle.sim_code.specs.Machine.{Cells, Frames, Machine, Value, in_object, link_in, pushing, waiting, words_of_block}
+use Rattle.sim_code.specs.Levels.{is_process_class, levelled, object_made as object_made_of_code, objects_of, supplied, words_of_object}
+use Rattle.sim_code.specs.Machine.{Cells, Frames, Machine, Value, in_object, link_in, pushing, waiting}
 use Rattle.sim_code.specs.Machine as machine
 use Rattle.sim_code.specs.Outcome.{Run, World}
 use Rattle.sim_code.specs.Rows.{on_top}
-use Rattle.sim_code.specs.Sets.{enrolled}
 use Rattle.sim_code.proofs.Lifts.{EachAt, alike_found}
 use Rattle.sim_code.proofs.Simulation.{Alike}
-use Rattle.sim_meaning.specs.Levels.{levels, linkage_of_text}
+use Rattle.sim_meaning.specs.Levels.{is_process_text, levels}
 use Rattle.sim_meaning.specs.Meaning.{do_op}
-use Rattle.sim_meaning.specs.Objects.{object_entered}
+use Rattle.sim_meaning.specs.Objects.{object_entered, object_made}
 use Rattle.sim_meaning.specs.Pending.{Activation, Configuration, EndObject, Instances, Item, NewOp, Op, Val, instance_in}
 use Rattle.sim_meaning.specs.Pending as meaning
-use Rattle.codegen_expr.specs.Sites.{block_number, class_number, frame_text, own_end}
+use Rattle.codegen_expr.specs.Sites.{block_number, class_number}
 use Rattle.codegen.specs.Compiled.{Compiled, RecordOf}
 use Rattle.sim_relate.proofs.Actuals.{counted_many}
 use Rattle.sim_relate.proofs.ClassLevels.{class_levels, number_is}
@@ -35,17 +34,19 @@ use Rattle.sim_relate.proofs.Ends.{chosen}
 use Rattle.sim_relate.proofs.Entries.{call_row, found_left, same_hand, waits, when_equal}
 use Rattle.sim_relate.proofs.Hands.{hand_popping, stack_length}
 use Rattle.sim_relate.proofs.Here.{Here, act, at_row, kinds_as}
-use Rattle.sim_relate.proofs.Known.{Any, HandAt, Kind, LinkTo, Runs, StackAt, Stands, ValAt, more_at, plain_at, site_at}
+use Rattle.sim_relate.proofs.Known.{Any, HandAt, Kind, LinkTo, Runs, StackAt, Stands, ValAt, more_at, plain_at, site_at, Settled}
 use Rattle.sim_relate.proofs.LevelEntries.{entry_alike, not_first}
-use Rattle.sim_relate.proofs.Linkages.{linkage_same}
+use Rattle.sim_relate.proofs.OfClass.{class_owns}
+use Rattle.sim_relate.proofs.Linkages.{object_same, process_record}
 use Rattle.sim_relate.proofs.Reach.{equal_numbers}
-use Rattle.sim_relate.proofs.Relation.{ChainAt, NewOpIs, OpAt, StateAt, WorkAt}
+use Rattle.sim_relate.proofs.Operations.{NewOpIs}
+use Rattle.sim_relate.proofs.Relation.{ChainAt, OpAt, StateAt, WorkAt}
 use Rattle.sim_relate.proofs.Stores.{is_live_same}
 
 class_named_is : (code : CodeOf) (c : ℕ) (x : ClassOf) → class_numbered code c ≡ Some x → class_named code (pos c) ≡ Some c
 class_named_is code c x e = ap (if_there c) e
 
-module _ (s : Source) (code : CodeOf) (compiled : Compiled s code) (l : Limits) (o : World) (m : Instances) (inst : ℕ) (w : List Item) (vals : List Val) (rest : List Activation) (fs : Frames) (t : ℕ) (b : Runs) (pc : ℕ) (stack : List Value) (below : List machine.Activation) (ks : List Kind) (here : Here s code m fs inst rest t b ks vals stack) (u q : ℕ) (ks' : List Kind) (low : own_end s code (frame_text s t) ≤ u) (work : WorkAt s code m fs (λ v. ChainAt s code m fs rest v below) inst t b u w q ks') where
+module _ (s : Source) (code : CodeOf) (compiled : Compiled s code) (l : Limits) (o : World) (m : Instances) (inst : ℕ) (w : List Item) (vals : List Val) (rest : List Activation) (fs : Frames) (t : ℕ) (b : Runs) (pc : ℕ) (stack : List Value) (below : List machine.Activation) (ks : List Kind) (here : Here s code m fs inst rest t b ks vals stack) (u q : ℕ) (ks' : List Kind) (low : Settled s code t b u) (work : WorkAt s code m fs (λ v. ChainAt s code m fs rest v below) inst t b u w q ks') where
   abbrev Related : Configuration → Machine → Type 0
   Related = StateAt s code
 
@@ -75,8 +76,8 @@ module _ (s : Source) (code : CodeOf) (compiled : Compiled s code) (l : Limits) 
     NewGoes c b' start =
         having (supplied code b'.class b' values') o (λ cells.
         pushing b.room stack2 (machine.Of (Object (length fs.instances))) o (λ stack.
-        entering l line (words_of_block b') o (λ p.
-        in_object (enrolled (length fs.instances) (linkage_of_class code b'.class) (handed_over (length fs.instances) (machine.arrays_among values') p)) fs c b' start j cells (waiting top stack ∷ below))))
+        entering l line (words_of_object code b') o (λ p.
+        in_object (object_made_of_code code b'.class j (length fs.instances) (handed_over (length fs.instances) (machine.arrays_among values') p)) fs c b' start j cells (waiting top stack ∷ below))))
 
     abbrev OfClass : BlockOf → (start : ℕ) → Run Machine
     OfClass b' start = when (b'.class == x.block.class) o (NewGoes (block_number s g) b' start)
@@ -92,8 +93,8 @@ module _ (s : Source) (code : CodeOf) (compiled : Compiled s code) (l : Limits) 
 
     abbrev Filled : (start : ℕ) → Cells → Run Machine
     Filled start cells =
-        entering l line (words_of_block x.block) o (λ p.
-        in_object (enrolled (length fs.instances) (linkage_of_class code x.block.class) (handed_over (length fs.instances) (machine.arrays_among values') p)) fs (block_number s g) x.block start j cells under)
+        entering l line (words_of_object code x.block) o (λ p.
+        in_object (object_made_of_code code x.block.class j (length fs.instances) (handed_over (length fs.instances) (machine.arrays_among values') p)) fs (block_number s g) x.block start j cells under)
 
     follows : (start : ℕ) (cells : Cells) (y : Run Configuration) → supplied code x.block.class x.block values' ≡ Some cells → Alike Related y (Filled start cells) → Alike Related y (OfClass x.block start)
     unfolding when
@@ -115,14 +116,14 @@ module _ (s : Source) (code : CodeOf) (compiled : Compiled s code) (l : Limits) 
         (subst (λ z. Alike Related y (levelled code block_kind.Object z o (λ b' start. when (b'.class == x.block.class) o (NewGoes z b' start)))) (sym x.has.is.of_block)
         (subst (λ z. Alike Related y (levelled code z (block_number s g) o OfClass)) object h))))
 
-    -- it becomes the same linkage on both sides, if it is one
-    enrolled_same : (p : World) → enrolled (length fs.instances) (linkage_of_class code x.block.class) p ≡ enrolled (length m.instances) (linkage_of_text s g) p
-    enrolled_same p = ap (λ n. enrolled n (linkage_of_class code x.block.class) p) (sym (here.store).as_many) ∙ ap (λ z. enrolled (length m.instances) z p) (linkage_same s code compiled g x a.class)
+    -- it becomes the same linkage or process on both sides, if it is one
+    made_same : (p : World) → object_made_of_code code x.block.class j (length fs.instances) p ≡ object_made s g j (length m.instances) p
+    made_same p = ap (λ n. object_made_of_code code x.block.class j n p) (sym (here.store).as_many) ∙ object_same s code compiled g x j (length m.instances) p
 
     new_alike : Alike Related (having (levels s g) o (λ xs. object_entered s l o m inst w vals2 rest g line values j xs)) (objects_of code (pos (class_number s code g)) o NewGoes)
     new_alike =
         objects_alike _
-        (entry_alike s code compiled l o m fs here.store here.parked g line x values values' each j a.text a.stands_in link (enrolled (length m.instances) (linkage_of_text s g)) (enrolled (length fs.instances) (linkage_of_class code x.block.class)) enrolled_same EndObject AttachedObject AttachedObject refl chain under (λ m' fs' number is. record { own = g; is = is; class = a.class }) under_there
+        (entry_alike s code compiled l o m fs here.store here.parked g line x values values' each j a.text a.stands_in link (class_owns s compiled.agrees g a.class a.made) (is_process_text s g) (is_process_class code x.block.class) (process_record s code compiled g x) (object_made s g j (length m.instances)) (object_made_of_code code x.block.class j (length fs.instances)) made_same EndObject AttachedObject AttachedObject refl chain under (λ m' fs' number is. record { own = g; is = is; class = a.class }) under_there
         (λ m' fs' there block t' p last at. record {
           levels = x.levels;
           not_first = not_first s code compiled g a.text x.levels a.stands_in;
@@ -137,8 +138,8 @@ module _ (s : Source) (code : CodeOf) (compiled : Compiled s code) (l : Limits) 
       (having (link_in x) o (λ parent. when (is_live fs parent) o (objects_of code (pos (class_number s code k)) o (λ c b' start.
       having (supplied code b'.class b' values') o (λ cells.
       pushing b.room stack2 (machine.Of (Object (length fs.instances))) o (λ stack.
-      entering l line (words_of_block b') o (λ p.
-      in_object (enrolled (length fs.instances) (linkage_of_class code b'.class) (handed_over (length fs.instances) (machine.arrays_among values') p)) fs c b' start parent cells (waiting top stack ∷ below))))))))
+      entering l line (words_of_object code b') o (λ p.
+      in_object (object_made_of_code code b'.class parent (length fs.instances) (handed_over (length fs.instances) (machine.arrays_among values') p)) fs c b' start parent cells (waiting top stack ∷ below))))))))
   made_at k n line a values values' each v x vals2 stack2 link h =
       let j = link.instance in
       found_left s code compiled l o m inst w vals rest fs t b pc stack below ks here u q ks' low work ℕ (instance_in v) j _ _ (ap instance_in link.is_val)

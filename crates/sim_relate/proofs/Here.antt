@@ -18,7 +18,7 @@ use Rattle.sim_meaning.specs.Levels.{text_at}
 use Rattle.sim_meaning.specs.Pending.{Activation, Configuration, Instances, Item, Val}
 use Rattle.sim_meaning.specs.Pending as meaning
 use Rattle.sim_meaning.specs.Steps.{go}
-use Rattle.sim_meaning.specs.Sane.{AllKept, AllOf, LastNames, Lives, Other}
+use Rattle.sim_meaning.specs.Sane.{AllKept, AllOf, AllName, Lives, Other}
 use Rattle.codegen_expr.specs.Sites.{At, block_number, lined, frame_text}
 use Rattle.sim_relate.proofs.Known.{HandAt, Kind, StackAt, Stands, Runs, SameFrame}
 use Rattle.sim_relate.proofs.Frames.{stands_same}
@@ -49,7 +49,7 @@ pub record Here (s : Source) (code : CodeOf) (m : Instances) (fs : Frames) (inst
   pub alone : AllOf (Other inst) rest
   pub kept_alone : AllKept (Other inst) m
   pub formed : (w : List Item) (vals : List Val) → IsWellFormed meaning.owner (system_head m) (record { operating = record { instance = inst; work = w; values = vals } ∷ rest; standings = m.standings })
-  pub names : LastNames s m vals
+  pub names : AllName s m vals
   pub stands : Stands s m inst t
   pub own : text_at m inst ≡ Some b.own
   pub roomy : b.block.room ≤ b.room

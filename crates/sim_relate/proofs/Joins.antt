@@ -9,7 +9,7 @@ use Rattle.sim_values.specs.declared.operators.Dyadic.TheVariants as dyadic
 use Rattle.sim_values.specs.declared.value.TextVal.{TextVal}
 use Rattle.sim_values.specs.Arithmetic.{is_integer}
 use Rattle.sim_values.specs.Operators.{same_texts, two_of}
-use Rattle.sim_values.specs.Plain.{Character, Integer, Nothing, Object, Plain, Text, Truth}
+use Rattle.sim_values.specs.Plain.{Character, Integer, Nothing, Object, Plain, Text, Truth, MainOf}
 use Rattle.sim_values.specs.Texts.{Frame, assigned, blanks, concatenated, part, same_text, with_both}
 use Rattle.sim_values.specs.Words.{is_exhausted}
 use Rattle.sim_code.specs.declared.instr.Instr.{Instr}
@@ -30,7 +30,7 @@ use Rattle.sim_meaning.specs.Sane.{Other}
 use Rattle.codegen_expr.specs.CodeExpr.{Stand, join_instrs}
 use Rattle.codegen_expr.specs.Sites.{frame_text, own_end}
 use Rattle.sim_relate.specs.SameRuns.{seen_world}
-use Rattle.sim_relate.proofs.Known.{HandAt, Kind, StackAt, ValAt, anys, array_at, element_at, image_at, link_at, more_at, placed, plain_at, site_at, Runs}
+use Rattle.sim_relate.proofs.Known.{HandAt, Kind, StackAt, ValAt, anys, array_at, element_at, image_at, link_at, more_at, placed, plain_at, site_at, Runs, Settled}
 use Rattle.sim_relate.proofs.Relation.{ChainAt, Changed, OpAt, StateAt, StoreAt, WorkAt}
 use Rattle.sim_relate.proofs.Carried.{changed_twice}
 use Rattle.sim_relate.proofs.Hands.{stack_length}
@@ -60,6 +60,7 @@ plain_text (Truth c) = no_text tt tt
 plain_text (Character c) = no_text tt tt
 plain_text (Text t) = is_text t refl refl
 plain_text (Object j) = no_text tt tt
+plain_text (MainOf j) = no_text tt tt
 plain_text Nothing = no_text tt tt
 
 text_or : (v : Val) (x : Value) → ValAt v x → TextOr v x
@@ -78,6 +79,7 @@ module _ {S : Type 0} (o : World) where
   none_goes (Some (Character c)) go h = refl
   none_goes (Some (Text t)) go h = absurd h
   none_goes (Some (Object j)) go h = refl
+  none_goes (Some (MainOf j)) go h = refl
   none_goes (Some Nothing) go h = refl
 
   -- `==` of two values that are not both texts
@@ -89,11 +91,13 @@ module _ {S : Type 0} (o : World) where
   right_none line frames (Some (Truth c)) None go h = refl
   right_none line frames (Some (Character c)) None go h = refl
   right_none line frames (Some (Object j)) None go h = refl
+  right_none line frames (Some (MainOf j)) None go h = refl
   right_none line frames (Some Nothing) None go h = refl
   right_none line frames (Some (Integer z)) (Some x) go h = refl
   right_none line frames (Some (Truth c)) (Some x) go h = refl
   right_none line frames (Some (Character c)) (Some x) go h = refl
   right_none line frames (Some (Object j)) (Some x) go h = refl
+  right_none line frames (Some (MainOf j)) (Some x) go h = refl
   right_none line frames (Some Nothing) (Some x) go h = refl
 
   left_none : (line : ℕ) (frames : List Frame) (t : TextVal) (r : Option Plain) (go : Plain → Run S) → NoText r → having r o (λ x. answering line (two_of dyadic.SameText frames x (Text t)) o go) ≡ no_rule o
@@ -104,13 +108,14 @@ module _ {S : Type 0} (o : World) where
   left_none line frames t (Some (Truth c)) go h = refl
   left_none line frames t (Some (Character c)) go h = refl
   left_none line frames t (Some (Object j)) go h = refl
+  left_none line frames t (Some (MainOf j)) go h = refl
   left_none line frames t (Some Nothing) go h = refl
 
 -- words that were in the budget stay so
 fits_on : (storage used wanted : ℕ) → is_exhausted storage used wanted ≡ false → is_exhausted storage (used + wanted) 0 ≡ false
 fits_on storage used wanted e = let same : used + wanted + 0 ≡ used + wanted = omega arith in ap (nat_lt storage) same ∙ e
 
-module _ (s : Source) (code : CodeOf) (l : Limits) (o : World) (m : Instances) (inst : ℕ) (w : List Item) (vals : List Val) (rest : List Activation) (fs : Frames) (t : ℕ) (b : Runs) (pc : ℕ) (stack : List Value) (below : List machine.Activation) (ks : List Kind) (here : Here s code m fs inst rest t b ks vals stack) (u q : ℕ) (ks' : List Kind) (low : own_end s code (frame_text s t) ≤ u) (k : WorkAt s code m fs (λ v. ChainAt s code m fs rest v below) inst t b u w q ks') where
+module _ (s : Source) (code : CodeOf) (l : Limits) (o : World) (m : Instances) (inst : ℕ) (w : List Item) (vals : List Val) (rest : List Activation) (fs : Frames) (t : ℕ) (b : Runs) (pc : ℕ) (stack : List Value) (below : List machine.Activation) (ks : List Kind) (here : Here s code m fs inst rest t b ks vals stack) (u q : ℕ) (ks' : List Kind) (low : Settled s code t b u) (k : WorkAt s code m fs (λ v. ChainAt s code m fs rest v below) inst t b u w q ks') where
   abbrev R : Configuration → Machine → Type 0
   R = StateAt s code
 
@@ -246,7 +251,7 @@ module _ (s : Source) (code : CodeOf) (l : Limits) (o : World) (m : Instances) (
       behind_blanks big fits =
           let one_more = smaller (la + 1) (la + 1 + lb) (omega arith) big in
           let vr : Value = machine.Of (Text (new frames ta tb)) in
-          let r = temp_written s code m f inst t b (suc (suc temp)) vr temps.changed.store here.stands here.lives here.found (omega (arith, low, unused)) within in
+          let r = temp_written s code m f inst t b (suc (suc temp)) vr temps.changed.store here.stands here.lives here.found (omega (arith, low.low, unused)) within in
           let e = own_frame f temps.changed.store in
           let e3 = own_frame r.frames r.changed.store in
           let in_a3 : machine.cell r.frames inst temp ≡ Some va = r.reads_others temp (λ same. (let no : ⊥ = omega (arith, same) in no)) ∙ in_a in
@@ -340,8 +345,8 @@ module _ (s : Source) (code : CodeOf) (l : Limits) (o : World) (m : Instances) (
 
     starts : (v v' : Val) (x x' : Value) → ValAt v x → ValAt v' x' → Meets g (InEach R) (joined_run v v') o (at 0 (x ∷ x' ∷ stack') fs)
     starts v v' x x' h h' =
-        let r1 = temp_written s code m fs inst t b (suc temp) x here.store here.stands here.lives here.found (omega (arith, low, unused)) (omega (arith, within)) in
-        let r2 = temp_written s code m r1.frames inst t b temp x' r1.changed.store here.stands here.lives here.found (omega (arith, low, unused)) (omega (arith, within)) in
+        let r1 = temp_written s code m fs inst t b (suc temp) x here.store here.stands here.lives here.found (omega (arith, low.low, unused)) (omega (arith, within)) in
+        let r2 = temp_written s code m r1.frames inst t b temp x' r1.changed.store here.stands here.lives here.found (omega (arith, low.low, unused)) (omega (arith, within)) in
         let in_b : machine.cell r2.frames inst (suc temp) ≡ Some x = r2.reads_others (suc temp) (λ same. (let no : ⊥ = omega (arith, same) in no)) ∙ r1.reads in
         let e2 = own_frame r2.frames r2.changed.store in
         silent 0 (i.Store (pos lev) (pos (suc temp))) refl (store_row code l line inst b below fs r1.frames o (up 0 pc) x (x' ∷ stack') lev (suc temp) (own_frame fs here.store) r1.is)

@@ -4,34 +4,37 @@ use Rattle.std.specs.Prelude.{⊤, slice_get}
 use Rattle.sim_scope.specs.Access.{encloser}
 use Rattle.sim_scope.specs.Scopes.{entry_of}
 use Rattle.sim_scope.specs.Source.{Source, level_of}
-use Rattle.sim_values.specs.Plain.{Object, Plain}
+use Rattle.sim_values.specs.Plain.{Object, Plain, MainOf}
 use Rattle.sim_values.specs.Standard.{row_of}
 use Rattle.sim_code.specs.declared.stage.Stage.{Stage}
+use Rattle.sim_code.specs.declared.stage.Stage.TheVariants as stage
 use Rattle.sim_code.specs.Code.{BlockOf, CodeOf}
 use Rattle.sim_code.specs.Instances.{CellPlace, ElementPlace, ImagePlace, Instance, Memory, at_level, found_at}
 use Rattle.sim_code.specs.Instances as instances
 use Rattle.sim_code.specs.Machine.{Frames, Value, Cells}
 use Rattle.sim_code.specs.Machine as machine
 use Rattle.sim_code.proofs.Lifts.{Both}
-use Rattle.sim_meaning.specs.Pending.{AttributeOf, CallOf, Connection, Declared, Held, Instances, Key, PlaceOf, QualifiedElementOf, QualifiedPlaceOf, RemoteCallOf, SetOf, StandardOf, Target, Term, ToCell, ToPlace, ToTextAt, ToTextOf, TransferOf, Unbuilt, Val}
+use Rattle.sim_meaning.specs.Pending.{AttributeOf, CallOf, Connection, Declared, Held, Instances, Key, PlaceOf, QualifiedElementOf, QualifiedPlaceOf, RemoteCallOf, SetOf, SimulationOf, StandardOf, Target, Term, ToCell, ToPlace, ToTextAt, ToTextOf, TransferOf, Unbuilt, Val}
 use Rattle.sim_meaning.specs.Pending as meaning
-use Rattle.sim_meaning.specs.Levels.{text_at}
+use Rattle.sim_meaning.specs.Levels.{is_process_class, is_standard_text, levels_of, text_at}
 use Rattle.sim_meaning.specs.Meaning.{has_result}
 use Rattle.sim_meaning.specs.Objects.{constant_cell}
 use Rattle.sim_meaning.specs.Statements.{has_value}
 use Rattle.sim_meaning.specs.Texts.{ProcedureText, Text, constant_of, text}
+use Rattle.codegen.specs.CodeStm.{is_class_text}
 use Rattle.codegen_expr.specs.Sites.{HasCell, LevelOf, Site, block_number, class_number, frame_text, own_end, slot_of}
 pub use Rattle.codegen_expr.specs.Sites.{is_constant}
 
 -- ---- values
 
--- What is known of a value in hand: that it is a link to an instance of a text, or the object as such a link; that it is where a cell lies, or
--- where a reference of a class lies, or a constant of an object; or that it is none of these.
+-- What is known of a value in hand: that it is a link to an instance of a text, or the object as such a link, or the link to just this instance;
+-- that it is where a cell lies, or where a reference of a class lies, or a constant of an object; or that it is none of these.
 pub data Kind : Type 0 where
   Any : Kind
   Located : Kind
   LinkTo : (text : ℕ) → Kind
   OwnerOf : (text : ℕ) → Kind
+  LinkOf : (instance : ℕ) → Kind
   Refers : (class : ℕ) → Kind
   FixedOf : (declaration : ℕ) → Kind
 
@@ -73,6 +76,7 @@ gives s (CallOf j k ts line) = text_gives (text s k)
 gives s (RemoteCallOf a k ts line) = text_gives (text s k)
 gives s (StandardOf name ts line) = has_value (row_of name).result
 gives s (SetOf name ts) = has_value (row_of name).result
+gives s (SimulationOf j name ts line) = has_value (row_of name).result
 gives s (PlaceOf j key) = false
 gives s (AttributeOf text key class line a) = false
 gives s (QualifiedPlaceOf j key k) = false
@@ -149,6 +153,7 @@ read_kind Any e = tt
 read_kind Located e = tt
 read_kind (LinkTo text) e = absurd (cc)
 read_kind (OwnerOf text) e = absurd (cc)
+read_kind (LinkOf j) e = absurd (cc)
 read_kind (Refers class) e = absurd (cc)
 read_kind (FixedOf d) e = absurd (cc)
 
@@ -193,6 +198,12 @@ pub data ValAt : Val → Value → Type 0 where
   array_at : {a : ℕ} → ValAt (meaning.ArrayValue a) (machine.ArrayValue a)
   element_at : {a n : ℕ} → ValAt (meaning.Address (ElementPlace a n None)) (machine.Address (ElementPlace a n 0))
   image_at : {n : ℕ} → ValAt (meaning.Address (ImagePlace n)) (machine.Address (ImagePlace n))
+
+-- a reference to an object or a main program
+abbrev pub IsReference : Plain → Type 0
+IsReference (Object j) = ⊤
+IsReference (MainOf b) = ⊤
+IsReference _ = ⊥
 
 -- values in hand of these kinds and values on the stack, one by one
 pub data StackAt {V X : Type 0} (W : Kind → V → X → Type 0) : List Kind → List V → List X → Type 0 where
@@ -297,6 +308,7 @@ HandAt s code m Any v x = ValAt v x
 HandAt s code m Located v x = PlaceIs s code m v x
 HandAt s code m (LinkTo text) v x = LinkIs s m text v x
 HandAt s code m (OwnerOf text) v x = OwnerIs s m text v x
+HandAt s code m (LinkOf j) v x = (v ≡ meaning.Link j) × (x ≡ machine.Link j)
 HandAt s code m (Refers k) v x = RefersAt s code m k v x
 HandAt s code m (FixedOf d) v x = FixedIs s m d v x
 
@@ -332,6 +344,31 @@ pub record Runs : Type 0 where
 
 abbrev pub at_stage : Runs → Stage → Runs
 at_stage b stage = record b { stage = stage }
+
+-- the level of the class `process`
+abbrev pub is_process_in : Source → (text : ℕ) → Bool
+is_process_in s k = is_standard_text is_process_class (text s k)
+
+abbrev pub is_process_level : Source → Option ℕ → Bool
+is_process_level s None = false
+is_process_level s (Some k) = is_process_in s k
+
+-- What has that level is an object of a class.
+abbrev pub HasClass : Source → (own : ℕ) → Type 0
+HasClass s own = (k : ℕ) → LevelOf s.tables own k → is_process_in s k ≡ true → is_class_text (text s own) ≡ true
+
+-- whether control is behind `inner` of that level, where a process comes to its end
+abbrev pub behind_process : Source → (own : ℕ) → Stage → Bool
+behind_process s own (stage.Behind n) = is_process_level s (slice_get (levels_of s own) n)
+behind_process s own _ = false
+
+abbrev pub Calm : Source → Runs → Type 0
+Calm s b = behind_process s b.own b.stage ≡ false
+
+-- Where work of an activation stands in the code of a text: all cells of the text are in use, and no process is at its end.
+pub record Settled (s : Source) (code : CodeOf) (t : ℕ) (b : Runs) (used : ℕ) : Type 0 where
+  pub low : own_end s code (frame_text s t) ≤ used
+  pub calm : Calm s b
 
 -- where pending work goes on: in the code of a text, with so many cells and temps in use
 pub record Spot : Type 0 where

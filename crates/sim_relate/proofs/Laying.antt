@@ -21,7 +21,7 @@ use Rattle.sim_meaning.specs.Texts.{BlockText, ClassText, ConnectionText, Prefix
 use Rattle.codegen_expr.specs.Sites.{HasCell, LevelOf, block_in_front, block_number, block_of_text, cells_in, connects, frame_text, hidden_before, hidden_from, hidden_in, innermost, is_connected, is_connection, outer, own_end, own_part, place_of, prefix_of, room_of_block, slot_of, start_of, types_in}
 use Rattle.codegen.specs.Agrees.{Agrees}
 use Rattle.codegen.specs.Compiled.{CodeHas, Compiled, RecordOf, type_of_cell}
-use Rattle.sim_relate.proofs.ClassTexts.{standard_code}
+use Rattle.sim_relate.proofs.ClassTexts.{standard_heads}
 use Rattle.sim_relate.proofs.Reach.{alone, level_cases, level_either, same_some}
 use Rattle.sim_relate.proofs.Relation.{Laid}
 use Rattle.sim_relate.proofs.Slots.{place_injective, same_is}
@@ -207,7 +207,7 @@ module _ (s : Source) (code : CodeOf) (compiled : Compiled s code) where
   by_code (suc k) (PrefixedText class arguments ds ss) (Some b) e c a = of_record (suc k) b e a.heads
   by_code k (StandardText which) None e c a = absurd a
   by_code zero (StandardText which) (Some b) e c a = absurd a
-  by_code (suc k) (StandardText which) (Some b) e c a = let class = standard_code s code (suc k) which b a in of_record (suc k) b e class.heads
+  by_code (suc k) (StandardText which) (Some b) e c a = of_record (suc k) b e (standard_heads s code (suc k) which b a)
 
   -- each text but connections has a record
   pub recorded : (k : ℕ) (x : Text) → text s k ≡ Some x → is_connection_text (Some x) ≡ false → Recorded k

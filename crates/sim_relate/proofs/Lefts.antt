@@ -1,5 +1,5 @@
 -- The code of left sides, and what they are when their statement begins.
-use Rattle.std.proofs.Common.{◌≡◌, ◌≤◌, ℕ, suc, Bool, true, false, List, [], ◌∷◌, ◌++◌, length, Option, Some, None, refl, sym, ap, ◌∙◌, subst, arith}
+use Rattle.std.proofs.Common.{◌≡◌, ℕ, suc, Bool, true, false, List, [], ◌∷◌, ◌++◌, length, Option, Some, None, refl, sym, ap, ◌∙◌, subst, arith}
 use Rattle.std.specs.Prelude.{pos, reverse}
 use Rattle.std.proofs.lemmas.List.{reverse-append}
 use Rattle.sim_base.specs.declared.numbering.DeclNo.{DeclNo}
@@ -26,15 +26,16 @@ use Rattle.sim_meaning.specs.Closing.{Left, LeftAddress, LeftCell, LeftReference
 use Rattle.sim_meaning.specs.Pending.{Cell, Declared, Do, ElementOf, Eval, Instances, Item, Result, ShareOp, StoreOp, Target, Term, ToAddress, ToCell}
 use Rattle.sim_meaning.specs.Pending as meaning
 use Rattle.sim_meaning.specs.Statements.{Lefts, assigning, before, lefts}
-use Rattle.codegen_expr.specs.Sites.{At, HasCell, Inside, Site, Varies, frame_text, is_constant, own_end}
+use Rattle.codegen_expr.specs.Sites.{At, HasCell, Inside, Site, Varies, frame_text, is_constant}
 use Rattle.codegen_expr.specs.CodeExpr.{ElementAt, ExprAt, ExprsAt, PlaceAt, ReferencePlaceAt}
 use Rattle.codegen.specs.Agrees.{Agrees}
 use Rattle.codegen.specs.CodeLeft.{AtAddress, AtAttribute, GivesAt, GoesAt, InCell, LeftsAt, NotBuilt, ResultAt, SharesAt, StoreAt, Stored, ToReference, ToResult, ToText, below, each_stored, stored, stored_declared, stored_element, stored_formal, stored_found, stored_left, stored_named, stored_of, stored_result, stored_text, stored_variable}
 use Rattle.sim_relate.proofs.Closing.{close_all_at, close_at, count_close, place_at, reference_at}
 use Rattle.sim_relate.proofs.Frames.{own_frame}
-use Rattle.sim_relate.proofs.Known.{Any, Finds, IsRead, Kind, LeavesIs, Reaches, Refers, Runs, is_declared, is_fixed, leaves_any, leaves_read, reads, site_at}
+use Rattle.sim_relate.proofs.Known.{Any, Finds, IsRead, Kind, LeavesIs, Reaches, Refers, Runs, is_declared, is_fixed, leaves_any, leaves_read, reads, site_at, Settled}
 use Rattle.sim_relate.proofs.Pending.{evals, pends}
-use Rattle.sim_relate.proofs.Relation.{GivesIs, StoreIs, TargetAt, WorkAt}
+use Rattle.sim_relate.proofs.Operations.{GivesIs, StoreIs, TargetAt}
+use Rattle.sim_relate.proofs.Relation.{WorkAt}
 use Rattle.sim_relate.proofs.Trees.{Classed, OperandAt, TermAt}
 
 reverse_first : {A : Type 0} (x : A) (xs : List A) → reverse (x ∷ xs) ≡ reverse xs ++ x ∷ []
@@ -246,7 +247,7 @@ module _ (s : Source) (code : CodeOf) (m : Instances) (inst t : ℕ) (b : Runs) 
       let load = a.2 in
       (a.0, a.1, under kss ks, record { is = load.is; fits = load.fits }, stores a.0 a.1 (under kss ks) f a.3, gives_is used temp xs ys kss a.1 q ks more (subst (λ n. GivesAt s code site temp n xs a.1 q) (below_is (under kss ks) f) a.4))
 
-  module _ (fs : Frames) (Below : Bool → Type 0) (low : own_end s code (frame_text s t) ≤ u) where
+  module _ (fs : Frames) (Below : Bool → Type 0) (low : Settled s code t b u) where
     abbrev pub Works : List Item → ℕ → List Kind → Type 0
     Works w p ks = WorkAt s code m fs Below inst t b u w p ks
 
@@ -318,7 +319,7 @@ module _ (s : Source) (code : CodeOf) (m : Instances) (inst t : ℕ) (b : Runs) 
         (pends s code m fs Below inst t b u low w (ShareOp (reverse ys)) a.x q (Any ∷ over kss ks) ks (record {
           temp = a.temp;
           unused = a.behind;
-          is_temp = record { behind = omega (arith, low, a.behind); within = a.within };
+          is_temp = record { behind = omega (arith, low.low, a.behind); within = a.within };
           x = a.y;
           left = over kss ks;
           kept = a.kept;

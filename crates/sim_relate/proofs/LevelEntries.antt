@@ -1,5 +1,5 @@
 -- The entry of an object or a prefixed block: the cells of all levels, filled with the actual parameters, and where its work begins.
-use Rattle.std.proofs.Common.{◌≡◌, ◌≢◌, ◌≤◌, ℕ, true, false, List, [], ◌∷◌, length, map, Option, Some, None, refl, sym, ap, ◌∙◌, subst, arith}
+use Rattle.std.proofs.Common.{◌≡◌, ◌≢◌, ◌≤◌, ℕ, Bool, true, false, List, [], ◌∷◌, length, map, Option, Some, None, refl, sym, ap, ◌∙◌, subst, arith}
 use Rattle.std.proofs.lemmas.List.{length-map}
 use Rattle.std.specs.Prelude.{◌==◌, pos, slice_get}
 use Rattle.sim_base.specs.declared.limits.Limits.{Limits}
@@ -22,13 +22,13 @@ use Rattle.sim_code.specs.Code.{BlockOf, ClassOf, CodeOf}
 use Rattle.sim_code.specs.Events.{entering, having, no_rule, when}
 use Rattle.sim_code.specs.Instances.{Instance, entered}
 use Rattle.sim_code.specs.Levels.{class_at_level, filled_by, leading, levelled, parameter_cell, supplied}
-use Rattle.sim_code.specs.Machine.{Cells, Frames, Machine, Value, same_kind, words_of_block}
+use Rattle.sim_code.specs.Machine.{Cells, Frames, Machine, Value, same_kind}
 use Rattle.sim_code.specs.Machine as machine
 use Rattle.sim_code.specs.Outcome.{Going, Run, World}
 use Rattle.sim_code.proofs.Lifts.{EachAt, alike_entering, alike_found}
 use Rattle.sim_code.proofs.Simulation.{Alike, going, unruled}
 use Rattle.sim_meaning.specs.Attributes.{is_connection}
-use Rattle.sim_meaning.specs.Entries.{arrays_among, new_instance, words_of_cells}
+use Rattle.sim_meaning.specs.Entries.{arrays_among, new_instance}
 use Rattle.sim_meaning.specs.Levels.{has_levels, level_made, levels, levels_made, levels_of, text_at, text_in}
 use Rattle.sim_meaning.specs.Objects.{arrays_given, cells_of_levels, filled_in, levels_work}
 use Rattle.sim_meaning.specs.Pending.{Activation, Configuration, Held, Instances, Item, Level, Val}
@@ -42,7 +42,7 @@ use Rattle.sim_relate.proofs.ClassTexts.{ClassHas}
 use Rattle.sim_relate.proofs.Ends.{chosen}
 use Rattle.sim_relate.proofs.Entering.{chain_entered, enters, instance_of, later_fs, later_m, new_frame, parked_entered}
 use Rattle.sim_relate.proofs.FirstCells.{all_attributes, attributes_count, first_cells_of, made_cells}
-use Rattle.sim_relate.proofs.Known.{Runs, Stands, ValAt}
+use Rattle.sim_relate.proofs.Known.{HasClass, Runs, Stands, ValAt}
 use Rattle.sim_relate.proofs.Laying.{laid}
 use Rattle.sim_relate.proofs.LevelCells.{CellsOf, Fills, FormalCell, FormalCells, MayFill, fill, fills, no_fill}
 use Rattle.sim_relate.proofs.LevelCode.{LevelCode, level_code, levels_frame, made_of, none_made}
@@ -90,7 +90,7 @@ module _ (s : Source) (code : CodeOf) (compiled : Compiled s code) (l : Limits) 
   abbrev Related : Configuration → Machine → Type 0
   Related = StateAt s code
 
-  module _ (g line : ℕ) (x : ClassHas s code g) (values : List Val) (values' : List Value) (each : EachAt ValAt values values') (j around : ℕ) (stands_in : encloser s.tables g ≡ Some around) (link : Stands s m j around) where
+  module _ (g line : ℕ) (x : ClassHas s code g) (values : List Val) (values' : List Value) (each : EachAt ValAt values values') (j around : ℕ) (stands_in : encloser s.tables g ≡ Some around) (link : Stands s m j around) (of_class : HasClass s g) where
     tables : Agrees s
     tables = compiled.agrees
 
@@ -136,8 +136,8 @@ module _ (s : Source) (code : CodeOf) (compiled : Compiled s code) (l : Limits) 
     filling : MayFill s code g parameter values values' formals 0 attributes (machine.first_cells new_block)
     filling = fill s code g laid_here parameter (length new_block.types) (λ v key level has. laid_here.fits v key new_block level has x.found) values values' formals 0 attributes (machine.first_cells new_block) each first_here formals_here first_long
 
-    words : words_of_block new_block ≡ words_of_cells attributes
-    words = ap (λ n. instance_words n false) (attributes_count s code compiled (levels_laid s code compiled) g x)
+    words : (process : Bool) → instance_words new_block.cells process ≡ instance_words (length attributes) process
+    words process = ap (λ n. instance_words n process) (attributes_count s code compiled (levels_laid s code compiled) g x)
 
     worlds_same : (p : World) → handed_over (length fs.instances) (machine.arrays_among values') p ≡ arrays_given (length m.instances) values p
     worlds_same p =
@@ -146,20 +146,20 @@ module _ (s : Source) (code : CodeOf) (compiled : Compiled s code) (l : Limits) 
     in_world : (p p' : World) (c : Configuration) (y : Machine) → p' ≡ p → Related c y → Alike Related (Going p c) (Going p' y)
     in_world p p' c y e z = subst (λ v. Alike Related (Going p c) (Going v y)) (sym e) (going z)
 
-    -- What else happens to the world, how it stands as a component, what is below on the chain, and its end.
-    module _ (grow frame_grow : World → World) (grown : (p : World) → frame_grow p ≡ grow p) (end : Item) (standing : Standing Activation) (frame_standing : Standing machine.Activation) (plain : suspends standing ≡ None) (chain : List Activation) (under : List machine.Activation)
+    -- Whether it is a process, what else happens to the world, how it stands as a component, what is below on the chain, and its end.
+    module _ (process frame_process : Bool) (processes : frame_process ≡ process) (grow frame_grow : World → World) (grown : (p : World) → frame_grow p ≡ grow p) (end : Item) (standing : Standing Activation) (frame_standing : Standing machine.Activation) (plain : suspends standing ≡ None) (chain : List Activation) (under : List machine.Activation)
         (stands_alike : (m' : Instances) (fs' : Frames) (number : ℕ) → text_at m' number ≡ Some g → StandingAt s code m' fs' number standing frame_standing) (under_there : ChainAt s code m fs chain false under)
         (ends : (m' : Instances) (fs' : Frames) → ChainAt s code m' fs' chain false under → (block : BlockOf) (t p last : ℕ) → Is code (i.EndLevel (pos 0)) p last → EndAt s code (λ v. ChainAt s code m' fs' chain v under) t (record { own = g; room = new_block.room; block = block; stage = stage.Behind 0 }) end p []) where
       -- what the machine does when the cells are filled
       abbrev pub Fresh : (start : ℕ) → Cells → Run Machine
       Fresh start cells =
-          entering l line (words_of_block new_block) o (λ p.
+          entering l line (instance_words new_block.cells frame_process) o (λ p.
           machine.in_new (frame_grow (handed_over (length fs.instances) (machine.arrays_among values') p)) fs (block_number s g) new_block start (stage.Declaring 0) frame_standing (Some j) cells under)
 
       abbrev From : List Level → List Held → Option (List Held) → Run Configuration
       From xs hs filled =
           having filled o (λ filled.
-          entering l line (words_of_cells hs) o (λ p.
+          entering l line (instance_words (length hs) process) o (λ p.
           Going (grow (arrays_given (length m.instances) values p)) (record { chain = record { instance = length m.instances; work = levels_work xs end; values = [] } ∷ chain; memory = entered m (new_instance s g (Some j) filled) standing })))
 
       module _ (Goes : BlockOf → (start : ℕ) → Run Machine) (follows : (start : ℕ) (cells : Cells) (y : Run Configuration) → supplied code new_block.class new_block values' ≡ Some cells → Alike Related y (Fresh start cells) → Alike Related y (Goes new_block start)) where
@@ -175,7 +175,7 @@ module _ (s : Source) (code : CodeOf) (compiled : Compiled s code) (l : Limits) 
           enough_room = omega arith
 
           outermost : LevelCode s code compiled runs k0 0 x0
-          outermost = level_code s code compiled runs new_block x.found enough_room x.levels k0 0 x0 (ap (λ z. slice_get z 0) levels_are) first_made
+          outermost = level_code s code compiled runs new_block x.found enough_room x.levels of_class k0 0 x0 (ap (λ z. slice_get z 0) levels_are) first_made
 
           abbrev begins : Runs
           begins = record { own = g; room = new_block.room; block = outermost.block; stage = stage.Declaring 0 }
@@ -195,7 +195,7 @@ module _ (s : Source) (code : CodeOf) (compiled : Compiled s code) (l : Limits) 
 
             pending : WorkAt s code new_m new_fs (λ v. ChainAt s code new_m new_fs chain v under) (length m.instances) k0 begins (own_end s code k0) (levels_work (x0 ∷ xs) end) outermost.class.declarations []
             pending =
-                levels_pend s code compiled new_m new_fs (λ v. ChainAt s code new_m new_fs chain v under) (length m.instances) runs new_block x.found enough_room x.levels end k0 more x0 xs outermost levels_are rest_made
+                levels_pend s code compiled new_m new_fs (λ v. ChainAt s code new_m new_fs chain v under) (length m.instances) runs new_block x.found enough_room x.levels of_class end k0 more x0 xs outermost levels_are rest_made
                 (λ p last at. ends new_m new_fs (chain_entered s code m fs store new frame standing frame_standing plain chain false under under_there) outermost.block (frame_text s k0) p last at)
 
             stands_own : Stands s new_m (length m.instances) g
@@ -208,7 +208,7 @@ module _ (s : Source) (code : CodeOf) (compiled : Compiled s code) (l : Limits) 
 
             entered_state : Related (record { chain = record { instance = length m.instances; work = levels_work (x0 ∷ xs) end; values = [] } ∷ chain; memory = new_m }) (record { chain = record { thunk = false; home = length fs.instances; pc = outermost.class.declarations; stack = []; room = new_block.room; stage = stage.Declaring 0 } ∷ under; memory = new_fs })
             entered_state =
-                let pair = instance_of s code g x.kind type.Nothing new_block heads x.found (x.passes (is_class_free s g)) own laid_here (Some j) r.now r.frame r.at (r.long ∙ first_long) in
+                let pair = instance_of s code g x.kind type.Nothing new_block heads x.found (x.passes (is_class_free s g)) own (levels_solid s code compiled g x.levels) laid_here (Some j) r.now r.frame r.at (r.long ∙ first_long) in
                 enters s code m fs store new frame standing frame_standing plain (parked_entered s code m fs store new frame standing frame_standing plain (stands_alike new_m new_fs (length m.instances) (ap text_in (append_at m.instances new))) parked) chain under k0 begins pair
                 (ap (λ z. slice_get code.blocks (block_number s z)) outermost.level.frame ∙ outermost.level.found) stands_first stands_own refl outermost.level.roomy (levels_work (x0 ∷ xs) end) (own_end s code k0) outermost.class.declarations pending
 
@@ -230,11 +230,11 @@ module _ (s : Source) (code : CodeOf) (compiled : Compiled s code) (l : Limits) 
                 (alike_found Configuration Machine Related ClassOf (class_at_level code (map (class_number s code) (levels_of s g)) 0) outermost.class o y _ (ap (λ z. class_at_level code (map (class_number s code) z) 0) levels_are ∙ outermost.level.numbered)
                 (let lead = there_get code.instrs outermost.class.declarations outermost.declared_there in alike_found Configuration Machine Related Lined (slice_get code.instrs outermost.class.declarations) lead.0 o y _ lead.1 h))))
 
-            enters_so : Alike Related (entering l line (words_of_cells attributes) o (λ p. Going (grow (arrays_given (length m.instances) values p)) (record { chain = record { instance = length m.instances; work = levels_work (x0 ∷ xs) end; values = [] } ∷ chain; memory = new_m }))) Levelled
+            enters_so : Alike Related (entering l line (instance_words (length attributes) process) o (λ p. Going (grow (arrays_given (length m.instances) values p)) (record { chain = record { instance = length m.instances; work = levels_work (x0 ∷ xs) end; values = [] } ∷ chain; memory = new_m }))) Levelled
             enters_so =
                 levelled_alike _
                 (follows outermost.class.declarations r.frame _ supplied_is
-                (alike_entering Configuration Machine Related l line line (words_of_cells attributes) (words_of_block new_block) o _ _ refl words (λ p. in_world _ _ _ _ (ap frame_grow (worlds_same p) ∙ grown (arrays_given (length m.instances) values p)) entered_state)))
+                (alike_entering Configuration Machine Related l line line (instance_words (length attributes) process) (instance_words new_block.cells frame_process) o _ _ refl (ap (instance_words new_block.cells) processes ∙ words process) (λ p. in_world _ _ _ _ (ap frame_grow (worlds_same p) ∙ grown (arrays_given (length m.instances) values p)) entered_state)))
 
           from_filling : MayFill s code g parameter values values' formals 0 attributes (machine.first_cells new_block) → Alike Related (From (x0 ∷ xs) attributes (filled_in values (Some attributes) formals)) Levelled
           unfolding having no_rule

@@ -11,7 +11,7 @@ use Rattle.sim_scope.specs.Scopes.{class_formals, class_formals_of, entry_of, fo
 use Rattle.sim_scope.specs.Source.{Source}
 use Rattle.sim_scope.specs.Tables as scope
 use Rattle.sim_code.specs.Code.{BlockOf, ClassOf, CodeOf}
-use Rattle.sim_code.specs.Classes.{class_numbered}
+use Rattle.sim_code.specs.Classes.{block_in_record, class_numbered}
 use Rattle.sim_code.specs.Levels.{extent, own_or_outer, parameter_by, parameter_cell, parameter_within}
 use Rattle.sim_code.specs.Levels as code_levels
 use Rattle.sim_meaning.specs.Closing.{class_parameters}
@@ -233,7 +233,7 @@ module _ (s : Source) (code : CodeOf) (compiled : Compiled s code) where
 
   class_front : (p : ℕ) (x : ClassOf) (b : BlockOf) → class_numbered code p ≡ Some x → slice_get code.blocks x.block ≡ Some b → code_levels.in_front code p ≡ Some (length b.types, length b.formals)
   class_front zero x b e f = absurd (cc)
-  class_front (suc p) x b e f = ap (λ z. extent (code_levels.block_in_record code z)) e ∙ ap extent f
+  class_front (suc p) x b e f = ap (λ z. extent (block_in_record code z)) e ∙ ap extent f
 
   no_class : (k : ℕ) (x : ClassHas s code k) → class_number s code k ≤ 0 → ⊥
   unfolding class_number

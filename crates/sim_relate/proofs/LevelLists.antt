@@ -1,14 +1,12 @@
 -- The levels of a text as a list, the outermost one first: each stands in it once, at the place that the length of its own list tells.
 use Rattle.std.proofs.Common.{◌≡◌, ◌≢◌, ◌<◌, ◌≤◌, ℕ, zero, suc, Bool, true, false, List, [], ◌∷◌, ◌++◌, length, Option, Some, None, ⊎_elim, inl, inr, refl, sym, ap, ◌∙◌, subst, arith}
-use Rattle.std.specs.Prelude.{◌⊎◌, ◌||◌, ◌==◌, drop, if◌then◌else◌, nat_eq, not, slice_get}
+use Rattle.std.specs.Prelude.{◌⊎◌, ◌||◌, ◌==◌, drop, if◌then◌else◌, nat_eq, slice_get}
 use Rattle.std.proofs.lemmas.Bool.Decides.{nat_tests}
-use Rattle.sim_scope.specs.declared.types.StandardClass.{StandardClass}
-use Rattle.sim_scope.specs.declared.types.StandardClass.TheVariants as standard
-use Rattle.sim_scope.specs.Levels.{base, base_in, has_level, holds, is_simulation_block, some_level_of}
+use Rattle.sim_scope.specs.Levels.{base, base_in, has_level, holds, some_level_of}
 use Rattle.sim_scope.specs.Source.{Source}
 use Rattle.sim_scope.specs.Tables as scope
 use Rattle.sim_meaning.specs.Attributes.{is_connection as is_connection_text}
-use Rattle.sim_meaning.specs.Levels.{both, is_class, level_made, levels_beyond, levels_from, levels_inside, levels_made, levels_of, standard_level, unless_simulation, writes_inner}
+use Rattle.sim_meaning.specs.Levels.{both, is_class, level_made, levels_beyond, levels_from, levels_inside, levels_made, levels_of}
 use Rattle.sim_meaning.specs.Pending.{Level}
 use Rattle.sim_meaning.specs.Texts.{BlockText, ClassText, ConnectionText, PrefixedText, ProcedureText, StandardText, Text, text}
 use Rattle.codegen_expr.specs.Sites.{LevelOf, connects, in_front, innermost, is_connected, is_connection, outer, prefix_of}
@@ -106,24 +104,10 @@ pub level_text : (s : Source) (k : ℕ) (o : Option Text) (y : Level) → level_
 level_text s k None y e = absurd (cc)
 level_text s k (Some (BlockText begin ds ss)) y e = absurd (cc)
 level_text s k (Some (ProcedureText result h a)) y e = absurd (cc)
-level_text s k (Some (ClassText prefix h ds ss)) y e = by (is_simulation_block s.tables k) e
-  where
-    by : (c : Bool) → unless_simulation c (record { text = k; declarations = ds; statements = ss; inner_last = not (writes_inner s k) }) ≡ Some y → y.text ≡ k
-    by true e = absurd (cc)
-    by false e = let f = e in ap (λ z. z.text) (sym (some_is f))
-level_text s k (Some (PrefixedText class arguments ds ss)) y e = by (is_simulation_block s.tables k) e
-  where
-    by : (c : Bool) → unless_simulation c (record { text = k; declarations = ds; statements = ss; inner_last = true }) ≡ Some y → y.text ≡ k
-    by true e = absurd (cc)
-    by false e = let f = e in ap (λ z. z.text) (sym (some_is f))
+level_text s k (Some (ClassText prefix h ds ss)) y e = ap (λ z. z.text) (sym (some_is e))
+level_text s k (Some (PrefixedText class arguments ds ss)) y e = ap (λ z. z.text) (sym (some_is e))
 level_text s k (Some ConnectionText) y e = absurd (cc)
-level_text s k (Some (StandardText which)) y e = by which e
-  where
-    by : (which : StandardClass) → standard_level k which ≡ Some y → y.text ≡ k
-    by standard.Process e = absurd (cc)
-    by standard.Linkage e = let f = e in ap (λ z. z.text) (sym (some_is f))
-    by standard.Link e = let f = e in ap (λ z. z.text) (sym (some_is f))
-    by standard.Head e = let f = e in ap (λ z. z.text) (sym (some_is f))
+level_text s k (Some (StandardText which)) y e = ap (λ z. z.text) (sym (some_is e))
 
 module _ (s : Source) (agrees : Agrees s) where
   abbrev Solid : ℕ → Type 0

@@ -1,5 +1,6 @@
 pub mod Known
 pub mod Trees
+pub mod Operations
 pub mod Relation
 pub mod Hands
 pub mod Here
@@ -22,6 +23,10 @@ pub mod Stores
 pub mod Pending
 pub mod Operators
 pub mod Moved
+pub mod OfClass
+pub mod Subclasses
+pub mod ProcessClasses
+pub mod ObjectsHere
 pub mod LevelCode
 pub mod ClassTexts
 pub mod LevelCells
@@ -30,6 +35,8 @@ pub mod FirstCells
 pub mod ObjectWork
 pub mod Assigns
 pub mod SetNames
+pub mod SimulationNames
+pub mod AttributeTerms
 pub mod Calls
 pub mod Sets
 pub mod Lefts
@@ -67,6 +74,9 @@ pub mod Called
 pub mod Standings
 pub mod Chains
 pub mod Transfers
+pub mod Scheduled
+pub mod Simulations
+pub mod ProcessEnds
 pub mod Waiting
 pub mod Formed
 pub mod Components

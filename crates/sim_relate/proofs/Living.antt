@@ -1,5 +1,5 @@
 -- What is seen from an instance that lives with its enclosers is found from it.
-use Rattle.std.proofs.Common.{◌≡◌, ℕ, zero, suc, length, Option, Some, false, refl, sym, ap, ◌∙◌}
+use Rattle.std.proofs.Common.{◌≡◌, ℕ, zero, suc, Bool, true, length, Option, Some, false, refl, sym, ap, ◌∙◌, subst}
 use Rattle.std.proofs.lemmas.Option.{slice_get_within}
 use Rattle.std.specs.Prelude.{◌==◌, if◌then◌else◌, slice_get}
 use Rattle.sim_chains.specs.Components.{Standing}
@@ -33,6 +33,24 @@ module _ {C A : Type 0} (m : Memory C A) where
   level_as_seen : (level j : ℕ) → Lives m j → at_level m level j ≡ seen_at m level j
   unfolding at_level seen_at
   level_as_seen level j lives = within_as_seen (suc j) level j lives
+
+-- what is found from an instance that lives with its enclosers does so too
+found_lives_in : {C A : Type 0} (m : Memory C A) (c : Bool) (j k : ℕ) (other : Option ℕ) → Lives m j → (other ≡ Some k → Lives m k) → (if c then Some j else other) ≡ Some k → Lives m k
+found_lives_in m true j k other lives f e = let same : j ≡ k = cc (e) in subst (Lives m) same lives
+found_lives_in m false j k other lives f e = f e
+
+found_within : {C A : Type 0} (m : Memory C A) (n level j k : ℕ) → Lives m j → level_within n m level j ≡ Some k → Lives m k
+found_within m zero level j k lives e = absurd (cc (e))
+found_within m (suc n) level j k (lives_alone {x = x} lives alone) e =
+    found_lives_in m (x.level == level) j k (outward (level_within n m level) x.encloser) (lives_alone lives alone) (λ f. absurd (cc (sym f ∙ ap (outward (level_within n m level)) alone)))
+    (sym (ap (found_at level (level_within n m level) j) lives) ∙ e)
+found_within m (suc n) level j k (lives_inside {e = o} {x = x} lives out more) e =
+    found_lives_in m (x.level == level) j k (outward (level_within n m level) x.encloser) (lives_inside lives out more)
+    (λ f. found_within m n level o k more (sym (ap (outward (level_within n m level)) out) ∙ f)) (sym (ap (found_at level (level_within n m level) j) lives) ∙ e)
+
+pub found_lives : {C A : Type 0} (m : Memory C A) (level j k : ℕ) → Lives m j → at_level m level j ≡ Some k → Lives m k
+unfolding at_level
+found_lives m level j k lives e = found_within m (suc j) level j k lives e
 
 -- what is reached is found
 pub reached : (s : Source) (m : Instances) (from text j : ℕ) → Lives m from → Reaches s m from text j → at_level m (level_of s text) from ≡ Some j

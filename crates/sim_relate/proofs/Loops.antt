@@ -20,7 +20,7 @@ use Rattle.sim_tree.specs.Syntax as syntax
 use Rattle.sim_values.specs.declared.operators.Calculation.TheVariants as calculation
 use Rattle.sim_values.specs.declared.operators.Dyadic.TheVariants as dyadic
 use Rattle.sim_values.specs.Operators.{step_test}
-use Rattle.sim_values.specs.Plain.{Character, Integer, Nothing, Object, Plain, Text, Truth}
+use Rattle.sim_values.specs.Plain.{Character, Integer, Nothing, Object, Plain, Text, Truth, MainOf}
 use Rattle.sim_code.specs.declared.instr.Instr.TheVariants as i
 use Rattle.sim_code.specs.Code.{CodeOf}
 use Rattle.sim_code.specs.Outcome.{Going, Run, World}
@@ -38,7 +38,7 @@ use Rattle.sim_meaning.specs.Pending as meaning
 use Rattle.sim_meaning.specs.Statements.{controlled, controlled_left, finding, looping, reading}
 use Rattle.sim_meaning.specs.Steps.{go}
 use Rattle.sim_meaning.specs.Texts.{text}
-use Rattle.codegen_expr.specs.Sites.{Inside, Is, Site, HasCell, Pushes, slot_of, frame_text, own_end}
+use Rattle.codegen_expr.specs.Sites.{Inside, Is, Site, HasCell, Pushes, slot_of}
 use Rattle.codegen_expr.specs.CodeExpr.{ExprAt, PlaceAt}
 use Rattle.codegen.specs.Agrees.{Agrees}
 use Rattle.codegen.specs.CodeFor.{OfCell, OfPlace, OfReference, PutsAt, TakesValues, variable_of, variable_stored, ElementsAt, ForAt, ListAt, LoadsVariable, OneElementAt, SharedAt, StoresVariable, Variable, is_empty, GivesVariable, assigned_by}
@@ -47,8 +47,9 @@ use Rattle.codegen.specs.CodeStm.{StmAt}
 use Rattle.sim_relate.proofs.Closing.{place_at, reference_at}
 use Rattle.sim_relate.proofs.Frames.{same_frame}
 use Rattle.sim_relate.proofs.Trees.{FetchIs, FetchesAt}
-use Rattle.sim_relate.proofs.Known.{Finds, FixedOf, IsRead, LinkTo, Located, OwnerOf, Refers, gives, kind_read, leaves_kind, left_kind, place_kind, place_target, read_kind, reads, reads_kind, Any, HandAt, Kind, StackAt, anys, more_at, plain_at, site_at, variable_target, Runs, spot}
-use Rattle.sim_relate.proofs.Relation.{BeginsAt, CellVariableIs, ChainAt, ComesTo, OpAt, PlaceVariableIs, StateAt, StoreIs, TurnOf, VariableIs, WorkAt, over, stays, straight, there, turning}
+use Rattle.sim_relate.proofs.Known.{Finds, FixedOf, IsRead, LinkTo, Located, OwnerOf, Refers, gives, kind_read, leaves_kind, left_kind, place_kind, place_target, read_kind, reads, reads_kind, Any, HandAt, Kind, StackAt, anys, more_at, plain_at, site_at, variable_target, Runs, spot, Settled, LinkOf}
+use Rattle.sim_relate.proofs.Operations.{StoreIs}
+use Rattle.sim_relate.proofs.Relation.{BeginsAt, CellVariableIs, ChainAt, ComesTo, OpAt, PlaceVariableIs, StateAt, TurnOf, VariableIs, WorkAt, over, stays, straight, there, turning}
 use Rattle.sim_relate.proofs.Hands.{hand_plain}
 use Rattle.sim_relate.proofs.Here.{Here, act, at_row, goes, kinds_as, there_of}
 use Rattle.sim_relate.proofs.Lefts.{CellFound, LeftFits, left_named}
@@ -67,16 +68,19 @@ module _ (S M : Type 0) (R : S → M → Type 0) (line line' : ℕ) (o : World) 
   any_line (Character x) (Integer y) (Integer z) = alike_no_rule S M R o
   any_line (Text x) (Integer y) (Integer z) = alike_no_rule S M R o
   any_line (Object x) (Integer y) (Integer z) = alike_no_rule S M R o
+  any_line (MainOf x) (Integer y) (Integer z) = alike_no_rule S M R o
   any_line Nothing (Integer y) (Integer z) = alike_no_rule S M R o
   any_line x (Truth y) (Integer z) = alike_no_rule S M R o
   any_line x (Character y) (Integer z) = alike_no_rule S M R o
   any_line x (Text y) (Integer z) = alike_no_rule S M R o
   any_line x (Object y) (Integer z) = alike_no_rule S M R o
+  any_line x (MainOf y) (Integer z) = alike_no_rule S M R o
   any_line x Nothing (Integer z) = alike_no_rule S M R o
   any_line x y (Truth z) = alike_no_rule S M R o
   any_line x y (Character z) = alike_no_rule S M R o
   any_line x y (Text z) = alike_no_rule S M R o
   any_line x y (Object z) = alike_no_rule S M R o
+  any_line x y (MainOf z) = alike_no_rule S M R o
   any_line x y Nothing = alike_no_rule S M R o
 
 -- elements with other turns
@@ -123,7 +127,7 @@ module _ (s : Source) (code : CodeOf) (site : Site) (n : ℕ) (v : Variable) whe
   elements_as [] A B f k p q a = a
   elements_as (e ∷ es) A B f k p q a = (a.0, one_as e (A k) (B k) (f k) p a.0 a.1, elements_as es A B f (suc k) a.0 q a.2)
 
-module _ (s : Source) (code : CodeOf) (l : Limits) (agrees : Agrees s) (o : World) (m : Instances) (inst : ℕ) (w : List Item) (vals : List Val) (rest : List Activation) (fs : Frames) (t : ℕ) (b : Runs) (pc : ℕ) (stack : List Value) (below : List machine.Activation) (ks : List Kind) (here : Here s code m fs inst rest t b ks vals stack) (u q : ℕ) (ks' : List Kind) (low : own_end s code (frame_text s t) ≤ u) (k : WorkAt s code m fs (λ v. ChainAt s code m fs rest v below) inst t b u w q ks') where
+module _ (s : Source) (code : CodeOf) (l : Limits) (agrees : Agrees s) (o : World) (m : Instances) (inst : ℕ) (w : List Item) (vals : List Val) (rest : List Activation) (fs : Frames) (t : ℕ) (b : Runs) (pc : ℕ) (stack : List Value) (below : List machine.Activation) (ks : List Kind) (here : Here s code m fs inst rest t b ks vals stack) (u q : ℕ) (ks' : List Kind) (low : Settled s code t b u) (k : WorkAt s code m fs (λ v. ChainAt s code m fs rest v below) inst t b u w q ks') where
   abbrev R : Configuration → Machine → Type 0
   R = StateAt s code
 
@@ -159,6 +163,7 @@ module _ (s : Source) (code : CodeOf) (l : Limits) (agrees : Agrees s) (o : Worl
   fetched_kind Located r n z p' is = is
   fetched_kind (LinkTo text) r n z p' is = absurd r
   fetched_kind (OwnerOf text) r n z p' is = absurd r
+  fetched_kind (LinkOf j) r n z p' is = absurd r
   fetched_kind (Refers class) r n z p' is = absurd r
   fetched_kind (FixedOf d) r n z p' is = absurd r
 
@@ -334,7 +339,7 @@ module _ (s : Source) (code : CodeOf) (l : Limits) (agrees : Agrees s) (o : Worl
       first = h.first;
       returns = h.returns;
       unused = h.outside;
-      is_temp = record { behind = omega (arith, low, h.outside); within = h.within };
+      is_temp = record { behind = omega (arith, low.low, h.outside); within = h.within };
       turn = turn;
       tick = h.tick;
       body = h.body;
@@ -359,7 +364,7 @@ module _ (s : Source) (code : CodeOf) (l : Limits) (agrees : Agrees s) (o : Worl
       let r = list_is v (is_empty a) es a y q list in
       let same : u ≤ u = omega arith in
       moves_on (Do (ElementsOp x es a) ∷ w) y
-      (r.at, u, q, ks', t, spot t b u, same_frame s t, r.comes, same, low, stays (record { variable = v; v = h; number = 0; elements = r.elements; out = e }) refl, k) refl
+      (r.at, u, q, ks', t, spot t b u, same_frame s t, r.comes, same, low.low, stays (record { variable = v; v = h; number = 0; elements = r.elements; out = e }) low.calm refl, k) refl
 
   -- the variable that is meant
   pub record MeantIs (v : Variable) (meant : Option Target) : Type 0 where

@@ -5,16 +5,17 @@ use Rattle.sim_base.specs.declared.limits.Limits.{Limits}
 use Rattle.sim_scope.specs.Source.{Source, level_of}
 use Rattle.sim_tree.specs.Syntax.{Also, Element, NoStatement, Statement, Statements}
 use Rattle.sim_tree.specs.Syntax as syntax
+use Rattle.sim_values.specs.declared.standard.Standard.{Standard}
 use Rattle.sim_code.specs.declared.instr.Instr.TheVariants as i
 use Rattle.sim_code.specs.Code.{CodeOf}
 use Rattle.sim_code.specs.Events.{no_rule}
-use Rattle.sim_code.specs.Outcome.{Going, World}
+use Rattle.sim_code.specs.Outcome.{Ended, Going, NoRule, World}
 use Rattle.sim_code.specs.Machine.{Frames, Machine, Value}
 use Rattle.sim_code.specs.Machine as machine
 use Rattle.sim_code.specs.Rows.{mstep, on_top}
 use Rattle.sim_code.proofs.Simulation.{Alike, unruled}
 use Rattle.sim_meaning.specs.Meaning.{do_op, has_result, step}
-use Rattle.sim_meaning.specs.Pending.{Activation, AgainOp, ArrayOp, AttributeOf, AttributeOp, BackOp, BranchOp, CallOf, CallOp, Cell, ChooseOp, Configuration, ConnectOp, CopyOf, CopyOp, DeclareOp, Do, DropOp, Either, ElementOf, ElementOp, ElementsOp, EndBlock, EndLevel, EndObject, EndPrefixed, EndProcedure, EndProgram, EnterOp, Eval, Exec, Execs, FetchOp, FitsOf, FitsOp, GiveOp, Given, IfOp, ImageOf, Instances, Item, JoinOp, Joined, KeepOp, KeptOf, MemberOf, MemberOp, NewOf, NewOp, NotNoneOf, NotNoneOp, ObjectOp, One, OneOp, Op, PastOp, PlaceOf, PrefixedOp, QuaOf, QuaOp, QualifiedElementOf, QualifiedElementOp, QualifiedPlaceOf, RaiseOp, ReferOp, RemoteCallOf, SetOf, SetOp, ShareOp, StandardOf, StandardOp, StepOp, StepTestOp, StoreOp, SwapOp, Target, Term, Terms, TestOp, ToAddress, ToCell, ToPlace, ToReference, ToReferenceAt, ToText, ToTextAt, ToTextOf, TransferOf, TransferOp, Two, TwoOp, Unbuilt, Val, ValueAt, WhenOp, WhileElementOp}
+use Rattle.sim_meaning.specs.Pending.{Activation, AgainOp, ArrayOp, AttributeOf, AttributeOp, BackOp, BranchOp, CallOf, CallOp, Cell, ChooseOp, Configuration, ConnectOp, CopyOf, CopyOp, DeclareOp, Do, DropOp, Either, ElementOf, ElementOp, ElementsOp, EndBlock, EndLevel, EndObject, EndPrefixed, EndProcedure, EndProgram, EnterOp, Eval, Exec, Execs, FetchOp, FitsOf, FitsOp, GiveOp, Given, IfOp, ImageOf, Instances, Item, JoinOp, Joined, KeepOp, KeptOf, MemberOf, MemberOp, NewOf, NewOp, NotNoneOf, NotNoneOp, ObjectOp, One, OneOp, Op, PastOp, PlaceOf, PrefixedOp, QuaOf, QuaOp, QualifiedElementOf, QualifiedElementOp, QualifiedPlaceOf, RaiseOp, ReferOp, RemoteCallOf, SetOf, SelfOp, SetOp, ShareOp, StandardOf, StandardOp, StepOp, StepTestOp, StoreOp, SwapOp, Target, Term, Terms, TestOp, ToAddress, ToCell, ToPlace, ToReference, ToReferenceAt, ToText, ToTextAt, ToTextOf, TransferOf, TransferOp, Two, TwoOp, Unbuilt, Val, ValueAt, WhenOp, WhileElementOp, ActivateOp, BlockOp, ProcessOf, ProcessOp, SimulationOf, SimulationOp}
 use Rattle.sim_meaning.specs.Entries.{arrays_declared}
 use Rattle.sim_meaning.specs.Steps.{count}
 use Rattle.sim_meaning.specs.Sane.{NamesOn, Sane, SaneOn}
@@ -39,13 +40,15 @@ use Rattle.sim_relate.proofs.Loops as loops
 use Rattle.sim_relate.proofs.Operators as operators
 use Rattle.sim_relate.proofs.Pending.{each_pends, pends}
 use Rattle.sim_relate.proofs.PrefixedEntries as prefixed
+use Rattle.sim_relate.proofs.ProcessEnds as process_ends
 use Rattle.sim_relate.proofs.Quiet.{arrays_weight, each_weight, weight}
 use Rattle.sim_relate.proofs.Quiet as quiet_steps
-use Rattle.sim_relate.proofs.Known.{Any, FixedOf, Kind, LinkTo, Located, OwnerOf, Refers, anys, given, more_at, site_at, text_gives, Runs, Spot}
-use Rattle.sim_relate.proofs.Relation.{BeginsAt, ChainAt, ChainNow, InStage, NowAt, OpAt, StandingsAt, StateAt, StateNow, StoreAt, WorkAt, WithInnerIs, declares, inner_here, inner_last, stays, with_inner}
+use Rattle.sim_relate.proofs.Known.{Any, FixedOf, Kind, LinkTo, Located, OwnerOf, Refers, anys, given, more_at, site_at, text_gives, Runs, Spot, Settled, LinkOf}
+use Rattle.sim_relate.proofs.Relation.{BeginsAt, ChainAt, ChainNow, InStage, NowAt, OpAt, StandingsAt, StateAt, StateNow, StoreAt, WorkAt, WithInnerIs, declares, inner_here, inner_last, stays, with_inner, ends_process}
 use Rattle.sim_relate.proofs.References as references
 use Rattle.sim_relate.proofs.Settle.{as_act}
 use Rattle.sim_relate.proofs.Sets as sets
+use Rattle.sim_relate.proofs.Simulations as simulations
 use Rattle.sim_relate.proofs.Statements as statements
 use Rattle.sim_relate.proofs.Transfers as transfers
 use Rattle.sim_relate.proofs.Ranked.{InEach, Meets, at_once, in_steps}
@@ -53,13 +56,14 @@ use Rattle.sim_relate.proofs.Ranked as ranked
 use Rattle.sim_relate.proofs.Trees.{FetchesAt}
 use Rattle.sim_relate.proofs.Waiting.{gets_free, suspended}
 
--- a step of both, or one of the program alone that leaves less to be taken apart
+-- a step of both, one of the program that is by a rule and which several of the machine follow, or one of the program alone that leaves less to be
+-- taken apart
 pub data MovesNow (s : Source) (code : CodeOf) (l : Limits) (o : World) (c : Configuration) (x : Machine) : Type 0 where
   both : Alike (StateAt s code) (step s l o c) (mstep code l o x) → MovesNow s code l o c x
-  several : Meets (mstep code l) (InEach (StateAt s code)) (step s l o c) o x → MovesNow s code l o c x
+  several : (((p : World) → step s l o c ≡ Ended p NoRule → ⊥) → Meets (mstep code l) (InEach (StateAt s code)) (step s l o c) o x) → MovesNow s code l o c x
   quiet : (c' : Configuration) → step s l o c ≡ Going o c' → StateAt s code c' x → weight s c' < weight s c → MovesNow s code l o c x
 
-module _ (s : Source) (code : CodeOf) (compiled : Compiled s code) (l : Limits) (o : World) (m : Instances) (inst : ℕ) (w : List Item) (vals : List Val) (rest : List Activation) (fs : Frames) (t : ℕ) (b : Runs) (pc : ℕ) (stack : List Value) (below : List machine.Activation) (ks : List Kind) (here : Here s code m fs inst rest t b ks vals stack) (u q : ℕ) (ks' : List Kind) (low : own_end s code (frame_text s t) ≤ u) (k : WorkAt s code m fs (λ v. ChainAt s code m fs rest v below) inst t b u w q ks') where
+module _ (s : Source) (code : CodeOf) (compiled : Compiled s code) (l : Limits) (o : World) (m : Instances) (inst : ℕ) (w : List Item) (vals : List Val) (rest : List Activation) (fs : Frames) (t : ℕ) (b : Runs) (pc : ℕ) (stack : List Value) (below : List machine.Activation) (ks : List Kind) (here : Here s code m fs inst rest t b ks vals stack) (u q : ℕ) (ks' : List Kind) (low : Settled s code t b u) (k : WorkAt s code m fs (λ v. ChainAt s code m fs rest v below) inst t b u w q ks') where
   abbrev Below : Bool → Type 0
   Below v = ChainAt s code m fs rest v below
 
@@ -100,7 +104,21 @@ module _ (s : Source) (code : CodeOf) (compiled : Compiled s code) (l : Limits) 
       (operators.pushes s code l o m inst w vals rest fs t b pc stack below ks here o (machine.Link j) _ _ (x.link).fits
       (goes s code u x.x (with_values s code here (more_at (record { instance = j; is_val = refl; is_value = refl; stands = reaches.stands }) here.values))
       (each_pends s code m fs Below inst t b u low (Do (NewOp c (count ts) line) ∷ w) ts x.x x.y (LinkTo x.text ∷ ks) x.actuals
-      (pends s code m fs Below inst t b u low w (NewOp c (count ts) line) x.y q (anys (count ts) (LinkTo x.text ∷ ks)) ks' (record { text = x.text; is = x.new; stands_in = x.stands_in; class = x.class; left = ks; fits = (x.link).fits; «in» = refl; out = a.1 }) k))
+      (pends s code m fs Below inst t b u low w (NewOp c (count ts) line) x.y q (anys (count ts) (LinkTo x.text ∷ ks)) ks' (record { text = x.text; is = x.new; stands_in = x.stands_in; class = x.class; made = x.made; left = ks; fits = (x.link).fits; «in» = refl; out = a.1 }) k))
+      (is.is).on)))
+
+  -- and the name of a simulation block
+  simulation_link : (j : ℕ) (name : Standard) (ts : Terms) (line : ℕ) → OpAt s code m fs inst (site_at t b u) (Eval (SimulationOf j name ts line)) pc q ks ks' → Alike (StateAt s code) (do_op s l o m inst w vals rest (Eval (SimulationOf j name ts line))) (on_top code l o fs (act inst pc stack b) below)
+  simulation_link j name ts line a =
+      let x = a.0 in
+      let reaches = x.reaches in
+      let is = (x.link).is in
+      at_row s code l o fs (act inst pc stack b) below _ (i.Link (pos (level_of s x.text))) is.line x.x is.is
+      (operators.at_frame s code l o m inst w vals rest fs t b pc stack below ks here o (level_of s x.text) j _ _ (reached s m inst x.text j here.lives reaches)
+      (operators.pushes s code l o m inst w vals rest fs t b pc stack below ks here o (machine.Link j) _ _ (x.link).fits
+      (goes s code u x.x (with_values s code here (more_at (refl, refl) here.values))
+      (each_pends s code m fs Below inst t b u low (Do (SimulationOp name line) ∷ w) ts x.x x.y (LinkOf j ∷ ks) x.actuals
+      (pends s code m fs Below inst t b u low w (SimulationOp name line) x.y q (anys (count ts) (LinkOf j ∷ ks)) ks' (record { many = count ts; is = x.is; text = x.text; block = j; reaches = reaches; left = ks; «in» = refl; out = a.1 }) k))
       (is.is).on)))
 
   eval_moves : (x : Term) → Follows (Eval x)
@@ -134,6 +152,8 @@ module _ (s : Source) (code : CodeOf) (compiled : Compiled s code) (l : Limits) 
   eval_moves (SetOf name ts) a =
       let e = each_weight s m inst ts (Do (SetOp name) ∷ w) refl in
       quiet _ refl (stands_so _ (quiet_steps.set_opened s code m fs Below inst t b u low w pc q ks ks' k name ts a)) (omega (arith, e))
+  eval_moves (ProcessOf name line x) a = quiet _ refl (stands_so _ (quiet_steps.process_opened s code m fs Below inst t b u low w pc q ks ks' k name line x a)) (omega arith)
+  eval_moves (SimulationOf j name ts line) a = both (simulation_link j name ts line a)
   eval_moves Unbuilt a = both unruled
 
   statement_moves : (x : Statement) → Follows (Exec x)
@@ -148,7 +168,7 @@ module _ (s : Source) (code : CodeOf) (compiled : Compiled s code) (l : Limits) 
   statement_moves (syntax.Inner token) a = absurd (a.0)
   statement_moves (syntax.Inspect token e opening x end other) a = both (statements.inspect_statement s code l compiled.agrees o m inst w vals rest fs t b pc stack below ks here u q ks' low k token e opening x end other a)
   statement_moves (syntax.InspectWhen token e arms other) a = both (statements.inspect_when_statement s code l compiled.agrees o m inst w vals rest fs t b pc stack below ks here u q ks' low k token e arms other a)
-  statement_moves (syntax.Activate token word e schedule) a = absurd (a.0)
+  statement_moves (syntax.Activate token word e schedule) a = both (statements.activate_statement s code l compiled.agrees o m inst w vals rest fs t b pc stack below ks here u q ks' low k token word e schedule a)
 
   elements_move : (x : Target) (es : List Element) (y : Statement) → Follows (ElementsOp x es y)
   elements_move x [] y a = quiet _ refl (stands_so w (loops.none_rests s code l compiled.agrees o m inst w vals rest fs t b pc stack below ks here u q ks' low k x y a)) (omega arith)
@@ -166,7 +186,7 @@ module _ (s : Source) (code : CodeOf) (compiled : Compiled s code) (l : Limits) 
   -- a step that is followed at once, or in several steps
   followed : {op : Op} → ranked.Follows (mstep code l) (StateAt s code) (do_op s l o m inst w vals rest op) o machine_here → MovesNow s code l o (record { chain = record { instance = inst; work = Do op ∷ w; values = vals } ∷ rest; memory = m }) machine_here
   followed (at_once a) = both a
-  followed (in_steps a) = several a
+  followed (in_steps a) = several (λ ruled. a)
 
   fetch_moves : (kind : Kind) (left : List Kind) → FetchesAt s code (site_at t b u) (length left) kind pc q → ks ≡ kind ∷ left → ks' ≡ anys 1 left → MovesNow s code l o (record { chain = record { instance = inst; work = Do FetchOp ∷ w; values = vals } ∷ rest; memory = m }) machine_here
   fetch_moves Any left is e out = both (assigns.fetch_any s code l o m inst w vals rest fs t b pc stack below ks here u q ks' low k left is e out)
@@ -175,6 +195,7 @@ module _ (s : Source) (code : CodeOf) (compiled : Compiled s code) (l : Limits) 
   fetch_moves (FixedOf d) left is e out = followed (fixed.fetch_constant s code compiled l o m inst w vals rest fs t b pc stack below ks here u q ks' low k d left e out is)
   fetch_moves (LinkTo text) left is e out = absurd is
   fetch_moves (OwnerOf text) left is e out = absurd is
+  fetch_moves (LinkOf j) left is e out = absurd is
 
   -- one line for each operator
   op_moves : (op : Op) → Follows op
@@ -187,7 +208,7 @@ module _ (s : Source) (code : CodeOf) (compiled : Compiled s code) (l : Limits) 
   op_moves (CopyOp line) a = both (operators.copy s code l o m inst w vals rest fs t b pc stack below ks here u q ks' low k line a)
   op_moves (CallOp c n line) a = both (entries.call s code compiled l o m inst w vals rest fs t b pc stack below ks here u q ks' low k c n line a)
   op_moves (StandardOp name line) a = both (calls.standard s code l o m inst w vals rest fs t b pc stack below ks here u q ks' low k name line a)
-  op_moves (JoinOp line) a = several (joins.join s code l o m inst w vals rest fs t b pc stack below ks here u q ks' low k line a)
+  op_moves (JoinOp line) a = several (λ ruled. joins.join s code l o m inst w vals rest fs t b pc stack below ks here u q ks' low k line a)
   op_moves DropOp a = both (operators.drop s code l o m inst w vals rest fs t b pc stack below ks here u q ks' low k a)
   op_moves AgainOp a = both (operators.again s code l o m inst w vals rest fs t b pc stack below ks here u q ks' low k a)
   op_moves (StoreOp (ToReference line)) a = quiet _ refl (stands_so _ (quiet_steps.reference_stored s code m fs Below inst t b u low w pc q ks ks' k line a)) (omega arith)
@@ -228,6 +249,11 @@ module _ (s : Source) (code : CodeOf) (compiled : Compiled s code) (l : Limits) 
   op_moves (NotNoneOp line) a = both (references.not_none s code compiled l o m inst w vals rest fs t b pc stack below ks here u q ks' low k line a)
   op_moves (TransferOp way line) a = both (transfers.transfer s code compiled l o m inst w vals rest fs t b pc stack below ks here u q ks' low k way line a)
   op_moves (SetOp name) a = both (sets.set_op s code l o m inst w vals rest fs t b pc stack below ks here u q ks' low k name a)
+  op_moves (ProcessOp name line) a = both (simulations.process_op s code compiled l o m inst w vals rest fs t b pc stack below ks here u q ks' low k name line a)
+  op_moves (SimulationOp name line) a = both (simulations.simulation_op s code compiled l o m inst w vals rest fs t b pc stack below ks here u q ks' low k name line a)
+  op_moves SelfOp a = both (simulations.self_op s code compiled l o m inst w vals rest fs t b pc stack below ks here u q ks' low k a)
+  op_moves (BlockOp j) a = both (simulations.block_op s code compiled l o m inst w vals rest fs t b pc stack below ks here u q ks' low k j a)
+  op_moves (ActivateOp again timing line) a = both (simulations.activate_op s code compiled l o m inst w vals rest fs t b pc stack below ks here u q ks' low k again timing line a)
   op_moves SwapOp a = both (references.swap s code compiled l o m inst w vals rest fs t b pc stack below ks here u q ks' low k a)
   op_moves (ReferOp line) a = both (references.refer s code compiled l o m inst w vals rest fs t b pc stack below ks here u q ks' low k line a)
   op_moves (ConnectOp c x other) a = followed (connections.connect_op s code compiled l o m inst w vals rest fs t b pc stack below ks here u q ks' low k c x other a)
@@ -242,7 +268,7 @@ module _ (s : Source) (code : CodeOf) (compiled : Compiled s code) (l : Limits) 
   stage_moves : (m : Instances) (inst : ℕ) (w : List Item) (vals : List Val) (rest : List Activation) (fs : Frames) (t : ℕ) (b : Runs) (c : Spot) (pc : ℕ) (stack : List Value) (below : List machine.Activation) (ks : List Kind) (here : Here s code m fs inst rest t b ks vals stack) (u q : ℕ) (ks' : List Kind) (low : own_end s code (frame_text s t) ≤ u) (op : Op)
       → InStage s code (BeginsAt s code m fs inst (site_at t b u)) (site_at t b u) op b c pc q ks ks' → WorkAt s code m fs (λ v. ChainAt s code m fs rest v below) inst c.text c.runs c.used w q ks'
       → Moves (record { chain = record { instance = inst; work = Do op ∷ w; values = vals } ∷ rest; memory = m }) (record { chain = act inst pc stack b ∷ below; memory = fs })
-  stage_moves m inst w vals rest fs t b c pc stack below ks here u q ks' low op (stays a same) k = op_moves s code compiled l o m inst w vals rest fs t b pc stack below ks here u q ks' low (subst (λ z. WorkAt s code m fs (λ v. ChainAt s code m fs rest v below) inst z.text z.runs z.used w q ks') same k) op a
+  stage_moves m inst w vals rest fs t b c pc stack below ks here u q ks' low op (stays a calm same) k = op_moves s code compiled l o m inst w vals rest fs t b pc stack below ks here u q ks' (record { low = low; calm = calm }) (subst (λ z. WorkAt s code m fs (λ v. ChainAt s code m fs rest v below) inst z.text z.runs z.used w q ks') same k) op a
   stage_moves m inst w vals rest fs t b c pc stack below ks here u q ks' low op (declares level e a) k =
       subst (λ z. Moves (record { chain = record { instance = inst; work = Do z ∷ w; values = vals } ∷ rest; memory = m }) (record { chain = act inst pc stack b ∷ below; memory = fs })) (sym e)
       (both (stages.declared s code l compiled o m inst w vals rest fs t b pc stack below ks here u q ks' low level c a k))
@@ -261,6 +287,9 @@ module _ (s : Source) (code : CodeOf) (compiled : Compiled s code) (l : Limits) 
       by (Also x more) a =
           quiet _ refl (state_at s code u pc (there_of s code here)
           (stages.with_inner_begun s code l compiled o m inst w vals rest fs t b pc stack below ks here u q ks' low x more c a k) refl) (omega arith)
+  stage_moves m inst w vals rest fs t b c pc stack below ks here u q ks' low op (ends_process e a) k =
+      subst (λ z. Moves (record { chain = record { instance = inst; work = Do z ∷ w; values = vals } ∷ rest; memory = m }) (record { chain = act inst pc stack b ∷ below; memory = fs })) (sym e)
+      (several (λ ruled. process_ends.process_ends s code compiled l o m inst w vals rest fs t b pc stack below ks here u q ks' c a k ruled))
 
   work_moves : (m : Instances) (inst : ℕ) (work : List Item) (vals : List Val) (rest : List Activation) (fs : Frames) (t : ℕ) (b : Runs) (pc : ℕ) (stack : List Value) (below : List machine.Activation) (ks : List Kind) (used : ℕ) → Here s code m fs inst rest t b ks vals stack → NowAt s code m fs (λ v. ChainAt s code m fs rest v below) inst t b used work pc ks
       → Moves (record { chain = record { instance = inst; work = work; values = vals } ∷ rest; memory = m }) (record { chain = act inst pc stack b ∷ below; memory = fs })

@@ -13,12 +13,12 @@ use Rattle.sim_meaning.specs.Texts.{text}
 use Rattle.codegen_expr.specs.Sites.{Is, block_number, frame_text, own_end}
 use Rattle.codegen.specs.Compiled.{Compiled}
 use Rattle.sim_relate.proofs.Frames.{same_frame}
-use Rattle.sim_relate.proofs.Known.{Runs, Spot}
+use Rattle.sim_relate.proofs.Known.{HasClass, Runs, Spot}
 use Rattle.sim_relate.proofs.LevelCode.{LevelCode, dropped_at, dropped_none, level_begins, level_code, made_of, moved_level, none_made}
 use Rattle.sim_relate.proofs.Pending.{ends_at, pends, pends_in}
 use Rattle.sim_relate.proofs.Relation.{DeclaredTo, EndAt, WorkAt, at_level, declares, to_first, to_next}
 
-module _ (s : Source) (code : CodeOf) (compiled : Compiled s code) (m : Instances) (fs : Frames) (Below : Bool → Type 0) (inst : ℕ) (b : Runs) (own_block : BlockOf) (found : slice_get code.blocks (block_number s b.own) ≡ Some own_block) (roomy : own_block.room ≤ b.room) (own_levels : has_levels (text s b.own) ≡ true) where
+module _ (s : Source) (code : CodeOf) (compiled : Compiled s code) (m : Instances) (fs : Frames) (Below : Bool → Type 0) (inst : ℕ) (b : Runs) (own_block : BlockOf) (found : slice_get code.blocks (block_number s b.own) ≡ Some own_block) (roomy : own_block.room ≤ b.room) (own_levels : has_levels (text s b.own) ≡ true) (of_class : HasClass s b.own) where
   abbrev Code : (k n : ℕ) → Level → Type 0
   Code k n x = LevelCode s code compiled b k n x
 
@@ -33,7 +33,7 @@ module _ (s : Source) (code : CodeOf) (compiled : Compiled s code) (m : Instance
   one_level k n x a c q w within to work =
       let same = ap (own_end s code) a.level.frame in
       let low : own_end s code (frame_text s k) ≤ own_end s code k = omega (arith, same) in
-      pends s code m fs Below inst k (declaring a) (own_end s code k) low (Do (LevelOp x.text) ∷ w) (DeclareOp x.declarations) a.class.declarations a.last_declared [] [] (a.declared, refl, refl)
+      pends s code m fs Below inst k (declaring a) (own_end s code k) (record { low = low; calm = refl }) (Do (LevelOp x.text) ∷ w) (DeclareOp x.declarations) a.class.declarations a.last_declared [] [] (a.declared, refl, refl)
       (pends_in s code m fs Below inst k (declaring a) (own_end s code k) low w (LevelOp x.text) k c a.last_declared q [] [] (same_frame s k)
       (declares x.text refl (record { place = n; was = refl; on = a.on; is = a.next; there = within; to = to; none = refl; none_behind = refl })) work)
 
@@ -60,7 +60,7 @@ module _ (s : Source) (code : CodeOf) (compiled : Compiled s code) (m : Instance
         let more : p.more ≡ ks = cc (is) in
         let here = dropped_at n (levels_of s b.own) k (k' ∷ ks) at in
         let inward = dropped_at (suc n) (levels_of s b.own) k' ks here.1 in
-        let next = level_code s code compiled b own_block found roomy own_levels k' (suc n) y inward.0 (subst (λ z. level_made s z (text s z) ≡ Some y) number p.first) in
+        let next = level_code s code compiled b own_block found roomy own_levels of_class k' (suc n) y inward.0 (subst (λ z. level_made s z (text s z) ≡ Some y) number p.first) in
         one_level k n x a (at_level s code (declaring a) k' next.block (stage.Declaring (suc n))) next.class.declarations (declared (y ∷ ys) w) next.declared_there
         (to_next (record {
           text = k';

@@ -10,7 +10,7 @@ use Rattle.sim_values.specs.declared.operators.Dyadic.{Dyadic}
 use Rattle.sim_values.specs.declared.operators.Dyadic.TheVariants as dyadic
 use Rattle.sim_values.specs.declared.operators.Monadic.{Monadic}
 use Rattle.sim_values.specs.declared.operators.Monadic.TheVariants as monadic
-use Rattle.sim_values.specs.Plain.{Character, Integer, Nothing, Object, Plain, Text, Truth}
+use Rattle.sim_values.specs.Plain.{Character, Integer, Nothing, Object, Plain, Text, Truth, MainOf}
 use Rattle.sim_code.specs.declared.instr.Instr.TheVariants as i
 use Rattle.sim_code.specs.declared.instr.Lined.{Lined}
 use Rattle.sim_code.specs.Code.{CodeOf}
@@ -27,9 +27,9 @@ use Rattle.sim_meaning.specs.Meaning.{do_op}
 use Rattle.sim_meaning.specs.Pending.{Activation, AgainOp, Cell, Configuration, CopyOp, Do, DropOp, ElementOp, Eval, Given, IfOp, Instances, Item, Key, OneOp, Op, PastOp, Term, TwoOp, Val, array_in, cell, plain, ImageOf, PlaceOf}
 use Rattle.sim_meaning.specs.Pending as meaning
 use Rattle.sim_meaning.specs.Steps.{go}
-use Rattle.codegen_expr.specs.Sites.{Ahead, Is, slot_of, frame_text, own_end}
+use Rattle.codegen_expr.specs.Sites.{Ahead, Is, slot_of}
 use Rattle.codegen_expr.specs.CodeExpr.{one_instr, two_instr}
-use Rattle.sim_relate.proofs.Known.{Any, HandAt, Kind, StackAt, ValAt, anys, array_at, element_at, link_at, more_at, plain_at, site_at, IsImage, image_at, of_input, of_output, Runs}
+use Rattle.sim_relate.proofs.Known.{Any, HandAt, Kind, StackAt, ValAt, anys, array_at, element_at, link_at, more_at, plain_at, site_at, IsImage, image_at, of_input, of_output, Runs, Settled}
 use Rattle.sim_relate.proofs.Trees.{OperandAt, TextIs, empty, listed}
 use Rattle.sim_relate.proofs.Relation.{ChainAt, OpAt, StateAt, WorkAt}
 use Rattle.sim_relate.proofs.Hands.{hand_finding, hand_one, hand_popping, hand_truth, hand_two, stack_length}
@@ -144,7 +144,7 @@ module _ (s : Source) (code : CodeOf) (l : Limits) (o : World) (m : Instances) (
   unfolding index
   alike_indexed n r go h = alike_found Configuration Machine R ℕ (number (pos n)) n o r go refl h
 
-  module _ (u q : ℕ) (ks' : List Kind) (low : own_end s code (frame_text s t) ≤ u) (k : WorkAt s code m fs (λ v. ChainAt s code m fs rest v below) inst t b u w q ks') where
+  module _ (u q : ℕ) (ks' : List Kind) (low : Settled s code t b u) (k : WorkAt s code m fs (λ v. ChainAt s code m fs rest v below) inst t b u w q ks') where
     abbrev pub Follows : Op → Type 0
     Follows op = OpAt s code m fs inst (site_at t b u) op pc q ks ks' → Alike R (do_op s l o m inst w vals rest op) (on_top code l o fs top below)
 
@@ -197,6 +197,7 @@ module _ (s : Source) (code : CodeOf) (l : Limits) (o : World) (m : Instances) (
         at_row s code l o fs top below _ (i.This (pos (level_of s c.text))) c.push.is.line q c.push.is.is
         (at_frame o (level_of s c.text) j _ _ (reached s m inst c.text j here.lives c.reaches)
         (pushes o _ _ _ c.push.fits (onward (more_at plain_at here.values) a.1 c.push.is.is.on)))
+    constant texts (MainOf j) a = absurd (a.0)
     constant texts Nothing a = at_row s code l o fs top below _ i.None a.0.is.line q a.0.is.is (pushes o _ _ _ a.0.fits (onward (more_at plain_at here.values) a.1 a.0.is.is.on))
 
     -- where a variable and an image lie

@@ -6,7 +6,7 @@ use Rattle.sim_code.specs.Machine.{Frames}
 use Rattle.sim_meaning.specs.Pending.{Do, EndBlock, EndObject, EndPrefixed, EndProcedure, EndProgram, Eval, Further, Instances, Item, NoTerm, Op, Term, Terms}
 use Rattle.sim_meaning.specs.Steps.{count, each}
 use Rattle.codegen_expr.specs.Sites.{frame_text, own_end}
-use Rattle.sim_relate.proofs.Known.{AllRead, Any, Kind, Runs, SameFrame, Spot, anys, leaves_any, leaves_read, site_at, spot}
+use Rattle.sim_relate.proofs.Known.{AllRead, Any, Kind, Runs, SameFrame, Spot, anys, leaves_any, leaves_read, site_at, spot, Settled}
 use Rattle.sim_relate.proofs.Trees.{OperandAt, ReadsAt, TermsAt}
 use Rattle.sim_relate.proofs.Relation.{EndAt, InStage, OpAt, WorkAt, stays, there}
 use Rattle.sim_relate.proofs.Frames.{same_frame}
@@ -17,13 +17,14 @@ anys_more zero k = refl
 anys_more (suc n) k = ap (λ x. Any ∷ x) (anys_more n k)
 
 module _ (s : Source) (code : CodeOf) (m : Instances) (fs : Frames) (Below : Bool → Type 0) (inst t : ℕ) (b : Runs) (u : ℕ) (low : own_end s code (frame_text s t) ≤ u) where
-  -- an operator in front of other work
-  pub pends : (w : List Item) (op : Op) (p q : ℕ) (ks ks' : List Kind) → OpAt s code m fs inst (site_at t b u) op p q ks ks' → WorkAt s code m fs Below inst t b u w q ks' → WorkAt s code m fs Below inst t b u (Do op ∷ w) p ks
-  pends w op p q ks ks' a k = let same : u ≤ u = omega arith in (p, u, q, ks', t, spot t b u, same_frame s t, there refl, same, low, stays a refl, k)
-
   -- an operator at its stage, which may stand in another text with the same frames; behind it the work goes on at a spot
   pub pends_in : (w : List Item) (op : Op) (v : ℕ) (c : Spot) (p q : ℕ) (ks ks' : List Kind) → SameFrame s v t → InStage s code (OpAt s code m fs inst (site_at v b u)) (site_at v b u) op b c p q ks ks' → WorkAt s code m fs Below inst c.text c.runs c.used w q ks' → WorkAt s code m fs Below inst t b u (Do op ∷ w) p ks
   pends_in w op v c p q ks ks' f a k = let same : u ≤ u = omega arith in (p, u, q, ks', v, c, f, there refl, same, low, a, k)
+
+module _ (s : Source) (code : CodeOf) (m : Instances) (fs : Frames) (Below : Bool → Type 0) (inst t : ℕ) (b : Runs) (u : ℕ) (low : Settled s code t b u) where
+  -- an operator in front of other work
+  pub pends : (w : List Item) (op : Op) (p q : ℕ) (ks ks' : List Kind) → OpAt s code m fs inst (site_at t b u) op p q ks ks' → WorkAt s code m fs Below inst t b u w q ks' → WorkAt s code m fs Below inst t b u (Do op ∷ w) p ks
+  pends w op p q ks ks' a k = let same : u ≤ u = omega arith in (p, u, q, ks', t, spot t b u, same_frame s t, there refl, same, low.low, stays a low.calm refl, k)
 
   -- an operand in front of other work
   pub evals : (w : List Item) (x : Term) (p q : ℕ) (ks : List Kind) → OperandAt s code m inst (site_at t b u) (length ks) x p q → WorkAt s code m fs Below inst t b u w q (Any ∷ ks) → WorkAt s code m fs Below inst t b u (Do (Eval x) ∷ w) p ks

@@ -1,5 +1,5 @@
 -- Steps of the program that the machine makes no step for, and how many of them there can be in a row.
-use Rattle.std.proofs.Common.{◌≡◌, ◌≤◌, ℕ, suc, Bool, List, [], ◌∷◌, length, Option, refl, sym, ap, ◌∙◌, subst, arith}
+use Rattle.std.proofs.Common.{◌≡◌, ℕ, suc, Bool, List, [], ◌∷◌, length, Option, refl, sym, ap, ◌∙◌, subst, arith}
 use Rattle.sim_scope.specs.Source.{Source}
 use Rattle.sim_tree.specs.Syntax.{Also, Arrayed, Arrays, BoundPair, Declarations, DeclareClass, DeclareProcedure, Element, NoDeclaration, NoStatement, Statement, Statements, Variables, With}
 use Rattle.sim_tree.specs.declared.expr.Identifier.{Identifier}
@@ -14,12 +14,11 @@ use Rattle.sim_code.specs.Machine.{Frames}
 use Rattle.sim_code.specs.Transfers.{Transfer}
 use Rattle.sim_meaning.specs.Closing.{close}
 use Rattle.sim_meaning.specs.Entries.{arrays_declared, arrays_of, bounds_of, segments_of}
-use Rattle.sim_meaning.specs.Pending.{Activation, DeclareOp, AttributeOf, AttributeOp, CallOp, FitsOf, FitsOp, KeepOp, KeptOf, Key, MemberOf, MemberOp, NotNoneOf, NotNoneOp, ObjectOp, QuaOf, QuaOp, QualifiedElementOf, QualifiedElementOp, ReferOp, RemoteCallOf, SetOf, SetOp, StoreOp, SwapOp, ToAddress, ToPlace, ToReference, ToReferenceAt, CallOf, Cell, Configuration, CopyOf, CopyOp, Do, Either, ElementOf, ElementOp, ElementsOp, Eval, Exec, Execs, FetchOp, Further, GiveOp, Given, IfOp, ImageOf, Instances, Item, JoinOp, Joined, NoTerm, One, OneOp, Op, PlaceOf, RaiseOp, StandardOf, StandardOp, Target, Term, Terms, TransferOf, TransferOp, Two, TwoOp, Val, ValueAt}
+use Rattle.sim_meaning.specs.Pending.{Activation, DeclareOp, AttributeOf, AttributeOp, CallOp, FitsOf, FitsOp, KeepOp, KeptOf, Key, MemberOf, MemberOp, NotNoneOf, NotNoneOp, ObjectOp, QuaOf, QuaOp, QualifiedElementOf, QualifiedElementOp, ReferOp, RemoteCallOf, SetOf, SetOp, StoreOp, SwapOp, ToAddress, ToPlace, ToReference, ToReferenceAt, CallOf, Cell, Configuration, CopyOf, CopyOp, Do, Either, ElementOf, ElementOp, ElementsOp, Eval, Exec, Execs, FetchOp, Further, GiveOp, Given, IfOp, ImageOf, Instances, Item, JoinOp, Joined, NoTerm, One, OneOp, Op, PlaceOf, RaiseOp, StandardOf, StandardOp, Target, Term, Terms, TransferOf, TransferOp, Two, TwoOp, Val, ValueAt, ProcessOf, ProcessOp}
 use Rattle.sim_meaning.specs.Steps.{count, each}
 use Rattle.sim_meaning.specs.Texts.{kind_named, text}
-use Rattle.codegen_expr.specs.Sites.{frame_text, own_end}
 use Rattle.sim_relate.proofs.Pending.{anys_more, each_pends, each_reads, evals, pends}
-use Rattle.sim_relate.proofs.Known.{Any, Kind, OwnerOf, Refers, given, leaves_as, text_gives, anys, site_at, AllRead, Runs}
+use Rattle.sim_relate.proofs.Known.{Any, Kind, OwnerOf, Refers, given, leaves_as, text_gives, anys, site_at, AllRead, Runs, Settled}
 use Rattle.sim_relate.proofs.Trees.{OperandAt}
 use Rattle.sim_relate.proofs.Relation.{BeginsAt, OpAt, WorkAt, straight}
 
@@ -51,6 +50,7 @@ abbrev mutual
   opened (NotNoneOf line a) = suc (opened a)
   opened (TransferOf t line a) = suc (opened a)
   opened (SetOf name ts) = suc (opened_first ts)
+  opened (ProcessOf name line a) = suc (opened a)
   opened _ = 0
 
   pub opened_first : Terms → ℕ
@@ -150,7 +150,7 @@ each_weight s m i (Further t ts) w e = refl
 
 -- ---- what is pending then
 
-module _ (s : Source) (code : CodeOf) (m : Instances) (fs : Frames) (Below : Bool → Type 0) (inst t : ℕ) (b : Runs) (u : ℕ) (low : own_end s code (frame_text s t) ≤ u) (w : List Item) (p q : ℕ) (ks ks' : List Kind) (k : WorkAt s code m fs Below inst t b u w q ks') where
+module _ (s : Source) (code : CodeOf) (m : Instances) (fs : Frames) (Below : Bool → Type 0) (inst t : ℕ) (b : Runs) (u : ℕ) (low : Settled s code t b u) (w : List Item) (p q : ℕ) (ks ks' : List Kind) (k : WorkAt s code m fs Below inst t b u w q ks') where
   abbrev Pends : List Item → ℕ → List Kind → Type 0
   Pends x place before = WorkAt s code m fs Below inst t b u x place before
 
@@ -257,6 +257,9 @@ module _ (s : Source) (code : CodeOf) (m : Instances) (fs : Frames) (Below : Boo
 
   pub transfer_opened : (way : Transfer) (line : ℕ) (x : Term) → Becomes (Do (Eval x) ∷ Do (TransferOp way line) ∷ w) (Eval (TransferOf way line x))
   transfer_opened way line x a = let y = a.0 in opens x (TransferOp way line) y.0 y.1 (record { is = y.2; left = ks; «in» = refl; out = a.1 })
+
+  pub process_opened : (name : Standard) (line : ℕ) (x : Term) → Becomes (Do (Eval x) ∷ Do (ProcessOp name line) ∷ w) (Eval (ProcessOf name line x))
+  process_opened name line x a = let y = a.0 in opens x (ProcessOp name line) y.0 y.1 (record { is = y.2; left = ks; «in» = refl; out = a.1 })
 
   -- ---- sets
 

@@ -4,7 +4,7 @@ use Rattle.std.specs.Prelude.{◌==◌, if◌then◌else◌, slice_get}
 use Rattle.sim_scope.specs.Access.{encloser}
 use Rattle.sim_scope.specs.Source.{Source, level_of}
 use Rattle.sim_scope.specs.Tables.{Tables}
-use Rattle.sim_code.specs.Instances.{Instance, found_at, outward}
+use Rattle.sim_code.specs.Instances.{Instance, found_at, outward, encloser_in, encloser_of}
 use Rattle.sim_meaning.specs.Pending.{Held, Instances}
 use Rattle.sim_meaning.specs.Attributes.{is_connection}
 use Rattle.sim_meaning.specs.Levels.{has_levels, is_class, text_at}
@@ -236,3 +236,25 @@ unfolding seen_at
 own_reaches s m i t a st =
     let x = is_there s m st in
     record { found = here_found s m a i (level_of s t) i x.now x.is x.level; stands = st }
+
+-- the encloser of an instance is found at the level of the text around
+pub record EncloserSeen (s : Source) (m : Instances) (i u : ℕ) : Type 0 where
+  pub encloser : ℕ
+  pub is : encloser_of m i ≡ Some encloser
+  pub reaches : Reaches s m i u encloser
+
+pub encloser_seen : (s : Source) (m : Instances) (i t u : ℕ) → Agrees s → Stands s m i t → frame_text s t ≡ t → is_connected s.tables t ≡ false → encloser s.tables t ≡ Some u → EncloserSeen s m i u
+unfolding seen_at
+encloser_seen s m i t u a st own solid e =
+    let x = is_inside s m st own u e in
+    let y = is_there s m x.stands in
+    let deeper = a.levels t u e solid in
+    let level = x.level in
+    let apart : x.now.level ≢ level_of s u = λ same. (let f : ⊥ = omega (arith, same, level, deeper) in f) in
+    let more = one_more i x.out x.before in
+    let found : seen_within i m (level_of s u) x.out ≡ Some x.out = subst (λ n. seen_within n m (level_of s u) x.out ≡ Some x.out) (sym more.1) (here_found s m a more.0 (level_of s u) x.out y.now y.is y.level) in
+    record { encloser = x.out; is = ap encloser_in x.is ∙ x.encloser; reaches = record { found = further_found s m a i (level_of s u) i x.out x.now x.is apart x.encloser ∙ found; stands = x.stands } }
+  where
+    one_more : (i j : ℕ) → j < i → (n : ℕ) × (i ≡ suc n)
+    one_more zero j lt = absurd (omega (arith, lt))
+    one_more (suc n) j lt = (n, refl)

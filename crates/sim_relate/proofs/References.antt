@@ -1,97 +1,48 @@
 -- Objects and references: attributes, classes that are tested, and references that are held against their classes.
-use Rattle.std.proofs.Common.{◌≡◌, ◌≤◌, ℕ, suc, Bool, true, false, List, ◌∷◌, Option, Some, None, refl, sym, ap, ◌∙◌, subst}
-use Rattle.std.specs.Prelude.{pos, slice_get}
+use Rattle.std.proofs.Common.{◌≡◌, ℕ, suc, Bool, true, false, List, ◌∷◌, Option, Some, None, refl, sym, ap, ◌∙◌, subst}
+use Rattle.std.specs.Prelude.{pos}
 use Rattle.sim_base.specs.declared.limits.Limits.{Limits}
 use Rattle.sim_scope.specs.Source.{Source, level_of}
 use Rattle.sim_tree.specs.declared.expr.Membership.{Membership}
 use Rattle.sim_tree.specs.declared.expr.Membership.TheVariants as membership
-use Rattle.sim_values.specs.Plain.{Character, Integer, Nothing, Object, Plain, Text, Truth}
+use Rattle.sim_values.specs.Plain.{Character, Integer, Nothing, Object, Plain, Text, Truth, MainOf}
 use Rattle.sim_code.specs.declared.instr.Instr.TheVariants as i
 use Rattle.sim_code.specs.Classes as classes
 use Rattle.sim_code.specs.Code.{CodeOf}
 use Rattle.sim_code.specs.Arrays.{element_set, keeping_array, live_array}
-use Rattle.sim_code.specs.Events.{choosing, having, pop_object, pop_plain, popping, qualifying, referring}
-use Rattle.sim_code.specs.Instances.{Instance, live}
-use Rattle.sim_code.specs.Machine.{Cells, Frames, Machine, Value}
+use Rattle.sim_code.specs.Events.{choosing, having, pop_object, pop_plain, popping, qualifying, referring, not_nothing, pop_reference}
+use Rattle.sim_code.specs.Machine.{Frames, Machine, Value}
 use Rattle.sim_code.specs.Machine as machine
 use Rattle.sim_code.specs.Outcome.{ArrayOf, Going, Run, World}
 use Rattle.sim_code.specs.Rows.{on_top}
 use Rattle.sim_code.specs.Rows as rows
 use Rattle.sim_code.proofs.Lifts.{alike_having, alike_choosing, alike_found, alike_passes, alike_same, alike_stopping, alike_unruled}
 use Rattle.sim_code.proofs.Simulation.{Alike}
-use Rattle.sim_meaning.specs.Levels.{belongs, has_levels, has_procedure, is_in, is_in_any, is_of, text_at, text_in, text_is, text_is_in}
+use Rattle.sim_meaning.specs.Levels.{belongs, has_procedure, is_in, is_in_any, is_of, main_belongs, stands_in}
 use Rattle.sim_meaning.specs.Meaning.{do_op}
 use Rattle.sim_meaning.specs.Objects.{is_member, putting_reference}
-use Rattle.sim_meaning.specs.Pending.{Activation, AttributeOp, Configuration, Declared, Eval, Held, QualifiedPlaceOf, Instances, Item, KeepOp, Key, MemberOp, NotNoneOp, ObjectOp, Op, QuaOp, QualifiedElementOp, ReferOp, SwapOp, Val, array_in, cell_set, place_in, plain}
+use Rattle.sim_meaning.specs.Pending.{Activation, AttributeOp, Configuration, Declared, Eval, QualifiedPlaceOf, Instances, Item, KeepOp, Key, MemberOp, NotNoneOp, ObjectOp, Op, QuaOp, QualifiedElementOp, ReferOp, SwapOp, Val, array_in, cell_set, place_in, plain}
 use Rattle.sim_meaning.specs.Pending as meaning
-use Rattle.sim_meaning.specs.Sane.{IsObject, LastNames, Names}
+use Rattle.sim_meaning.specs.Sane.{AllName, Names}
 use Rattle.sim_meaning.specs.Steps.{go}
 use Rattle.sim_meaning.specs.Texts.{text}
-use Rattle.codegen_expr.specs.Sites.{block_number, class_number, frame_text, slot_of, own_end}
+use Rattle.codegen_expr.specs.Sites.{class_number, slot_of}
 use Rattle.codegen.specs.Compiled.{Compiled}
 use Rattle.sim_relate.proofs.Assigns.{wrote_on}
-use Rattle.sim_relate.proofs.ClassLevels.{class_levels, counts, in_same, is_same, levels_solid, number_is, numbered}
+use Rattle.sim_relate.proofs.ClassLevels.{class_levels, counts, number_is}
 use Rattle.sim_relate.proofs.ClassTexts.{class_has}
-use Rattle.sim_relate.proofs.Frames.{frame_self}
 use Rattle.sim_relate.proofs.Hands.{hand_finding, hand_popping}
-use Rattle.sim_relate.proofs.Heads.{both_found, is_live_at}
 use Rattle.sim_relate.proofs.Here.{Here, act, at_row, kinds_as}
-use Rattle.sim_relate.proofs.Known.{Any, Every, RefersAt, FixedOf, Located, Refers, is_fixed, kind_unless, HandAt, Kind, Runs, StackAt, Stands, ValAt, anys, array_at, element_at, image_at, link_at, more_at, plain_at, refers_cell, refers_element, site_at}
-use Rattle.sim_relate.proofs.LevelLists.{has_level_is, solid_level}
+use Rattle.sim_relate.proofs.Known.{Any, Every, RefersAt, FixedOf, Located, Refers, is_fixed, kind_unless, HandAt, Kind, Runs, StackAt, ValAt, anys, array_at, element_at, image_at, link_at, more_at, plain_at, refers_cell, refers_element, site_at, Settled, IsReference}
 use Rattle.sim_relate.proofs.Living.{reached}
+use Rattle.sim_relate.proofs.ObjectsHere.{ObjectHere, class_named, in_class_same, is_of_same, main_in_same, main_is_same, named_in_same, object_here, object_in_same, of_text}
 use Rattle.sim_relate.proofs.Operators.{alike_indexed, at_cell, onward, pushes, same_array, same_plain}
 use Rattle.sim_relate.proofs.Pending.{anys_more}
-use Rattle.sim_relate.proofs.Reach.{stands_as}
-use Rattle.sim_relate.proofs.Relation.{ChainAt, Changed, InstanceAt, OpAt, StateAt, StoreAt, WorkAt}
-use Rattle.sim_relate.proofs.Stores.{cell_write, live_pair}
+use Rattle.sim_relate.proofs.Relation.{ChainAt, Changed, OpAt, StateAt, WorkAt}
+use Rattle.sim_relate.proofs.Stores.{cell_write}
 use Rattle.sim_relate.proofs.Trees.{AttributeIs, Classed, ConstantIs, FoundIs, ReferenceIs}
 
-module _ (s : Source) (code : CodeOf) (coding : Compiled s code) (m : Instances) (fs : Frames) (store : StoreAt s code m fs) where
-  -- an object and its frame
-  pub record ObjectHere (j : ℕ) : Type 0 where
-    pub instance : Instance (List Held)
-    pub there : slice_get m.instances j ≡ Some instance
-    pub levels : has_levels (text s instance.text) ≡ true
-    pub frame : Instance Cells
-    pub lives : live fs j ≡ Some frame
-    pub number : frame.text ≡ block_number s instance.text
-
-  pub object_here : (j : ℕ) → IsObject s m j → ObjectHere j
-  object_here j x =
-      let y = both_found (InstanceAt s code) (live m j) (live fs j) x.instance x.lives (live_pair s code m fs store j) in
-      record { instance = x.instance; there = (is_live_at (slice_get m.instances j) x.instance x.lives).there; levels = x.levels; frame = y.it; lives = y.is; number = (y.related).number }
-
-  text_is_at : (j : ℕ) (x : ObjectHere j) → text_at m j ≡ Some x.instance.text
-  text_is_at j x = ap text_in x.there
-
-  -- it is in a class on both sides, or on neither
-  pub in_class_same : (j k : ℕ) → ObjectHere j → Classed s k → classes.in_class code fs (class_number s code k) j ≡ Some (is_in s m k j)
-  unfolding is_in
-  in_class_same j k x c =
-      in_same s code coding fs j x.instance.text k x.frame x.lives x.number x.levels (class_levels s code coding k c) ∙ ap (λ o. Some (text_is_in s k o)) (sym (text_is_at j x))
-
-  pub is_of_same : (j k : ℕ) → ObjectHere j → Classed s k → classes.is_class (class_number s code k) (classes.class_of code fs j) ≡ Some (is_of m k j)
-  unfolding is_of
-  is_of_same j k x c =
-      is_same s code coding fs j x.instance.text k x.frame x.lives x.number x.levels (class_levels s code coding k c) ∙ ap (λ o. Some (text_is k o)) (sym (text_is_at j x))
-
-  -- it stands for each of its levels
-  of_text : (j u : ℕ) → ObjectHere j → is_in s m u j ≡ true → Stands s m j u
-  unfolding is_in
-  of_text j u x e =
-      let own = x.instance.text in
-      let solid = levels_solid s code coding own x.levels in
-      let level = has_level_is s coding.agrees own u (sym (ap (text_is_in s u) (text_is_at j x)) ∙ e) solid in
-      let is = frame_self s coding.agrees u (solid_level s coding.agrees own u level solid) in
-      stands_as s m coding.agrees j own u (text_is_at j x) (store.all j x.instance x.there) level is (frame_self s coding.agrees own solid)
-
-  -- a class has a number, which names it
-  pub class_named : (k : ℕ) → Classed s k → classes.class_named code (pos (class_number s code k)) ≡ Some (class_number s code k)
-  class_named k c =
-      let x = class_has s code coding k (class_levels s code coding k c) in
-      ap (classes.if_there (class_number s code k)) (numbered s code coding k x)
-
-module _ (s : Source) (code : CodeOf) (coding : Compiled s code) (l : Limits) (o : World) (m : Instances) (inst : ℕ) (w : List Item) (vals : List Val) (rest : List Activation) (fs : Frames) (t : ℕ) (b : Runs) (pc : ℕ) (stack : List Value) (below : List machine.Activation) (ks : List Kind) (here : Here s code m fs inst rest t b ks vals stack) (u q : ℕ) (ks' : List Kind) (low : own_end s code (frame_text s t) ≤ u) (k : WorkAt s code m fs (λ v. ChainAt s code m fs rest v below) inst t b u w q ks') where
+module _ (s : Source) (code : CodeOf) (coding : Compiled s code) (l : Limits) (o : World) (m : Instances) (inst : ℕ) (w : List Item) (vals : List Val) (rest : List Activation) (fs : Frames) (t : ℕ) (b : Runs) (pc : ℕ) (stack : List Value) (below : List machine.Activation) (ks : List Kind) (here : Here s code m fs inst rest t b ks vals stack) (u q : ℕ) (ks' : List Kind) (low : Settled s code t b u) (k : WorkAt s code m fs (λ v. ChainAt s code m fs rest v below) inst t b u w q ks') where
   abbrev R : Configuration → Machine → Type 0
   R = StateAt s code
 
@@ -106,7 +57,7 @@ module _ (s : Source) (code : CodeOf) (coding : Compiled s code) (l : Limits) (o
 
   -- a reference that was taken names an object
   named : (v : Val) (vals' : List Val) → vals ≡ v ∷ vals' → Names s m v
-  named v vals' e = subst (LastNames s m) e here.names
+  named v vals' e = (subst (AllName s m) e here.names).0
 
   object_named : (j : ℕ) → Names s m (meaning.Of (Object j)) → ObjectHere s code coding m fs here.store j
   object_named j n = object_here s code coding m fs here.store j n
@@ -116,6 +67,7 @@ module _ (s : Source) (code : CodeOf) (coding : Compiled s code) (l : Limits) (o
   unfolding having referring
   referred_on line _ _ r z (plain_at {p = Object j}) n f = f j n
   referred_on line _ _ r z (plain_at {p = Nothing}) n f = alike_stopping Configuration Machine R _ o
+  referred_on line _ _ r z (plain_at {p = MainOf x}) n f = alike_unruled Configuration Machine R o _
   referred_on line _ _ r z (plain_at {p = Integer x}) n f = alike_unruled Configuration Machine R o _
   referred_on line _ _ r z (plain_at {p = Truth x}) n f = alike_unruled Configuration Machine R o _
   referred_on line _ _ r z (plain_at {p = Character x}) n f = alike_unruled Configuration Machine R o _
@@ -130,6 +82,48 @@ module _ (s : Source) (code : CodeOf) (coding : Compiled s code) (l : Limits) (o
   pops_object line left r z e f =
       hand_popping Configuration Machine R Val Value (HandAt s code m) plain machine.plain same_plain Any left vals stack o _ _ (kinds_as s code e here.values)
       (λ v x vals' stack' ev ex h hs. referred_on line v x (λ j. r j vals') (λ j. z j stack') h (named v vals' ev) (λ j n. f j vals' stack' n hs))
+
+  -- a reference that is none, or names an object or a main program
+  told_on : (line : ℕ) (v : Val) (x : Value) (r : Plain → Run Configuration) (z : Plain → Run Machine) → ValAt v x → Names s m v → ((p : Plain) → Names s m (meaning.Of p) → IsReference p → Alike R (r p) (z p)) → Alike R (having (plain v) o (λ p. not_nothing line p o (r p))) (having (machine.plain x) o (λ p. not_nothing line p o (z p)))
+  unfolding having not_nothing
+  told_on line _ _ r z (plain_at {p = Object j}) n f = f (Object j) n tt
+  told_on line _ _ r z (plain_at {p = MainOf j}) n f = f (MainOf j) n tt
+  told_on line _ _ r z (plain_at {p = Nothing}) n f = alike_stopping Configuration Machine R _ o
+  told_on line _ _ r z (plain_at {p = Integer x}) n f = alike_unruled Configuration Machine R o _
+  told_on line _ _ r z (plain_at {p = Truth x}) n f = alike_unruled Configuration Machine R o _
+  told_on line _ _ r z (plain_at {p = Character x}) n f = alike_unruled Configuration Machine R o _
+  told_on line _ _ r z (plain_at {p = Text x}) n f = alike_unruled Configuration Machine R o _
+  told_on line _ _ r z link_at n f = alike_unruled Configuration Machine R o _
+  told_on line _ _ r z array_at n f = alike_unruled Configuration Machine R o _
+  told_on line _ _ r z element_at n f = alike_unruled Configuration Machine R o _
+  told_on line _ _ r z image_at n f = alike_unruled Configuration Machine R o _
+
+  pops_reference : (line : ℕ) (left : List Kind) (r : Plain → List Val → Run Configuration) (z : Plain → List Value → Run Machine) → ks ≡ anys 1 left → ((p : Plain) (vals' : List Val) (stack' : List Value) → Names s m (meaning.Of p) → IsReference p → StackAt (HandAt s code m) left vals' stack' → Alike R (r p vals') (z p stack')) → Alike R (pop_reference plain line vals o r) (pop_reference machine.plain line stack o z)
+  unfolding pop_reference pop_plain
+  pops_reference line left r z e f =
+      hand_popping Configuration Machine R Val Value (HandAt s code m) plain machine.plain same_plain Any left vals stack o _ _ (kinds_as s code e here.values)
+      (λ v x vals' stack' ev ex h hs. told_on line v x (λ p. r p vals') (λ p. z p stack') h (named v vals' ev) (λ p n i. f p vals' stack' n i hs))
+
+  -- the object on top, where the machine lets a main program go on too
+  object_told : (line : ℕ) (v : Val) (x : Value) (r : ℕ → Run Configuration) (z : Plain → Run Machine) → ValAt v x → Names s m v → ((j : ℕ) → Names s m (meaning.Of (Object j)) → Alike R (r j) (z (Object j))) → Alike R (having (plain v) o (λ p. referring line p o r)) (having (machine.plain x) o (λ p. not_nothing line p o (z p)))
+  unfolding having referring not_nothing
+  object_told line _ _ r z (plain_at {p = Object j}) n f = f j n
+  object_told line _ _ r z (plain_at {p = Nothing}) n f = alike_stopping Configuration Machine R _ o
+  object_told line _ _ r z (plain_at {p = MainOf x}) n f = alike_unruled Configuration Machine R o _
+  object_told line _ _ r z (plain_at {p = Integer x}) n f = alike_unruled Configuration Machine R o _
+  object_told line _ _ r z (plain_at {p = Truth x}) n f = alike_unruled Configuration Machine R o _
+  object_told line _ _ r z (plain_at {p = Character x}) n f = alike_unruled Configuration Machine R o _
+  object_told line _ _ r z (plain_at {p = Text x}) n f = alike_unruled Configuration Machine R o _
+  object_told line _ _ r z link_at n f = alike_unruled Configuration Machine R o _
+  object_told line _ _ r z array_at n f = alike_unruled Configuration Machine R o _
+  object_told line _ _ r z element_at n f = alike_unruled Configuration Machine R o _
+  object_told line _ _ r z image_at n f = alike_unruled Configuration Machine R o _
+
+  tests_object : (line : ℕ) (left : List Kind) (r : ℕ → List Val → Run Configuration) (z : Plain → List Value → Run Machine) → ks ≡ anys 1 left → ((j : ℕ) (vals' : List Val) (stack' : List Value) → Names s m (meaning.Of (Object j)) → StackAt (HandAt s code m) left vals' stack' → Alike R (r j vals') (z (Object j) stack')) → Alike R (pop_object plain line vals o r) (pop_reference machine.plain line stack o z)
+  unfolding pop_object pop_reference pop_plain
+  tests_object line left r z e f =
+      hand_popping Configuration Machine R Val Value (HandAt s code m) plain machine.plain same_plain Any left vals stack o _ _ (kinds_as s code e here.values)
+      (λ v x vals' stack' ev ex h hs. object_told line v x (λ j. r j vals') (λ p. z p stack') h (named v vals' ev) (λ j n. f j vals' stack' n hs))
 
   -- the class of an address
   by_number : (c n : ℕ) → class_number s code c ≡ suc n → Classed s c → (r : Run Configuration) (z : ℕ → Run Machine) → Alike R r (z (class_number s code c)) → Alike R r (rows.qualified code (pos (class_number s code c)) o z)
@@ -147,29 +141,37 @@ module _ (s : Source) (code : CodeOf) (coding : Compiled s code) (l : Limits) (o
 
   pub not_none : (line : ℕ) → Follows (NotNoneOp line)
   not_none line a = at_row s code l o fs top below _ i.NotNone line q a.is
-      (pops_object line a.left _ _ a.«in» (λ j vals' stack' n hs. on_with (more_at plain_at hs) a.out a.is.on))
+      (pops_reference line a.left _ _ a.«in» (λ p vals' stack' n i hs. on_with (more_at plain_at hs) a.out a.is.on))
 
   -- ---- procedures of objects
 
   pub object : (c line : ℕ) → Follows (ObjectOp c line)
   unfolding has_procedure
   object c line a = at_row s code l o fs top below _ i.NotNone line q a.is
-      (pops_object line a.left _ _ a.«in»
+      (tests_object line a.left _ _ a.«in»
       (λ j vals' stack' n hs. alike_passes Configuration Machine R (has_procedure s m c j) o _ _
       (λ e. on_with (more_at (record { instance = j; is_val = refl; is_value = refl; stands = of_text s code coding m fs here.store j a.text (object_named j n) (sym (ap (λ z. is_in_any s m z j) a.around) ∙ e) }) hs) a.out a.is.on)))
 
   -- ---- classes
 
+  -- it passes the test of a qualification, or E7
+  held_on : (c line : ℕ) → Classed s c → (p : Plain) → Names s m (meaning.Of p) → IsReference p → (r : Run Configuration) (z : Run Machine) → Alike R r z → Alike R (qualifying line (stands_in s m c) p o r) (classes.qualifying line (classes.is_in code fs (class_number s code c) p) o z)
+  unfolding qualifying choosing
+  held_on c line h (Object j) n i r z f = alike_found Configuration Machine R Bool (classes.is_in code fs (class_number s code c) (Object j)) (stands_in s m c (Object j)) o _ _ (named_in_same s code coding m fs here.store c h (Object j) n i) (alike_choosing Configuration Machine R (stands_in s m c (Object j)) r _ z _ f (alike_stopping Configuration Machine R _ o))
+  held_on c line h (MainOf j) n i r z f = alike_found Configuration Machine R Bool (classes.is_in code fs (class_number s code c) (MainOf j)) (stands_in s m c (MainOf j)) o _ _ (named_in_same s code coding m fs here.store c h (MainOf j) n i) (alike_choosing Configuration Machine R (stands_in s m c (MainOf j)) r _ z _ f (alike_stopping Configuration Machine R _ o))
+  held_on c line h Nothing n i r z f = absurd i
+  held_on c line h (Integer x) n i r z f = absurd i
+  held_on c line h (Truth x) n i r z f = absurd i
+  held_on c line h (Character x) n i r z f = absurd i
+  held_on c line h (Text x) n i r z f = absurd i
+
   pub qua : (c line : ℕ) → Follows (QuaOp c line)
-  unfolding qualifying is_in choosing
   qua c line h =
       let a = h.1 in
       at_row s code l o fs top below _ (i.Qua (pos (class_number s code c))) line q a.is
       (alike_found Configuration Machine R ℕ (classes.class_named code (pos (class_number s code c))) (class_number s code c) o _ _ (class_named s code coding m fs here.store c h.0)
-      (pops_object line a.left _ _ a.«in»
-      (λ j vals' stack' n hs.
-      alike_found Configuration Machine R Bool (classes.in_class code fs (class_number s code c) j) (is_in s m c j) o _ _ (in_class_same s code coding m fs here.store j c (object_named j n) h.0)
-      (alike_choosing Configuration Machine R (is_in s m c j) _ _ _ _ (on_with (more_at plain_at hs) a.out a.is.on) (alike_stopping Configuration Machine R _ o)))))
+      (pops_reference line a.left _ _ a.«in»
+      (λ p vals' stack' n i hs. held_on c line h.0 p n i _ _ (on_with (more_at plain_at hs) a.out a.is.on))))
 
   -- `is` and `in`
   abbrev machine_member : Membership → (class : ℕ) → Plain → Option Bool
@@ -181,6 +183,10 @@ module _ (s : Source) (code : CodeOf) (coding : Compiled s code) (l : Limits) (o
   member_same membership.Is c j h n = is_of_same s code coding m fs here.store j c (object_named j n) h
   member_same membership.In c j h n = in_class_same s code coding m fs here.store j c (object_named j n) h
 
+  main_same : (member : Membership) (c b : ℕ) → Classed s c → Names s m (meaning.Of (MainOf b)) → machine_member member (class_number s code c) (MainOf b) ≡ Some (main_belongs s m member c b)
+  main_same membership.Is c b h n = main_is_same s code coding m fs here.store b c n h
+  main_same membership.In c b h n = main_in_same s code coding m fs here.store b c n h
+
   none_same : (member : Membership) (c : ℕ) → machine_member member c Nothing ≡ Some false
   none_same membership.Is c = refl
   none_same membership.In c = refl
@@ -188,6 +194,7 @@ module _ (s : Source) (code : CodeOf) (coding : Compiled s code) (l : Limits) (o
   tested_on : (member : Membership) (c : ℕ) → Classed s c → (v : Val) (x : Value) (r : Bool → Run Configuration) (z : Bool → Run Machine) → ValAt v x → Names s m v → ((e : Bool) → Alike R (r e) (z e)) → Alike R (having (plain v) o (λ p. having (is_member s m member c p) o r)) (having (machine.plain x) o (λ p. having (machine_member member (class_number s code c) p) o z))
   unfolding having
   tested_on member c h _ _ r z (plain_at {p = Object j}) n f = alike_found Configuration Machine R Bool (machine_member member (class_number s code c) (Object j)) (belongs s m member c j) o _ _ (member_same member c j h n) (f (belongs s m member c j))
+  tested_on member c h _ _ r z (plain_at {p = MainOf j}) n f = alike_found Configuration Machine R Bool (machine_member member (class_number s code c) (MainOf j)) (main_belongs s m member c j) o _ _ (main_same member c j h n) (f (main_belongs s m member c j))
   tested_on member c h _ _ r z (plain_at {p = Nothing}) n f = alike_found Configuration Machine R Bool (machine_member member (class_number s code c) Nothing) false o _ _ (none_same member (class_number s code c)) (f false)
   tested_on member c h _ _ r z (plain_at {p = Integer x}) n f = alike_unruled Configuration Machine R o _
   tested_on member c h _ _ r z (plain_at {p = Truth x}) n f = alike_unruled Configuration Machine R o _
@@ -282,7 +289,7 @@ module _ (s : Source) (code : CodeOf) (coding : Compiled s code) (l : Limits) (o
   -- of a constant the object itself is left
   found_constant : (c d line : ℕ) → is_fixed s (Declared d) ≡ true → ConstantIs s code c (Declared d) line pc q → (left : List Kind) → ks ≡ anys 1 left → ks' ≡ FixedOf d ∷ left → Alike R (do_op s l o m inst w vals rest (AttributeOp c (Declared d) None line)) (on_top code l o fs top below)
   found_constant c d line fixed a left e out = at_row s code l o fs top below _ i.NotNone line q (a.is)
-      (pops_object line left _ _ e
+      (tests_object line left _ _ e
       (λ j vals' stack' n hs. alike_passes Configuration Machine R (is_in s m c j) o _ _
       (λ h. on_with (more_at (record { instance = j; text = c; is_val = refl; is_value = refl; stands = of_text s code coding m fs here.store j c (object_named j n) h; own = a.own; has = a.has; fixed = fixed }) hs) out (a.is).on)))
 
@@ -299,10 +306,12 @@ module _ (s : Source) (code : CodeOf) (coding : Compiled s code) (l : Limits) (o
   -- ---- references go where they belong
 
   -- a reference may stand where those of a class stand, or E7
-  admitted_on : (c line : ℕ) → Classed s c → (p : Plain) → Names s m (meaning.Of p) → (r : Run Configuration) (z : Run Machine) → Alike R r z → Alike R (qualifying line (is_in s m c) p o r) (classes.qualifying line (classes.may_stand code fs (class_number s code c) (Some p)) o z)
+  admitted_on : (c line : ℕ) → Classed s c → (p : Plain) → Names s m (meaning.Of p) → (r : Run Configuration) (z : Run Machine) → Alike R r z → Alike R (qualifying line (stands_in s m c) p o r) (classes.qualifying line (classes.may_stand code fs (class_number s code c) (Some p)) o z)
   unfolding qualifying having choosing
   admitted_on c line h (Object j) n r z f =
-      alike_found Configuration Machine R Bool (classes.in_class code fs (class_number s code c) j) (is_in s m c j) o _ _ (in_class_same s code coding m fs here.store j c (object_named j n) h) (alike_choosing Configuration Machine R (is_in s m c j) r _ z _ f (alike_stopping Configuration Machine R _ o))
+      alike_found Configuration Machine R Bool (classes.in_class code fs (class_number s code c) j) (stands_in s m c (Object j)) o _ _ (object_in_same s code coding m fs here.store j c n h) (alike_choosing Configuration Machine R (stands_in s m c (Object j)) r _ z _ f (alike_stopping Configuration Machine R _ o))
+  admitted_on c line h (MainOf j) n r z f =
+      alike_found Configuration Machine R Bool (classes.main_in_class code fs (class_number s code c) j) (stands_in s m c (MainOf j)) o _ _ (main_in_same s code coding m fs here.store j c n h) (alike_choosing Configuration Machine R (stands_in s m c (MainOf j)) r _ z _ f (alike_stopping Configuration Machine R _ o))
   admitted_on c line h Nothing n r z f = f
   admitted_on c line h (Integer x) n r z f = alike_unruled Configuration Machine R o _
   admitted_on c line h (Truth x) n r z f = alike_unruled Configuration Machine R o _
@@ -310,16 +319,16 @@ module _ (s : Source) (code : CodeOf) (coding : Compiled s code) (l : Limits) (o
   admitted_on c line h (Text x) n r z f = alike_unruled Configuration Machine R o _
 
   -- where the class of an address is one
-  admitting_on : (c line : ℕ) → Classed s c → (p : Plain) → Names s m (meaning.Of p) → (r : Run Configuration) (z : Run Machine) → Alike R r z → Alike R (qualifying line (is_in s m c) p o r) (classes.admitting code fs line (class_number s code c) (machine.Of p) o z)
+  admitting_on : (c line : ℕ) → Classed s c → (p : Plain) → Names s m (meaning.Of p) → (r : Run Configuration) (z : Run Machine) → Alike R r z → Alike R (qualifying line (stands_in s m c) p o r) (classes.admitting code fs line (class_number s code c) (machine.Of p) o z)
   admitting_on c line h p n r z f =
       let x = class_has s code coding c (class_levels s code coding c h) in
       let y = counts s code coding c x in
       by_count y.0 (number_is s code coding c x ∙ y.1)
     where
-      by_count : (i : ℕ) → class_number s code c ≡ suc i → Alike R (qualifying line (is_in s m c) p o r) (classes.admitting code fs line (class_number s code c) (machine.Of p) o z)
+      by_count : (i : ℕ) → class_number s code c ≡ suc i → Alike R (qualifying line (stands_in s m c) p o r) (classes.admitting code fs line (class_number s code c) (machine.Of p) o z)
       by_count i e =
-          subst (λ d. Alike R (qualifying line (is_in s m c) p o r) (classes.admitting code fs line d (machine.Of p) o z)) (sym e)
-          (subst (λ d. Alike R (qualifying line (is_in s m c) p o r) (classes.qualifying line (classes.may_stand code fs d (Some p)) o z)) e (admitted_on c line h p n r z f))
+          subst (λ d. Alike R (qualifying line (stands_in s m c) p o r) (classes.admitting code fs line d (machine.Of p) o z)) (sym e)
+          (subst (λ d. Alike R (qualifying line (stands_in s m c) p o r) (classes.qualifying line (classes.may_stand code fs d (Some p)) o z)) e (admitted_on c line h p n r z f))
 
   -- a reference is put where an address leads
   abbrev meaning_refers : (line : ℕ) → Val → Plain → List Val → Run Configuration

@@ -1,16 +1,13 @@
 -- Which states of the machine stand for which states of a program.
-use Rattle.std.proofs.Common.{◌≡◌, ◌≢◌, ◌<◌, ◌≤◌, ◌*◌, ℕ, suc, Bool, true, false, List, [], ◌∷◌, length, Option, Some, None}
+use Rattle.std.proofs.Common.{◌≡◌, ◌≢◌, ◌<◌, ◌≤◌, ℕ, suc, Bool, true, false, List, [], ◌∷◌, length, Option, Some, None}
 use Rattle.std.specs.Prelude.{⊤, drop, pos, slice_get}
 use Rattle.sim_chains.specs.Components.{AttachedObject, DetachedObject, NoObject, ResumedObject, Standing, TerminatedObject}
 use Rattle.sim_scope.specs.Access.{encloser}
-use Rattle.sim_scope.specs.Source.{Source, block_around, level_of}
+use Rattle.sim_scope.specs.Source.{Source, block_around}
 use Rattle.sim_tree.specs.declared.stmt.TypeName.{TypeName}
 use Rattle.sim_tree.specs.Syntax.{Also, Arms, Element, Expression, NoStatement, Statement, Statements}
 use Rattle.sim_tree.specs.Syntax as syntax
-use Rattle.sim_values.specs.declared.kind.Kind.{Kind as TypeKind}
-use Rattle.sim_values.specs.declared.standard.Standard.{Standard}
 use Rattle.sim_values.specs.Plain.{Integer}
-use Rattle.sim_values.specs.Standard.{row_of}
 use Rattle.sim_code.specs.declared.code.BlockKind.{BlockKind}
 use Rattle.sim_code.specs.declared.code.BlockKind.TheVariants as block_kind
 use Rattle.sim_code.specs.declared.code.CodeType.{CodeType}
@@ -22,243 +19,27 @@ use Rattle.sim_code.specs.declared.stage.Stage.TheVariants as stage
 use Rattle.sim_code.specs.Classes.{class_numbered}
 use Rattle.sim_code.specs.Code.{BlockOf, ClassOf, CodeOf}
 use Rattle.sim_code.specs.Instances.{Instance}
-use Rattle.sim_code.specs.Machine.{Frames, Machine, Value, Cells, joined}
+use Rattle.sim_code.specs.Machine.{Frames, Machine, Cells, joined}
 use Rattle.sim_code.specs.Machine as machine
 use Rattle.sim_code.proofs.Lifts.{Both}
 use Rattle.sim_meaning.specs.Levels.{has_levels, is_class, levels_made, levels_of, text_at}
-use Rattle.sim_meaning.specs.Pending.{Activation, AgainOp, ArrayOp, AttributeOp, BackOp, BranchOp, CallOp, ChooseOp, Configuration, ConnectOp, CopyOp, DeclareOp, Do, DropOp, ElementOp, ElementsOp, EndBlock, EndLevel, EndObject, EndPrefixed, EndProcedure, EndProgram, EnterOp, Eval, Exec, Execs, FetchOp, FitsOp, GiveOp, Held, IfOp, InnerOp, Instances, Item, JoinOp, KeepOp, Key, Level, LevelOp, MemberOp, NewOp, NotNoneOp, ObjectOp, OneOp, Op, PastOp, PrefixedOp, QuaOp, QualifiedElementOp, RaiseOp, ReferOp, SetOp, ShareOp, StandardOp, StepOp, StepTestOp, StoreOp, SwapOp, Target, Term, TestOp, ToAddress, ToCell, ToPlace, ToReference, ToReferenceAt, ToText, ToTextAt, ToTextOf, TransferOp, TwoOp, Val, WhenOp, WhileElementOp, held}
-use Rattle.sim_meaning.specs.Entries.{formals_of, passes}
+use Rattle.sim_meaning.specs.Pending.{Activation, ActivateOp, AgainOp, ArrayOp, AttributeOp, BackOp, BlockOp, BranchOp, CallOp, ChooseOp, Configuration, ConnectOp, CopyOp, DeclareOp, Do, DropOp, ElementOp, ElementsOp, EndBlock, EndLevel, EndObject, EndPrefixed, EndProcedure, EndProcessOp, EndProgram, EnterOp, Eval, Exec, Execs, FetchOp, FitsOp, GiveOp, Held, IfOp, InnerOp, Instances, Item, JoinOp, KeepOp, Key, Level, LevelOp, MemberOp, NewOp, NotNoneOp, ObjectOp, OneOp, Op, PastOp, PrefixedOp, ProcessOp, QuaOp, QualifiedElementOp, RaiseOp, ReferOp, SelfOp, SetOp, ShareOp, SimulationOp, StandardOp, StepOp, StepTestOp, StoreOp, SwapOp, Target, Term, TestOp, ToReferenceAt, TransferOp, TwoOp, WhenOp, WhileElementOp, held}
+use Rattle.sim_meaning.specs.Entries.{passes}
 use Rattle.sim_meaning.specs.Meaning.{has_result}
-use Rattle.sim_meaning.specs.Statements.{has_value}
 use Rattle.sim_meaning.specs.Texts.{BlockText, ProcedureText, is_class_free, text}
 use Rattle.sim_meaning.specs.Texts as Texts
-use Rattle.codegen_expr.specs.Sites.{Ahead, At, HasCell, Is, LevelOf, LoopAt, Pushes, Site, block_number, class_number, frame_text, own_end, place_of, slot_of}
-use Rattle.codegen_expr.specs.CodeExpr.{ExprAt, PlaceAt, ReferencePlaceAt, StandardIs, member_instr, one_instr, two_instr}
-use Rattle.codegen.specs.CodeArrays.{ArraysAt, element_number}
+use Rattle.codegen_expr.specs.Sites.{Ahead, At, HasCell, Is, LevelOf, LoopAt, Pushes, Site, block_number, class_number, frame_text, is_connected, own_end, place_of, slot_of}
+use Rattle.codegen_expr.specs.CodeExpr.{ExprAt, PlaceAt, ReferencePlaceAt, member_instr, one_instr, two_instr}
+use Rattle.codegen.specs.CodeArrays.{ArraysAt}
 use Rattle.codegen.specs.CodeFor.{ElementsAt, OfCell, OfPlace, OfReference, ReturnsAt, StepAt, TurnAt, Variable, WhileElementAt}
-use Rattle.codegen.specs.CodeStm.{ArmsAt, ConnectsAt, StmAt, StmsAt, WithInnerAt}
+use Rattle.codegen.specs.CodeStm.{ArmsAt, ConnectsAt, EndsAt, StmAt, StmsAt, WithInnerAt}
 use Rattle.codegen.specs.Compiled.{RecordOf, type_of_name}
-use Rattle.sim_relate.proofs.Known.{AllRead, Any, HandAt, IsLink, IsRead, IsTemp, Keeps, Kind, Later, LinkTo, OwnerOf, Reaches, Refers, Runs, SameFrame, SlotAt, Spot, StackAt, Stands, ValAt, anys, at_stage, attribute_kind, given, is_declared, is_fixed, place_target, placed, reads, site_at, spot, variable_target, LeavesIs}
+use Rattle.sim_relate.proofs.Known.{HasClass, Calm, HandAt, IsTemp, Keeps, Kind, Later, Reaches, Refers, Runs, SameFrame, SlotAt, Spot, StackAt, Stands, anys, at_stage, given, is_declared, is_fixed, is_process_in, place_target, placed, reads, site_at, spot, variable_target, LeavesIs}
 use Rattle.sim_relate.proofs.Waiting.{GetsIs, demand, suspended}
-use Rattle.sim_relate.proofs.Trees.{Classed, JoinsIs, ProcedureIs, FoundIs, FetchesAt, FitsIs, SetIs, TermAt, OperandAt, transfer_instr}
+use Rattle.sim_relate.proofs.Trees.{Classed, TermAt, transfer_instr}
+use Rattle.sim_relate.proofs.Operations.{Works, WorksAnyLine, ChoiceIs, IfIs, CallOpIs, NewOpIs, PrefixedOpIs, AttributeOpIs, ObjectOpIs, QualifiedElementOpIs, FitsOpIs, FetchOpIs, SwapIs, ReferIs, StandardOpIs, SetOpIs, ProcessOpIs, SimulationOpIs, BlockOpIs, ActivateOpIs, SelfOpIs, JoinOpIs, AgainIs, ArrayIs, StoreIs, TempIs, ShareIs, GiveIs}
 
 module _ (s : Source) (code : CodeOf) where
-  -- ---- operators: `before` are the kinds of the values in hand before it, `behind` those behind it
-
-  -- an instruction that takes so many values and leaves one, or none
-  pub record Works (x : Instr) (line taken : ℕ) (leaves : Bool) (p q : ℕ) (before behind : List Kind) : Type 0 where
-    pub is : At code x line p q
-    pub left : List Kind
-    pub «in» : before ≡ anys taken left
-    pub out : behind ≡ given leaves left
-
-  pub record WorksAnyLine (x : Instr) (taken : ℕ) (leaves : Bool) (p q : ℕ) (before behind : List Kind) : Type 0 where
-    pub line : ℕ
-    pub works : Works x line taken leaves p q before behind
-
-  -- one of two parts, where the choice is to be made
-  pub record ChoiceIs (First Second : ℕ → ℕ → Type 0) (p q : ℕ) : Type 0 where
-    pub z : ℕ
-    pub w : ℕ
-    pub x : ℕ
-    pub jump : Is code (i.JumpF (pos x)) p z
-    pub leads : Ahead code p x
-    pub first : First z w
-    pub over : Is code (i.Jump (pos q)) w x
-    pub past : Ahead code w q
-    pub second : Second x q
-
-  pub record IfIs (m : Instances) (inst : ℕ) (site : Site) (a b : Term) (p q : ℕ) (before behind : List Kind) : Type 0 where
-    pub left : List Kind
-    pub choice : ChoiceIs (OperandAt s code m inst site (length left) a) (OperandAt s code m inst site (length left) b) p q
-    pub «in» : before ≡ anys 1 left
-    pub out : behind ≡ anys 1 left
-
-  pub record CallOpIs (site : Site) (k actuals line p q : ℕ) (before behind : List Kind) : Type 0 where
-    pub text : ℕ
-    pub procedure : ProcedureIs s code k text
-    pub is : At code (i.Call (pos (block_number s k)) (pos actuals)) line p q
-    pub as_many : actuals ≡ length (formals_of s k)
-    pub left : List Kind
-    pub fits : length left < site.room
-    pub link : Kind
-    pub links : IsLink link text
-    pub «in» : before ≡ anys actuals (link ∷ left)
-    pub out : behind ≡ given (has_result procedure.result) left
-
-  pub record NewOpIs (site : Site) (k actuals line p q : ℕ) (before behind : List Kind) : Type 0 where
-    pub text : ℕ
-    pub is : At code (i.New (pos (class_number s code k)) (pos actuals)) line p q
-    pub stands_in : encloser s.tables k ≡ Some text
-    pub class : is_class (Texts.text s k) ≡ true
-    pub left : List Kind
-    pub fits : length left < site.room
-    pub «in» : before ≡ anys actuals (LinkTo text ∷ left)
-    pub out : behind ≡ anys 1 left
-
-  -- the entry of a prefixed block, which stands in the text from which it is entered
-  pub record PrefixedOpIs (site : Site) (k actuals line p q : ℕ) (before behind : List Kind) : Type 0 where
-    pub is : At code (i.Pref (pos (block_number s k)) (pos actuals)) line p q
-    pub stands_in : encloser s.tables k ≡ Some site.text
-    pub has : has_levels (Texts.text s k) ≡ true
-    pub no_class : is_class (Texts.text s k) ≡ false
-    pub «in» : before ≡ anys actuals behind
-
-  pub record AttributeOpIs (text : ℕ) (key : Key) (class : Option ℕ) (line p q : ℕ) (before behind : List Kind) : Type 0 where
-    pub left : List Kind
-    pub found : FoundIs s code (attribute_kind s key class) text key line p q
-    pub «in» : before ≡ anys 1 left
-    pub out : behind ≡ attribute_kind s key class ∷ left
-
-  -- the text around the procedure of the object in hand
-  pub record ObjectOpIs (k line p q : ℕ) (before behind : List Kind) : Type 0 where
-    pub is : At code i.NotNone line p q
-    pub text : ℕ
-    pub around : encloser s.tables k ≡ Some text
-    pub left : List Kind
-    pub «in» : before ≡ anys 1 left
-    pub out : behind ≡ OwnerOf text ∷ left
-
-  pub record QualifiedElementOpIs (n line k p q : ℕ) (before behind : List Kind) : Type 0 where
-    pub is : At code (i.Elem (pos n) (pos (class_number s code k))) line p q
-    pub is_class : Classed s k
-    pub left : List Kind
-    pub «in» : before ≡ anys (suc n) left
-    pub out : behind ≡ Refers k ∷ left
-
-  pub record FitsOpIs (site : Site) (k line p q : ℕ) (before behind : List Kind) : Type 0 where
-    pub left : List Kind
-    pub fits : FitsIs s code site (length left) k line p q
-    pub «in» : before ≡ anys 1 left
-    pub out : behind ≡ anys 1 left
-
-  pub record FetchOpIs (site : Site) (p q : ℕ) (before behind : List Kind) : Type 0 where
-    pub kind : Kind
-    pub left : List Kind
-    pub fetches : FetchesAt s code site (length left) kind p q
-    pub «in» : before ≡ kind ∷ left
-    pub out : behind ≡ Any ∷ left
-
-  -- a value changes places with where a variable lies
-  pub record SwapIs (p q : ℕ) (before behind : List Kind) : Type 0 where
-    pub is : Is code i.Swap p q
-    pub first : Kind
-    pub left : List Kind
-    pub «in» : before ≡ first ∷ Any ∷ left
-    pub out : behind ≡ Any ∷ first ∷ left
-
-  pub record ReferIs (line p q : ℕ) (before behind : List Kind) : Type 0 where
-    pub is : At code i.Put line p q
-    pub class : ℕ
-    pub is_class : Classed s class
-    pub left : List Kind
-    pub «in» : before ≡ Any ∷ Refers class ∷ left
-    pub out : behind ≡ left
-
-  pub record StandardOpIs (site : Site) (name : Standard) (line p q : ℕ) (before behind : List Kind) : Type 0 where
-    pub left : List Kind
-    pub many : ℕ
-    pub is : StandardIs code site (length left) line name many p q
-    pub «in» : AllRead many before left
-    pub out : behind ≡ given (has_value (row_of name).result) left
-
-  -- a procedure of SIMSET takes its object and its actual parameter, if it has one
-  pub record SetOpIs (name : Standard) (p q : ℕ) (before behind : List Kind) : Type 0 where
-    pub left : List Kind
-    pub many : ℕ
-    pub is : SetIs s code name many p q
-    pub «in» : before ≡ anys many left
-    pub out : behind ≡ given (has_value (row_of name).result) left
-
-  pub record JoinOpIs (site : Site) (line p q : ℕ) (before behind : List Kind) : Type 0 where
-    pub left : List Kind
-    pub joins : JoinsIs s code site (length left) line p q
-    pub «in» : before ≡ anys 2 left
-    pub out : behind ≡ anys 1 left
-
-  pub record AgainIs (site : Site) (p q : ℕ) (before behind : List Kind) : Type 0 where
-    pub is : Pushes code site (length before) i.Dup p q
-    pub left : List Kind
-    pub «in» : before ≡ anys 1 left
-    pub out : behind ≡ anys 2 left
-
-  pub record ArrayIs (site : Site) (kind : TypeKind) (dimensions line p q : ℕ) (before behind : List Kind) : Type 0 where
-    pub is : At code (i.Array (element_number kind) (pos dimensions)) line p q
-    pub left : List Kind
-    pub fits : length left < site.room
-    pub «in» : before ≡ anys (2 * dimensions) left
-    pub out : behind ≡ anys 1 left
-
-  -- the value on top goes to a cell
-  pub record CellStoreIs (m : Instances) (inst j : ℕ) (key : Key) (p q : ℕ) : Type 0 where
-    pub text : ℕ
-    pub is : Is code (i.Store (pos (level_of s text)) (pos (slot_of s code text key))) p q
-    pub reaches : Reaches s m inst text j
-    pub own : frame_text s text ≡ text
-    pub has : HasCell s text key
-    pub varies : is_fixed s key ≡ false
-    pub declared : is_declared key ≡ true
-
-  -- a value on top of where it goes
-  pub record PutsOn (before behind : List Kind) : Type 0 where
-    pub place : Kind
-    pub reads : IsRead place
-    pub «in» : before ≡ Any ∷ place ∷ behind
-
-  abbrev pub TargetAt : Instances → (inst : ℕ) → Target → (p q : ℕ) → (before behind : List Kind) → Type 0
-  TargetAt m inst (ToCell j key) p q before behind = CellStoreIs m inst j key p q × (before ≡ anys 1 behind)
-  TargetAt m inst ToAddress p q before behind = Is code i.Put p q × PutsOn before behind
-  TargetAt m inst (ToText line) p q before behind = At code i.AssignT line p q × (before ≡ anys 2 behind)
-  TargetAt m inst (ToTextOf j key line) p q before behind = At code i.AssignT line p q × (before ≡ anys 2 behind)
-  TargetAt m inst (ToReference line) p q before behind = ReferIs line p q before behind
-  TargetAt m inst _ p q before behind = ⊥
-
-  -- the value in hand goes to a place that is found then
-  pub record PlaceStoreIs (m : Instances) (inst : ℕ) (site : Site) (a : Term) (kind : Kind) (Put : ℕ → ℕ → Type 0) (p q : ℕ) (before behind : List Kind) : Type 0 where
-    pub x : ℕ
-    pub y : ℕ
-    pub place : TermAt s code m inst site (suc (length behind)) a p x
-    pub is_place : (ks : List Kind) → LeavesIs s a ks (kind ∷ ks)
-    pub under : Is code i.Swap x y
-    pub put : Put y q
-    pub «in» : before ≡ Any ∷ behind
-
-  abbrev pub StoreIs : Instances → (inst : ℕ) → Site → Target → (p q : ℕ) → (before behind : List Kind) → Type 0
-  StoreIs m inst site (ToPlace a) p q before behind = (kind : Kind) × IsRead kind × PlaceStoreIs m inst site a kind (λ x y. Is code i.Put x y) p q before behind
-  StoreIs m inst site (ToTextAt a line) p q before behind = At code i.AssignT line p q × (before ≡ anys 2 behind)
-  StoreIs m inst site (ToReferenceAt a line) p q before behind = (k : ℕ) × Classed s k × PlaceStoreIs m inst site a (Refers k) (λ x y. At code i.Put line x y) p q before behind
-  StoreIs m inst site t p q before behind = TargetAt m inst t p q before behind
-
-  -- a temp of the frame: it stands behind the own part of the text
-  pub record TempIs (site : Site) (temp : ℕ) : Type 0 where
-    pub behind : own_end s code (frame_text s site.text) ≤ temp
-    pub within : temp < site.size
-
-  -- what is in a temp goes to one left side after another
-  abbrev pub GivesIs : Instances → (inst : ℕ) → Site → (temp : ℕ) → List Target → (p q : ℕ) → (before behind : List Kind) → Type 0
-  GivesIs m inst site temp [] p q before behind = (q ≡ p) × (behind ≡ before)
-  GivesIs m inst site temp (t ∷ ts) p q before behind =
-      (x : ℕ) × (y : ℕ) × (next : List Kind) × Pushes code site (length before) (i.Load (pos (level_of s site.text)) (pos temp)) p x × TargetAt m inst t x y (Any ∷ before) next × GivesIs m inst site temp ts y q next behind
-
-  pub record ShareIs (m : Instances) (inst : ℕ) (site : Site) (ts : List Target) (p q : ℕ) (before behind : List Kind) : Type 0 where
-    pub temp : ℕ
-    pub unused : site.used ≤ temp
-    pub is_temp : TempIs site temp
-    pub x : ℕ
-    pub left : List Kind
-    pub kept : Is code (i.Store (pos (level_of s site.text)) (pos temp)) p x
-    pub gives : GivesIs m inst (record site { used = suc temp }) temp ts x q left behind
-    pub «in» : before ≡ anys 1 left
-
-  pub record GiveIs (m : Instances) (fs : Frames) (inst : ℕ) (site : Site) (v : Val) (ts : List Target) (p q : ℕ) (before behind : List Kind) : Type 0 where
-    pub temp : ℕ
-    pub x : Value
-    pub like : ValAt v x
-    pub «in_use» : temp < site.used
-    pub is_temp : TempIs site temp
-    pub holds : placed fs inst temp ≡ Some x
-    pub gives : GivesIs m inst site temp ts p q before behind
-
   -- ---- statements
 
   -- Where several elements share the code of the statement, a turn leaves its number in a temp, goes to the statement, and comes back.
@@ -271,7 +52,7 @@ module _ (s : Source) (code : CodeOf) where
     pub first : ℕ
     pub returns : List ℕ
     pub unused : site.used ≤ temp
-    pub is_temp : TempIs site temp
+    pub is_temp : TempIs s code site temp
     pub turn : TurnAt s code site n temp start returns number p q
     pub tick : Is code i.Tick start ticked
     pub body : StmAt s code (record site { used = suc temp }) n a start done
@@ -290,7 +71,7 @@ module _ (s : Source) (code : CodeOf) where
     pub returns : List ℕ
     pub was : ℕ
     pub «in_use» : temp < used
-    pub is_temp : TempIs (site_at t b was) temp
+    pub is_temp : TempIs s code (site_at t b was) temp
     pub holds : placed fs inst temp ≡ Some (machine.Of (Integer (pos number)))
     pub leads : slice_get returns number ≡ Some q
     pub back : ReturnsAt s code (site_at t b was) n temp 0 returns p first
@@ -304,7 +85,7 @@ module _ (s : Source) (code : CodeOf) where
   -- what is left of a conditional statement behind its test
   abbrev pub ChosenAt : Site → (n : ℕ) → Statement → Statements → ℕ → ℕ → Type 0
   ChosenAt site n a NoStatement p q = (z : ℕ) × Is code (i.JumpF (pos q)) p z × Ahead code p q × StmAt s code site n a z q
-  ChosenAt site n a (Also b more) p q = ChoiceIs (StmAt s code site n a) (StmsAt s code site n (Also b more)) p q
+  ChosenAt site n a (Also b more) p q = ChoiceIs s code (StmAt s code site n a) (StmsAt s code site n (Also b more)) p q
 
   pub record ChooseIs (site : Site) (a : Statement) (b : Statements) (p q : ℕ) (before behind : List Kind) : Type 0 where
     pub chosen : ChosenAt site (length behind) a b p q
@@ -419,22 +200,28 @@ module _ (s : Source) (code : CodeOf) where
   -- An operator stands at p and goes on at q. It is run in an instance, which has a frame, at a site.
   abbrev pub OpAt : Instances → Frames → (inst : ℕ) → Site → Op → (p q : ℕ) → (before behind : List Kind) → Type 0
   OpAt m fs inst site (Eval t) p q before behind = TermAt s code m inst site (length before) t p q × LeavesIs s t before behind
-  OpAt m fs inst site (OneOp op line) p q before behind = Works (one_instr op) line 1 true p q before behind
-  OpAt m fs inst site (TwoOp op line) p q before behind = Works (two_instr op) line 2 true p q before behind
-  OpAt m fs inst site (IfOp a b) p q before behind = IfIs m inst site a b p q before behind
-  OpAt m fs inst site (ElementOp n line) p q before behind = Works (i.Elem (pos n) (pos 0)) line (suc n) true p q before behind
-  OpAt m fs inst site FetchOp p q before behind = FetchOpIs site p q before behind
-  OpAt m fs inst site (CopyOp line) p q before behind = Works i.CopyArr line 1 true p q before behind
-  OpAt m fs inst site (CallOp k n line) p q before behind = CallOpIs site k n line p q before behind
-  OpAt m fs inst site (StandardOp name line) p q before behind = StandardOpIs site name line p q before behind
-  OpAt m fs inst site (SetOp name) p q before behind = SetOpIs name p q before behind
-  OpAt m fs inst site (JoinOp line) p q before behind = JoinOpIs site line p q before behind
-  OpAt m fs inst site DropOp p q before behind = WorksAnyLine i.Pop 1 false p q before behind
-  OpAt m fs inst site AgainOp p q before behind = AgainIs site p q before behind
-  OpAt m fs inst site (StoreOp t) p q before behind = StoreIs m inst site t p q before behind
-  OpAt m fs inst site (ShareOp ts) p q before behind = ShareIs m inst site ts p q before behind
-  OpAt m fs inst site (GiveOp v ts) p q before behind = GiveIs m fs inst site v ts p q before behind
-  OpAt m fs inst site (ArrayOp kind n line) p q before behind = ArrayIs site kind n line p q before behind
+  OpAt m fs inst site (OneOp op line) p q before behind = Works s code (one_instr op) line 1 true p q before behind
+  OpAt m fs inst site (TwoOp op line) p q before behind = Works s code (two_instr op) line 2 true p q before behind
+  OpAt m fs inst site (IfOp a b) p q before behind = IfIs s code m inst site a b p q before behind
+  OpAt m fs inst site (ElementOp n line) p q before behind = Works s code (i.Elem (pos n) (pos 0)) line (suc n) true p q before behind
+  OpAt m fs inst site FetchOp p q before behind = FetchOpIs s code site p q before behind
+  OpAt m fs inst site (CopyOp line) p q before behind = Works s code i.CopyArr line 1 true p q before behind
+  OpAt m fs inst site (CallOp k n line) p q before behind = CallOpIs s code site k n line p q before behind
+  OpAt m fs inst site (StandardOp name line) p q before behind = StandardOpIs s code site name line p q before behind
+  OpAt m fs inst site (SetOp name) p q before behind = SetOpIs s code name p q before behind
+  OpAt m fs inst site (ProcessOp name line) p q before behind = ProcessOpIs s code name line p q before behind
+  OpAt m fs inst site (SimulationOp name line) p q before behind = SimulationOpIs s code m inst name line p q before behind
+  OpAt m fs inst site (BlockOp j) p q before behind = BlockOpIs s code m inst site j p q before behind
+  OpAt m fs inst site (ActivateOp again timing line) p q before behind = ActivateOpIs s code m inst again timing line p q before behind
+  OpAt m fs inst site SelfOp p q before behind = SelfOpIs s code site p q before behind
+  OpAt m fs inst site EndProcessOp p q before behind = ⊥
+  OpAt m fs inst site (JoinOp line) p q before behind = JoinOpIs s code site line p q before behind
+  OpAt m fs inst site DropOp p q before behind = WorksAnyLine s code i.Pop 1 false p q before behind
+  OpAt m fs inst site AgainOp p q before behind = AgainIs s code site p q before behind
+  OpAt m fs inst site (StoreOp t) p q before behind = StoreIs s code m inst site t p q before behind
+  OpAt m fs inst site (ShareOp ts) p q before behind = ShareIs s code m inst site ts p q before behind
+  OpAt m fs inst site (GiveOp v ts) p q before behind = GiveIs s code m fs inst site v ts p q before behind
+  OpAt m fs inst site (ArrayOp kind n line) p q before behind = ArrayIs s code site kind n line p q before behind
   OpAt m fs inst site (Exec a) p q before behind = TurnOf site (length before) a p q × (behind ≡ before)
   OpAt m fs inst site (Execs ss) p q before behind = StmsAt s code site (length before) ss p q × (behind ≡ before)
   OpAt m fs inst site (EnterOp k line) p q before behind =
@@ -448,26 +235,26 @@ module _ (s : Source) (code : CodeOf) where
   OpAt m fs inst site (ElementsOp t es a) p q before behind = ElementsIs m inst site t es a p q before behind
   OpAt m fs inst site (WhileElementOp t e c a) p q before behind = WhileElementIs m inst site t e c a p q before behind
   OpAt m fs inst site (StepTestOp t line step limit a) p q before behind = (x : StepIs m inst site t line step limit a q behind) × (x.element.t ≡ p) × (before ≡ anys 1 behind)
-  OpAt m fs inst site (StepOp line) p q before behind = WorksAnyLine i.StepTest 3 true p q before behind
+  OpAt m fs inst site (StepOp line) p q before behind = WorksAnyLine s code i.StepTest 3 true p q before behind
   OpAt m fs inst site (RaiseOp t line step limit a) p q before behind = (x : StepIs m inst site t line step limit a q behind) × (x.element.h ≡ p) × (before ≡ behind)
-  OpAt m fs inst site (NewOp k n line) p q before behind = NewOpIs site k n line p q before behind
-  OpAt m fs inst site (AttributeOp k key class line) p q before behind = AttributeOpIs k key class line p q before behind
-  OpAt m fs inst site (ObjectOp k line) p q before behind = ObjectOpIs k line p q before behind
-  OpAt m fs inst site (QualifiedElementOp n line k) p q before behind = QualifiedElementOpIs n line k p q before behind
-  OpAt m fs inst site (MemberOp member k) p q before behind = Classed s k × WorksAnyLine (member_instr member (class_number s code k)) 1 true p q before behind
-  OpAt m fs inst site (QuaOp k line) p q before behind = Classed s k × Works (i.Qua (pos (class_number s code k))) line 1 true p q before behind
-  OpAt m fs inst site (FitsOp k line) p q before behind = FitsOpIs site k line p q before behind
-  OpAt m fs inst site KeepOp p q before behind = WorksAnyLine i.Keep 1 true p q before behind
-  OpAt m fs inst site (NotNoneOp line) p q before behind = Works i.NotNone line 1 true p q before behind
-  OpAt m fs inst site (TransferOp t line) p q before behind = Works (transfer_instr t) line 1 false p q before behind
-  OpAt m fs inst site SwapOp p q before behind = SwapIs p q before behind
-  OpAt m fs inst site (ReferOp line) p q before behind = ReferIs line p q before behind
+  OpAt m fs inst site (NewOp k n line) p q before behind = NewOpIs s code site k n line p q before behind
+  OpAt m fs inst site (AttributeOp k key class line) p q before behind = AttributeOpIs s code k key class line p q before behind
+  OpAt m fs inst site (ObjectOp k line) p q before behind = ObjectOpIs s code k line p q before behind
+  OpAt m fs inst site (QualifiedElementOp n line k) p q before behind = QualifiedElementOpIs s code n line k p q before behind
+  OpAt m fs inst site (MemberOp member k) p q before behind = Classed s k × WorksAnyLine s code (member_instr member (class_number s code k)) 1 true p q before behind
+  OpAt m fs inst site (QuaOp k line) p q before behind = Classed s k × Works s code (i.Qua (pos (class_number s code k))) line 1 true p q before behind
+  OpAt m fs inst site (FitsOp k line) p q before behind = FitsOpIs s code site k line p q before behind
+  OpAt m fs inst site KeepOp p q before behind = WorksAnyLine s code i.Keep 1 true p q before behind
+  OpAt m fs inst site (NotNoneOp line) p q before behind = Works s code i.NotNone line 1 true p q before behind
+  OpAt m fs inst site (TransferOp t line) p q before behind = Works s code (transfer_instr t) line 1 false p q before behind
+  OpAt m fs inst site SwapOp p q before behind = SwapIs s code p q before behind
+  OpAt m fs inst site (ReferOp line) p q before behind = ReferIs s code line p q before behind
   OpAt m fs inst site (DeclareOp ds) p q before behind = ArraysAt s code site ds p q × (before ≡ []) × (behind ≡ [])
   OpAt m fs inst site (ConnectOp k a other) p q before behind = ConnectIs site k a other p q before behind
   OpAt m fs inst site (WhenOp arms other) p q before behind = WhenIs site arms other p q before behind
   OpAt m fs inst site (LevelOp k) p q before behind = ⊥
   OpAt m fs inst site (InnerOp xs) p q before behind = ⊥
-  OpAt m fs inst site (PrefixedOp k n line) p q before behind = PrefixedOpIs site k n line p q before behind
+  OpAt m fs inst site (PrefixedOp k n line) p q before behind = PrefixedOpIs s code site k n line p q before behind
 
   -- ---- stages
 
@@ -482,6 +269,7 @@ module _ (s : Source) (code : CodeOf) where
     pub roomy : block.room ≤ b.room
     -- all levels have room
     pub own_roomy : (x : BlockOf) → slice_get code.blocks (block_number s b.own) ≡ Some x → x.room ≤ b.room
+    pub of_class : HasClass s b.own
 
   -- at a level and a stage, with no temp in use
   abbrev pub at_level : Runs → (text : ℕ) → BlockOf → Stage → Spot
@@ -546,6 +334,7 @@ module _ (s : Source) (code : CodeOf) where
     pub tick : Is code i.Tick p x
     pub is : Is code (i.Inner (pos place)) x q
     pub its_own : block_around s token ≡ Some site.text
+    pub ordinary : is_process_in s site.text ≡ false
 
   -- statements one of which is `inner`
   pub record WithInnerIs (site : Site) (b : Runs) (c : Spot) (ss : Statements) (p q : ℕ) (before behind : List Kind) : Type 0 where
@@ -553,14 +342,35 @@ module _ (s : Source) (code : CodeOf) where
     pub after : ℕ
     pub at : AtLevel site b c place after before behind
     pub is : WithInnerAt s code site place after ss p q
+    pub ordinary : is_process_in s site.text ≡ false
+
+  -- The end of a process, behind `inner` of the level of the class `process`: among the classes with that level is its own.
+  pub record EndProcessIs (site : Site) (b : Runs) (c : Spot) (p q : ℕ) (before behind : List Kind) : Type 0 where
+    pub place : ℕ
+    pub was : b.stage ≡ stage.Behind place
+    pub class : ClassOf
+    pub level : LevelIs b site.text place b.block class
+    pub process : is_process_in s site.text ≡ true
+    pub around : ℕ
+    pub is_around : encloser s.tables site.text ≡ Some around
+    pub classes : List ℕ
+    pub each_class : (n k : ℕ) → slice_get classes n ≡ Some k → is_class (Texts.text s k) ≡ true
+    pub own_at : ℕ
+    pub own_is : slice_get classes own_at ≡ Some b.own
+    pub ends : EndsAt s code site around classes p q
+    pub low : site.used ≡ own_end s code site.text
+    pub goes_on : c ≡ spot site.text b site.used
+    pub none : before ≡ []
+    pub none_behind : behind ≡ []
 
   -- An operator leaves level and stage as they are, or it is one of those that go to the next one.
   pub data InStage (Stays : Op → (p q : ℕ) → (before behind : List Kind) → Type 0) (site : Site) (op : Op) (b : Runs) (c : Spot) (p q : ℕ) (before behind : List Kind) : Type 0 where
-    stays : Stays op p q before behind → c ≡ spot site.text b site.used → InStage Stays site op b c p q before behind
+    stays : Stays op p q before behind → Calm s b → c ≡ spot site.text b site.used → InStage Stays site op b c p q before behind
     declares : (k : ℕ) → op ≡ LevelOp k → DeclaredIs b c p q before behind → InStage Stays site op b c p q before behind
     inner_last : (xs : List Level) → op ≡ InnerOp xs → InnerIs site b c xs p q before behind → InStage Stays site op b c p q before behind
     inner_here : (token : ℕ) → op ≡ Exec (syntax.Inner token) → InnerHere site b c token p q before behind → InStage Stays site op b c p q before behind
     with_inner : (ss : Statements) → op ≡ Execs ss → WithInnerIs site b c ss p q before behind → InStage Stays site op b c p q before behind
+    ends_process : op ≡ EndProcessOp → EndProcessIs site b c p q before behind → InStage Stays site op b c p q before behind
 
   -- ---- pending work
 
@@ -720,6 +530,7 @@ module _ (s : Source) (code : CodeOf) where
     pub kept : y.kept ≡ x.kept
     pub given_back : y.given_back ≡ x.given_back
     pub own : frame_text s x.text ≡ x.text
+    pub solid : is_connected s.tables x.text ≡ false
     pub laid : Laid x.text
     -- each cell of each level, by its key; those that are declared are there
     pub cells : (t : ℕ) (key : Key) → LevelOf s.tables x.text t → HasCell s t key → SlotAt s (is_fixed s key) key (held key x.cells) (joined (slice_get y.cells (slot_of s code t key)))

@@ -19,10 +19,11 @@ use Rattle.sim_tree.specs.declared.expr.Sign.TheVariants as sign
 use Rattle.sim_tree.specs.Syntax.{Expression, Expressions, Literal, NoMore, Then}
 use Rattle.sim_tree.specs.Syntax as syntax
 use Rattle.sim_values.specs.declared.standard.Standard.{Standard}
-use Rattle.sim_values.specs.Plain.{Plain, Character, Integer, Nothing, Object, Text, Truth}
+use Rattle.sim_values.specs.Plain.{Plain, Character, Integer, Nothing, Object, Text, Truth, MainOf}
 use Rattle.sim_values.specs.Standard.{is_image, on_image, row_of}
 use Rattle.sim_code.specs.Code.{CodeOf}
-use Rattle.sim_meaning.specs.Attributes.{connection_at, is_connection, own_attribute}
+use Rattle.sim_code.specs.Simulations.{is_simulation_name}
+use Rattle.sim_meaning.specs.Attributes.{connection_at, is_connection, own_attribute, class_made}
 use Rattle.sim_meaning.specs.Closing.{Joining, Lazily, Negated, Plainly, Sort, formals_at, is_attribute, is_text, is_variable, sort_of, stream_of, sysout}
 use Rattle.sim_meaning.specs.Constants.{text_constant}
 use Rattle.sim_meaning.specs.Levels.{class_at}
@@ -30,7 +31,7 @@ use Rattle.sim_meaning.specs.Names.{procedure_named}
 use Rattle.sim_meaning.specs.Statements.{has_value, standard_leaves}
 use Rattle.sim_meaning.specs.Texts.{constant_of, text}
 use Rattle.codegen_expr.specs.Sites.{Site}
-use Rattle.codegen_expr.specs.CodeExpr.{ActualsAt, ArrayAt, ArrayOfAt, AttributeAt, BehindDotAt, ConnectedAt, ConnectedNameAt, ConstantAt, ConstantAttributeAt, DeclaredAt, DotAt, ExprAt, ExprsAt, FormalAt, GenerationAt, GivenAt, LiteralAt, MemberAt, NameAt, NamedAt, OfObjectAt, OwnAt, ParameterOfAt, PlaceAt, PlainAt, QuaAt, SignedAt, StandardAt, ThisFoundAt, ThisOfAt, ThroughAt, TwoAt, VariableAt, VariableOfAt, gives}
+use Rattle.codegen_expr.specs.CodeExpr.{ActualsAt, ArrayAt, ArrayOfAt, AttributeAt, BehindDotAt, ConnectedAt, ConnectedNameAt, ConstantAt, ConstantAttributeAt, DeclaredAt, DotAt, ExprAt, ExprsAt, FormalAt, GenerationAt, GivenAt, LiteralAt, MemberAt, NameAt, NamedAt, OfObjectAt, OwnAt, ParameterOfAt, PlaceAt, PlainAt, QuaAt, SignedAt, StandardAt, ThisFoundAt, ThisOfAt, ThroughAt, TwoAt, VariableAt, VariableOfAt, gives, OwnBy, OwnNameAt, SimulationFoundAt}
 
 module _ (s : Source) (code : CodeOf) (site : Site) where
   -- one value more has room
@@ -47,6 +48,7 @@ module _ (s : Source) (code : CodeOf) (site : Site) where
   plain_fits (Character c) n p q a = let x = a.1 in x.fits
   plain_fits (Text t) n p q a = let x = a.1 in x.fits
   plain_fits (Object j) n p q a = absurd a
+  plain_fits (MainOf j) n p q a = absurd a
   plain_fits Nothing n p q a = absurd a
 
   given_fits : (v : Option Plain) (n p q : ℕ) → GivenAt s code site n v p q → Fits n
@@ -183,11 +185,30 @@ module _ (s : Source) (code : CodeOf) (site : Site) where
   this_fits None n p q a = absurd a
   this_fits (Some t) n p q a = this_of_fits t n p q (is_connection (text s t)) a
 
-  -- a procedure of SIMSET, seen without a dot
+  -- an attribute, seen without a dot
+  own_name_fits : (found : Option ℕ) (line n : ℕ) (o : Option Entry) (es : Expressions) (Actuals Other : ℕ → ℕ → Type 0) (p q : ℕ) → FitsWhere n Other → OwnNameAt s code site n line found o es Actuals Other p q → Fits n
+  own_name_fits found line n (Some (entry.Attribute name parameter result)) es Actuals Other p q f a = by (is_simulation_name name) found a
+    where
+      by : (c : Bool) (found : Option ℕ) → OwnBy c (SimulationFoundAt s code site n line found name result es Actuals) Other p q → Fits n
+      by true None a = absurd a
+      by true (Some k) a = (a.link).fits
+      by false found a = f p q a
+  own_name_fits found line n (Some (entry.Variable type)) es Actuals Other p q f a = f p q a
+  own_name_fits found line n (Some (entry.Constant type)) es Actuals Other p q f a = f p q a
+  own_name_fits found line n (Some (entry.Array element dimensions)) es Actuals Other p q f a = f p q a
+  own_name_fits found line n (Some (entry.Formal y)) es Actuals Other p q f a = f p q a
+  own_name_fits found line n (Some (entry.Procedure result k)) es Actuals Other p q f a = f p q a
+  own_name_fits found line n (Some (entry.Class block)) es Actuals Other p q f a = f p q a
+  own_name_fits found line n (Some (entry.Virtual result own)) es Actuals Other p q f a = f p q a
+  own_name_fits found line n (Some (entry.Unspecified written)) es Actuals Other p q f a = f p q a
+  own_name_fits found line n None es Actuals Other p q f a = f p q a
+
   own_fits : (own : Option DeclNo) (u : Option Denotation) (found : Option ℕ) (line n : ℕ) (es : Expressions) (Operands Inner : ℕ → ℕ → Type 0) (Actuals : List Formal → ℕ → ℕ → Type 0) (p q : ℕ) → gives s u ≡ true
-      → OwnAt own (λ d. OfObjectAt s code site n line d (entry_of s.tables d) es (ThisFoundAt s code site n found) Inner (Actuals (formals_at s d))) (NamedAt s code site n line u es Operands Inner Actuals) p q → Fits n
+      → OwnAt own (λ d. OwnNameAt s code site n line found (entry_of s.tables d) es (Actuals (formals_at s d)) (OfObjectAt s code site n line d (entry_of s.tables d) es (ThisFoundAt s code site n found) Inner (Actuals (formals_at s d)))) (NamedAt s code site n line u es Operands Inner Actuals) p q → Fits n
   own_fits None u found line n es Operands Inner Actuals p q g a = named_fits u line n es Operands Inner Actuals p q g a
-  own_fits (Some d) u found line n es Operands Inner Actuals p q g a = of_object_fits d line n (entry_of s.tables d) es (ThisFoundAt s code site n found) Inner (Actuals (formals_at s d)) p q (λ p q. this_fits found n p q) a
+  own_fits (Some d) u found line n es Operands Inner Actuals p q g a =
+      own_name_fits found line n (entry_of s.tables d) es (Actuals (formals_at s d)) (OfObjectAt s code site n line d (entry_of s.tables d) es (ThisFoundAt s code site n found) Inner (Actuals (formals_at s d))) p q
+      (λ p q b. of_object_fits d line n (entry_of s.tables d) es (ThisFoundAt s code site n found) Inner (Actuals (formals_at s d)) p q (λ p q. this_fits found n p q) b) a
 
   through_fits : (c : Option ℕ) (u : Option Denotation) (line n : ℕ) (es : Expressions) (Inner Direct : ℕ → ℕ → Type 0) (Actuals : List Formal → ℕ → ℕ → Type 0) → FitsWhere n Direct → (p q : ℕ) → ThroughAt c (λ t. ConnectedNameAt s code site n line t u es Inner Actuals) Direct p q → Fits n
   through_fits None u line n es Inner Direct Actuals f p q a = f p q a
@@ -223,5 +244,5 @@ module _ (s : Source) (code : CodeOf) (site : Site) where
       through_fits (connection_at s name.token.0) (denoted s name.token.0) line n es (ExprsAt s code site (suc n) es) _ Actuals
       (λ p q. own_fits (own_attribute s name.token.0) (denoted s name.token.0) (found_at s name.token.0) line n es (ExprsAt s code site n es) (ExprsAt s code site (suc n) es) Actuals p q a.0) p q a.1
   expression_fits (syntax.This token class) n p q a = this_fits (found_at s token) n p q a
-  expression_fits (syntax.New token class es) n p q a = generation_fits (denoted s class.token.0) (class_at s class.token.0) (line_at s token) n es (ActualsAt s code site (suc n) (line_at s class.token.0) true es _) p q a
+  expression_fits (syntax.New token class es) n p q a = generation_fits (denoted s class.token.0) (class_made s (class_at s class.token.0)) (line_at s token) n es (ActualsAt s code site (suc n) (line_at s class.token.0) true es _) p q a
   expression_fits (syntax.Parentheses token x) n p q a = expression_fits x n p q a

@@ -48,18 +48,18 @@ valued_head : (b : Bool) (m : Memberships) (p : Option ℕ) (r : Option SetEffec
 valued_head b m None r f e h = f e h
 valued_head b m (Some x) r f e h = valued_if b (is_head_at m.sets x) r f e h
 
-pub set_valued : (n : Standard) (m : Memberships) (x : ℕ) (p : Option ℕ) (e : SetEffect) → set_effect n m x p ≡ Some e → is_some e.value ≡ has_value (row_of n).result
+pub set_valued : (n : Standard) (naming : ℕ → Plain) (m : Memberships) (x : ℕ) (p : Option ℕ) (e : SetEffect) → set_effect n naming m x p ≡ Some e → is_some e.value ≡ has_value (row_of n).result
 unfolding row_of
-set_valued name.Suc m x p e h = gives_value m _ e h
-set_valued name.Pred m x p e h = gives_value m _ e h
-set_valued name.Prev m x p e h = gives_value m _ e h
-set_valued name.Out m x p e h = valued_if false (is_link_at m.sets x) _ (becomes_none m (out m.sets x)) e h
-set_valued name.Follow m x p e h = valued_if false (is_link_at m.sets x) _ (becomes_none m (follow m.sets x p)) e h
-set_valued name.Precede m x p e h = valued_if false (is_link_at m.sets x) _ (becomes_none m (precede m.sets x p)) e h
-set_valued name.Into m x p e h = valued_if false (is_link_at m.sets x) _ (valued_head false m p _ (becomes_none m (into m.sets x p))) e h
-set_valued name.First m x p e h = valued_if true (is_head_at m.sets x) _ (gives_value m _) e h
-set_valued name.Last m x p e h = valued_if true (is_head_at m.sets x) _ (gives_value m _) e h
-set_valued name.Empty m x p e h = valued_if true (is_head_at m.sets x) _ (gives_value m _) e h
-set_valued name.Cardinal m x p e h = valued_if true (is_head_at m.sets x) _ (gives_value m _) e h
-set_valued name.Clear m x p e h = valued_if false (is_head_at m.sets x) _ (becomes_none m (clear m.sets x)) e h
-set_valued _ m x p e h = absurd (cc (h))
+set_valued name.Suc naming m x p e h = gives_value m _ e h
+set_valued name.Pred naming m x p e h = gives_value m _ e h
+set_valued name.Prev naming m x p e h = gives_value m _ e h
+set_valued name.Out naming m x p e h = valued_if false (is_link_at m.sets x) _ (becomes_none m (out m.sets x)) e h
+set_valued name.Follow naming m x p e h = valued_if false (is_link_at m.sets x) _ (becomes_none m (follow m.sets x p)) e h
+set_valued name.Precede naming m x p e h = valued_if false (is_link_at m.sets x) _ (becomes_none m (precede m.sets x p)) e h
+set_valued name.Into naming m x p e h = valued_if false (is_link_at m.sets x) _ (valued_head false m p _ (becomes_none m (into m.sets x p))) e h
+set_valued name.First naming m x p e h = valued_if true (is_head_at m.sets x) _ (gives_value m _) e h
+set_valued name.Last naming m x p e h = valued_if true (is_head_at m.sets x) _ (gives_value m _) e h
+set_valued name.Empty naming m x p e h = valued_if true (is_head_at m.sets x) _ (gives_value m _) e h
+set_valued name.Cardinal naming m x p e h = valued_if true (is_head_at m.sets x) _ (gives_value m _) e h
+set_valued name.Clear naming m x p e h = valued_if false (is_head_at m.sets x) _ (becomes_none m (clear m.sets x)) e h
+set_valued _ naming m x p e h = absurd (cc (h))

@@ -1,5 +1,5 @@
 -- The procedures of SIMSET: both sides do the same on the same linkages.
-use Rattle.std.proofs.Common.{◌≡◌, ◌≤◌, ℕ, Bool, true, false, List, ◌∷◌, Option, Some, None, refl, ap, sym, ◌∙◌}
+use Rattle.std.proofs.Common.{◌≡◌, ℕ, Bool, true, false, List, ◌∷◌, Option, Some, None, refl, ap, sym, ◌∙◌}
 use Rattle.std.specs.Prelude.{if◌then◌else◌, pos}
 use Rattle.sim_base.specs.declared.limits.Limits.{Limits}
 use Rattle.sim_scope.specs.Source.{Source}
@@ -13,17 +13,17 @@ use Rattle.sim_code.specs.Events.{choosing, having}
 use Rattle.sim_code.specs.Machine.{Frames, Machine, Value}
 use Rattle.sim_code.specs.Machine as machine
 use Rattle.sim_code.specs.Rows.{on_top, standard_of}
+use Rattle.sim_code.specs.Simulations.{named_in}
 use Rattle.sim_code.specs.Sets.{SetEffect, is_set_name, linkage_given, linkage_named, parameter_count, performing_set, pop_given, set_effect, takes_linkage}
 use Rattle.sim_code.proofs.Lifts.{alike_found, alike_no_rule, alike_same}
 use Rattle.sim_code.proofs.Simulation.{Alike}
 use Rattle.sim_meaning.specs.Meaning.{do_op}
 use Rattle.sim_meaning.specs.Pending.{Activation, Configuration, Instances, Item, SetOp, Val}
 use Rattle.sim_meaning.specs.Pending as meaning
-use Rattle.codegen_expr.specs.Sites.{frame_text, own_end}
 use Rattle.sim_relate.proofs.Calls.{left_with}
 use Rattle.sim_relate.proofs.Hands.{Goes, hand_plain}
 use Rattle.sim_relate.proofs.Here.{Here, act, at_row, kinds_as}
-use Rattle.sim_relate.proofs.Known.{Any, HandAt, Kind, Runs, StackAt, anys, site_at}
+use Rattle.sim_relate.proofs.Known.{Any, HandAt, Kind, Runs, StackAt, anys, site_at, Settled}
 use Rattle.sim_relate.proofs.Operators.{chosen, onward, same_plain}
 use Rattle.sim_relate.proofs.Pending.{anys_more}
 use Rattle.sim_relate.proofs.Relation.{ChainAt, OpAt, StateAt, WorkAt}
@@ -48,16 +48,16 @@ module _ (S M : Type 0) (R : S → M → Type 0) (V X : Type 0) (W : Kind → V 
   effected (Some e) o r q f = f e refl
 
   pub hand_set : (name : Standard) (left : List Kind) (vals : List V) (stack : List X) (o : World) (r : World → Option Plain → List V → Run S) (q : World → Option Plain → List X → Run M) → StackAt W (anys (parameter_count name) (Any ∷ left)) vals stack
-      → ((e : SetEffect) (x : ℕ) (given : Option ℕ) (vals' : List V) (stack' : List X) → set_effect name o.members x given ≡ Some e → StackAt W left vals' stack' → Alike R (r (record o { members = e.members }) e.value vals') (q (record o { members = e.members }) e.value stack'))
+      → ((e : SetEffect) (x : ℕ) (given : Option ℕ) (vals' : List V) (stack' : List X) → set_effect name (named_in o.simulations) o.members x given ≡ Some e → StackAt W left vals' stack' → Alike R (r (record o { members = e.members }) e.value vals') (q (record o { members = e.members }) e.value stack'))
       → Alike R (performing_set plain name vals o r) (performing_set plain' name stack o q)
   unfolding performing_set
   hand_set name left vals stack o r q h a =
       hand_given (takes_linkage name) (Any ∷ left) vals stack o _ _ h (λ given vals1 stack1 h1.
       hand_plain S M R V X W plain plain' same left vals1 stack1 o _ _ h1 (λ p vals2 stack2 h2.
       alike_same S M R ℕ (linkage_named o.members p) o _ _ (λ x.
-      effected (set_effect name o.members x given) o _ _ (λ e is. a e x given vals2 stack2 is h2))))
+      effected (set_effect name (named_in o.simulations) o.members x given) o _ _ (λ e is. a e x given vals2 stack2 is h2))))
 
-module _ (s : Source) (code : CodeOf) (l : Limits) (o : World) (m : Instances) (inst : ℕ) (w : List Item) (vals : List Val) (rest : List Activation) (fs : Frames) (t : ℕ) (b : Runs) (pc : ℕ) (stack : List Value) (below : List machine.Activation) (ks : List Kind) (here : Here s code m fs inst rest t b ks vals stack) (u q : ℕ) (ks' : List Kind) (low : own_end s code (frame_text s t) ≤ u) (k : WorkAt s code m fs (λ v. ChainAt s code m fs rest v below) inst t b u w q ks') where
+module _ (s : Source) (code : CodeOf) (l : Limits) (o : World) (m : Instances) (inst : ℕ) (w : List Item) (vals : List Val) (rest : List Activation) (fs : Frames) (t : ℕ) (b : Runs) (pc : ℕ) (stack : List Value) (below : List machine.Activation) (ks : List Kind) (here : Here s code m fs inst rest t b ks vals stack) (u q : ℕ) (ks' : List Kind) (low : Settled s code t b u) (k : WorkAt s code m fs (λ v. ChainAt s code m fs rest v below) inst t b u w q ks') where
   abbrev R : Configuration → Machine → Type 0
   R = StateAt s code
 
@@ -75,5 +75,5 @@ module _ (s : Source) (code : CodeOf) (l : Limits) (o : World) (m : Instances) (
       (as_set (is_set_name name) _ _ _ x.is_name
       (hand_set Configuration Machine R Val Value (HandAt s code m) meaning.plain machine.plain same_plain name a.left vals stack o _ _ (kinds_as s code before here.values)
       (λ e j given vals' stack' is h.
-      let hs = left_with s code l o m inst w vals rest fs t b pc stack below ks here u q ks' low k e.value (row_of name).result a.left vals' stack' (set_valued name o.members j given e is) a.out h in
+      let hs = left_with s code l o m inst w vals rest fs t b pc stack below ks here u q ks' low k e.value (row_of name).result a.left vals' stack' (set_valued name (named_in o.simulations) o.members j given e is) a.out h in
       onward s code l o m inst w vals rest fs t b pc stack below ks here u q ks' low k hs refl done.is.on))))

@@ -25,8 +25,8 @@ use Rattle.codegen_expr.specs.Sites.{Ahead, At, Is, frame_text, own_end}
 use Rattle.codegen.specs.CodeFor.{ReturnsAt}
 use Rattle.sim_relate.proofs.Formed.{formed_as, free_top}
 use Rattle.sim_relate.proofs.Waiting.{GetsIs, gets_free, suspended}
-use Rattle.sim_relate.proofs.Known.{Kind, Runs, given, Spot, placed, site_at, spot}
-use Rattle.sim_relate.proofs.Relation.{ChainAt, ComesTo, NowAt, OpAt, ReturningIs, StandingsAt, StateAt, StateNow, StoreAt, TurningIs, WorkAt, over, returning, straight, there, turning, BeginsAt, InStage, declares, inner_here, inner_last, stays, with_inner}
+use Rattle.sim_relate.proofs.Known.{Kind, Runs, given, Spot, placed, site_at, spot, Calm}
+use Rattle.sim_relate.proofs.Relation.{ChainAt, ComesTo, NowAt, OpAt, ReturningIs, StandingsAt, StateAt, StateNow, StoreAt, TurningIs, WorkAt, over, returning, straight, there, turning, BeginsAt, InStage, declares, inner_here, inner_last, stays, with_inner, ends_process}
 use Rattle.sim_relate.proofs.Hands.{stack_length}
 use Rattle.sim_relate.proofs.Here.{Here, There, act, there_of, here_at}
 use Rattle.sim_relate.proofs.Frames.{same_frame}
@@ -198,6 +198,17 @@ module _ (s : Source) (code : CodeOf) (l : Limits) (fs : Frames) (inst t : ℕ) 
       slow_then code l (returns_path r.was r.temp r.number (reads r.temp ∙ r.holds) r.returns 0 r.number p r.first p' e r.leads r.back) (come_path used q p' more)
 
 -- what is pending behind a turn is come back to
+-- from a place a jump leads to pending work
+pub comes_over : (s : Source) (code : CodeOf) (m : Instances) (fs : Frames) (Below : Bool → Type 0) (inst t : ℕ) (b : Runs) (used : ℕ) (w : List Item) (p p' x : ℕ) (ks : List Kind) → Is code (i.Jump (pos p')) p x → Ahead code p p' → WorkAt s code m fs Below inst t b used w p' ks → WorkAt s code m fs Below inst t b used w p ks
+comes_over s code m fs Below inst t b used [] p p' x ks j h a = a
+comes_over s code m fs Below inst t b used (Do op ∷ w) p p' x ks j h a = (a.0, a.1, a.2, a.3, a.4, a.5, a.6, over j h a.7, a.8, a.9, a.10, a.11)
+comes_over s code m fs Below inst t b used (EndBlock ∷ w) p p' x ks j h a = (a.0, over j h a.1, a.2)
+comes_over s code m fs Below inst t b used (EndProcedure v ∷ w) p p' x ks j h a = (a.0, over j h a.1, a.2)
+comes_over s code m fs Below inst t b used (EndProgram ∷ w) p p' x ks j h a = (a.0, over j h a.1, a.2)
+comes_over s code m fs Below inst t b used (EndObject ∷ w) p p' x ks j h a = (a.0, over j h a.1, a.2)
+comes_over s code m fs Below inst t b used (EndPrefixed ∷ w) p p' x ks j h a = (a.0, over j h a.1, a.2)
+comes_over s code m fs Below inst t b used (EndLevel k ∷ w) p p' x ks j h a = (a.0, a.1, a.2, over j h a.3, a.4, a.5)
+
 pub comes_back : (s : Source) (code : CodeOf) (m : Instances) (fs : Frames) (Below : Bool → Type 0) (inst t : ℕ) (b : Runs) (used : ℕ) (w : List Item) (p p' : ℕ) (ks : List Kind) → ReturningIs s code fs inst t b used (length ks) p p' → WorkAt s code m fs Below inst t b used w p' ks → WorkAt s code m fs Below inst t b used w p ks
 comes_back s code m fs Below inst t b used [] p p' ks r a = a
 comes_back s code m fs Below inst t b used (Do op ∷ w) p p' ks r a = (a.0, a.1, a.2, a.3, a.4, a.5, a.6, returning r a.7, a.8, a.9, a.10, a.11)
@@ -253,8 +264,8 @@ module _ (s : Source) (code : CodeOf) (l : Limits) where
     }
 
     -- a turn goes to the statement
-    turns : (used u : ℕ) (w : List Item) (x : Statement) (p q : ℕ) (behind : List Kind) → u ≤ used → own_end s code (frame_text s t) ≤ u → TurningIs s code (site_at t b u) (length ks) x p q → behind ≡ ks → WorkAt s code m fs Below inst t b u w q behind → Settles (Stood (Do (Exec x) ∷ w)) (machine_at fs inst p stack b below)
-    turns used u w x p q behind le low a e k =
+    turns : (used u : ℕ) (w : List Item) (x : Statement) (p q : ℕ) (behind : List Kind) → u ≤ used → own_end s code (frame_text s t) ≤ u → Calm s b → TurningIs s code (site_at t b u) (length ks) x p q → behind ≡ ks → WorkAt s code m fs Below inst t b u w q behind → Settles (Stood (Do (Exec x) ∷ w)) (machine_at fs inst p stack b below)
+    turns used u w x p q behind le low calm a e k =
         let number = machine.Of (Integer (pos a.number)) in
         let r = temp_written s code m fs inst t b a.temp number here.store here.stands here.lives here.found a.is_temp.behind a.is_temp.within in
         let roomy = here.roomy in
@@ -283,24 +294,25 @@ module _ (s : Source) (code : CodeOf) (l : Limits) where
           slow_more code l (λ o. int_step code l o fs inst p stack b below a.number a.turn.x a.turn.pushed.is one)
               (slow_more code l (λ o. store_step code l o fs inst a.turn.x stack b below (level_of s t) inst a.temp a.turn.y number r.frames a.turn.kept own r.is)
               (slow_more code l (λ o. back_step code l o r.frames inst a.turn.y stack b below a.start q a.ticked a.turn.jump a.turn.behind a.tick) (0, no_step))),
-          now_at r.frames there' (suc a.temp) (Do (Exec x) ∷ w) a.start (suc a.temp, a.done, ks, t, spot t b (suc a.temp), same_frame s t, again, low', stays (a.body, refl) refl, k4),
+          now_at r.frames there' (suc a.temp) (Do (Exec x) ∷ w) a.start (suc a.temp, a.done, ks, t, spot t b (suc a.temp), same_frame s t, again, low', stays (a.body, refl) calm refl, k4),
         )
 
     stands_now : (used : ℕ) (w : List Item) (op : Op) (p u q : ℕ) (behind : List Kind) (c : Spot) → u ≤ used → own_end s code (frame_text s t) ≤ u → InStage s code (BeginsAt s code m fs inst (site_at t b u)) (site_at t b u) op b c p q ks behind → WorkAt s code m fs Below inst c.text c.runs c.used w q behind → Settles (Stood (Do op ∷ w)) (machine_at fs inst p stack b below)
     stands_now used w op p u q behind c le low a k = (_, (0, no_step), now_at fs (there_of s code here) used (Do op ∷ w) p (u, q, behind, t, c, same_frame s t, le, low, a, k))
 
     -- an operator in its own place, or a turn
-    begins : (used : ℕ) (w : List Item) (op : Op) (p u q : ℕ) (behind : List Kind) → u ≤ used → own_end s code (frame_text s t) ≤ u → OpAt s code m fs inst (site_at t b u) op p q ks behind → WorkAt s code m fs Below inst t b u w q behind → Settles (Stood (Do op ∷ w)) (machine_at fs inst p stack b below)
-    begins used w (Exec x) p u q behind le low (straight a, e) k = stands_now used w (Exec x) p u q behind (spot t b u) le low (stays (a, e) refl) k
-    begins used w (Exec x) p u q behind le low (turning a, e) k = turns used u w x p q behind le low a e k
-    begins used w op p u q behind le low a k = stands_now used w op p u q behind (spot t b u) le low (stays a refl) k
+    begins : (used : ℕ) (w : List Item) (op : Op) (p u q : ℕ) (behind : List Kind) → u ≤ used → own_end s code (frame_text s t) ≤ u → Calm s b → OpAt s code m fs inst (site_at t b u) op p q ks behind → WorkAt s code m fs Below inst t b u w q behind → Settles (Stood (Do op ∷ w)) (machine_at fs inst p stack b below)
+    begins used w (Exec x) p u q behind le low calm (straight a, e) k = stands_now used w (Exec x) p u q behind (spot t b u) le low (stays (a, e) calm refl) k
+    begins used w (Exec x) p u q behind le low calm (turning a, e) k = turns used u w x p q behind le low calm a e k
+    begins used w op p u q behind le low calm a k = stands_now used w op p u q behind (spot t b u) le low (stays a calm refl) k
 
     pub begins_in : (used : ℕ) (w : List Item) (op : Op) (p u q : ℕ) (behind : List Kind) (c : Spot) → u ≤ used → own_end s code (frame_text s t) ≤ u → InStage s code (OpAt s code m fs inst (site_at t b u)) (site_at t b u) op b c p q ks behind → WorkAt s code m fs Below inst c.text c.runs c.used w q behind → Settles (Stood (Do op ∷ w)) (machine_at fs inst p stack b below)
-    begins_in used w op p u q behind c le low (stays a g) k = begins used w op p u q behind le low a (subst (λ z. WorkAt s code m fs Below inst z.text z.runs z.used w q behind) g k)
+    begins_in used w op p u q behind c le low (stays a calm g) k = begins used w op p u q behind le low calm a (subst (λ z. WorkAt s code m fs Below inst z.text z.runs z.used w q behind) g k)
     begins_in used w op p u q behind c le low (declares x e a) k = stands_now used w op p u q behind c le low (declares x e a) k
     begins_in used w op p u q behind c le low (inner_last x e a) k = stands_now used w op p u q behind c le low (inner_last x e a) k
     begins_in used w op p u q behind c le low (inner_here x e a) k = stands_now used w op p u q behind c le low (inner_here x e a) k
     begins_in used w op p u q behind c le low (with_inner x e a) k = stands_now used w op p u q behind c le low (with_inner x e a) k
+    begins_in used w op p u q behind c le low (ends_process e a) k = stands_now used w op p u q behind c le low (ends_process e a) k
 
     pub come : (used : ℕ) (q p : ℕ) → ComesTo s code fs inst t b used (length ks) q p → SlowTo code l (machine_at fs inst p stack b below) (machine_at fs inst q stack b below)
     come used q p a = come_path s code l fs inst t b stack below (length ks) deep here.roomy own (λ c. placed_here s code m fs here.store inst c here.lives) used q p a

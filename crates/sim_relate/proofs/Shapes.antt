@@ -1,5 +1,5 @@
 -- The tree of an expression is not where a cell lies: it leaves a value that may lie in a cell, or none.
-use Rattle.std.proofs.Common.{◌≡◌, ℕ, Bool, true, false, List, Option, Some, None, refl}
+use Rattle.std.proofs.Common.{◌≡◌, ℕ, Bool, true, false, List, Option, Some, None, refl, sym, ap, ◌∙◌}
 use Rattle.sim_base.specs.declared.numbering.DeclNo.{DeclNo}
 use Rattle.sim_scope.specs.declared.scopes.Denotation.{Denotation}
 use Rattle.sim_scope.specs.declared.scopes.Denotation.TheVariants as denotation
@@ -20,7 +20,9 @@ use Rattle.sim_values.specs.Plain.{Plain}
 use Rattle.sim_values.specs.Standard.{is_image, on_image}
 use Rattle.std.specs.Prelude.{◌||◌}
 use Rattle.sim_code.specs.Transfers.{Calling, Detaching, Resuming, Transfer}
-use Rattle.sim_meaning.specs.Attributes.{array_attribute, attribute, attribute_place, connected_object, connection_at, declared_attribute, entry_attribute, generation, if_any, own_attribute, parameter_attribute, this_term, transfer_at, transfer_term, variable_attribute}
+use Rattle.sim_code.specs.Sets.{is_set_name}
+use Rattle.sim_code.specs.Simulations.{is_process_name, is_simulation_name}
+use Rattle.sim_meaning.specs.Attributes.{array_attribute, attribute, attribute_place, connected_object, connection_at, declared_attribute, entry_attribute, generation, if_any, own_attribute, parameter_attribute, this_term, transfer_at, transfer_term, variable_attribute, attribute_of_object, block_found, class_made, own_term, process_term, simulation_term}
 use Rattle.sim_meaning.specs.Closing.{formals_at, is_attribute, array_term, behind_dot, close, close_actuals, close_all, close_place, constant_term, declared_term, dot_term, formal_term, home_of, home_of_class, in_instance, is_variable, name_term, named_term, standard_term, stream_of, sysout, variable_term}
 use Rattle.sim_meaning.specs.Levels.{class_at}
 use Rattle.sim_meaning.specs.Names.{procedure_named}
@@ -112,6 +114,28 @@ module _ (s : Source) (m : Instances) (i : ℕ) where
   parameter_attribute_leaves line shape.Array place es terms = array_attribute_leaves line place es terms
   parameter_attribute_leaves line shape.Procedure place es terms = λ ks. refl
 
+  object_attribute_leaves : (sets processes : Bool) (name : Standard) (line : ℕ) (object : Term) (actuals : Terms) → is_process_name name ≡ processes → Leaves (attribute_of_object sets name line object actuals)
+  object_attribute_leaves true processes name line object actuals e = λ ks. refl
+  object_attribute_leaves false true name line object actuals e = λ ks. ap (λ c. leaving s (process_term c name line object) ks) e ∙ sym (ap (λ c. given (gives s (process_term c name line object)) ks) e)
+  object_attribute_leaves false false name line object actuals e = λ ks. ap (λ c. leaving s (process_term c name line object) ks) e ∙ sym (ap (λ c. given (gives s (process_term c name line object)) ks) e)
+
+  simulation_leaves : (c : Bool) (name : Standard) (block : Option ℕ) (actuals : Terms) (line : ℕ) (other : Term) → Leaves other → Leaves (simulation_term s c name block actuals line other)
+  simulation_leaves true name (Some j) actuals line other f = λ ks. refl
+  simulation_leaves true name None actuals line other f = λ ks. refl
+  simulation_leaves false name block actuals line other f = f
+
+  own_leaves : (o : Option Entry) (block : Option ℕ) (actuals : Terms) (line : ℕ) (other : Term) → Leaves other → Leaves (own_term s o block actuals line other)
+  own_leaves (Some (entry.Attribute name parameter result)) block actuals line other f = simulation_leaves (is_simulation_name name) name block actuals line other f
+  own_leaves (Some (entry.Variable type)) block actuals line other f = f
+  own_leaves (Some (entry.Constant type)) block actuals line other f = f
+  own_leaves (Some (entry.Array element dimensions)) block actuals line other f = f
+  own_leaves (Some (entry.Formal y)) block actuals line other f = f
+  own_leaves (Some (entry.Procedure result k)) block actuals line other f = f
+  own_leaves (Some (entry.Class k)) block actuals line other f = f
+  own_leaves (Some (entry.Virtual result own)) block actuals line other f = f
+  own_leaves (Some (entry.Unspecified written)) block actuals line other f = f
+  own_leaves None block actuals line other f = f
+
   entry_attribute_leaves : (line : ℕ) (d : DeclNo) (o : Option Entry) (object : Term) (es : Expressions) (terms actuals : Terms) → Leaves (entry_attribute s line d o object es terms actuals)
   entry_attribute_leaves line d (Some (entry.Variable type)) object es terms actuals = variable_attribute_leaves (attribute_place s line d object) es
   entry_attribute_leaves line d (Some (entry.Constant type)) object es terms actuals = variable_attribute_leaves (attribute_place s line d object) es
@@ -121,7 +145,7 @@ module _ (s : Source) (m : Instances) (i : ℕ) where
   entry_attribute_leaves line d (Some (entry.Class block)) object es terms actuals = λ ks. refl
   entry_attribute_leaves line d (Some (entry.Virtual result own)) object es terms actuals = λ ks. refl
   entry_attribute_leaves line d (Some (entry.Unspecified written)) object es terms actuals = λ ks. refl
-  entry_attribute_leaves line d (Some (entry.Attribute name parameter result)) object es terms actuals = λ ks. refl
+  entry_attribute_leaves line d (Some (entry.Attribute name parameter result)) object es terms actuals = object_attribute_leaves (is_set_name name) (is_process_name name) name line object actuals refl
   entry_attribute_leaves line d None object es terms actuals = λ ks. refl
 
   attribute_leaves : (line : ℕ) (object : Term) (es : Expressions) (terms : Terms) (actuals : DeclNo → Terms) (d : DeclNo) → Leaves (attribute s line object es terms actuals d)
@@ -143,7 +167,8 @@ module _ (s : Source) (m : Instances) (i : ℕ) where
       any_leaves (transfer_at s name.token.0) _ _ (λ way. transfer_leaves way line (this_term s m i (found_at s name.token.0)) (close_all s m i es))
       (any_leaves (connection_at s name.token.0) _ _
       (λ k. any_leaves (declared_attribute (denoted s name.token.0)) _ _ (attribute_leaves line (connected_object s m i k) es (close_all s m i es) (λ d. close_actuals s m i line es (formals_at s d))) (λ ks. refl))
-      (any_leaves (own_attribute s name.token.0) _ _ (attribute_leaves line (this_term s m i (found_at s name.token.0)) es (close_all s m i es) (λ d. close_actuals s m i line es (formals_at s d)))
+      (any_leaves (own_attribute s name.token.0) _ _
+      (λ d. own_leaves (entry_of s.tables d) (block_found s m i (found_at s name.token.0)) (close_actuals s m i line es (formals_at s d)) line _ (attribute_leaves line (this_term s m i (found_at s name.token.0)) es (close_all s m i es) (λ d. close_actuals s m i line es (formals_at s d)) d))
       (named_leaves line (denoted s name.token.0) es (close_all s m i es) (λ fs. close_actuals s m i line es fs))))
 
   pub dot_call_leaves : (token : ℕ) (e : Expression) (name : Identifier) (es : Expressions) → Leaves (close s m i (syntax.Dot token e name es))
@@ -159,4 +184,4 @@ module _ (s : Source) (m : Instances) (i : ℕ) where
   generation_leaves None c terms line = λ ks. refl
 
   pub new_leaves : (token : ℕ) (class : Identifier) (es : Expressions) → Leaves (close s m i (syntax.New token class es))
-  new_leaves token class es = generation_leaves (home_of_class s m i (denoted s class.token.0)) (class_at s class.token.0) _ (line_at s token)
+  new_leaves token class es = generation_leaves (home_of_class s m i (denoted s class.token.0)) (class_made s (class_at s class.token.0)) _ (line_at s token)

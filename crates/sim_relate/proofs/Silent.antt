@@ -4,7 +4,7 @@ use Rattle.std.specs.Prelude.{nat_lt, not, pos, slice_get, if◌then◌else◌}
 use Rattle.sim_base.specs.declared.limits.Limits.{Limits}
 use Rattle.sim_scope.specs.Source.{Source}
 use Rattle.sim_values.specs.Operators.{one_of, same_objects, two_of}
-use Rattle.sim_values.specs.Plain.{Character, Integer, Nothing, Object, Plain, Text, Truth}
+use Rattle.sim_values.specs.Plain.{Character, Integer, Nothing, Object, Plain, Text, Truth, MainOf}
 use Rattle.sim_code.specs.declared.instr.Instr.{Instr}
 use Rattle.sim_code.specs.declared.instr.Instr.TheVariants as i
 use Rattle.sim_code.specs.Classes as classes
@@ -20,7 +20,7 @@ use Rattle.sim_meaning.specs.Pending.{Configuration}
 use Rattle.codegen_expr.specs.CodeExpr.{PlainAt}
 use Rattle.codegen_expr.specs.Sites.{Ahead, At, Site}
 use Rattle.sim_relate.proofs.Here.{act}
-use Rattle.sim_relate.proofs.Known.{Runs}
+use Rattle.sim_relate.proofs.Known.{Runs, IsReference}
 use Rattle.sim_relate.proofs.Operators.{chosen, is_instr}
 use Rattle.sim_relate.proofs.Ranked.{Catches, InEach, Meets, first, meets}
 use Rattle.sim_relate.proofs.Straight.{RowIs, cell_on, found, pushes_on, step_at}
@@ -69,9 +69,15 @@ module _ (code : CodeOf) (l : Limits) (inst : ℕ) (runs : Runs) (below : List m
     none_row fs o pc stack lt = pushes_on code l line inst runs below o stack (Of Nothing) _ _ lt refl
 
     -- `==` against none
-    pub other_row : (fs : Frames) (o : World) (pc j : ℕ) (stack : List Value) → Row i.Same pc o (Of Nothing ∷ Of (Object j) ∷ stack) fs (Going o (place_at (suc pc) (Of (Truth false) ∷ stack) fs))
+    pub other_row : (fs : Frames) (o : World) (pc : ℕ) (p : Plain) → IsReference p → (stack : List Value) → Row i.Same pc o (Of Nothing ∷ Of p ∷ stack) fs (Going o (place_at (suc pc) (Of (Truth false) ∷ stack) fs))
     unfolding applying_two pop_plain popping having answering two_of same_objects computing
-    other_row fs o pc j stack = refl
+    other_row fs o pc (Object j) r stack = refl
+    other_row fs o pc (MainOf j) r stack = refl
+    other_row fs o pc Nothing r stack = absurd r
+    other_row fs o pc (Integer z) r stack = absurd r
+    other_row fs o pc (Truth b) r stack = absurd r
+    other_row fs o pc (Character c) r stack = absurd r
+    other_row fs o pc (Text x) r stack = absurd r
 
     pub same_row : (fs : Frames) (o : World) (pc : ℕ) (stack : List Value) → Row i.Same pc o (Of Nothing ∷ Of Nothing ∷ stack) fs (Going o (place_at (suc pc) (Of (Truth true) ∷ stack) fs))
     unfolding applying_two pop_plain popping having answering two_of same_objects computing
@@ -129,6 +135,7 @@ module _ (code : CodeOf) (l : Limits) (inst : ℕ) (runs : Runs) (below : List m
       (pushes_on code l x.is.line inst runs below o stack (Of (text_value t.text_frame c.bytes)) _ _ (omega (arith, e, room, fits)) refl))) ∙
       ap (λ z. Going o (place_at q (Of z ∷ stack) fs)) (sym c.whole)
   plain_pushed s texts site n fs o (Object j) p q stack e room a = absurd a
+  plain_pushed s texts site n fs o (MainOf j) p q stack e room a = absurd a
   plain_pushed s texts site n fs o Nothing p q stack e room a = absurd a
 
   -- ---- one step of the program

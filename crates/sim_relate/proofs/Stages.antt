@@ -1,5 +1,5 @@
 -- An object goes from its declarations to its statements, from level to level, and on from `inner`.
-use Rattle.std.proofs.Common.{◌≡◌, ◌<◌, ◌≤◌, ℕ, suc, Bool, true, List, [], ◌∷◌, length, map, Option, Some, None, refl, sym, ap, ◌∙◌, subst}
+use Rattle.std.proofs.Common.{◌≡◌, ◌<◌, ◌≤◌, ℕ, suc, Bool, true, false, List, [], ◌∷◌, length, map, Option, Some, None, refl, sym, ap, ◌∙◌, subst}
 use Rattle.std.proofs.lemmas.Option.{slice_get-map}
 use Rattle.std.specs.Prelude.{drop, option_map, pos, slice_get}
 use Rattle.sim_base.specs.declared.limits.Limits.{Limits}
@@ -37,7 +37,7 @@ use Rattle.sim_relate.proofs.Ends.{chosen}
 use Rattle.sim_relate.proofs.Frames.{same_frame}
 use Rattle.sim_relate.proofs.Heads.{both_found, is_live_at}
 use Rattle.sim_relate.proofs.Here.{Here, There, act, at_row, goes, there_of}
-use Rattle.sim_relate.proofs.Known.{Kind, Runs, Spot, at_stage, site_at, spot}
+use Rattle.sim_relate.proofs.Known.{Kind, Runs, Spot, at_stage, site_at, spot, Settled, behind_process, is_process_in, is_process_level}
 use Rattle.sim_relate.proofs.LevelCode.{dropped_at, dropped_none, level_begins, level_code, levels_around, made_of, moved_level, none_made}
 use Rattle.sim_relate.proofs.LevelLists.{inside_made}
 use Rattle.sim_relate.proofs.Lists.{there_get}
@@ -178,7 +178,7 @@ module _ (s : Source) (code : CodeOf) (l : Limits) (compiled : Compiled s code) 
             let own = class_has s code compiled b.own has in
             let made = made_of s (drop (suc a.place) (levels_of s b.own)) x xs e in
             let d = dropped_at (suc a.place) (levels_of s b.own) made.number made.more made.is in
-            let next = level_code s code compiled b own.block own.found (at.level.own_roomy own.block own.found) has made.number (suc a.place) x d.0 made.first in
+            let next = level_code s code compiled b own.block own.found (at.level.own_roomy own.block own.found) has at.level.of_class made.number (suc a.place) x d.0 made.first in
             let inside : levels_made s (drop (suc (suc a.place)) (levels_of s b.own)) ≡ Some xs = ap (levels_made s) d.1 ∙ made.rest in
             let spotted : at_level s code b t b.block (stage.Behind a.place) ≡ c = ap (λ z. spot t (at_stage b (stage.Behind a.place)) z) (sym at.low) ∙ sym at.goes_on in
             let ends : WorkAt s code m fs Below inst made.number (record b { block = next.block; stage = stage.Behind (suc a.place) }) (own_end s code made.number) (EndLevel x.text ∷ w) next.stop [] = (
@@ -245,9 +245,13 @@ module _ (s : Source) (code : CodeOf) (l : Limits) (compiled : Compiled s code) 
     inner_is (syntax.InspectWhen x e2 arms other) token e = absurd (cc)
     inner_is (syntax.Activate x word e2 schedule) token e = absurd (cc)
 
-    begin_with : (a : Statement) (more : Statements) (c : Spot) (place after : ℕ) → AtLevel s code (site_at t b u) b c place after ks ks' → (x : Option ℕ) → inner_of a ≡ x
+    -- behind `inner` of a level that is not that of `process` no process is at its end
+    behind : (place : ℕ) → slice_get (levels_of s b.own) place ≡ Some t → is_process_in s t ≡ false → Settled s code t (at_stage b (stage.Behind place)) u
+    behind place e ordinary = record { low = low; calm = ap (is_process_level s) e ∙ ordinary }
+
+    begin_with : (a : Statement) (more : Statements) (c : Spot) (place after : ℕ) → AtLevel s code (site_at t b u) b c place after ks ks' → is_process_in s t ≡ false → (x : Option ℕ) → inner_of a ≡ x
         → InnerOrAt s code (site_at t b u) place after x a more (WithInnerAt s code (site_at t b u) place after more) pc q → WorkAt s code m fs Below inst c.text c.runs c.used w q ks' → WorkAt s code m fs Below inst t b u (Do (Exec a) ∷ Do (Execs more) ∷ w) pc ks
-    begin_with a more c place after at (Some token) e code_is work =
+    begin_with a more c place after at ordinary (Some token) e code_is work =
         let h = code_is.1 in
         let work' = subst (λ z. WorkAt s code m fs Below inst z.text z.runs z.used w q ks') at.goes_on work in
         subst (λ z. WorkAt s code m fs Below inst t b u (Do (Exec z) ∷ Do (Execs more) ∷ w) pc ks) (sym (inner_is a token e))
@@ -259,12 +263,13 @@ module _ (s : Source) (code : CodeOf) (l : Limits) (compiled : Compiled s code) 
           tick = h.tick;
           is = subst (λ z. Is code (i.Inner (pos place)) h.x z) (sym h.on) h.inner;
           its_own = h.its_own;
+          ordinary = ordinary;
         }))
         (subst (λ z. WorkAt s code m fs Below inst z.text z.runs z.used (Do (Execs more) ∷ w) code_is.0 ks') (sym at.goes_on)
-        (pends s code m fs Below inst t (at_stage b (stage.Behind place)) u low w (Execs more) code_is.0 q ks' ks' (subst (λ n. StmsAt s code (site_at t b u) n more code_is.0 q) (sym (ap length at.none_behind)) code_is.2, refl) work')))
-    begin_with a more c place after at None e code_is work =
-        pends s code m fs Below inst t b u low (Do (Execs more) ∷ w) (Exec a) pc code_is.0 ks ks (straight (subst (λ n. StmAt s code (site_at t b u) n a pc code_is.0) (sym (ap length at.none)) code_is.1), refl)
-        (pends_in s code m fs Below inst t b u low w (Execs more) t c code_is.0 q ks ks' (same_frame s t) (with_inner more refl (record { place = place; after = after; at = at; is = code_is.2 })) work)
+        (pends s code m fs Below inst t (at_stage b (stage.Behind place)) u (behind place at.level.place_is ordinary) w (Execs more) code_is.0 q ks' ks' (subst (λ n. StmsAt s code (site_at t b u) n more code_is.0 q) (sym (ap length at.none_behind)) code_is.2, refl) work')))
+    begin_with a more c place after at ordinary None e code_is work =
+        pends s code m fs Below inst t b u (record { low = low; calm = ap (behind_process s b.own) at.was }) (Do (Execs more) ∷ w) (Exec a) pc code_is.0 ks ks (straight (subst (λ n. StmAt s code (site_at t b u) n a pc code_is.0) (sym (ap length at.none)) code_is.1), refl)
+        (pends_in s code m fs Below inst t b u low w (Execs more) t c code_is.0 q ks ks' (same_frame s t) (with_inner more refl (record { place = place; after = after; at = at; is = code_is.2; ordinary = ordinary })) work)
 
     pub with_inner_begun : (a : Statement) (more : Statements) (c : Spot) → WithInnerIs s code (site_at t b u) b c (Also a more) pc q ks ks' → WorkAt s code m fs Below inst c.text c.runs c.used w q ks' → WorkAt s code m fs Below inst t b u (Do (Exec a) ∷ Do (Execs more) ∷ w) pc ks
-    with_inner_begun a more c x work = begin_with a more c x.place x.after x.at (inner_of a) refl x.is work
+    with_inner_begun a more c x work = begin_with a more c x.place x.after x.at x.ordinary (inner_of a) refl x.is work

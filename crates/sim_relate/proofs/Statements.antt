@@ -1,10 +1,12 @@
 -- Statements.
-use Rattle.std.proofs.Common.{◌≡◌, ◌≤◌, ℕ, zero, suc, Bool, true, false, List, ◌∷◌, length, Option, Some, None, refl, sym, ap, ◌∙◌, subst}
+use Rattle.std.proofs.Common.{◌≡◌, ℕ, zero, suc, Bool, true, false, List, ◌∷◌, length, Option, Some, None, refl, sym, ap, ◌∙◌, subst}
 use Rattle.std.specs.Prelude.{pos}
 use Rattle.sim_base.specs.declared.limits.Limits.{Limits}
-use Rattle.sim_scope.specs.Source.{Source, block_around, line_at}
+use Rattle.sim_scope.specs.Levels.{level_beyond}
+use Rattle.sim_scope.specs.Source.{Source, block_around, level_of, line_at}
 use Rattle.sim_tree.specs.declared.expr.Identifier.{Identifier}
-use Rattle.sim_tree.specs.Syntax.{Also, Arms, Begin, Block, Expression, Expressions, NoDeclaration, NoStatement, RightSide, Statement, Statements, With}
+use Rattle.sim_tree.specs.declared.stmt.Activation.{Activation as Word}
+use Rattle.sim_tree.specs.Syntax.{Also, Arms, Begin, Block, Expression, Expressions, NoDeclaration, NoStatement, RightSide, Schedule, Statement, Statements, With}
 use Rattle.sim_tree.specs.Syntax as syntax
 use Rattle.sim_code.specs.declared.instr.Instr.TheVariants as i
 use Rattle.sim_code.specs.Code.{CodeOf}
@@ -12,21 +14,24 @@ use Rattle.sim_code.specs.Outcome.{Going, Run, World}
 use Rattle.sim_code.specs.Events.{choosing, pop_truth, ticking}
 use Rattle.sim_code.specs.Machine.{Frames, Machine, Value}
 use Rattle.sim_code.specs.Machine as machine
+use Rattle.sim_code.specs.Instances.{at_level}
 use Rattle.sim_code.specs.Rows.{on_top}
+use Rattle.sim_code.specs.Scheduling.{AtTime, Beside, Directly, Timing, WithDelay}
 use Rattle.sim_code.proofs.Lifts.{alike_choosing, alike_ticking}
 use Rattle.sim_code.proofs.Simulation.{Alike}
 use Rattle.sim_meaning.specs.Closing.{class_parameters, close, close_parameters}
 use Rattle.sim_meaning.specs.Meaning.{do_op}
-use Rattle.sim_meaning.specs.Pending.{Activation, BackOp, BranchOp, ChooseOp, Configuration, ConnectOp, Do, DropOp, EnterOp, Eval, Exec, Execs, Instances, Item, Op, PastOp, PrefixedOp, TestOp, Val, WhenOp, plain}
-use Rattle.sim_meaning.specs.Statements.{assigned, assigning, begin_of, compound, dropping, entered_at, leaves, lefts, prefix_begun}
+use Rattle.sim_meaning.specs.Pending.{Activation, ActivateOp, BackOp, BlockOp, BranchOp, ChooseOp, Configuration, ConnectOp, Do, DropOp, EnterOp, Eval, Exec, Execs, Instances, Item, Op, PastOp, PrefixedOp, TestOp, Val, WhenOp, plain}
+use Rattle.sim_meaning.specs.Statements.{activated, assigned, assigning, begin_of, compound, dropping, entered_at, is_again, is_said, leaves, lefts, operand_work, prefix_begun, simulation_around, simulation_home, timing}
 use Rattle.sim_meaning.specs.Steps.{count, each, go}
-use Rattle.codegen_expr.specs.Sites.{Ahead, At, Inside, Is, block_number, frame_text, own_end}
+use Rattle.codegen_expr.specs.Sites.{Ahead, At, Inside, Is, block_number}
 use Rattle.codegen_expr.specs.CodeExpr.{ExprAt}
 use Rattle.codegen.specs.Agrees.{Agrees}
 use Rattle.codegen.specs.CodeLeft.{AssignAt, GoesAt, each_stored}
-use Rattle.codegen.specs.CodeStm.{BlockAt, CalledAt, DropsAt, EnterAt, PrefixedAt, StmAt, StmsAt}
-use Rattle.sim_relate.proofs.Known.{Any, Finds, HandAt, Kind, anys, given, site_at, gives, leaves_as, Runs}
+use Rattle.codegen.specs.CodeStm.{ActivatesAt, BlockAt, CalledAt, DropsAt, EnterAt, OperandAt as ScheduleAt, PrefixedAt, StmAt, StmsAt, activation_number}
+use Rattle.sim_relate.proofs.Known.{Any, Finds, HandAt, Kind, LinkOf, Reaches, anys, given, site_at, gives, leaves_as, Runs, Settled}
 use Rattle.sim_relate.proofs.Trees.{TermAt}
+use Rattle.sim_relate.proofs.Operations.{operands_of}
 use Rattle.sim_relate.proofs.Relation.{BeginsAt, ChainAt, OpAt, StateAt, WorkAt, straight}
 use Rattle.sim_relate.proofs.Called.{called_dot_at, called_named_at}
 use Rattle.sim_relate.proofs.Closing.{close_at, close_parameters_at}
@@ -39,7 +44,7 @@ use Rattle.sim_relate.proofs.Pending.{each_pends, evals, pends}
 use Rattle.sim_scope.specs.Assignments.{last_value, left_sides}
 use Rattle.sim_relate.proofs.Shapes.{Leaves, dot_call_leaves, named_call_leaves, new_leaves}
 
-module _ (s : Source) (code : CodeOf) (l : Limits) (agrees : Agrees s) (o : World) (m : Instances) (inst : ℕ) (w : List Item) (vals : List Val) (rest : List Activation) (fs : Frames) (t : ℕ) (b : Runs) (pc : ℕ) (stack : List Value) (below : List machine.Activation) (ks : List Kind) (here : Here s code m fs inst rest t b ks vals stack) (u q : ℕ) (ks' : List Kind) (low : own_end s code (frame_text s t) ≤ u) (k : WorkAt s code m fs (λ v. ChainAt s code m fs rest v below) inst t b u w q ks') where
+module _ (s : Source) (code : CodeOf) (l : Limits) (agrees : Agrees s) (o : World) (m : Instances) (inst : ℕ) (w : List Item) (vals : List Val) (rest : List Activation) (fs : Frames) (t : ℕ) (b : Runs) (pc : ℕ) (stack : List Value) (below : List machine.Activation) (ks : List Kind) (here : Here s code m fs inst rest t b ks vals stack) (u q : ℕ) (ks' : List Kind) (low : Settled s code t b u) (k : WorkAt s code m fs (λ v. ChainAt s code m fs rest v below) inst t b u w q ks') where
   abbrev pub R : Configuration → Machine → Type 0
   R = StateAt s code
 
@@ -168,6 +173,7 @@ module _ (s : Source) (code : CodeOf) (l : Limits) (agrees : Agrees s) (o : Worl
         stands_in = a.around;
         has = behind.0;
         no_class = behind.1;
+        prefixed = a.is;
         «in» = ap (anys (count terms)) (sym e);
       }) k)) refl
 
@@ -242,6 +248,40 @@ module _ (s : Source) (code : CodeOf) (l : Limits) (agrees : Agrees s) (o : Worl
       ticks _ z.0 z.2 (λ p. stays (Do (Eval (close s m inst e)) ∷ Do (WhenOp arms other) ∷ w) z.0
       (closing (Do (WhenOp arms other) ∷ w) e z.0 z.1 ks z.3
       (pending w (WhenOp arms other) z.1 q (Any ∷ ks) ks' (record { left = ks; tried = z.4; «in» = refl; out = a.1 }) k)) refl)
+
+  -- ---- activations
+
+  module _ (again : Bool) (line : ℕ) (out : ks' ≡ ks) (text block : ℕ) (reaches : Reaches s m inst text block) where
+    does_rest : (timing : Timing) (z : ℕ) → At code (i.Act (pos (activation_number again timing))) line z q → Rests (Do (ActivateOp again timing line) ∷ w) z (anys (operands_of timing) (LinkOf block ∷ ks))
+    does_rest timing z does = pending w (ActivateOp again timing line) z q (anys (operands_of timing) (LinkOf block ∷ ks)) ks (record { is = does; text = text; block = block; reaches = reaches; «in» = refl }) (rests_as out)
+
+    -- the operand, if there is one, is on top of the process
+    operand_rests : (x : Schedule) (y z : ℕ) → ScheduleAt s code (site_at t b u) (suc (suc (length ks))) x y z → At code (i.Act (pos (activation_number again (timing x)))) line z q → Rests (operand_work s m inst x (Do (ActivateOp again (timing x) line) ∷ w)) y (Any ∷ LinkOf block ∷ ks)
+    operand_rests syntax.Now y z a does = subst (λ z. Rests (Do (ActivateOp again Directly line) ∷ w) z (Any ∷ LinkOf block ∷ ks)) a (does_rest Directly z does)
+    operand_rests (syntax.At token e prior) y z a does = closing (Do (ActivateOp again (AtTime (is_said prior)) line) ∷ w) e y z (Any ∷ LinkOf block ∷ ks) a (does_rest (AtTime (is_said prior)) z does)
+    operand_rests (syntax.Delay token e prior) y z a does = closing (Do (ActivateOp again (WithDelay (is_said prior)) line) ∷ w) e y z (Any ∷ LinkOf block ∷ ks) a (does_rest (WithDelay (is_said prior)) z does)
+    operand_rests (syntax.Before token e) y z a does = closing (Do (ActivateOp again (Beside true) line) ∷ w) e y z (Any ∷ LinkOf block ∷ ks) a (does_rest (Beside true) z does)
+    operand_rests (syntax.After token e) y z a does = closing (Do (ActivateOp again (Beside false) line) ∷ w) e y z (Any ∷ LinkOf block ∷ ks) a (does_rest (Beside false) z does)
+
+  activates : (p : World) (token : ℕ) (word : Word) (e : Expression) (schedule : Schedule) (y : ℕ) → ks' ≡ ks → (around : Option ℕ) → ActivatesAt s code (site_at t b u) (length ks) (line_at s token) around (is_again word) e schedule y q
+      → Alike R (activated s p m inst w vals rest (level_beyond (λ k. at_level m (level_of s k) inst) around) token word e schedule) (Going p (record { chain = act inst y stack b ∷ below; memory = fs }))
+  activates p token word e schedule y out None a = absurd a
+  activates p token word e schedule y out (Some n) a =
+      let r = reaching n a.inside in
+      let block = r.0 in
+      let line = line_at s token in
+      let work = operand_work s m inst schedule (Do (ActivateOp (is_again word) (timing schedule) line) ∷ w) in
+      subst (λ z. Alike R (activated s p m inst w vals rest z token word e schedule) (Going p (record { chain = act inst y stack b ∷ below; memory = fs }))) (sym r.2)
+      (stays (Do (BlockOp block) ∷ Do (Eval (close s m inst e)) ∷ work) y
+      (pending (Do (Eval (close s m inst e)) ∷ work) (BlockOp block) y a.x ks (LinkOf block ∷ ks) (record { text = n; link = a.link; reaches = r.1; out = refl })
+      (closing work e a.x a.y (LinkOf block ∷ ks) a.process
+      (operand_rests (is_again word) line out n block r.1 schedule a.y a.z a.operand a.does))) refl)
+
+  pub activate_statement : (token : ℕ) (word : Word) (e : Expression) (schedule : Schedule) → FollowsStatement (syntax.Activate token word e schedule)
+  unfolding simulation_home
+  activate_statement token word e schedule a =
+      let z = a.0 in
+      ticks _ z.0 z.1 (λ p. activates p token word e schedule z.0 a.1 (simulation_around s token) z.2)
 
   -- ---- loops
 

@@ -64,10 +64,10 @@ module _ (fs : Frames) (j : ℕ) (y : Instance Cells) (lives : live fs j ≡ Som
 
 module _ (s : Source) (code : CodeOf) where
   pub instance_kept : {x : Instance (List Held)} {y : Instance Cells} → InstanceAt s code x y → InstanceAt s code (record x { kept = true }) (record y { kept = true })
-  instance_kept a = record { number = a.number; level = a.level; encloser = a.encloser; passing = a.passing; passes_so = a.passes_so; kept = refl; given_back = a.given_back; own = a.own; laid = a.laid; cells = a.cells; there = a.there; size = a.size }
+  instance_kept a = record { number = a.number; level = a.level; encloser = a.encloser; passing = a.passing; passes_so = a.passes_so; kept = refl; given_back = a.given_back; own = a.own; solid = a.solid; laid = a.laid; cells = a.cells; there = a.there; size = a.size }
 
   pub instance_given : {x : Instance (List Held)} {y : Instance Cells} → InstanceAt s code x y → InstanceAt s code (record x { given_back = true }) (record y { given_back = true })
-  instance_given a = record { number = a.number; level = a.level; encloser = a.encloser; passing = a.passing; passes_so = a.passes_so; kept = a.kept; given_back = refl; own = a.own; laid = a.laid; cells = a.cells; there = a.there; size = a.size }
+  instance_given a = record { number = a.number; level = a.level; encloser = a.encloser; passing = a.passing; passes_so = a.passes_so; kept = a.kept; given_back = refl; own = a.own; solid = a.solid; laid = a.laid; cells = a.cells; there = a.there; size = a.size }
 
   -- each instance still stands for its own text
   all_heads : (m m' : Instances) → ((k : ℕ) → Both Heads (slice_get m.instances k) (slice_get m'.instances k)) → ((j : ℕ) (x : Instance (List Held)) → slice_get m.instances j ≡ Some x → Stands s m j x.text) → (j : ℕ) (x : Instance (List Held)) → slice_get m'.instances j ≡ Some x → Stands s m' j x.text
@@ -211,6 +211,7 @@ module _ (s : Source) (code : CodeOf) where
             kept = p.kept;
             given_back = p.given_back;
             own = p.own;
+            solid = p.solid;
             laid = p.laid;
             cells = cells_then;
             there = λ u k levels hask d. stay k (p.there u k levels hask d);
@@ -313,6 +314,7 @@ module _ (s : Source) (code : CodeOf) where
           kept = p.kept;
           given_back = p.given_back;
           own = p.own;
+          solid = p.solid;
           laid = p.laid;
           cells = λ u k levels hask. subst (λ z. SlotAt s (is_fixed s k) k (held k f.now.cells) (joined z)) (sym (set_other cs temp (slot_of s code u k) (Some y) ((p.laid).apart u t temp k b levels f.of_levels hask found is_temp))) (p.cells u k levels hask);
           there = p.there;

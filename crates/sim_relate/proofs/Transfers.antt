@@ -1,5 +1,5 @@
 -- Transfers of control between components, as operators.
-use Rattle.std.proofs.Common.{◌≡◌, ◌≤◌, ℕ, suc, false, List, ◌∷◌}
+use Rattle.std.proofs.Common.{◌≡◌, ℕ, suc, false, List, ◌∷◌}
 use Rattle.sim_base.specs.declared.limits.Limits.{Limits}
 use Rattle.sim_scope.specs.Source.{Source}
 use Rattle.sim_code.specs.declared.instr.Instr.TheVariants as i
@@ -13,17 +13,16 @@ use Rattle.sim_code.specs.Transfers.{Calling, Detaching, Resuming, Transfer, tra
 use Rattle.sim_code.proofs.Simulation.{Alike}
 use Rattle.sim_meaning.specs.Meaning.{do_op}
 use Rattle.sim_meaning.specs.Pending.{Activation, Configuration, Instances, Item, Op, TransferOp, Val, plain}
-use Rattle.codegen_expr.specs.Sites.{frame_text, own_end}
 use Rattle.codegen.specs.Compiled.{Compiled}
 use Rattle.sim_relate.proofs.Components.{transfers}
 use Rattle.sim_relate.proofs.Entries.{waits}
 use Rattle.sim_relate.proofs.Hands.{hand_plain}
 use Rattle.sim_relate.proofs.Here.{Here, act, at_row, kinds_as}
-use Rattle.sim_relate.proofs.Known.{HandAt, Kind, Runs, anys, site_at}
+use Rattle.sim_relate.proofs.Known.{HandAt, Kind, Runs, anys, site_at, Settled}
 use Rattle.sim_relate.proofs.Operators.{same_plain}
 use Rattle.sim_relate.proofs.Relation.{ChainAt, OpAt, StateAt, WorkAt}
 
-module _ (s : Source) (code : CodeOf) (compiled : Compiled s code) (l : Limits) (o : World) (m : Instances) (inst : ℕ) (w : List Item) (vals : List Val) (rest : List Activation) (fs : Frames) (t : ℕ) (b : Runs) (pc : ℕ) (stack : List Value) (below : List machine.Activation) (ks : List Kind) (here : Here s code m fs inst rest t b ks vals stack) (u q : ℕ) (ks' : List Kind) (low : own_end s code (frame_text s t) ≤ u) (work : WorkAt s code m fs (λ v. ChainAt s code m fs rest v below) inst t b u w q ks') where
+module _ (s : Source) (code : CodeOf) (compiled : Compiled s code) (l : Limits) (o : World) (m : Instances) (inst : ℕ) (w : List Item) (vals : List Val) (rest : List Activation) (fs : Frames) (t : ℕ) (b : Runs) (pc : ℕ) (stack : List Value) (below : List machine.Activation) (ks : List Kind) (here : Here s code m fs inst rest t b ks vals stack) (u q : ℕ) (ks' : List Kind) (low : Settled s code t b u) (work : WorkAt s code m fs (λ v. ChainAt s code m fs rest v below) inst t b u w q ks') where
   abbrev Related : Configuration → Machine → Type 0
   Related = StateAt s code
 

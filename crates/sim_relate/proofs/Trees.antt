@@ -15,16 +15,17 @@ use Rattle.sim_code.specs.declared.instr.Instr.TheVariants as i
 use Rattle.sim_code.specs.Code.{CodeOf}
 use Rattle.sim_code.specs.Names.{standard_names}
 use Rattle.sim_code.specs.Sets.{is_set_name, parameter_count}
+use Rattle.sim_code.specs.Simulations.{actual_count, is_process_name, is_simulation_name}
 use Rattle.sim_code.specs.Transfers.{Calling, Detaching, Resuming, Transfer}
 use Rattle.sim_meaning.specs.Levels.{is_class}
-use Rattle.sim_meaning.specs.Pending.{AttributeOf, CallOf, Cell, CopyOf, Either, ElementOf, FitsOf, Further, Given, ImageOf, Instances, Joined, KeptOf, Key, MemberOf, NewOf, NoTerm, NotNoneOf, One, PlaceOf, QuaOf, QualifiedElementOf, QualifiedPlaceOf, RemoteCallOf, SetOf, StandardOf, Term, Terms, TransferOf, Two, Unbuilt, ValueAt}
+use Rattle.sim_meaning.specs.Pending.{AttributeOf, CallOf, Cell, CopyOf, Either, ElementOf, FitsOf, Further, Given, ImageOf, Instances, Joined, KeptOf, Key, MemberOf, NewOf, NoTerm, NotNoneOf, One, PlaceOf, ProcessOf, QuaOf, QualifiedElementOf, QualifiedPlaceOf, RemoteCallOf, SetOf, SimulationOf, StandardOf, Term, Terms, TransferOf, Two, Unbuilt, ValueAt}
 use Rattle.sim_meaning.specs.Entries.{formals_of}
 use Rattle.sim_meaning.specs.Steps.{count}
 use Rattle.sim_meaning.specs.Texts.{ProcedureText, constant_of, text}
 use Rattle.sim_meaning.specs.Texts as Texts
 use Rattle.codegen_expr.specs.Sites.{At, HasCell, IfAt, Is, Pushes, Site, block_number, class_number, frame_text, slot_of}
 use Rattle.codegen_expr.specs.CodeExpr.{GivenAt, IsConstant, OneAt, PlainAt, Stand, StandardIs, join_instrs, member_instr, two_instr}
-use Rattle.sim_relate.proofs.Known.{Any, FixedOf, Kind, Located, Reaches, Refers, attribute_kind, gives, is_declared, is_fixed, place_kind, reads, with_kind, IsImage}
+use Rattle.sim_relate.proofs.Known.{Any, FixedOf, Kind, Located, Reaches, Refers, attribute_kind, gives, is_declared, is_fixed, is_process_in, place_kind, reads, with_kind, IsImage}
 
 -- the text of a class, which has a number
 abbrev pub Classed : Source → ℕ → Type 0
@@ -126,6 +127,7 @@ module _ (s : Source) (code : CodeOf) where
     pub new : At code (i.New (pos (class_number s code k)) (pos many)) line y q
     pub stands_in : encloser s.tables k ≡ Some text
     pub class : is_class (Texts.text s k) ≡ true
+    pub made : is_process_in s k ≡ false
 
   -- where an attribute lies: its place, or for a constant the object itself
   pub record AttributeIs (text : ℕ) (key : Key) (class line p q : ℕ) : Type 0 where
@@ -192,6 +194,30 @@ module _ (s : Source) (code : CodeOf) where
     pub numbered : slice_get standard_names number ≡ Some name
     pub done : Is code (i.Std (pos number)) p q
 
+  -- what a process tells
+  pub record ProcessIs (name : Standard) (line p q : ℕ) : Type 0 where
+    pub is_name : is_process_name name ≡ true
+    pub number : ℕ
+    pub numbered : slice_get standard_names number ≡ Some name
+    pub done : At code (i.Std (pos number)) line p q
+
+  -- a procedure of a simulation block, to which there is a link below the actual parameter, if there is one
+  pub record SimulationNameIs (name : Standard) (count line p q : ℕ) : Type 0 where
+    pub is_name : is_simulation_name name ≡ true
+    pub as_many : count ≡ actual_count name
+    pub number : ℕ
+    pub numbered : slice_get standard_names number ≡ Some name
+    pub done : At code (i.Std (pos number)) line p q
+
+  pub record SimulationIs (m : Instances) (inst : ℕ) (site : Site) (n j : ℕ) (name : Standard) (many line : ℕ) (Actuals : ℕ → ℕ → Type 0) (p q : ℕ) : Type 0 where
+    pub text : ℕ
+    pub x : ℕ
+    pub y : ℕ
+    pub link : Pushes code site n (i.Link (pos (level_of s text))) p x
+    pub reaches : Reaches s m inst text j
+    pub actuals : Actuals x y
+    pub is : SimulationNameIs name many line y q
+
   abbrev mutual
     -- the code from p to q, run for an instance, evaluates the closed tree on n values
     pub TermAt : Instances → (inst : ℕ) → Site → (n : ℕ) → Term → ℕ → ℕ → Type 0
@@ -226,6 +252,8 @@ module _ (s : Source) (code : CodeOf) where
     TermAt m inst site n (NotNoneOf line a) p q = (x : ℕ) × (TermAt m inst site n a p x × (gives s a ≡ true)) × At code i.NotNone line x q
     TermAt m inst site n (TransferOf t line a) p q = (x : ℕ) × (TermAt m inst site n a p x × (gives s a ≡ true)) × At code (transfer_instr t) line x q
     TermAt m inst site n (SetOf name ts) p q = (x : ℕ) × TermsAt m inst site n ts p x × SetIs name (count ts) x q
+    TermAt m inst site n (ProcessOf name line a) p q = (x : ℕ) × (TermAt m inst site n a p x × (gives s a ≡ true)) × ProcessIs name line x q
+    TermAt m inst site n (SimulationOf j name ts line) p q = SimulationIs m inst site n j name (count ts) line (TermsAt m inst site (suc n) ts) p q
     TermAt m inst site n Unbuilt p q = ⊤
 
     -- one value after the other

@@ -51,7 +51,7 @@ module _ (s : Source) (code : CodeOf) (ruled : HasRules s) (names : NamesObjects
 
   from_now : (o : World) (c : Configuration) (x : Machine) → Comes o c → MovesNow s code l o c x → MovesOf 0 o c x
   from_now o c x h (both a) = matched o c x h (meets (caught (simply (no_end o c h) a)))
-  from_now o c x h (several a) = matched o c x h a
+  from_now o c x h (several f) = matched o c x h (f (no_end o c h))
   from_now o c x h (quiet d e a lt) = Quiet d e (settled o d x (comes_on o c o d h e) a) lt
 
   moves : (n : ℕ) (o : World) (c : Configuration) (x y : Machine) → Slows code l n x y → StateNow s code c y → Comes o c → MovesOf n o c x

@@ -10,8 +10,8 @@ ghost use Rattle.sim_relate.specs.Examples.{WorkedCodes};
 /// words, the same input left, and the same ending where it has ended; whatever the limits and the input are.
 ///
 /// Three premises speak of the program's meaning alone. Its run never comes to where there is no rule: some rules of the meaning test more
-/// than the instruction that stands for them. A reference that was taken last into a hand names an object: tests of its class have no
-/// instruction for anything else. At each moment the instance that operates lives with its enclosers and stands at no other place of the
+/// than the instruction that stands for them. Each reference in hand names an object or the main program of a simulation block: tests of its
+/// class have no instruction for anything else. At each moment the instance that operates lives with its enclosers and stands at no other place of the
 /// chains, and the components are well formed: code needs it where an instruction finds an instance by its level, outward from the one that
 /// operates, where a temp is written that no other work may count on, and where control goes back to a main component that waits. Each
 /// program that breaks no rule is so, as soundness shows.

@@ -1,7 +1,8 @@
 -- The closed trees of what objects have are fine: an attribute of the object that a tree gives, by the class that declares it.
 use Rattle.std.proofs.Common.{◌≡◌, ℕ, Bool, true, false, List, Option, Some, None, refl, sym, ap, ◌∙◌, subst}
-use Rattle.std.specs.Prelude.{not, ◌+◌}
+use Rattle.std.specs.Prelude.{not, slice_get, ◌+◌, ◌||◌}
 use Rattle.sim_base.specs.declared.numbering.DeclNo.{DeclNo}
+use Rattle.sim_scope.specs.declared.scopes.Declaration.{Declaration}
 use Rattle.sim_scope.specs.declared.types.Entry.{Entry}
 use Rattle.sim_scope.specs.declared.types.Entry.TheVariants as entry
 use Rattle.sim_scope.specs.declared.types.Formal.{Formal}
@@ -13,28 +14,31 @@ use Rattle.sim_scope.specs.declared.types.SimType.{SimType}
 use Rattle.sim_scope.specs.declared.types.SimType.TheVariants as type
 use Rattle.sim_scope.specs.declared.types.StandardClass.{StandardClass}
 use Rattle.sim_scope.specs.declared.types.StandardClass.TheVariants as standard
-use Rattle.sim_scope.specs.Levels.{has_level, is_simulation_block}
-use Rattle.sim_scope.specs.Scopes.{entry_of, result_in, result_of}
-use Rattle.sim_scope.specs.Source.{Source, block_of}
+use Rattle.sim_scope.specs.Levels.{has_level}
+use Rattle.sim_scope.specs.Scopes.{entry_in, entry_of, result_in, result_of}
+use Rattle.sim_scope.specs.Source.{Source, block_of, block_of_row}
 use Rattle.sim_tree.specs.Syntax.{Declarations, Expressions, NoDeclaration, NoMore, NoStatement, Statements, Then}
 use Rattle.sim_values.specs.declared.kind.Kind.TheVariants as kind
 use Rattle.sim_values.specs.declared.standard.Standard.{Standard}
+use Rattle.sim_values.specs.declared.standard.Standard.TheVariants as name
 use Rattle.sim_values.specs.Plain.{Plain, kind_of}
-use Rattle.sim_code.specs.Sets.{is_set_name}
-use Rattle.sim_meaning.specs.Attributes.{array_attribute, attribute_formals, attribute_place, element_at, entry_at, entry_attribute, parameter_at, parameter_attribute, variable_at, variable_attribute}
+use Rattle.sim_values.specs.Standard.{row_of}
+use Rattle.sim_code.specs.Sets.{is_attribute_name, is_set_name}
+use Rattle.sim_code.specs.Simulations.{is_process_name}
+use Rattle.sim_meaning.specs.Attributes.{array_attribute, attribute_formals, attribute_of_object, attribute_place, element_at, entry_at, entry_attribute, parameter_at, parameter_attribute, process_term, variable_at, variable_attribute}
 use Rattle.sim_meaning.specs.Entries.{formals_of, numbers_of}
-use Rattle.sim_meaning.specs.Levels.{has_levels, level_made, qualification, standard_level, unless_simulation, writes_inner}
+use Rattle.sim_meaning.specs.Levels.{has_levels, is_process_class, level_made, qualification, writes_inner}
 use Rattle.sim_meaning.specs.Objects.{attributes_from}
-use Rattle.sim_meaning.specs.Pending.{Declared, Further, Instances, Level, NotNoneOf, SetOf, Term, Terms}
+use Rattle.sim_meaning.specs.Pending.{Declared, Instances, NotNoneOf, Term, Terms}
 use Rattle.sim_meaning.specs.Texts.{ClassText, PrefixedText, StandardText, Text, constant_of, kind_of_type, text}
 use Rattle.sim_sound.specs.Held.{ArrayOf, Fits, FitsIn, Holds, Refers, Simply, entry_holds, formal_holds, given_by, held_by, key_holds, reference_to, result_declared, result_holds}
 use Rattle.sim_sound.specs.Expressions.{ArrayNames, ConstantNames, DeclaredGives, HeldNames, VariableNames}
 use Rattle.sim_sound.specs.Statements.{LeftHeld}
-use Rattle.sim_sound.specs.Typed.{ClassTyped, Typed, set_place}
+use Rattle.sim_sound.specs.Typed.{ClassTyped, IsAttribute, SetProcedureThere, Typed, owner_place}
 use Rattle.sim_sound.proofs.Lists.{same_some}
 use Rattle.sim_sound.proofs.Prefixes.{levels_solid}
 use Rattle.sim_sound.proofs.Reach.{among_block, key_there}
-use Rattle.sim_sound.proofs.Sound.{AddressOf, AttributeFine, GivesResult, IntegersFine, IsPlain, KeyAmong, Kinds, ObjectIn, ProcedureIn, TermFine, TermsFine, Value, formal_kinds, held_kinds, keys_in, own_cells}
+use Rattle.sim_sound.proofs.Sound.{AddressOf, AttributeFine, GivesResult, IntegersFine, IsPlain, KeyAmong, Kinds, NotStandard, ObjectIn, ProcedureIn, TermFine, TermsFine, Value, formal_kinds, held_kinds, keys_in, own_cells}
 
 -- ---- what is declared
 
@@ -129,6 +133,15 @@ module _ (s : Source) (Known : Type 0) (d : DeclNo) where
   text_left NoMore Indices None a = absurd a
   text_left (Then x es) Indices None a = absurd a
 
+-- the attributes of a process are those of the class `process`
+pub process_place : (n : Standard) (p : ℕ) → is_process_name n ≡ true → owner_place (row_of n).owner ≡ Some p → p ≡ 3
+unfolding row_of
+process_place name.Idle p is e = let q : 3 ≡ p = cc in sym q
+process_place name.Terminated p is e = let q : 3 ≡ p = cc in sym q
+process_place name.Evtime p is e = let q : 3 ≡ p = cc in sym q
+process_place name.Nextev p is e = let q : 3 ≡ p = cc in sym q
+process_place _ p is e = absurd (cc)
+
 module _ (s : Source) (ok : Typed s) where
   -- a class or a prefixed block is as it is typed, and so is the level that is made of it
   pub record Leveled (u : ℕ) : Type 0 where
@@ -139,31 +152,48 @@ module _ (s : Source) (ok : Typed s) where
     pub typed : ClassTyped s u declarations statements
     pub own : own_cells s u words ≡ attributes_from s (numbers_of s u)
     pub last : Bool
-    pub made : level_made s u (Some words) ≡ Some (record { text = u; declarations = declarations; statements = statements; inner_last = last })
+    pub process : Bool
+    pub of_process : process ≡ true → text s u ≡ Some (StandardText standard.Process)
+    pub made : level_made s u (Some words) ≡ Some (record { text = u; declarations = declarations; statements = statements; inner_last = last; process = process })
 
-  -- a level that has no `simulation` in front
-  made_level : (x : Level) (b : Bool) → b ≡ false → unless_simulation b x ≡ Some x
-  made_level x false e = refl
-  made_level x true e = absurd (cc)
+  -- the level of the class `process`
+  process_is : (u : ℕ) (which : StandardClass) → text s u ≡ Some (StandardText which) → is_process_class which ≡ true → text s u ≡ Some (StandardText standard.Process)
+  process_is u standard.Process e is = e
+  process_is u standard.Linkage e is = absurd (cc)
+  process_is u standard.Link e is = absurd (cc)
+  process_is u standard.Head e is = absurd (cc)
 
-  -- processes are no classes of SIMSET
-  set_level : (u p : ℕ) (which : StandardClass) → set_place which ≡ Some p → standard_level u which ≡ Some (record { text = u; declarations = NoDeclaration; statements = NoStatement; inner_last = true })
-  set_level u p standard.Linkage e = refl
-  set_level u p standard.Link e = refl
-  set_level u p standard.Head e = refl
-  set_level u p standard.Process e = absurd (cc)
+  never : {A : Type 0} → false ≡ true → A
+  never e = absurd (cc)
 
   leveled_as : (u : ℕ) (x : Option Text) → text s u ≡ x → has_levels x ≡ true → Leveled u
-  leveled_as u (Some (ClassText p h ds ss)) e has = record { words = ClassText p h ds ss; is = e; declarations = ds; statements = ss; typed = ok.texts u (ClassText p h ds ss) e; own = refl; last = not (writes_inner s u); made = made_level _ (is_simulation_block s.tables u) (ok.texts u (ClassText p h ds ss) e).not_simulation }
-  leveled_as u (Some (PrefixedText c es ds ss)) e has = record { words = PrefixedText c es ds ss; is = e; declarations = ds; statements = ss; typed = ok.texts u (PrefixedText c es ds ss) e; own = refl; last = true; made = made_level _ (is_simulation_block s.tables u) (ok.texts u (PrefixedText c es ds ss) e).not_simulation }
-  leveled_as u (Some (StandardText which)) e has =
-      let there = ok.set_classes u which e in
-      record { words = StandardText which; is = e; declarations = NoDeclaration; statements = NoStatement; typed = ok.texts u (StandardText which) e; own = refl; last = true; made = set_level u there.place which there.placed }
+  leveled_as u (Some (ClassText p h ds ss)) e has = record { words = ClassText p h ds ss; is = e; declarations = ds; statements = ss; typed = ok.texts u (ClassText p h ds ss) e; own = refl; last = not (writes_inner s u); process = false; of_process = λ is. never is; made = refl }
+  leveled_as u (Some (PrefixedText c es ds ss)) e has = record { words = PrefixedText c es ds ss; is = e; declarations = ds; statements = ss; typed = ok.texts u (PrefixedText c es ds ss) e; own = refl; last = true; process = false; of_process = λ is. never is; made = refl }
+  leveled_as u (Some (StandardText which)) e has = record { words = StandardText which; is = e; declarations = NoDeclaration; statements = NoStatement; typed = ok.texts u (StandardText which) e; own = refl; last = true; process = is_process_class which; of_process = λ is. process_is u which e is; made = refl }
   leveled_as u None e has = absurd (cc)
   leveled_as u (Some _) e has = absurd (cc)
 
   pub leveled : (u : ℕ) → has_levels (text s u) ≡ true → Leveled u
   leveled u has = leveled_as u (text s u) refl has
+
+  -- what is no standard attribute is declared in no standard class
+  pub not_standard : (d : DeclNo) (x : Entry) → entry_of s.tables d ≡ Some x → (IsAttribute (Some x) → ⊥) → NotStandard s (block_of s d)
+  unfolding entry_of block_of
+  not_standard d x e other = by_row (slice_get s.tables.declarations d.0) refl e
+    where
+      by_row : (row : Option Declaration) → slice_get s.tables.declarations d.0 ≡ row → entry_in row ≡ Some x → NotStandard s (block_of_row row)
+      by_row None is f = absurd (cc)
+      by_row (Some row) is f = λ which at. other (subst IsAttribute f (ok.bare d row which is at))
+
+  no_attribute : (c : Bool) (x : Entry) (h : Holds) → entry_holds s c (Some x) ≡ Some h → IsAttribute (Some x) → ⊥
+  no_attribute c (entry.Attribute n parameter result) h e a = cc
+  no_attribute c _ h e a = a
+
+  pub held_not_standard : (d : DeclNo) (c : Bool) (h : Holds) → entry_holds s c (entry_of s.tables d) ≡ Some h → NotStandard s (block_of s d)
+  held_not_standard d c h e = let x = entry_there s (entry_of s.tables d) c h e in not_standard d x.0 x.1 (no_attribute c x.0 h (sym (ap (entry_holds s c) x.1) ∙ e))
+
+  pub procedure_not_standard : (d : DeclNo) (result : Option SimType) (k : ℕ) → entry_of s.tables d ≡ Some (entry.Procedure result k) → NotStandard s (block_of s d)
+  procedure_not_standard d result k e = not_standard d (entry.Procedure result k) e (λ a. a)
 
   -- a procedure stands in the text of its declaration, and gives what that says
   pub procedure_in : (d : DeclNo) (result : Option SimType) (k : ℕ) → entry_of s.tables d ≡ Some (entry.Procedure result k) → ProcedureIn s k (block_of s d)
@@ -192,7 +222,7 @@ module _ (s : Source) (ok : Typed s) where
     holding h e has = ap (λ b. entry_holds s b (entry_of s.tables d)) has ∙ e
 
     pub attribute_is : (h : Holds) → entry_holds s true (entry_of s.tables d) ≡ Some h → AttributeFine s (block_of s d) (Declared d.0) h c
-    attribute_is h e = record { level = level; is = holding h e; there = there_in h (holding h e) }
+    attribute_is h e = record { level = level; own = held_not_standard d true h e; is = holding h e; there = there_in h (holding h e) }
 
     -- a constant, which has a value of its type
     constant_held : (ty : SimType) (v : Plain) → entry_of s.tables d ≡ Some (entry.Constant ty) → constant_of s d ≡ Some v → has_levels (text s (block_of s d)) ≡ true → key_holds s (block_of s d) (Declared d.0) ≡ Some (Simply (kind_of v))
@@ -204,7 +234,7 @@ module _ (s : Source) (ok : Typed s) where
         holds ∙ ap (λ z. Some (Simply z)) (sym (ap kind_of same ∙ known.of_type))
 
     pub constant_is : (ty : SimType) (v : Plain) → entry_of s.tables d ≡ Some (entry.Constant ty) → constant_of s d ≡ Some v → AttributeFine s (block_of s d) (Declared d.0) (Simply (kind_of v)) c
-    constant_is ty v e is = record { level = level; is = constant_held ty v e is; there = there_in (Simply (kind_of v)) (constant_held ty v e is) }
+    constant_is ty v e is = record { level = level; own = held_not_standard d true (Simply (kind_of_type ty)) (ap (entry_holds s true) e); is = constant_held ty v e is; there = there_in (Simply (kind_of v)) (constant_held ty v e is) }
 
     -- ---- of an object that a tree gives
 
@@ -237,22 +267,38 @@ module _ (s : Source) (ok : Typed s) where
       constant_fine Known ty NoMore h e a = (h, AddressOf (Simply (kind_of a.0)), subst (Fits s (Simply (kind_of a.0))) a.2 refl, refl, lies_fine (Simply (kind_of a.0)) (constant_is ty a.0 e a.1))
       constant_fine Known ty (Then x es) h e a = absurd a
 
-      -- a procedure of SIMSET, of the object
-      set_fine : (n : Standard) (parameter result : Option SimType) (acts : Terms) (h : Option Holds) → entry_of s.tables d ≡ Some (entry.Attribute n parameter result) → is_set_name n ≡ true → FitsIn s (given_by s result) h → TermsFine s m i t todo acts (formal_kinds s (attribute_formals parameter)) → Fine (SetOf n (Further (NotNoneOf line object) acts)) (held_kinds h)
-      set_fine n parameter result acts h e named fits fine_acts =
-          let there = ok.set_procedures d n parameter result e named in
-          let class = there.linkage + there.place in (
-            record { declaration = d; parameter = parameter; result = result; named = named; there = there },
+      -- a procedure of SIMSET, of the object, and an attribute of a process
+      set_fine : (n : Standard) (parameter result : Option SimType) (acts : Terms) (h : Option Holds) → entry_of s.tables d ≡ Some (entry.Attribute n parameter result) → is_attribute_name n ≡ true → FitsIn s (given_by s result) h → TermsFine s m i t todo acts (formal_kinds s (attribute_formals parameter)) → Fine (attribute_of_object (is_set_name n) n line object acts) (held_kinds h)
+      set_fine n parameter result acts h e named fits fine_acts = by_name (is_set_name n) refl (is_process_name n) refl
+        where
+          there : SetProcedureThere s d n parameter result
+          there = ok.set_procedures d n parameter result e named
+
+          of_object : (p : ℕ) → there.place ≡ p → Fine (NotNoneOf line object) (Some (ObjectIn (there.linkage + p)))
+          of_object p same = (Refers c, ObjectIn (there.linkage + p), subst (λ z. has_level s.tables c z ≡ true) (there.declared ∙ ap (λ z. there.linkage + z) same) level, refl, fine)
+
+          both : (p q : Bool) → p ≡ false → q ≡ false → (p || q) ≡ true → ⊥
+          both true q e f g = cc
+          both false true e f g = cc
+          both false false e f g = cc
+
+          by_name : (set : Bool) → is_set_name n ≡ set → (process : Bool) → is_process_name n ≡ process → Fine (attribute_of_object set n line object acts) (held_kinds h)
+          by_name true is process of = (
+            record { declaration = d; parameter = parameter; result = result; named = is; there = there },
             h,
             fits,
             refl,
-            (ObjectIn class, formal_kinds s (attribute_formals parameter), refl, (Refers c, ObjectIn class, subst (λ z. has_level s.tables c z ≡ true) there.declared level, refl, fine), fine_acts),
+            (ObjectIn (there.linkage + there.place), formal_kinds s (attribute_formals parameter), refl, of_object there.place refl, fine_acts),
           )
+          by_name false is true of =
+              subst (λ z. Fine (process_term z n line object) (held_kinds h)) (sym of)
+              (record { declaration = d; parameter = parameter; result = result; named = of; there = there }, h, fits, refl, of_object 3 (process_place n there.place of there.placed))
+          by_name false is false of = absurd (both (is_set_name n) (is_process_name n) is of named)
 
       pub entry_fine : (Known : Type 0) (es : Expressions) (ts acts : Terms) (Indices : Type 0) (Actuals : List Formal → Type 0) (e : Option Entry) (h : Option Holds) → entry_of s.tables d ≡ e → (Indices → IntegersFine s m i t todo ts)
           → ((result : Option SimType) (k : ℕ) → e ≡ Some (entry.Procedure result k) → Actuals (formals_of s k) → TermsFine s m i t todo acts (formal_kinds s (formals_of s k)))
           → ((n : Standard) (parameter result : Option SimType) → e ≡ Some (entry.Attribute n parameter result) → Actuals (attribute_formals parameter) → TermsFine s m i t todo acts (formal_kinds s (attribute_formals parameter))) → DeclaredGives s Known d es Indices Actuals e h → Fine (entry_attribute s line d e object es ts acts) (held_kinds h)
-      entry_fine Known es ts acts Indices Actuals (Some (entry.Procedure result k)) h e ints go set a = (c, block_of s d, level, procedure_in d result k e, gives_result d result k h e a.0, fine, go result k refl a.2)
+      entry_fine Known es ts acts Indices Actuals (Some (entry.Procedure result k)) h e ints go set a = (c, block_of s d, level, procedure_not_standard d result k e, procedure_in d result k e, gives_result d result k h e a.0, fine, go result k refl a.2)
       entry_fine Known es ts acts Indices Actuals (Some (entry.Attribute n parameter result)) h e ints go set a = set_fine n parameter result acts h e a.0 a.1 (set n parameter result refl a.3)
       entry_fine Known es ts acts Indices Actuals (Some (entry.Constant ty)) (Some h) e ints go set a = constant_fine Known ty es h e a
       entry_fine Known es ts acts Indices Actuals (Some (entry.Variable ty)) (Some h) e ints go set a = variable_fine Known es (held_by s ty) h (attribute_is (held_by s ty) (ap (entry_holds s true) e)) (names_variable s Known es Indices (held_by s ty) h (held_plain s ty) a)

@@ -6,6 +6,7 @@ use Rattle.sim_base.specs.declared.numbering.DeclNo.{DeclNo}
 use Rattle.sim_chains.specs.Chains.{times_on}
 use Rattle.sim_chains.specs.Components.{NoObject, Standing}
 use Rattle.sim_chains.specs.WellFormed.{is_object, over_kept}
+use Rattle.simset.specs.Instances.{Memberships}
 use Rattle.simset.specs.Sets.{Head}
 use Rattle.sim_scope.specs.Scopes.{class_formals}
 use Rattle.sim_scope.specs.Source.{Source, line_at}
@@ -14,29 +15,31 @@ use Rattle.sim_tree.specs.Syntax.{Declarations, Expressions, Statements}
 use Rattle.sim_code.specs.Events.{entering}
 use Rattle.sim_code.specs.Instances.{Instance, entered, live}
 use Rattle.sim_code.specs.Instances as instances
-use Rattle.sim_code.specs.Outcome.{World}
+use Rattle.sim_code.specs.Outcome.{Run, Simulation, World}
 use Rattle.sim_meaning.specs.Attributes.{is_connection}
 use Rattle.sim_meaning.specs.Entries.{first_cells, in_instance, new_instance, words_of_cells}
-use Rattle.sim_meaning.specs.Levels.{has_levels, levels}
+use Rattle.sim_meaning.specs.Levels.{has_levels, is_simulation_text, levels}
 use Rattle.sim_meaning.specs.Meaning.{block_work, first_step, program_entered}
-use Rattle.sim_meaning.specs.Objects.{attributes_from, cells_of_levels, levels_work}
-use Rattle.sim_meaning.specs.Pending.{Activation, Declared, Do, EndProgram, Held, Instances, Level, PastOp, held, owner}
+use Rattle.sim_meaning.specs.Objects.{attributes_from, block_begun, cells_of_levels, levels_work}
+use Rattle.sim_meaning.specs.Pending.{Activation, Configuration, Declared, Do, EndProgram, Held, Instances, Level, PastOp, held, owner}
 use Rattle.sim_meaning.specs.Texts.{BlockText, PrefixedText, text}
 use Rattle.sim_sound.specs.Held.{Among}
 use Rattle.sim_sound.specs.Typed.{Starts, Typed, arrays_of_block, as_block, as_prefixed}
 use Rattle.sim_sound.proofs.ClassCells.{Waiting, none_waits}
 use Rattle.sim_sound.proofs.ClassLevels.{arrays_of_levels, cells_are, levels_are}
-use Rattle.sim_sound.proofs.Entering.{begun_new, block_begun, block_works, enters_fine, more_new, stands_new}
+use Rattle.sim_sound.proofs.Entering.{begun_new, block_begun as plain_begun, block_works, enters_fine, same_arrays, stands_new}
 use Rattle.sim_sound.proofs.Evals.{IsFine}
 use Rattle.sim_sound.proofs.LevelWork.{cells_wait, keys, level_list, level_numbers, made, works}
-use Rattle.sim_sound.proofs.Lifts.{Goes, enters, had, whens}
+use Rattle.sim_sound.proofs.Joining.{begun_members, begun_simulations, block_arrays, block_blocks, block_linked, block_members, block_started}
+use Rattle.sim_sound.proofs.Lifts.{Goes, enters, had, ran, whens}
 use Rattle.sim_sound.proofs.Lists.{no_some}
-use Rattle.sim_sound.proofs.Members.{MembersFine, block_no_linkage, members_more, no_members}
+use Rattle.sim_sound.proofs.Members.{MembersFine, no_members}
+use Rattle.sim_sound.proofs.Simulated.{SimulationsFine}
 use Rattle.sim_sound.proofs.Moves.{ending_there, on_top}
 use Rattle.sim_sound.proofs.Running.{Begun, ChainFine, Headed, Placed, StoreFine, WorkFine, places}
-use Rattle.sim_sound.proofs.Sound.{AllArrays, CellsFine, Enclosed, Marks, Sight, alone, key_of, see}
+use Rattle.sim_sound.proofs.Sound.{AllArrays, CellsFine, Enclosed, Marks, PrefixedAt, Sight, alone, key_of, see}
 
-module _ (s : Source) (ok : Typed s) (l : Limits) (o : World) (marks : Marks) (long : length marks.sights ≡ length o.arrays) (m : Instances) (none : m.instances ≡ []) (nobody : m.standings ≡ []) (unseen : marks.sights ≡ []) (unnoted : marks.beneath ≡ []) (unmade : o.members ≡ no_members) where
+module _ (s : Source) (ok : Typed s) (l : Limits) (o : World) (marks : Marks) (long : length marks.sights ≡ length o.arrays) (m : Instances) (none : m.instances ≡ []) (nobody : m.standings ≡ []) (unseen : marks.sights ≡ []) (unnoted : marks.beneath ≡ []) (unmade : o.members ≡ no_members) (unscheduled : o.simulations ≡ []) where
   nothing_seen : (a : ℕ) (x : Sight) → slice_get [] a ≡ Some x → ⊥
   nothing_seen a x e = cc
 
@@ -57,7 +60,18 @@ module _ (s : Source) (ok : Typed s) (l : Limits) (o : World) (marks : Marks) (l
     same = refl;
     there = λ n j e. absurd (no_number n j e);
     made = λ j y e k c at. absurd (no_instance j y e);
+    mains = λ j k y e is at. absurd (no_instance j y e);
     together = λ h xs e x at. absurd (no_set h xs e);
+  })
+
+  no_block : (n : ℕ) (x : Simulation) → slice_get [] n ≡ Some x → ⊥
+  no_block n x e = cc
+
+  simulations : SimulationsFine s o.simulations m
+  simulations = subst (λ q. SimulationsFine s q m) (sym unscheduled) (record {
+    each = λ n x e. absurd (no_block n x e);
+    there = λ j k y e is at. absurd (no_instance j y e);
+    joined = λ j u y e is at. absurd (no_instance j y e);
   })
 
   store : StoreFine s (see marks o) m
@@ -67,6 +81,7 @@ module _ (s : Source) (ok : Typed s) (l : Limits) (o : World) (marks : Marks) (l
     kept = λ j x is. absurd (nothing_kept j x (sym (ap (λ z. slice_get z j) nobody) ∙ is));
     noted = ap length unnoted ∙ sym (ap length none);
     members = members;
+    simulations = simulations;
   }
 
   nowhere : (j : ℕ) → places m [] j ≡ 0
@@ -100,14 +115,14 @@ module _ (s : Source) (ok : Typed s) (l : Limits) (o : World) (marks : Marks) (l
     abbrev after_first : Instances
     after_first = entered m (new_instance s 0 None hs) (NoObject None)
 
-    out : Enclosed s (on_top (see marks o) None o.members) after_first (length m.instances) 0 None
+    out : Enclosed s (on_top (see marks o) None o.members o.simulations) after_first (length m.instances) 0 None
     out = alone refl ok.outermost
 
     block_goes : Goes (IsFine s) (program_entered s l o m (Some (BlockText begin ds ss)))
     block_goes =
         enters (IsFine s) l (line_at s begin) (words_of_cells hs) o (λ p. in_instance s p m 0 None hs (λ now. Do PastOp ∷ block_work s now (length m.instances) ds ss EndProgram) []) (λ t' w'.
-        enters_fine s ok o marks long m 0 None hs (NoObject None) (arrays_of_block s ds) tt (Do PastOp ∷ block_work s after_first (length m.instances) ds ss EndProgram) [] o store placed headed (inr refl) (block_begun s ok (see marks o) m 0 None begin ds ss is None store out)
-        (arrays_of_block s ds, [], (refl, refl), block_works s ok (see marks o) m 0 None begin ds ss is None store out (λ q. ChainFine s (on_top (see marks o) None o.members) after_first [] q) ([] ≡ []) EndProgram ((None, stands_new m (new_instance s 0 None hs) (NoObject None) placed.as_many), refl)))
+        enters_fine s ok o marks long m 0 None hs (NoObject None) (arrays_of_block s ds) tt (Do PastOp ∷ block_work s after_first (length m.instances) ds ss EndProgram) [] o store placed headed (inr refl) (plain_begun s ok (see marks o) m 0 None begin ds ss is None store out)
+        (arrays_of_block s ds, [], (refl, refl), block_works s ok (see marks o) m 0 None begin ds ss is None store out (λ q. ChainFine s (on_top (see marks o) None o.members o.simulations) after_first [] q) ([] ≡ []) EndProgram ((None, stands_new m (new_instance s 0 None hs) (NoObject None) placed.as_many), refl)))
 
   -- ---- a prefixed block
 
@@ -127,8 +142,24 @@ module _ (s : Source) (ok : Typed s) (l : Limits) (o : World) (marks : Marks) (l
     abbrev Then : Instances
     Then = entered m (new_instance s 0 None cells) (NoObject None)
 
+    abbrev N : ℕ
+    N = length m.instances
+
+    -- it may be a simulation block
+    abbrev linkages : Memberships
+    linkages = begun_members (is_simulation_text s 0) N o.members
+
+    abbrev blocks : List Simulation
+    blocks = begun_simulations (is_simulation_text s 0) N o.simulations
+
+    abbrev P : World
+    P = record o { members = linkages; simulations = blocks }
+
     abbrev V : AllArrays
-    V = on_top (see marks o) None o.members
+    V = on_top (see marks o) None linkages blocks
+
+    abbrev block : PrefixedAt s 0
+    block = record { class = class; arguments = es; declarations = ds; statements = ss; is = is }
 
     cells_same : cells ≡ first_ones
     cells_same = cells_are s xs
@@ -150,17 +181,21 @@ module _ (s : Source) (ok : Typed s) (l : Limits) (o : World) (marks : Marks) (l
 
     begun : Begun s V Then (length m.instances) 0 (arrays_of_levels s xs)
     begun =
-        begun_new s ok (see marks o) m 0 None cells (NoObject None) (PrefixedText class es ds ss) is (ap is_connection is) None o.members store tt (keys s ok 0 has cells same_keys got) fine (alone refl ok.outermost) (arrays_of_levels s xs) (made s ok 0 has cells same_keys got)
-        (members_more s o.members m Then 0 (more_new s ok (see marks o) m 0 None cells (NoObject None) (PrefixedText class es ds ss) is (ap is_connection is) None o.members) (block_no_linkage s ok 0 (record { class = class; arguments = es; declarations = ds; statements = ss; is = is })) members)
+        begun_new s ok (see marks o) m 0 None cells (NoObject None) (PrefixedText class es ds ss) is (ap is_connection is) None linkages blocks store tt (keys s ok 0 has cells same_keys got) fine (alone refl ok.outermost) (arrays_of_levels s xs) (made s ok 0 has cells same_keys got)
+        (block_linked s ok o marks m store 0 None cells (NoObject None) has None block) (block_started s ok o marks m store 0 None cells (NoObject None) has None block)
 
     pending : WorkFine s V Then (λ q. ChainFine s V Then [] q) (◌≡◌ {A = List Activation} [] []) (length m.instances) 0 (levels_work xs EndProgram) (arrays_of_levels s xs) []
     pending = works s ok V Then (length m.instances) 0 has (arrays_of_levels s xs) begun (λ q. ChainFine s V Then [] q) (◌≡◌ {A = List Activation} [] []) EndProgram ((None, stands_new m (new_instance s 0 None cells) (NoObject None) placed.as_many), refl)
 
+    abbrev Entered : World → Run Configuration
+    Entered p = in_instance s (block_begun s 0 N p) m 0 None cells (λ now. Do PastOp ∷ levels_work xs EndProgram) []
+
     prefixed_goes : Goes (IsFine s) (program_entered s l o m (Some (PrefixedText class es ds ss)))
     prefixed_goes =
-        had (IsFine s) (levels s 0) xs o (λ xs. entering l (line_at s class.token.0) (words_of_cells (cells_of_levels s xs)) o (λ p. in_instance s p m 0 None (cells_of_levels s xs) (λ now. Do PastOp ∷ levels_work xs EndProgram) [])) (levels_are s ok 0 has)
-        (enters (IsFine s) l (line_at s class.token.0) (words_of_cells cells) o (λ p. in_instance s p m 0 None cells (λ now. Do PastOp ∷ levels_work xs EndProgram) []) (λ t' w'.
-        enters_fine s ok o marks long m 0 None cells (NoObject None) (arrays_of_levels s xs) tt (Do PastOp ∷ levels_work xs EndProgram) [] o store placed headed (inr refl) begun (arrays_of_levels s xs, [], (refl, refl), pending)))
+        had (IsFine s) (levels s 0) xs o (λ xs. entering l (line_at s class.token.0) (words_of_cells (cells_of_levels s xs)) o (λ p. in_instance s (block_begun s 0 N p) m 0 None (cells_of_levels s xs) (λ now. Do PastOp ∷ levels_work xs EndProgram) [])) (levels_are s ok 0 has)
+        (enters (IsFine s) l (line_at s class.token.0) (words_of_cells cells) o Entered (λ t' w'.
+        same_arrays P (block_begun s 0 N (ran o t' w')) _ (sym (block_arrays s 0 N (ran o t' w'))) (sym (block_members s 0 N (ran o t' w'))) (sym (block_blocks s 0 N (ran o t' w')))
+        (enters_fine s ok P marks long m 0 None cells (NoObject None) (arrays_of_levels s xs) tt (Do PastOp ∷ levels_work xs EndProgram) [] o store placed headed (inr refl) begun (arrays_of_levels s xs, [], (refl, refl), pending))))
 
   program_goes : Starts s → Goes (IsFine s) (program_entered s l o m (text s 0))
   program_goes (as_block {begin = begin} {ds = ds} {ss = ss} is) = subst (λ z. Goes (IsFine s) (program_entered s l o m z)) (sym is) (block_goes begin ds ss is)

@@ -4,6 +4,7 @@ use Rattle.std.proofs.Common.{◌≡◌, ℕ, zero, suc, [], ◌∷◌, false, t
 use Rattle.std.specs.Prelude.{slice_get}
 use Rattle.std.specs.List.{list_any}
 use Rattle.sim_base.specs.declared.numbering.DeclNo.{DeclNo}
+use Rattle.sim_scope.specs.declared.types.StandardClass.TheVariants as standard
 use Rattle.sim_scope.specs.declared.types.Entry.TheVariants as entry
 use Rattle.sim_scope.specs.declared.types.SimType.{SimType}
 use Rattle.sim_values.specs.declared.kind.Kind.TheVariants as kind
@@ -11,7 +12,7 @@ use Rattle.sim_meaning.specs.ClassExamples.{prefixed_blocks}
 use Rattle.sim_meaning.specs.Entries.{formals_of as formals_in, is_held, numbers_of}
 use Rattle.sim_sound.specs.Held.{Among, ArrayOf, Holds, IsFormal, Seen, Simply, entry_holds, first, further, itself, later}
 use Rattle.sim_sound.specs.Typed.{ClassThere, ConstantHas, Ends, PrefixTyped, ProcedureThere, Typed, as_block, outermost, prefixed, stands}
-use Rattle.sim_sound.proofs.Examples.{NoSetProcedure, NoSetText, RowHolds, TextHolds, no_set_procedure, no_set_text, none_among, number, row_holds, text_holds}
+use Rattle.sim_sound.proofs.Examples.{NoSetProcedure, NoSetText, RowHolds, TextHolds, no_set_procedure, no_set_text, none_among, number, row_holds, text_holds, true_never}
 use Rattle.std.specs.Fmt.{digits}
 use Rattle.sim_code.specs.Arrays.{element_place, making_array, copying_array, keeping_array, finding_element, giving_back, handed_over}
 use Rattle.sim_code.specs.Events.{pop_object, qualifying, referring, stopping, no_rule, ticking, taking, entering, having, when, computing, choosing, popping, pop_many, pop_plain, pop_truth, pop_integers, pop_operands, pop_text, answering, applying_one, applying_two, testing_step, performing, putting_back, assigning, making_text, joining}
@@ -107,7 +108,7 @@ b_program = record {
   own = λ d a. absurd (none_among d a);
   statements = (
     record { number = 3; around = refl; stands_in = refl; class = _; arguments = _; declarations = _; statements = _; is = refl; actuals = (refl, tt) },
-    (record { number = 4; around = refl; stands_in = refl; class = _; arguments = _; declarations = _; statements = _; is = refl; actuals = (refl, tt) }, ((None, (((refl, refl), refl), tt), refl), tt)),
+    (record { number = 4; around = refl; stands_in = refl; class = _; arguments = _; declarations = _; statements = _; is = refl; actuals = (refl, tt) }, ((None, (((refl, refl, refl), refl), tt), refl), tt)),
   );
 }
 
@@ -153,9 +154,8 @@ b_class = record {
   distinct = tt;
   made = b_arrays;
   own = λ d a. absurd (none_among d a);
-  statements = ((kind.Integer, ((refl, b_in_class), tt), (refl, b_in_class)), ((refl, refl), ((None, (((refl, refl), refl), ((refl, b_in_class), (refl, tt))), refl), tt)));
+  statements = ((kind.Integer, ((refl, b_in_class), tt), (refl, b_in_class)), ((refl, refl), ((None, (((refl, refl, refl), refl), ((refl, b_in_class), (refl, tt))), refl), tt)));
   stays = refl;
-  not_simulation = refl;
 }
 
 b_procedure : TextHolds prefixed_blocks 2 (text prefixed_blocks 2)
@@ -194,11 +194,10 @@ b_block = record {
     (kind.Integer, ((refl, b_outside_block), tt), refl),
     (
       (None, (tt, b_in_prefix, ((refl, b_outside_block), tt)), refl),
-      ((None, (tt, b_in_prefix, (refl, tt)), refl), ((kind.Integer, ((refl, b_in_block), tt), (refl, b_in_prefix)), ((None, (((refl, refl), refl), ((refl, b_in_block), (refl, tt))), refl), tt))),
+      ((None, (tt, b_in_prefix, (refl, tt)), refl), ((kind.Integer, ((refl, b_in_block), tt), (refl, b_in_prefix)), ((None, (((refl, refl, refl), refl), ((refl, b_in_block), (refl, tt))), refl), tt))),
     ),
   );
   stays = refl;
-  not_simulation = refl;
 }
 
 b_empty : (d : DeclNo) → Among d (numbers_of prefixed_blocks 4) → ⊥
@@ -218,7 +217,6 @@ b_other = record {
   own = λ d a. absurd (none_among d a);
   statements = tt;
   stays = refl;
-  not_simulation = refl;
 }
 
 b_texts : (k : ℕ) → TextHolds prefixed_blocks k (text prefixed_blocks k)
@@ -366,6 +364,15 @@ b_no_set (suc (suc (suc zero))) = tt
 b_no_set (suc (suc (suc (suc zero)))) = tt
 b_no_set (suc (suc (suc (suc (suc k))))) = tt
 
+b_no_simulation : (k : ℕ) → is_simulation_block prefixed_blocks.tables k ≡ false
+unfolding digits element_place making_array copying_array keeping_array finding_element giving_back handed_over stopping no_rule ticking taking entering having when computing choosing popping pop_many pop_plain pop_truth pop_integers pop_operands pop_text answering applying_one applying_two testing_step performing putting_back assigning making_text joining at_level kept_on pushing index level_of_machine cell_at jumping block_at own_block leaving with_result putting put_back is_text home_of first_cells leaving_of_meaning constants_of putting_of_steps back_of_steps text_constants text_constant is_variable stream_of own_result result_meant is_inside text is_class_free declared_at constant_of calculate compare compare_as_texts connect same_objects same_texts two_of one_of step_test take_integer take_character take_text take_nothing row_of standard_effect default_mode mode_allowed marked type_named result_named mode_named first_of_procedure first_of_class variable_marks array_marks parameter_marks moded_marks specified_marks headed_marks procedure_marks class_marks virtual_name_marks program_marks inner_marks declaring of_segment of_mode_part of_specification of_specifier of_virtual of_heading declared_by declarations_of run_of_runs lookup shown_of_scopes encloser searched block_at_of_scopes declaration_from binding entry_of formals_of formal_of result_of source_of denoted type_at line_at level_of block_of block_around standard_name text_attribute sysin_attribute sysout_attribute signature undeclared program_events of_statement of_branch of_arm of_block of_whole of_class_body of_declaration accessible protects is_kind some_around_of some_around base brought_by level_shows shown_of is_detach ends_search outward virtual_of represented standard_at qualified_marks qualified_result connection_at transfer_at found_at is_attribute qualification class_prefix_marks prefixed_marks prefix_marks standard_marks marks_of_standard standard_prefix standard_texts class_block has_level is_simulation_block some_level_of shows_detach class_formals class_formals_of found_in if_found object_ended pop_object qualifying referring belongs class_at is_in is_of levels levels_of first_along is_this this_block this_of with_entry_at putting_reference own_attribute
+b_no_simulation zero = refl
+b_no_simulation (suc zero) = refl
+b_no_simulation (suc (suc zero)) = refl
+b_no_simulation (suc (suc (suc zero))) = refl
+b_no_simulation (suc (suc (suc (suc zero)))) = refl
+b_no_simulation (suc (suc (suc (suc (suc k))))) = refl
+
 b_no_attribute : (n : ℕ) → NoSetProcedure (entry_of prefixed_blocks.tables (number n))
 unfolding digits element_place making_array copying_array keeping_array finding_element giving_back handed_over stopping no_rule ticking taking entering having when computing choosing popping pop_many pop_plain pop_truth pop_integers pop_operands pop_text answering applying_one applying_two testing_step performing putting_back assigning making_text joining at_level kept_on pushing index level_of_machine cell_at jumping block_at own_block leaving with_result putting put_back is_text home_of first_cells leaving_of_meaning constants_of putting_of_steps back_of_steps text_constants text_constant is_variable stream_of own_result result_meant is_inside text is_class_free declared_at constant_of calculate compare compare_as_texts connect same_objects same_texts two_of one_of step_test take_integer take_character take_text take_nothing row_of standard_effect default_mode mode_allowed marked type_named result_named mode_named first_of_procedure first_of_class variable_marks array_marks parameter_marks moded_marks specified_marks headed_marks procedure_marks class_marks virtual_name_marks program_marks inner_marks declaring of_segment of_mode_part of_specification of_specifier of_virtual of_heading declared_by declarations_of run_of_runs lookup shown_of_scopes encloser searched block_at_of_scopes declaration_from binding entry_of formals_of formal_of result_of source_of denoted type_at line_at level_of block_of block_around standard_name text_attribute sysin_attribute sysout_attribute signature undeclared program_events of_statement of_branch of_arm of_block of_whole of_class_body of_declaration accessible protects is_kind some_around_of some_around base brought_by level_shows shown_of is_detach ends_search outward virtual_of represented standard_at qualified_marks qualified_result connection_at transfer_at found_at is_attribute qualification class_prefix_marks prefixed_marks prefix_marks standard_marks marks_of_standard standard_prefix standard_texts class_block has_level is_simulation_block some_level_of shows_detach class_formals class_formals_of found_in if_found object_ended pop_object qualifying referring belongs class_at is_in is_of levels levels_of first_along is_this this_block this_of with_entry_at putting_reference own_attribute
 b_no_attribute zero = tt
@@ -393,5 +400,9 @@ b_typed = record {
   keeps_none = λ k result h a is e. b_keeps k;
   set_classes = λ k which e. absurd (no_set_text (text prefixed_blocks k) which (b_no_set k) e);
   set_procedures = λ d name parameter result e named. absurd (no_set_procedure (entry_of prefixed_blocks.tables d) name parameter result (b_no_attribute d.0) e);
+  simulations = λ k e. absurd (true_never (is_simulation_block prefixed_blocks.tables k) (b_no_simulation k) e);
+  processes = λ c k solid e is. absurd (no_set_text (text prefixed_blocks k) standard.Process (b_no_set k) is);
+  simulation_procedures = λ d name parameter result e named. absurd (no_set_procedure (entry_of prefixed_blocks.tables d) name parameter result (b_no_attribute d.0) e);
+  bare = λ d row which at is. absurd (no_set_text (text prefixed_blocks row.block) which (b_no_set row.block) is);
   no_set_block = λ k u which class es ds ss e at is. no_set_text (text prefixed_blocks u) which (b_no_set u) is;
 }

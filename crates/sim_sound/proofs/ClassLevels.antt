@@ -4,6 +4,7 @@ use Rattle.std.specs.Prelude.{◌==◌, if◌then◌else◌, slice_get, take}
 use Rattle.sim_base.specs.declared.numbering.DeclNo.{DeclNo}
 use Rattle.sim_scope.specs.declared.types.Entry.{Entry}
 use Rattle.sim_scope.specs.declared.types.Entry.TheVariants as entry
+use Rattle.sim_scope.specs.declared.types.StandardClass.TheVariants as standard
 use Rattle.sim_scope.specs.Levels.{base}
 use Rattle.sim_scope.specs.Scopes.{class_formals, class_formals_of, entry_of, formals_at, formals_beyond, formals_in}
 use Rattle.sim_scope.specs.Source.{Source}
@@ -13,14 +14,15 @@ use Rattle.sim_meaning.specs.Entries.{numbers_in, numbers_of}
 use Rattle.sim_meaning.specs.Levels.{both, has_levels, level_made, levels, levels_beyond, levels_from, levels_inside, levels_made, levels_of}
 use Rattle.sim_meaning.specs.Objects.{attributes_from, cells_of_levels, with_attribute}
 use Rattle.sim_meaning.specs.Pending.{Held, Instances, Key, Level}
-use Rattle.sim_meaning.specs.Texts.{Text, text}
+use Rattle.sim_meaning.specs.Texts.{StandardText, Text, text}
 use Rattle.sim_sound.specs.Held.{Among, InBound, first, later}
 use Rattle.sim_sound.specs.Typed.{ClassTyped, Distinct, Ends, Typed, arrays_of_block, outermost, prefixed}
 use Rattle.sim_sound.proofs.ArrayWork.{arrays_are}
 use Rattle.sim_sound.proofs.Attributes.{Leveled, leveled}
 use Rattle.sim_sound.proofs.Lists.{no_some, same_some}
-use Rattle.sim_sound.proofs.Prefixes.{LevelOf, class_has, class_solid, level_has, levels_solid, prefix_level, same_level}
-use Rattle.sim_sound.proofs.Sound.{EntryIsArray, KeyAmong, LevelsFine, first_key, key_of, later_key, own_cells, own_text}
+use Rattle.sim_sound.proofs.Prefixes.{LevelOf, class_has, class_solid, level_has, level_of_levels, levels_solid, prefix_level, same_level}
+use Rattle.sim_sound.proofs.Running.{StoreFine}
+use Rattle.sim_sound.proofs.Sound.{AllArrays, EntryIsArray, KeyAmong, LevelsFine, ProcessText, first_key, key_of, later_key, own_cells, own_text}
 
 -- ---- lists of declarations
 
@@ -69,10 +71,15 @@ pub record LevelIs (s : Source) (k : ℕ) (x : Level) : Type 0 where
   pub is : text s x.text ≡ Some words
   pub own : own_cells s x.text words ≡ attributes_from s (numbers_of s x.text)
   pub typed : ClassTyped s x.text x.declarations x.statements
+  pub of_process : x.process ≡ true → text s x.text ≡ Some (StandardText standard.Process)
 
 abbrev pub LevelsAre : Source → (text : ℕ) → List Level → Type 0
 LevelsAre s k [] = Unit {0}
 LevelsAre s k (x ∷ xs) = LevelIs s k x × LevelsAre s k xs
+
+-- the class `process` is a level of processes alone
+abbrev pub ProcessLevels : Source → (text : ℕ) → Type 0
+ProcessLevels s t = (u : ℕ) → text s u ≡ Some (StandardText standard.Process) → LevelOf s t u → ProcessText s t
 
 pub data LevelIn (x : Level) : List Level → Type 0 where
   here_level : {xs : List Level} → LevelIn x (x ∷ xs)
@@ -98,7 +105,7 @@ are_more s k (y ∷ xs) x a i = (a.0, are_more s k xs x a.1 i)
 
 are_up : (s : Source) (k b : ℕ) → base s.tables k ≡ Some b → (xs : List Level) → LevelsAre s b xs → LevelsAre s k xs
 are_up s k b e [] a = tt
-are_up s k b e (x ∷ xs) a = let i = a.0 in (record { level = prefix_level e i.level; has = i.has; words = i.words; is = i.is; own = i.own; typed = i.typed }, are_up s k b e xs a.1)
+are_up s k b e (x ∷ xs) a = let i = a.0 in (record { level = prefix_level e i.level; has = i.has; words = i.words; is = i.is; own = i.own; typed = i.typed; of_process = i.of_process }, are_up s k b e xs a.1)
 
 -- those inside a level
 inside_if : (s : Source) (k : ℕ) (b : Bool) (xs ys : List Level) → LevelsAre s k xs → LevelsAre s k ys → LevelsAre s k (if b then xs else ys)
@@ -190,10 +197,18 @@ module _ (s : Source) (ok : Typed s) where
       distinct_both (arrays_of_block s x.declarations) (arrays_of_levels s xs) (a.0).typed.distinct (level_arrays_distinct k xs a.1 (distinct_right (numbers_of s x.text) (numbers_of_levels s xs) d))
       (λ e l r. distinct_cross (numbers_of s x.text) (numbers_of_levels s xs) d e ((a.0).typed.own e l) (level_arrays_own k xs a.1 e r))
 
-  -- an instance stands for each
-  pub levels_fine : (m : Instances) (i : ℕ) (y : Instance (List Held)) → live m i ≡ Some y → (xs : List Level) → LevelsAre s y.text xs → LevelsFine s m i xs
-  levels_fine m i y lives [] a = tt
-  levels_fine m i y lives (x ∷ xs) a = let l = a.0 in (record { now = y; lives = lives; stands = own_text l.level }, l.typed.statements, levels_fine m i y lives xs a.1)
+  -- an instance stands for each, and is a process where one is the class `process`
+  pub levels_fine : (m : Instances) (i : ℕ) (y : Instance (List Held)) → live m i ≡ Some y → ProcessLevels s y.text → (xs : List Level) → LevelsAre s y.text xs → LevelsFine s m i y.text xs
+  levels_fine m i y lives process [] a = tt
+  levels_fine m i y lives process (x ∷ xs) a =
+      let l = a.0 in
+      (record { now = y; lives = lives; stands = own_text l.level }, l.typed.statements, (λ is. process x.text (l.of_process is) l.level), levels_fine m i y lives process xs a.1)
+
+  pub process_levels : (o : AllArrays) (m : Instances) → StoreFine s o m → (i : ℕ) (y : Instance (List Held)) → live m i ≡ Some y → ProcessLevels s y.text
+  process_levels o m store i y lives u is at =
+      let w = store.simulations.joined i u y lives is at in
+      let has : has_levels (text s y.text) ≡ true = level_of_levels s ok (store.instances i y lives).solid at (ap has_levels is) in
+      record { block = w.level; simulates = (w.home).simulates; level = subst (LevelOf s y.text) w.is at; free = ((leveled s ok y.text has).typed).stays }
 
   -- ---- all levels of a class or a prefixed block
 
@@ -216,10 +231,10 @@ module _ (s : Source) (ok : Typed s) where
   made_more (j ∷ ks) (y ∷ ys) k x a e = (a.0, made_more ks ys k x a.1 e)
 
   abbrev own : (k : ℕ) → Leveled s ok k → Level
-  own k w = record { text = k; declarations = w.declarations; statements = w.statements; inner_last = w.last }
+  own k w = record { text = k; declarations = w.declarations; statements = w.statements; inner_last = w.last; process = w.process }
 
   own_is : (k : ℕ) → has_levels (text s k) ≡ true → (w : Leveled s ok k) → LevelIs s k (own k w)
-  own_is k has w = record { level = same_level; has = has; words = w.words; is = w.is; own = w.own; typed = w.typed }
+  own_is k has w = record { level = same_level; has = has; words = w.words; is = w.is; own = w.own; typed = w.typed; of_process = w.of_process }
 
   own_made : (k : ℕ) (w : Leveled s ok k) → level_made s k (text s k) ≡ Some (own k w)
   own_made k w = ap (level_made s k) w.is ∙ w.made

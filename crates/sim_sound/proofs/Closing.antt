@@ -10,8 +10,6 @@ use Rattle.sim_scope.specs.declared.types.FormalKind.TheVariants as shape
 use Rattle.sim_scope.specs.declared.types.Mode.{Mode}
 use Rattle.sim_scope.specs.declared.types.Mode.TheVariants as mode
 use Rattle.sim_scope.specs.declared.types.SimType.{SimType}
-use Rattle.sim_scope.specs.Scopes as scopes
-use Rattle.sim_scope.specs.Tables.{BlockOf}
 use Rattle.sim_tree.specs.declared.expr.Identifier.{Identifier}
 use Rattle.sim_tree.specs.declared.expr.Sign.{Sign}
 use Rattle.sim_tree.specs.declared.expr.Sign.TheVariants as sign
@@ -28,54 +26,38 @@ use Rattle.sim_values.specs.declared.standard.Standard.TheVariants as name_of
 use Rattle.sim_meaning.specs.Closing as closing
 use Rattle.sim_meaning.specs.Names.{procedure_named, stream_named}
 use Rattle.std.proofs.Common.{◌≡◌, ℕ, Bool, true, false, List, [], ◌∷◌, Option, Some, None, ◌⊎◌, inl, refl, sym, ap, ◌∙◌, subst}
-use Rattle.std.specs.Prelude.{slice_get, take, ◌&&◌, ◌||◌, not, if◌then◌else◌}
+use Rattle.std.specs.Prelude.{slice_get, ◌&&◌, ◌||◌, not, if◌then◌else◌}
 use Rattle.sim_scope.specs.declared.scopes.Declaration.{Declaration}
 use Rattle.sim_scope.specs.Levels.{base, class_block, class_block_in, has_level}
-use Rattle.sim_scope.specs.Scopes.{entry_in, entry_of, formal_in}
+use Rattle.sim_scope.specs.Scopes.{entry_in, entry_of}
 use Rattle.sim_scope.specs.Source.{Source, block_of, denoted, found_at, level_of, line_at}
 use Rattle.sim_tree.specs.declared.expr.Membership.{Membership}
 use Rattle.sim_values.specs.Plain.{Nothing, Object}
 use Rattle.sim_code.specs.Instances.{at_level}
 use Rattle.sim_code.specs.Transfers.{Calling, Detaching, Resuming, Transfer}
-use Rattle.sim_meaning.specs.Attributes.{attribute, attribute_denoted, attribute_formals, attribute_if, cell_of_connection, connected_object, connection_at, declared_attribute, detach_term, fitting, generation, if_any, is_connection, is_standard_attribute, kept_if, membership_term, own_attribute, parameter_qualification, place_of_attribute, qua_term, this_instance, this_term, transfer_at, transfer_term, with_arrays_kept}
+use Rattle.sim_code.specs.Simulations.{is_simulation_name}
+use Rattle.sim_meaning.specs.Attributes.{attribute, attribute_denoted, attribute_formals, attribute_if, block_found, cell_of_connection, class_made, class_unless, connected_object, connection_at, declared_attribute, detach_term, fitting, generation, if_any, is_connection, is_standard_attribute, kept_if, membership_term, own_attribute, own_term, parameter_qualification, place_of_attribute, qua_term, simulation_term, this_instance, this_term, transfer_at, transfer_term, with_arrays_kept}
 use Rattle.sim_meaning.specs.Closing.{Joining, Lazily, Negated, Plainly, Sort, actual_term, array_place, array_term, behind_dot, class_parameters, close, close_actuals, close_all, close_place, constant_term, declared_place, declared_term, dot_term, formal_place, formal_term, home_of, home_of_class, image_place, in_instance, is_attribute, is_attribute_denoted, is_image_behind, is_text, is_text_type, is_variable, is_variable_denoted, is_variable_entry, literal_term, name_term, named_place, named_term, object_term, signed_term, sort_of, standard_term, stream_denoted, stream_of, sysout, two_term, variable_place, variable_term}
 use Rattle.sim_meaning.specs.Constants.{text_constant}
-use Rattle.sim_meaning.specs.Entries.{formal_before, formals_from, formals_of, is_array_by_value}
+use Rattle.sim_meaning.specs.Entries.{formals_of, is_array_by_value}
 use Rattle.sim_meaning.specs.Levels.{class_at, class_denoted, class_text, has_levels, is_class, qualification}
 use Rattle.sim_meaning.specs.Pending.{Cell, CallOf, CopyOf, Declared, ElementOf, FitsOf, Further, ImageOf, Instances, KeptOf, Key, NoTerm, PlaceOf, StandardOf, Term, Terms, Unbuilt, ValueAt}
 use Rattle.sim_meaning.specs.Texts.{constant_of, is_class_free, text}
 use Rattle.sim_sound.specs.Held.{Among, ArrayOf, Fits, Holds, In, InBound, IsFixed, Place, Refers, Sees, SeesConnected, Simply, StandsAround, declared_holds, entry_holds, formal_holds, held_by, reference_to}
-use Rattle.sim_sound.specs.Expressions.{ActualFits, ActualsFit, AreIntegers, AreOf, ArrayNames, BehindGives, CallGives, ConstantNames, DeclaredGives, DotGives, ExprIs, HeldNames, IdentifierGives, IsReference, KnownAt, LiteralIs, NameGives, NamedGives, NewIs, ObjectHas, OfText, OwnKnown, SortKinds, StandardGives, ThisFound, ThisIs, VariableNames, passed}
+use Rattle.sim_sound.specs.Expressions.{ActualFits, ActualsFit, AreIntegers, AreOf, ArrayNames, BehindGives, CallGives, ConstantNames, DeclaredGives, DotGives, ExprIs, HeldNames, IdentifierGives, IsReference, KnownAt, LiteralIs, NameGives, NamedGives, NewIs, ObjectHas, OfText, OwnGives, OwnKnown, OwnNameGives, SimulationGives, SimulationKnown, SortKinds, StandardGives, ThisFound, ThisIs, VariableNames, passed}
 use Rattle.sim_sound.specs.Statements.{LeftHeld, TransferIs}
 use Rattle.sim_sound.specs.Typed.{Typed}
 use Rattle.sim_sound.proofs.Attributes.{entry_fine, entry_lies, gives_result, held_plain, known_of, left_known, left_variable_is, leveled, names_variable, no_left_variable, procedure_in, text_left}
 use Rattle.sim_sound.proofs.Calls.{dot_transfers_not, identifier_transfers_not, not_own, own_denoted, own_is_attribute}
 use Rattle.sim_sound.proofs.Constants.{constant_no_reference, text_no_reference, value_fine}
 use Rattle.sim_sound.proofs.Fitting.{level_itself, level_self, plain_fits}
-use Rattle.sim_sound.proofs.Cells.{own_level}
+use Rattle.sim_sound.proofs.Cells.{own_level, stands_level_of}
+use Rattle.sim_sound.proofs.Formals.{formals_same}
 use Rattle.sim_sound.proofs.Lists.{if_true}
-use Rattle.sim_sound.proofs.Prefixes.{LevelOf, class_has, level_has, level_of_levels, levels_solid}
+use Rattle.sim_sound.proofs.Prefixes.{LevelOf, class_has, level_has, level_is, level_of_levels, levels_solid}
 use Rattle.sim_sound.proofs.Reach.{Reached, Reaches, ReachesText, among_block, key_there}
 use Rattle.sim_sound.proofs.Running.{StoreFine}
-use Rattle.sim_sound.proofs.Sound.{AddressOf, AllArrays, CellTarget, Component, Copied, ImageAddress, IntegersFine, IsImage, IsPlain, Kinds, Lasting, ObjectOf, OperandIs, OperandsAre, OperandsFine, PlainFine, Present, TermFine, TermsFine, Value, Whole, class_kinds, formal_kinds, held_kinds, in_connection, in_hand, in_instance as at_cell, kept_kinds, simple}
-
--- ---- both words for the formal parameters
-
-before_same : (e : Option Entry) (fs : List Formal) → closing.formal_before (formal_in e) fs ≡ formal_before e fs
-before_same (Some (entry.Formal f)) fs = refl
-before_same _ fs = refl
-
-from_same : (s : Source) (ds : List DeclNo) → closing.formals_from s ds ≡ formals_from s ds
-from_same s [] = refl
-from_same s (d ∷ ds) = before_same (entry_of s.tables d) (closing.formals_from s ds) ∙ ap (formal_before (entry_of s.tables d)) (from_same s ds)
-
-block_same : (s : Source) (k : ℕ) (o : Option BlockOf) → slice_get s.tables.blocks k ≡ o → closing.formals_from s (scopes.formals_at s.tables (Some k)) ≡ formals_of s k
-block_same s k None e = rw e
-block_same s k (Some b) e = rw e (from_same s (take b.formals b.numbers))
-
-pub formals_same : (s : Source) (d : DeclNo) (result : Option SimType) (k : ℕ) → entry_of s.tables d ≡ Some (entry.Procedure result k) → closing.formals_at s d ≡ formals_of s k
-unfolding scopes.formals_of
-formals_same s d result k e = ap (closing.formals_declared s d) e ∙ ap (λ o. closing.formals_from s (scopes.formals_at s.tables (scopes.block_in o))) e ∙ block_same s k (slice_get s.tables.blocks k) refl
+use Rattle.sim_sound.proofs.Sound.{AddressOf, AllArrays, BlockIn, CellTarget, Component, Copied, ImageAddress, IntegersFine, IsImage, IsPlain, Kinds, Lasting, ObjectOf, OperandIs, OperandsAre, OperandsFine, PlainFine, Present, TermFine, TermsFine, Value, Whole, class_kinds, formal_kinds, held_kinds, in_connection, in_hand, in_instance as at_cell, kept_kinds, simple}
 
 -- ---- actual parameters
 
@@ -327,7 +309,7 @@ module _ (s : Source) (ok : Typed s) (o : AllArrays) (m : Instances) (store : St
   -- a copy of a text
   copy_fine : (line : ℕ) (a : Term) → Fine a (simple kind.Text) → Fine (StandardOf name_of.Copy (Further a NoTerm) line) (simple kind.Text)
   unfolding row_of
-  copy_fine line a f = ((refl, refl), refl, Value (Simply kind.Text) ∷ [], (refl, tt), (Value (Simply kind.Text), [], refl, f, refl))
+  copy_fine line a f = ((refl, refl, refl), refl, Value (Simply kind.Text) ∷ [], (refl, tt), (Value (Simply kind.Text), [], refl, f, refl))
 
   -- ---- what is connected, and `this`
 
@@ -351,6 +333,14 @@ module _ (s : Source) (ok : Typed s) (o : AllArrays) (m : Instances) (store : St
       let b = connected_by from k d a in
       let itself : has_level s.tables b.0 b.0 ≡ true = level_self s b.0 (block_of s d) b.3 in
       (b.0, b.3, connected_fine k (Refers b.0) b.1 (connected_around from k d a) (subst (λ z. Fits s (reference_to z) (Refers b.0)) (sym b.2) itself))
+
+  -- the simulation block around, by the level that has the procedure
+  block_known : (token : ℕ) (d : DeclNo) → SimulationKnown s from token d → (j : ℕ) × (block_found s m i (found_at s token) ≡ Some j) × BlockIn s m i j (block_of s d)
+  block_known token d a =
+      let x = around a.found a.around in
+      let p = x.whole in
+      let stands = stands_level_of s p.now a.found (block_of s d) a.solid p.stands (level_is s a.found (block_of s d) a.level) in
+      (x.instance, ap (block_found s m i) a.is_found ∙ x.found, record { near = x.near; whole = record { now = p.now; lives = p.lives; stands = stands; words = p.words; has_text = p.has_text; made = p.made }; simulates = a.simulates })
 
   -- `this` is the object or the prefixed block around, or what is connected
   instance_this : (k : ℕ) (h : Holds) → has_levels (text s k) ≡ true → StandsAround s from k → Fits s (Refers k) h → Fine (this_instance (at_level m (level_of s k) i)) (Some (Value h))
@@ -415,12 +405,15 @@ module _ (s : Source) (ok : Typed s) (o : AllArrays) (m : Instances) (store : St
         (λ result k e actuals. subst (λ fs. TermsFine s m i t todo (acts fs) (formal_kinds s (formals_of s k))) (sym (formals_same s d result k e)) (go (formals_of s k) actuals))
         (λ n parameter result e actuals. subst (λ fs. TermsFine s m i t todo (acts fs) (formal_kinds s (attribute_formals parameter))) (sym (ap (closing.formals_declared s d) e)) (go (attribute_formals parameter) actuals)) a
 
-    -- the tree of an identifier
-    abbrev own_term : (token : ℕ) → DeclNo → Term
-    own_term token d = attribute s line (this_term s m i (found_at s token)) es ts (λ d. acts (closing.formals_at s d)) d
+    -- the tree of an identifier: one of the object or of the simulation block around
+    abbrev around_term : (token : ℕ) → DeclNo → Term
+    around_term token d = attribute s line (this_term s m i (found_at s token)) es ts (λ d. acts (closing.formals_at s d)) d
+
+    abbrev own_tree : (token : ℕ) → DeclNo → Option Entry → Term
+    own_tree token d e = own_term s e (block_found s m i (found_at s token)) (acts (closing.formals_at s d)) line (around_term token d)
 
     abbrev identifier_term : (token : ℕ) → Option ℕ → Option DeclNo → Option Denotation → Term
-    identifier_term token c own x = if_any c (λ k. if_any (declared_attribute x) (attribute s line (connected_object s m i k) es ts (λ d. acts (closing.formals_at s d))) Unbuilt) (if_any own (own_term token) (named_term s m i line x es ts acts))
+    identifier_term token c own x = if_any c (λ k. if_any (declared_attribute x) (attribute s line (connected_object s m i k) es ts (λ d. acts (closing.formals_at s d))) Unbuilt) (if_any own (λ d. own_tree token d (entry_of s.tables d)) (named_term s m i line x es ts acts))
 
     free_entry : (d : DeclNo) → attribute_denoted s (Some (denotation.Declared d)) ≡ None → is_standard_attribute (entry_of s.tables d) ≡ false
     free_entry d e = by_flag (is_standard_attribute (entry_of s.tables d)) refl e
@@ -440,16 +433,38 @@ module _ (s : Source) (ok : Typed s) (o : AllArrays) (m : Instances) (store : St
     connected_name_fine token k own None h a = absurd a
     connected_name_fine token k own (Some (denotation.Standard n)) h a = absurd a
 
-    -- a procedure of SIMSET of the object around
-    own_fine : (token : ℕ) (d : DeclNo) (h : Option Holds) → DeclaredGives s (OwnKnown s from token d) d es Indices Actuals (entry_of s.tables d) h → Fine (own_term token d) (held_kinds h)
-    own_fine token d h a =
+    -- a procedure of SIMSET of the object around, or an attribute of a process
+    around_fine : (token : ℕ) (d : DeclNo) (h : Option Holds) → DeclaredGives s (OwnKnown s from token d) d es Indices Actuals (entry_of s.tables d) h → Fine (around_term token d) (held_kinds h)
+    around_fine token d h a =
         let known = known_of s (OwnKnown s from token d) d es Indices Actuals (entry_of s.tables d) h a in
         attribute_of (this_term s m i (found_at s token)) known.0 (OwnKnown s from token d) d h known.2 (this_found (found_at s token) (Refers known.0) known.3) a
+
+    -- a procedure of the simulation block around
+    simulation_fine : (token : ℕ) (d : DeclNo) (n : Standard) (parameter result : Option SimType) (h : Option Holds) → entry_of s.tables d ≡ Some (entry.Attribute n parameter result) → is_simulation_name n ≡ true → SimulationGives s (SimulationKnown s from token d) parameter result Actuals h → Fine (simulation_term s true n (block_found s m i (found_at s token)) (acts (closing.formals_at s d)) line (around_term token d)) (held_kinds h)
+    simulation_fine token d n parameter result h e named a =
+        let b = block_known token d a.1 in
+        subst (λ z. Fine (simulation_term s true n z (acts (closing.formals_at s d)) line (around_term token d)) (held_kinds h)) (sym b.1) (
+          record { declaration = d; parameter = parameter; result = result; named = named; there = ok.simulation_procedures d n parameter result e named },
+          h,
+          a.0,
+          refl,
+          b.2,
+          subst (λ fs. TermsFine s m i t todo (acts fs) (formal_kinds s (attribute_formals parameter))) (sym (ap (closing.formals_declared s d) e)) (go (attribute_formals parameter) a.2),
+        )
+
+    own_fine : (token : ℕ) (d : DeclNo) (h : Option Holds) (e : Option Entry) → entry_of s.tables d ≡ e → is_standard_attribute e ≡ true → OwnGives s from token d Actuals e h (DeclaredGives s (OwnKnown s from token d) d es Indices Actuals (entry_of s.tables d) h) → Fine (own_tree token d e) (held_kinds h)
+    own_fine token d h (Some (entry.Attribute n parameter result)) e is a = by_name (is_simulation_name n) refl a
+      where
+        by_name : (b : Bool) → is_simulation_name n ≡ b → OwnNameGives b (SimulationGives s (SimulationKnown s from token d) parameter result Actuals h) (DeclaredGives s (OwnKnown s from token d) d es Indices Actuals (entry_of s.tables d) h) → Fine (simulation_term s b n (block_found s m i (found_at s token)) (acts (closing.formals_at s d)) line (around_term token d)) (held_kinds h)
+        by_name true named a = simulation_fine token d n parameter result h e named a
+        by_name false named a = around_fine token d h a
+    own_fine token d h None e is a = absurd (cc)
+    own_fine token d h (Some _) e is a = absurd (cc)
 
     identifier_fine : (token : ℕ) (c : Option ℕ) (own : Option DeclNo) (h : Option Holds) → own_attribute s token ≡ own → IdentifierGives s from token c own es Indices Operands Actuals h → Fine (identifier_term token c own (denoted s token)) (held_kinds h)
     identifier_fine token None None h e a = named_fine token (denoted s token) h (not_own s token e) a
     identifier_fine token (Some k) own h e a = connected_name_fine token k own (denoted s token) h a
-    identifier_fine token None (Some d) h e a = own_fine token d h a
+    identifier_fine token None (Some d) h e a = own_fine token d h (entry_of s.tables d) refl (own_is_attribute s token d e) a
 
     -- ---- where they lie
 
@@ -651,24 +666,25 @@ module _ (s : Source) (ok : Typed s) (o : AllArrays) (m : Instances) (store : St
 
   -- `new`
   new_fine : (token line other : ℕ) (es : Expressions) (h : Holds) → ((fs : List Formal) → ActualsFit s from es fs → TermsFine s m i t todo (with_arrays_kept fs (close_actuals s m i line es fs)) (class_kinds s fs)) → NewIs s from token (λ fs. ActualsFit s from es fs) h
-      → Fine (generation (home_of_class s m i (denoted s token)) (class_at s token) (with_arrays_kept (class_parameters s (class_at s token)) (close_actuals s m i line es (class_parameters s (class_at s token)))) other) (Some (Value h))
+      → Fine (generation (home_of_class s m i (denoted s token)) (class_made s (class_at s token)) (with_arrays_kept (class_parameters s (class_at s token)) (close_actuals s m i line es (class_parameters s (class_at s token)))) other) (Some (Value h))
   new_fine token line other es h acts a =
       let n = a.0 in
       let x = reach n.declaration n.seen in
       let w = ok.classes n.declaration n.class n.declares in
       let home : home_of_class s m i (denoted s token) ≡ Some x.instance = ap (home_of_class s m i) n.denotes ∙ x.found in
       let class : class_at s token ≡ Some n.class = class_named s token n.declaration n.class n.denotes n.declares w.is in
-      subst (λ z. Fine (generation z (class_at s token) (with_arrays_kept (class_parameters s (class_at s token)) (close_actuals s m i line es (class_parameters s (class_at s token)))) other) (Some (Value h))) (sym home)
-      (subst (λ z. Fine (generation (Some x.instance) z (with_arrays_kept (class_parameters s z) (close_actuals s m i line es (class_parameters s z))) other) (Some (Value h))) (sym class) (record {
+      subst (λ z. Fine (generation z (class_made s (class_at s token)) (with_arrays_kept (class_parameters s (class_at s token)) (close_actuals s m i line es (class_parameters s (class_at s token)))) other) (Some (Value h))) (sym home)
+      (subst (λ z. Fine (generation (Some x.instance) (class_made s z) (with_arrays_kept (class_parameters s z) (close_actuals s m i line es (class_parameters s z))) other) (Some (Value h))) (sym class)
+      (subst (λ z. Fine (generation (Some x.instance) (class_unless z n.class) (with_arrays_kept (class_parameters s (Some n.class)) (close_actuals s m i line es (class_parameters s (Some n.class)))) other) (Some (Value h))) (sym n.made) (record {
         around = block_of s n.declaration;
         near = x.near;
         whole = whole_of s m i n.declaration x (class_fixed n.declaration n.class n.declares);
-        class = record { stands_in = w.around; is = w.is };
+        class = record { stands_in = w.around; is = w.is; single = n.single; made = n.made };
         holds = h;
         fits = a.1;
         gives = refl;
         actuals = acts (class_parameters s (Some n.class)) n.actuals;
-      }))
+      })))
 
   -- ---- calls
 
@@ -678,7 +694,7 @@ module _ (s : Source) (ok : Typed s) (o : AllArrays) (m : Instances) (store : St
   abbrev named_other : Identifier → Expressions → Term
   named_other name es =
       if_any (connection_at s name.token.0) (λ k. if_any (declared_attribute (denoted s name.token.0)) (attribute s (line_at s name.token.0) (connected_object s m i k) es (close_all s m i es) (λ d. close_actuals s m i (line_at s name.token.0) es (closing.formals_at s d))) Unbuilt)
-      (if_any (own_attribute s name.token.0) (attribute s (line_at s name.token.0) (this_term s m i (found_at s name.token.0)) es (close_all s m i es) (λ d. close_actuals s m i (line_at s name.token.0) es (closing.formals_at s d)))
+      (if_any (own_attribute s name.token.0) (λ d. own_term s (entry_of s.tables d) (block_found s m i (found_at s name.token.0)) (close_actuals s m i (line_at s name.token.0) es (closing.formals_at s d)) (line_at s name.token.0) (attribute s (line_at s name.token.0) (this_term s m i (found_at s name.token.0)) es (close_all s m i es) (λ d. close_actuals s m i (line_at s name.token.0) es (closing.formals_at s d)) d))
       (named_term s m i (line_at s name.token.0) (denoted s name.token.0) es (close_all s m i es) (λ fs. close_actuals s m i (line_at s name.token.0) es fs)))
 
   named_keeps : (name : Identifier) (es : Expressions) (h : Option Holds) → IdentifierGives s from name.token.0 (connection_at s name.token.0) (own_attribute s name.token.0) es (AreIntegers s from es) (λ ks. AreOf s from es ks) (λ fs. ActualsFit s from es fs) h → transfer_at s name.token.0 ≡ None

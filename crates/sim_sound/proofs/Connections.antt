@@ -6,14 +6,14 @@ use Rattle.sim_scope.specs.Levels.{base}
 use Rattle.sim_scope.specs.Source.{Source}
 use Rattle.sim_tree.specs.Syntax.{Arms, NoArm, Statement, Statements, When}
 use Rattle.sim_values.specs.declared.kind.Kind.TheVariants as kind
-use Rattle.sim_values.specs.Plain.{Character, Integer, Nothing, Object, Plain, Text, Truth, kind_of}
+use Rattle.sim_values.specs.Plain.{Character, Integer, MainOf, Nothing, Object, Plain, Text, Truth, kind_of}
 use Rattle.sim_code.specs.Events.{pop_plain}
 use Rattle.sim_code.specs.Instances as instances
 use Rattle.sim_code.specs.Instances.{Instance, live, with_instance}
 use Rattle.sim_code.specs.Outcome.{World}
 use Rattle.sim_meaning.specs.Attributes.{cell_of_connection, is_connection}
 use Rattle.sim_meaning.specs.Connections.{arm_tried, arms_tried, connected, object_connected}
-use Rattle.sim_meaning.specs.Levels.{class_at, is_in}
+use Rattle.sim_meaning.specs.Levels.{class_at, stands_in}
 use Rattle.sim_meaning.specs.Meaning.{do_op}
 use Rattle.sim_meaning.specs.Pending.{Activation, ConnectOp, Connection, Declared, Do, Exec, Execs, Held, Instances, Item, Key, Of, PastOp, Result, Val, WhenOp, cell_made, held, held_put, made_in, plain, same_key}
 use Rattle.sim_meaning.specs.Steps.{go}
@@ -22,7 +22,7 @@ use Rattle.sim_sound.specs.Statements.{ArmsAre, ConnectionIs, StatementIs, State
 use Rattle.sim_sound.specs.Typed.{Typed}
 use Rattle.sim_sound.proofs.Changes.{cell_of}
 use Rattle.sim_sound.proofs.Evals.{IsFine, Work, goes_on}
-use Rattle.sim_sound.proofs.Fitting.{of_class}
+use Rattle.sim_sound.proofs.Fitting.{main_of_class, of_class}
 use Rattle.sim_sound.proofs.Later.{Later}
 use Rattle.sim_sound.proofs.Lifts.{Goes, had, known_popped}
 use Rattle.sim_sound.proofs.Lists.{numbers_equal}
@@ -105,12 +105,12 @@ module _ (s : Source) (ok : Typed s) (l : Limits) (o : World) (g : Marks) (long 
   reference_val None p a = a
   reference_val (Some k) p a = a
 
-  connected_goes : (u token : ℕ) → Site s m i u → (c : ConnectionIs s u token) → (j : ℕ) (a : Statement) → StatementIs s c.number a → (vals : List Val) → HandsFine s (see g o) m i ks vals → PlainFine s m (reference_to (base s.tables c.number)) (Object j) → Goes (IsFine s) (connected o m i w vals rest token j a)
-  connected_goes u token site c j a is vals h fine =
+  connected_goes : (u token : ℕ) → Site s m i u → (c : ConnectionIs s u token) → (r : Plain) (a : Statement) → StatementIs s c.number a → (vals : List Val) → HandsFine s (see g o) m i ks vals → PlainFine s m (reference_to (base s.tables c.number)) r → Goes (IsFine s) (connected o m i w vals rest token r a)
+  connected_goes u token site c r a is vals h fine =
       let p = b.here in
       let x = p.now in
       let key = Connection token in
-      let v = Of (Object j) in
+      let v = Of r in
       let cells = held_put key v x.cells in
       let keys : (k : Key) → KeyAmong k (map key_of x.cells) → KeyAmong k (map key_of cells) = λ k z. keys_put key v k x.cells z in
       let stays : (k : Key) → held k cells ≡ None → held k x.cells ≡ None = λ k z. holds_put key v k x.cells z in
@@ -118,7 +118,7 @@ module _ (s : Source) (ok : Typed s) (l : Limits) (o : World) (g : Marks) (long 
       let e : Later s (see g o) m (see g o) n _ = later_cells s (see g o) m i x p.lives cells keys stays in
       let same = same_cells s (see g o) m i x p.lives cells keys stays in
       let held_there : key_holds s x.text key ≡ Some (reference_to (base s.tables c.number)) = ap (connection_holds s) c.around in
-      let store = store_cells s (see g o) m i x p.lives cells keys stays (cells_put key v s (see g o) m i x.text (reference_to (base s.tables c.number)) held_there (reference_val (base s.tables c.number) (Object j) fine) x.cells (b.store.instances i x p.lives).cells) b.store in
+      let store = store_cells s (see g o) m i x p.lives cells keys stays (cells_put key v s (see g o) m i x.text (reference_to (base s.tables c.number)) held_there (reference_val (base s.tables c.number) r fine) x.cells (b.store.instances i x p.lives).cells) b.store in
       let made : cell_made m i key v ≡ Some n = ap (λ z. instances.cells_put m i z (made_in (instances.cells_in z) key v)) p.lives in
       let at_key : KeyAmong (cell_of_connection s c.number) (map key_of cells) = subst (λ z. KeyAmong (Connection z) (map key_of cells)) (sym c.begins) (key_put key v x.cells) in
       let same_instance : site.now ≡ x = same_live site.now x site.lives p.lives in
@@ -140,7 +140,8 @@ module _ (s : Source) (ok : Typed s) (l : Limits) (o : World) (g : Marks) (long 
   others_go u site other is vals h = goes_on s o g long m i t rest top (Do (Execs other) ∷ w) vals [] ks b h ([], ks, (refl, refl, refl, (u, site, is)), work)
 
   object_goes : (u token : ℕ) → Site s m i u → (c : ConnectionIs s u token) → (a : Statement) (other : Statements) → StatementIs s c.number a → StatementsAre s u other → (vals : List Val) → HandsFine s (see g o) m i ks vals → (p : Plain) → kind_of p ≡ kind.Reference → PlainFine s m (reference_to (base s.tables c.number)) p → Goes (IsFine s) (object_connected o m i w vals rest token a other p)
-  object_goes u token site c a other is are vals h (Object j) e fine = connected_goes u token site c j a is vals h fine
+  object_goes u token site c a other is are vals h (Object j) e fine = connected_goes u token site c (Object j) a is vals h fine
+  object_goes u token site c a other is are vals h (MainOf z) e fine = connected_goes u token site c (MainOf z) a is vals h fine
   object_goes u token site c a other is are vals h Nothing e fine = others_go u site other are vals h
   object_goes u token site c a other is are vals h (Integer z) e fine = absurd (cc)
   object_goes u token site c a other is are vals h (Character z) e fine = absurd (cc)
@@ -149,6 +150,7 @@ module _ (s : Source) (ok : Typed s) (l : Limits) (o : World) (g : Marks) (long 
 
   reference_kind : (c : ℕ) (p : Plain) → ReferenceFine s m c p → kind_of p ≡ kind.Reference
   reference_kind c (Object j) a = refl
+  reference_kind c (MainOf z) a = refl
   reference_kind c Nothing a = refl
   reference_kind c (Integer z) a = absurd a
   reference_kind c (Character z) a = absurd a
@@ -166,19 +168,25 @@ module _ (s : Source) (ok : Typed s) (l : Limits) (o : World) (g : Marks) (long 
 
   -- ---- `when`
 
-  arm_goes : (fits : Bool) (u token : ℕ) → Site s m i u → (c : ConnectionIs s u token) → (j k : ℕ) (a : Statement) (more : Arms) (other : Statements) → base s.tables c.number ≡ Some k → PlainFine s m (Simply kind.Reference) (Object j) → is_in s m k j ≡ fits → StatementIs s c.number a → ArmsAre s u more → StatementsAre s u other → (vals : List Val) → HandsFine s (see g o) m i ks vals → Goes (IsFine s) (arm_tried o m i w vals rest fits token j a more other)
-  arm_goes true u token site c j k a more other class fine test is arms are vals h =
-      let y = fine.1 in
-      connected_goes u token site c j a is vals h (subst (λ z. PlainFine s m (reference_to z) (Object j)) (sym class) (of_class s m j y.0 k y.1 test))
-  arm_goes false u token site c j k a more other class fine test is arms are vals h =
-      goes_on s o g long m i t rest top (Do (WhenOp more other) ∷ w) (Of (Object j) ∷ vals) [] (Value (Simply kind.Reference) ∷ ks) b (fine, h) ([], ks, (refl, refl, refl, (u, site, (arms, are))), work)
+  arm_goes : (fits : Bool) (u token : ℕ) → Site s m i u → (c : ConnectionIs s u token) → (r : Plain) (k : ℕ) (a : Statement) (more : Arms) (other : Statements) → base s.tables c.number ≡ Some k → PlainFine s m (Simply kind.Reference) r → (fits ≡ true → ReferenceFine s m k r) → StatementIs s c.number a → ArmsAre s u more → StatementsAre s u other → (vals : List Val) → HandsFine s (see g o) m i ks vals → Goes (IsFine s) (arm_tried o m i w vals rest fits token r a more other)
+  arm_goes true u token site c r k a more other class fine test is arms are vals h = connected_goes u token site c r a is vals h (subst (λ z. PlainFine s m (reference_to z) r) (sym class) (test refl))
+  arm_goes false u token site c r k a more other class fine test is arms are vals h =
+      goes_on s o g long m i t rest top (Do (WhenOp more other) ∷ w) (Of r ∷ vals) [] (Value (Simply kind.Reference) ∷ ks) b (fine, h) ([], ks, (refl, refl, refl, (u, site, (arms, are))), work)
 
   arms_go : (arms : Arms) (other : Statements) (u : ℕ) → Site s m i u → ArmsAre s u arms → StatementsAre s u other → (vals : List Val) → HandsFine s (see g o) m i ks vals → (p : Plain) → PlainFine s m (Simply kind.Reference) p → Goes (IsFine s) (arms_tried s o m i w vals rest arms other p)
+  unfolding stands_in
   arms_go (When token class opening a end more) other u site is are vals h (Object j) fine =
       let k = is.1 in
-      had (IsFine s) (class_at s class.token.0) k o (λ k. arm_tried o m i w vals rest (is_in s m k j) opening j a more other) is.2
-      (arm_goes (is_in s m k j) u opening site is.0 j k a more other is.3 fine refl is.4 is.5 are vals h)
+      let y = fine.1 in
+      had (IsFine s) (class_at s class.token.0) k o (λ k. arm_tried o m i w vals rest (stands_in s m k (Object j)) opening (Object j) a more other) is.2
+      (arm_goes (stands_in s m k (Object j)) u opening site is.0 (Object j) k a more other is.3 fine (λ e. of_class s m j y.0 k y.1 e) is.4 is.5 are vals h)
+  arms_go (When token class opening a end more) other u site is are vals h (MainOf z) fine =
+      let k = is.1 in
+      let y = fine.1 in
+      had (IsFine s) (class_at s class.token.0) k o (λ k. arm_tried o m i w vals rest (stands_in s m k (MainOf z)) opening (MainOf z) a more other) is.2
+      (arm_goes (stands_in s m k (MainOf z)) u opening site is.0 (MainOf z) k a more other is.3 fine (λ e. main_of_class s m ok z y.0 k y.1 e) is.4 is.5 are vals h)
   arms_go NoArm other u site is are vals h (Object j) fine = others_go u site other are vals h
+  arms_go NoArm other u site is are vals h (MainOf z) fine = others_go u site other are vals h
   arms_go (When token class opening a end more) other u site is are vals h Nothing fine = others_go u site other are vals h
   arms_go NoArm other u site is are vals h Nothing fine = others_go u site other are vals h
   arms_go arms other u site is are vals h (Integer z) fine = let e = fine.0 in absurd (cc)

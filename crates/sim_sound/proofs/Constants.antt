@@ -8,7 +8,7 @@ use Rattle.sim_tree.specs.declared.stmt.Constant.{Constant}
 use Rattle.sim_tree.specs.declared.stmt.Constant.TheVariants as constant
 use Rattle.sim_tree.specs.declared.stmt.Variable.{Variable}
 use Rattle.sim_tree.specs.Syntax.{Arrays, Declarations, DeclareClass, DeclareProcedure, NoDeclaration, Variables, With}
-use Rattle.sim_values.specs.Plain.{Character, Integer, Nothing, Object, Plain, Text as TextOf, Truth, kind_of}
+use Rattle.sim_values.specs.Plain.{Character, Integer, MainOf, Nothing, Object, Plain, Text as TextOf, Truth, kind_of}
 use Rattle.sim_meaning.specs.Constants.{TextConstant, constant_from, text_constant, text_constants}
 use Rattle.sim_meaning.specs.Pending.{Instances}
 use Rattle.sim_meaning.specs.Texts.{BlockText, ClassText, PrefixedText, Text, among_declarations, among_variables, constant_in, constant_of, constant_value, row_constant, text, value_in}
@@ -18,6 +18,7 @@ use Rattle.sim_sound.proofs.Sound.{NamesObject, PlainFine}
 abbrev pub NoReference : Option Plain → Type 0
 NoReference None = Unit {0}
 NoReference (Some (Object j)) = ⊥
+NoReference (Some (MainOf b)) = ⊥
 NoReference (Some Nothing) = ⊥
 NoReference (Some p) = Unit {0}
 
@@ -72,6 +73,7 @@ constant_no_reference s d = of_row s (slice_get s.tables.declarations d.0)
 
 pub names_none : (s : Source) (m : Instances) (p : Plain) → NoReference (Some p) → NamesObject s m p
 names_none s m (Object j) a = absurd a
+names_none s m (MainOf b) a = absurd a
 names_none s m Nothing a = tt
 names_none s m (Integer z) a = tt
 names_none s m (Character z) a = tt

@@ -15,7 +15,7 @@ use Rattle.sim_code.specs.Arrays.{handed_over}
 use Rattle.sim_code.specs.Events.{entering, having, pop_many, popping, when}
 use Rattle.sim_code.specs.Instances.{Instance, ends_in, entered, is_given_at_end, is_live, kept_on, live}
 use Rattle.sim_code.specs.Instances as instances
-use Rattle.sim_code.specs.Outcome.{Run, World}
+use Rattle.sim_code.specs.Outcome.{Run, Simulation, World}
 use Rattle.sim_meaning.specs.Attributes.{is_connection}
 use Rattle.sim_meaning.specs.Entries.{arrays_by_value, filled_behind, first_cells, formals_of, in_instance, instances_kept, is_held, new_instance, numbers_of, passes, words_of_cells}
 use Rattle.sim_meaning.specs.Levels.{has_levels}
@@ -32,14 +32,17 @@ use Rattle.sim_sound.proofs.Chains.{others_kept, others_on}
 use Rattle.sim_sound.proofs.Changes.{ElementsFine}
 use Rattle.sim_sound.proofs.Evals.{IsFine, Work, goes_on}
 use Rattle.sim_sound.proofs.FirstCells.{ActualsAre, FilledBehind, ValsFine, all_taken, block_cells, block_key, formals_some, held_there, procedure_cells, taken}
-use Rattle.sim_sound.proofs.Handing.{Handed, formals_hand, hand_all, handed_members, handed_same, marks_of}
+use Rattle.sim_sound.proofs.Handing.{Handed, formals_hand, hand_all, handed_members, handed_same, handed_simulations, marks_of}
 use Rattle.sim_sound.proofs.Later.{All, Copies, Later, all_apart, fine_later, hands_later, instance_later, kept_later, live_less, present_later, standing_apart, stays_later, work_later}
 use Rattle.sim_sound.proofs.Lifts.{Goes, any_popped, enters, had, ran, whens}
 use Rattle.sim_sound.proofs.Lists.{append_at, same_some}
-use Rattle.sim_sound.proofs.Members.{MembersFine, OneMore, members_more, plain_no_linkage}
+use Rattle.sim_sound.proofs.Members.{MembersFine, OneMore, members_more, plain_no_linkage, plain_no_simulation}
 use Rattle.sim_sound.proofs.Moves.{Begins, copies_entered, knows_near, later_entered, marked, near_new, on_top, one_more, operates_entered, placed_as, steady_entered, store_entered}
+use Rattle.sim_sound.proofs.ProcessClasses.{plain_no_process}
 use Rattle.sim_sound.proofs.Prefixes.{LevelOf, prefix_level, same_level}
 use Rattle.sim_sound.proofs.Running.{Begun, ChainFine, Fine, Headed, Operates, Placed, StoreFine, WorkFine, first_of}
+use Rattle.sim_sound.proofs.Simulated.{SimulationsFine}
+use Rattle.sim_sound.proofs.Simulating.{simulations_more}
 use Rattle.sim_sound.proofs.Sound.{AllArrays, CallOpFine, CellsFine, Enclosed, GivesResult, HandFine, HandsFine, InstanceFine, KeyAmong, Kinds, Knows, LinkTo, Made, Marks, Near, Present, Sight, Stays, Takes, Waits, Whole, at_itself, formal_kinds, given, holds_of, key_of, keys_in, near_below, near_staying, own_text, see, within}
 use Rattle.sim_sound.proofs.Heads.{headed_as}
 
@@ -49,8 +52,8 @@ use Rattle.sim_sound.proofs.Heads.{headed_as}
 pub stands_new : (m : Instances) (y : Instance (List Held)) (z : Standing Activation) → length m.standings ≡ length m.instances → slice_get (entered m y z).standings (length m.instances) ≡ Some z
 stands_new m y z many = ap (slice_get (m.standings ++ z ∷ [])) (sym many) ∙ append_at m.standings z
 
--- An instance of a text with these cells is entered, on top of the instance u, if of any. `now` are the instances then, with these linkages.
-module _ (s : Source) (ok : Typed s) (v : AllArrays) (m : Instances) (k : ℕ) (e : Option ℕ) (cells : List Held) (z : Standing Activation) (x : Text) (is : text s k ≡ Some x) (solid : is_connection (text s k) ≡ false) (u : Option ℕ) (linkages : Memberships) where
+-- An instance of a text with these cells is entered, on top of the instance u, if of any. `now` are the instances then, with these linkages and simulations.
+module _ (s : Source) (ok : Typed s) (v : AllArrays) (m : Instances) (k : ℕ) (e : Option ℕ) (cells : List Held) (z : Standing Activation) (x : Text) (is : text s k ≡ Some x) (solid : is_connection (text s k) ≡ false) (u : Option ℕ) (linkages : Memberships) (blocks : List Simulation) where
   abbrev pub made_new : Instance (List Held)
   made_new = new_instance s k e cells
 
@@ -58,7 +61,7 @@ module _ (s : Source) (ok : Typed s) (v : AllArrays) (m : Instances) (k : ℕ) (
   now = entered m made_new z
 
   abbrev pub seen_now : AllArrays
-  seen_now = on_top v u linkages
+  seen_now = on_top v u linkages blocks
 
   passing_is : passes (text s k) (is_class_free s k) ≡ is_class_free s k
   passing_is = ap (λ z. passes z (is_class_free s k)) is ∙ by_text x is (ok.texts k x is)
@@ -72,10 +75,14 @@ module _ (s : Source) (ok : Typed s) (v : AllArrays) (m : Instances) (k : ℕ) (
       by_text (StandardText which) e a = sym a.stays
 
   pub later_new : Later s v m seen_now now All
-  later_new = later_entered s v m made_new z u linkages
+  later_new = later_entered s v m made_new z u linkages blocks
 
   pub new_lives : live now (length m.instances) ≡ Some made_new
   new_lives = ap instances.unless_given (append_at m.instances made_new)
+
+  -- what is not class-free is not given back at its end
+  pub new_stays : is_class_free s k ≡ false → (made_new.passing && not made_new.kept) ≡ false
+  new_stays free = ap (λ q. q && true) (passing_is ∙ free)
 
   present_new : (todo : List DeclNo) → Made s k todo cells → Present s now (length m.instances) k todo
   present_new todo made = record { now = made_new; lives = new_lives; stands = own_text same_level; words = x; has_text = is; made = made }
@@ -83,13 +90,13 @@ module _ (s : Source) (ok : Typed s) (v : AllArrays) (m : Instances) (k : ℕ) (
   instance_new : ((u : ℕ) → LevelOf s k u → (key : Key) → KeyAmong key (keys_in s u (text s u)) → KeyAmong key (map key_of cells)) → CellsFine s seen_now now (length m.instances) k cells → Enclosed s seen_now now (length m.instances) k e → InstanceFine s seen_now now (length m.instances) made_new
   instance_new keys fine out = record { level = refl; solid = solid; keys = keys; holds = λ u at key a. key_level s ok solid at key a; cells = fine; ends = passing_is; not_kept = refl; out = out }
 
-  pub begun_new : StoreFine s v m → Begins z → ((u : ℕ) → LevelOf s k u → (key : Key) → KeyAmong key (keys_in s u (text s u)) → KeyAmong key (map key_of cells)) → CellsFine s seen_now now (length m.instances) k cells → Enclosed s seen_now now (length m.instances) k e → (todo : List DeclNo) → Made s k todo cells → MembersFine s linkages now → Begun s seen_now now (length m.instances) k todo
+  pub begun_new : StoreFine s v m → Begins z → ((u : ℕ) → LevelOf s k u → (key : Key) → KeyAmong key (keys_in s u (text s u)) → KeyAmong key (map key_of cells)) → CellsFine s seen_now now (length m.instances) k cells → Enclosed s seen_now now (length m.instances) k e → (todo : List DeclNo) → Made s k todo cells → MembersFine s linkages now → SimulationsFine s blocks now → Begun s seen_now now (length m.instances) k todo
   unfolding present_new
-  begun_new store begins keys fine out todo made members = record { store = store_entered s v m made_new z u linkages store (instance_new keys fine out) begins members; here = present_new todo made; own = refl }
+  begun_new store begins keys fine out todo made members simulations = record { store = store_entered s v m made_new z u linkages blocks store (instance_new keys fine out) begins members simulations; here = present_new todo made; own = refl }
 
   -- one instance more, of this text
-  pub more_new : OneMore s m now k
-  more_new = one_more s v m made_new z u linkages
+  pub more_new : OneMore s m now k e
+  more_new = one_more s v m made_new z u linkages blocks
 
   -- what is class-free is given back at its end
   pub new_passes : is_class_free s k ≡ true → is_given_at_end now (length m.instances) ≡ true
@@ -103,7 +110,7 @@ module _ (s : Source) (ok : Typed s) (v : AllArrays) (m : Instances) (k : ℕ) (
   near_inside store j stays i on near = by_flag (is_class_free s k) refl
     where
       by_flag : (b : Bool) → is_class_free s k ≡ b → Near seen_now now (length m.instances) j
-      by_flag true free = near_new s v m made_new z u linkages i j store on (new_passes free) near
+      by_flag true free = near_new s v m made_new z u linkages blocks i j store on (new_passes free) near
       by_flag false free = near_staying (stays_later s v m seen_now now All later_new j (stays free))
 
   -- the text around is not class-free either, so an instance of it stays
@@ -125,7 +132,7 @@ module _ (s : Source) (ok : Typed s) (v : AllArrays) (m : Instances) (k : ℕ) (
 
   -- below it the chain stands as before
   pub below_new : Begins z → (chain : List Activation) (w : Waits) → ChainFine s v m chain w → ChainFine s seen_now now chain w
-  below_new begins chain w c = fine_later s v m seen_now now All later_new All (λ j d k. copies_entered s v m made_new z u linkages j d) (λ j k. steady_entered s v m made_new z u linkages begins j) chain (all_apart chain) (all_apart chain) w c
+  below_new begins chain w c = fine_later s v m seen_now now All later_new All (λ j d k. copies_entered s v m made_new z u linkages blocks j d) (λ j k. steady_entered s v m made_new z u linkages blocks begins j) chain (all_apart chain) (all_apart chain) w c
 
 -- it operates
 pub enters_fine : (s : Source) (ok : Typed s) (o : World) (marks : Marks) (long : length marks.sights ≡ length o.arrays) (m : Instances) (k : ℕ) (e : Option ℕ) (cells : List Held) (z : Standing Activation) (todo : List DeclNo)
@@ -133,13 +140,14 @@ pub enters_fine : (s : Source) (ok : Typed s) (o : World) (marks : Marks) (long 
     → WorkFine s (see (marked marks (first_of rest)) o) (entered m (new_instance s k e cells) z) (λ w. ChainFine s (see (marked marks (first_of rest)) o) (entered m (new_instance s k e cells) z) rest w) (rest ≡ []) (length m.instances) k work todo []
     → IsFine s o (record { chain = record { instance = length m.instances; work = work; values = [] } ∷ rest; memory = entered m (new_instance s k e cells) z })
 enters_fine s ok o marks long m k e cells z todo begins work rest p store placed headed first b w =
-    goes_on s o (marked marks (first_of rest)) long (entered m (new_instance s k e cells) z) (length m.instances) k rest (operates_entered s (see marks p) m (new_instance s k e cells) z (first_of rest) o.members rest refl store placed headed first begins) work [] todo [] b tt w
+    goes_on s o (marked marks (first_of rest)) long (entered m (new_instance s k e cells) z) (length m.instances) k rest (operates_entered s (see marks p) m (new_instance s k e cells) z (first_of rest) o.members o.simulations rest refl store placed headed first begins) work [] todo [] b tt w
 
--- the arrays and the linkages alone tell whether a configuration is fine
-pub same_arrays : {s : Source} (o p : World) (c : Configuration) → o.arrays ≡ p.arrays → o.members ≡ p.members → IsFine s o c → IsFine s p c
-same_arrays {s = s} o p c e q f =
-    subst (λ z. (g : Marks) × (length g.sights ≡ length p.arrays) × Fine s (record { sights = g.sights; beneath = g.beneath; waiting = g.waiting; real = p.arrays; members = z }) c) q
-    (subst (λ z. (g : Marks) × (length g.sights ≡ length z) × Fine s (record { sights = g.sights; beneath = g.beneath; waiting = g.waiting; real = z; members = o.members }) c) e f)
+-- the arrays, the linkages and the simulation blocks alone tell whether a configuration is fine
+pub same_arrays : {s : Source} (o p : World) (c : Configuration) → o.arrays ≡ p.arrays → o.members ≡ p.members → o.simulations ≡ p.simulations → IsFine s o c → IsFine s p c
+same_arrays {s = s} o p c e q r f =
+    subst (λ z. (g : Marks) × (length g.sights ≡ length p.arrays) × Fine s (record { sights = g.sights; beneath = g.beneath; waiting = g.waiting; real = p.arrays; members = p.members; simulations = z }) c) r
+    (subst (λ z. (g : Marks) × (length g.sights ≡ length p.arrays) × Fine s (record { sights = g.sights; beneath = g.beneath; waiting = g.waiting; real = p.arrays; members = z; simulations = o.simulations }) c) q
+    (subst (λ z. (g : Marks) × (length g.sights ≡ length z) × Fine s (record { sights = g.sights; beneath = g.beneath; waiting = g.waiting; real = z; members = o.members; simulations = o.simulations }) c) e f))
 
 -- ---- blocks
 
@@ -157,7 +165,7 @@ module _ (s : Source) (ok : Typed s) (v : AllArrays) (m : Instances) (k : ℕ) (
   after = entered m (new_instance s k e cells) (NoObject None)
 
   abbrev pub seen_after : AllArrays
-  seen_after = on_top v u v.members
+  seen_after = on_top v u v.members v.simulations
 
   cells_fine : CellsFine s seen_after after (length m.instances) k cells
   cells_fine = block_cells s seen_after after (length m.instances) k begin ds ss is typed.no_formals
@@ -173,7 +181,8 @@ module _ (s : Source) (ok : Typed s) (v : AllArrays) (m : Instances) (k : ℕ) (
 
   pub block_begun : StoreFine s v m → Enclosed s seen_after after (length m.instances) k e → Begun s seen_after after (length m.instances) k (arrays_of_block s ds)
   block_begun store out =
-      begun_new s ok v m k e cells (NoObject None) (BlockText begin ds ss) is (block_solid s k begin ds ss is) u v.members store tt (keys_alone s ok k (map key_of cells) (block_solid s k begin ds ss is) has_none (λ key a. subst (λ z. KeyAmong key (keys_in s k z)) is a)) cells_fine out (arrays_of_block s ds) block_made (members_more s v.members m after k (more_new s ok v m k e cells (NoObject None) (BlockText begin ds ss) is (block_solid s k begin ds ss is) u v.members) (plain_no_linkage s ok k (block_solid s k begin ds ss is) has_none) store.members)
+      begun_new s ok v m k e cells (NoObject None) (BlockText begin ds ss) is (block_solid s k begin ds ss is) u v.members v.simulations store tt (keys_alone s ok k (map key_of cells) (block_solid s k begin ds ss is) has_none (λ key a. subst (λ z. KeyAmong key (keys_in s k z)) is a)) cells_fine out (arrays_of_block s ds) block_made (members_more s v.members m after k e (more_new s ok v m k e cells (NoObject None) (BlockText begin ds ss) is (block_solid s k begin ds ss is) u v.members v.simulations) (plain_no_linkage s ok k (block_solid s k begin ds ss is) has_none) (plain_no_simulation s ok k (block_solid s k begin ds ss is) has_none) store.members)
+      (simulations_more s v.simulations m after k e (more_new s ok v m k e cells (NoObject None) (BlockText begin ds ss) is (block_solid s k begin ds ss is) u v.members v.simulations) store.simulations (plain_no_simulation s ok k (block_solid s k begin ds ss is) has_none) (plain_no_process s ok k (block_solid s k begin ds ss is) has_none))
 
   pub block_works : StoreFine s v m → Enclosed s seen_after after (length m.instances) k e → (Below : Waits → Type 0) (Outermost : Type 0) (end : Item) → WorkFine s seen_after after Below Outermost (length m.instances) k (end ∷ []) [] [] → WorkFine s seen_after after Below Outermost (length m.instances) k (block_work s after (length m.instances) ds ss end) (arrays_of_block s ds) []
   block_works store out Below Outermost end x =
@@ -205,12 +214,12 @@ module _ (s : Source) (ok : Typed s) (l : Limits) (o : World) (marks : Marks) (l
       let hs = first_cells s k x in
       let z = NoObject None in
       let solid = block_solid s k begin ds ss is in
-      let out = inside_new s ok v m k (Some i) hs z x is solid (Some i) v.members i u i refl stands top.before refl (near_below at_itself) b.store site in
+      let out = inside_new s ok v m k (Some i) hs z x is solid (Some i) v.members v.simulations i u i refl stands top.before refl (near_below at_itself) b.store site in
       let m' = entered m (new_instance s k (Some i) hs) z in
       enters (IsFine s) l line (words_of_cells hs) o (λ p. in_instance s p m k (Some i) hs (λ now. block_work s now (length m.instances) ds ss EndBlock) (Chain vals)) (λ t' w'.
       enters_fine s ok o marks long m k (Some i) hs z (arrays_of_block s ds) tt (block_work s m' (length m.instances) ds ss EndBlock) (Chain vals) o b.store (chain_placed vals) (chain_headed vals) (inr refl) (block_begun s ok v m k (Some i) begin ds ss is (Some i) b.store out)
-      (block_works s ok v m k (Some i) begin ds ss is (Some i) b.store out (λ q. ChainFine s (on_top v (Some i) v.members) m' (Chain vals) q) (Chain vals ≡ []) EndBlock
-      ((None, stands_new m (new_instance s k (Some i) hs) z (top.placed).as_many), below_new s ok v m k (Some i) hs z x is solid (Some i) v.members tt (Chain vals) (Takes None) (waits_on vals [] ks None b h work))))
+      (block_works s ok v m k (Some i) begin ds ss is (Some i) b.store out (λ q. ChainFine s (on_top v (Some i) v.members v.simulations) m' (Chain vals) q) (Chain vals ≡ []) EndBlock
+      ((None, stands_new m (new_instance s k (Some i) hs) z (top.placed).as_many), below_new s ok v m k (Some i) hs z x is solid (Some i) v.members v.simulations tt (Chain vals) (Takes None) (waits_on vals [] ks None b h work))))
 
   -- ---- a procedure
 
@@ -238,7 +247,7 @@ module _ (s : Source) (ok : Typed s) (l : Limits) (o : World) (marks : Marks) (l
   lives_is j x e = ap instances.is_live_in e
 
   -- the store in which copies of the instance have gone over, and a new instance is entered then
-  module _ (p : World) (g' : List Sight) (e : Later s (see marks o) m (see (marks_of marks g') p) m All) (copies : (j d : ℕ) → Other i j → Copies (see marks o) (see (marks_of marks g') p) j d) (fine : StoreFine s (see marks o) m) (elements : ElementsFine s (see marks o) m → ElementsFine s (see (marks_of marks g') p) m) (linkages : p.members ≡ o.members) where
+  module _ (p : World) (g' : List Sight) (e : Later s (see marks o) m (see (marks_of marks g') p) m All) (copies : (j d : ℕ) → Other i j → Copies (see marks o) (see (marks_of marks g') p) j d) (fine : StoreFine s (see marks o) m) (elements : ElementsFine s (see marks o) m → ElementsFine s (see (marks_of marks g') p) m) (linkages : p.members ≡ o.members) (blocks : p.simulations ≡ o.simulations) where
     pub store_handed : StoreFine s (see (marks_of marks g') p) m
     store_handed = record {
       instances = λ j x lives. instance_later s (see marks o) m (see (marks_of marks g') p) m All e j x tt (fine.instances j x lives);
@@ -246,6 +255,7 @@ module _ (s : Source) (ok : Typed s) (l : Limits) (o : World) (marks : Marks) (l
       kept = kept_later s (see marks o) m (see (marks_of marks g') p) m All e (Other i) copies (λ j k. (refl, refl)) refl refl (λ j x is. standing_apart x) (others_kept marks.beneath m i rest top) fine.kept;
       noted = fine.noted;
       members = subst (λ q. MembersFine s q m) (sym linkages) fine.members;
+      simulations = subst (λ q. SimulationsFine s q m) (sym blocks) fine.simulations;
     }
 
     pub below_handed : (v : Waits) → ChainFine s (see marks o) m rest v → ChainFine s (see (marks_of marks g') p) m rest v
@@ -284,14 +294,14 @@ module _ (s : Source) (ok : Typed s) (l : Limits) (o : World) (marks : Marks) (l
     noted = marked marks (Some i)
 
     later_with : (c : List Held) (z : List Sight) (q : World) → Later s (see (marks_of marks z) q) m (see (marks_of noted z) q) (After c) All
-    later_with c z q = later_new s ok (see (marks_of marks z) q) m k (Some j) c Nobody X is solid (Some i) q.members
+    later_with c z q = later_new s ok (see (marks_of marks z) q) m k (Some j) c Nobody X is solid (Some i) q.members q.simulations
 
     -- one that takes arrays by reference is class-free
     passing : (c : List Held) → list_any is_held fs ≡ true → (is_given_at_end (After c) N ≡ true) × (slice_get noted.beneath N ≡ Some (Some i))
-    passing c held = (by_flag (is_class_free s k) refl, new_noted s ok (see marks o) m k (Some j) c Nobody X is solid (Some i) o.members b.store)
+    passing c held = (by_flag (is_class_free s k) refl, new_noted s ok (see marks o) m k (Some j) c Nobody X is solid (Some i) o.members o.simulations b.store)
       where
         by_flag : (f : Bool) → is_class_free s k ≡ f → is_given_at_end (After c) N ≡ true
-        by_flag true free = new_passes s ok (see marks o) m k (Some j) c Nobody X is solid (Some i) o.members free
+        by_flag true free = new_passes s ok (see marks o) m k (Some j) c Nobody X is solid (Some i) o.members o.simulations free
         by_flag false free = absurd (let none : list_any is_held fs ≡ false = ok.keeps_none k result h a is free in cc)
 
     handed : (c : List Held) → Handed s m (After c) i N top.before marks noted (later_with c) o marks.sights d P (λ z. (kk : ℕ) → ValsFine s z (After c) N kk (holds_of s fs) vs)
@@ -310,7 +320,7 @@ module _ (s : Source) (ok : Typed s) (l : Limits) (o : World) (marks : Marks) (l
     V = see G P
 
     abbrev V' : AllArrays
-    V' = on_top V (Some i) V.members
+    V' = on_top V (Some i) V.members V.simulations
 
     abbrev M : Instances
     M = After Cells
@@ -339,14 +349,18 @@ module _ (s : Source) (ok : Typed s) (l : Limits) (o : World) (marks : Marks) (l
     linkages : P.members ≡ o.members
     linkages = handed_members N (arrays_by_value fs vs) o
 
+    blocks : P.simulations ≡ o.simulations
+    blocks = handed_simulations N (arrays_by_value fs vs) o
+
     store : StoreFine s V m
-    store = store_handed P (handed Cells).sights e copies b.store (handed Cells).elements linkages
+    store = store_handed P (handed Cells).sights e copies b.store (handed Cells).elements linkages blocks
 
     begun : Begun s V' M N k []
     begun =
-        begun_new s ok V m k (Some j) Cells Nobody X is solid (Some i) V.members store tt (keys_alone s ok k (map key_of Cells) solid plain keys) fine
-        (inside_new s ok V m k (Some j) Cells Nobody X is solid (Some i) V.members j u i refl stands (live_less m j whole.now whole.lives) refl (knows_near s V m store i j knows) store whole) [] made
-        (members_more s V.members m M k (more_new s ok V m k (Some j) Cells Nobody X is solid (Some i) V.members) (plain_no_linkage s ok k solid plain) store.members)
+        begun_new s ok V m k (Some j) Cells Nobody X is solid (Some i) V.members V.simulations store tt (keys_alone s ok k (map key_of Cells) solid plain keys) fine
+        (inside_new s ok V m k (Some j) Cells Nobody X is solid (Some i) V.members V.simulations j u i refl stands (live_less m j whole.now whole.lives) refl (knows_near s V m store i j knows) store whole) [] made
+        (members_more s V.members m M k (Some j) (more_new s ok V m k (Some j) Cells Nobody X is solid (Some i) V.members V.simulations) (plain_no_linkage s ok k solid plain) (plain_no_simulation s ok k solid plain) store.members)
+        (simulations_more s V.simulations m M k (Some j) (more_new s ok V m k (Some j) Cells Nobody X is solid (Some i) V.members V.simulations) store.simulations (plain_no_simulation s ok k solid plain) (plain_no_process s ok k solid plain))
 
     chain : ChainFine s V m (Chain vs') (Takes g)
     chain = record {
@@ -361,7 +375,7 @@ module _ (s : Source) (ok : Typed s) (l : Limits) (o : World) (marks : Marks) (l
       hands = hands_later s (see marks o) m V m All e i tt left vs' (λ z kd c deep copy. (handed Cells).copies i z kd c (λ q. omega (arith, deep, less)) copy) hands;
       expected = given g left;
       expects = refl;
-      goes = work_later s (see marks o) m V m All e i t tt refl (rest ≡ []) (rest ≡ []) (λ q. q) (λ q. ChainFine s (see marks o) m rest q) (λ q. ChainFine s V m rest q) (below_handed P (handed Cells).sights e copies b.store (handed Cells).elements linkages) w todo (given g left) work;
+      goes = work_later s (see marks o) m V m All e i t tt refl (rest ≡ []) (rest ≡ []) (λ q. q) (λ q. ChainFine s (see marks o) m rest q) (λ q. ChainFine s V m rest q) (below_handed P (handed Cells).sights e copies b.store (handed Cells).elements linkages blocks) w todo (given g left) work;
     }
 
     pub procedure_goes : Goes (IsFine s) (procedure_entered s l o m i w vs' rest k line vs j (Some X))
@@ -370,9 +384,9 @@ module _ (s : Source) (ok : Typed s) (l : Limits) (o : World) (marks : Marks) (l
         had (IsFine s) (filled_behind result vs first) Cells o (λ c. entering l line (words_of_cells first) o (λ q. in_instance s (handed_over N ns q) (instances_kept s k (Chain vs') m) k (Some j) c (λ now. Do (Exec a) ∷ EndProcedure (has_result result) ∷ []) (Chain vs'))) (filled first).filled_is
         (enters (IsFine s) l line (words_of_cells first) o (λ q. in_instance s (handed_over N ns q) (instances_kept s k (Chain vs') m) k (Some j) Cells (λ now. Do (Exec a) ∷ EndProcedure (has_result result) ∷ []) (Chain vs')) (λ t' w'.
         subst (λ z. Goes (IsFine s) (in_instance s (handed_over N ns (ran o t' w')) z k (Some j) Cells (λ now. Do (Exec a) ∷ EndProcedure (has_result result) ∷ []) (Chain vs'))) (sym (not_kept k result h a is (Chain vs')))
-        (same_arrays P (handed_over N ns (ran o t' w')) _ (handed_same N ns o (ran o t' w') refl) (linkages ∙ sym (handed_members N ns (ran o t' w')))
+        (same_arrays P (handed_over N ns (ran o t' w')) _ (handed_same N ns o (ran o t' w') refl) (linkages ∙ sym (handed_members N ns (ran o t' w'))) (blocks ∙ sym (handed_simulations N ns (ran o t' w')))
         (enters_fine s ok P G (handed Cells).long m k (Some j) Cells Nobody [] tt (Do (Exec a) ∷ EndProcedure (has_result result) ∷ []) (Chain vs') P store (chain_placed vs') (chain_headed vs') (inr refl) begun
-        ([], [], (refl, refl, refl, (k, own_site s V' M N k [] begun, typed_procedure.body)), (result, h, a, is, refl, g, gives, (None, stands_new m (new_instance s k (Some j) Cells) Nobody (top.placed).as_many), below_new s ok V m k (Some j) Cells Nobody X is solid (Some i) V.members tt (Chain vs') (Takes g) chain))))))
+        ([], [], (refl, refl, refl, (k, own_site s V' M N k [] begun, typed_procedure.body)), (result, h, a, is, refl, g, gives, (None, stands_new m (new_instance s k (Some j) Cells) Nobody (top.placed).as_many), below_new s ok V m k (Some j) Cells Nobody X is solid (Some i) V.members V.simulations tt (Chain vs') (Takes g) chain))))))
 
   pub called_goes : (k n line : ℕ) (todo : List DeclNo) (before behind : List Kinds) → CallOpFine s k n before behind → Begun s (see marks o) m i t todo → HandsFine s (see marks o) m i before vals → Work s o marks long m i t rest top w todo behind → Goes (IsFine s) (called s l o m i w vals rest k n line)
   called_goes k n line todo before behind c b h work =

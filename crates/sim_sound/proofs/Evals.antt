@@ -3,13 +3,15 @@ use Rattle.std.proofs.Common.{◌≡◌, ℕ, zero, suc, List, [], ◌∷◌, le
 use Rattle.sim_base.specs.declared.numbering.DeclNo.{DeclNo}
 use Rattle.sim_scope.specs.declared.types.Formal.{Formal}
 use Rattle.sim_scope.specs.Access.{encloser}
-use Rattle.sim_scope.specs.Source.{Source}
+use Rattle.sim_scope.specs.Source.{Source, block_of}
 use Rattle.sim_values.specs.declared.kind.Kind.TheVariants as kind
 use Rattle.sim_code.specs.Instances.{CellPlace, ImagePlace}
 use Rattle.sim_code.specs.Outcome.{World}
+use Rattle.std.specs.Prelude.{◌+◌}
+use Rattle.sim_meaning.specs.Attributes.{attribute_formals}
 use Rattle.sim_meaning.specs.Entries.{formals_of}
 use Rattle.sim_meaning.specs.Closing.{class_parameters}
-use Rattle.sim_meaning.specs.Pending.{SetOf, SetOp, Activation, Address, AttributeOf, AttributeOp, CallOf, CallOp, Cell, cell, Configuration, CopyOf, CopyOp, Do, Either, ElementOf, ElementOp, Eval, FetchOp, FitsOf, FitsOp, Further, Given, IfOp, ImageOf, Instances, Item, Joined, JoinOp, KeepOp, KeptOf, Link, MemberOf, MemberOp, NewOf, NewOp, NoTerm, NotNoneOf, NotNoneOp, ObjectOp, Of, One, OneOp, PlaceOf, PrefixedOp, QualifiedElementOf, QualifiedElementOp, QualifiedPlaceOf, QuaOf, QuaOp, RemoteCallOf, StandardOf, StandardOp, Term, Terms, TransferOf, TransferOp, Two, TwoOp, Unbuilt, Val, ValueAt}
+use Rattle.sim_meaning.specs.Pending.{SetOf, SetOp, ProcessOf, ProcessOp, SimulationOf, SimulationOp, Activation, Address, AttributeOf, AttributeOp, CallOf, CallOp, Cell, cell, Configuration, CopyOf, CopyOp, Do, Either, ElementOf, ElementOp, Eval, FetchOp, FitsOf, FitsOp, Further, Given, IfOp, ImageOf, Instances, Item, Joined, JoinOp, KeepOp, KeptOf, Link, MemberOf, MemberOp, NewOf, NewOp, NoTerm, NotNoneOf, NotNoneOp, ObjectOp, Of, One, OneOp, PlaceOf, PrefixedOp, QualifiedElementOf, QualifiedElementOp, QualifiedPlaceOf, QuaOf, QuaOp, RemoteCallOf, StandardOf, StandardOp, Term, Terms, TransferOf, TransferOp, Two, TwoOp, Unbuilt, Val, ValueAt}
 use Rattle.sim_meaning.specs.Steps.{count, each, eval, go}
 use Rattle.sim_sound.specs.Held.{ArrayOf, Refers, Simply}
 use Rattle.sim_sound.specs.Typed.{Typed}
@@ -18,7 +20,7 @@ use Rattle.sim_sound.proofs.Lifts.{Goes, had}
 use Rattle.sim_sound.proofs.Fitting.{plain_val, val_fits}
 use Rattle.sim_sound.proofs.Moves.{placed_as}
 use Rattle.sim_sound.proofs.Running.{Begun, ChainFine, Fine, Operates, WorkFine, runs}
-use Rattle.sim_sound.proofs.Sound.{PrefixedAt, set_operands, AddressOf, Copied, GivesResult, HandsFine, ImageAddress, IntegersFine, Kinds, Lasting, LinkTo, Marks, OperandsFine, ProcedureIn, ReferenceAddress, Site, TermFine, TermsFine, Value, Waits, class_kinds, component_kind, formal_kinds, given, integers, onto, pushed, see, simple}
+use Rattle.sim_sound.proofs.Sound.{ObjectIn, PrefixedAt, set_operands, AddressOf, Copied, GivesResult, HandsFine, ImageAddress, IntegersFine, Kinds, Lasting, LinkTo, Marks, OperandsFine, ProcedureIn, ReferenceAddress, Site, TermFine, TermsFine, Value, Waits, class_kinds, component_kind, formal_kinds, given, integers, onto, pushed, see, simple}
 use Rattle.sim_sound.proofs.Heads.{headed_as}
 
 -- the configurations that are fine
@@ -227,12 +229,12 @@ module _ (s : Source) (o : World) (g : Marks) (long : length g.sights ≡ length
       goes_on (Do (Eval x) ∷ Do (ObjectOp k line) ∷ each ts (Do (CallOp k (count ts) line) ∷ w)) vals todo ks b h (
         todo,
         Value (Refers a.0) ∷ ks,
-        (Some (Value (Refers a.0)), a.5, refl, refl),
+        (Some (Value (Refers a.0)), a.6, refl, refl),
         (
           todo,
           LinkTo a.1 ∷ ks,
-          (a.0, a.1, ks, a.2, (a.3).stands_in, refl, refl, refl),
-          call_work k ts line a.1 r w todo ks a.3 a.4 a.6 work,
+          (a.0, a.1, ks, a.2, a.3, (a.4).stands_in, refl, refl, refl),
+          call_work k ts line a.1 r w todo ks a.4 a.5 a.7 work,
         ),
       )
   eval_goes ok (QualifiedPlaceOf e key c) r w vals todo ks b h a work =
@@ -289,4 +291,18 @@ module _ (s : Source) (o : World) (g : Marks) (long : length g.sights ≡ length
       goes_on (each ts (Do (SetOp name) ∷ w)) vals todo ks b h
       (each_fine ts (set_operands s name a.0) (Do (SetOp name) ∷ w) todo ks a.4
       (todo, given r ks, (a.0, a.1, ks, a.2, refl, ap (λ z. given z ks) (sym a.3), refl), work))
+  eval_goes ok (ProcessOf name line x) r w vals todo ks b h a work =
+      let y = a.0 in
+      goes_on (Do (Eval x) ∷ Do (ProcessOp name line) ∷ w) vals todo ks b h (
+        todo,
+        ObjectIn ((y.there).linkage + 3) ∷ ks,
+        (Some (ObjectIn ((y.there).linkage + 3)), a.4, refl, refl),
+        (todo, given r ks, (y, a.1, ks, a.2, refl, ap (λ z. given z ks) (sym a.3), refl), work),
+      )
+  eval_goes ok (SimulationOf e name ts line) r w vals todo ks b h a work =
+      let y = a.0 in
+      let c = a.4 in
+      goes_on (each ts (Do (SimulationOp name line) ∷ w)) (Link e ∷ vals) todo (LinkTo (block_of s y.declaration) ∷ ks) b ((c.near, c.whole), h)
+      (each_fine ts (formal_kinds s (attribute_formals y.parameter)) (Do (SimulationOp name line) ∷ w) todo (LinkTo (block_of s y.declaration) ∷ ks) a.5
+      (todo, given r ks, (y, a.1, ks, a.2, c.simulates, refl, ap (λ z. given z ks) (sym a.3), refl), work))
   eval_goes ok Unbuilt r w vals todo ks b h a work = absurd a

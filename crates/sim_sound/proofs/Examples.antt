@@ -1,11 +1,12 @@
 -- Some programs are typed.
-use Rattle.std.proofs.Common.{◌≡◌, ℕ, zero, suc, [], ◌∷◌, true, false, arith, Option, Some, None, refl, subst}
+use Rattle.std.proofs.Common.{◌≡◌, ℕ, Bool, zero, suc, [], ◌∷◌, true, false, arith, Option, Some, None, refl, subst}
 use Rattle.std.specs.Prelude.{slice_get}
 use Rattle.sim_base.specs.declared.numbering.DeclNo.{DeclNo}
 use Rattle.sim_scope.specs.declared.scopes.Declaration.{Declaration}
 use Rattle.sim_scope.specs.declared.types.Entry.{Entry}
 use Rattle.sim_scope.specs.declared.types.Entry.TheVariants as entry
 use Rattle.sim_scope.specs.declared.types.StandardClass.{StandardClass}
+use Rattle.sim_scope.specs.declared.types.StandardClass.TheVariants as standard
 use Rattle.sim_scope.specs.declared.types.SimType.{SimType}
 use Rattle.sim_scope.specs.declared.types.SimType.TheVariants as sim_type
 use Rattle.sim_scope.specs.Source.{Source}
@@ -15,7 +16,7 @@ use Rattle.sim_meaning.specs.Entries.{numbers_of}
 use Rattle.sim_meaning.specs.Examples.{factorial_20, for_list, sub_block, value_array}
 use Rattle.sim_meaning.specs.TextExamples.{parts}
 use Rattle.sim_meaning.specs.Texts.{StandardText, Text}
-use Rattle.sim_scope.specs.Levels.{has_level, some_level_of}
+use Rattle.sim_scope.specs.Levels.{has_level, is_simulation_block, some_level_of}
 use Rattle.sim_scope.specs.Source.{found_at}
 use Rattle.sim_meaning.specs.Attributes.{connection_at, transfer_at, own_attribute}
 use Rattle.sim_meaning.specs.Closing.{is_attribute, result_meant}
@@ -86,6 +87,9 @@ NoSetProcedure _ = Unit {0}
 pub no_set_procedure : (x : Option Entry) (name : Standard) (parameter result : Option SimType) → NoSetProcedure x → x ≡ Some (entry.Attribute name parameter result) → ⊥
 no_set_procedure x name parameter result a e = subst NoSetProcedure e a
 
+pub true_never : (b : Bool) → b ≡ false → b ≡ true → ⊥
+true_never b off on = cc
+
 sub_rows : (n : ℕ) → RowHolds sub_block (slice_get sub_block.tables.declarations n) (number n)
 unfolding digits element_place making_array copying_array keeping_array finding_element giving_back handed_over stopping no_rule ticking taking entering having when computing choosing popping pop_many pop_plain pop_truth pop_integers pop_operands pop_text answering applying_one applying_two testing_step performing putting_back assigning making_text joining at_level kept_on pushing index level_of_machine cell_at jumping block_at own_block leaving with_result putting put_back is_text home_of first_cells leaving_of_meaning constants_of putting_of_steps back_of_steps text_constants text_constant is_variable stream_of own_result is_inside text is_class_free declared_at constant_of calculate compare compare_as_texts connect same_objects same_texts two_of one_of step_test take_integer take_character take_text take_nothing row_of standard_effect default_mode mode_allowed marked type_named result_named mode_named first_of_procedure first_of_class variable_marks array_marks parameter_marks moded_marks specified_marks headed_marks procedure_marks class_marks virtual_name_marks program_marks inner_marks declaring of_segment of_mode_part of_specification of_specifier of_virtual of_heading declared_by declarations_of run_of_runs lookup shown_of_scopes encloser searched block_at_of_scopes declaration_from binding entry_of formals_of formal_of result_of source_of denoted type_at line_at level_of block_of block_around standard_name text_attribute sysin_attribute sysout_attribute signature is_real_function is_random_drawing is_file_or_layout is_environment_name undeclared program_events of_statement of_branch of_arm of_block of_whole of_class_body of_declaration accessible protects is_kind some_around_of some_around base brought_by level_shows shown_of is_detach ends_search outward virtual_of represented standard_at qualified_marks qualified_result has_level some_level_of found_at connection_at transfer_at is_attribute result_meant own_attribute
 sub_rows zero = first
@@ -117,7 +121,7 @@ sub_inner = record {
   own = λ d a. a;
   statements = (
     (kind.Integer, ((refl, record { found = 1; around = itself; instance = refl; level = refl }, (refl, tt)), tt), (kind.Integer, kind.Integer, (refl, refl), refl, (refl, record { found = 1; around = itself; instance = refl; level = refl }, (refl, tt)), refl)),
-    ((None, (((refl, refl), refl), ((refl, record { found = 1; around = itself; instance = refl; level = refl }, (refl, tt)), (refl, tt))), refl), tt),
+    ((None, (((refl, refl, refl), refl), ((refl, record { found = 1; around = itself; instance = refl; level = refl }, (refl, tt)), (refl, tt))), refl), tt),
   );
 }
 
@@ -149,10 +153,10 @@ sub_outer = record {
             (kind.Integer, kind.Boolean, (tt, refl), refl, (refl, record { found = 0; around = itself; instance = refl; level = refl }), refl),
             (kind.Integer, kind.Boolean, (tt, refl), refl, (kind.Integer, kind.Integer, (refl, refl), refl, (refl, record { found = 0; around = itself; instance = refl; level = refl }), (refl, record { found = 0; around = itself; instance = refl; level = refl })), refl),
           ),
-          (None, (((refl, refl), refl), ((refl, record { found = 0; around = itself; instance = refl; level = refl }), (refl, tt))), refl),
-          ((None, (((refl, refl), refl), (refl, (refl, tt))), refl), tt),
+          (None, (((refl, refl, refl), refl), ((refl, record { found = 0; around = itself; instance = refl; level = refl }), (refl, tt))), refl),
+          ((None, (((refl, refl, refl), refl), (refl, (refl, tt))), refl), tt),
         ),
-        ((None, (((refl, refl), refl), tt), refl), tt),
+        ((None, (((refl, refl, refl), refl), tt), refl), tt),
       ),
     ),
   );
@@ -207,6 +211,12 @@ sub_no_set zero = tt
 sub_no_set (suc zero) = tt
 sub_no_set (suc (suc k)) = tt
 
+sub_no_simulation : (k : ℕ) → is_simulation_block sub_block.tables k ≡ false
+unfolding digits element_place making_array copying_array keeping_array finding_element giving_back handed_over stopping no_rule ticking taking entering having when computing choosing popping pop_many pop_plain pop_truth pop_integers pop_operands pop_text answering applying_one applying_two testing_step performing putting_back assigning making_text joining at_level kept_on pushing index level_of_machine cell_at jumping block_at own_block leaving with_result putting put_back is_text home_of first_cells leaving_of_meaning constants_of putting_of_steps back_of_steps text_constants text_constant is_variable stream_of own_result is_inside text is_class_free declared_at constant_of calculate compare compare_as_texts connect same_objects same_texts two_of one_of step_test take_integer take_character take_text take_nothing row_of standard_effect default_mode mode_allowed marked type_named result_named mode_named first_of_procedure first_of_class variable_marks array_marks parameter_marks moded_marks specified_marks headed_marks procedure_marks class_marks virtual_name_marks program_marks inner_marks declaring of_segment of_mode_part of_specification of_specifier of_virtual of_heading declared_by declarations_of run_of_runs lookup shown_of_scopes encloser searched block_at_of_scopes declaration_from binding entry_of formals_of formal_of result_of source_of denoted type_at line_at level_of block_of block_around standard_name text_attribute sysin_attribute sysout_attribute signature is_real_function is_random_drawing is_file_or_layout is_environment_name undeclared program_events of_statement of_branch of_arm of_block of_whole of_class_body of_declaration accessible protects is_kind some_around_of some_around base brought_by level_shows shown_of is_detach ends_search outward virtual_of represented standard_at qualified_marks qualified_result has_level some_level_of found_at connection_at transfer_at is_attribute result_meant own_attribute is_simulation_block
+sub_no_simulation zero = refl
+sub_no_simulation (suc zero) = refl
+sub_no_simulation (suc (suc k)) = refl
+
 sub_no_attribute : (n : ℕ) → NoSetProcedure (entry_of sub_block.tables (number n))
 unfolding digits element_place making_array copying_array keeping_array finding_element giving_back handed_over stopping no_rule ticking taking entering having when computing choosing popping pop_many pop_plain pop_truth pop_integers pop_operands pop_text answering applying_one applying_two testing_step performing putting_back assigning making_text joining at_level kept_on pushing index level_of_machine cell_at jumping block_at own_block leaving with_result putting put_back is_text home_of first_cells leaving_of_meaning constants_of putting_of_steps back_of_steps text_constants text_constant is_variable stream_of own_result is_inside text is_class_free declared_at constant_of calculate compare compare_as_texts connect same_objects same_texts two_of one_of step_test take_integer take_character take_text take_nothing row_of standard_effect default_mode mode_allowed marked type_named result_named mode_named first_of_procedure first_of_class variable_marks array_marks parameter_marks moded_marks specified_marks headed_marks procedure_marks class_marks virtual_name_marks program_marks inner_marks declaring of_segment of_mode_part of_specification of_specifier of_virtual of_heading declared_by declarations_of run_of_runs lookup shown_of_scopes encloser searched block_at_of_scopes declaration_from binding entry_of formals_of formal_of result_of source_of denoted type_at line_at level_of block_of block_around standard_name text_attribute sysin_attribute sysout_attribute signature is_real_function is_random_drawing is_file_or_layout is_environment_name undeclared program_events of_statement of_branch of_arm of_block of_whole of_class_body of_declaration accessible protects is_kind some_around_of some_around base brought_by level_shows shown_of is_detach ends_search outward virtual_of represented standard_at qualified_marks qualified_result has_level some_level_of found_at connection_at transfer_at is_attribute result_meant own_attribute
 sub_no_attribute zero = tt
@@ -231,6 +241,10 @@ sub_typed = record {
   keeps_none = λ k result h a is e. absurd (sub_never k e);
   set_classes = λ k which e. absurd (no_set_text (text sub_block k) which (sub_no_set k) e);
   set_procedures = λ d name parameter result e named. absurd (no_set_procedure (entry_of sub_block.tables d) name parameter result (sub_no_attribute d.0) e);
+  simulations = λ k e. absurd (true_never (is_simulation_block sub_block.tables k) (sub_no_simulation k) e);
+  processes = λ c k solid e is. absurd (no_set_text (text sub_block k) standard.Process (sub_no_set k) is);
+  simulation_procedures = λ d name parameter result e named. absurd (no_set_procedure (entry_of sub_block.tables d) name parameter result (sub_no_attribute d.0) e);
+  bare = λ d row which at is. absurd (no_set_text (text sub_block row.block) which (sub_no_set row.block) is);
   no_set_block = λ k u which class es ds ss e at is. no_set_text (text sub_block u) which (sub_no_set u) is;
 }
 
@@ -278,7 +292,7 @@ f_outer = record {
   distinct = tt;
   made = f_made;
   own = λ d a. absurd (none_among d a);
-  statements = ((None, (((refl, refl), refl), ((refl, record { found = 0; around = itself; instance = refl; level = refl }, (refl, tt)), (refl, tt))), refl), ((None, (((refl, refl), refl), tt), refl), tt));
+  statements = ((None, (((refl, refl, refl), refl), ((refl, record { found = 0; around = itself; instance = refl; level = refl }, (refl, tt)), (refl, tt))), refl), ((None, (((refl, refl, refl), refl), tt), refl), tt));
 }
 
 f_texts : (k : ℕ) → TextHolds factorial_20 k (text factorial_20 k)
@@ -331,6 +345,12 @@ f_no_set zero = tt
 f_no_set (suc zero) = tt
 f_no_set (suc (suc k)) = tt
 
+f_no_simulation : (k : ℕ) → is_simulation_block factorial_20.tables k ≡ false
+unfolding digits element_place making_array copying_array keeping_array finding_element giving_back handed_over stopping no_rule ticking taking entering having when computing choosing popping pop_many pop_plain pop_truth pop_integers pop_operands pop_text answering applying_one applying_two testing_step performing putting_back assigning making_text joining at_level kept_on pushing index level_of_machine cell_at jumping block_at own_block leaving with_result putting put_back is_text home_of first_cells leaving_of_meaning constants_of putting_of_steps back_of_steps text_constants text_constant is_variable stream_of own_result is_inside text is_class_free declared_at constant_of calculate compare compare_as_texts connect same_objects same_texts two_of one_of step_test take_integer take_character take_text take_nothing row_of standard_effect default_mode mode_allowed marked type_named result_named mode_named first_of_procedure first_of_class variable_marks array_marks parameter_marks moded_marks specified_marks headed_marks procedure_marks class_marks virtual_name_marks program_marks inner_marks declaring of_segment of_mode_part of_specification of_specifier of_virtual of_heading declared_by declarations_of run_of_runs lookup shown_of_scopes encloser searched block_at_of_scopes declaration_from binding entry_of formals_of formal_of result_of source_of denoted type_at line_at level_of block_of block_around standard_name text_attribute sysin_attribute sysout_attribute signature is_real_function is_random_drawing is_file_or_layout is_environment_name undeclared program_events of_statement of_branch of_arm of_block of_whole of_class_body of_declaration accessible protects is_kind some_around_of some_around base brought_by level_shows shown_of is_detach ends_search outward virtual_of represented standard_at qualified_marks qualified_result has_level some_level_of found_at connection_at transfer_at is_attribute result_meant own_attribute is_simulation_block
+f_no_simulation zero = refl
+f_no_simulation (suc zero) = refl
+f_no_simulation (suc (suc k)) = refl
+
 f_no_attribute : (n : ℕ) → NoSetProcedure (entry_of factorial_20.tables (number n))
 unfolding digits element_place making_array copying_array keeping_array finding_element giving_back handed_over stopping no_rule ticking taking entering having when computing choosing popping pop_many pop_plain pop_truth pop_integers pop_operands pop_text answering applying_one applying_two testing_step performing putting_back assigning making_text joining at_level kept_on pushing index level_of_machine cell_at jumping block_at own_block leaving with_result putting put_back is_text home_of first_cells leaving_of_meaning constants_of putting_of_steps back_of_steps text_constants text_constant is_variable stream_of own_result is_inside text is_class_free declared_at constant_of calculate compare compare_as_texts connect same_objects same_texts two_of one_of step_test take_integer take_character take_text take_nothing row_of standard_effect default_mode mode_allowed marked type_named result_named mode_named first_of_procedure first_of_class variable_marks array_marks parameter_marks moded_marks specified_marks headed_marks procedure_marks class_marks virtual_name_marks program_marks inner_marks declaring of_segment of_mode_part of_specification of_specifier of_virtual of_heading declared_by declarations_of run_of_runs lookup shown_of_scopes encloser searched block_at_of_scopes declaration_from binding entry_of formals_of formal_of result_of source_of denoted type_at line_at level_of block_of block_around standard_name text_attribute sysin_attribute sysout_attribute signature is_real_function is_random_drawing is_file_or_layout is_environment_name undeclared program_events of_statement of_branch of_arm of_block of_whole of_class_body of_declaration accessible protects is_kind some_around_of some_around base brought_by level_shows shown_of is_detach ends_search outward virtual_of represented standard_at qualified_marks qualified_result has_level some_level_of found_at connection_at transfer_at is_attribute result_meant own_attribute
 f_no_attribute zero = tt
@@ -353,6 +373,10 @@ f_typed = record {
   keeps_none = λ k result h a is e. absurd (f_never k e);
   set_classes = λ k which e. absurd (no_set_text (text factorial_20 k) which (f_no_set k) e);
   set_procedures = λ d name parameter result e named. absurd (no_set_procedure (entry_of factorial_20.tables d) name parameter result (f_no_attribute d.0) e);
+  simulations = λ k e. absurd (true_never (is_simulation_block factorial_20.tables k) (f_no_simulation k) e);
+  processes = λ c k solid e is. absurd (no_set_text (text factorial_20 k) standard.Process (f_no_set k) is);
+  simulation_procedures = λ d name parameter result e named. absurd (no_set_procedure (entry_of factorial_20.tables d) name parameter result (f_no_attribute d.0) e);
+  bare = λ d row which at is. absurd (no_set_text (text factorial_20 row.block) which (f_no_set row.block) is);
   no_set_block = λ k u which class es ds ss e at is. no_set_text (text factorial_20 u) which (f_no_set u) is;
 }
 
@@ -381,9 +405,9 @@ l_outer = record {
       kind.Integer,
       (refl, record { found = 0; around = itself; instance = refl; level = refl }),
       ((refl, refl, (refl, refl), refl), (refl, (((kind.Integer, kind.Integer, (refl, refl), refl, (refl, record { found = 0; around = itself; instance = refl; level = refl }), refl), (kind.Integer, kind.Boolean, (tt, refl), refl, (refl, record { found = 0; around = itself; instance = refl; level = refl }), refl)), tt))),
-      (None, (((refl, refl), refl), ((refl, record { found = 0; around = itself; instance = refl; level = refl }), (refl, tt))), refl),
+      (None, (((refl, refl, refl), refl), ((refl, record { found = 0; around = itself; instance = refl; level = refl }), (refl, tt))), refl),
     ),
-    ((None, (((refl, refl), refl), tt), refl), tt),
+    ((None, (((refl, refl, refl), refl), tt), refl), tt),
   );
 }
 
@@ -425,6 +449,11 @@ unfolding digits element_place making_array copying_array keeping_array finding_
 l_no_set zero = tt
 l_no_set (suc k) = tt
 
+l_no_simulation : (k : ℕ) → is_simulation_block for_list.tables k ≡ false
+unfolding digits element_place making_array copying_array keeping_array finding_element giving_back handed_over stopping no_rule ticking taking entering having when computing choosing popping pop_many pop_plain pop_truth pop_integers pop_operands pop_text answering applying_one applying_two testing_step performing putting_back assigning making_text joining at_level kept_on pushing index level_of_machine cell_at jumping block_at own_block leaving with_result putting put_back is_text home_of first_cells leaving_of_meaning constants_of putting_of_steps back_of_steps text_constants text_constant is_variable stream_of own_result is_inside text is_class_free declared_at constant_of calculate compare compare_as_texts connect same_objects same_texts two_of one_of step_test take_integer take_character take_text take_nothing row_of standard_effect default_mode mode_allowed marked type_named result_named mode_named first_of_procedure first_of_class variable_marks array_marks parameter_marks moded_marks specified_marks headed_marks procedure_marks class_marks virtual_name_marks program_marks inner_marks declaring of_segment of_mode_part of_specification of_specifier of_virtual of_heading declared_by declarations_of run_of_runs lookup shown_of_scopes encloser searched block_at_of_scopes declaration_from binding entry_of formals_of formal_of result_of source_of denoted type_at line_at level_of block_of block_around standard_name text_attribute sysin_attribute sysout_attribute signature is_real_function is_random_drawing is_file_or_layout is_environment_name undeclared program_events of_statement of_branch of_arm of_block of_whole of_class_body of_declaration accessible protects is_kind some_around_of some_around base brought_by level_shows shown_of is_detach ends_search outward virtual_of represented standard_at qualified_marks qualified_result has_level some_level_of found_at connection_at transfer_at is_attribute result_meant own_attribute is_simulation_block
+l_no_simulation zero = refl
+l_no_simulation (suc k) = refl
+
 l_no_attribute : (n : ℕ) → NoSetProcedure (entry_of for_list.tables (number n))
 unfolding digits element_place making_array copying_array keeping_array finding_element giving_back handed_over stopping no_rule ticking taking entering having when computing choosing popping pop_many pop_plain pop_truth pop_integers pop_operands pop_text answering applying_one applying_two testing_step performing putting_back assigning making_text joining at_level kept_on pushing index level_of_machine cell_at jumping block_at own_block leaving with_result putting put_back is_text home_of first_cells leaving_of_meaning constants_of putting_of_steps back_of_steps text_constants text_constant is_variable stream_of own_result is_inside text is_class_free declared_at constant_of calculate compare compare_as_texts connect same_objects same_texts two_of one_of step_test take_integer take_character take_text take_nothing row_of standard_effect default_mode mode_allowed marked type_named result_named mode_named first_of_procedure first_of_class variable_marks array_marks parameter_marks moded_marks specified_marks headed_marks procedure_marks class_marks virtual_name_marks program_marks inner_marks declaring of_segment of_mode_part of_specification of_specifier of_virtual of_heading declared_by declarations_of run_of_runs lookup shown_of_scopes encloser searched block_at_of_scopes declaration_from binding entry_of formals_of formal_of result_of source_of denoted type_at line_at level_of block_of block_around standard_name text_attribute sysin_attribute sysout_attribute signature is_real_function is_random_drawing is_file_or_layout is_environment_name undeclared program_events of_statement of_branch of_arm of_block of_whole of_class_body of_declaration accessible protects is_kind some_around_of some_around base brought_by level_shows shown_of is_detach ends_search outward virtual_of represented standard_at qualified_marks qualified_result has_level some_level_of found_at connection_at transfer_at is_attribute result_meant own_attribute
 l_no_attribute zero = tt
@@ -446,6 +475,10 @@ l_typed = record {
   keeps_none = λ k result h a is e. absurd (l_never k e);
   set_classes = λ k which e. absurd (no_set_text (text for_list k) which (l_no_set k) e);
   set_procedures = λ d name parameter result e named. absurd (no_set_procedure (entry_of for_list.tables d) name parameter result (l_no_attribute d.0) e);
+  simulations = λ k e. absurd (true_never (is_simulation_block for_list.tables k) (l_no_simulation k) e);
+  processes = λ c k solid e is. absurd (no_set_text (text for_list k) standard.Process (l_no_set k) is);
+  simulation_procedures = λ d name parameter result e named. absurd (no_set_procedure (entry_of for_list.tables d) name parameter result (l_no_attribute d.0) e);
+  bare = λ d row which at is. absurd (no_set_text (text for_list row.block) which (l_no_set row.block) is);
   no_set_block = λ k u which class es ds ss e at is. no_set_text (text for_list u) which (l_no_set u) is;
 }
 
@@ -471,7 +504,7 @@ t_outer = record {
   distinct = tt;
   made = t_made;
   own = λ d a. absurd (none_among d a);
-  statements = ((kind.Text, ((refl, record { found = 0; around = itself; instance = refl; level = refl }), tt), (((refl, refl), refl), (refl, tt))), ((None, ((refl, record { found = 0; around = itself; instance = refl; level = refl }), (((refl, refl), refl), kind.Integer ∷ [], refl, ((refl, refl), tt))), refl), ((kind.Text, ((refl, record { found = 0; around = itself; instance = refl; level = refl }), tt), ((refl, record { found = 0; around = itself; instance = refl; level = refl }), (((refl, refl), refl), kind.Integer ∷ kind.Integer ∷ [], refl, (refl, (refl, tt))))), ((kind.Text, ((refl, (refl, record { found = 0; around = itself; instance = refl; level = refl })), tt), (_, refl, refl)), ((None, (((refl, refl), refl), ((refl, record { found = 0; around = itself; instance = refl; level = refl }), tt)), refl), ((None, (((refl, refl), refl), (refl, tt)), refl), ((None, (((refl, refl), refl), (((refl, record { found = 0; around = itself; instance = refl; level = refl }), (((refl, refl), refl), [], refl, tt)), (refl, tt))), refl), ((None, (((refl, refl), refl), (refl, tt)), refl), ((None, (((refl, refl), refl), ((kind.Text, kind.Text, (refl, refl), refl, (((refl, refl), refl), (((refl, record { found = 0; around = itself; instance = refl; level = refl }), (((refl, refl), refl), [], refl, tt)), tt)), (_, refl, refl)), tt)), refl), ((None, (((refl, refl), refl), tt), refl), tt))))))))));
+  statements = ((kind.Text, ((refl, record { found = 0; around = itself; instance = refl; level = refl }), tt), (((refl, refl, refl), refl), (refl, tt))), ((None, ((refl, record { found = 0; around = itself; instance = refl; level = refl }), (((refl, refl, refl), refl), kind.Integer ∷ [], refl, ((refl, refl), tt))), refl), ((kind.Text, ((refl, record { found = 0; around = itself; instance = refl; level = refl }), tt), ((refl, record { found = 0; around = itself; instance = refl; level = refl }), (((refl, refl, refl), refl), kind.Integer ∷ kind.Integer ∷ [], refl, (refl, (refl, tt))))), ((kind.Text, ((refl, (refl, record { found = 0; around = itself; instance = refl; level = refl })), tt), (_, refl, refl)), ((None, (((refl, refl, refl), refl), ((refl, record { found = 0; around = itself; instance = refl; level = refl }), tt)), refl), ((None, (((refl, refl, refl), refl), (refl, tt)), refl), ((None, (((refl, refl, refl), refl), (((refl, record { found = 0; around = itself; instance = refl; level = refl }), (((refl, refl, refl), refl), [], refl, tt)), (refl, tt))), refl), ((None, (((refl, refl, refl), refl), (refl, tt)), refl), ((None, (((refl, refl, refl), refl), ((kind.Text, kind.Text, (refl, refl), refl, (((refl, refl, refl), refl), (((refl, record { found = 0; around = itself; instance = refl; level = refl }), (((refl, refl, refl), refl), [], refl, tt)), tt)), (_, refl, refl)), tt)), refl), ((None, (((refl, refl, refl), refl), tt), refl), tt))))))))));
 }
 
 t_texts : (k : ℕ) → TextHolds parts k (text parts k)
@@ -514,6 +547,11 @@ unfolding digits element_place making_array copying_array keeping_array finding_
 t_no_set zero = tt
 t_no_set (suc k) = tt
 
+t_no_simulation : (k : ℕ) → is_simulation_block parts.tables k ≡ false
+unfolding digits element_place making_array copying_array keeping_array finding_element giving_back handed_over stopping no_rule ticking taking entering having when computing choosing popping pop_many pop_plain pop_truth pop_integers pop_operands pop_text answering applying_one applying_two testing_step performing putting_back assigning making_text joining at_level kept_on pushing index level_of_machine cell_at jumping block_at own_block leaving with_result putting put_back is_text home_of first_cells leaving_of_meaning constants_of putting_of_steps back_of_steps text_constants text_constant is_variable stream_of own_result is_inside text is_class_free declared_at constant_of calculate compare compare_as_texts connect same_objects same_texts two_of one_of step_test take_integer take_character take_text take_nothing row_of standard_effect default_mode mode_allowed marked type_named result_named mode_named first_of_procedure first_of_class variable_marks array_marks parameter_marks moded_marks specified_marks headed_marks procedure_marks class_marks virtual_name_marks program_marks inner_marks declaring of_segment of_mode_part of_specification of_specifier of_virtual of_heading declared_by declarations_of run_of_runs lookup shown_of_scopes encloser searched block_at_of_scopes declaration_from binding entry_of formals_of formal_of result_of source_of denoted type_at line_at level_of block_of block_around standard_name text_attribute sysin_attribute sysout_attribute signature is_real_function is_random_drawing is_file_or_layout is_environment_name undeclared program_events of_statement of_branch of_arm of_block of_whole of_class_body of_declaration accessible protects is_kind some_around_of some_around base brought_by level_shows shown_of is_detach ends_search outward virtual_of represented standard_at qualified_marks qualified_result has_level some_level_of found_at connection_at transfer_at is_attribute result_meant own_attribute is_simulation_block
+t_no_simulation zero = refl
+t_no_simulation (suc k) = refl
+
 t_no_attribute : (n : ℕ) → NoSetProcedure (entry_of parts.tables (number n))
 unfolding digits element_place making_array copying_array keeping_array finding_element giving_back handed_over stopping no_rule ticking taking entering having when computing choosing popping pop_many pop_plain pop_truth pop_integers pop_operands pop_text answering applying_one applying_two testing_step performing putting_back assigning making_text joining at_level kept_on pushing index level_of_machine cell_at jumping block_at own_block leaving with_result putting put_back is_text home_of first_cells leaving_of_meaning constants_of putting_of_steps back_of_steps text_constants text_constant is_variable stream_of own_result is_inside text is_class_free declared_at constant_of calculate compare compare_as_texts connect same_objects same_texts two_of one_of step_test take_integer take_character take_text take_nothing row_of standard_effect default_mode mode_allowed marked type_named result_named mode_named first_of_procedure first_of_class variable_marks array_marks parameter_marks moded_marks specified_marks headed_marks procedure_marks class_marks virtual_name_marks program_marks inner_marks declaring of_segment of_mode_part of_specification of_specifier of_virtual of_heading declared_by declarations_of run_of_runs lookup shown_of_scopes encloser searched block_at_of_scopes declaration_from binding entry_of formals_of formal_of result_of source_of denoted type_at line_at level_of block_of block_around standard_name text_attribute sysin_attribute sysout_attribute signature is_real_function is_random_drawing is_file_or_layout is_environment_name undeclared program_events of_statement of_branch of_arm of_block of_whole of_class_body of_declaration accessible protects is_kind some_around_of some_around base brought_by level_shows shown_of is_detach ends_search outward virtual_of represented standard_at qualified_marks qualified_result has_level some_level_of found_at connection_at transfer_at is_attribute result_meant own_attribute
 t_no_attribute zero = tt
@@ -536,6 +574,10 @@ t_typed = record {
   keeps_none = λ k result h a is e. absurd (t_never k e);
   set_classes = λ k which e. absurd (no_set_text (text parts k) which (t_no_set k) e);
   set_procedures = λ d name parameter result e named. absurd (no_set_procedure (entry_of parts.tables d) name parameter result (t_no_attribute d.0) e);
+  simulations = λ k e. absurd (true_never (is_simulation_block parts.tables k) (t_no_simulation k) e);
+  processes = λ c k solid e is. absurd (no_set_text (text parts k) standard.Process (t_no_set k) is);
+  simulation_procedures = λ d name parameter result e named. absurd (no_set_procedure (entry_of parts.tables d) name parameter result (t_no_attribute d.0) e);
+  bare = λ d row which at is. absurd (no_set_text (text parts row.block) which (t_no_set row.block) is);
   no_set_block = λ k u which class es ds ss e at is. no_set_text (text parts u) which (t_no_set u) is;
 }
 
@@ -565,7 +607,7 @@ v_outer = record {
   distinct = ((λ a. none_among (number 2) a), tt);
   made = v_made;
   own = λ d a. later a;
-  statements = ((None, (tt, record { found = 0; around = itself; instance = refl; level = refl }, ((refl, record { found = 0; around = itself; instance = refl; level = refl }), tt)), refl), ((None, (((refl, refl), refl), ((refl, record { found = 0; around = itself; instance = refl; level = refl }, (refl, tt)), (refl, tt))), refl), ((None, (((refl, refl), refl), tt), refl), tt)));
+  statements = ((None, (tt, record { found = 0; around = itself; instance = refl; level = refl }, ((refl, record { found = 0; around = itself; instance = refl; level = refl }), tt)), refl), ((None, (((refl, refl, refl), refl), ((refl, record { found = 0; around = itself; instance = refl; level = refl }, (refl, tt)), (refl, tt))), refl), ((None, (((refl, refl, refl), refl), tt), refl), tt)));
 }
 
 v_texts : (k : ℕ) → TextHolds value_array k (text value_array k)
@@ -620,6 +662,12 @@ v_no_set zero = tt
 v_no_set (suc zero) = tt
 v_no_set (suc (suc k)) = tt
 
+v_no_simulation : (k : ℕ) → is_simulation_block value_array.tables k ≡ false
+unfolding digits element_place making_array copying_array keeping_array finding_element giving_back handed_over stopping no_rule ticking taking entering having when computing choosing popping pop_many pop_plain pop_truth pop_integers pop_operands pop_text answering applying_one applying_two testing_step performing putting_back assigning making_text joining at_level kept_on pushing index level_of_machine cell_at jumping block_at own_block leaving with_result putting put_back is_text home_of first_cells leaving_of_meaning constants_of putting_of_steps back_of_steps text_constants text_constant is_variable stream_of own_result is_inside text is_class_free declared_at constant_of calculate compare compare_as_texts connect same_objects same_texts two_of one_of step_test take_integer take_character take_text take_nothing row_of standard_effect default_mode mode_allowed marked type_named result_named mode_named first_of_procedure first_of_class variable_marks array_marks parameter_marks moded_marks specified_marks headed_marks procedure_marks class_marks virtual_name_marks program_marks inner_marks declaring of_segment of_mode_part of_specification of_specifier of_virtual of_heading declared_by declarations_of run_of_runs lookup shown_of_scopes encloser searched block_at_of_scopes declaration_from binding entry_of formals_of formal_of result_of source_of denoted type_at line_at level_of block_of block_around standard_name text_attribute sysin_attribute sysout_attribute signature is_real_function is_random_drawing is_file_or_layout is_environment_name undeclared program_events of_statement of_branch of_arm of_block of_whole of_class_body of_declaration accessible protects is_kind some_around_of some_around base brought_by level_shows shown_of is_detach ends_search outward virtual_of represented standard_at qualified_marks qualified_result has_level some_level_of found_at connection_at transfer_at is_attribute result_meant own_attribute is_simulation_block
+v_no_simulation zero = refl
+v_no_simulation (suc zero) = refl
+v_no_simulation (suc (suc k)) = refl
+
 v_no_attribute : (n : ℕ) → NoSetProcedure (entry_of value_array.tables (number n))
 unfolding digits element_place making_array copying_array keeping_array finding_element giving_back handed_over stopping no_rule ticking taking entering having when computing choosing popping pop_many pop_plain pop_truth pop_integers pop_operands pop_text answering applying_one applying_two testing_step performing putting_back assigning making_text joining at_level kept_on pushing index level_of_machine cell_at jumping block_at own_block leaving with_result putting put_back is_text home_of first_cells leaving_of_meaning constants_of putting_of_steps back_of_steps text_constants text_constant is_variable stream_of own_result is_inside text is_class_free declared_at constant_of calculate compare compare_as_texts connect same_objects same_texts two_of one_of step_test take_integer take_character take_text take_nothing row_of standard_effect default_mode mode_allowed marked type_named result_named mode_named first_of_procedure first_of_class variable_marks array_marks parameter_marks moded_marks specified_marks headed_marks procedure_marks class_marks virtual_name_marks program_marks inner_marks declaring of_segment of_mode_part of_specification of_specifier of_virtual of_heading declared_by declarations_of run_of_runs lookup shown_of_scopes encloser searched block_at_of_scopes declaration_from binding entry_of formals_of formal_of result_of source_of denoted type_at line_at level_of block_of block_around standard_name text_attribute sysin_attribute sysout_attribute signature is_real_function is_random_drawing is_file_or_layout is_environment_name undeclared program_events of_statement of_branch of_arm of_block of_whole of_class_body of_declaration accessible protects is_kind some_around_of some_around base brought_by level_shows shown_of is_detach ends_search outward virtual_of represented standard_at qualified_marks qualified_result has_level some_level_of found_at connection_at transfer_at is_attribute result_meant own_attribute
 v_no_attribute zero = tt
@@ -643,5 +691,9 @@ v_typed = record {
   keeps_none = λ k result h a is e. absurd (v_never k e);
   set_classes = λ k which e. absurd (no_set_text (text value_array k) which (v_no_set k) e);
   set_procedures = λ d name parameter result e named. absurd (no_set_procedure (entry_of value_array.tables d) name parameter result (v_no_attribute d.0) e);
+  simulations = λ k e. absurd (true_never (is_simulation_block value_array.tables k) (v_no_simulation k) e);
+  processes = λ c k solid e is. absurd (no_set_text (text value_array k) standard.Process (v_no_set k) is);
+  simulation_procedures = λ d name parameter result e named. absurd (no_set_procedure (entry_of value_array.tables d) name parameter result (v_no_attribute d.0) e);
+  bare = λ d row which at is. absurd (no_set_text (text value_array row.block) which (v_no_set row.block) is);
   no_set_block = λ k u which class es ds ss e at is. no_set_text (text value_array u) which (v_no_set u) is;
 }

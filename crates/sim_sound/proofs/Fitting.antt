@@ -1,21 +1,23 @@
 -- What fits where something is wanted. A class is one of its own levels.
 use Rattle.std.proofs.Common.{◌≡◌, ℕ, zero, suc, Bool, true, false, List, [], ◌∷◌, length, Option, Some, None, refl, sym, ap, ◌∙◌, subst, arith}
-use Rattle.std.specs.Prelude.{◌||◌, not, nat_eq, if◌then◌else◌, slice_get}
+use Rattle.std.specs.Prelude.{◌+◌, ◌||◌, not, nat_eq, if◌then◌else◌, slice_get}
 use Rattle.sim_scope.specs.Levels.{has_level, some_level_of}
 use Rattle.sim_scope.specs.Source.{Source}
 use Rattle.sim_scope.specs.Tables.{BlockOf}
 use Rattle.sim_values.specs.declared.kind.Kind.{Kind}
 use Rattle.sim_values.specs.declared.kind.Kind.TheVariants as kind
-use Rattle.sim_values.specs.Plain.{Character, Integer, Nothing, Object, Plain, Text, Truth, kind_of}
+use Rattle.sim_values.specs.Plain.{Character, Integer, MainOf, Nothing, Object, Plain, Text, Truth, kind_of}
 use Rattle.sim_code.specs.Instances.{Instance, live, unless_given}
-use Rattle.sim_meaning.specs.Levels.{has_levels, is_in, text_at, text_in, text_is_in}
+use Rattle.sim_meaning.specs.Attributes.{is_connection}
+use Rattle.sim_meaning.specs.Levels.{has_levels, is_in, process_at, process_in, stands_in, text_at, text_in, text_is_in}
 use Rattle.sim_meaning.specs.Pending.{Held, Instances, Of, Val}
 use Rattle.sim_meaning.specs.Texts.{has_class_in, is_class_free, text}
 use Rattle.sim_sound.specs.Held.{ArrayOf, Fits, Holds, Refers, Simply}
 use Rattle.sim_sound.specs.Typed.{Typed}
 use Rattle.sim_sound.proofs.Prefixes.{LevelOf, level_has, level_has_levels, level_is, level_then}
+use Rattle.sim_sound.proofs.ProcessClasses.{process_class_is}
 use Rattle.sim_sound.proofs.Running.{StoreFine}
-use Rattle.sim_sound.proofs.Sound.{AllArrays, IsPlain, Knows, NamesObject, ObjectOf, PlainFine, ReferenceFine, ValFine, Whole, own_text, staying}
+use Rattle.sim_sound.proofs.Sound.{AllArrays, IsPlain, Knows, MainIn, NamesObject, ObjectOf, PlainFine, ReferenceFine, Simulates, ValFine, Whole, own_text, staying}
 
 -- ---- levels
 
@@ -88,6 +90,17 @@ module _ (s : Source) (m : Instances) where
     made = p.made;
   }
 
+  -- the class `process` of a simulation block
+  pub process_is : Typed s → (b k : ℕ) → Simulates s m b k → process_at s m b ≡ Some (k + 4)
+  process_is ok b k p =
+      let x = p.lasts in
+      ap (process_in s) (text_there b x.now x.lives) ∙ process_class_is s ok (x.now).text k x.solid x.level p.simulates
+
+  -- a main program that is in a class is one of the class
+  pub main_of_class : Typed s → (b k u : ℕ) → Simulates s m b k → stands_in s m u (MainOf b) ≡ true → MainIn s m b u
+  unfolding stands_in
+  main_of_class ok b k u p e = record { level = k; block = p; levels = sym (ap (text_is_in s u) (process_is ok b k p)) ∙ e }
+
   -- an object is known to all instances
   pub knows_object : (i j c : ℕ) → ObjectOf s m j c → Knows m i j
   knows_object i j c p = staying (record { now = p.now; lives = p.lives; stays = p.stays })
@@ -109,6 +122,13 @@ module _ (s : Source) (ok : Typed s) (o : AllArrays) (m : Instances) (store : St
     made = p.made;
   }
 
+  pub main_up : (b c u : ℕ) → MainIn s m b c → has_level s.tables c u ≡ true → MainIn s m b u
+  main_up b c u p e = record {
+    level = p.level;
+    block = p.block;
+    levels = level_has s ok (p.level + 4) u (ap is_connection (ok.simulations p.level (p.block).simulates).process_is) (level_then s (level_is s (p.level + 4) c p.levels) (level_is s c u e));
+  }
+
   -- these have levels
   pub object_levels : (j c u : ℕ) → ObjectOf s m j c → has_level s.tables c u ≡ true → has_levels (text s u) ≡ true
   object_levels j c u p e = level_has_levels s ok p.object (object_level j c u p e)
@@ -126,6 +146,7 @@ module _ (s : Source) (ok : Typed s) (o : AllArrays) (m : Instances) (store : St
   pub reference_up : (c u : ℕ) (p : Plain) → has_level s.tables c u ≡ true → ReferenceFine s m c p → ReferenceFine s m u p
   reference_up c u Nothing e a = tt
   reference_up c u (Object j) e a = object_up j c u a e
+  reference_up c u (MainOf b) e a = main_up b c u a e
   reference_up c u (Integer z) e a = absurd a
   reference_up c u (Truth z) e a = absurd a
   reference_up c u (Character z) e a = absurd a
@@ -134,6 +155,7 @@ module _ (s : Source) (ok : Typed s) (o : AllArrays) (m : Instances) (store : St
   pub reference_known : (c : ℕ) (p : Plain) → ReferenceFine s m c p → PlainFine s m (Simply kind.Reference) p
   reference_known c Nothing a = (refl, tt)
   reference_known c (Object j) a = (refl, (c, a))
+  reference_known c (MainOf b) a = (refl, (a.level, a.block))
   reference_known c (Integer z) a = absurd a
   reference_known c (Truth z) a = absurd a
   reference_known c (Character z) a = absurd a
@@ -168,6 +190,7 @@ module _ (s : Source) (ok : Typed s) (o : AllArrays) (m : Instances) (store : St
 
 pub known_by_kind : (s : Source) (m : Instances) (k : Kind) (p : Plain) → kind_of p ≡ k → (k ≡ kind.Reference → ⊥) → NamesObject s m p
 known_by_kind s m k (Object j) e other = absurd (other (sym e))
+known_by_kind s m k (MainOf b) e other = absurd (other (sym e))
 known_by_kind s m k Nothing e other = tt
 known_by_kind s m k (Integer z) e other = tt
 known_by_kind s m k (Truth z) e other = tt

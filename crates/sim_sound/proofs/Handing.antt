@@ -35,7 +35,7 @@ unfolding handed_over
 handed_same n [] o p e = e
 handed_same n (a ∷ ns) o p e = handed_same n ns (owned_by n (slice_get o.arrays a) o a) (owned_by n (slice_get p.arrays a) p a) (owned_same n a (slice_get o.arrays a) o p e ∙ ap (λ z. (owned_by n (slice_get z a) p a).arrays) e)
 
--- the linkages stay as they are
+-- the linkages and the simulation blocks stay as they are
 owned_members : (n a : ℕ) (x : Option OneArray) (o : World) → (owned_by n x o a).members ≡ o.members
 owned_members n a None o = refl
 owned_members n a (Some x) o = refl
@@ -44,6 +44,15 @@ pub handed_members : (n : ℕ) (ns : List ℕ) (o : World) → (handed_over n ns
 unfolding handed_over
 handed_members n [] o = refl
 handed_members n (a ∷ ns) o = handed_members n ns (owned_by n (slice_get o.arrays a) o a) ∙ owned_members n a (slice_get o.arrays a) o
+
+owned_simulations : (n a : ℕ) (x : Option OneArray) (o : World) → (owned_by n x o a).simulations ≡ o.simulations
+owned_simulations n a None o = refl
+owned_simulations n a (Some x) o = refl
+
+pub handed_simulations : (n : ℕ) (ns : List ℕ) (o : World) → (handed_over n ns o).simulations ≡ o.simulations
+unfolding handed_over
+handed_simulations n [] o = refl
+handed_simulations n (a ∷ ns) o = handed_simulations n ns (owned_by n (slice_get o.arrays a) o a) ∙ owned_simulations n a (slice_get o.arrays a) o
 
 -- ---- what is in hand for a formal parameter, and what its cell holds
 

@@ -23,7 +23,7 @@ lives_with s o m store (suc n) j t todo lt p = by_out (λ e u less whole. lives_
     by_out inner (within {e = e} {u = u} is around less near whole) = lives_inside p.lives is (inner e u less whole)
 
 pub fine_sane : (s : Source) (o : AllArrays) (c : Configuration) → Fine s o c → Sane c
-fine_sane s o c (opens none empty stand unseen unnoted unmade) = by_none c.chain none
+fine_sane s o c (opens none empty stand unseen unnoted unmade unscheduled) = by_none c.chain none
   where
     by_none : (chain : List Activation) → chain ≡ [] → SaneOn c.memory chain
     by_none [] e = tt

@@ -6,9 +6,10 @@ use Rattle.sim_chains.specs.Components.{AttachedObject, DetachedObject, NoObject
 use Rattle.sim_scope.specs.Levels.{has_level}
 use Rattle.sim_scope.specs.Source.{Source}
 use Rattle.sim_values.specs.declared.kind.Kind.{Kind}
-use Rattle.sim_values.specs.Plain.{Character, Integer, Nothing, Object, Plain, Text, Truth}
+use Rattle.sim_values.specs.Plain.{Character, Integer, MainOf, Nothing, Object, Plain, Text, Truth}
 use Rattle.sim_code.specs.Instances.{CellPlace, ElementPlace, ImagePlace, Instance, ends_in, is_given_at_end, live, unless_given}
-use Rattle.sim_meaning.specs.Pending.{SetOf, Activation, Address, ArrayValue, AttributeOf, BackOp, BranchOp, CallOf, Cell, ChooseOp, ConnectOp, CopyOf, Declared, Do, Either, ElementOf, ElementsOp, EndBlock, EndLevel, EndObject, EndPrefixed, EndProcedure, EndProgram, EnterOp, Eval, Exec, Execs, FitsOf, Further, Given, GiveOp, Held, IfOp, ImageOf, InnerOp, Instances, Item, Joined, KeptOf, Key, Level, Link, MemberOf, NewOf, NoTerm, NotNoneOf, Of, One, Op, PlaceOf, PrefixedOp, ProcedureValue, QuaOf, QualifiedElementOf, QualifiedPlaceOf, RaiseOp, RemoteCallOf, ShareOp, StandardOf, StepTestOp, StoreOp, Target, Term, Terms, TestOp, ToAddress, ToCell, ToPlace, ToReference, ToReferenceAt, ToText, ToTextAt, ToTextOf, TransferOf, Tree, Two, Unbuilt, Val, ValueAt, WhenOp, WhileElementOp, held}
+use Rattle.sim_meaning.specs.Pending.{SetOf, Activation, Address, ArrayValue, AttributeOf, BackOp, BlockOp, BranchOp, CallOf, Cell, ChooseOp, ConnectOp, CopyOf, Declared, Do, Either, ElementOf, ElementsOp, EndBlock, EndLevel, EndObject, EndPrefixed, EndProcedure, EndProgram, EnterOp, Eval, Exec, Execs, FitsOf, Further, Given, GiveOp, Held, IfOp, ImageOf, InnerOp, Instances, Item, Joined, KeptOf, Key, Level, Link, MemberOf, NewOf, NoTerm, NotNoneOf, Of, One, Op, PlaceOf, PrefixedOp, ProcedureValue, ProcessOf, QuaOf, QualifiedElementOf, QualifiedPlaceOf, RaiseOp, RemoteCallOf, ShareOp, SimulationOf, StandardOf, StepTestOp, StoreOp, Target, Term, Terms, TestOp, ToAddress, ToCell, ToPlace, ToReference, ToReferenceAt, ToText, ToTextAt, ToTextOf, TransferOf, Tree, Two, Unbuilt, Val, ValueAt, WhenOp, WhileElementOp, held}
+use Rattle.sim_meaning.specs.Attributes.{is_connection}
 use Rattle.sim_meaning.specs.Levels.{has_levels}
 use Rattle.sim_meaning.specs.Sane.{AllKept, AllOf, KeptOf as OnKept}
 use Rattle.sim_meaning.specs.Texts.{text}
@@ -16,7 +17,7 @@ use Rattle.sim_sound.specs.Held.{ArrayOf, Holds, Refers, Simply, key_holds}
 use Rattle.sim_sound.proofs.Lists.{there_is}
 use Rattle.sim_sound.proofs.Prefixes.{LevelOf}
 use Rattle.sim_sound.proofs.Running.{ActFine, ChainFine, ChainOn, Expected, IsRelease, NoObjectStands, ObjectStands, Shown, StandsFine, StandsOn, WorkFine, awaited, first_over, is_resumed, resumes}
-use Rattle.sim_sound.proofs.Sound.{ObjectIn, AddressOf, AllArrays, ArrayFine, Beneath, CellFine, CellIs, CellTarget, CellsFine, Component, Copied, CopyFine, DeepFine, ElementFine, Enclosed, Generated, HandFine, HandsFine, ImageAddress, InstanceFine, IntegersFine, KeptFine, KeyAmong, Kinds, Knows, Lasting, LevelsFine, LinkTo, NamesObject, Near, ObjectOf, OpFine, OperandsFine, Outward, PlainFine, Present, ReferenceAddress, ReferenceFine, Site, Sited, StandsFor, Stays, StoreOpFine, Suspended, Takes, TargetFine, TargetsFine, TermFine, TermsFine, ValFine, Value, VariableFine, Waits, alone, array_stored, at_itself, connected, in_connection, in_instance, key_of, near_below, near_staying, no_further, one_lower, one_out, outward, own_made, own_text, staying, value_stored, within}
+use Rattle.sim_sound.proofs.Sound.{ObjectIn, AddressOf, AllArrays, ArrayFine, Beneath, BlockIn, CellFine, CellIs, CellTarget, CellsFine, Component, Copied, CopyFine, DeepFine, ElementFine, Enclosed, Generated, HandFine, HandsFine, ImageAddress, InstanceFine, IntegersFine, KeptFine, KeyAmong, Kinds, Knows, Lasting, Lasts, LevelsFine, LinkTo, MainIn, NamesObject, Near, ObjectOf, OpFine, OperandsFine, Outward, PlainFine, Present, ReferenceAddress, ReferenceFine, Simulates, Site, Sited, StandsFor, Stays, StoreOpFine, Suspended, Takes, TargetFine, TargetsFine, TermFine, TermsFine, ValFine, Value, VariableFine, Waits, alone, array_stored, at_itself, connected, in_connection, in_instance, key_of, near_below, near_staying, no_further, one_lower, one_out, outward, own_made, own_text, staying, value_stored, within}
 
 -- an instance that is as it was, but for values of cells, and cells of connections that are new
 pub record Grown (x y : Instance (List Held)) : Type 0 where
@@ -139,15 +140,28 @@ module _ (s : Source) (o : AllArrays) (m : Instances) (o' : AllArrays) (m' : Ins
         made = λ u at d k holds there none. p.made u (subst (λ z. LevelOf s z u) (y.grown).text at) d k holds there ((y.grown).holds (Declared d.0) none);
       }
 
+  pub lasts_later : (j u : ℕ) → Lasts s m j u → Lasts s m' j u
+  lasts_later j u p =
+      let y = e.there j p.now (e.stays j (record { now = p.now; lives = p.lives; stays = p.stays })) p.lives in
+      record { now = y.now; lives = y.lives; solid = ap (λ z. is_connection (text s z)) (y.grown).text ∙ p.solid; level = subst (λ z. LevelOf s z u) (sym (y.grown).text) p.level; stays = flags_grown p.now y.now y.grown ∙ p.stays }
+
+  pub simulates_later : (b k : ℕ) → Simulates s m b k → Simulates s m' b k
+  simulates_later b k p = record { lasts = lasts_later b k p.lasts; simulates = p.simulates }
+
+  pub main_later : (b class : ℕ) → MainIn s m b class → MainIn s m' b class
+  main_later b class p = record { level = p.level; block = simulates_later b p.level p.block; levels = p.levels }
+
   -- ---- values and cells
 
   reference_later : (c : ℕ) (p : Plain) → ReferenceFine s m c p → ReferenceFine s m' c p
   reference_later c Nothing a = a
   reference_later c (Object i) a = object_later i c a
+  reference_later c (MainOf i) a = main_later i c a
   reference_later c _ a = absurd a
 
   names_later : (p : Plain) → NamesObject s m p → NamesObject s m' p
   names_later (Object i) a = (a.0, object_later i a.0 a.1)
+  names_later (MainOf i) a = (a.0, simulates_later i a.0 a.1)
   names_later _ a = a
 
   pub plain_later : (h : Holds) (p : Plain) → PlainFine s m h p → PlainFine s m' h p
@@ -212,6 +226,7 @@ module _ (s : Source) (o : AllArrays) (m : Instances) (o' : AllArrays) (m' : Ins
   hand_later j ok (Lasting h) _ a = absurd a
   hand_later j ok (Copied k) v a = absurd a
   hand_later j ok Component (Of (Object n)) a = (a.0, object_later n a.0 a.1)
+  hand_later j ok Component (Of (MainOf n)) a = (a.0, simulates_later n a.0 a.1)
   hand_later j ok Component (Of Nothing) a = absurd a
   hand_later j ok Component (Of (Integer z)) a = absurd a
   hand_later j ok Component (Of (Truth z)) a = absurd a
@@ -219,6 +234,7 @@ module _ (s : Source) (o : AllArrays) (m : Instances) (o' : AllArrays) (m' : Ins
   hand_later j ok Component (Of (Text z)) a = absurd a
   hand_later j ok Component _ a = absurd a
   hand_later j ok (ObjectIn c) (Of (Object n)) a = object_later n c a
+  hand_later j ok (ObjectIn c) (Of (MainOf n)) a = main_later n c a
   hand_later j ok (ObjectIn c) (Of Nothing) a = absurd a
   hand_later j ok (ObjectIn c) (Of (Integer z)) a = absurd a
   hand_later j ok (ObjectIn c) (Of (Truth z)) a = absurd a
@@ -254,6 +270,9 @@ module _ (s : Source) (o : AllArrays) (m : Instances) (o' : AllArrays) (m' : Ins
     read_later todo n key h (own_made is same level holds there free) = own_made is same level holds there free
     read_later todo n key h (in_connection {c = c} knows whole is same holds) = in_connection (knows_later j n ok knows) (present_later n c [] (e.apart j n ok knows) whole) is same holds
 
+    block_later : (b k : ℕ) → BlockIn s m j b k → BlockIn s m' j b k
+    block_later b k a = record { near = knows_later j b ok a.near; whole = present_later b k [] (e.apart j b ok a.near) a.whole; simulates = a.simulates }
+
     mutual
       pub term_later : (todo : List DeclNo) (x : Term) (g : Option Kinds) → TermFine s m j t todo x g → TermFine s m' j t todo x g
       term_later todo (Given p) g a = (a.0, a.1, plain_later a.0 p a.2)
@@ -287,7 +306,7 @@ module _ (s : Source) (o : AllArrays) (m : Instances) (o' : AllArrays) (m' : Ins
         actuals = terms_later todo ts _ a.actuals;
       }
       term_later todo (AttributeOf u key class line x) g a = (a.0, a.1, a.2, a.3, a.4, a.5, term_later todo x _ a.6)
-      term_later todo (RemoteCallOf x k ts line) g a = (a.0, a.1, a.2, a.3, a.4, term_later todo x _ a.5, terms_later todo ts _ a.6)
+      term_later todo (RemoteCallOf x k ts line) g a = (a.0, a.1, a.2, a.3, a.4, a.5, term_later todo x _ a.6, terms_later todo ts _ a.7)
       term_later todo (QualifiedPlaceOf n key c) g a = (a.0, cell_target_later j ok n key (Refers c) a.1)
       term_later todo (QualifiedElementOf line c x ts) g a = (a.0, term_later todo x _ a.1, integers_later todo ts a.2)
       term_later todo (MemberOf member c x) g a = (a.0, term_later todo x _ a.1)
@@ -296,6 +315,8 @@ module _ (s : Source) (o : AllArrays) (m : Instances) (o' : AllArrays) (m' : Ins
       term_later todo (KeptOf x) g a = (a.0, a.1, term_later todo x _ a.2)
       term_later todo (NotNoneOf line x) g a = (a.0, a.1, a.2, a.3, term_later todo x _ a.4)
       term_later todo (SetOf name ts) g a = (a.0, a.1, a.2, a.3, terms_later todo ts _ a.4)
+      term_later todo (ProcessOf name line x) g a = (a.0, a.1, a.2, a.3, term_later todo x _ a.4)
+      term_later todo (SimulationOf n name ts line) g a = (a.0, a.1, a.2, a.3, block_later n _ a.4, terms_later todo ts _ a.5)
       term_later todo (TransferOf z line x) g a = (a.0, term_later todo x _ a.1)
       term_later todo Unbuilt g a = absurd a
 
@@ -345,9 +366,9 @@ module _ (s : Source) (o : AllArrays) (m : Instances) (o' : AllArrays) (m' : Ins
     sited_later : (Is Is' : ℕ → Type 0) → ((u : ℕ) → Is u → Is' u) → Sited s m j Is → Sited s m' j Is'
     sited_later Is Is' f a = (a.0, site_later a.0 a.1, f a.0 a.2)
 
-    levels_later : (xs : List Level) → LevelsFine s m j xs → LevelsFine s m' j xs
+    levels_later : (xs : List Level) → LevelsFine s m j t xs → LevelsFine s m' j t xs
     levels_later [] a = a
-    levels_later (x ∷ xs) a = (site_later x.text a.0, a.1, levels_later xs a.2)
+    levels_later (x ∷ xs) a = (site_later x.text a.0, a.1, a.2, levels_later xs a.3)
 
     pub op_later : (op : Op) (todo todo' : List DeclNo) (before behind : List Kinds) → OpFine s o m j t op todo todo' before behind → OpFine s o' m' j t op todo todo' before behind
     op_later (Eval x) todo todo' before behind a = (a.0, term_later todo x a.0 a.1, a.2, a.3)
@@ -364,6 +385,7 @@ module _ (s : Source) (o : AllArrays) (m : Instances) (o' : AllArrays) (m' : Ins
     op_later (Exec x) todo todo' before behind a = (a.0, a.1, a.2, sited_later _ _ (λ u z. z) a.3)
     op_later (Execs x) todo todo' before behind a = (a.0, a.1, a.2, sited_later _ _ (λ u z. z) a.3)
     op_later (EnterOp k line) todo todo' before behind a = (a.0, a.1, a.2, sited_later _ _ (λ u z. z) a.3)
+    op_later (BlockOp b) todo todo' before behind a = (a.0, block_later b a.0 a.1, a.2, a.3)
     op_later (InnerOp xs) todo todo' before behind a = (a.0, a.1, a.2, levels_later xs a.3)
     op_later (ConnectOp k x other) todo todo' before behind a = (a.0, a.1, sited_later _ _ (λ u z. z) a.2)
     op_later (WhenOp arms other) todo todo' before behind a = (a.0, a.1, a.2, sited_later _ _ (λ u z. z) a.3)

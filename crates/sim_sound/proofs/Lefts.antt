@@ -26,7 +26,7 @@ use Rattle.sim_meaning.specs.Attributes.{attribute_place, connected_object, conn
 use Rattle.sim_meaning.specs.Closing.{Left, LeftAddress, LeftCell, LeftReference, LeftText, LeftUnbuilt, array_left, array_place, block_if, close, close_all, close_left_of, close_place, declared_left, declared_place, formal_left, formal_place, home_of, image_place, in_instance, left_found, left_in, left_variable, named_left, named_place, own_block, own_block_denoted, own_result, reference_place, result_left, result_meant, result_or, result_place, stream_of, unless_connected, variable_left, variable_place}
 use Rattle.sim_meaning.specs.Levels.{has_levels}
 use Rattle.sim_values.specs.Standard.{row_of}
-use Rattle.sim_meaning.specs.Pending.{SetOf, AttributeOf, CallOf, Cell, CopyOf, Declared, Either, ElementOf, FitsOf, Given, ImageOf, Instances, Joined, KeptOf, MemberOf, NewOf, NoTerm, NotNoneOf, One, PlaceOf, QualifiedElementOf, QualifiedPlaceOf, QuaOf, RemoteCallOf, Result, StandardOf, Term, Terms, TransferOf, Two, Unbuilt, ValueAt}
+use Rattle.sim_meaning.specs.Pending.{SetOf, ProcessOf, SimulationOf, AttributeOf, CallOf, Cell, CopyOf, Declared, Either, ElementOf, FitsOf, Given, ImageOf, Instances, Joined, KeptOf, MemberOf, NewOf, NoTerm, NotNoneOf, One, PlaceOf, QualifiedElementOf, QualifiedPlaceOf, QuaOf, RemoteCallOf, Result, StandardOf, Term, Terms, TransferOf, Two, Unbuilt, ValueAt}
 use Rattle.sim_meaning.specs.Texts.{ProcedureText, text}
 use Rattle.sim_sound.specs.Held.{ArrayOf, Around, Holds, In, Refers, Sees, Simply, declared_holds, entry_holds, formal_holds, held_by, result_holds}
 use Rattle.sim_sound.specs.Expressions.{AreIntegers, ExprIs, KnownAt, ObjectHas, some_holds, standard_kind}
@@ -378,7 +378,7 @@ module _ (s : Source) (ok : Typed s) (o : AllArrays) (m : Instances) (store : St
   qualified_fine c (CallOf e k ts line) n a = let y = a.gives in absurd (held_no y.0 (Refers c) y.2)
   qualified_fine c (StandardOf name ts line) n a = absurd (held_no (some_holds (standard_kind (row_of name).result)) (Refers c) a.1)
   qualified_fine c (NewOf e k ts line) n a = absurd (value_no a.holds (Refers c) a.gives)
-  qualified_fine c (RemoteCallOf x k ts line) n a = let y = a.4 in absurd (held_no y.0 (Refers c) y.2)
+  qualified_fine c (RemoteCallOf x k ts line) n a = let y = a.5 in absurd (held_no y.0 (Refers c) y.2)
   qualified_fine c (QualifiedPlaceOf e key k) n a = absurd (reference_no k (Refers c) a.0)
   qualified_fine c (QualifiedElementOf line k x ts) n a = absurd (reference_no k (Refers c) a.0)
   qualified_fine c (MemberOf member k x) n a = absurd (value_no (Simply kind.Boolean) (Refers c) a.0)
@@ -387,6 +387,8 @@ module _ (s : Source) (ok : Typed s) (o : AllArrays) (m : Instances) (store : St
   qualified_fine c (KeptOf x) n a = absurd (lasting_no a.0 (Refers c) a.1)
   qualified_fine c (NotNoneOf line x) n a = absurd (shown_no a.0 a.1 a.2 (Refers c) a.3)
   qualified_fine c (SetOf name ts) n a = absurd (held_no a.1 (Refers c) a.3)
+  qualified_fine c (ProcessOf name line x) n a = absurd (held_no a.1 (Refers c) a.3)
+  qualified_fine c (SimulationOf e name ts line) n a = absurd (held_no a.1 (Refers c) a.3)
   qualified_fine c (TransferOf y line x) n a = absurd (none_no (Refers c) a.0)
 
   place_held_at : (e : Expression) (h : Holds) → PlaceIs s u e h → TermFine s m i t [] (close_place s m i e) (Some (AddressOf h))

@@ -8,18 +8,18 @@ use Rattle.sim_scope.specs.Scopes.{class_formals, entry_of}
 use Rattle.sim_scope.specs.Source.{Source}
 use Rattle.sim_meaning.specs.Entries.{numbers_of}
 use Rattle.sim_meaning.specs.Levels.{has_levels}
-use Rattle.sim_meaning.specs.Objects.{attributes_from, declared, levels_work}
-use Rattle.sim_meaning.specs.Pending.{Declared, Held, Instances, Item, Key, Level, held}
+use Rattle.sim_meaning.specs.Objects.{attributes_from, declared, level_work, levels_work, no_line, process_begun, process_done, with_inner}
+use Rattle.sim_meaning.specs.Pending.{Declared, Do, Execs, Held, Instances, Item, Key, Level, held}
 use Rattle.sim_meaning.specs.Texts.{text}
 use Rattle.sim_sound.specs.Held.{Among, ArrayOf, Holds, IsFormal, Simply, entry_holds, held_by, key_holds}
 use Rattle.sim_sound.specs.Typed.{ConstantHas, Distinct, Typed, arrays_of_block}
 use Rattle.sim_sound.proofs.Cells.{held_no_array}
 use Rattle.sim_sound.proofs.ClassCells.{Waiting, attributes_among, attributes_first}
-use Rattle.sim_sound.proofs.ClassLevels.{AllLevels, LevelIn, LevelIs, LevelsAre, all_levels_of, arrays_in, arrays_of_levels, distinct_right, level_among, level_arrays_are, level_arrays_distinct, level_formal, level_key, levels_fine, number_from, number_in, numbers_of_levels}
+use Rattle.sim_sound.proofs.ClassLevels.{AllLevels, LevelIn, LevelIs, LevelsAre, all_levels_of, arrays_in, arrays_of_levels, distinct_right, level_among, level_arrays_are, level_arrays_distinct, level_formal, level_key, levels_fine, number_from, process_levels, number_in, numbers_of_levels}
 use Rattle.sim_sound.proofs.Lists.{same_some}
 use Rattle.sim_sound.proofs.Prefixes.{LevelOf}
 use Rattle.sim_sound.proofs.Running.{Begun, WorkFine}
-use Rattle.sim_sound.proofs.Sound.{AllArrays, KeyAmong, LevelsFine, Made, Waits, key_of, keys_in}
+use Rattle.sim_sound.proofs.Sound.{AllArrays, Component, KeyAmong, Kinds, LevelsFine, Made, ProcessText, Waits, key_of, keys_in}
 
 -- ---- the cells and the levels of what has levels
 
@@ -82,22 +82,45 @@ module _ (s : Source) (ok : Typed s) (k : ℕ) (has : has_levels (text s k) ≡ 
         let q = level_among s k y.0 level_list levels_there.are y.2 in
         made_level y.0 q y.2 c h (subst (λ x. key_holds s x (Declared c.0) ≡ Some (ArrayOf h)) (sym y.1) is_array) (attributes_among s c (numbers_of s (y.0).text) (of_level u y.0 y.1 q (Declared c.0) there)) none
 
+-- ---- the statements of a level, with those of the levels inside
+
+module _ (s : Source) (o : AllArrays) (m : Instances) (j t : ℕ) (Below : Waits → Type 0) (Outermost : Type 0) where
+  abbrev Pending : List Item → List Kinds → Type 0
+  Pending w ks = WorkFine s o m Below Outermost j t w [] ks
+
+  -- a process detaches before them, and comes to its end behind them
+  pub level_works : (x : Level) (xs : List Level) (w : List Item) (ks : List Kinds) → LevelsFine s m j t (x ∷ xs) → Pending w ks → Pending (level_work x xs w) ks
+  level_works x xs w ks a work = begins (Do (Execs x.statements) ∷ behind x.inner_last) x.process a.2 ([], ks, (refl, refl, refl, (x.text, a.0, a.1)), inner x.inner_last)
+    where
+      behind : Bool → List Item
+      behind last = with_inner last xs (process_done x.process w)
+
+      done : (b : Bool) → (b ≡ true → ProcessText s t) → Pending (process_done b w) ks
+      done true f = ([], ks, (refl, refl, refl, f refl), work)
+      done false f = work
+
+      inner : (last : Bool) → Pending (behind last) ks
+      inner true = ([], ks, (refl, refl, refl, a.3), done x.process a.2)
+      inner false = done x.process a.2
+
+      begins : (v : List Item) (b : Bool) → (b ≡ true → ProcessText s t) → Pending v ks → Pending (process_begun b no_line v) ks
+      begins v true f y = ([], Component ∷ ks, (refl, refl, f refl, refl), ([], ks, (refl, refl), y))
+      begins v false f y = y
+
 -- ---- what is pending then
 
 module _ (s : Source) (ok : Typed s) (o : AllArrays) (m : Instances) (n k : ℕ) (has : has_levels (text s k) ≡ true) (todo : List DeclNo) (begun : Begun s o m n k todo) (Below : Waits → Type 0) (Outermost : Type 0) (end : Item) (at_end : WorkFine s o m Below Outermost n k (end ∷ []) [] []) where
-  abbrev Wk : List Item → List DeclNo → List Rattle.sim_sound.proofs.Sound.Kinds → Type 0
+  abbrev Wk : List Item → List DeclNo → List Kinds → Type 0
   Wk w todo ks = WorkFine s o m Below Outermost n k w todo ks
 
   -- each of its levels, with those inside
-  inside : (ys : List Level) → LevelsAre s k ys → LevelsFine s m n ys
-  inside ys a = levels_fine s ok m n (begun.here).now (begun.here).lives ys (subst (λ x. LevelsAre s x ys) (sym begun.own) a)
+  inside : (ys : List Level) → LevelsAre s k ys → LevelsFine s m n k ys
+  inside ys a =
+      let y = (begun.here).now in
+      subst (λ x. LevelsFine s m n x ys) begun.own (levels_fine s ok m n y (begun.here).lives (process_levels s ok o m begun.store n y (begun.here).lives) ys (subst (λ x. LevelsAre s x ys) (sym begun.own) a))
 
-  inner : (last : Bool) (ys : List Level) → LevelsAre s k ys → Wk (Rattle.sim_meaning.specs.Objects.with_inner last ys (end ∷ [])) [] []
-  inner true ys a = ([], [], (refl, refl, refl, inside ys a), at_end)
-  inner false ys a = at_end
-
-  statements_work : (y : Level) (ys : List Level) → LevelIs s k y → LevelsAre s k ys → Wk (Rattle.sim_meaning.specs.Objects.level_work y ys (end ∷ [])) [] []
-  statements_work y ys q a = let f = inside (y ∷ []) (q, tt) in ([], [], (refl, refl, refl, (y.text, f.0, f.1)), inner y.inner_last ys a)
+  statements_work : (y : Level) (ys : List Level) → LevelIs s k y → LevelsAre s k ys → Wk (level_work y ys (end ∷ [])) [] []
+  statements_work y ys q a = level_works s o m n k Below Outermost y ys (end ∷ []) [] (inside (y ∷ ys) (q, a)) at_end
 
   declared_work : (ys : List Level) → LevelsAre s k ys → Distinct (arrays_of_levels s ys) → (w : List Item) → Wk w [] [] → Wk (declared ys w) (arrays_of_levels s ys) []
   declared_work [] a apart w x = x
@@ -113,7 +136,7 @@ module _ (s : Source) (ok : Typed s) (o : AllArrays) (m : Instances) (n k : ℕ)
 
   all_work : (ys : List Level) → LevelsAre s k ys → Distinct (arrays_of_levels s ys) → Wk (levels_work ys end) (arrays_of_levels s ys) []
   all_work [] a apart = at_end
-  all_work (y ∷ ys) a apart = declared_work (y ∷ ys) a apart (Rattle.sim_meaning.specs.Objects.level_work y ys (end ∷ [])) (statements_work y ys a.0 a.1)
+  all_work (y ∷ ys) a apart = declared_work (y ∷ ys) a apart (level_work y ys (end ∷ [])) (statements_work y ys a.0 a.1)
 
   pub works : Wk (levels_work (level_list s ok k has) end) (arrays_of_levels s (level_list s ok k has)) []
   works = let all = levels_there s ok k has in all_work all.list all.are (level_arrays_distinct s ok k all.list all.are all.distinct)

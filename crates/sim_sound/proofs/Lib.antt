@@ -5,8 +5,13 @@ pub mod Sound
 pub mod Running
 pub mod Later
 pub mod Lists
+pub mod SimulatedLists
+pub mod Simulated
+pub mod NoticeLists
 pub mod SetLists
 pub mod Members
+pub mod Simulating
+pub mod ProcessClasses
 pub mod Changes
 pub mod Moves
 pub mod Lifts
@@ -18,6 +23,7 @@ pub mod Constants
 pub mod Attributes
 pub mod Reach
 pub mod Calls
+pub mod Formals
 pub mod Closing
 pub mod Lefts
 pub mod Cells
@@ -29,6 +35,7 @@ pub mod Statements
 pub mod Connections
 pub mod Ends
 pub mod Transfers
+pub mod Deciding
 pub mod FirstCells
 pub mod ClassCells
 pub mod Handing
@@ -36,9 +43,12 @@ pub mod ArrayWork
 pub mod Entering
 pub mod ClassLevels
 pub mod LevelWork
+pub mod Joining
 pub mod Objects
 pub mod Beginning
 pub mod SetWork
+pub mod ProcessWork
+pub mod SimulationWork
 pub mod Heads
 pub mod Chains
 pub mod Standings

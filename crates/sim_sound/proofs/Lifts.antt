@@ -11,7 +11,7 @@ use Rattle.sim_values.specs.declared.operators.Monadic.{Monadic}
 use Rattle.sim_values.specs.declared.operators.Monadic.TheVariants as monadic
 use Rattle.sim_values.specs.declared.value.TextVal.{TextVal}
 use Rattle.sim_values.specs.Operators.{Answer, an_integer, calculate, compare, compare_as_texts, connect, one_of, same_objects, same_texts, step_test, two_of}
-use Rattle.sim_values.specs.Plain.{Character, Integer, Nothing, Object, Plain, Text, Truth, kind_of}
+use Rattle.sim_values.specs.Plain.{Character, Integer, MainOf, Nothing, Object, Plain, Text, Truth, kind_of}
 use Rattle.sim_values.specs.Texts.{Frame, assign, concatenated}
 use Rattle.sim_values.specs.Words.{is_exhausted}
 use Rattle.sim_values.specs.Store.{Store}
@@ -109,6 +109,7 @@ module _ {S : Type 0} (P : World → S → Type 0) where
         is_truth (Character z) rest e y = absurd (cc)
         is_truth (Text z) rest e y = absurd (cc)
         is_truth (Object z) rest e y = absurd (cc)
+        is_truth (MainOf z) rest e y = absurd (cc)
         is_truth Nothing rest e y = absurd (cc)
 
     pub integers_popped : (n : ℕ) (ks : List Kinds) (got : List ℤ) (vals : List Val) (o : World) (f : List ℤ → List Val → Run S) → HandsFine s a m j (integers n ks) vals → ((zs : List ℤ) (rest : List Val) → HandsFine s a m j ks rest → Goes P (f zs rest)) → Goes P (pop_integers plain n got vals o f)
@@ -123,6 +124,7 @@ module _ {S : Type 0} (P : World → S → Type 0) where
         is_integer (Character z) rest e y = absurd (cc)
         is_integer (Text z) rest e y = absurd (cc)
         is_integer (Object z) rest e y = absurd (cc)
+        is_integer (MainOf z) rest e y = absurd (cc)
         is_integer Nothing rest e y = absurd (cc)
 
   -- ---- operators
@@ -149,6 +151,7 @@ module _ {S : Type 0} (P : World → S → Type 0) where
     a_char : (c : ℕ) → Shape (Character c) kind.Character
     a_text : (t : TextVal) → Shape (Text t) kind.Text
     an_object : (z : ℕ) → Shape (Object z) kind.Reference
+    a_main : (z : ℕ) → Shape (MainOf z) kind.Reference
     no_object : Shape Nothing kind.Reference
 
   pub shape : (p : Plain) (k : Kind) → kind_of p ≡ k → Shape p k
@@ -157,6 +160,7 @@ module _ {S : Type 0} (P : World → S → Type 0) where
   shape (Character z) k e = subst (Shape (Character z)) e (a_char z)
   shape (Text z) k e = subst (Shape (Text z)) e (a_text z)
   shape (Object z) k e = subst (Shape (Object z)) e (an_object z)
+  shape (MainOf z) k e = subst (Shape (MainOf z)) e (a_main z)
   shape Nothing k e = subst (Shape Nothing) e no_object
 
   one_is : (op : Monadic) (k : Kind) (p : Plain) → OneKinds op k → kind_of p ≡ k → AnswerIs k (one_of op p)
@@ -167,11 +171,13 @@ module _ {S : Type 0} (P : World → S → Type 0) where
   one_is monadic.Negate k (Character b) a e = absurd (cc)
   one_is monadic.Negate k (Text b) a e = absurd (cc)
   one_is monadic.Negate k (Object b) a e = absurd (cc)
+  one_is monadic.Negate k (MainOf b) a e = absurd (cc)
   one_is monadic.Negate k Nothing a e = absurd (cc)
   one_is monadic.Not k (Integer b) a e = absurd (cc)
   one_is monadic.Not k (Character b) a e = absurd (cc)
   one_is monadic.Not k (Text b) a e = absurd (cc)
   one_is monadic.Not k (Object b) a e = absurd (cc)
+  one_is monadic.Not k (MainOf b) a e = absurd (cc)
   one_is monadic.Not k Nothing a e = absurd (cc)
 
   two_shaped : (op : Dyadic) (k v : Kind) (store : Store) {x y : Plain} → TwoKinds op k v → Shape x k → Shape y k → AnswerIs v (two_of op store.frames x y)
@@ -198,7 +204,12 @@ module _ {S : Type 0} (P : World → S → Type 0) where
   two_shaped (dyadic.CompareTexts r) kind.Reference v store a _ _ = absurd (cc)
   two_shaped dyadic.SameObject kind.Reference v store a (an_object x) (an_object y) = sym a.1
   two_shaped dyadic.SameObject kind.Reference v store a (an_object x) no_object = sym a.1
+  two_shaped dyadic.SameObject kind.Reference v store a (an_object x) (a_main y) = sym a.1
+  two_shaped dyadic.SameObject kind.Reference v store a (a_main x) (an_object y) = sym a.1
+  two_shaped dyadic.SameObject kind.Reference v store a (a_main x) (a_main y) = sym a.1
+  two_shaped dyadic.SameObject kind.Reference v store a (a_main x) no_object = sym a.1
   two_shaped dyadic.SameObject kind.Reference v store a no_object (an_object y) = sym a.1
+  two_shaped dyadic.SameObject kind.Reference v store a no_object (a_main y) = sym a.1
   two_shaped dyadic.SameObject kind.Reference v store a no_object no_object = sym a.1
   two_shaped dyadic.SameObject kind.Boolean v store a _ _ = absurd (cc)
   two_shaped dyadic.SameObject kind.Integer v store a _ _ = absurd (cc)

@@ -8,7 +8,7 @@ use Rattle.sim_values.specs.declared.kind.Kind.TheVariants as kind
 use Rattle.sim_code.specs.Outcome.{Ended, Ending, Going, NoRule, Normal, Run, World, after, next}
 use Rattle.sim_meaning.specs.Meaning.{do_chain, do_item, do_op, do_work, opening, run, step, sub_block_entered}
 use Rattle.sim_meaning.specs.Sane.{NamesObjects, NamesOn, Sane, StaysSane}
-use Rattle.sim_meaning.specs.Pending.{Activation, AgainOp, ArrayOp, AttributeOp, BackOp, BranchOp, CallOp, ChooseOp, Configuration, ConnectOp, CopyOp, DeclareOp, Do, DropOp, ElementOp, ElementsOp, EndBlock, EndLevel, EndObject, EndPrefixed, EndProcedure, EndProgram, EnterOp, Eval, Exec, Execs, FetchOp, FitsOp, GiveOp, IfOp, InnerOp, Instances, Item, JoinOp, KeepOp, LevelOp, MemberOp, NewOp, NotNoneOp, ObjectOp, OneOp, Op, PastOp, PrefixedOp, QuaOp, QualifiedElementOp, RaiseOp, ReferOp, SetOp, ShareOp, StandardOp, StepOp, StepTestOp, StoreOp, SwapOp, TestOp, TransferOp, TwoOp, Val, WhenOp, WhileElementOp}
+use Rattle.sim_meaning.specs.Pending.{ActivateOp, Activation, AgainOp, ArrayOp, AttributeOp, BackOp, BlockOp, BranchOp, CallOp, ChooseOp, Configuration, ConnectOp, CopyOp, DeclareOp, Do, DropOp, ElementOp, ElementsOp, EndBlock, EndLevel, EndObject, EndPrefixed, EndProcedure, EndProcessOp, EndProgram, EnterOp, Eval, Exec, Execs, FetchOp, FitsOp, GiveOp, IfOp, InnerOp, Instances, Item, JoinOp, KeepOp, LevelOp, MemberOp, NewOp, NotNoneOp, ObjectOp, OneOp, Op, PastOp, PrefixedOp, ProcessOp, QuaOp, QualifiedElementOp, RaiseOp, ReferOp, SelfOp, SetOp, SimulationOp, ShareOp, StandardOp, StepOp, StepTestOp, StoreOp, SwapOp, TestOp, TransferOp, TwoOp, Val, WhenOp, WhileElementOp}
 use Rattle.sim_sound.specs.Held.{Simply}
 use Rattle.sim_sound.specs.Typed.{Typed}
 use Rattle.sim_sound.proofs.Cells.{site_whole}
@@ -25,7 +25,9 @@ use Rattle.sim_sound.proofs.Naming.{fine_names}
 use Rattle.sim_sound.proofs.Objects.{declare_goes, inner_goes, level_goes, new_goes, prefixed_goes}
 use Rattle.sim_sound.proofs.Operators.{again_op, array_op, attribute_op, copy_op, drop_op, element_op, eval_op, fetch_op, fits_op, give_op, if_op, join_op, keep_op, member_op, not_none_op, object_op, one_op, past_op, qua_op, qualified_element_op, refer_op, share_op, standard_op, step_op, store_op, swap_op, two_op}
 use Rattle.sim_sound.proofs.Running.{Begun, ChainFine, Fine, Headed, Operates, Placed, StoreFine, WorkFine, opens, runs}
+use Rattle.sim_sound.proofs.ProcessWork.{block_op, end_process_op, process_op, self_op}
 use Rattle.sim_sound.proofs.SetWork.{set_op}
+use Rattle.sim_sound.proofs.SimulationWork.{activate_op, simulation_op}
 use Rattle.sim_sound.proofs.Sound.{HandsFine, Kinds, Marks, OpFine, Takes, Value, see}
 use Rattle.sim_sound.proofs.Transfers.{transfer_op}
 use Rattle.sim_sound.proofs.Statements.{branch_goes, choose_goes, elements_goes, exec_goes, execs_goes, raise_goes, step_goes, test_goes, while_goes}
@@ -76,6 +78,8 @@ module _ (s : Source) (ok : Typed s) (l : Limits) (o : World) (g : Marks) (long 
     op_goes (NotNoneOp line) todo todo' before behind a b h work = not_none_op s ok l o g long m i t rest top w vals todo todo' before behind b h work line a
     op_goes (SetOp name) todo todo' before behind a b h work = set_op s ok l o g long m i t rest top w vals todo todo' before behind b h work name a
     op_goes (TransferOp x line) todo todo' before behind a b h work = transfer_op s ok l o g long m i t rest top w vals todo todo' before behind b h work x line a
+    op_goes (ProcessOp name line) todo todo' before behind a b h work = process_op s ok l o g long m i t rest top w vals todo todo' before behind b h work name line a
+    op_goes (SimulationOp name line) todo todo' before behind a b h work = simulation_op s ok l o g long m i t rest top w vals todo todo' before behind b h work name line a
     -- values in hand, and assignments
     op_goes DropOp todo todo' before behind a b h work = drop_op s ok l o g long m i t rest top w vals todo todo' before behind b h work a
     op_goes AgainOp todo todo' before behind a b h work = again_op s ok l o g long m i t rest top w vals todo todo' before behind b h work a
@@ -102,6 +106,10 @@ module _ (s : Source) (ok : Typed s) (l : Limits) (o : World) (g : Marks) (long 
     op_goes (LevelOp k) todo todo' before behind a b h work = level_goes s ok l o g long m i t rest top w vals k todo todo' before behind a.0 a.1 b h work
     op_goes (InnerOp xs) todo todo' before behind a b h work =
         ready todo todo' before behind (Stepped (InnerOp xs)) a.0 a.1 a.2 b h work (λ b h work. inner_goes s ok l o g long m i t rest top w vals xs before a.3 b h work)
+    op_goes SelfOp todo todo' before behind a b h work = self_op s ok l o g long m i t rest top w vals todo todo' before behind b h work a
+    op_goes EndProcessOp todo todo' before behind a b h work = end_process_op s ok l o g long m i t rest top w vals todo todo' before behind b h work a
+    op_goes (BlockOp e) todo todo' before behind a b h work = block_op s ok l o g long m i t rest top w vals todo todo' before behind b h work e a
+    op_goes (ActivateOp again timing line) todo todo' before behind a b h work = activate_op s ok l o g long m i t rest top w vals todo todo' before behind b h work again timing line a
     op_goes (ConnectOp k x other) todo todo' before behind a b h work =
         let y = a.2 in
         let z = y.2 in
@@ -166,7 +174,7 @@ module _ (s : Source) (ok : Typed s) (l : Limits) (o : World) (g : Marks) (long 
 
   -- a step from where there is a rule leads to where there is one, or to an end
   pub fine_step : (c : Configuration) → Fine s (see g o) c → Goes (IsFine s) (step s l o c)
-  fine_step c (opens none empty stand unseen unnoted unmade) = subst (λ z. Goes (IsFine s) (do_chain s l o c.memory z)) (sym none) (first_goes s ok l o g long c.memory empty stand unseen unnoted unmade)
+  fine_step c (opens none empty stand unseen unnoted unmade unscheduled) = subst (λ z. Goes (IsFine s) (do_chain s l o c.memory z)) (sym none) (first_goes s ok l o g long c.memory empty stand unseen unnoted unmade unscheduled)
   fine_step c (runs store placed headed f) = chain_goes c.memory c.chain store placed headed f
 
 next_goes : (s : Source) → Typed s → (l : Limits) (r : Run Configuration) → Goes (IsFine s) r → Goes (IsFine s) (next (step s l) r)
@@ -182,7 +190,7 @@ pub no_end : (s : Source) (r : Run Configuration) (o : World) (e : Ending) → r
 no_end s r o e is f = subst (Goes (IsFine s)) is f
 
 opened : (s : Source) → Typed s → (l : Limits) (input : List ℕ) (n : ℕ) → Goes (IsFine s) (run s l input n)
-opened s ok l input n = after_goes s ok l n (opening s l input) (record { sights = []; beneath = []; waiting = λ j. Takes None }, refl, opens refl refl refl refl refl refl)
+opened s ok l input n = after_goes s ok l n (opening s l input) (record { sights = []; beneath = []; waiting = λ j. Takes None }, refl, opens refl refl refl refl refl refl refl)
 
 -- a typed program never comes to where there is no rule
 pub never_no_rule : (s : Source) → Typed s → (l : Limits) (input : List ℕ) (n : ℕ) (o : World) → run s l input n ≡ Ended o NoRule → ⊥

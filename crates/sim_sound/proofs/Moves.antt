@@ -7,7 +7,7 @@ use Rattle.sim_chains.specs.Components.{AttachedObject, DetachedObject, NoObject
 use Rattle.sim_chains.specs.WellFormed.{chain_in, is_object, over_kept, times_above_in}
 use Rattle.sim_scope.specs.Source.{Source}
 use Rattle.simset.specs.Instances.{Memberships}
-use Rattle.sim_code.specs.Outcome.{ArrayOf as OneArray, World}
+use Rattle.sim_code.specs.Outcome.{ArrayOf as OneArray, Simulation, World}
 use Rattle.sim_code.specs.Arrays.{given_with, giving_back, goes_with, unless_given}
 use Rattle.sim_code.specs.Instances.{Instance, encloser_in, encloser_of, ends_in, entered, given, given_in, is_given_at_end, live, system_head, with_instance}
 use Rattle.sim_code.specs.Instances as instances
@@ -21,8 +21,10 @@ use Rattle.sim_sound.proofs.Heads.{given_encloser, headed_first, headed_left, he
 use Rattle.sim_sound.proofs.Running.{ChainFine, Headed, NoObjectStands, ObjectStands, Operates, Placed, StandsFine, StandsOn, StoreFine, first_of, is_resumed, parts, places}
 use Rattle.sim_sound.proofs.Sound.{AllArrays, ArrayFine, Beneath, CellsFine, Enclosed, InstanceFine, KeyAmong, Knows, Marks, Near, Outward, Sight, Stays, ValFine, Waits, alone, at_itself, elements_of, key_of, near_below, near_staying, no_further, one_lower, one_out, outward, see, staying, within}
 use Rattle.sim_sound.proofs.Changes.{array_there, cells_set, held_stays, keys_set}
-use Rattle.sim_sound.proofs.Members.{MembersFine, OneMore, members_later}
-use Rattle.sim_sound.proofs.Later.{All, Copies, Grown, Later, Steady, StillThere, as_it_was, cells_later, enclosed_later, flags_grown, instance_later, kept_all, kept_later, live_less, near_later, object_later, plain_later, standing_apart, standing_later, steady_same}
+use Rattle.sim_sound.proofs.Members.{MembersFine, OneMore, StillAll, members_later}
+use Rattle.sim_sound.proofs.Simulated.{SimulationsFine}
+use Rattle.sim_sound.proofs.Simulating.{simulations_later}
+use Rattle.sim_sound.proofs.Later.{All, Copies, Grown, Later, Steady, StillThere, as_it_was, cells_later, enclosed_later, flags_grown, instance_later, kept_all, kept_later, lasts_later, live_less, near_later, object_later, plain_later, standing_apart, standing_later, steady_same}
 use Rattle.sim_sound.proofs.Lists.{append_at, append_before, if_false, no_some, old_or_new, one_longer, other_numbers, same_some, set_len, set_other, set_same, there_is}
 
 -- ---- an instance that is there
@@ -247,15 +249,24 @@ module _ (s : Source) (o : AllArrays) (m : Instances) (e : ℕ) (y : Instance (L
     elements = λ a i it x p l k at. plain_later s o m o set_in All later_cells (elements_of x) p (store.elements a i it x p l k at);
     kept = kept_all s o m o set_in later_cells refl refl (λ j d e h a less f. f) store.kept;
     noted = store.noted ∙ sym (set_len m.instances e other);
-    members = members_later s o.members m set_in (record { objects = λ j c a. object_later s o m o set_in All later_cells j c a; more = (let n = set_len m.instances e other in omega (arith, n)); texts = texts }) store.members;
+    members = members_later s o.members m set_in all_still store.members;
+    simulations = simulations_later s o.simulations m set_in all_still store.simulations;
   }
     where
-      texts : (j : ℕ) (x : Instance (List Held)) → live set_in j ≡ Some x → (z : Instance (List Held)) × (live m j ≡ Some z) × (z.text ≡ x.text)
+      texts : (j : ℕ) (x : Instance (List Held)) → live set_in j ≡ Some x → (z : Instance (List Held)) × (live m j ≡ Some z) × (z.text ≡ x.text) × (z.encloser ≡ x.encloser)
       texts j x now =
           ⊎_elim
-          (λ same. (y, ap (live m) same ∙ lives, ap (λ z. z.text) (same_some (live set_in j) other x (ap (live set_in) same ∙ set_lives) now)))
-          (λ differ. (x, sym (elsewhere j differ) ∙ now, refl))
+          (λ same. let is = same_some (live set_in j) other x (ap (live set_in) same ∙ set_lives) now in (y, ap (live m) same ∙ lives, ap (λ z. z.text) is, ap (λ z. z.encloser) is))
+          (λ differ. (x, sym (elsewhere j differ) ∙ now, refl, refl))
           (cases_eq j e)
+
+      all_still : StillAll s m set_in
+      all_still = record {
+        objects = λ j c a. object_later s o m o set_in All later_cells j c a;
+        lasts = λ j u a. lasts_later s o m o set_in All later_cells j u a;
+        more = (let n = set_len m.instances e other in omega (arith, n));
+        texts = texts;
+      }
 
       each : (j : ℕ) (x : Instance (List Held)) → live set_in j ≡ Some x → InstanceFine s o set_in j x
       each j x now = ⊎_elim here there (cases_eq j e)
@@ -352,14 +363,14 @@ once_at_most : (b : Bool) → once_if b ≤ 1
 once_at_most true = omega arith
 once_at_most false = omega arith
 
--- on top of which instance it was entered, and the linkages then
-abbrev pub on_top : AllArrays → Option ℕ → Memberships → AllArrays
-on_top o u b = record o { beneath = o.beneath ++ u ∷ []; members = b }
+-- on top of which instance it was entered, and the linkages and the simulation blocks then
+abbrev pub on_top : AllArrays → Option ℕ → Memberships → List Simulation → AllArrays
+on_top o u b q = record o { beneath = o.beneath ++ u ∷ []; members = b; simulations = q }
 
 abbrev pub marked : Marks → Option ℕ → Marks
 marked g u = record g { beneath = g.beneath ++ u ∷ [] }
 
-module _ (s : Source) (o : AllArrays) (m : Instances) (y : Instance (List Held)) (z : Standing Activation) (u : Option ℕ) (b : Memberships) where
+module _ (s : Source) (o : AllArrays) (m : Instances) (y : Instance (List Held)) (z : Standing Activation) (u : Option ℕ) (b : Memberships) (q : List Simulation) where
   abbrev after : Instances
   after = entered m y z
 
@@ -368,58 +379,61 @@ module _ (s : Source) (o : AllArrays) (m : Instances) (y : Instance (List Held))
       let w = instance_there (slice_get after.instances j) x e in
       ⊎_elim (λ old. inl (instance_lives (slice_get m.instances j) x old w.1)) (λ new. inr new) (old_or_new m.instances y j x w.0)
 
-  still_noted : (j : ℕ) (x : Option ℕ) → slice_get o.beneath j ≡ Some x → slice_get (on_top o u b).beneath j ≡ Some x
+  still_noted : (j : ℕ) (x : Option ℕ) → slice_get o.beneath j ≡ Some x → slice_get (on_top o u b q).beneath j ≡ Some x
   still_noted j x e = append_before o.beneath u j (there_is o.beneath j x e) ∙ e
 
   still_there : (j : ℕ) (x : Instance (List Held)) → live m j ≡ Some x → StillThere after j x
   still_there j x lives = record { now = x; lives = ap instances.unless_given (append_before m.instances y j (live_less m j x lives)) ∙ lives; grown = as_it_was x }
 
-  pub later_entered : Later s o m (on_top o u b) after All
+  pub later_entered : Later s o m (on_top o u b q) after All
   later_entered =
-      later_instances s o (on_top o u b) m after refl refl still_noted still_there
+      later_instances s o (on_top o u b q) m after refl refl still_noted still_there
       (λ j a. (a.0, append_before m.standings z j (there_is m.standings j a.0 a.1) ∙ a.1, a.2))
       (λ j a. (a.0, append_before m.standings z j (there_is m.standings j (NoObject a.0) a.1) ∙ a.1))
 
-  pub copies_entered : (j d : ℕ) → Copies o (on_top o u b) j d
-  copies_entered = still_copies s o (on_top o u b) m after refl refl still_noted still_there
+  pub copies_entered : (j d : ℕ) → Copies o (on_top o u b q) j d
+  copies_entered = still_copies s o (on_top o u b q) m after refl refl still_noted still_there
 
-  pub steady_entered : Begins z → (j : ℕ) → Steady o m (on_top o u b) after j
+  pub steady_entered : Begins z → (j : ℕ) → Steady o m (on_top o u b q) after j
   steady_entered begins j = (refl, resumed_more m.standings z begins j)
 
-  pub store_entered : StoreFine s o m → InstanceFine s (on_top o u b) after (length m.instances) y → Begins z → MembersFine s b after → StoreFine s (on_top o u b) after
-  store_entered store f begins members = record {
+  pub store_entered : StoreFine s o m → InstanceFine s (on_top o u b q) after (length m.instances) y → Begins z → MembersFine s b after → SimulationsFine s q after → StoreFine s (on_top o u b q) after
+  store_entered store f begins members simulations = record {
     instances = λ j x e.
         ⊎_elim
-        (λ old. instance_later s o m (on_top o u b) after All later_entered j x tt (store.instances j x old))
-        (λ new. subst (λ z. InstanceFine s (on_top o u b) after z x) (sym new.0) (subst (λ z. InstanceFine s (on_top o u b) after (length m.instances) z) new.1 f))
+        (λ old. instance_later s o m (on_top o u b q) after All later_entered j x tt (store.instances j x old))
+        (λ new. subst (λ z. InstanceFine s (on_top o u b q) after z x) (sym new.0) (subst (λ z. InstanceFine s (on_top o u b q) after (length m.instances) z) new.1 f))
         (was_or_is j x e);
-    elements = λ a i it x p l k at. plain_later s o m (on_top o u b) after All later_entered (elements_of x) p (store.elements a i it x p l k at);
+    elements = λ a i it x p l k at. plain_later s o m (on_top o u b q) after All later_entered (elements_of x) p (store.elements a i it x p l k at);
     kept = λ j x e.
         ⊎_elim
-        (λ old. standing_later s o m (on_top o u b) after All later_entered All (λ i d k. copies_entered i d) (λ i k. steady_entered begins i) j x refl (standing_apart x) (standing_apart x) (store.kept j x old))
-        (λ new. subst (StandsFine s (on_top o u b) after j) new.1 (begins_fine s (on_top o u b) after j z begins))
+        (λ old. standing_later s o m (on_top o u b q) after All later_entered All (λ i d k. copies_entered i d) (λ i k. steady_entered begins i) j x refl (standing_apart x) (standing_apart x) (store.kept j x old))
+        (λ new. subst (StandsFine s (on_top o u b q) after j) new.1 (begins_fine s (on_top o u b q) after j z begins))
         (old_or_new m.standings z j x e);
     noted = one_longer o.beneath u ∙ ap suc store.noted ∙ sym (one_longer m.instances y);
     members = members;
+    simulations = simulations;
   }
 
   -- one instance more, and the objects are there as before
-  pub one_more : OneMore s m after y.text
+  pub one_more : OneMore s m after y.text y.encloser
   one_more = record {
-    objects = λ j c a. object_later s o m (on_top o u b) after All later_entered j c a;
+    objects = λ j c a. object_later s o m (on_top o u b q) after All later_entered j c a;
+    lasts = λ j c a. lasts_later s o m (on_top o u b q) after All later_entered j c a;
     count = one_longer m.instances y;
-    texts = λ j x e. ⊎_elim (λ old. inl old) (λ new. inr (new.0, ap (λ w. w.text) new.1)) (was_or_is j x e);
+    fresh = λ j x e same. (let less = live_less m j x e in omega (arith, less, same));
+    texts = λ j x e. ⊎_elim (λ old. inl old) (λ new. inr (new.0, ap (λ w. w.text) new.1, ap (λ w. w.encloser) new.1)) (was_or_is j x e);
   }
 
   pub new_standing : (j : ℕ) → j ≡ length m.instances → length m.standings ≡ length m.instances → slice_get after.standings j ≡ Some z
   new_standing j same many = ap (slice_get after.standings) (same ∙ sym many) ∙ append_at m.standings z
 
   -- the new one knows what the one below it has near
-  pub near_new : (i e : ℕ) → StoreFine s o m → u ≡ Some i → is_given_at_end after (length m.instances) ≡ true → Near o m i e → Near (on_top o u b) after (length m.instances) e
-  near_new i e store is ends near = near_then (on_top o u b) after (length m.instances) i e (near_below (one_lower ends (noted_new ∙ ap Some is) at_itself)) (near_later s o m (on_top o u b) after All later_entered i e tt near)
+  pub near_new : (i e : ℕ) → StoreFine s o m → u ≡ Some i → is_given_at_end after (length m.instances) ≡ true → Near o m i e → Near (on_top o u b q) after (length m.instances) e
+  near_new i e store is ends near = near_then (on_top o u b q) after (length m.instances) i e (near_below (one_lower ends (noted_new ∙ ap Some is) at_itself)) (near_later s o m (on_top o u b q) after All later_entered i e tt near)
     where
-      noted_new : slice_get (on_top o u b).beneath (length m.instances) ≡ Some u
-      noted_new = ap (slice_get (on_top o u b).beneath) (sym store.noted) ∙ append_at o.beneath u
+      noted_new : slice_get (on_top o u b q).beneath (length m.instances) ≡ Some u
+      noted_new = ap (slice_get (on_top o u b q).beneath) (sym store.noted) ∙ append_at o.beneath u
 
   -- the heads of the resumed objects are the same
   there_still : StoreFine s o m → length m.standings ≡ length m.instances → (x : ℕ) → standing_of (parts m []) x ≡ ResumedObject → system_head after x ≡ system_head m x
@@ -452,7 +466,7 @@ module _ (s : Source) (o : AllArrays) (m : Instances) (y : Instance (List Held))
         record { object = r.object; resumed = more_new m.standings z ResumedObject r.object (λ q. cc) r.resumed; its_head = there_still store many r.object r.resumed ∙ r.its_head });
   }
 
-  pub operates_entered : (chain : List Activation) → u ≡ first_of chain → StoreFine s o m → Placed m chain → Headed m chain → (0 < length m.standings) ⊎ (z ≡ NoObject None) → Begins z → Operates (on_top o u b).beneath after (length m.instances) chain
+  pub operates_entered : (chain : List Activation) → u ≡ first_of chain → StoreFine s o m → Placed m chain → Headed m chain → (0 < length m.standings) ⊎ (z ≡ NoObject None) → Begins z → Operates (on_top o u b q).beneath after (length m.instances) chain
   operates_entered chain is store a headed first begins =
       let noted = store.noted in
       let n = one_longer m.instances y in
@@ -460,7 +474,7 @@ module _ (s : Source) (o : AllArrays) (m : Instances) (y : Instance (List Held))
       λ j. (let more = kept_more (times_on owner j) m.standings z (ap (times_on owner j) (begins_empty z begins)) in omega (arith, more)) in
       record {
         before = omega (arith, n);
-        on = λ ends. ap (slice_get (on_top o u b).beneath) (sym noted) ∙ append_at o.beneath u ∙ ap Some is;
+        on = λ ends. ap (slice_get (on_top o u b q).beneath) (sym noted) ∙ append_at o.beneath u ∙ ap Some is;
         placed = record {
           once = λ j.
               (let c = counted j in
@@ -608,12 +622,17 @@ module _ (s : Source) (o : AllArrays) (m : Instances) (i : ℕ) (store : StoreFi
     elements = λ a k it x p l is at. plain_later s o m (given_view i o) (given m i) Apart later_given (elements_of x) p (store.elements a k it x p (given_lived o.real i a it l) is at);
     kept = kept_later s o m (given_view i o) (given m i) Apart later_given Apart copies_given (λ j k. steady_same o m (given_view i o) (given m i) (kept_given m i (slice_get m.instances i)) refl j) (kept_given m i (slice_get m.instances i)) refl others others store.kept;
     noted = store.noted ∙ sym (given_len m i (slice_get m.instances i));
-    members = members_later s o.members m (given m i) (record {
-      objects = λ j c a. object_later s o m (given_view i o) (given m i) Apart later_given j c a;
-      more = (let n = given_len m i (slice_get m.instances i) in omega (arith, n));
-      texts = λ j x e. (let was = live_given j x e in (x, was.1, refl));
-    }) store.members;
+    members = members_later s o.members m (given m i) all_still store.members;
+    simulations = simulations_later s o.simulations m (given m i) all_still store.simulations;
   }
+    where
+      all_still : StillAll s m (given m i)
+      all_still = record {
+        objects = λ j c a. object_later s o m (given_view i o) (given m i) Apart later_given j c a;
+        lasts = λ j u a. lasts_later s o m (given_view i o) (given m i) Apart later_given j u a;
+        more = (let n = given_len m i (slice_get m.instances i) in omega (arith, n));
+        texts = λ j x e. (let was = live_given j x e in (x, was.1, refl, refl));
+      }
 
   pub placed_given : (b : List (Option ℕ)) (rest : List Activation) → Operates b m i rest → Placed (given m i) rest
   placed_given b rest top =

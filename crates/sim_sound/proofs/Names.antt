@@ -19,7 +19,8 @@ use Rattle.sim_code.specs.Events.{computing, having, only_text, performing, pop_
 use Rattle.sim_code.specs.Instances.{CellPlace, ElementPlace, ImagePlace}
 use Rattle.sim_code.specs.Outcome.{Run, World}
 use Rattle.sim_code.specs.Running.{name_runs}
-use Rattle.sim_code.specs.Sets.{is_set_name}
+use Rattle.sim_code.specs.Sets.{is_attribute_name}
+use Rattle.sim_code.specs.Simulations.{is_simulation_name}
 use Rattle.sim_meaning.specs.Pending.{Address, ArrayValue, Configuration, Instances, Link, Of, ProcedureValue, Tree, Val, cell}
 use Rattle.sim_meaning.specs.Steps.{of_plain, operand, plain_in, put_back}
 use Rattle.sim_sound.specs.Held.{ArrayOf, Holds, Refers, Simply}
@@ -133,50 +134,50 @@ AllFine k elsewhere = ⊥
 abbrev RowIs : Standard → Type 0
 RowIs n = AllFine (standard_kind (row_of n).result) (row_of n).function
 
-row_is : (n : Standard) → name_runs n ≡ true → is_set_name n ≡ false → RowIs n
+row_is : (n : Standard) → name_runs n ≡ true → is_attribute_name n ≡ false → is_simulation_name n ≡ false → RowIs n
 unfolding row_of
-row_is name.Abs e free = λ i s. stays (valued_is ℤ Integer kind.Integer _ (λ a. (refl, tt))) refl
-row_is name.Sign e free = λ i s. stays (gives_is kind.Integer _ (refl, tt)) refl
-row_is name.Min e free = λ i j s. stays (gives_is kind.Integer _ (refl, tt)) refl
-row_is name.Max e free = λ i j s. stays (gives_is kind.Integer _ (refl, tt)) refl
-row_is name.Mod e free = λ i j s. stays (valued_is ℤ Integer kind.Integer _ (λ a. (refl, tt))) refl
-row_is name.Rem e free = λ i j s. stays (valued_is ℤ Integer kind.Integer _ (λ a. (refl, tt))) refl
-row_is name.Maxint e free = λ s. stays (gives_is kind.Integer _ (refl, tt)) refl
-row_is name.Minint e free = λ s. stays (gives_is kind.Integer _ (refl, tt)) refl
-row_is name.Char e free = λ i s. stays (valued_is ℕ Character kind.Character _ (λ a. (refl, tt))) refl
-row_is name.Rank e free = λ c s. stays (gives_is kind.Integer _ (refl, tt)) refl
-row_is name.Isochar e free = λ i s. stays (valued_is ℕ Character kind.Character _ (λ a. (refl, tt))) refl
-row_is name.Isorank e free = λ c s. stays (gives_is kind.Integer _ (refl, tt)) refl
-row_is name.Digit e free = λ c s. stays (gives_is kind.Boolean _ (refl, tt)) refl
-row_is name.Letter e free = λ c s. stays (gives_is kind.Boolean _ (refl, tt)) refl
-row_is name.Blanks e free = λ i s. stays (valued_is TextVal Text kind.Text _ (λ a. (refl, tt))) refl
-row_is name.Copy e free = λ t s. stays (valued_is TextVal Text kind.Text (copy s.frames t).answer (λ a. (refl, tt))) refl
-row_is name.Upcase e free = λ t s. stays (valued_is TextVal Text kind.Text _ (λ a. (refl, tt))) refl
-row_is name.Lowcase e free = λ t s. stays (valued_is TextVal Text kind.Text _ (λ a. (refl, tt))) refl
-row_is name.TextConstant e free = λ t s. stays (gives_is kind.Boolean _ (refl, tt)) refl
-row_is name.TextStart e free = λ t s. stays (gives_is kind.Integer _ (refl, tt)) refl
-row_is name.TextLength e free = λ t s. stays (gives_is kind.Integer _ (refl, tt)) refl
-row_is name.TextPos e free = λ t s. stays (gives_is kind.Integer _ (refl, tt)) refl
-row_is name.TextMore e free = λ t s. stays (gives_is kind.Boolean _ (refl, tt)) refl
-row_is name.TextMain e free = λ t s. stays (gives_is kind.Text _ (refl, tt)) refl
-row_is name.TextSetpos e free = λ t i s. moves_fine None unvalued t (setpos s.frames t i) s (unvalued_is (setpos s.frames t i).answer) (same_moved t i)
-row_is name.TextGetchar e free = λ t s. moves_fine (Some kind.Character) (valued Character) t (getchar s.frames t) s (valued_is ℕ Character kind.Character _ (λ a. (refl, tt))) (same_unless (getchar_refusal t) s.frames t _ (same_self t))
-row_is name.TextPutchar e free = λ t c s. moves_fine None unvalued t (putchar s.frames t c) s (unvalued_is _) (same_unless (putchar_refusal s.frames t) s.frames t _ (same_self t))
-row_is name.TextSub e free = λ t i j s. stays (valued_is TextVal Text kind.Text _ (λ a. (refl, tt))) refl
-row_is name.TextStrip e free = λ t s. stays (gives_is kind.Text _ (refl, tt)) refl
-row_is name.TextGetint e free = λ t s. moves_fine (Some kind.Integer) (valued Integer) t (getint s.frames t) s (valued_is ℤ Integer kind.Integer _ (λ a. (refl, tt))) (same_taken s.frames t (integer_item (characters s.frames t)))
-row_is name.TextPutint e free = λ t i s. moves_fine None unvalued t (putint s.frames t i) s (unvalued_is _) (same_unless (putint_refusal s.frames t) s.frames t _ (same_self t))
-row_is name.Inimage e free = λ s. stays (unvalued_is _) refl
-row_is name.Inchar e free = λ s. stays (valued_is ℕ Character kind.Character _ (λ a. (refl, tt))) refl
-row_is name.Inint e free = λ s. stays (valued_is ℤ Integer kind.Integer _ (λ a. (refl, tt))) refl
-row_is name.Intext e free = λ i s. stays (valued_is TextVal Text kind.Text _ (λ a. (refl, tt))) refl
-row_is name.Lastitem e free = λ s. stays (valued_is Bool Truth kind.Boolean _ (λ a. (refl, tt))) refl
-row_is name.Endfile e free = λ s. stays (gives_is kind.Boolean _ (refl, tt)) refl
-row_is name.Outimage e free = λ s. stays (writes_is (Ok (outimage (output_of s))) s) refl
-row_is name.Outchar e free = λ c s. stays (writes_is (Ok (outchar (output_of s) c)) s) refl
-row_is name.Outtext e free = λ t s. stays (writes_is (Ok (outtext (output_of s) t)) s) refl
-row_is name.Outint e free = λ i w s. stays (writes_is (outint (output_of s) i w) s) (writes_stays (outint (output_of s) i w) s)
-row_is _ e free = absurd (cc)
+row_is name.Abs e free bare = λ i s. stays (valued_is ℤ Integer kind.Integer _ (λ a. (refl, tt))) refl
+row_is name.Sign e free bare = λ i s. stays (gives_is kind.Integer _ (refl, tt)) refl
+row_is name.Min e free bare = λ i j s. stays (gives_is kind.Integer _ (refl, tt)) refl
+row_is name.Max e free bare = λ i j s. stays (gives_is kind.Integer _ (refl, tt)) refl
+row_is name.Mod e free bare = λ i j s. stays (valued_is ℤ Integer kind.Integer _ (λ a. (refl, tt))) refl
+row_is name.Rem e free bare = λ i j s. stays (valued_is ℤ Integer kind.Integer _ (λ a. (refl, tt))) refl
+row_is name.Maxint e free bare = λ s. stays (gives_is kind.Integer _ (refl, tt)) refl
+row_is name.Minint e free bare = λ s. stays (gives_is kind.Integer _ (refl, tt)) refl
+row_is name.Char e free bare = λ i s. stays (valued_is ℕ Character kind.Character _ (λ a. (refl, tt))) refl
+row_is name.Rank e free bare = λ c s. stays (gives_is kind.Integer _ (refl, tt)) refl
+row_is name.Isochar e free bare = λ i s. stays (valued_is ℕ Character kind.Character _ (λ a. (refl, tt))) refl
+row_is name.Isorank e free bare = λ c s. stays (gives_is kind.Integer _ (refl, tt)) refl
+row_is name.Digit e free bare = λ c s. stays (gives_is kind.Boolean _ (refl, tt)) refl
+row_is name.Letter e free bare = λ c s. stays (gives_is kind.Boolean _ (refl, tt)) refl
+row_is name.Blanks e free bare = λ i s. stays (valued_is TextVal Text kind.Text _ (λ a. (refl, tt))) refl
+row_is name.Copy e free bare = λ t s. stays (valued_is TextVal Text kind.Text (copy s.frames t).answer (λ a. (refl, tt))) refl
+row_is name.Upcase e free bare = λ t s. stays (valued_is TextVal Text kind.Text _ (λ a. (refl, tt))) refl
+row_is name.Lowcase e free bare = λ t s. stays (valued_is TextVal Text kind.Text _ (λ a. (refl, tt))) refl
+row_is name.TextConstant e free bare = λ t s. stays (gives_is kind.Boolean _ (refl, tt)) refl
+row_is name.TextStart e free bare = λ t s. stays (gives_is kind.Integer _ (refl, tt)) refl
+row_is name.TextLength e free bare = λ t s. stays (gives_is kind.Integer _ (refl, tt)) refl
+row_is name.TextPos e free bare = λ t s. stays (gives_is kind.Integer _ (refl, tt)) refl
+row_is name.TextMore e free bare = λ t s. stays (gives_is kind.Boolean _ (refl, tt)) refl
+row_is name.TextMain e free bare = λ t s. stays (gives_is kind.Text _ (refl, tt)) refl
+row_is name.TextSetpos e free bare = λ t i s. moves_fine None unvalued t (setpos s.frames t i) s (unvalued_is (setpos s.frames t i).answer) (same_moved t i)
+row_is name.TextGetchar e free bare = λ t s. moves_fine (Some kind.Character) (valued Character) t (getchar s.frames t) s (valued_is ℕ Character kind.Character _ (λ a. (refl, tt))) (same_unless (getchar_refusal t) s.frames t _ (same_self t))
+row_is name.TextPutchar e free bare = λ t c s. moves_fine None unvalued t (putchar s.frames t c) s (unvalued_is _) (same_unless (putchar_refusal s.frames t) s.frames t _ (same_self t))
+row_is name.TextSub e free bare = λ t i j s. stays (valued_is TextVal Text kind.Text _ (λ a. (refl, tt))) refl
+row_is name.TextStrip e free bare = λ t s. stays (gives_is kind.Text _ (refl, tt)) refl
+row_is name.TextGetint e free bare = λ t s. moves_fine (Some kind.Integer) (valued Integer) t (getint s.frames t) s (valued_is ℤ Integer kind.Integer _ (λ a. (refl, tt))) (same_taken s.frames t (integer_item (characters s.frames t)))
+row_is name.TextPutint e free bare = λ t i s. moves_fine None unvalued t (putint s.frames t i) s (unvalued_is _) (same_unless (putint_refusal s.frames t) s.frames t _ (same_self t))
+row_is name.Inimage e free bare = λ s. stays (unvalued_is _) refl
+row_is name.Inchar e free bare = λ s. stays (valued_is ℕ Character kind.Character _ (λ a. (refl, tt))) refl
+row_is name.Inint e free bare = λ s. stays (valued_is ℤ Integer kind.Integer _ (λ a. (refl, tt))) refl
+row_is name.Intext e free bare = λ i s. stays (valued_is TextVal Text kind.Text _ (λ a. (refl, tt))) refl
+row_is name.Lastitem e free bare = λ s. stays (valued_is Bool Truth kind.Boolean _ (λ a. (refl, tt))) refl
+row_is name.Endfile e free bare = λ s. stays (gives_is kind.Boolean _ (refl, tt)) refl
+row_is name.Outimage e free bare = λ s. stays (writes_is (Ok (outimage (output_of s))) s) refl
+row_is name.Outchar e free bare = λ c s. stays (writes_is (Ok (outchar (output_of s) c)) s) refl
+row_is name.Outtext e free bare = λ t s. stays (writes_is (Ok (outtext (output_of s) t)) s) refl
+row_is name.Outint e free bare = λ i w s. stays (writes_is (outint (output_of s) i w) s) (writes_stays (outint (output_of s) i w) s)
+row_is _ e free bare = absurd (cc)
 
 -- ---- operands
 
@@ -401,4 +402,4 @@ module _ (P : World → Configuration → Type 0) (s : Source) (o : World) (g : 
       (λ e first rest is back more.
       took P l line e.wanted o (λ p. computing line e.answer (record p { store = e.store }) (λ value. putting_back put_back first e.moved (record p { store = e.store }) m (λ p m. f p m value rest))) (λ t w.
       computed P line e.answer (record (ran o t w) { store = e.store }) (λ value. putting_back put_back first e.moved (record (ran o t w) { store = e.store }) m (λ p m. f p m value rest)) (λ v d. goes t w e.store first e.moved v rest back (is v d) more)))
-      (row_of n).function xs vals (row_is n runs.0 runs.1) are h
+      (row_of n).function xs vals (row_is n runs.0 runs.1 runs.2) are h

@@ -3,7 +3,6 @@ use Rattle.std.proofs.Common.{Bool, List, None, Option, Some, [], ap, arith, fal
 use Rattle.sim_base.specs.declared.limits.Limits.{Limits}
 use Rattle.sim_base.specs.declared.numbering.DeclNo.{DeclNo}
 use Rattle.sim_chains.specs.Components.{AttachedObject, NoObject, Standing}
-use Rattle.sim_scope.specs.declared.types.Entry.TheVariants as entry
 use Rattle.sim_scope.specs.declared.types.Formal.{Formal}
 use Rattle.sim_scope.specs.declared.types.FormalKind.{FormalKind}
 use Rattle.sim_scope.specs.declared.types.FormalKind.TheVariants as shape
@@ -13,19 +12,18 @@ use Rattle.sim_scope.specs.Access.{encloser}
 use Rattle.sim_scope.specs.Scopes.{class_formals, entry_of}
 use Rattle.sim_scope.specs.Source.{Source}
 use Rattle.sim_tree.specs.Syntax.{Declarations}
-use Rattle.simset.specs.Sets.{Linkage}
+use Rattle.simset.specs.Instances.{Memberships}
 use Rattle.sim_values.specs.Plain.{Object}
 use Rattle.sim_code.specs.Arrays.{handed_over}
 use Rattle.sim_code.specs.Events.{entering, having, pop_many, popping, when}
 use Rattle.sim_code.specs.Instances.{entered, is_live}
-use Rattle.sim_code.specs.Outcome.{Going, Run, World}
-use Rattle.sim_code.specs.Sets.{enrolled}
+use Rattle.sim_code.specs.Outcome.{Going, Run, Simulation, World}
 use Rattle.sim_meaning.specs.Attributes.{is_connection}
 use Rattle.sim_meaning.specs.Closing.{class_parameters}
 use Rattle.sim_meaning.specs.Entries.{arrays_among, is_array_by_value, new_instance, words_of_cells}
-use Rattle.sim_meaning.specs.Levels.{has_levels, levels, linkage_of_text}
+use Rattle.sim_meaning.specs.Levels.{has_levels, is_process_text, is_simulation_text, levels, linkage_of_text}
 use Rattle.sim_meaning.specs.Meaning.{do_op}
-use Rattle.sim_meaning.specs.Objects.{arrays_given, attributes_from, cells_of_levels, filled_in, generated, inner_done, levels_work, object_entered, prefix_done, prefixed_entered}
+use Rattle.sim_meaning.specs.Objects.{arrays_given, attributes_from, block_begun, cells_of_levels, filled_in, generated, inner_done, level_work, levels_work, object_entered, object_made, prefix_done, prefixed_entered, words_of_object}
 use Rattle.sim_meaning.specs.Pending.{Activation, Configuration, DeclareOp, EndLevel, EndObject, EndPrefixed, Held, Instances, Item, Level, LevelOp, Of, Val, instance_in}
 use Rattle.sim_meaning.specs.Sane.{Other}
 use Rattle.sim_meaning.specs.Texts.{Text, is_class_free, text}
@@ -36,15 +34,17 @@ use Rattle.sim_sound.proofs.Attributes.{Leveled, leveled}
 use Rattle.sim_sound.proofs.Cells.{fine_at, site_whole}
 use Rattle.sim_sound.proofs.ClassCells.{FilledIn, attributes_distinct, fill, none_waits}
 use Rattle.sim_sound.proofs.ClassLevels.{AllLevels, all_levels_of, arrays_of_levels, cells_are, formals_among, levels_are}
-use Rattle.sim_sound.proofs.Entering.{begun_new, below_handed, below_new, enters_fine, inside_new, later_new, link_is, lives_is, more_new, same_arrays, stands_new, store_handed}
+use Rattle.sim_sound.proofs.Entering.{begun_new, below_handed, below_new, enters_fine, inside_new, later_new, link_is, lives_is, same_arrays, stands_new, store_handed}
 use Rattle.sim_sound.proofs.Evals.{IsFine, Work, goes_on}
 use Rattle.sim_sound.proofs.FirstCells.{ActualsAre, AllSome, ValsFine, all_taken, taken}
-use Rattle.sim_sound.proofs.Handing.{Handed, classes_hand, hand_every, handed_members, handed_same, marks_of}
+use Rattle.sim_sound.proofs.Handing.{Handed, classes_hand, hand_every, handed_members, handed_same, handed_simulations, marks_of}
+use Rattle.sim_sound.proofs.Joining.{begun_members, begun_simulations, block_arrays, block_blocks, block_linked, block_members, block_started, joined_simulations, object_arrays, object_blocks, object_joined, object_linked, object_members}
 use Rattle.sim_sound.proofs.Later.{All, Copies, Later, as_it_was, cells_later, hands_later, live_less, work_later}
-use Rattle.sim_sound.proofs.LevelWork.{cells_wait, keys, level_list, level_numbers, levels_there, made, works}
+use Rattle.sim_sound.proofs.LevelWork.{cells_wait, keys, level_list, level_numbers, level_works, levels_there, made, works}
 use Rattle.sim_sound.proofs.Lifts.{Goes, any_popped, enters, had, ran, whens}
 use Rattle.sim_sound.proofs.Lists.{same_some}
-use Rattle.sim_sound.proofs.Members.{MembersFine, block_no_linkage, enrolled_members, members_enrolled, members_more}
+use Rattle.sim_sound.proofs.Members.{MembersFine, enrolled_members}
+use Rattle.sim_sound.proofs.Simulated.{SimulationsFine}
 use Rattle.sim_sound.proofs.Moves.{Begins, knows_near, later_instances, marked, on_top, placed_as}
 use Rattle.sim_sound.proofs.Prefixes.{class_has, level_words, levels_solid}
 use Rattle.sim_sound.proofs.Reach.{attribute_key}
@@ -85,15 +85,6 @@ classes_some s (d ∷ ds) [] a = absurd a
 classes_some s (d ∷ ds) (f ∷ fs) a =
     subst (λ z. AllSome (kept_kinds f.mode f.kind (in_hand (is_array_by_value f.mode f.kind) z) ∷ class_kinds s fs)) (sym a.2) (some_kept f.mode f.kind (is_array_by_value f.mode f.kind) a.0 (class_kinds s fs) (classes_some s ds fs a.3))
 
--- an object that is made a linkage: the arrays stay, and the linkages are more
-enrolled_arrays : (j : ℕ) (x : Option Linkage) (o : World) → (enrolled j x o).arrays ≡ o.arrays
-enrolled_arrays j None o = refl
-enrolled_arrays j (Some x) o = refl
-
-enrolled_linkages : (j : ℕ) (x : Option Linkage) (o : World) → (enrolled j x o).members ≡ enrolled_members j x o.members
-enrolled_linkages j None o = refl
-enrolled_linkages j (Some x) o = refl
-
 -- what the cell of a formal parameter holds
 formal_at : (s : Source) (c : Bool) (ds : List DeclNo) (fs : List Formal) → FormalsAre s ds fs → (d : DeclNo) → Among d ds → (h : Holds) × (entry_holds s c (entry_of s.tables d) ≡ Some h)
 formal_at s c [] fs a d b = elim b [ ]
@@ -104,12 +95,13 @@ formal_at s c (x ∷ ds) (f ∷ fs) a d (later b) = formal_at s c ds fs a.3 d b
 module _ (s : Source) (ok : Typed s) (l : Limits) (o : World) (marks : Marks) (long : length marks.sights ≡ length o.arrays) (m : Instances) (i t : ℕ) (rest : List Activation) (top : Operates marks.beneath m i rest) (w : List Item) where
   -- ---- a text with levels, with the actual parameters of its class in hand
 
-  -- What enters it has these values in hand then, and waits. `z` says how the new instance stands, and its work ends with `end`; an object may be
-  -- made as a linkage.
+  -- What enters it has these values in hand then, and waits. `z` says how the new instance stands, and its work ends with `end`. `made` says what the
+  -- world becomes, with which linkages and simulation blocks.
   module _ (k line : ℕ) (has : has_levels (text s k) ≡ true) (vs vs' : List Val) (d j u : ℕ) (todo : List DeclNo) (left : List Kinds) (stands : encloser s.tables k ≡ Some u) (knows : Knows m i j) (whole : Whole s m j u) (acts : ActualsAre s (see marks o) m i d (class_kinds s (class_parameters s (Some k))) vs) (less : length vs' ≤ d) (b : Begun s (see marks o) m i t todo) (hands : HandsFine s (see marks o) m i left vs')
       (waits : Waits) (hold : List Val) (shown : Shown (awaited marks.waiting i waits) hold vs') (expected : List Kinds) (expects : Expected s (awaited marks.waiting i waits) left expected) (work : Work s o marks long m i t rest top w todo expected) (z : Standing Activation) (begins : Begins z) (end : Item)
       (ends : (v : AllArrays) (c : List Held) → ChainFine s v (entered m (new_instance s k (Some j) c) z) (record { instance = i; work = w; values = hold } ∷ rest) waits → WorkFine s v (entered m (new_instance s k (Some j) c) z) (λ q. ChainFine s v (entered m (new_instance s k (Some j) c) z) (record { instance = i; work = w; values = hold } ∷ rest) q) ((record { instance = i; work = w; values = hold } ∷ rest) ≡ []) (length m.instances) k (end ∷ []) [] [])
-      (made_as : Option Linkage) (joins : (c : List Held) → MembersFine s o.members m → MembersFine s (enrolled_members (length m.instances) made_as o.members) (entered m (new_instance s k (Some j) c) z)) where
+      (words : ℕ) (made_then : World → World) (linkages_then : Memberships) (blocks_then : List Simulation) (made_arrays : (p : World) → (made_then p).arrays ≡ p.arrays) (made_members : (p : World) → p.members ≡ o.members → (made_then p).members ≡ linkages_then) (made_blocks : (p : World) → p.simulations ≡ o.simulations → (made_then p).simulations ≡ blocks_then)
+      (joins : (c : List Held) → MembersFine s linkages_then (entered m (new_instance s k (Some j) c) z)) (starts : (c : List Held) → SimulationsFine s blocks_then (entered m (new_instance s k (Some j) c) z)) where
     abbrev own : Leveled s ok k
     own = leveled s ok k has
 
@@ -158,7 +150,7 @@ module _ (s : Source) (ok : Typed s) (l : Limits) (o : World) (marks : Marks) (l
     noted = marked marks (Some i)
 
     later_with : (c : List Held) (q : List Sight) (p : World) → Later s (see (marks_of marks q) p) m (see (marks_of noted q) p) (After c) All
-    later_with c q p = later_new s ok (see (marks_of marks q) p) m k (Some j) c z X is solid (Some i) p.members
+    later_with c q p = later_new s ok (see (marks_of marks q) p) m k (Some j) c z X is solid (Some i) p.members p.simulations
 
     handed : (c : List Held) → Handed s m (After c) i N top.before marks noted (later_with c) o marks.sights d P (λ v. (kk : ℕ) → ValsFine s v (After c) N kk (holds_of s fs) vs)
     handed c = hand_every s m (After c) i N top.before marks noted (later_with c) fs (class_kinds s fs) (classes_hand s ⊥ formals fs typed.formals) vs o marks.sights long d acts
@@ -181,11 +173,11 @@ module _ (s : Source) (ok : Typed s) (l : Limits) (o : World) (marks : Marks) (l
     V = see G P
 
     abbrev V' : AllArrays
-    V' = on_top V (Some i) (enrolled_members N made_as V.members)
+    V' = on_top V (Some i) linkages_then blocks_then
 
-    -- the same before it is made a linkage
+    -- the same before it is made a linkage or a process
     abbrev seen_first : AllArrays
-    seen_first = on_top V (Some i) V.members
+    seen_first = on_top V (Some i) V.members V.simulations
 
     abbrev M : Instances
     M = After Cells
@@ -208,16 +200,16 @@ module _ (s : Source) (ok : Typed s) (l : Limits) (o : World) (marks : Marks) (l
     linkages : P.members ≡ o.members
     linkages = handed_members N (arrays_among vs) o
 
-    store : StoreFine s V m
-    store = store_handed s ok l o marks long m i t rest top w vs' P (handed Cells).sights e copies b.store (handed Cells).elements linkages
+    blocks : P.simulations ≡ o.simulations
+    blocks = handed_simulations N (arrays_among vs) o
 
-    joined : MembersFine s (enrolled_members N made_as V.members) M
-    joined = subst (λ q. MembersFine s (enrolled_members N made_as q) M) (sym linkages) (joins Cells b.store.members)
+    store : StoreFine s V m
+    store = store_handed s ok l o marks long m i t rest top w vs' P (handed Cells).sights e copies b.store (handed Cells).elements linkages blocks
 
     begun : Begun s V' M N k (arrays_of_levels s xs)
     begun =
-        begun_new s ok V m k (Some j) Cells z X is solid (Some i) (enrolled_members N made_as V.members) store begins (keys s ok k has Cells (filled first_ones).same_keys (filled first_ones).got) fine
-        (inside_new s ok V m k (Some j) Cells z X is solid (Some i) (enrolled_members N made_as V.members) j u i refl stands (live_less m j whole.now whole.lives) refl (knows_near s V m store i j knows) store whole) (arrays_of_levels s xs) (made s ok k has Cells (filled first_ones).same_keys (filled first_ones).got) joined
+        begun_new s ok V m k (Some j) Cells z X is solid (Some i) linkages_then blocks_then store begins (keys s ok k has Cells (filled first_ones).same_keys (filled first_ones).got) fine
+        (inside_new s ok V m k (Some j) Cells z X is solid (Some i) linkages_then blocks_then j u i refl stands (live_less m j whole.now whole.lives) refl (knows_near s V m store i j knows) store whole) (arrays_of_levels s xs) (made s ok k has Cells (filled first_ones).same_keys (filled first_ones).got) (joins Cells) (starts Cells)
 
     abbrev Below : List Activation
     Below = record { instance = i; work = w; values = hold } ∷ rest
@@ -236,14 +228,14 @@ module _ (s : Source) (ok : Typed s) (l : Limits) (o : World) (marks : Marks) (l
       hands = hands_later s (see marks o) m V m All e i tt left vs' (λ n kd c deep copy. (handed Cells).copies i n kd c (λ q. omega (arith, deep, less)) copy) hands;
       expected = expected;
       expects = expects;
-      goes = work_later s (see marks o) m V m All e i t tt refl (rest ≡ []) (rest ≡ []) (λ q. q) (λ q. ChainFine s (see marks o) m rest q) (λ q. ChainFine s V m rest q) (below_handed s ok l o marks long m i t rest top w vs' P (handed Cells).sights e copies b.store (handed Cells).elements linkages) w todo expected work;
+      goes = work_later s (see marks o) m V m All e i t tt refl (rest ≡ []) (rest ≡ []) (λ q. q) (λ q. ChainFine s (see marks o) m rest q) (λ q. ChainFine s V m rest q) (below_handed s ok l o marks long m i t rest top w vs' P (handed Cells).sights e copies b.store (handed Cells).elements linkages blocks) w todo expected work;
     }
 
     abbrev Wk : List Item → List DeclNo → List Kinds → Type 0
     Wk w todo ks = WorkFine s V' M (λ q. ChainFine s V' M Below q) (Below ≡ []) N k w todo ks
 
     at_end : Wk (end ∷ []) [] []
-    at_end = ends V' Cells (below_new s ok V m k (Some j) Cells z X is solid (Some i) (enrolled_members N made_as V.members) begins Below waits chain)
+    at_end = ends V' Cells (below_new s ok V m k (Some j) Cells z X is solid (Some i) linkages_then blocks_then begins Below waits chain)
 
     pending : Wk (levels_work xs end) (arrays_of_levels s xs) []
     pending = works s ok V' M N k has (arrays_of_levels s xs) begun (λ q. ChainFine s V' M Below q) (Below ≡ []) end at_end
@@ -256,15 +248,21 @@ module _ (s : Source) (ok : Typed s) (l : Limits) (o : World) (marks : Marks) (l
 
     -- the world when copies have gone over and it is made
     abbrev Made_then : World
-    Made_then = record P { members = enrolled_members N made_as P.members }
+    Made_then = record P { members = linkages_then; simulations = blocks_then }
 
-    pub entered_goes : Goes (IsFine s) (having (filled_in vs (Some (cells_of_levels s xs)) formals) o (λ c. entering l line (words_of_cells (cells_of_levels s xs)) o (λ p. Entered (enrolled N made_as (arrays_given N vs p)) c)))
+    given_members : (t' w' : ℕ) → (arrays_given N vs (ran o t' w')).members ≡ o.members
+    given_members t' w' = handed_members N (arrays_among vs) (ran o t' w')
+
+    given_blocks : (t' w' : ℕ) → (arrays_given N vs (ran o t' w')).simulations ≡ o.simulations
+    given_blocks t' w' = handed_simulations N (arrays_among vs) (ran o t' w')
+
+    pub entered_goes : Goes (IsFine s) (having (filled_in vs (Some (cells_of_levels s xs)) formals) o (λ c. entering l line words o (λ p. Entered (made_then (arrays_given N vs p)) c)))
     entered_goes =
-        had (IsFine s) (filled_in vs (Some (cells_of_levels s xs)) formals) Cells o (λ c. entering l line (words_of_cells (cells_of_levels s xs)) o (λ p. Entered (enrolled N made_as (arrays_given N vs p)) c)) filled_same
-        (enters (IsFine s) l line (words_of_cells (cells_of_levels s xs)) o (λ p. Entered (enrolled N made_as (arrays_given N vs p)) Cells) (λ t' w'.
-        same_arrays Made_then (enrolled N made_as (arrays_given N vs (ran o t' w'))) _
-        (handed_same N (arrays_among vs) o (ran o t' w') refl ∙ sym (enrolled_arrays N made_as (arrays_given N vs (ran o t' w'))))
-        (ap (enrolled_members N made_as) (linkages ∙ sym (handed_members N (arrays_among vs) (ran o t' w'))) ∙ sym (enrolled_linkages N made_as (arrays_given N vs (ran o t' w'))))
+        had (IsFine s) (filled_in vs (Some (cells_of_levels s xs)) formals) Cells o (λ c. entering l line words o (λ p. Entered (made_then (arrays_given N vs p)) c)) filled_same
+        (enters (IsFine s) l line words o (λ p. Entered (made_then (arrays_given N vs p)) Cells) (λ t' w'.
+        same_arrays Made_then (made_then (arrays_given N vs (ran o t' w'))) _
+        (handed_same N (arrays_among vs) o (ran o t' w') refl ∙ sym (made_arrays (arrays_given N vs (ran o t' w'))))
+        (sym (made_members (arrays_given N vs (ran o t' w')) (given_members t' w'))) (sym (made_blocks (arrays_given N vs (ran o t' w')) (given_blocks t' w')))
         (enters_fine s ok Made_then G (handed Cells).long m k (Some j) Cells z (arrays_of_levels s xs) begins (levels_work xs end) Below P store (placed_as m i w hold rest top.placed) (headed_as m i w hold rest top.headed) (inl (let before = top.before in let many = (top.placed).as_many in omega (arith, before, many))) begun pending)))
 
   module _ (vals : List Val) where
@@ -288,7 +286,9 @@ module _ (s : Source) (ok : Typed s) (l : Limits) (o : World) (marks : Marks) (l
         whens (IsFine s) (is_live m j) o (having (levels s k) o (λ xs. object_entered s l o m i w vs rest k line r.values j xs)) (lives_is s ok l o marks long m i t rest top w vals j whole.now whole.lives)
         (had (IsFine s) (levels s k) xs o (λ xs. object_entered s l o m i w vs rest k line r.values j xs) (levels_are s ok k has)
         (entered_goes k line has r.values vs (length r.rest) j c.around todo c.left q.stands_in near whole r.fine (below_top r.rest v vs same) b more (Generated (length m.instances) k) (Of (Object (length m.instances)) ∷ vs) refl (Value c.holds ∷ c.left) (c.holds, c.fits, refl) (subst (λ z. Work s o marks long m i t rest top w todo z) c.out work) AttachedObject tt EndObject (λ v hs x. object_at_end v hs (own.typed).stays has j (record { instance = i; work = w; values = Of (Object (length m.instances)) ∷ vs } ∷ rest) x)
-        (linkage_of_text s k) (λ c f. members_enrolled s ok k (levels_solid (text s k) has) o.members m (entered m (new_instance s k (Some j) c) AttachedObject) (more_new s ok (see marks o) m k (Some j) c AttachedObject own.words own.is (levels_solid (text s k) has) (Some i) o.members) f))))))))
+        (words_of_object s k (cells_of_levels s xs)) (λ p. object_made s k j (length m.instances) p) (enrolled_members (length m.instances) (linkage_of_text s k) o.members) (joined_simulations (is_process_text s k) j (length m.instances) o.simulations)
+        (λ p. object_arrays s k j (length m.instances) p) (λ p e. object_members s k j (length m.instances) p ∙ ap (enrolled_members (length m.instances) (linkage_of_text s k)) e) (λ p e. object_blocks s k j (length m.instances) p ∙ ap (joined_simulations (is_process_text s k) j (length m.instances)) e)
+        (λ c'. object_linked s ok o marks m b.store k (Some j) c' AttachedObject has (Some i) q.single q.made j c.around refl q.stands_in whole) (λ c'. object_joined s ok o marks m b.store k (Some j) c' AttachedObject has (Some i) q.single q.made j c.around refl q.stands_in whole))))))))
       where
         -- it is an object, which ends as one
         object_at_end : (v : AllArrays) (hs : List Held) → is_class_free s k ≡ false → has_levels (text s k) ≡ true → (j : ℕ) → (below : List Activation) → ChainFine s v (entered m (new_instance s k (Some j) hs) AttachedObject) below (Generated (length m.instances) k) → WorkFine s v (entered m (new_instance s k (Some j) hs) AttachedObject) (λ q. ChainFine s v (entered m (new_instance s k (Some j) hs) AttachedObject) below q) (below ≡ []) (length m.instances) k (EndObject ∷ []) [] []
@@ -315,7 +315,9 @@ module _ (s : Source) (ok : Typed s) (l : Limits) (o : World) (marks : Marks) (l
         (subst (Goes (IsFine s)) (sym (all_taken r.values r.rest o next))
         (had (IsFine s) (levels s k) xs o (λ xs. prefixed_entered s l o m (record { instance = i; work = w; values = r.rest } ∷ rest) k line r.values (Some i) EndPrefixed xs) (levels_are s ok k has)
         (entered_goes k line has r.values r.rest (length r.rest) i c.around [] behind c.stands_in (outward no_further) (site_whole s (see marks o) m i t c.around b c.site) r.fine (omega arith) b r.more (Takes None) r.rest refl behind refl work (NoObject None) tt EndPrefixed (λ v hs x. ((None, stands_new m (new_instance s k (Some i) hs) (NoObject None) (top.placed).as_many), x))
-        None (λ c' f. members_more s o.members m (entered m (new_instance s k (Some i) c') (NoObject None)) k (more_new s ok (see marks o) m k (Some i) c' (NoObject None) own.words own.is (levels_solid (text s k) has) (Some i) o.members) (block_no_linkage s ok k c.block) f)))))
+        (words_of_cells (cells_of_levels s xs)) (λ p. block_begun s k (length m.instances) p) (begun_members (is_simulation_text s k) (length m.instances) o.members) (begun_simulations (is_simulation_text s k) (length m.instances) o.simulations)
+        (λ p. block_arrays s k (length m.instances) p) (λ p e. block_members s k (length m.instances) p ∙ ap (begun_members (is_simulation_text s k) (length m.instances)) e) (λ p e. block_blocks s k (length m.instances) p ∙ ap (begun_simulations (is_simulation_text s k) (length m.instances)) e)
+        (λ c'. block_linked s ok o marks m b.store k (Some i) c' (NoObject None) has (Some i) c.block) (λ c'. block_started s ok o marks m b.store k (Some i) c' (NoObject None) has (Some i) c.block)))))
       where
         next : List Val → List Val → Run Configuration
         next values vals = having (levels s k) o (λ xs. prefixed_entered s l o m (record { instance = i; work = w; values = vals } ∷ rest) k line values (Some i) EndPrefixed xs)
@@ -339,11 +341,7 @@ module _ (s : Source) (ok : Typed s) (l : Limits) (o : World) (marks : Marks) (l
         goes_on s o marks long m i t rest top w vals todo before b h (subst (λ z. Work s o marks long m i t rest top w z before) f (subst (λ z. Work s o marks long m i t rest top w todo' z) e work))
 
     -- the statements of the levels inside
-    pub inner_goes : (xs : List Level) (ks : List Kinds) → LevelsFine s m i xs → Begun s (see marks o) m i t [] → HandsFine s (see marks o) m i ks vals → Work s o marks long m i t rest top w [] ks → Goes (IsFine s) (inner_done o m i w vals rest xs)
+    pub inner_goes : (xs : List Level) (ks : List Kinds) → LevelsFine s m i t xs → Begun s (see marks o) m i t [] → HandsFine s (see marks o) m i ks vals → Work s o marks long m i t rest top w [] ks → Goes (IsFine s) (inner_done o m i w vals rest xs)
     inner_goes [] ks a b h work = goes_on s o marks long m i t rest top w vals [] ks b h work
     inner_goes (x ∷ xs) ks a b h work =
-        goes_on s o marks long m i t rest top (Rattle.sim_meaning.specs.Objects.level_work x xs (EndLevel x.text ∷ w)) vals [] ks b h ([], ks, (refl, refl, refl, (x.text, a.0, a.1)), inside x.inner_last)
-      where
-        inside : (last : Bool) → Work s o marks long m i t rest top (Rattle.sim_meaning.specs.Objects.with_inner last xs (EndLevel x.text ∷ w)) [] ks
-        inside true = ([], ks, (refl, refl, refl, a.2), work)
-        inside false = work
+        goes_on s o marks long m i t rest top (level_work x xs (EndLevel x.text ∷ w)) vals [] ks b h (level_works s (see marks o) m i t (λ v. ChainFine s (see marks o) m rest v) (rest ≡ []) x xs (EndLevel x.text ∷ w) ks a work)

@@ -1,8 +1,9 @@
 -- Each operator of expressions and assignments goes on.
 use Rattle.std.proofs.Common.{◌≡◌, ℕ, suc, Bool, true, false, List, [], ◌∷◌, ◌++◌, length, Option, Some, None, inr, refl, sym, ap, ◌∙◌, subst}
-use Rattle.std.specs.Prelude.{◌*◌}
+use Rattle.std.specs.Prelude.{◌*◌, ◌+◌}
 use Rattle.sim_base.specs.declared.limits.Limits.{Limits}
 use Rattle.sim_base.specs.declared.numbering.DeclNo.{DeclNo}
+use Rattle.sim_scope.specs.Levels.{has_level}
 use Rattle.sim_scope.specs.Source.{Source}
 use Rattle.sim_values.specs.declared.kind.Kind.{Kind}
 use Rattle.sim_values.specs.declared.kind.Kind.TheVariants as kind
@@ -16,11 +17,11 @@ use Rattle.sim_values.specs.declared.operators.Dyadic.{Dyadic}
 use Rattle.sim_values.specs.declared.operators.Dyadic.TheVariants as dyadic
 use Rattle.sim_values.specs.declared.operators.Monadic.{Monadic}
 use Rattle.sim_values.specs.declared.operators.Monadic.TheVariants as monadic
-use Rattle.sim_values.specs.Plain.{Character, Integer, Nothing, Object, Plain, Text, Truth, kind_of}
+use Rattle.sim_values.specs.Plain.{Character, Integer, MainOf, Nothing, Object, Plain, Text, Truth, kind_of}
 use Rattle.sim_code.specs.Arrays.{added, copying_array, keeping_array, live_array, making_array, pairs, with_array}
 use Rattle.sim_code.specs.Events.{choosing, having, popping, qualifying, when}
 use Rattle.sim_code.specs.Instances.{CellPlace, ElementPlace}
-use Rattle.sim_meaning.specs.Levels.{belongs, has_procedure, has_levels, is_in, is_in_any}
+use Rattle.sim_meaning.specs.Levels.{belongs, has_procedure, has_levels, is_in, is_in_any, main_belongs, stands_in}
 use Rattle.sim_meaning.specs.Objects.{is_member, putting_reference}
 use Rattle.sim_meaning.specs.Pending.{Activation, Address, AgainOp, array_in, ArrayOp, ArrayValue, AttributeOp, cell_set, Configuration, CopyOp, Declared, Do, DropOp, ElementOp, Eval, FetchOp, FitsOp, GiveOp, IfOp, Instances, Item, JoinOp, KeepOp, Key, Link, MemberOp, NotNoneOp, ObjectOp, Of, OneOp, Op, PastOp, place_in, QualifiedElementOp, QuaOp, ReferOp, ShareOp, StandardOp, StepOp, StoreOp, SwapOp, Target, Term, ToAddress, ToCell, ToPlace, ToReference, ToReferenceAt, ToText, ToTextAt, ToTextOf, TwoOp, Val, variable_in}
 use Rattle.sim_meaning.specs.Texts.{text}
@@ -32,16 +33,18 @@ use Rattle.sim_sound.proofs.Cells.{none_among}
 use Rattle.sim_sound.proofs.Changes.{copies_array, copies_replaced, elements_array, elements_replaced, later_array, later_replaced, more, new_lives, replaced}
 use Rattle.sim_sound.proofs.Constants.{names_none}
 use Rattle.sim_sound.proofs.Evals.{IsFine, Work, eval_goes, goes_on}
-use Rattle.sim_sound.proofs.Fitting.{knows_object, object_in, object_levels, object_up, object_whole, plain_by_kind, val_fits}
+use Rattle.sim_sound.proofs.Fitting.{knows_object, object_in, main_up, object_levels, object_up, object_whole, plain_by_kind, val_fits}
 use Rattle.sim_sound.proofs.Later.{All, Copies, own_later, present_later}
 use Rattle.sim_sound.proofs.Lifts.{Goes, any_popped, assigning_goes, chosen, had, integers_popped, joining_goes, known_popped, one_applied, plain_popped, ran, step_applied, truth_popped, two_applied, whens}
 use Rattle.sim_sound.proofs.Lists.{set_len}
 use Rattle.sim_sound.proofs.Moves.{same_ones}
 use Rattle.sim_sound.proofs.Names.{ValueIs, performed}
 use Rattle.sim_sound.proofs.Ops.{back_goes, fetched_goes, later_hands, later_with, putting_goes, putting_reference_goes, set_goes, store_with, stored_array}
-use Rattle.sim_sound.proofs.References.{any_object_popped, held_reference_goes, object_popped}
+use Rattle.sim_sound.proofs.Prefixes.{level_is, level_then}
+use Rattle.sim_sound.proofs.ProcessClasses.{main_bare}
+use Rattle.sim_sound.proofs.References.{any_some_popped, held_reference_goes, object_popped, some_popped}
 use Rattle.sim_sound.proofs.Running.{Begun, Operates}
-use Rattle.sim_sound.proofs.Sound.{ShowsObject, ObjectIn, AddressOf, Addressed, CellTarget, Component, Copied, CopyFine, DeepFine, HandFine, HandsFine, Hidden, ImageAddress, IsAddress, IsCopy, Kinds, Lasting, Leads, LinkTo, Marks, ObjectOf, OneKinds, OpFine, Open, ReferenceAddress, Sight, TermFine, ValFine, Value, array_stored, elements_of, given, held_kinds, see, value_stored}
+use Rattle.sim_sound.proofs.Sound.{ShowsObject, ObjectIn, AddressOf, Addressed, CellTarget, Component, Copied, CopyFine, DeepFine, HandFine, HandsFine, Hidden, ImageAddress, IsAddress, IsCopy, Kinds, Lasting, Leads, LinkTo, MainIn, Marks, NotStandard, ObjectOf, OneKinds, OpFine, Open, PlainFine, ReferenceAddress, ReferenceFine, Sight, TermFine, ValFine, Value, array_stored, elements_of, given, held_kinds, see, value_stored}
 
 one_longer : (g : List Sight) (o : List OneArray) (z : Sight) (x : OneArray) → length (g ++ z ∷ []) ≡ suc (length g)
 one_longer [] o z x = refl
@@ -126,7 +129,7 @@ module _ (s : Source) (ok : Typed s) (l : Limits) (o : World) (g : Marks) (long 
       let seen : Marks = record g { sights = g.sights ++ z ∷ [] } in
       let longer : length seen.sights ≡ length (o.arrays ++ x ∷ []) = one_longer g.sights o.arrays z x ∙ ap suc long ∙ sym (one_longer' o.arrays x) in
       let copies : (j d : ℕ) → Copies (see g o) (more (see g o) z x) j d = λ j d. copies_array (see g o) z x j d in
-      let store = store_with s (see g o) (more (see g o) z x) m e refl refl copies (elements_array s (see g o) m z x long new.elements b.store.elements) b.store.members b.store in
+      let store = store_with s (see g o) (more (see g o) z x) m e refl refl copies (elements_array s (see g o) m z x long new.elements b.store.elements) b.store.members b.store.simulations b.store in
       later_with s ok l o g long m i t rest top seen (added (ran o t' w') x) longer refl refl m e copies (same_ones m) store w (ArrayValue (length o.arrays) ∷ vs) todo (c ∷ left) (present_later s (see g o) m (more (see g o) z x) m All e i t todo tt b.here) (own_later s (see g o) m (more (see g o) z x) m All e i t todo tt b.here ∙ b.own)
       (f, later_hands s ok l o g long m i t rest top seen (added (ran o t' w') x) longer refl refl m e copies (same_ones m) store left vs hands) y
 
@@ -271,9 +274,13 @@ module _ (s : Source) (ok : Typed s) (l : Limits) (o : World) (g : Marks) (long 
       any_popped P s (see g o) m i (Value (Simply a.1)) a.2 vs o (λ u vs. go o m i w (u ∷ v ∷ vs) rest) more (λ u us is' f most.
       goes (u ∷ v ∷ us) (Value (Simply a.1) ∷ a.0 ∷ a.2) (f, (swap_goes a.0 v u a.1 (length vs) (length us) a.3 e, most)) (works _ a.5 a.6)))
 
+  -- no main program has an attribute of a class that is not one of the standard classes
+  bare : (c u : ℕ) → has_level s.tables c u ≡ true → NotStandard s u → (z : ℕ) → MainIn s m z c → ⊥
+  bare c u e own z x = main_bare s ok x.level u (x.block).simulates (level_then s (level_is s (x.level + 4) c x.levels) (level_is s c u e)) own
+
   pub attribute_op : (u : ℕ) (key : Key) (class : Option ℕ) (line : ℕ) → OpFine s (see g o) m i t (AttributeOp u key class line) todo todo' before behind → Stepped (AttributeOp u key class line)
   attribute_op u key class line a =
-      object_popped P s (see g o) m i a.0 line a.3 vals o (λ j vs. when (is_in s m u j) o (go o m i w (Address (CellPlace j key class) ∷ vs) rest)) (hand _ a.6) (λ j vs p more.
+      object_popped P s (see g o) m i a.0 line a.3 vals o (λ j vs. when (is_in s m u j) o (go o m i w (Address (CellPlace j key class) ∷ vs) rest)) (λ b x. bare a.0 u (a.4).level (a.4).own b x) (hand _ a.6) (λ j vs p more.
       whens P (is_in s m u j) o (go o m i w (Address (CellPlace j key class) ∷ vs) rest) (object_in s ok (see g o) m b.store j a.0 u p (a.4).level)
       (goes (Address (CellPlace j key class) ∷ vs) (a.2 ∷ a.3) (address class a.1 a.2 (length vs) j a.5 (target j vs p), more) (works _ a.7 a.8)))
     where
@@ -293,9 +300,9 @@ module _ (s : Source) (ok : Typed s) (l : Limits) (o : World) (g : Marks) (long 
 
   pub object_op : (k line : ℕ) → OpFine s (see g o) m i t (ObjectOp k line) todo todo' before behind → Stepped (ObjectOp k line)
   object_op k line a =
-      object_popped P s (see g o) m i a.0 line a.2 vals o (λ j vs. when (has_procedure s m k j) o (go o m i w (Link j ∷ vs) rest)) (hand _ a.5) (λ j vs p more.
-      whens P (has_procedure s m k j) o (go o m i w (Link j ∷ vs) rest) (has_the_procedure j k a.1 a.4 (object_in s ok (see g o) m b.store j a.0 a.1 p a.3))
-      (goes (Link j ∷ vs) (LinkTo a.1 ∷ a.2) ((knows_object s m i j a.0 p, object_whole s ok (see g o) m b.store j a.0 a.1 p a.3), more) (works _ a.6 a.7)))
+      object_popped P s (see g o) m i a.0 line a.2 vals o (λ j vs. when (has_procedure s m k j) o (go o m i w (Link j ∷ vs) rest)) (λ b x. bare a.0 a.1 a.3 a.4 b x) (hand _ a.6) (λ j vs p more.
+      whens P (has_procedure s m k j) o (go o m i w (Link j ∷ vs) rest) (has_the_procedure j k a.1 a.5 (object_in s ok (see g o) m b.store j a.0 a.1 p a.3))
+      (goes (Link j ∷ vs) (LinkTo a.1 ∷ a.2) ((knows_object s m i j a.0 p, object_whole s ok (see g o) m b.store j a.0 a.1 p a.3), more) (works _ a.7 a.8)))
 
   pub qualified_element_op : (n line c : ℕ) → OpFine s (see g o) m i t (QualifiedElementOp n line c) todo todo' before behind → Stepped (QualifiedElementOp n line c)
   qualified_element_op n line c a =
@@ -306,11 +313,29 @@ module _ (s : Source) (ok : Typed s) (l : Limits) (o : World) (g : Marks) (long 
   pub not_none_op : (line : ℕ) → OpFine s (see g o) m i t (NotNoneOp line) todo todo' before behind → Stepped (NotNoneOp line)
   not_none_op line a = by_kind a.0 a.1 a.3 (hand _ a.4) (works _ a.5 a.6)
     where
+      component : (p : Plain) → PlainFine s m (Simply kind.Reference) p → (p ≡ Nothing → ⊥) → (d : ℕ) → DeepFine s (see g o) m i d Component (Of p)
+      component (Object j) e some d = e.1
+      component (MainOf z) e some d = e.1
+      component Nothing e some d = absurd (some refl)
+      component (Integer z) e some d = absurd (let f = e.0 in cc)
+      component (Character z) e some d = absurd (let f = e.0 in cc)
+      component (Truth z) e some d = absurd (let f = e.0 in cc)
+      component (Text z) e some d = absurd (let f = e.0 in cc)
+
+      in_class : (c k : ℕ) → has_level s.tables c k ≡ true → (p : Plain) → ReferenceFine s m c p → (p ≡ Nothing → ⊥) → (d : ℕ) → DeepFine s (see g o) m i d (ObjectIn k) (Of p)
+      in_class c k is (Object j) e some d = object_up s ok (see g o) m b.store j c k e is
+      in_class c k is (MainOf z) e some d = main_up s ok (see g o) m b.store z c k e is
+      in_class c k is Nothing e some d = absurd (some refl)
+      in_class c k is (Integer z) e some d = absurd e
+      in_class c k is (Character z) e some d = absurd e
+      in_class c k is (Truth z) e some d = absurd e
+      in_class c k is (Text z) e some d = absurd e
+
       by_kind : (h : Holds) (x : Kinds) → ShowsObject s h x → HandsFine s (see g o) m i (Value h ∷ a.2) vals → Work s o g long m i t rest top w todo (x ∷ a.2) → Stepped (NotNoneOp line)
       by_kind h Component is f y =
-          any_object_popped P s (see g o) m i line a.2 vals o (λ j vs. go o m i w (Of (Object j) ∷ vs) rest) (subst (λ z. HandsFine s (see g o) m i (Value z ∷ a.2) vals) is f) (λ j vs c p more. goes (Of (Object j) ∷ vs) (Component ∷ a.2) ((c, p), more) y)
+          any_some_popped P s (see g o) m i line a.2 vals o (λ p vs. go o m i w (Of p ∷ vs) rest) (subst (λ z. HandsFine s (see g o) m i (Value z ∷ a.2) vals) is f) (λ p vs e some more. goes (Of p ∷ vs) (Component ∷ a.2) (component p e some (length vs), more) y)
       by_kind (Refers c) (ObjectIn k) is f y =
-          object_popped P s (see g o) m i c line a.2 vals o (λ j vs. go o m i w (Of (Object j) ∷ vs) rest) f (λ j vs p more. goes (Of (Object j) ∷ vs) (ObjectIn k ∷ a.2) (object_up s ok (see g o) m b.store j c k p is, more) y)
+          some_popped P s (see g o) m i c line a.2 vals o (λ p vs. go o m i w (Of p ∷ vs) rest) f (λ p vs e some more. goes (Of p ∷ vs) (ObjectIn k ∷ a.2) (in_class c k is p e some (length vs), more) y)
       by_kind (Simply q) (ObjectIn k) is f y = absurd is
       by_kind (ArrayOf q) (ObjectIn k) is f y = absurd is
       by_kind h _ is f y = absurd is
@@ -323,6 +348,7 @@ module _ (s : Source) (ok : Typed s) (l : Limits) (o : World) (g : Marks) (long 
     where
       tested : (p : Plain) → kind_of p ≡ kind.Reference → (b : Bool) × (is_member s m member c p ≡ Some b)
       tested (Object j) e = (belongs s m member c j, refl)
+      tested (MainOf z) e = (main_belongs s m member c z, refl)
       tested Nothing e = (false, refl)
       tested (Integer z) e = absurd (cc)
       tested (Character z) e = absurd (cc)
@@ -331,14 +357,14 @@ module _ (s : Source) (ok : Typed s) (l : Limits) (o : World) (g : Marks) (long 
 
   pub qua_op : (c line : ℕ) → OpFine s (see g o) m i t (QuaOp c line) todo todo' before behind → Stepped (QuaOp c line)
   qua_op c line a =
-      any_object_popped P s (see g o) m i line a.1 vals o (λ j vs. qualifying line (is_in s m c) (Object j) o (go o m i w (Of (Object j) ∷ vs) rest)) (hand _ a.3) (λ j vs q p more.
-      held_reference_goes P s m c line (Object j) o (go o m i w (Of (Object j) ∷ vs) rest) (refl, (q, p)) (λ fine.
-      goes (Of (Object j) ∷ vs) (Value a.0 ∷ a.1) (val_fits s ok (see g o) m b.store i (Refers c) a.0 (Of (Object j)) a.2 fine, more) (works _ a.4 a.5)))
+      any_some_popped P s (see g o) m i line a.1 vals o (λ p vs. qualifying line (stands_in s m c) p o (go o m i w (Of p ∷ vs) rest)) (hand _ a.3) (λ p vs e some more.
+      held_reference_goes P s m ok c line p o (go o m i w (Of p ∷ vs) rest) e (λ fine.
+      goes (Of p ∷ vs) (Value a.0 ∷ a.1) (val_fits s ok (see g o) m b.store i (Refers c) a.0 (Of p) a.2 fine, more) (works _ a.4 a.5)))
 
   pub fits_op : (c line : ℕ) → OpFine s (see g o) m i t (FitsOp c line) todo todo' before behind → Stepped (FitsOp c line)
   fits_op c line a =
-      known_popped P s (see g o) m i kind.Reference a.1 vals o (λ p vs. qualifying line (is_in s m c) p o (go o m i w (Of p ∷ vs) rest)) (hand _ a.3) (λ p vs e more.
-      held_reference_goes P s m c line p o (go o m i w (Of p ∷ vs) rest) e (λ fine.
+      known_popped P s (see g o) m i kind.Reference a.1 vals o (λ p vs. qualifying line (stands_in s m c) p o (go o m i w (Of p ∷ vs) rest)) (hand _ a.3) (λ p vs e more.
+      held_reference_goes P s m ok c line p o (go o m i w (Of p ∷ vs) rest) e (λ fine.
       goes (Of p ∷ vs) (Value a.0 ∷ a.1) (val_fits s ok (see g o) m b.store i (Refers c) a.0 (Of p) a.2 fine, more) (works _ a.4 a.5)))
 
   -- an array that is kept stays
@@ -352,7 +378,7 @@ module _ (s : Source) (ok : Typed s) (l : Limits) (o : World) (g : Marks) (long 
       let next = replaced (see g o) n f.it now f.lives refl (inr refl) (λ k. refl) refl refl in
       let e = later_replaced (see g o) n f.it now f.lives refl (inr refl) (λ k. refl) refl refl s m in
       let copies : (j d : ℕ) → Copies (see g o) next j d = λ j d. copies_replaced (see g o) n f.it now f.lives refl (inr refl) (λ k. refl) refl refl a.0 f.known j d in
-      let store = store_with s (see g o) next m e refl refl copies (elements_replaced (see g o) n f.it now f.lives refl (inr refl) (λ k. refl) refl refl s m (Open a.0) f.known (λ q p at. b.store.elements n q f.it (Open a.0) p f.lives f.known at) b.store.elements) b.store.members b.store in
+      let store = store_with s (see g o) next m e refl refl copies (elements_replaced (see g o) n f.it now f.lives refl (inr refl) (λ k. refl) refl refl s m (Open a.0) f.known (λ q p at. b.store.elements n q f.it (Open a.0) p f.lives f.known at) b.store.elements) b.store.members b.store.simulations b.store in
       later_with s ok l o g long m i t rest top g (with_array o n now) (long ∙ sym (set_len o.arrays n now)) refl refl m e copies (same_ones m) store w (ArrayValue n ∷ vs) todo (Lasting a.0 ∷ a.1) (present_later s (see g o) m next m All e i t todo tt b.here) (own_later s (see g o) m next m All e i t todo tt b.here ∙ b.own)
       (record { it = now; lives = new_lives (see g o) n f.it now f.lives refl (inr refl) (λ k. refl) refl refl n refl; known = f.known; keeps = refl; count = f.count }, later_hands s ok l o g long m i t rest top g (with_array o n now) (long ∙ sym (set_len o.arrays n now)) refl refl m e copies (same_ones m) store a.1 vs hands) (works _ a.3 a.4))))
 

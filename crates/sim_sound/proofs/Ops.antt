@@ -31,6 +31,7 @@ use Rattle.sim_sound.proofs.Moves.{SameOnes, later_cell, operates_on, same_cell,
 use Rattle.sim_sound.proofs.Prefixes.{LevelOf, same_is}
 use Rattle.sim_sound.proofs.References.{held_reference_goes}
 use Rattle.sim_sound.proofs.Running.{Begun, ChainFine, Operates, StoreFine, WorkFine}
+use Rattle.sim_sound.proofs.Simulated.{SimulationsFine}
 use Rattle.sim_sound.proofs.Sound.{ObjectIn, AddressOf, AllArrays, CellTarget, Component, Copied, ElementFine, HandFine, HandsFine, ImageAddress, IsPlain, KeyAmong, Kinds, Lasting, Leads, LinkTo, Made, Marks, OperandIs, PlainFine, Present, ReferenceAddress, ValFine, Value, Waits, in_instance as at_cell, key_of, keys_in, own_text, see}
 
 among_cases : (e : DeclNo) (xs : List DeclNo) → Among e xs → (d : DeclNo) (ds : List DeclNo) → xs ≡ d ∷ ds → (e ≡ d) ⊎ Among e ds
@@ -41,13 +42,14 @@ abbrev pub with_arrays : World → List OneArray → World
 with_arrays o a = record o { arrays = a }
 
 -- a store with other arrays
-pub store_with : (s : Source) (o o' : AllArrays) (m : Instances) → Later s o m o' m All → o'.beneath ≡ o.beneath → o'.waiting ≡ o.waiting → ((j d : ℕ) → Copies o o' j d) → ElementsFine s o' m → MembersFine s o'.members m → StoreFine s o m → StoreFine s o' m
-store_with s o o' m e same waits copies fine members store = record {
+pub store_with : (s : Source) (o o' : AllArrays) (m : Instances) → Later s o m o' m All → o'.beneath ≡ o.beneath → o'.waiting ≡ o.waiting → ((j d : ℕ) → Copies o o' j d) → ElementsFine s o' m → MembersFine s o'.members m → SimulationsFine s o'.simulations m → StoreFine s o m → StoreFine s o' m
+store_with s o o' m e same waits copies fine members simulations store = record {
   instances = λ j x lives. instance_later s o m o' m All e j x tt (store.instances j x lives);
   elements = fine;
   kept = kept_all s o m o' m e refl waits copies store.kept;
   noted = ap length same ∙ store.noted;
   members = members;
+  simulations = simulations;
 }
 
 module _ (s : Source) (ok : Typed s) (l : Limits) (o : World) (g : Marks) (long : length g.sights ≡ length o.arrays) (m : Instances) (i t : ℕ) (rest : List Activation) (top : Operates g.beneath m i rest) where
@@ -138,7 +140,7 @@ module _ (s : Source) (ok : Typed s) (l : Limits) (o : World) (g : Marks) (long 
       let set : element_set o a n p ≡ Some (with_arrays o now.real) = ap (λ z. element_set_in o a n p z (element o a n)) (f.array).lives ∙ ap (λ z. element_set_in o a n p (Some (f.array).it) z) q.1 in
       had (IsFine s) (element_set o a n p) (with_arrays o now.real) o (λ o. go o m i w vals rest) set
       (later_goes g (with_arrays o now.real) (long ∙ sym (set_len o.arrays a (new (see g o) m i h0 a n p f))) refl refl m e (λ j d. copies_element (see g o) m i h0 a n p f j d) (same_ones m)
-      (store_with s (see g o) now m e refl refl (λ j d. copies_element (see g o) m i h0 a n p f j d) (elements_changed (see g o) m i h0 a n p f s is b.store.elements) b.store.members b.store) w vals todo ks b h work)
+      (store_with s (see g o) now m e refl refl (λ j d. copies_element (see g o) m i h0 a n p f j d) (elements_changed (see g o) m i h0 a n p f s is b.store.elements) b.store.members b.store.simulations b.store) w vals todo ks b h work)
 
   pub putting_goes : (q : Holds) (p v : Val) (w : List Item) (vals : List Val) (todo : List DeclNo) (ks : List Kinds) → IsPlain q → HandFine s (see g o) m i (AddressOf q) p → ValFine s (see g o) m i q v → Bg todo → Hd ks vals → Wk w todo ks → Go (having (variable_in p) o (λ p. putting p v o m (λ o m. go o m i w vals rest)))
   unfolding putting
@@ -167,10 +169,10 @@ module _ (s : Source) (ok : Typed s) (l : Limits) (o : World) (g : Marks) (long 
   unfolding putting_reference
   putting_reference_goes c line (Address (ElementPlace a n (Some k))) p w vals todo ks f is b h work =
       had (IsFine s) (Some (ElementPlace a n (Some k))) (ElementPlace a n (Some k)) o (λ place. putting_reference s line place p o m (λ o m. go o m i w vals rest)) refl
-      (held_reference_goes (IsFine s) s m k line p o (having (element_set o a n p) o (λ o. go o m i w vals rest)) is (λ fine. put_element a n (Refers c) p w vals todo ks f.1 (subst (λ z. PlainFine s m (Refers z) p) f.0 fine) b h work))
+      (held_reference_goes (IsFine s) s m ok k line p o (having (element_set o a n p) o (λ o. go o m i w vals rest)) is (λ fine. put_element a n (Refers c) p w vals todo ks f.1 (subst (λ z. PlainFine s m (Refers z) p) f.0 fine) b h work))
   putting_reference_goes c line (Address (CellPlace e key (Some k))) p w vals todo ks f is b h work =
       had (IsFine s) (Some (CellPlace e key (Some k))) (CellPlace e key (Some k)) o (λ place. putting_reference s line place p o m (λ o m. go o m i w vals rest)) refl
-      (held_reference_goes (IsFine s) s m k line p o (having (cell_set m e key (Of p)) o (λ m. go o m i w vals rest)) is (λ fine. set_goes e key (Refers c) (Of p) w vals todo ks f.1 tt (subst (λ z. PlainFine s m (Refers z) p) f.0 fine) b h work))
+      (held_reference_goes (IsFine s) s m ok k line p o (having (cell_set m e key (Of p)) o (λ m. go o m i w vals rest)) is (λ fine. set_goes e key (Refers c) (Of p) w vals todo ks f.1 tt (subst (λ z. PlainFine s m (Refers z) p) f.0 fine) b h work))
   putting_reference_goes c line (Address (ElementPlace a n None)) p w vals todo ks f is b h work = absurd f
   putting_reference_goes c line (Address (CellPlace a n None)) p w vals todo ks f is b h work = absurd f
   putting_reference_goes c line (Address (ImagePlace a)) p w vals todo ks f is b h work = absurd f

@@ -4,6 +4,7 @@ use Rattle.std.proofs.Common.{◌≡◌, ℕ, zero, suc, [], ◌∷◌, false, l
 use Rattle.std.specs.Prelude.{slice_get}
 use Rattle.std.specs.List.{list_any}
 use Rattle.sim_base.specs.declared.numbering.DeclNo.{DeclNo}
+use Rattle.sim_scope.specs.declared.types.StandardClass.TheVariants as standard
 use Rattle.sim_scope.specs.declared.types.Entry.TheVariants as entry
 use Rattle.sim_scope.specs.declared.types.SimType.{SimType}
 use Rattle.sim_values.specs.declared.kind.Kind.TheVariants as kind
@@ -11,7 +12,7 @@ use Rattle.sim_meaning.specs.ClassExamples.{class_in_class}
 use Rattle.sim_meaning.specs.Entries.{formals_of as formals_in, is_held, numbers_of}
 use Rattle.sim_sound.specs.Held.{Among, ArrayOf, Holds, IsFormal, Seen, Simply, entry_holds, first, further, itself, later}
 use Rattle.sim_sound.specs.Typed.{ClassThere, ConstantHas, Ends, PrefixTyped, ProcedureThere, Typed, as_block, outermost, prefixed, stands}
-use Rattle.sim_sound.proofs.Examples.{NoSetProcedure, NoSetText, RowHolds, TextHolds, no_set_procedure, no_set_text, none_among, number, row_holds, text_holds}
+use Rattle.sim_sound.proofs.Examples.{NoSetProcedure, NoSetText, RowHolds, TextHolds, no_set_procedure, no_set_text, none_among, number, row_holds, text_holds, true_never}
 use Rattle.sim_meaning.specs.Entries.{formals_of as formals_in, is_held, numbers_of}
 use Rattle.std.specs.Fmt.{digits}
 use Rattle.sim_code.specs.Arrays.{element_place, making_array, copying_array, keeping_array, finding_element, giving_back, handed_over}
@@ -34,7 +35,7 @@ use Rattle.sim_scope.specs.Building.{default_mode, mode_allowed, marked}
 use Rattle.sim_scope.specs.Declare.{class_prefix_marks, prefixed_marks, prefix_marks, standard_marks, marks_of_standard, type_named, result_named, mode_named, first_of_procedure, first_of_class, variable_marks, array_marks, parameter_marks, moded_marks, specified_marks, headed_marks, procedure_marks, class_marks, virtual_name_marks, program_marks, inner_marks, declaring, of_segment, of_mode_part, of_specification, of_specifier, of_virtual, of_heading, declared_by, declarations_of, qualified_marks, qualified_result}
 use Rattle.sim_scope.specs.Runs.{run as run_of_runs}
 use Rattle.sim_scope.specs.Access.{encloser, block_at as block_at_of_scopes, accessible, protects, is_kind, some_around_of, some_around}
-use Rattle.sim_scope.specs.Levels.{base, class_block, has_level, is_simulation_block, some_level_of}
+use Rattle.sim_scope.specs.Levels.{base, class_block, has_level, is_for_prefixing, is_simulation_block, some_level_of}
 use Rattle.sim_scope.specs.Scopes.{class_formals, shows_detach, class_formals_of, found_in, if_found, lookup, shown as shown_of_scopes, searched, declaration_from, binding, entry_of, formals_of, formal_of, result_of, brought_by, level_shows, shown_of, is_detach, ends_search, outward, virtual_of, represented, standard_at}
 use Rattle.sim_scope.specs.Source.{source_of, found_at, denoted, type_at, line_at, level_of, block_of, block_around}
 use Rattle.sim_scope.specs.Standard.{standard_prefix, standard_name, text_attribute, sysin_attribute, sysout_attribute, signature, undeclared}
@@ -93,7 +94,7 @@ q_made d k (later (later first)) e = absurd (cc)
 q_made d k (later (later (later a))) e = a
 
 q_block : TextHolds class_in_class 0 (text class_in_class 0)
-unfolding digits element_place making_array copying_array keeping_array finding_element giving_back handed_over stopping no_rule ticking taking entering having when computing choosing popping pop_many pop_plain pop_truth pop_integers pop_operands pop_text answering applying_one applying_two testing_step performing putting_back assigning making_text joining at_level kept_on pushing index level_of_machine cell_at jumping block_at own_block leaving with_result putting put_back is_text home_of first_cells leaving_of_meaning constants_of putting_of_steps back_of_steps text_constants text_constant is_variable stream_of own_result result_meant is_inside text is_class_free declared_at constant_of calculate compare compare_as_texts connect same_objects same_texts two_of one_of step_test take_integer take_character take_text take_nothing row_of standard_effect default_mode mode_allowed marked type_named result_named mode_named first_of_procedure first_of_class variable_marks array_marks parameter_marks moded_marks specified_marks headed_marks procedure_marks class_marks virtual_name_marks program_marks inner_marks declaring of_segment of_mode_part of_specification of_specifier of_virtual of_heading declared_by declarations_of run_of_runs lookup shown_of_scopes encloser searched block_at_of_scopes declaration_from binding entry_of formals_of formal_of result_of source_of denoted type_at line_at level_of block_of block_around standard_name text_attribute sysin_attribute sysout_attribute signature undeclared program_events of_statement of_branch of_arm of_block of_whole of_class_body of_declaration accessible protects is_kind some_around_of some_around base brought_by level_shows shown_of is_detach ends_search outward virtual_of represented standard_at qualified_marks qualified_result connection_at transfer_at found_at is_attribute qualification class_prefix_marks prefixed_marks prefix_marks standard_marks marks_of_standard standard_prefix standard_texts class_block has_level is_simulation_block some_level_of shows_detach class_formals class_formals_of found_in if_found object_ended pop_object qualifying referring belongs class_at is_in is_of levels levels_of first_along is_this this_block this_of with_entry_at putting_reference own_attribute
+unfolding digits element_place making_array copying_array keeping_array finding_element giving_back handed_over stopping no_rule ticking taking entering having when computing choosing popping pop_many pop_plain pop_truth pop_integers pop_operands pop_text answering applying_one applying_two testing_step performing putting_back assigning making_text joining at_level kept_on pushing index level_of_machine cell_at jumping block_at own_block leaving with_result putting put_back is_text home_of first_cells leaving_of_meaning constants_of putting_of_steps back_of_steps text_constants text_constant is_variable stream_of own_result result_meant is_inside text is_class_free declared_at constant_of calculate compare compare_as_texts connect same_objects same_texts two_of one_of step_test take_integer take_character take_text take_nothing row_of standard_effect default_mode mode_allowed marked type_named result_named mode_named first_of_procedure first_of_class variable_marks array_marks parameter_marks moded_marks specified_marks headed_marks procedure_marks class_marks virtual_name_marks program_marks inner_marks declaring of_segment of_mode_part of_specification of_specifier of_virtual of_heading declared_by declarations_of run_of_runs lookup shown_of_scopes encloser searched block_at_of_scopes declaration_from binding entry_of formals_of formal_of result_of source_of denoted type_at line_at level_of block_of block_around standard_name text_attribute sysin_attribute sysout_attribute signature undeclared program_events of_statement of_branch of_arm of_block of_whole of_class_body of_declaration accessible protects is_kind some_around_of some_around base brought_by level_shows shown_of is_detach ends_search outward virtual_of represented standard_at qualified_marks qualified_result connection_at transfer_at found_at is_attribute qualification class_prefix_marks prefixed_marks prefix_marks standard_marks marks_of_standard standard_prefix standard_texts class_block has_level is_simulation_block some_level_of shows_detach class_formals class_formals_of found_in if_found object_ended pop_object qualifying referring belongs class_at is_in is_of levels levels_of first_along is_this this_block this_of with_entry_at putting_reference own_attribute is_for_prefixing
 q_block = record {
   no_formals = (tt, (tt, (tt, tt)));
   arrays = tt;
@@ -101,8 +102,8 @@ q_block = record {
   made = q_made;
   own = λ d a. absurd (none_among d a);
   statements = (
-    (kind.Reference, ((refl, record { class = 1; qualified = refl; at = (refl, q_in_block) }), tt), (record { declaration = number 6; denotes = refl; class = 3; declares = refl; seen = q_in_block; actuals = (refl, tt) }, refl)),
-    (((refl, record { class = 3; is = refl }, (refl, q_in_block)), (None, (((refl, refl), refl), (refl, (refl, tt))), refl), tt), ((None, (((refl, refl), refl), tt), refl), tt)),
+    (kind.Reference, ((refl, record { class = 1; qualified = refl; at = (refl, q_in_block) }), tt), (record { declaration = number 6; denotes = refl; class = 3; declares = refl; made = refl; single = refl; seen = q_in_block; actuals = (refl, tt) }, refl)),
+    (((refl, record { class = 3; is = refl }, (refl, q_in_block)), (None, (((refl, refl, refl), refl), (refl, (refl, tt))), refl), tt), ((None, (((refl, refl, refl), refl), tt), refl), tt)),
   );
 }
 
@@ -136,7 +137,7 @@ q_apart_one : Among (number 2) (number 5 ∷ []) → ⊥
 q_apart_one (later a) = none_among (number 2) a
 
 q_outer : TextHolds class_in_class 1 (text class_in_class 1)
-unfolding digits element_place making_array copying_array keeping_array finding_element giving_back handed_over stopping no_rule ticking taking entering having when computing choosing popping pop_many pop_plain pop_truth pop_integers pop_operands pop_text answering applying_one applying_two testing_step performing putting_back assigning making_text joining at_level kept_on pushing index level_of_machine cell_at jumping block_at own_block leaving with_result putting put_back is_text home_of first_cells leaving_of_meaning constants_of putting_of_steps back_of_steps text_constants text_constant is_variable stream_of own_result result_meant is_inside text is_class_free declared_at constant_of calculate compare compare_as_texts connect same_objects same_texts two_of one_of step_test take_integer take_character take_text take_nothing row_of standard_effect default_mode mode_allowed marked type_named result_named mode_named first_of_procedure first_of_class variable_marks array_marks parameter_marks moded_marks specified_marks headed_marks procedure_marks class_marks virtual_name_marks program_marks inner_marks declaring of_segment of_mode_part of_specification of_specifier of_virtual of_heading declared_by declarations_of run_of_runs lookup shown_of_scopes encloser searched block_at_of_scopes declaration_from binding entry_of formals_of formal_of result_of source_of denoted type_at line_at level_of block_of block_around standard_name text_attribute sysin_attribute sysout_attribute signature undeclared program_events of_statement of_branch of_arm of_block of_whole of_class_body of_declaration accessible protects is_kind some_around_of some_around base brought_by level_shows shown_of is_detach ends_search outward virtual_of represented standard_at qualified_marks qualified_result connection_at transfer_at found_at is_attribute qualification class_prefix_marks prefixed_marks prefix_marks standard_marks marks_of_standard standard_prefix standard_texts class_block has_level is_simulation_block some_level_of shows_detach class_formals class_formals_of found_in if_found object_ended pop_object qualifying referring belongs class_at is_in is_of levels levels_of first_along is_this this_block this_of with_entry_at putting_reference own_attribute
+unfolding digits element_place making_array copying_array keeping_array finding_element giving_back handed_over stopping no_rule ticking taking entering having when computing choosing popping pop_many pop_plain pop_truth pop_integers pop_operands pop_text answering applying_one applying_two testing_step performing putting_back assigning making_text joining at_level kept_on pushing index level_of_machine cell_at jumping block_at own_block leaving with_result putting put_back is_text home_of first_cells leaving_of_meaning constants_of putting_of_steps back_of_steps text_constants text_constant is_variable stream_of own_result result_meant is_inside text is_class_free declared_at constant_of calculate compare compare_as_texts connect same_objects same_texts two_of one_of step_test take_integer take_character take_text take_nothing row_of standard_effect default_mode mode_allowed marked type_named result_named mode_named first_of_procedure first_of_class variable_marks array_marks parameter_marks moded_marks specified_marks headed_marks procedure_marks class_marks virtual_name_marks program_marks inner_marks declaring of_segment of_mode_part of_specification of_specifier of_virtual of_heading declared_by declarations_of run_of_runs lookup shown_of_scopes encloser searched block_at_of_scopes declaration_from binding entry_of formals_of formal_of result_of source_of denoted type_at line_at level_of block_of block_around standard_name text_attribute sysin_attribute sysout_attribute signature undeclared program_events of_statement of_branch of_arm of_block of_whole of_class_body of_declaration accessible protects is_kind some_around_of some_around base brought_by level_shows shown_of is_detach ends_search outward virtual_of represented standard_at qualified_marks qualified_result connection_at transfer_at found_at is_attribute qualification class_prefix_marks prefixed_marks prefix_marks standard_marks marks_of_standard standard_prefix standard_texts class_block has_level is_simulation_block some_level_of shows_detach class_formals class_formals_of found_in if_found object_ended pop_object qualifying referring belongs class_at is_in is_of levels levels_of first_along is_this this_block this_of with_entry_at putting_reference own_attribute is_for_prefixing
 q_outer = record {
   formals = (Simply kind.Integer, refl, refl, tt);
   parameters = q_outer_parameters;
@@ -147,11 +148,10 @@ q_outer = record {
   made = q_outer_arrays;
   own = λ d a. absurd (none_among d a);
   statements = (
-    (kind.Reference, ((refl, record { class = 2; qualified = refl; at = (refl, q_in_outer) }), tt), (record { declaration = number 2; denotes = refl; class = 2; declares = refl; seen = q_in_outer; actuals = (refl, tt) }, refl)),
-    ((None, (((refl, refl), refl), ((refl, (2, refl, refl, (refl, (2, refl, refl, (refl, q_in_outer))))), (refl, tt))), refl), ((refl, refl), tt)),
+    (kind.Reference, ((refl, record { class = 2; qualified = refl; at = (refl, q_in_outer) }), tt), (record { declaration = number 2; denotes = refl; class = 2; declares = refl; made = refl; single = refl; seen = q_in_outer; actuals = (refl, tt) }, refl)),
+    ((None, (((refl, refl, refl), refl), ((refl, (2, refl, refl, (refl, (2, refl, refl, (refl, q_in_outer))))), (refl, tt))), refl), ((refl, refl), tt)),
   );
   stays = refl;
-  not_simulation = refl;
 }
 
 -- ---- the class inside
@@ -193,7 +193,6 @@ q_cell = record {
     ((kind.Integer, ((refl, q_in_cell), tt), (kind.Integer, kind.Integer, (refl, refl), refl, (refl, q_in_cell), (refl, q_around_cell))), tt),
   );
   stays = refl;
-  not_simulation = refl;
 }
 
 -- ---- the class with the prefix
@@ -203,7 +202,7 @@ unfolding digits element_place making_array copying_array keeping_array finding_
 q_more_none d a = none_among d a
 
 q_more : TextHolds class_in_class 3 (text class_in_class 3)
-unfolding digits element_place making_array copying_array keeping_array finding_element giving_back handed_over stopping no_rule ticking taking entering having when computing choosing popping pop_many pop_plain pop_truth pop_integers pop_operands pop_text answering applying_one applying_two testing_step performing putting_back assigning making_text joining at_level kept_on pushing index level_of_machine cell_at jumping block_at own_block leaving with_result putting put_back is_text home_of first_cells leaving_of_meaning constants_of putting_of_steps back_of_steps text_constants text_constant is_variable stream_of own_result result_meant is_inside text is_class_free declared_at constant_of calculate compare compare_as_texts connect same_objects same_texts two_of one_of step_test take_integer take_character take_text take_nothing row_of standard_effect default_mode mode_allowed marked type_named result_named mode_named first_of_procedure first_of_class variable_marks array_marks parameter_marks moded_marks specified_marks headed_marks procedure_marks class_marks virtual_name_marks program_marks inner_marks declaring of_segment of_mode_part of_specification of_specifier of_virtual of_heading declared_by declarations_of run_of_runs lookup shown_of_scopes encloser searched block_at_of_scopes declaration_from binding entry_of formals_of formal_of result_of source_of denoted type_at line_at level_of block_of block_around standard_name text_attribute sysin_attribute sysout_attribute signature undeclared program_events of_statement of_branch of_arm of_block of_whole of_class_body of_declaration accessible protects is_kind some_around_of some_around base brought_by level_shows shown_of is_detach ends_search outward virtual_of represented standard_at qualified_marks qualified_result connection_at transfer_at found_at is_attribute qualification class_prefix_marks prefixed_marks prefix_marks standard_marks marks_of_standard standard_prefix standard_texts class_block has_level is_simulation_block some_level_of shows_detach class_formals class_formals_of found_in if_found object_ended pop_object qualifying referring belongs class_at is_in is_of levels levels_of first_along is_this this_block this_of with_entry_at putting_reference own_attribute
+unfolding digits element_place making_array copying_array keeping_array finding_element giving_back handed_over stopping no_rule ticking taking entering having when computing choosing popping pop_many pop_plain pop_truth pop_integers pop_operands pop_text answering applying_one applying_two testing_step performing putting_back assigning making_text joining at_level kept_on pushing index level_of_machine cell_at jumping block_at own_block leaving with_result putting put_back is_text home_of first_cells leaving_of_meaning constants_of putting_of_steps back_of_steps text_constants text_constant is_variable stream_of own_result result_meant is_inside text is_class_free declared_at constant_of calculate compare compare_as_texts connect same_objects same_texts two_of one_of step_test take_integer take_character take_text take_nothing row_of standard_effect default_mode mode_allowed marked type_named result_named mode_named first_of_procedure first_of_class variable_marks array_marks parameter_marks moded_marks specified_marks headed_marks procedure_marks class_marks virtual_name_marks program_marks inner_marks declaring of_segment of_mode_part of_specification of_specifier of_virtual of_heading declared_by declarations_of run_of_runs lookup shown_of_scopes encloser searched block_at_of_scopes declaration_from binding entry_of formals_of formal_of result_of source_of denoted type_at line_at level_of block_of block_around standard_name text_attribute sysin_attribute sysout_attribute signature undeclared program_events of_statement of_branch of_arm of_block of_whole of_class_body of_declaration accessible protects is_kind some_around_of some_around base brought_by level_shows shown_of is_detach ends_search outward virtual_of represented standard_at qualified_marks qualified_result connection_at transfer_at found_at is_attribute qualification class_prefix_marks prefixed_marks prefix_marks standard_marks marks_of_standard standard_prefix standard_texts class_block has_level is_simulation_block some_level_of shows_detach class_formals class_formals_of found_in if_found object_ended pop_object qualifying referring belongs class_at is_in is_of levels levels_of first_along is_this this_block this_of with_entry_at putting_reference own_attribute is_for_prefixing
 q_more = record {
   formals = (Simply kind.Integer, refl, refl, tt);
   parameters = λ d a f. absurd (q_more_none d a);
@@ -216,12 +215,11 @@ q_more = record {
   statements = (
     (kind.Integer, ((refl, q_in_prefix), tt), refl),
     (
-      (kind.Reference, ((refl, record { class = 2; qualified = refl; at = (refl, q_in_prefix) }), tt), (record { declaration = number 2; denotes = refl; class = 2; declares = refl; seen = q_in_prefix; actuals = (refl, tt) }, refl)),
-      ((None, (((refl, refl), refl), ((refl, (2, refl, refl, (refl, q_in_prefix))), (refl, tt))), refl), ((kind.Reference, ((refl, record { class = 2; qualified = refl; at = (refl, q_in_prefix) }), tt), (refl, (2, refl, refl, (refl, q_in_prefix)))), tt)),
+      (kind.Reference, ((refl, record { class = 2; qualified = refl; at = (refl, q_in_prefix) }), tt), (record { declaration = number 2; denotes = refl; class = 2; declares = refl; made = refl; single = refl; seen = q_in_prefix; actuals = (refl, tt) }, refl)),
+      ((None, (((refl, refl, refl), refl), ((refl, (2, refl, refl, (refl, q_in_prefix))), (refl, tt))), refl), ((kind.Reference, ((refl, record { class = 2; qualified = refl; at = (refl, q_in_prefix) }), tt), (refl, (2, refl, refl, (refl, q_in_prefix)))), tt)),
     ),
   );
   stays = refl;
-  not_simulation = refl;
 }
 
 q_texts : (k : ℕ) → TextHolds class_in_class k (text class_in_class k)
@@ -348,6 +346,14 @@ q_no_set (suc (suc zero)) = tt
 q_no_set (suc (suc (suc zero))) = tt
 q_no_set (suc (suc (suc (suc k)))) = tt
 
+q_no_simulation : (k : ℕ) → is_simulation_block class_in_class.tables k ≡ false
+unfolding digits element_place making_array copying_array keeping_array finding_element giving_back handed_over stopping no_rule ticking taking entering having when computing choosing popping pop_many pop_plain pop_truth pop_integers pop_operands pop_text answering applying_one applying_two testing_step performing putting_back assigning making_text joining at_level kept_on pushing index level_of_machine cell_at jumping block_at own_block leaving with_result putting put_back is_text home_of first_cells leaving_of_meaning constants_of putting_of_steps back_of_steps text_constants text_constant is_variable stream_of own_result result_meant is_inside text is_class_free declared_at constant_of calculate compare compare_as_texts connect same_objects same_texts two_of one_of step_test take_integer take_character take_text take_nothing row_of standard_effect default_mode mode_allowed marked type_named result_named mode_named first_of_procedure first_of_class variable_marks array_marks parameter_marks moded_marks specified_marks headed_marks procedure_marks class_marks virtual_name_marks program_marks inner_marks declaring of_segment of_mode_part of_specification of_specifier of_virtual of_heading declared_by declarations_of run_of_runs lookup shown_of_scopes encloser searched block_at_of_scopes declaration_from binding entry_of formals_of formal_of result_of source_of denoted type_at line_at level_of block_of block_around standard_name text_attribute sysin_attribute sysout_attribute signature undeclared program_events of_statement of_branch of_arm of_block of_whole of_class_body of_declaration accessible protects is_kind some_around_of some_around base brought_by level_shows shown_of is_detach ends_search outward virtual_of represented standard_at qualified_marks qualified_result connection_at transfer_at found_at is_attribute qualification class_prefix_marks prefixed_marks prefix_marks standard_marks marks_of_standard standard_prefix standard_texts class_block has_level is_simulation_block some_level_of shows_detach class_formals class_formals_of found_in if_found object_ended pop_object qualifying referring belongs class_at is_in is_of levels levels_of first_along is_this this_block this_of with_entry_at putting_reference own_attribute
+q_no_simulation zero = refl
+q_no_simulation (suc zero) = refl
+q_no_simulation (suc (suc zero)) = refl
+q_no_simulation (suc (suc (suc zero))) = refl
+q_no_simulation (suc (suc (suc (suc k)))) = refl
+
 q_no_attribute : (n : ℕ) → NoSetProcedure (entry_of class_in_class.tables (number n))
 unfolding digits element_place making_array copying_array keeping_array finding_element giving_back handed_over stopping no_rule ticking taking entering having when computing choosing popping pop_many pop_plain pop_truth pop_integers pop_operands pop_text answering applying_one applying_two testing_step performing putting_back assigning making_text joining at_level kept_on pushing index level_of_machine cell_at jumping block_at own_block leaving with_result putting put_back is_text home_of first_cells leaving_of_meaning constants_of putting_of_steps back_of_steps text_constants text_constant is_variable stream_of own_result result_meant is_inside text is_class_free declared_at constant_of calculate compare compare_as_texts connect same_objects same_texts two_of one_of step_test take_integer take_character take_text take_nothing row_of standard_effect default_mode mode_allowed marked type_named result_named mode_named first_of_procedure first_of_class variable_marks array_marks parameter_marks moded_marks specified_marks headed_marks procedure_marks class_marks virtual_name_marks program_marks inner_marks declaring of_segment of_mode_part of_specification of_specifier of_virtual of_heading declared_by declarations_of run_of_runs lookup shown_of_scopes encloser searched block_at_of_scopes declaration_from binding entry_of formals_of formal_of result_of source_of denoted type_at line_at level_of block_of block_around standard_name text_attribute sysin_attribute sysout_attribute signature undeclared program_events of_statement of_branch of_arm of_block of_whole of_class_body of_declaration accessible protects is_kind some_around_of some_around base brought_by level_shows shown_of is_detach ends_search outward virtual_of represented standard_at qualified_marks qualified_result connection_at transfer_at found_at is_attribute qualification class_prefix_marks prefixed_marks prefix_marks standard_marks marks_of_standard standard_prefix standard_texts class_block has_level is_simulation_block some_level_of shows_detach class_formals class_formals_of found_in if_found object_ended pop_object qualifying referring belongs class_at is_in is_of levels levels_of first_along is_this this_block this_of with_entry_at putting_reference own_attribute
 q_no_attribute zero = tt
@@ -376,5 +382,9 @@ q_typed = record {
   keeps_none = λ k result h a is e. q_keeps k;
   set_classes = λ k which e. absurd (no_set_text (text class_in_class k) which (q_no_set k) e);
   set_procedures = λ d name parameter result e named. absurd (no_set_procedure (entry_of class_in_class.tables d) name parameter result (q_no_attribute d.0) e);
+  simulations = λ k e. absurd (true_never (is_simulation_block class_in_class.tables k) (q_no_simulation k) e);
+  processes = λ c k solid e is. absurd (no_set_text (text class_in_class k) standard.Process (q_no_set k) is);
+  simulation_procedures = λ d name parameter result e named. absurd (no_set_procedure (entry_of class_in_class.tables d) name parameter result (q_no_attribute d.0) e);
+  bare = λ d row which at is. absurd (no_set_text (text class_in_class row.block) which (q_no_set row.block) is);
   no_set_block = λ k u which class es ds ss e at is. no_set_text (text class_in_class u) which (q_no_set u) is;
 }

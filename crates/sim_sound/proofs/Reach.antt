@@ -107,7 +107,7 @@ module _ (s : Source) (ok : Typed s) (o : AllArrays) (m : Instances) where
         by_stands go (connected {u = w} is' around key z) = go w around z
 
     -- and an instance of a text is one of its levels
-    whole_level : (e t v w : ℕ) → encloser s.tables t ≡ Some v → (v ≡ w) ⊎ ((h : ℕ) × Home s t h × LevelOf s h w) → Whole s m e v → Whole s m e w
+    pub whole_level : (e t v w : ℕ) → encloser s.tables t ≡ Some v → (v ≡ w) ⊎ ((h : ℕ) × Home s t h × LevelOf s h w) → Whole s m e v → Whole s m e w
     whole_level e t v w f near p =
         ⊎_elim (λ same. subst (Whole s m e) same p)
         (λ l. record { now = p.now; lives = p.lives; stands = stands_level_of s p.now l.0 w (home_solid s l.1) (stands_home p.now (store.instances e p.now p.lives).solid l.1 v f p.stands) l.2; words = p.words; has_text = p.has_text; made = p.made }) near

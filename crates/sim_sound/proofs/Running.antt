@@ -18,6 +18,7 @@ use Rattle.sim_meaning.specs.Pending.{Activation, Configuration, Do, EndBlock, E
 use Rattle.sim_meaning.specs.Texts.{ProcedureText, is_class_free, text}
 use Rattle.sim_sound.specs.Held.{Fits, Holds, Refers}
 use Rattle.sim_sound.proofs.Members.{MembersFine, no_members}
+use Rattle.sim_sound.proofs.Simulated.{SimulationsFine}
 use Rattle.sim_sound.proofs.Sound.{AllArrays, Generated, GivesResult, HandsFine, InstanceFine, Kinds, OpFine, PlainFine, Present, Sight, Stays, Suspended, Takes, Value, Waits, elements_of, given}
 
 -- an instance that is an object's
@@ -146,13 +147,14 @@ StandsFine s o m j TerminatedObject = Unit {0}
 -- ---- the store
 
 -- Each instance that was not given back is as its text says, wherever it stands; each element of an array holds what the array's do; so is all
--- that stands on the chains that are kept; and the linkages are those of the objects.
+-- that stands on the chains that are kept; the linkages are those of the objects and main programs; and the simulation blocks have their entries.
 pub record StoreFine (s : Source) (o : AllArrays) (m : Instances) : Type 0 where
   pub instances : (j : ℕ) (x : Instance (List Held)) → live m j ≡ Some x → InstanceFine s o m j x
   pub elements : (a i : ℕ) (it : OneArray) (x : Sight) (p : Plain) → unless_given (slice_get o.real a) ≡ Some it → slice_get o.sights a ≡ Some x → slice_get it.elements i ≡ Some p → PlainFine s m (elements_of x) p
   pub kept : (j : ℕ) (x : Standing Activation) → slice_get m.standings j ≡ Some x → StandsFine s o m j x
   pub noted : length o.beneath ≡ length m.instances
   pub members : MembersFine s o.members m
+  pub simulations : SimulationsFine s o.simulations m
 
 -- an instance whose arrays are made but for these, in such a store
 pub record Begun (s : Source) (o : AllArrays) (m : Instances) (j t : ℕ) (todo : List DeclNo) : Type 0 where
@@ -195,5 +197,5 @@ pub record Operates (beneath : List (Option ℕ)) (m : Instances) (i : ℕ) (res
 
 -- before the first step there is nothing
 pub data Fine (s : Source) (o : AllArrays) (c : Configuration) : Type 0 where
-  opens : c.chain ≡ [] → (c.memory).instances ≡ [] → (c.memory).standings ≡ [] → o.sights ≡ [] → o.beneath ≡ [] → o.members ≡ no_members → Fine s o c
+  opens : c.chain ≡ [] → (c.memory).instances ≡ [] → (c.memory).standings ≡ [] → o.sights ≡ [] → o.beneath ≡ [] → o.members ≡ no_members → o.simulations ≡ [] → Fine s o c
   runs : StoreFine s o c.memory → Placed c.memory c.chain → Headed c.memory c.chain → ChainFine s o c.memory c.chain (Takes None) → Fine s o c

@@ -7,17 +7,18 @@ use Rattle.sim_scope.specs.declared.scopes.Declaration.{Declaration}
 use Rattle.sim_scope.specs.declared.types.Entry.{Entry}
 use Rattle.sim_scope.specs.declared.types.Entry.TheVariants as entry
 use Rattle.sim_scope.specs.declared.types.StandardClass.{StandardClass}
+use Rattle.sim_scope.specs.declared.types.StandardClass.TheVariants as standard
 use Rattle.sim_scope.specs.Source.{Source}
 use Rattle.sim_tree.specs.declared.expr.Identifier.{Identifier}
 use Rattle.sim_tree.specs.Syntax.{Declarations, Expressions, Statements}
 use Rattle.sim_values.specs.declared.kind.Kind.TheVariants as kind
-use Rattle.sim_meaning.specs.Entries.{formals_of as formals_in, is_held, numbers_of}
 use Rattle.sim_meaning.specs.Texts.{PrefixedText, StandardText, Text}
+use Rattle.sim_code.specs.Simulations.{is_simulation_name}
 use Rattle.sim_sound.specs.Held.{Among, Holds, IsFormal, Seen, entry_holds, first, itself, later}
 use Rattle.sim_sound.specs.SetProgram.{link_in_set}
-use Rattle.sim_sound.specs.Typed.{ClassThere, Distinct, PrefixTyped, Prefixes, SetClassThere, SetClasses, SetProcedureThere, Typed, as_prefixed, stands}
+use Rattle.sim_sound.specs.Typed.{ClassThere, Distinct, IsAttribute, PrefixTyped, Prefixes, SetClassThere, SetClasses, SetProcedureThere, Typed, as_prefixed, stands}
 use Rattle.sim_sound.proofs.Acyclic.{prefixes_from}
-use Rattle.sim_sound.proofs.Examples.{TextHolds, none_among, number, text_holds}
+use Rattle.sim_sound.proofs.Examples.{TextHolds, none_among, number, text_holds, true_never}
 use Rattle.sim_sound.proofs.Lists.{no_some}
 use Rattle.sim_sound.proofs.Prefixes.{LevelOf, level_is, prefix_level, same_level}
 use Rattle.sim_meaning.specs.Entries.{formals_of as formals_in, is_held, numbers_of}
@@ -42,7 +43,7 @@ use Rattle.sim_scope.specs.Building.{default_mode, mode_allowed, marked}
 use Rattle.sim_scope.specs.Declare.{brings_class, brought_marks, provides_attribute, class_prefix_marks, prefixed_marks, prefix_marks, standard_marks, marks_of_standard, type_named, result_named, mode_named, first_of_procedure, first_of_class, variable_marks, array_marks, parameter_marks, moded_marks, specified_marks, headed_marks, procedure_marks, class_marks, virtual_name_marks, program_marks, inner_marks, declaring, of_segment, of_mode_part, of_specification, of_specifier, of_virtual, of_heading, declared_by, declarations_of, qualified_marks, qualified_result}
 use Rattle.sim_scope.specs.Runs.{run as run_of_runs}
 use Rattle.sim_scope.specs.Access.{encloser, block_at as block_at_of_scopes, accessible, protects, is_kind, some_around_of, some_around}
-use Rattle.sim_scope.specs.Levels.{base, class_block, has_level, is_simulation_block, some_level_of}
+use Rattle.sim_scope.specs.Levels.{base, class_block, has_level, is_for_prefixing, is_simulation_block, some_level_of}
 use Rattle.sim_scope.specs.Scopes.{class_formals, shows_detach, class_formals_of, found_in, if_found, lookup, shown as shown_of_scopes, searched, declaration_from, binding, entry_of, formals_of, formal_of, result_of, brought_by, level_shows, shown_of, is_detach, ends_search, outward, virtual_of, represented, standard_at}
 use Rattle.sim_scope.specs.Source.{source_of, found_at, denoted, type_at, line_at, level_of, block_of, block_around}
 use Rattle.sim_scope.specs.Standard.{standard_prefix, standard_name, text_attribute, sysin_attribute, sysout_attribute, signature, undeclared}
@@ -123,7 +124,7 @@ row_listed s o d row h e f a = listed_as s row.block d (entry_holds s true (Some
 -- ---- entries and texts
 
 abbrev EntryThere : Source → DeclNo → Option Entry → Type 0
-EntryThere s d (Some (entry.Attribute name parameter result)) = SetProcedureThere s d name parameter result
+EntryThere s d (Some (entry.Attribute name parameter result)) = SetProcedureThere s d name parameter result × (is_simulation_name name ≡ false)
 EntryThere s d (Some (entry.Class k)) = ClassThere s d k
 EntryThere s d (Some (entry.Procedure result k)) = ⊥
 EntryThere s d _ = Unit {0}
@@ -131,6 +132,22 @@ EntryThere s d _ = Unit {0}
 abbrev SetText : Source → ℕ → Option Text → Type 0
 SetText s k (Some (StandardText which)) = SetClassThere s k which
 SetText s k _ = Unit {0}
+
+-- the classes of sets declare nothing else
+abbrev TextBare : Option Text → Option Entry → Type 0
+TextBare (Some (StandardText which)) e = IsAttribute e
+TextBare _ e = Unit {0}
+
+abbrev RowBare : Source → Option Declaration → Type 0
+RowBare s None = Unit {0}
+RowBare s (Some row) = TextBare (text s row.block) (Some row.entry)
+
+row_bare : (s : Source) (o : Option Declaration) (row : Declaration) (which : StandardClass) → o ≡ Some row → text s row.block ≡ Some (StandardText which) → RowBare s o → IsAttribute (Some row.entry)
+row_bare s o row which e is a = subst (λ z. TextBare z (Some row.entry)) is (subst (RowBare s) e a)
+
+abbrev OtherText : Option Text → Type 0
+OtherText (Some (StandardText standard.Process)) = ⊥
+OtherText _ = Unit {0}
 
 -- a text that has no prefix is its only level
 alone_level : (s : Source) {k u : ℕ} → base s.tables k ≡ None → LevelOf s k u → u ≡ k
@@ -165,7 +182,7 @@ y_seen = record { found = 0; around = itself; instance = refl; level = refl }
 -- ---- the texts
 
 y_block : TextHolds link_in_set 0 (text link_in_set 0)
-unfolding digits element_place making_array copying_array keeping_array finding_element giving_back handed_over stopping no_rule ticking taking entering having when computing choosing popping pop_many pop_plain pop_truth pop_integers pop_operands pop_text answering applying_one applying_two testing_step performing putting_back assigning making_text joining at_level kept_on pushing index level_of_machine cell_at jumping block_at own_block leaving with_result putting put_back is_text home_of first_cells leaving_of_meaning constants_of putting_of_steps back_of_steps text_constants text_constant is_variable stream_of own_result result_meant is_inside text is_class_free declared_at constant_of calculate compare compare_as_texts connect same_objects same_texts two_of one_of step_test take_integer take_character take_text take_nothing row_of standard_effect default_mode mode_allowed marked type_named result_named mode_named first_of_procedure first_of_class variable_marks array_marks parameter_marks moded_marks specified_marks headed_marks procedure_marks class_marks virtual_name_marks program_marks inner_marks declaring of_segment of_mode_part of_specification of_specifier of_virtual of_heading declared_by declarations_of run_of_runs lookup shown_of_scopes encloser searched block_at_of_scopes declaration_from binding entry_of formals_of formal_of result_of source_of denoted type_at line_at level_of block_of block_around standard_name text_attribute sysin_attribute sysout_attribute signature undeclared program_events of_statement of_branch of_arm of_block of_whole of_class_body of_declaration accessible protects is_kind some_around_of some_around base brought_by level_shows shown_of is_detach ends_search outward virtual_of represented standard_at qualified_marks qualified_result connection_at transfer_at found_at is_attribute qualification class_prefix_marks prefixed_marks prefix_marks standard_marks marks_of_standard standard_prefix standard_texts class_block has_level is_simulation_block some_level_of shows_detach class_formals class_formals_of found_in if_found object_ended pop_object qualifying referring belongs class_at is_in is_of levels levels_of first_along is_this this_block this_of with_entry_at putting_reference own_attribute brought_marks brings_class provides_attribute
+unfolding digits element_place making_array copying_array keeping_array finding_element giving_back handed_over stopping no_rule ticking taking entering having when computing choosing popping pop_many pop_plain pop_truth pop_integers pop_operands pop_text answering applying_one applying_two testing_step performing putting_back assigning making_text joining at_level kept_on pushing index level_of_machine cell_at jumping block_at own_block leaving with_result putting put_back is_text home_of first_cells leaving_of_meaning constants_of putting_of_steps back_of_steps text_constants text_constant is_variable stream_of own_result result_meant is_inside text is_class_free declared_at constant_of calculate compare compare_as_texts connect same_objects same_texts two_of one_of step_test take_integer take_character take_text take_nothing row_of standard_effect default_mode mode_allowed marked type_named result_named mode_named first_of_procedure first_of_class variable_marks array_marks parameter_marks moded_marks specified_marks headed_marks procedure_marks class_marks virtual_name_marks program_marks inner_marks declaring of_segment of_mode_part of_specification of_specifier of_virtual of_heading declared_by declarations_of run_of_runs lookup shown_of_scopes encloser searched block_at_of_scopes declaration_from binding entry_of formals_of formal_of result_of source_of denoted type_at line_at level_of block_of block_around standard_name text_attribute sysin_attribute sysout_attribute signature undeclared program_events of_statement of_branch of_arm of_block of_whole of_class_body of_declaration accessible protects is_kind some_around_of some_around base brought_by level_shows shown_of is_detach ends_search outward virtual_of represented standard_at qualified_marks qualified_result connection_at transfer_at found_at is_attribute qualification class_prefix_marks prefixed_marks prefix_marks standard_marks marks_of_standard standard_prefix standard_texts class_block has_level is_simulation_block some_level_of shows_detach class_formals class_formals_of found_in if_found object_ended pop_object qualifying referring belongs class_at is_in is_of levels levels_of first_along is_this this_block this_of with_entry_at putting_reference own_attribute brought_marks brings_class provides_attribute is_for_prefixing
 y_block = record {
   formals = tt;
   parameters = λ d a f. absurd (not_formal (entry_of link_in_set.tables d) (simple_among link_in_set d (numbers_of link_in_set 0) (tt, (tt, tt)) a) f);
@@ -176,14 +193,13 @@ y_block = record {
   made = λ d element dimensions a e. absurd (subst IsSimple e (simple_among link_in_set d (numbers_of link_in_set 0) (tt, (tt, tt)) a));
   own = λ d a. absurd (none_among d a);
   statements = (
-    (kind.Reference, ((refl, record { class = 3; qualified = refl; at = (refl, y_seen) }), tt), (record { declaration = number 2; denotes = refl; class = 3; declares = refl; seen = y_seen; actuals = tt }, refl)),
+    (kind.Reference, ((refl, record { class = 3; qualified = refl; at = (refl, y_seen) }), tt), (record { declaration = number 2; denotes = refl; class = 3; declares = refl; made = refl; single = refl; seen = y_seen; actuals = tt }, refl)),
     (
-      (kind.Reference, ((refl, record { class = 2; qualified = refl; at = (refl, y_seen) }), tt), (record { declaration = number 1; denotes = refl; class = 2; declares = refl; seen = y_seen; actuals = tt }, refl)),
+      (kind.Reference, ((refl, record { class = 2; qualified = refl; at = (refl, y_seen) }), tt), (record { declaration = number 1; denotes = refl; class = 2; declares = refl; made = refl; single = refl; seen = y_seen; actuals = tt }, refl)),
       ((None, (refl, tt, (2, refl, refl, (refl, y_seen)), ((refl, y_seen), tt)), refl), ((kind.Reference, ((refl, record { class = 2; qualified = refl; at = (refl, y_seen) }), tt), (refl, refl, (3, refl, refl, (refl, y_seen)), tt)), tt)),
     ),
   );
   stays = refl;
-  not_simulation = refl;
 }
 
 y_linkage : TextHolds link_in_set 1 (text link_in_set 1)
@@ -199,7 +215,6 @@ y_linkage = record {
   own = λ d a. absurd (none_among d a);
   statements = tt;
   stays = refl;
-  not_simulation = refl;
 }
 
 y_link : TextHolds link_in_set 2 (text link_in_set 2)
@@ -215,7 +230,6 @@ y_link = record {
   own = λ d a. absurd (none_among d a);
   statements = tt;
   stays = refl;
-  not_simulation = refl;
 }
 
 y_head : TextHolds link_in_set 3 (text link_in_set 3)
@@ -231,7 +245,6 @@ y_head = record {
   own = λ d a. absurd (none_among d a);
   statements = tt;
   stays = refl;
-  not_simulation = refl;
 }
 
 y_texts : (k : ℕ) → TextHolds link_in_set k (text link_in_set k)
@@ -261,21 +274,58 @@ unfolding digits element_place making_array copying_array keeping_array finding_
 y_entries zero = record { is = refl; around = refl }
 y_entries (suc zero) = record { is = refl; around = refl }
 y_entries (suc (suc zero)) = record { is = refl; around = refl }
-y_entries (suc (suc (suc zero))) = record { linkage = 1; classes = y_classes; place = 0; placed = refl; declared = refl; parameter_is = tt; result_is = refl }
-y_entries (suc (suc (suc (suc zero)))) = record { linkage = 1; classes = y_classes; place = 0; placed = refl; declared = refl; parameter_is = tt; result_is = refl }
-y_entries (suc (suc (suc (suc (suc zero))))) = record { linkage = 1; classes = y_classes; place = 0; placed = refl; declared = refl; parameter_is = tt; result_is = refl }
-y_entries (suc (suc (suc (suc (suc (suc zero)))))) = record { linkage = 1; classes = y_classes; place = 1; placed = refl; declared = refl; parameter_is = tt; result_is = tt }
-y_entries (suc (suc (suc (suc (suc (suc (suc zero))))))) = record { linkage = 1; classes = y_classes; place = 1; placed = refl; declared = refl; parameter_is = refl; result_is = tt }
-y_entries (suc (suc (suc (suc (suc (suc (suc (suc zero)))))))) = record { linkage = 1; classes = y_classes; place = 1; placed = refl; declared = refl; parameter_is = refl; result_is = tt }
-y_entries (suc (suc (suc (suc (suc (suc (suc (suc (suc zero))))))))) = record { linkage = 1; classes = y_classes; place = 1; placed = refl; declared = refl; parameter_is = refl; result_is = tt }
-y_entries (suc (suc (suc (suc (suc (suc (suc (suc (suc (suc zero)))))))))) = record { linkage = 1; classes = y_classes; place = 2; placed = refl; declared = refl; parameter_is = tt; result_is = refl }
-y_entries (suc (suc (suc (suc (suc (suc (suc (suc (suc (suc (suc zero))))))))))) = record { linkage = 1; classes = y_classes; place = 2; placed = refl; declared = refl; parameter_is = tt; result_is = refl }
-y_entries (suc (suc (suc (suc (suc (suc (suc (suc (suc (suc (suc (suc zero)))))))))))) = record { linkage = 1; classes = y_classes; place = 2; placed = refl; declared = refl; parameter_is = tt; result_is = refl }
-y_entries (suc (suc (suc (suc (suc (suc (suc (suc (suc (suc (suc (suc (suc zero))))))))))))) = record { linkage = 1; classes = y_classes; place = 2; placed = refl; declared = refl; parameter_is = tt; result_is = refl }
-y_entries (suc (suc (suc (suc (suc (suc (suc (suc (suc (suc (suc (suc (suc (suc zero)))))))))))))) = record { linkage = 1; classes = y_classes; place = 2; placed = refl; declared = refl; parameter_is = tt; result_is = tt }
+y_entries (suc (suc (suc zero))) = (record { linkage = 1; classes = y_classes; place = 0; placed = refl; declared = refl; parameter_is = tt; result_is = refl; of_process = λ e. absurd (cc) }, refl)
+y_entries (suc (suc (suc (suc zero)))) = (record { linkage = 1; classes = y_classes; place = 0; placed = refl; declared = refl; parameter_is = tt; result_is = refl; of_process = λ e. absurd (cc) }, refl)
+y_entries (suc (suc (suc (suc (suc zero))))) = (record { linkage = 1; classes = y_classes; place = 0; placed = refl; declared = refl; parameter_is = tt; result_is = refl; of_process = λ e. absurd (cc) }, refl)
+y_entries (suc (suc (suc (suc (suc (suc zero)))))) = (record { linkage = 1; classes = y_classes; place = 1; placed = refl; declared = refl; parameter_is = tt; result_is = tt; of_process = λ e. absurd (cc) }, refl)
+y_entries (suc (suc (suc (suc (suc (suc (suc zero))))))) = (record { linkage = 1; classes = y_classes; place = 1; placed = refl; declared = refl; parameter_is = refl; result_is = tt; of_process = λ e. absurd (cc) }, refl)
+y_entries (suc (suc (suc (suc (suc (suc (suc (suc zero)))))))) = (record { linkage = 1; classes = y_classes; place = 1; placed = refl; declared = refl; parameter_is = refl; result_is = tt; of_process = λ e. absurd (cc) }, refl)
+y_entries (suc (suc (suc (suc (suc (suc (suc (suc (suc zero))))))))) = (record { linkage = 1; classes = y_classes; place = 1; placed = refl; declared = refl; parameter_is = refl; result_is = tt; of_process = λ e. absurd (cc) }, refl)
+y_entries (suc (suc (suc (suc (suc (suc (suc (suc (suc (suc zero)))))))))) = (record { linkage = 1; classes = y_classes; place = 2; placed = refl; declared = refl; parameter_is = tt; result_is = refl; of_process = λ e. absurd (cc) }, refl)
+y_entries (suc (suc (suc (suc (suc (suc (suc (suc (suc (suc (suc zero))))))))))) = (record { linkage = 1; classes = y_classes; place = 2; placed = refl; declared = refl; parameter_is = tt; result_is = refl; of_process = λ e. absurd (cc) }, refl)
+y_entries (suc (suc (suc (suc (suc (suc (suc (suc (suc (suc (suc (suc zero)))))))))))) = (record { linkage = 1; classes = y_classes; place = 2; placed = refl; declared = refl; parameter_is = tt; result_is = refl; of_process = λ e. absurd (cc) }, refl)
+y_entries (suc (suc (suc (suc (suc (suc (suc (suc (suc (suc (suc (suc (suc zero))))))))))))) = (record { linkage = 1; classes = y_classes; place = 2; placed = refl; declared = refl; parameter_is = tt; result_is = refl; of_process = λ e. absurd (cc) }, refl)
+y_entries (suc (suc (suc (suc (suc (suc (suc (suc (suc (suc (suc (suc (suc (suc zero)))))))))))))) = (record { linkage = 1; classes = y_classes; place = 2; placed = refl; declared = refl; parameter_is = tt; result_is = tt; of_process = λ e. absurd (cc) }, refl)
 y_entries (suc (suc (suc (suc (suc (suc (suc (suc (suc (suc (suc (suc (suc (suc (suc zero))))))))))))))) = tt
 y_entries (suc (suc (suc (suc (suc (suc (suc (suc (suc (suc (suc (suc (suc (suc (suc (suc zero)))))))))))))))) = tt
 y_entries (suc (suc (suc (suc (suc (suc (suc (suc (suc (suc (suc (suc (suc (suc (suc (suc (suc n))))))))))))))))) = tt
+
+y_bare : (n : ℕ) → RowBare link_in_set (slice_get link_in_set.tables.declarations n)
+unfolding digits element_place making_array copying_array keeping_array finding_element giving_back handed_over stopping no_rule ticking taking entering having when computing choosing popping pop_many pop_plain pop_truth pop_integers pop_operands pop_text answering applying_one applying_two testing_step performing putting_back assigning making_text joining at_level kept_on pushing index level_of_machine cell_at jumping block_at own_block leaving with_result putting put_back is_text home_of first_cells leaving_of_meaning constants_of putting_of_steps back_of_steps text_constants text_constant is_variable stream_of own_result result_meant is_inside text is_class_free declared_at constant_of calculate compare compare_as_texts connect same_objects same_texts two_of one_of step_test take_integer take_character take_text take_nothing row_of standard_effect default_mode mode_allowed marked type_named result_named mode_named first_of_procedure first_of_class variable_marks array_marks parameter_marks moded_marks specified_marks headed_marks procedure_marks class_marks virtual_name_marks program_marks inner_marks declaring of_segment of_mode_part of_specification of_specifier of_virtual of_heading declared_by declarations_of run_of_runs lookup shown_of_scopes encloser searched block_at_of_scopes declaration_from binding entry_of formals_of formal_of result_of source_of denoted type_at line_at level_of block_of block_around standard_name text_attribute sysin_attribute sysout_attribute signature undeclared program_events of_statement of_branch of_arm of_block of_whole of_class_body of_declaration accessible protects is_kind some_around_of some_around base brought_by level_shows shown_of is_detach ends_search outward virtual_of represented standard_at qualified_marks qualified_result connection_at transfer_at found_at is_attribute qualification class_prefix_marks prefixed_marks prefix_marks standard_marks marks_of_standard standard_prefix standard_texts class_block has_level is_simulation_block some_level_of shows_detach class_formals class_formals_of found_in if_found object_ended pop_object qualifying referring belongs class_at is_in is_of levels levels_of first_along is_this this_block this_of with_entry_at putting_reference own_attribute brought_marks brings_class provides_attribute
+y_bare zero = tt
+y_bare (suc zero) = tt
+y_bare (suc (suc zero)) = tt
+y_bare (suc (suc (suc zero))) = tt
+y_bare (suc (suc (suc (suc zero)))) = tt
+y_bare (suc (suc (suc (suc (suc zero))))) = tt
+y_bare (suc (suc (suc (suc (suc (suc zero)))))) = tt
+y_bare (suc (suc (suc (suc (suc (suc (suc zero))))))) = tt
+y_bare (suc (suc (suc (suc (suc (suc (suc (suc zero)))))))) = tt
+y_bare (suc (suc (suc (suc (suc (suc (suc (suc (suc zero))))))))) = tt
+y_bare (suc (suc (suc (suc (suc (suc (suc (suc (suc (suc zero)))))))))) = tt
+y_bare (suc (suc (suc (suc (suc (suc (suc (suc (suc (suc (suc zero))))))))))) = tt
+y_bare (suc (suc (suc (suc (suc (suc (suc (suc (suc (suc (suc (suc zero)))))))))))) = tt
+y_bare (suc (suc (suc (suc (suc (suc (suc (suc (suc (suc (suc (suc (suc zero))))))))))))) = tt
+y_bare (suc (suc (suc (suc (suc (suc (suc (suc (suc (suc (suc (suc (suc (suc zero)))))))))))))) = tt
+y_bare (suc (suc (suc (suc (suc (suc (suc (suc (suc (suc (suc (suc (suc (suc (suc zero))))))))))))))) = tt
+y_bare (suc (suc (suc (suc (suc (suc (suc (suc (suc (suc (suc (suc (suc (suc (suc (suc zero)))))))))))))))) = tt
+y_bare (suc (suc (suc (suc (suc (suc (suc (suc (suc (suc (suc (suc (suc (suc (suc (suc (suc n))))))))))))))))) = tt
+
+y_no_simulation : (k : ℕ) → is_simulation_block link_in_set.tables k ≡ false
+unfolding digits element_place making_array copying_array keeping_array finding_element giving_back handed_over stopping no_rule ticking taking entering having when computing choosing popping pop_many pop_plain pop_truth pop_integers pop_operands pop_text answering applying_one applying_two testing_step performing putting_back assigning making_text joining at_level kept_on pushing index level_of_machine cell_at jumping block_at own_block leaving with_result putting put_back is_text home_of first_cells leaving_of_meaning constants_of putting_of_steps back_of_steps text_constants text_constant is_variable stream_of own_result result_meant is_inside text is_class_free declared_at constant_of calculate compare compare_as_texts connect same_objects same_texts two_of one_of step_test take_integer take_character take_text take_nothing row_of standard_effect default_mode mode_allowed marked type_named result_named mode_named first_of_procedure first_of_class variable_marks array_marks parameter_marks moded_marks specified_marks headed_marks procedure_marks class_marks virtual_name_marks program_marks inner_marks declaring of_segment of_mode_part of_specification of_specifier of_virtual of_heading declared_by declarations_of run_of_runs lookup shown_of_scopes encloser searched block_at_of_scopes declaration_from binding entry_of formals_of formal_of result_of source_of denoted type_at line_at level_of block_of block_around standard_name text_attribute sysin_attribute sysout_attribute signature undeclared program_events of_statement of_branch of_arm of_block of_whole of_class_body of_declaration accessible protects is_kind some_around_of some_around base brought_by level_shows shown_of is_detach ends_search outward virtual_of represented standard_at qualified_marks qualified_result connection_at transfer_at found_at is_attribute qualification class_prefix_marks prefixed_marks prefix_marks standard_marks marks_of_standard standard_prefix standard_texts class_block has_level is_simulation_block some_level_of shows_detach class_formals class_formals_of found_in if_found object_ended pop_object qualifying referring belongs class_at is_in is_of levels levels_of first_along is_this this_block this_of with_entry_at putting_reference own_attribute brought_marks brings_class provides_attribute
+y_no_simulation zero = refl
+y_no_simulation (suc zero) = refl
+y_no_simulation (suc (suc zero)) = refl
+y_no_simulation (suc (suc (suc zero))) = refl
+y_no_simulation (suc (suc (suc (suc k)))) = refl
+
+y_no_process : (k : ℕ) → OtherText (text link_in_set k)
+unfolding digits element_place making_array copying_array keeping_array finding_element giving_back handed_over stopping no_rule ticking taking entering having when computing choosing popping pop_many pop_plain pop_truth pop_integers pop_operands pop_text answering applying_one applying_two testing_step performing putting_back assigning making_text joining at_level kept_on pushing index level_of_machine cell_at jumping block_at own_block leaving with_result putting put_back is_text home_of first_cells leaving_of_meaning constants_of putting_of_steps back_of_steps text_constants text_constant is_variable stream_of own_result result_meant is_inside text is_class_free declared_at constant_of calculate compare compare_as_texts connect same_objects same_texts two_of one_of step_test take_integer take_character take_text take_nothing row_of standard_effect default_mode mode_allowed marked type_named result_named mode_named first_of_procedure first_of_class variable_marks array_marks parameter_marks moded_marks specified_marks headed_marks procedure_marks class_marks virtual_name_marks program_marks inner_marks declaring of_segment of_mode_part of_specification of_specifier of_virtual of_heading declared_by declarations_of run_of_runs lookup shown_of_scopes encloser searched block_at_of_scopes declaration_from binding entry_of formals_of formal_of result_of source_of denoted type_at line_at level_of block_of block_around standard_name text_attribute sysin_attribute sysout_attribute signature undeclared program_events of_statement of_branch of_arm of_block of_whole of_class_body of_declaration accessible protects is_kind some_around_of some_around base brought_by level_shows shown_of is_detach ends_search outward virtual_of represented standard_at qualified_marks qualified_result connection_at transfer_at found_at is_attribute qualification class_prefix_marks prefixed_marks prefix_marks standard_marks marks_of_standard standard_prefix standard_texts class_block has_level is_simulation_block some_level_of shows_detach class_formals class_formals_of found_in if_found object_ended pop_object qualifying referring belongs class_at is_in is_of levels levels_of first_along is_this this_block this_of with_entry_at putting_reference own_attribute brought_marks brings_class provides_attribute
+y_no_process zero = tt
+y_no_process (suc zero) = tt
+y_no_process (suc (suc zero)) = tt
+y_no_process (suc (suc (suc zero))) = tt
+y_no_process (suc (suc (suc (suc k)))) = tt
 
 y_set_texts : (k : ℕ) → SetText link_in_set k (text link_in_set k)
 unfolding digits element_place making_array copying_array keeping_array finding_element giving_back handed_over stopping no_rule ticking taking entering having when computing choosing popping pop_many pop_plain pop_truth pop_integers pop_operands pop_text answering applying_one applying_two testing_step performing putting_back assigning making_text joining at_level kept_on pushing index level_of_machine cell_at jumping block_at own_block leaving with_result putting put_back is_text home_of first_cells leaving_of_meaning constants_of putting_of_steps back_of_steps text_constants text_constant is_variable stream_of own_result result_meant is_inside text is_class_free declared_at constant_of calculate compare compare_as_texts connect same_objects same_texts two_of one_of step_test take_integer take_character take_text take_nothing row_of standard_effect default_mode mode_allowed marked type_named result_named mode_named first_of_procedure first_of_class variable_marks array_marks parameter_marks moded_marks specified_marks headed_marks procedure_marks class_marks virtual_name_marks program_marks inner_marks declaring of_segment of_mode_part of_specification of_specifier of_virtual of_heading declared_by declarations_of run_of_runs lookup shown_of_scopes encloser searched block_at_of_scopes declaration_from binding entry_of formals_of formal_of result_of source_of denoted type_at line_at level_of block_of block_around standard_name text_attribute sysin_attribute sysout_attribute signature undeclared program_events of_statement of_branch of_arm of_block of_whole of_class_body of_declaration accessible protects is_kind some_around_of some_around base brought_by level_shows shown_of is_detach ends_search outward virtual_of represented standard_at qualified_marks qualified_result connection_at transfer_at found_at is_attribute qualification class_prefix_marks prefixed_marks prefix_marks standard_marks marks_of_standard standard_prefix standard_texts class_block has_level is_simulation_block some_level_of shows_detach class_formals class_formals_of found_in if_found object_ended pop_object qualifying referring belongs class_at is_in is_of levels levels_of first_along is_this this_block this_of with_entry_at putting_reference own_attribute brought_marks brings_class provides_attribute
@@ -372,10 +422,14 @@ y_typed = record {
   procedures = λ d result k e. absurd (subst (EntryThere link_in_set d) e (y_entries d.0));
   classes = λ d k e. subst (EntryThere link_in_set d) e (y_entries d.0);
   set_classes = λ k which e. subst (SetText link_in_set k) e (y_set_texts k);
-  set_procedures = λ d name parameter result e named. subst (EntryThere link_in_set d) e (y_entries d.0);
+  set_procedures = λ d name parameter result e named. (subst (EntryThere link_in_set d) e (y_entries d.0)).0;
   texts = λ k x e. text_holds link_in_set k (text link_in_set k) x e (y_texts k);
   not_class_free = y_free;
   prefixes = y_prefixes;
+  simulations = λ k e. absurd (true_never (is_simulation_block link_in_set.tables k) (y_no_simulation k) e);
+  processes = λ c k solid e is. absurd (subst OtherText is (y_no_process k));
+  simulation_procedures = λ d name parameter result e named. absurd (true_never (is_simulation_name name) (subst (EntryThere link_in_set d) e (y_entries d.0)).1 named);
+  bare = λ d row which at is. row_bare link_in_set (slice_get link_in_set.tables.declarations d.0) row which at is (y_bare d.0);
   no_set_block = λ k u which class es ds ss e level is. y_block_alone k u which (y_no_block k class es ds ss e) (level_is link_in_set k u level) is;
   keeps_none = λ k result h a is e. y_keeps k;
 }

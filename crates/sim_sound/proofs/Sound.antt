@@ -9,10 +9,11 @@ use Rattle.sim_scope.specs.declared.types.Mode.{Mode}
 use Rattle.sim_scope.specs.declared.types.Mode.TheVariants as mode
 use Rattle.sim_scope.specs.declared.types.Entry.TheVariants as entry
 use Rattle.sim_scope.specs.declared.types.SimType.{SimType}
+use Rattle.sim_scope.specs.declared.types.StandardClass.{StandardClass}
 use Rattle.sim_scope.specs.Access.{encloser}
-use Rattle.sim_scope.specs.Levels.{base, has_level}
+use Rattle.sim_scope.specs.Levels.{base, has_level, is_for_prefixing, is_simulation_block}
 use Rattle.sim_scope.specs.Scopes.{entry_of}
-use Rattle.sim_scope.specs.Source.{Source, level_of}
+use Rattle.sim_scope.specs.Source.{Source, block_of, level_of}
 use Rattle.sim_tree.specs.declared.expr.Identifier.{Identifier}
 use Rattle.sim_tree.specs.declared.stmt.TypeName.{TypeName}
 use Rattle.sim_tree.specs.Syntax.{Declarations, Expressions, Heading, Statement, Statements}
@@ -21,26 +22,28 @@ use Rattle.sim_values.specs.declared.kind.Kind.TheVariants as kind
 use Rattle.sim_values.specs.declared.operators.Monadic.{Monadic}
 use Rattle.sim_values.specs.declared.operators.Monadic.TheVariants as monadic
 use Rattle.sim_values.specs.declared.standard.Standard.{Standard}
-use Rattle.sim_values.specs.Plain.{Nothing, Object, Plain, kind_of}
+use Rattle.sim_values.specs.Plain.{MainOf, Nothing, Object, Plain, kind_of}
 use Rattle.sim_values.specs.Standard.{operands_of, row_of}
 use Rattle.sim_values.specs.Words.{element_count}
 use Rattle.simset.specs.Instances.{Memberships}
-use Rattle.sim_code.specs.Outcome.{ArrayOf as OneArray, World}
+use Rattle.sim_code.specs.Outcome.{ArrayOf as OneArray, Simulation, World}
 use Rattle.sim_code.specs.Arrays.{unless_given}
 use Rattle.sim_code.specs.Instances.{CellPlace, ElementPlace, ImagePlace, Instance, is_given_at_end, live}
+use Rattle.sim_code.specs.Scheduling.{AtTime, Beside, Directly, Timing, WithDelay}
 use Rattle.sim_code.specs.Sets.{is_set_name}
+use Rattle.sim_code.specs.Simulations.{is_process_name, is_simulation_name}
 use Rattle.sim_code.specs.Transfers.{Calling, Detaching, Resuming, Transfer}
-use Rattle.sim_meaning.specs.Attributes.{attribute_formals, cell_of_connection, is_connection}
+use Rattle.sim_meaning.specs.Attributes.{attribute_formals, cell_of_connection, is_bare_process, is_connection}
 use Rattle.sim_meaning.specs.Closing.{class_parameters}
 use Rattle.sim_meaning.specs.Entries.{first_cells, formals_of, is_array_by_value, numbers_of}
 use Rattle.sim_meaning.specs.Levels.{has_levels, is_class}
 use Rattle.sim_meaning.specs.Objects.{attributes_from}
-use Rattle.sim_meaning.specs.Pending.{Address, AgainOp, ArrayOp, ArrayValue, AttributeOf, AttributeOp, BackOp, BranchOp, CallOf, CallOp, Cell, ChooseOp, ConnectOp, CopyOf, CopyOp, Declared, DeclareOp, DropOp, Either, ElementOf, ElementOp, ElementsOp, EnterOp, Eval, Exec, Execs, FetchOp, FitsOf, FitsOp, Further, Given, GiveOp, Held, IfOp, ImageOf, InnerOp, Instances, JoinOp, Joined, KeepOp, KeptOf, Key, Level, LevelOp, Link, MemberOf, MemberOp, NewOf, NewOp, NoTerm, NotNoneOf, NotNoneOp, ObjectOp, Of, One, OneOp, Op, PastOp, PlaceOf, PrefixedOp, QuaOf, QuaOp, QualifiedElementOf, QualifiedElementOp, QualifiedPlaceOf, RaiseOp, ReferOp, RemoteCallOf, SetOf, SetOp, ShareOp, StandardOf, StandardOp, StepOp, StepTestOp, StoreOp, SwapOp, Target, Term, Terms, TestOp, ToAddress, ToCell, ToPlace, ToReference, ToReferenceAt, ToText, ToTextAt, ToTextOf, TransferOf, TransferOp, Two, TwoOp, Unbuilt, Val, ValueAt, WhenOp, WhileElementOp, held}
+use Rattle.sim_meaning.specs.Pending.{ActivateOp, Address, AgainOp, ArrayOp, ArrayValue, AttributeOf, AttributeOp, BackOp, BlockOp, BranchOp, CallOf, CallOp, Cell, ChooseOp, ConnectOp, CopyOf, CopyOp, Declared, DeclareOp, DropOp, Either, ElementOf, ElementOp, ElementsOp, EndProcessOp, EnterOp, Eval, Exec, Execs, FetchOp, FitsOf, FitsOp, Further, Given, GiveOp, Held, IfOp, ImageOf, InnerOp, Instances, JoinOp, Joined, KeepOp, KeptOf, Key, Level, LevelOp, Link, MemberOf, MemberOp, NewOf, NewOp, NoTerm, NotNoneOf, NotNoneOp, ObjectOp, Of, One, OneOp, Op, PastOp, PlaceOf, PrefixedOp, ProcessOf, ProcessOp, QuaOf, QuaOp, QualifiedElementOf, QualifiedElementOp, QualifiedPlaceOf, RaiseOp, ReferOp, RemoteCallOf, SelfOp, SetOf, SetOp, ShareOp, SimulationOf, SimulationOp, StandardOf, StandardOp, StepOp, StepTestOp, StoreOp, SwapOp, Target, Term, Terms, TestOp, ToAddress, ToCell, ToPlace, ToReference, ToReferenceAt, ToText, ToTextAt, ToTextOf, TransferOf, TransferOp, Two, TwoOp, Unbuilt, Val, ValueAt, WhenOp, WhileElementOp, held}
 use Rattle.sim_meaning.specs.Texts.{BlockText, ClassText, PrefixedText, ProcedureText, StandardText, Text, is_class_free, text}
 use Rattle.sim_sound.specs.Expressions.{DoneAlone, ExprIs, TwoKinds, some_holds, standard_kind}
 use Rattle.sim_sound.specs.Held.{Among, ArrayOf, Fits, FitsIn, Holds, In, InBound, IsOfKind, Refers, Simply, formal_holds, given_by, key_holds, reference_to, result_holds}
 use Rattle.sim_sound.specs.Statements.{ArmsAre, ConnectionIs, ElementsAre, StatementIs, StatementsAre}
-use Rattle.sim_sound.specs.Typed.{ArraysTyped, Distinct, SetProcedureThere, arrays_of_block}
+use Rattle.sim_sound.specs.Typed.{ArraysTyped, Distinct, SetProcedureThere, SimulationProcedureThere, arrays_of_block}
 use Rattle.sim_sound.proofs.Prefixes.{LevelOf}
 
 -- ---- what stays
@@ -74,7 +77,7 @@ elements_of (Open h) = h
 elements_of (Hidden h home depth) = h
 
 -- a value; where a variable or an element lies; where a reference lies, with its qualification; where an image lies; an instance of a text; a
--- copy for a parameter by value; an array that is kept; an object, and one of a class
+-- copy for a parameter by value; an array that is kept; an object or a main program, and one of a class
 pub data Kinds : Type 0 where
   Value : Holds → Kinds
   AddressOf : Holds → Kinds
@@ -101,16 +104,17 @@ pub record Marks : Type 0 where
   pub beneath : List (Option ℕ)
   pub waiting : ℕ → Waits
 
--- the arrays of a run and its linkages, with what is noted
+-- the arrays of a run, its linkages and its simulation blocks, with what is noted
 pub record AllArrays : Type 0 where
   pub sights : List Sight
   pub beneath : List (Option ℕ)
   pub waiting : ℕ → Waits
   pub real : List OneArray
   pub members : Memberships
+  pub simulations : List Simulation
 
 abbrev pub see : Marks → World → AllArrays
-see g o = record { sights = g.sights; beneath = g.beneath; waiting = g.waiting; real = o.arrays; members = o.members }
+see g o = record { sights = g.sights; beneath = g.beneath; waiting = g.waiting; real = o.arrays; members = o.members; simulations = o.simulations }
 
 -- what is below an instance on its chain, through those that are given back at their end: it stays there until they end
 pub data Beneath (o : AllArrays) (m : Instances) : (j e : ℕ) → Type 0 where
@@ -200,15 +204,36 @@ pub record ObjectOf (s : Source) (m : Instances) (j class : ℕ) : Type 0 where
   pub has_text : text s now.text ≡ Some words
   pub made : Made s now.text [] now.cells
 
--- a reference to an object of a class, or to none
+-- what has a text among its levels, and is not given back at its end
+pub record Lasts (s : Source) (m : Instances) (j u : ℕ) : Type 0 where
+  pub now : Instance (List Held)
+  pub lives : live m j ≡ Some now
+  pub solid : is_connection (text s now.text) ≡ false
+  pub level : LevelOf s now.text u
+  pub stays : (now.passing && not now.kept) ≡ false
+
+-- a simulation block, with the level that has `simulation` in front
+pub record Simulates (s : Source) (m : Instances) (b k : ℕ) : Type 0 where
+  pub lasts : Lasts s m b k
+  pub simulates : is_simulation_block s.tables k ≡ true
+
+-- the main program of a simulation block is in its class `process`
+pub record MainIn (s : Source) (m : Instances) (b class : ℕ) : Type 0 where
+  pub level : ℕ
+  pub block : Simulates s m b level
+  pub levels : has_level s.tables (level + 4) class ≡ true
+
+-- a reference to an object of a class, to a main program that is in it, or to none
 abbrev pub ReferenceFine : Source → Instances → (class : ℕ) → Plain → Type 0
 ReferenceFine s m c Nothing = Unit {0}
 ReferenceFine s m c (Object j) = ObjectOf s m j c
+ReferenceFine s m c (MainOf b) = MainIn s m b c
 ReferenceFine s m c _ = ⊥
 
--- each reference is one to an object
+-- each reference is one to an object or a main program
 abbrev pub NamesObject : Source → Instances → Plain → Type 0
 NamesObject s m (Object j) = (c : ℕ) × ObjectOf s m j c
+NamesObject s m (MainOf b) = (k : ℕ) × Simulates s m b k
 NamesObject s m p = Unit {0}
 
 abbrev pub PlainFine : Source → Instances → Holds → Plain → Type 0
@@ -289,7 +314,9 @@ HandFine s o m j ImageAddress (Address (ImagePlace n)) = IsImage n
 HandFine s o m j (LinkTo u) (Link e) = Knows m j e × Whole s m e u
 HandFine s o m j (Lasting h) (ArrayValue a) = KeptFine o h a
 HandFine s o m j Component (Of (Object i)) = (c : ℕ) × ObjectOf s m i c
+HandFine s o m j Component (Of (MainOf b)) = (k : ℕ) × Simulates s m b k
 HandFine s o m j (ObjectIn c) (Of (Object i)) = ObjectOf s m i c
+HandFine s o m j (ObjectIn c) (Of (MainOf b)) = MainIn s m b c
 HandFine s o m j _ _ = ⊥
 
 -- with so many values below
@@ -371,9 +398,12 @@ pub record ProcedureIn (s : Source) (k around : ℕ) : Type 0 where
   pub body : Statement
   pub is : text s k ≡ Some (ProcedureText result heading body)
 
+-- a class of which objects are made
 pub record ClassIn (s : Source) (k around : ℕ) : Type 0 where
   pub stands_in : encloser s.tables k ≡ Some around
   pub is : is_class (text s k) ≡ true
+  pub single : is_for_prefixing s.tables k ≡ false
+  pub made : is_bare_process (text s k) ≡ false
 
 pub record CallFine (s : Source) (m : Instances) (j e k : ℕ) (g : Option Kinds) (Actuals : List (Option Kinds) → Type 0) : Type 0 where
   pub around : ℕ
@@ -393,9 +423,14 @@ pub record NewFine (s : Source) (m : Instances) (j e k : ℕ) (g : Option Kinds)
   pub gives : Some (Value holds) ≡ g
   pub actuals : Actuals (class_kinds s (class_parameters s (Some k)))
 
+-- what is declared there is no attribute of a main program, which has none but those of its standard classes
+abbrev pub NotStandard : Source → (text : ℕ) → Type 0
+NotStandard s u = (which : StandardClass) → text s u ≡ Some (StandardText which) → ⊥
+
 -- an attribute that the class of a text declares, of an object of a class that has it among its levels
 pub record AttributeFine (s : Source) (text_of : ℕ) (key : Key) (holds : Holds) (class : ℕ) : Type 0 where
   pub level : has_level s.tables class text_of ≡ true
+  pub own : NotStandard s text_of
   pub is : has_levels (text s text_of) ≡ true → key_holds s text_of key ≡ Some holds
   pub there : has_levels (text s text_of) ≡ true → KeyAmong key (keys_in s text_of (text s text_of))
 
@@ -447,7 +482,28 @@ pub record SetIs (s : Source) (name : Standard) : Type 0 where
   pub named : is_set_name name ≡ true
   pub there : SetProcedureThere s declaration name parameter result
 
--- its object, and its actual parameter
+-- an attribute of a process, and a procedure of a simulation block
+pub record ProcessIs (s : Source) (name : Standard) : Type 0 where
+  pub declaration : DeclNo
+  pub parameter : Option SimType
+  pub result : Option SimType
+  pub named : is_process_name name ≡ true
+  pub there : SetProcedureThere s declaration name parameter result
+
+pub record SimulationIs (s : Source) (name : Standard) : Type 0 where
+  pub declaration : DeclNo
+  pub parameter : Option SimType
+  pub result : Option SimType
+  pub named : is_simulation_name name ≡ true
+  pub there : SimulationProcedureThere s declaration name parameter result
+
+-- a simulation block in which an instance stands, by the level that has `simulation` in front
+pub record BlockIn (s : Source) (m : Instances) (j e k : ℕ) : Type 0 where
+  pub near : Knows m j e
+  pub whole : Whole s m e k
+  pub simulates : is_simulation_block s.tables k ≡ true
+
+-- the object of a procedure of SIMSET, and its actual parameter
 abbrev pub set_class : (s : Source) (name : Standard) → SetIs s name → ℕ
 set_class s name x = (x.there).linkage + (x.there).place
 
@@ -473,7 +529,7 @@ abbrev mutual
   -- objects and references
   TermFine s m j t todo (NewOf e k ts line) g = NewFine s m j e k g (TermsFine s m j t todo ts)
   TermFine s m j t todo (AttributeOf u key class line a) g = (c : ℕ) × (h : Holds) × (x : Kinds) × AttributeFine s u key h c × Addressed class h x × (Some x ≡ g) × TermFine s m j t todo a (Some (Value (Refers c)))
-  TermFine s m j t todo (RemoteCallOf a k ts line) g = (c : ℕ) × (u : ℕ) × (has_level s.tables c u ≡ true) × ProcedureIn s k u × GivesResult s k g × TermFine s m j t todo a (Some (Value (Refers c))) × TermsFine s m j t todo ts (formal_kinds s (formals_of s k))
+  TermFine s m j t todo (RemoteCallOf a k ts line) g = (c : ℕ) × (u : ℕ) × (has_level s.tables c u ≡ true) × NotStandard s u × ProcedureIn s k u × GivesResult s k g × TermFine s m j t todo a (Some (Value (Refers c))) × TermsFine s m j t todo ts (formal_kinds s (formals_of s k))
   TermFine s m j t todo (QualifiedPlaceOf e key c) g = (Some (ReferenceAddress c) ≡ g) × CellTarget s m j e key (Refers c)
   TermFine s m j t todo (QualifiedElementOf line c a ts) g = (Some (ReferenceAddress c) ≡ g) × TermFine s m j t todo a (Some (Value (ArrayOf (Refers c)))) × IntegersFine s m j t todo ts
   TermFine s m j t todo (MemberOf member c a) g = (simple kind.Boolean ≡ g) × TermFine s m j t todo a (simple kind.Reference)
@@ -483,6 +539,9 @@ abbrev mutual
   TermFine s m j t todo (NotNoneOf line a) g = (h : Holds) × (x : Kinds) × ShowsObject s h x × (Some x ≡ g) × TermFine s m j t todo a (Some (Value h))
   TermFine s m j t todo (TransferOf x line a) g = (None ≡ g) × TermFine s m j t todo a (Some (component_kind x))
   TermFine s m j t todo (SetOf name ts) g = (x : SetIs s name) × (h : Option Holds) × FitsIn s (given_by s x.result) h × (held_kinds h ≡ g) × TermsFine s m j t todo ts (set_operands s name x)
+  TermFine s m j t todo (ProcessOf name line a) g = (x : ProcessIs s name) × (h : Option Holds) × FitsIn s (given_by s x.result) h × (held_kinds h ≡ g) × TermFine s m j t todo a (Some (ObjectIn ((x.there).linkage + 3)))
+  TermFine s m j t todo (SimulationOf b name ts line) g =
+      (x : SimulationIs s name) × (h : Option Holds) × FitsIn s (given_by s x.result) h × (held_kinds h ≡ g) × BlockIn s m j b (block_of s x.declaration) × TermsFine s m j t todo ts (formal_kinds s (attribute_formals x.parameter))
   TermFine s m j t todo Unbuilt g = ⊥
 
   pub IntegersFine : Source → Instances → (j t : ℕ) → List DeclNo → Terms → Type 0
@@ -618,10 +677,24 @@ IsAddress (AddressOf h) = Unit {0}
 IsAddress (ReferenceAddress c) = Unit {0}
 IsAddress _ = ⊥
 
--- the levels inside: each is one for which the instance stands
-abbrev pub LevelsFine : Source → Instances → ℕ → List Level → Type 0
-LevelsFine s m j [] = Unit {0}
-LevelsFine s m j (x ∷ xs) = Site s m j x.text × StatementsAre s x.text x.statements × LevelsFine s m j xs
+-- the text of an object that is a process has the class `process` of a simulation block among its levels
+pub record ProcessText (s : Source) (t : ℕ) : Type 0 where
+  pub block : ℕ
+  pub simulates : is_simulation_block s.tables block ≡ true
+  pub level : LevelOf s t (block + 4)
+  pub free : is_class_free s t ≡ false
+
+-- the levels inside: each is one for which the instance of the text t stands
+abbrev pub LevelsFine : Source → Instances → (j t : ℕ) → List Level → Type 0
+LevelsFine s m j t [] = Unit {0}
+LevelsFine s m j t (x ∷ xs) = Site s m j x.text × StatementsAre s x.text x.statements × (x.process ≡ true → ProcessText s t) × LevelsFine s m j t xs
+
+-- the operand of an activation, if it has one
+abbrev pub timed : Timing → List Kinds → List Kinds
+timed Directly ks = ks
+timed (AtTime prior) ks = Value (Simply kind.Integer) ∷ ks
+timed (WithDelay prior) ks = Value (Simply kind.Integer) ∷ ks
+timed (Beside before) ks = Value (Simply kind.Reference) ∷ ks
 
 -- a declaration of an array
 abbrev pub EntryIsArray : Source → DeclNo → Type 0
@@ -655,7 +728,7 @@ OpFine s o m j t (NewOp k n line) todo todo' before behind = NewOpFine s k n bef
 OpFine s o m j t (AttributeOp u key class line) todo todo' before behind =
     (c : ℕ) × (h : Holds) × (x : Kinds) × (left : List Kinds) × AttributeFine s u key h c × Addressed class h x × (before ≡ Value (Refers c) ∷ left) × (behind ≡ x ∷ left) × (todo' ≡ todo)
 OpFine s o m j t (ObjectOp k line) todo todo' before behind =
-    (c : ℕ) × (u : ℕ) × (left : List Kinds) × (has_level s.tables c u ≡ true) × (encloser s.tables k ≡ Some u) × (before ≡ Value (Refers c) ∷ left) × (behind ≡ LinkTo u ∷ left) × (todo' ≡ todo)
+    (c : ℕ) × (u : ℕ) × (left : List Kinds) × (has_level s.tables c u ≡ true) × NotStandard s u × (encloser s.tables k ≡ Some u) × (before ≡ Value (Refers c) ∷ left) × (behind ≡ LinkTo u ∷ left) × (todo' ≡ todo)
 OpFine s o m j t (QualifiedElementOp n line c) todo todo' before behind = (left : List Kinds) × (before ≡ integers n (Value (ArrayOf (Refers c)) ∷ left)) × (behind ≡ ReferenceAddress c ∷ left) × (todo' ≡ todo)
 OpFine s o m j t (MemberOp member c) todo todo' before behind = (left : List Kinds) × (before ≡ Value (Simply kind.Reference) ∷ left) × (behind ≡ Value (Simply kind.Boolean) ∷ left) × (todo' ≡ todo)
 OpFine s o m j t (QuaOp c line) todo todo' before behind = (h : Holds) × (left : List Kinds) × Fits s (Refers c) h × (before ≡ Value (Simply kind.Reference) ∷ left) × (behind ≡ Value h ∷ left) × (todo' ≡ todo)
@@ -664,6 +737,10 @@ OpFine s o m j t (NotNoneOp line) todo todo' before behind = (h : Holds) × (x :
 OpFine s o m j t (TransferOp x line) todo todo' before behind = (before ≡ component_kind x ∷ behind) × (todo' ≡ todo)
 OpFine s o m j t (SetOp name) todo todo' before behind =
     (x : SetIs s name) × (h : Option Holds) × (left : List Kinds) × FitsIn s (given_by s x.result) h × (before ≡ onto (set_operands s name x) left) × (behind ≡ given (held_kinds h) left) × (todo' ≡ todo)
+OpFine s o m j t (ProcessOp name line) todo todo' before behind =
+    (x : ProcessIs s name) × (h : Option Holds) × (left : List Kinds) × FitsIn s (given_by s x.result) h × (before ≡ ObjectIn ((x.there).linkage + 3) ∷ left) × (behind ≡ given (held_kinds h) left) × (todo' ≡ todo)
+OpFine s o m j t (SimulationOp name line) todo todo' before behind =
+    (x : SimulationIs s name) × (h : Option Holds) × (left : List Kinds) × FitsIn s (given_by s x.result) h × (is_simulation_block s.tables (block_of s x.declaration) ≡ true) × (before ≡ onto (formal_kinds s (attribute_formals x.parameter)) (LinkTo (block_of s x.declaration) ∷ left)) × (behind ≡ given (held_kinds h) left) × (todo' ≡ todo)
 OpFine s o m j t KeepOp todo todo' before behind = (h : Holds) × (left : List Kinds) × (before ≡ Value (ArrayOf h) ∷ left) × (behind ≡ Lasting h ∷ left) × (todo' ≡ todo)
 -- values in hand, and assignments
 OpFine s o m j t DropOp todo todo' before behind = (k : Kinds) × (before ≡ k ∷ behind) × (todo' ≡ todo)
@@ -681,7 +758,12 @@ OpFine s o m j t (EnterOp k line) todo todo' before behind =
     Ready todo todo' before behind (Sited s m j (λ u. (encloser s.tables k ≡ Some u) × (begin : ℕ) × (ds : Declarations) × (ss : Statements) × (text s k ≡ Some (BlockText begin ds ss))))
 OpFine s o m j t (DeclareOp ds) todo todo' before behind = DeclareFine s t ds todo todo' × (before ≡ []) × (behind ≡ [])
 OpFine s o m j t (LevelOp k) todo todo' before behind = (behind ≡ before) × (todo' ≡ todo)
-OpFine s o m j t (InnerOp xs) todo todo' before behind = Ready todo todo' before behind (LevelsFine s m j xs)
+OpFine s o m j t (InnerOp xs) todo todo' before behind = Ready todo todo' before behind (LevelsFine s m j t xs)
+OpFine s o m j t SelfOp todo todo' before behind = (todo ≡ []) × (todo' ≡ []) × ProcessText s t × (behind ≡ Component ∷ before)
+OpFine s o m j t EndProcessOp todo todo' before behind = Ready todo todo' before behind (ProcessText s t)
+OpFine s o m j t (BlockOp b) todo todo' before behind = (k : ℕ) × BlockIn s m j b k × (behind ≡ LinkTo k ∷ before) × (todo' ≡ todo)
+OpFine s o m j t (ActivateOp again timing line) todo todo' before behind =
+    (k : ℕ) × (is_simulation_block s.tables k ≡ true) × (before ≡ timed timing (Value (Simply kind.Reference) ∷ LinkTo k ∷ behind)) × (todo' ≡ todo)
 OpFine s o m j t (ConnectOp k a other) todo todo' before behind =
     (todo ≡ []) × (todo' ≡ []) × Sited s m j (λ u. (c : ConnectionIs s u k) × (before ≡ Value (reference_to (base s.tables c.number)) ∷ behind) × StatementIs s c.number a × StatementsAre s u other)
 OpFine s o m j t (WhenOp arms other) todo todo' before behind =

@@ -14,8 +14,10 @@ use Rattle.sim_meaning.specs.Pending.{Activation, Do, EndBlock, EndLevel, EndObj
 use Rattle.sim_meaning.specs.Sane.{AllOf, KeptOf, Other}
 use Rattle.sim_sound.proofs.Chains.{elsewhere_none, ends_with, here_once, kept_counted, last_counted, none_kept, none_on}
 use Rattle.sim_sound.proofs.Heads.{at_is, at_same}
-use Rattle.sim_sound.proofs.Members.{MembersFine, members_later, no_less}
-use Rattle.sim_sound.proofs.Later.{All, Copies, Later, Steady, act_later, all_apart, all_map, all_of, as_it_was, awaited_same, chain_later, fine_later, instance_later, kept_map, object_later, op_later, plain_later, present_later, hands_later, own_later, standing_apart, standing_later, stays_later}
+use Rattle.sim_sound.proofs.Members.{MembersFine, StillAll, members_later, no_less}
+use Rattle.sim_sound.proofs.Simulated.{SimulationsFine}
+use Rattle.sim_sound.proofs.Simulating.{simulations_later}
+use Rattle.sim_sound.proofs.Later.{All, Copies, Later, Steady, act_later, all_apart, all_map, all_of, as_it_was, awaited_same, chain_later, fine_later, instance_later, kept_map, lasts_later, object_later, op_later, plain_later, present_later, hands_later, own_later, standing_apart, standing_later, stays_later}
 use Rattle.sim_sound.proofs.Lists.{if_false, if_true, equal_numbers, other_numbers, same_some, set_len, set_other, set_same}
 use Rattle.sim_sound.proofs.Moves.{kept_set, later_instances, stays_not, still_copies}
 use Rattle.sim_sound.proofs.Running.{ActFine, ChainFine, ChainOn, ChainOver, Expected, IsObject, IsRelease, KeptChain, NoObjectStands, ObjectStands, Placed, Shown, StandsFine, StoreFine, WorkFine, awaited, first_over, is_resumed, places, resumes}
@@ -232,8 +234,8 @@ module _ (s : Source) (o o' : AllArrays) (m : Instances) (y : ℕ) (x z : Standi
       (λ differ. ap (λ q. is_object q) (at_same changed.standings m.standings j (NoObject None) (others_stand j differ)))
       (cases_eq j y)
 
-  pub store_changed : StoreFine s o m → o'.members ≡ o.members → StandsFine s o' changed y z → ((j : ℕ) (u : Standing Activation) → j ≢ y → slice_get m.standings j ≡ Some u → (o'.waiting j ≡ o.waiting j) × KeptOf (Steady o m o' changed) u) → StoreFine s o' changed
-  store_changed store linkages stands others = record {
+  pub store_changed : StoreFine s o m → o'.members ≡ o.members → o'.simulations ≡ o.simulations → StandsFine s o' changed y z → ((j : ℕ) (u : Standing Activation) → j ≢ y → slice_get m.standings j ≡ Some u → (o'.waiting j ≡ o.waiting j) × KeptOf (Steady o m o' changed) u) → StoreFine s o' changed
+  store_changed store linkages blocks stands others = record {
     instances = λ j u e. instance_later s o m o' changed All later_changed j u tt (store.instances j u e);
     elements = λ a k it u p l at e. plain_later s o m o' changed All later_changed (elements_of u) p (store.elements a k it u p (sym (ap (λ q. unless_given (slice_get q a)) real) ∙ l) (sym (ap (λ q. slice_get q a) sights) ∙ at) e);
     kept = λ j u e.
@@ -242,8 +244,17 @@ module _ (s : Source) (o o' : AllArrays) (m : Instances) (y : ℕ) (x z : Standi
         (λ differ. let was = sym (others_stand j differ) ∙ e in let k = others j u differ was in standing_later s o m o' changed All later_changed (Steady o m o' changed) (λ i d q. copies_changed i d) (λ i q. q) j u k.0 (standing_apart u) k.1 (store.kept j u was))
         (cases_eq j y);
     noted = ap (λ q. length q) under ∙ store.noted;
-    members = subst (λ q. MembersFine s q changed) (sym linkages) (members_later s o.members m changed (record { objects = λ j c a. object_later s o m o' changed All later_changed j c a; more = no_less (length m.instances); texts = λ j u lives. (u, lives, refl) }) store.members);
+    members = subst (λ q. MembersFine s q changed) (sym linkages) (members_later s o.members m changed all_still store.members);
+    simulations = subst (λ q. SimulationsFine s q changed) (sym blocks) (simulations_later s o.simulations m changed all_still store.simulations);
   }
+    where
+      all_still : StillAll s m changed
+      all_still = record {
+        objects = λ j c a. object_later s o m o' changed All later_changed j c a;
+        lasts = λ j c a. lasts_later s o m o' changed All later_changed j c a;
+        more = no_less (length m.instances);
+        texts = λ j u lives. (u, lives, refl, refl);
+      }
 
   -- no instance comes to stand on more places; one that is given back at its end stays where it stands
   pub placed_changed : (chain chain' : List Activation) → ((j : ℕ) → times_on owner j chain' + times_on owner j (chain_in z) ≤ times_on owner j chain + times_on owner j (chain_in x)) → ((j : ℕ) → is_given_at_end m j ≡ true → times_on owner j chain + times_on owner j (chain_in x) ≤ times_on owner j chain' + times_on owner j (chain_in z)) → (z ≡ TerminatedObject → times_on owner y chain' + over_kept (times_on owner y) changed.standings ≡ 0) → Placed m chain → Placed changed chain'
@@ -325,7 +336,7 @@ module _ (s : Source) (o : AllArrays) (m : Instances) (y : ℕ) (x : Standing Ac
 
   left_store : StoreFine s o Left
   left_store =
-      store_changed s o o m y x (DetachedObject u) is (sym (object_is x object)) refl refl refl f.store refl left_chain
+      store_changed s o o m y x (DetachedObject u) is (sym (object_is x object)) refl refl refl f.store refl refl left_chain
       (λ j w differ there. (refl, kept_map (Other y) (Steady o m o Left) left_steady w (none_kept y w (let none = left_not_kept in let less = kept_counted (times_on owner y) m.standings j w there in omega (arith, none, less)))))
 
   left_counts : (j : ℕ) → times_on owner j below + times_on owner j u ≡ times_on owner j (above ++ here ∷ below) + times_on owner j (chain_in x)
@@ -412,7 +423,7 @@ module _ (s : Source) (o : AllArrays) (m : Instances) (y : ℕ) (u : List Activa
   pub joins : AllFine s o Joined (u ++ b ∷ rest) (Takes None)
   joins = record {
     store =
-        store_changed s o o m y (DetachedObject u) z is (object_is z object) refl refl refl f.store refl (alone o Joined (stays_later s o m o Joined All joined_later y joined_kept.stays))
+        store_changed s o o m y (DetachedObject u) z is (object_is z object) refl refl refl f.store refl refl (alone o Joined (stays_later s o m o Joined All joined_later y joined_kept.stays))
         (λ j w differ there. (refl, kept_map (Other y) (Steady o m o Joined) joined_steady w (none_kept y w (let once = joined_once in let some = joined_counted in let less = elsewhere_kept s o o m y (DetachedObject u) z is (object_is z object) refl refl refl y j w differ there in omega (arith, once, some, less)))));
     placed = placed_changed s o o m y (DetachedObject u) z is (object_is z object) refl refl refl (b ∷ rest) (u ++ b ∷ rest) (λ j. let same = joined_counts j in omega (arith, same)) (λ j e. let same = joined_counts j in omega (arith, same)) (λ e. absurd (living e)) f.placed;
     fine = joined_fine;
@@ -485,7 +496,7 @@ module _ (s : Source) (o : AllArrays) (m : Instances) (y : ℕ) (is : slice_get 
   pub keeps_main : AllFine s then_noted Kept (here ∷ below) Suspended
   keeps_main = record {
     store =
-        store_changed s o then_noted m y (NoObject None) (NoObject (Some above)) is refl refl refl refl f.store refl main_chain
+        store_changed s o then_noted m y (NoObject None) (NoObject (Some above)) is refl refl refl refl f.store refl refl main_chain
         (λ j w differ there. (waits_other j differ, kept_map (Other y) (Steady o m then_noted Kept) kept_steady w (none_kept y w (let none = kept_elsewhere in let less = kept_counted (times_on owner y) m.standings j w there in omega (arith, none, less)))));
     placed = placed_changed s o then_noted m y (NoObject None) (NoObject (Some above)) is refl refl refl refl (above ++ here ∷ below) (here ∷ below) (λ j. let same = kept_counts j in omega (arith, same)) (λ j e. let same = kept_counts j in omega (arith, same)) (λ e. absurd (cc)) f.placed;
     fine = head_waits;
@@ -521,7 +532,7 @@ module _ (s : Source) (o : AllArrays) (m : Instances) (y : ℕ) (main : List Act
 
   pub main_on : AllFine s o Back (main ++ here ∷ below) (Takes None)
   main_on = record {
-    store = store_changed s o o m y (NoObject (Some main)) (NoObject None) is refl refl refl refl f.store refl tt (λ j w differ there. (refl, kept_map All (Steady o m o Back) (λ j a. back_steady j) w (standing_apart w)));
+    store = store_changed s o o m y (NoObject (Some main)) (NoObject None) is refl refl refl refl f.store refl refl tt (λ j w differ there. (refl, kept_map All (Steady o m o Back) (λ j a. back_steady j) w (standing_apart w)));
     placed = placed_changed s o o m y (NoObject (Some main)) (NoObject None) is refl refl refl refl (here ∷ below) (main ++ here ∷ below) (λ j. let same = back_counts j in omega (arith, same)) (λ j e. let same = back_counts j in omega (arith, same)) (λ e. absurd (cc)) f.placed;
     fine = back_fine;
   }
@@ -556,7 +567,7 @@ module _ (s : Source) (o : AllArrays) (m : Instances) (y : ℕ) (x : Standing Ac
   pub object_over : AllFine s o Over rest v
   object_over = record {
     store =
-        store_changed s o o m y x TerminatedObject is (sym (object_is x object)) refl refl refl store refl tt
+        store_changed s o o m y x TerminatedObject is (sym (object_is x object)) refl refl refl store refl refl tt
         (λ j w differ there. (refl, kept_map (Other y) (Steady o m o Over) over_steady w (none_kept y w (let none = over_once in let less = kept_counted (times_on owner y) m.standings j w there in omega (arith, none, less)))));
     placed =
         placed_changed s o o m y x TerminatedObject is (sym (object_is x object)) refl refl refl (record { instance = y; work = []; values = [] } ∷ rest) rest (λ j. omega arith)

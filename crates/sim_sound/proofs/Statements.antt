@@ -13,9 +13,10 @@ use Rattle.sim_scope.specs.declared.types.Mode.TheVariants as mode
 use Rattle.sim_scope.specs.Assignments.{LeftSide, last_value, left_sides}
 use Rattle.sim_scope.specs.Scopes.{entry_of}
 use Rattle.sim_tree.specs.declared.expr.Identifier.{Identifier}
+use Rattle.sim_tree.specs.declared.stmt.Activation.{Activation as Activating}
 use Rattle.sim_tree.specs.declared.stmt.Assignment.{Assignment}
 use Rattle.sim_tree.specs.declared.stmt.Assignment.TheVariants as assignment
-use Rattle.sim_tree.specs.Syntax.{Also, Begin, Block, Element, Expression, Expressions, NoDeclaration, NoMore, NoStatement, Statement, Statements, With}
+use Rattle.sim_tree.specs.Syntax.{Also, Begin, Block, Element, Expression, Expressions, NoDeclaration, NoMore, NoStatement, Schedule, Statement, Statements, With}
 use Rattle.sim_tree.specs.Syntax as syntax
 use Rattle.sim_values.specs.declared.kind.Kind.{Kind}
 use Rattle.sim_values.specs.declared.kind.Kind.TheVariants as kind
@@ -25,33 +26,34 @@ use Rattle.sim_code.specs.Events.{choosing}
 use Rattle.sim_code.specs.Outcome.{World}
 use Rattle.sim_meaning.specs.Meaning.{do_op}
 use Rattle.sim_meaning.specs.Steps.{count, each, go}
-use Rattle.sim_scope.specs.Levels.{base}
+use Rattle.sim_scope.specs.Levels.{base, level_beyond}
 use Rattle.sim_scope.specs.Source.{Source, block_around, denoted, found_at, level_of, line_at}
-use Rattle.sim_code.specs.Instances.{at_level}
+use Rattle.sim_code.specs.Instances.{at_level, live}
 use Rattle.sim_code.specs.Transfers.{Transfer}
 use Rattle.sim_meaning.specs.Attributes.{own_attribute, connection_at, transfer_at}
 use Rattle.sim_meaning.specs.Closing.{Left, LeftAddress, LeftCell, LeftReference, LeftText, LeftUnbuilt, class_parameters, close, close_parameters, close_place, declared_left, formal_left, home_of, is_text, left_found, left_in, left_variable, named_left, reference_place, stream_of}
 use Rattle.sim_meaning.specs.Levels.{has_levels, levels_inside, text_at}
-use Rattle.sim_meaning.specs.Pending.{Activation, AgainOp, BackOp, BranchOp, ChooseOp, Configuration, ConnectOp, Do, DropOp, ElementsOp, EnterOp, Eval, Exec, Execs, InnerOp, Instances, Item, Key, Op, PrefixedOp, RaiseOp, StepOp, StepTestOp, StoreOp, Target, Term, TestOp, ToAddress, ToCell, ToPlace, ToReference, ToReferenceAt, ToText, ToTextAt, ToTextOf, TwoOp, Val, WhenOp, WhileElementOp}
-use Rattle.sim_meaning.specs.Statements.{assigned, assigning, begin_of, compound, controlled, controlled_left, dropping, elements, entered_at, exec, execs, finding, first_branch, inner_begun, leaves, lefts, levels_of_instance, looping, prefix_begun, raised, reading, step_tested, while_element}
+use Rattle.sim_meaning.specs.Pending.{ActivateOp, Activation, AgainOp, BackOp, BlockOp, BranchOp, ChooseOp, Configuration, ConnectOp, Do, DropOp, ElementsOp, EnterOp, Eval, Exec, Execs, InnerOp, Instances, Item, Key, Op, PrefixedOp, RaiseOp, StepOp, StepTestOp, StoreOp, Target, Term, TestOp, ToAddress, ToCell, ToPlace, ToReference, ToReferenceAt, ToText, ToTextAt, ToTextOf, TwoOp, Val, WhenOp, WhileElementOp}
+use Rattle.sim_meaning.specs.Statements.{activated, is_again, operand_work, simulation_home, timing, assigned, assigning, begin_of, compound, controlled, controlled_left, dropping, elements, entered_at, exec, execs, finding, first_branch, inner_begun, leaves, lefts, levels_of_instance, looping, prefix_begun, raised, reading, step_tested, while_element}
 use Rattle.sim_meaning.specs.Texts.{text}
 use Rattle.sim_sound.specs.Held.{Holds, In, Refers, Simply, reference_to}
 use Rattle.sim_sound.specs.Expressions.{ActualsFit, AreIntegers, AreOf, DotGives, ExprIs, IdentifierGives}
-use Rattle.sim_sound.specs.Statements.{CallIs, CompoundIs, ControlIs, ElementsAre, InnerIs, OrTransferIs, PrefixedIs, StatementIs, StatementsAre, TransferIs, is_given}
+use Rattle.sim_sound.specs.Statements.{CallIs, CompoundIs, ControlIs, ElementsAre, InnerIs, OrTransferIs, PrefixedIs, SimulationIs, StatementIs, StatementsAre, TimingIs, TransferIs, is_given}
 use Rattle.sim_sound.specs.Typed.{Typed}
 use Rattle.sim_sound.proofs.Assigns.{Found, assigning_fine, lefts_found}
-use Rattle.sim_sound.proofs.Cells.{own_level, site_whole}
-use Rattle.sim_sound.proofs.ClassLevels.{all_levels_of, inside_are, levels_are, levels_fine}
+use Rattle.sim_sound.proofs.Cells.{own_level, site_whole, stands_level_of}
+use Rattle.sim_sound.proofs.ClassLevels.{all_levels_of, inside_are, levels_are, levels_fine, process_levels}
+use Rattle.sim_sound.proofs.Lists.{same_some}
 use Rattle.sim_sound.proofs.Calls.{transfer_leaves_none}
 use Rattle.sim_sound.proofs.Closing.{class_fine, detach_fine, dot_fine, expr_fine, given_fine, transfer_fine, transfer_in}
 use Rattle.sim_sound.proofs.Evals.{IsFine, Rest, Work, goes_on, prefix_work}
 use Rattle.sim_sound.proofs.Fitting.{text_there}
 use Rattle.sim_sound.proofs.Lefts.{LeftFine, reference_is, variable_fine}
 use Rattle.sim_sound.proofs.Lifts.{Goes, chosen, had, ran, ticked, truth_popped}
-use Rattle.sim_sound.proofs.Prefixes.{LevelOf, class_has, class_solid, level_of_levels}
+use Rattle.sim_sound.proofs.Prefixes.{LevelOf, class_has, class_solid, level_is, level_number, level_of_levels}
 use Rattle.sim_sound.proofs.Reach.{Reaches, ReachesText, reaches_in, text_in}
 use Rattle.sim_sound.proofs.Running.{Begun, Operates}
-use Rattle.sim_sound.proofs.Sound.{AddressOf, HandsFine, Kinds, LevelsFine, Marks, OpFine, Site, TermFine, TermsFine, Value, VariableFine, Whole, class_kinds, given, held_kinds, in_instance as at_cell, see, simple, value_stored}
+use Rattle.sim_sound.proofs.Sound.{AddressOf, BlockIn, HandsFine, Kinds, LevelsFine, LinkTo, Marks, OpFine, Site, TermFine, TermsFine, Value, VariableFine, Whole, class_kinds, given, held_kinds, in_instance as at_cell, see, simple, timed, value_stored}
 
 -- ---- a variable as a left side is a cell, or is found by a tree
 
@@ -216,7 +218,9 @@ module _ (s : Source) (ok : Typed s) (l : Limits) (o : World) (marks : Marks) (l
       let at : LevelOf s k u = own_level s p.now u (class_solid (text s u) a.1) p.stands in
       let has : has_levels (text s k) ≡ true = level_of_levels s ok (b.store.instances i p.now p.lives).solid at (class_has s ok u a.1) in
       let all = all_levels_of s ok k has in
-      let inside : LevelsFine s m i (levels_inside u all.list) = levels_fine s ok m i p.now p.lives (levels_inside u all.list) (inside_are s k u all.list all.are) in
+      let same : k ≡ t = ap (λ z. z.text) (same_some (live m i) p.now (b.here).now p.lives (b.here).lives) ∙ b.own in
+      let levels = levels_fine s ok m i p.now p.lives (process_levels s ok (see marks o) m b.store i p.now p.lives) (levels_inside u all.list) (inside_are s k u all.list all.are) in
+      let inside : LevelsFine s m i t (levels_inside u all.list) = subst (λ z. LevelsFine s m i z (levels_inside u all.list)) same levels in
       subst (λ z. Goes P (inner_begun s (ran o t' w') m i w vals rest z)) (sym a.0)
       (had P (levels_of_instance s (text_at m i)) all.list (ran o t' w') (λ xs. go (ran o t' w') m i (Do (InnerOp (levels_inside u xs)) ∷ w) vals rest) (ap (levels_of_instance s) (text_there s m i p.now p.lives) ∙ levels_are s ok k has)
       (goes (Do (InnerOp (levels_inside u all.list)) ∷ w) ([], ks, (refl, refl, refl, inside), work)))
@@ -232,6 +236,40 @@ module _ (s : Source) (ok : Typed s) (l : Limits) (o : World) (marks : Marks) (l
       let fine : TermsFine s m i t [] terms (class_kinds s fs) = class_fine s ok (see marks o) m b.store i t [] (In u) reach around line es fs a.actuals in
       subst (λ z. Goes P (prefix_begun s (ran o t' w') m i w vals rest class es z)) (sym a.around)
       (goes (each terms (Do (PrefixedOp a.number (count terms) line) ∷ w)) (prefix_work s o marks long m i t rest top a.number terms line u w ks site a.stands_in (record { class = a.class; arguments = a.arguments; declarations = a.declarations; statements = a.statements; is = a.is }) fine work))
+
+  -- ---- activations
+
+  timed_work : (x : Schedule) (v : List Item) (left : List Kinds) → TimingIs s u x → Wk v (timed (timing x) left) → Wk (operand_work s m i x v) left
+  timed_work syntax.Now v left a f = f
+  timed_work (syntax.At token e prior) v left a f = evals e (Simply kind.Integer) v left a f
+  timed_work (syntax.Delay token e prior) v left a f = evals e (Simply kind.Integer) v left a f
+  timed_work (syntax.Before token e) v left a f = evals e (Simply kind.Reference) v left a f
+  timed_work (syntax.After token e) v left a f = evals e (Simply kind.Reference) v left a f
+
+  -- the block of the nearest simulation around
+  block_there : (token : ℕ) → (x : SimulationIs s u token) → (e : ℕ) × (simulation_home s m i token ≡ Some e) × BlockIn s m i e x.block
+  unfolding simulation_home
+  block_there token x =
+      let z = x.seen in
+      let at = level_is s z.found x.block z.level in
+      let r = around z.found z.around in
+      let p = r.whole in
+      let same : level_of s z.found ≡ level_of s x.block = level_number s ok z.instance at in
+      let stands = stands_level_of s p.now z.found x.block z.instance p.stands at in
+      (r.instance, ap (level_beyond (λ k. at_level m (level_of s k) i)) x.is ∙ ap (λ q. at_level m q i) (sym same) ∙ r.found, record { near = r.near; whole = record { now = p.now; lives = p.lives; stands = stands; words = p.words; has_text = p.has_text; made = p.made }; simulates = x.simulates })
+
+  activate_goes : (token : ℕ) (word : Activating) (e : Expression) (x : Schedule) → SimulationIs s u token → ExprIs s (In u) e (Simply kind.Reference) → TimingIs s u x → (t' w' : ℕ) → Goes P (activated s (ran o t' w') m i w vals rest (simulation_home s m i token) token word e x)
+  activate_goes token word e x home is timing_is t' w' =
+      let y = block_there token home in
+      let act = Do (ActivateOp (is_again word) (timing x) (line_at s token)) ∷ w in
+      subst (λ z. Goes P (activated s (ran o t' w') m i w vals rest z token word e x)) (sym y.1)
+      (goes (Do (BlockOp y.0) ∷ Do (Eval (close s m i e)) ∷ operand_work s m i x act) (
+        [],
+        LinkTo home.block ∷ ks,
+        (home.block, y.2, refl, refl),
+        evals e (Simply kind.Reference) (operand_work s m i x act) (LinkTo home.block ∷ ks) is
+            (timed_work x act (Value (Simply kind.Reference) ∷ LinkTo home.block ∷ ks) timing_is ([], ks, (home.block, home.simulates, refl, refl), work)),
+      ))
 
   pub exec_goes : (a : Statement) → StatementIs s u a → Goes P (exec s l o m i w vals rest a)
   exec_goes (syntax.Empty token) x = goes w work
@@ -259,7 +297,8 @@ module _ (s : Source) (ok : Typed s) (l : Limits) (o : World) (marks : Marks) (l
   exec_goes (syntax.InspectWhen token e arms other) x =
       ticked P l o (λ p. go p m i (Do (Eval (close s m i e)) ∷ Do (WhenOp arms other) ∷ w) vals rest) (λ t' w'.
       goes (Do (Eval (close s m i e)) ∷ Do (WhenOp arms other) ∷ w) (evals e (Simply kind.Reference) (Do (WhenOp arms other) ∷ w) ks x.0 ([], ks, (refl, refl, refl, (u, site, (x.1, x.2))), work)))
-  exec_goes _ x = absurd x
+  exec_goes (syntax.Activate token word e schedule) x =
+      ticked P l o (λ p. activated s p m i w vals rest (simulation_home s m i token) token word e schedule) (λ t' w'. activate_goes token word e schedule x.0 x.1 x.2 t' w')
 
   pub execs_goes : (ss : Statements) → StatementsAre s u ss → Goes P (execs o m i w vals rest ss)
   execs_goes NoStatement x = goes w work

@@ -14,11 +14,11 @@ use Rattle.sim_chains.proofs.Keeps.{call_law, detach_law, directly, kept_object,
 use Rattle.sim_scope.specs.Levels.{has_level}
 use Rattle.sim_scope.specs.Source.{Source}
 use Rattle.sim_values.specs.declared.kind.Kind.TheVariants as kind
-use Rattle.sim_values.specs.Plain.{Character, Integer, Nothing, Object, Plain, Text, Truth, kind_of}
+use Rattle.sim_values.specs.Plain.{Character, Integer, MainOf, Nothing, Object, Plain, Text, Truth, kind_of}
 use Rattle.sim_code.specs.Events.{computing, having, pop_plain}
 use Rattle.sim_code.specs.Instances.{going_below, is_object_at, live, system_head}
-use Rattle.sim_code.specs.Outcome.{Run, World}
-use Rattle.sim_code.specs.Transfers.{Calling, Detaching, Resuming, Transfer, transferred, transferring}
+use Rattle.sim_code.specs.Outcome.{Run, RunFault, World}
+use Rattle.sim_code.specs.Transfers.{Calling, Detaching, Resuming, Transfer, refused_of_main, transferred, transferring}
 use Rattle.sim_meaning.specs.Meaning.{do_op}
 use Rattle.sim_meaning.specs.Pending.{Activation, Address, ArrayValue, Configuration, Instances, Item, Link, Of, ProcedureValue, TransferOp, Tree, Val, owner, plain}
 use Rattle.sim_sound.specs.Typed.{Typed}
@@ -27,7 +27,7 @@ use Rattle.sim_sound.proofs.Ends.{goes_below, released, suspended}
 use Rattle.sim_sound.proofs.Evals.{IsFine, Work}
 use Rattle.sim_sound.proofs.Heads.{at_is, head_outer, headed_as, headed_then, stands_as, well_formed}
 use Rattle.sim_sound.proofs.Later.{All, Later, object_later}
-use Rattle.sim_sound.proofs.Lifts.{Goes, any_popped, computed, had, known_popped}
+use Rattle.sim_sound.proofs.Lifts.{Goes, any_popped, computed, had, known_popped, stops}
 use Rattle.sim_sound.proofs.Lists.{same_some, set_other, there_get}
 use Rattle.sim_sound.proofs.Moves.{placed_as}
 use Rattle.sim_sound.proofs.Reach.{has_itself}
@@ -194,7 +194,7 @@ module _ (s : Source) (ok : Typed s) (o : World) (g : Marks) (long : length g.si
 
   -- ---- an object is resumed
 
-  resume_on : (y : Option ℕ) (d : Components Activation) → resume owner head c y ≡ Ok d → Goes (IsFine s) (After d)
+  pub resume_on : (y : Option ℕ) (d : Components Activation) → resume owner head c y ≡ Ok d → Goes (IsFine s) (After d)
   resume_on None d e = absurd (no_ok e)
   resume_on (Some y) d e = by_standing (standing_of c y) refl e
     where
@@ -215,7 +215,7 @@ module _ (s : Source) (ok : Typed s) (o : World) (g : Marks) (long : length g.si
   -- ---- an object detaches itself
 
   -- where it is resumed, the main component of its system goes on
-  main_on_again : (y : ℕ) (d : Components Activation) → resume_main owner c y ≡ Ok d → Goes (IsFine s) (After d)
+  pub main_on_again : (y : ℕ) (d : Components Activation) → resume_main owner c y ≡ Ok d → Goes (IsFine s) (After d)
   main_on_again y d e = by_standing (standing_of c y) refl e
     where
       by_cut : (main : List Activation) → standing_of c y ≡ NoObject (Some main) → (k : Option (Cut Activation)) → cut_at owner y chain ≡ k → main_at owner k main c y ≡ Ok d → Goes (IsFine s) (After d)
@@ -286,16 +286,17 @@ module _ (s : Source) (ok : Typed s) (o : World) (g : Marks) (long : length g.si
     detaches line = had (IsFine s) (Some (detach owner head c y)) (detach owner head c y) o (λ r. computing line r o After) refl (computed (IsFine s) line (detach owner head c y) o After (λ d e. detach_on d e))
 
 module _ (s : Source) (ok : Typed s) (l : Limits) (o : World) (g : Marks) (long : length g.sights ≡ length o.arrays) (m : Instances) (i t : ℕ) (rest : List Activation) (top : Operates g.beneath m i rest) (w : List Item) (vals : List Val) (todo todo' : List DeclNo) (before behind : List Kinds) (b : Begun s (see g o) m i t todo) (h : HandsFine s (see g o) m i before vals) (work : Work s o g long m i t rest top w todo' behind) where
-  abbrev Chain : List Val → List Activation
+  abbrev pub Chain : List Val → List Activation
   Chain vs = record { instance = i; work = w; values = vs } ∷ rest
 
-  waits_fine : todo' ≡ todo → (vs : List Val) → HandsFine s (see g o) m i behind vs → ChainFine s (see g o) m (Chain vs) (Takes None)
+  pub waits_fine : todo' ≡ todo → (vs : List Val) → HandsFine s (see g o) m i behind vs → ChainFine s (see g o) m (Chain vs) (Takes None)
   waits_fine same vs more = record { of_text = t; todo = todo; here = b.here; own = b.own; on = top.on; vals = vs; shown = refl; kinds = behind; hands = more; expected = behind; expects = refl; goes = subst (λ z. Work s o g long m i t rest top w z behind) same work }
 
   calls : todo' ≡ todo → (line : ℕ) (vs : List Val) → HandsFine s (see g o) m i behind vs → (p : Plain) → kind_of p ≡ kind.Reference → Goes (IsFine s) (transferring owner Calling line o (Chain vs) m p)
   unfolding transferring
   calls same line vs more (Object j) e = had (IsFine s) (Some (Some j)) (Some j) o _ refl (called s ok o g long m (Chain vs) b.store (placed_as m i w vs rest top.placed) (headed_as m i w vs rest top.headed) (waits_fine same vs more) line (Some j))
   calls same line vs more Nothing e = had (IsFine s) (Some None) None o _ refl (called s ok o g long m (Chain vs) b.store (placed_as m i w vs rest top.placed) (headed_as m i w vs rest top.headed) (waits_fine same vs more) line None)
+  calls same line vs more (MainOf z) e = stops (IsFine s) (RunFault (refused_of_main Calling) line) o (λ q. cc)
   calls same line vs more (Integer z) e = absurd (cc)
   calls same line vs more (Character z) e = absurd (cc)
   calls same line vs more (Truth z) e = absurd (cc)
@@ -305,6 +306,7 @@ module _ (s : Source) (ok : Typed s) (l : Limits) (o : World) (g : Marks) (long 
   unfolding transferring
   resumptions same line vs more (Object j) e = had (IsFine s) (Some (Some j)) (Some j) o _ refl (resumes_on s ok o g long m (Chain vs) b.store (placed_as m i w vs rest top.placed) (headed_as m i w vs rest top.headed) (waits_fine same vs more) line (Some j))
   resumptions same line vs more Nothing e = had (IsFine s) (Some None) None o _ refl (resumes_on s ok o g long m (Chain vs) b.store (placed_as m i w vs rest top.placed) (headed_as m i w vs rest top.headed) (waits_fine same vs more) line None)
+  resumptions same line vs more (MainOf z) e = stops (IsFine s) (RunFault (refused_of_main Resuming) line) o (λ q. cc)
   resumptions same line vs more (Integer z) e = absurd (cc)
   resumptions same line vs more (Character z) e = absurd (cc)
   resumptions same line vs more (Truth z) e = absurd (cc)
@@ -314,9 +316,14 @@ module _ (s : Source) (ok : Typed s) (l : Limits) (o : World) (g : Marks) (long 
   unfolding transferring
   leaves same line vs more j c object = had (IsFine s) (Some (Some j)) (Some j) o _ refl (detaches s ok o g long m (Chain vs) b.store (placed_as m i w vs rest top.placed) (headed_as m i w vs rest top.headed) (waits_fine same vs more) j c object line)
 
-  -- the value in hand is an object
+  main_leaves_not : (line : ℕ) (vs : List Val) (z : ℕ) → Goes (IsFine s) (transferring owner Detaching line o (Chain vs) m (MainOf z))
+  unfolding transferring
+  main_leaves_not line vs z = stops (IsFine s) (RunFault (refused_of_main Detaching) line) o (λ q. cc)
+
+  -- the value in hand is an object or a main program
   object_in_hand : todo' ≡ todo → (line : ℕ) (vs : List Val) → HandsFine s (see g o) m i behind vs → (v : Val) → DeepFine s (see g o) m i (length vs) Component v → Goes (IsFine s) (having (plain v) o (λ p. transferring owner Detaching line o (Chain vs) m p))
   object_in_hand same line vs more (Of (Object j)) a = had (IsFine s) (Some (Object j)) (Object j) o (λ p. transferring owner Detaching line o (Chain vs) m p) refl (leaves same line vs more j a.0 a.1)
+  object_in_hand same line vs more (Of (MainOf z)) a = had (IsFine s) (Some (MainOf z)) (MainOf z) o (λ p. transferring owner Detaching line o (Chain vs) m p) refl (main_leaves_not line vs z)
   object_in_hand same line vs more (Of Nothing) a = absurd a
   object_in_hand same line vs more (Of (Integer z)) a = absurd a
   object_in_hand same line vs more (Of (Character z)) a = absurd a

@@ -11,7 +11,7 @@ use Rattle.sim_scope.specs.declared.types.FormalKind.TheVariants as shape
 use Rattle.sim_scope.specs.declared.types.Mode.{Mode}
 use Rattle.sim_scope.specs.declared.types.Mode.TheVariants as mode
 use Rattle.sim_scope.specs.declared.types.SimType.{SimType}
-use Rattle.sim_scope.specs.Levels.{base, has_level}
+use Rattle.sim_scope.specs.Levels.{base, has_level, is_for_prefixing, is_simulation_block}
 use Rattle.sim_scope.specs.Scopes.{entry_of}
 use Rattle.sim_scope.specs.Source.{Source, block_of, denoted, found_at}
 use Rattle.sim_tree.specs.Syntax.{Expression, Expressions, Literal, NoMore, Then}
@@ -25,8 +25,9 @@ use Rattle.sim_values.specs.declared.standard.StandardType.{StandardType}
 use Rattle.sim_values.specs.Plain.{Plain, kind_of}
 use Rattle.sim_values.specs.Standard.{is_image, kind_of_type as kind_of_standard, on_image, operands_of, row_of}
 use Rattle.sim_code.specs.Running.{name_runs}
-use Rattle.sim_code.specs.Sets.{is_set_name}
-use Rattle.sim_meaning.specs.Attributes.{attribute_formals, connection_at, is_connection, own_attribute}
+use Rattle.sim_code.specs.Simulations.{is_simulation_name}
+use Rattle.sim_code.specs.Sets.{is_attribute_name}
+use Rattle.sim_meaning.specs.Attributes.{attribute_formals, connection_at, is_connection, own_attribute, is_bare_process}
 use Rattle.sim_meaning.specs.Closing.{Joining, Lazily, Negated, Plainly, Sort, class_parameters, is_text, sort_of, stream_of}
 use Rattle.sim_meaning.specs.Constants.{text_constant}
 use Rattle.sim_meaning.specs.Entries.{formals_of}
@@ -113,9 +114,9 @@ LiteralIs s token (syntax.TextValue bytes) h = (v : Plain) × (text_constant s t
 LiteralIs s token syntax.NoObject h = IsReference h
 LiteralIs s token literal h = some_holds (literal_kind literal) ≡ Some h
 
--- a name of the table that is done, and is no procedure of SIMSET
+-- a name of the table that is done, and is no attribute of SIMSET or SIMULATION
 abbrev pub DoneAlone : Standard → Type 0
-DoneAlone name = (name_runs name ≡ true) × (is_set_name name ≡ false)
+DoneAlone name = (name_runs name ≡ true) × (is_attribute_name name ≡ false) × (is_simulation_name name ≡ false)
 
 -- it gives what its row says
 abbrev pub RowGives : Standard → Option Holds → Type 0
@@ -144,9 +145,9 @@ abbrev pub BehindGives : (stream : Option ℕ) → Option Standard → (Object :
 BehindGives (Some image) name Object Operands h = StandardGives name Operands h
 BehindGives None name Object Operands h = AttributeGives name Object Operands h
 
--- a procedure of SIMSET gives what its declaration says, or nothing
+-- an attribute of SIMSET or of a process gives what its declaration says, or nothing
 abbrev pub SetGives : Source → (Known : Type 0) → Standard → (parameter result : Option SimType) → (Actuals : List Formal → Type 0) → Option Holds → Type 0
-SetGives s Known name parameter result Actuals h = (is_set_name name ≡ true) × FitsIn s (given_by s result) h × Known × Actuals (attribute_formals parameter)
+SetGives s Known name parameter result Actuals h = (is_attribute_name name ≡ true) × FitsIn s (given_by s result) h × Known × Actuals (attribute_formals parameter)
 
 abbrev pub DeclaredGives : Source → (Known : Type 0) → DeclNo → Expressions → (Indices : Type 0) → (Actuals : List Formal → Type 0) → Option Entry → Option Holds → Type 0
 DeclaredGives s Known d es Indices Actuals (Some (entry.Procedure result k)) h = CallGives s Known result k Actuals h
@@ -185,12 +186,33 @@ abbrev pub ThisFound : Source → Place → (found : Option ℕ) → Holds → T
 ThisFound s from None h = ⊥
 ThisFound s from (Some k) h = ThisIs s from (is_connection (text s k)) (has_levels (text s k)) k h
 
--- an identifier: a procedure of SIMSET that is seen without a connection is one of the object around
+-- an identifier: an attribute of SIMSET or of a process that is seen without a connection is one of the object around
 abbrev pub OwnKnown : Source → Place → (token : ℕ) → DeclNo → Type 0
 OwnKnown s from token d = ObjectHas s (λ class. ThisFound s from (found_at s token) (Refers class)) d
 
+-- A procedure of a simulation block, which is found around: it is a text around that is no connection, and has the procedure in one of its levels.
+pub record SimulationKnown (s : Source) (from : Place) (token : ℕ) (d : DeclNo) : Type 0 where
+  pub found : ℕ
+  pub is_found : found_at s token ≡ Some found
+  pub around : StandsAround s from found
+  pub solid : is_connection (text s found) ≡ false
+  pub level : has_level s.tables found (block_of s d) ≡ true
+  pub simulates : is_simulation_block s.tables (block_of s d) ≡ true
+
+abbrev pub SimulationGives : Source → (Known : Type 0) → (parameter result : Option SimType) → (Actuals : List Formal → Type 0) → Option Holds → Type 0
+SimulationGives s Known parameter result Actuals h = FitsIn s (given_by s result) h × Known × Actuals (attribute_formals parameter)
+
+abbrev pub OwnNameGives : (simulation : Bool) → (Simulation Other : Type 0) → Type 0
+OwnNameGives true Simulation Other = Simulation
+OwnNameGives false Simulation Other = Other
+
+abbrev pub OwnGives : Source → Place → (token : ℕ) → DeclNo → (Actuals : List Formal → Type 0) → Option Entry → Option Holds → (Other : Type 0) → Type 0
+OwnGives s from token d Actuals (Some (entry.Attribute name parameter result)) h Other =
+    OwnNameGives (is_simulation_name name) (SimulationGives s (SimulationKnown s from token d) parameter result Actuals h) Other
+OwnGives s from token d Actuals e h Other = Other
+
 abbrev pub IdentifierGives : Source → Place → (token : ℕ) → (connection : Option ℕ) → (own : Option DeclNo) → Expressions → (Indices : Type 0) → (Operands : List Kind → Type 0) → (Actuals : List Formal → Type 0) → Option Holds → Type 0
-IdentifierGives s from token None (Some d) es Indices Operands Actuals h = DeclaredGives s (OwnKnown s from token d) d es Indices Actuals (entry_of s.tables d) h
+IdentifierGives s from token None (Some d) es Indices Operands Actuals h = OwnGives s from token d Actuals (entry_of s.tables d) h (DeclaredGives s (OwnKnown s from token d) d es Indices Actuals (entry_of s.tables d) h)
 IdentifierGives s from token None None es Indices Operands Actuals h = NamedGives s from None (denoted s token) es Indices Operands Actuals h
 IdentifierGives s from token (Some k) own es Indices Operands Actuals h = NamedGives s from (Some k) (denoted s token) es Indices Operands Actuals h
 
@@ -219,6 +241,10 @@ pub record Generates (s : Source) (from : Place) (token : ℕ) (Actuals : List F
   pub denotes : denoted s token ≡ Some (denotation.Declared declaration)
   pub class : ℕ
   pub declares : entry_of s.tables declaration ≡ Some (entry.Class class)
+  -- objects of `process` itself are not built
+  pub made : is_bare_process (text s class) ≡ false
+  -- what has `simulation` in front is only for prefixing
+  pub single : is_for_prefixing s.tables class ≡ false
   pub seen : Sees s from declaration
   pub actuals : Actuals (class_parameters s (Some class))
 

@@ -7,13 +7,13 @@ use Rattle.sim_scope.specs.declared.types.Entry.TheVariants as entry
 use Rattle.sim_scope.specs.declared.types.Formal.{Formal}
 use Rattle.sim_scope.specs.Access.{encloser}
 use Rattle.sim_scope.specs.Assignments.{LeftSide, last_value, left_sides}
-use Rattle.sim_scope.specs.Levels.{base}
+use Rattle.sim_scope.specs.Levels.{base, is_simulation_block}
 use Rattle.sim_scope.specs.Scopes.{entry_of}
 use Rattle.sim_scope.specs.Source.{Source, block_around, denoted, found_at, type_at}
 use Rattle.sim_tree.specs.declared.expr.Identifier.{Identifier}
 use Rattle.sim_tree.specs.declared.stmt.Assignment.{Assignment}
 use Rattle.sim_tree.specs.declared.stmt.Assignment.TheVariants as assignment
-use Rattle.sim_tree.specs.Syntax.{Also, Arms, Begin, Block, Declarations, Element, Expression, Expressions, NoArm, NoDeclaration, NoMore, NoStatement, Statement, Statements, Then, When, With}
+use Rattle.sim_tree.specs.Syntax.{Also, Arms, Begin, Block, Declarations, Element, Expression, Expressions, NoArm, NoDeclaration, NoMore, NoStatement, Schedule, Statement, Statements, Then, When, With}
 use Rattle.sim_tree.specs.Syntax as syntax
 use Rattle.sim_values.specs.declared.kind.Kind.{Kind}
 use Rattle.sim_values.specs.declared.kind.Kind.TheVariants as kind
@@ -21,9 +21,9 @@ use Rattle.sim_code.specs.Transfers.{Calling, Detaching, Resuming, Transfer}
 use Rattle.sim_meaning.specs.Attributes.{connection_at, first_in, own_attribute, transfer_at}
 use Rattle.sim_meaning.specs.Closing.{class_parameters, is_text, result_meant, stream_of, typed_token}
 use Rattle.sim_meaning.specs.Levels.{class_at, is_class, qualification}
-use Rattle.sim_meaning.specs.Statements.{begin_of, leaves}
+use Rattle.sim_meaning.specs.Statements.{begin_of, leaves, simulation_around}
 use Rattle.sim_meaning.specs.Texts.{BlockText, ConnectionText, PrefixedText, text}
-use Rattle.sim_sound.specs.Held.{Around, ArrayOf, Holds, In, Refers, Simply, entry_holds, held_by, reference_to, result_holds}
+use Rattle.sim_sound.specs.Held.{Around, ArrayOf, Holds, In, Refers, Seen, Simply, entry_holds, held_by, reference_to, result_holds}
 use Rattle.sim_sound.specs.Expressions.{ActualsFit, AreIntegers, AreOf, DotGives, ExprIs, IdentifierGives, KnownAt, ObjectHas, ThisFound}
 
 -- ---- left sides
@@ -195,6 +195,22 @@ pub record ConnectionIs (s : Source) (t opening : ℕ) : Type 0 where
 abbrev pub InnerIs : Source → ℕ → (token : ℕ) → Type 0
 InnerIs s t token = (block_around s token ≡ Some t) × (is_class (text s t) ≡ true)
 
+-- ---- activations
+
+-- the nearest simulation around a token, whose level is one of a text around that is no connection
+pub record SimulationIs (s : Source) (t token : ℕ) : Type 0 where
+  pub block : ℕ
+  pub is : simulation_around s token ≡ Some block
+  pub simulates : is_simulation_block s.tables block ≡ true
+  pub seen : Seen s t block
+
+abbrev pub TimingIs : Source → ℕ → Schedule → Type 0
+TimingIs s t syntax.Now = Unit {0}
+TimingIs s t (syntax.At token e prior) = ExprIs s (In t) e (Simply kind.Integer)
+TimingIs s t (syntax.Delay token e prior) = ExprIs s (In t) e (Simply kind.Integer)
+TimingIs s t (syntax.Before token e) = ExprIs s (In t) e (Simply kind.Reference)
+TimingIs s t (syntax.After token e) = ExprIs s (In t) e (Simply kind.Reference)
+
 -- ---- statements
 
 abbrev mutual
@@ -212,7 +228,7 @@ abbrev mutual
   StatementIs s t (syntax.Inspect token e opening a end other) =
       (c : ConnectionIs s t opening) × ExprIs s (In t) e (reference_to (base s.tables c.number)) × StatementIs s c.number a × StatementsAre s t other
   StatementIs s t (syntax.InspectWhen token e arms other) = ExprIs s (In t) e (Simply kind.Reference) × ArmsAre s t arms × StatementsAre s t other
-  StatementIs s t _ = ⊥
+  StatementIs s t (syntax.Activate token word e schedule) = SimulationIs s t token × ExprIs s (In t) e (Simply kind.Reference) × TimingIs s t schedule
 
   -- each arm connects by its class
   pub ArmsAre : Source → ℕ → Arms → Type 0

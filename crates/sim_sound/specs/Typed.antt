@@ -1,5 +1,5 @@
--- Which programs are typed: what the static rules give, as far as a run rests on it. So far for programs without `simulation`, parameters by
--- name and formal procedures.
+-- Which programs are typed: what the static rules give, as far as a run rests on it. So far for programs without parameters by name and formal
+-- procedures.
 use Rattle.std.specs.Prelude.{◌≡◌, ◌<◌, ◌+◌, ℕ, suc, true, false, List, [], ◌∷◌, length, slice_get, Option, Some, None}
 use Rattle.std.specs.List.{list_any}
 use Rattle.sim_base.specs.declared.numbering.DeclNo.{DeclNo}
@@ -27,7 +27,8 @@ use Rattle.sim_values.specs.declared.standard.StandardType.{StandardType}
 use Rattle.sim_values.specs.declared.standard.StandardType.TheVariants as of
 use Rattle.sim_values.specs.Plain.{Plain, kind_of}
 use Rattle.sim_values.specs.Standard.{row_of}
-use Rattle.sim_code.specs.Sets.{is_set_name}
+use Rattle.sim_code.specs.Simulations.{is_simulation_name}
+use Rattle.sim_code.specs.Sets.{is_attribute_name}
 use Rattle.sim_meaning.specs.Attributes.{first_in, is_connection}
 use Rattle.sim_meaning.specs.Closing.{class_parameters}
 use Rattle.sim_meaning.specs.Entries.{formals_of, is_held, numbers_of}
@@ -154,7 +155,6 @@ pub record ClassTyped (s : Source) (k : ℕ) (ds : Declarations) (ss : Statement
   pub statements : StatementsAre s k ss
   -- it lasts, with all texts around
   pub stays : is_class_free s k ≡ false
-  pub not_simulation : is_simulation_block s.tables k ≡ false
 
 -- a connection is the text around the token with which it begins
 pub record ConnectionTyped (s : Source) (k : ℕ) : Type 0 where
@@ -236,7 +236,23 @@ abbrev pub set_place : StandardClass → Option ℕ
 set_place standard.Linkage = Some 0
 set_place standard.Link = Some 1
 set_place standard.Head = Some 2
-set_place standard.Process = None
+set_place standard.Process = Some 3
+
+-- With `process`, which has `link` for a prefix, those that `simulation` brings into the class or block in front of which it is.
+pub record SimulationClasses (s : Source) (block : ℕ) : Type 0 where
+  pub sets : SetClasses s (block + 1)
+  pub process_is : text s (block + 4) ≡ Some (StandardText standard.Process)
+  pub process_prefix : base s.tables (block + 4) ≡ Some (block + 2)
+  pub process_around : encloser s.tables (block + 4) ≡ Some block
+  pub has : has_levels (text s block) ≡ true
+  -- `simulation` gives no level in front
+  pub first : base s.tables block ≡ None
+
+-- a class `process` that a class has for its prefix is one that was brought so
+pub record ProcessClassThere (s : Source) (k : ℕ) : Type 0 where
+  pub block : ℕ
+  pub is : k ≡ block + 4
+  pub simulates : is_simulation_block s.tables block ≡ true
 
 pub record SetClassThere (s : Source) (k : ℕ) (which : StandardClass) : Type 0 where
   pub linkage : ℕ
@@ -250,6 +266,7 @@ abbrev pub owner_place : Owner → Option ℕ
 owner_place owner.Linkage = Some 0
 owner_place owner.Link = Some 1
 owner_place owner.Head = Some 2
+owner_place owner.Process = Some 3
 owner_place _ = None
 
 -- a type of the table, as one of these classes or a plain type
@@ -260,17 +277,30 @@ SetType s linkage (Some of.Integer) (Some type) = held_by s type ≡ Simply kind
 SetType s linkage (Some of.Linkage) (Some type) = held_by s type ≡ Refers linkage
 SetType s linkage (Some of.Link) (Some type) = held_by s type ≡ Refers (linkage + 1)
 SetType s linkage (Some of.Head) (Some type) = held_by s type ≡ Refers (linkage + 2)
+SetType s linkage (Some of.Process) (Some type) = held_by s type ≡ Refers (linkage + 3)
 SetType s linkage _ _ = ⊥
 
--- A procedure of SIMSET is declared in the class that has it, with the types of the table.
+-- An attribute of SIMSET or of a process is declared in the class that has it, with the types of the table.
 pub record SetProcedureThere (s : Source) (d : DeclNo) (name : Standard) (parameter result : Option SimType) : Type 0 where
   pub linkage : ℕ
   pub classes : SetClasses s linkage
   pub place : ℕ
   pub placed : owner_place (row_of name).owner ≡ Some place
   pub declared : block_of s d ≡ linkage + place
+  -- `process` is one of these classes where `simulation` brought them
+  pub of_process : place ≡ 3 → text s (linkage + 3) ≡ Some (StandardText standard.Process)
   pub parameter_is : SetType s linkage (parameter_of name) parameter
   pub result_is : SetType s linkage (result_of name) result
+
+-- A procedure of a simulation block is declared in the class or block in front of which `simulation` is, with the types of the table.
+pub record SimulationProcedureThere (s : Source) (d : DeclNo) (name : Standard) (parameter result : Option SimType) : Type 0 where
+  pub parameter_is : SetType s (block_of s d + 1) (parameter_of name) parameter
+  pub result_is : SetType s (block_of s d + 1) (result_of name) result
+
+-- a standard class declares nothing but standard attributes
+abbrev pub IsAttribute : Option Entry → Type 0
+IsAttribute (Some (entry.Attribute name parameter result)) = Unit {0}
+IsAttribute e = ⊥
 
 pub record Typed (s : Source) : Type 0 where
   pub starts : Starts s
@@ -282,7 +312,11 @@ pub record Typed (s : Source) : Type 0 where
   pub procedures : (d : DeclNo) (result : Option SimType) (k : ℕ) → entry_of s.tables d ≡ Some (entry.Procedure result k) → ProcedureThere s d k
   pub classes : (d : DeclNo) (k : ℕ) → entry_of s.tables d ≡ Some (entry.Class k) → ClassThere s d k
   pub set_classes : (k : ℕ) (which : StandardClass) → text s k ≡ Some (StandardText which) → SetClassThere s k which
-  pub set_procedures : (d : DeclNo) (name : Standard) (parameter result : Option SimType) → entry_of s.tables d ≡ Some (entry.Attribute name parameter result) → is_set_name name ≡ true → SetProcedureThere s d name parameter result
+  pub set_procedures : (d : DeclNo) (name : Standard) (parameter result : Option SimType) → entry_of s.tables d ≡ Some (entry.Attribute name parameter result) → is_attribute_name name ≡ true → SetProcedureThere s d name parameter result
+  pub simulations : (k : ℕ) → is_simulation_block s.tables k ≡ true → SimulationClasses s k
+  pub processes : (c k : ℕ) → is_connection (text s c) ≡ false → base s.tables c ≡ Some k → text s k ≡ Some (StandardText standard.Process) → ProcessClassThere s k
+  pub simulation_procedures : (d : DeclNo) (name : Standard) (parameter result : Option SimType) → entry_of s.tables d ≡ Some (entry.Attribute name parameter result) → is_simulation_name name ≡ true → SimulationProcedureThere s d name parameter result
+  pub bare : (d : DeclNo) (row : Declaration) (which : StandardClass) → slice_get s.tables.declarations d.0 ≡ Some row → text s row.block ≡ Some (StandardText which) → IsAttribute (Some row.entry)
   pub texts : (k : ℕ) (x : Text) → text s k ≡ Some x → TextTyped s k x
   -- a text around one that is not class-free is not class-free
   pub not_class_free : (t u : ℕ) → encloser s.tables t ≡ Some u → is_class_free s t ≡ false → is_class_free s u ≡ false

@@ -9,20 +9,17 @@ ghost use Rattle.sim_sound.specs.Examples.{WorkedPrograms};
 ghost use Rattle.sim_sound.specs.Typed.{Typed};
 
 /// A typed program never comes to where there is no rule, whatever the limits and the input are.
-#[tactic(auto, using(crate::proofs::Main::never_no_rule))]
 pub fn typed_programs_have_a_rule()
     ensures { (s : Source) → Typed s → (l : Limits) (input : List ℕ) (n : ℕ) (o : World) → run s l input n ≡ Ended o NoRule → ⊥ }
 {}
 
 /// At each moment of a typed program's run the instance that operates lives with its enclosers, and stands at no other place of the chains; and
 /// the components are as transfers of control leave them.
-#[tactic(auto, using(crate::proofs::Main::stays_sane))]
 pub fn typed_programs_stay_sane()
     ensures { (s : Source) → Typed s → StaysSane s }
 {}
 
-/// At each moment of a typed program's run a reference that was taken into the hand last names an object, which is there.
-#[tactic(auto, using(crate::proofs::Main::names_objects))]
+/// At each moment of a typed program's run each reference in hand names an object, or the main program of a simulation, which is there.
 pub fn typed_programs_name_objects()
     ensures { (s : Source) → Typed s → NamesObjects s }
 {}

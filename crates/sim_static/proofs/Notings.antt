@@ -87,10 +87,6 @@ classed b m q now = runs_one note b m _ (now ∙ ap (λ z. b || z) (sym (same_cl
 
 -- ---- statements
 
-or_true : (b : Bool) → true ≡ (b || true)
-or_true true = refl
-or_true false = refl
-
 pub note_prefixed : (b c : Bool) (p : Position) (x : Stmt) (q : BlockPrefix) (k : Block) → x ≡ s.PrefixedBlock q k → Runs note b c (of_whole forms k) → Runs note b c (of_statement forms p x)
 note_prefixed b c p x q k is h = run_prefixed note forms b b c p x q k is (runs_none note b) h
 
@@ -103,8 +99,8 @@ note_called b p x e is = run_call note forms b b p x e is (runs_none note b)
 pub note_assigned : (b : Bool) (p : Position) (x : Stmt) (e : Expr) (v : Vec Assigned Global) → x ≡ s.Assignment e v → Runs note b b (of_statement forms p x)
 note_assigned b p x e v is = run_assignment note forms b b p x e v is (runs_none note b)
 
-pub note_activation : (b : Bool) (p : Position) (x : Stmt) (i : TokenNo) (w : Activation) (e : Expr) (z : Option Timing) → x ≡ s.Activation i w e z → Runs note b true (of_statement forms p x)
-note_activation b p x i w e z is = run_activation note forms b true p x i w e z is (runs_one note b true true (or_true b))
+pub note_activation : (b : Bool) (p : Position) (x : Stmt) (i : TokenNo) (w : Activation) (e : Expr) (z : Option Timing) → x ≡ s.Activation i w e z → Runs note b b (of_statement forms p x)
+note_activation b p x i w e z is = run_activation note forms b b p x i w e z is (runs_none note b)
 
 pub note_if : (b m c : Bool) (p : Position) (x y : Stmt) (i : TokenNo) (e : Expr) (a : Box Stmt Global) (o : Option (Box Stmt Global)) → x ≡ s.If i e a o
     → y ≡ a.value → Runs note b m (of_statement forms Inside y) → Runs note m c (of_branch forms o) → Runs note b c (of_statement forms p x)

@@ -1,5 +1,5 @@
--- Which programs have a form that is not built: virtual procedures, a parameter by name, a procedure as a parameter, and an activation. As long as
--- these are not built, `run` refuses such a program before any rule on names and types.
+-- Which programs have a form that is not built: virtual procedures, a parameter by name, and a procedure as a parameter. As long as these are not
+-- built, `run` refuses such a program before any rule on names and types.
 use Rattle.std.specs.Prelude.{◌≡◌, ◌==◌, Bool, true, false, ◌||◌, not, List, [], ◌∷◌, length}
 use Rattle.std.specs.List.{list_any}
 use Rattle.sim_tree.specs.declared.program.Program.{Program as Tree}
@@ -43,8 +43,7 @@ has_some (x ∷ xs) = true
 abbrev pub is_unbuilt_class : Heading → Interface → Bool
 is_unbuilt_class heading x = has_code heading || has_some x.virtuals
 
--- in the order of the text: of each procedure whether it has such a parameter, of each class whether it is of these, and of each activation that it
--- is one
+-- in the order of the text: of each procedure whether it has such a parameter, and of each class whether it is of these
 abbrev pub forms : Visit Bool
 forms = record {
   program = λ prefix begin. [];
@@ -64,7 +63,7 @@ forms = record {
   inspect = λ token object. [];
   inspect_when = λ token object classes. [];
   arm = λ name. [];
-  activate = λ token word process schedule. true ∷ [];
+  activate = λ token word process schedule. [];
 }
 
 abbrev pub yes : Bool → Bool

@@ -1,4 +1,4 @@
-//! Programs with a form that is not built: virtual procedures, parameters by name and of procedures, activations.
+//! Programs with a form that is not built: virtual procedures, parameters by name and of procedures.
 ghost use Rattle.std.specs.Prelude.{◌≡◌, ◌||◌};
 ghost use Rattle.std.specs.List.{list_any};
 ghost use Rattle.sim_scope.specs.Runs.{each};
@@ -108,7 +108,7 @@ fn statement(met: bool, position: Position, stmt: &Stmt) -> bool
         Stmt::Assignment { .. } => met,
         Stmt::Inner { .. } => met,
         Stmt::Empty { .. } => met,
-        Stmt::Activation { .. } => true,
+        Stmt::Activation { .. } => met,
     }
 }
 
@@ -211,7 +211,7 @@ fn declaration(met: bool, decl: &Decl) -> bool
     }
 }
 
-/// Whether a program has virtual procedures, a parameter by name, a procedure as a parameter, or an activation, wherever it stands.
+/// Whether a program has virtual procedures, a parameter by name, or a procedure as a parameter, wherever it stands.
 #[tactic(auto, using(crate::proofs::Notings::unbuilt))]
 pub fn has_unbuilt_form(program: &Program) -> bool
     ensures { HasUnbuiltForm program.now result }

@@ -1,5 +1,5 @@
--- The identifiers that a program declares, the classes that it names, the tokens that name its expressions, and where its blocks and connections
--- begin and end are among the tokens and places of its derivation, in its order; so they ascend.
+-- The identifiers that a program declares, the classes that it names, the tokens that name its expressions, the words of activations, and where
+-- its blocks and connections begin and end are among the tokens and places of its derivation, in its order; so they ascend.
 use Rattle.std.proofs.Common.{◌≡◌, arith, ℕ, length, true, List, [], ◌∷◌, Option, Some, None, map, refl, ap, ◌∙◌}
 use Rattle.std.proofs.lemmas.Bool.{false≢true}
 use Rattle.std.specs.Prelude.{not}
@@ -15,6 +15,8 @@ use Rattle.sim_tree.specs.declared.stmt.Decl.{Decl}
 use Rattle.sim_tree.specs.declared.stmt.Decl.TheOpen.{Stmt-F, Decl-F}
 use Rattle.sim_tree.specs.declared.stmt.Procedure.{Procedure}
 use Rattle.sim_tree.specs.declared.stmt.Stmt.{Stmt}
+use Rattle.sim_tree.specs.declared.stmt.Timing.{Timing}
+use Rattle.sim_tree.specs.declared.stmt.Timing.TheVariants as timing
 use Rattle.sim_tree.specs.declared.stmt.TypeName.{TypeName}
 use Rattle.sim_tree.specs.declared.stmt.TypeName.TheVariants as type_name
 use Rattle.sim_tree.specs.declared.stmt.When.{When}
@@ -43,7 +45,7 @@ use Rattle.sim_tree.specs.declared.stmt.ForElement.TheVariants as for_element
 use Rattle.sim_tree.specs.declared.stmt.ReferenceElement.{ReferenceElement}
 use Rattle.sim_tree.specs.declared.stmt.ReferenceElement.TheVariants as reference_element
 use Rattle.sim_tree.specs.declared.stmt.VirtualSpecification.{VirtualSpecification}
-use Rattle.sim_tree.specs.Order.{AllBelow, Behind, InOrder, Spot, Token as Mark, in_arms, in_block, in_bounds, in_declaration, in_declarations, in_each, in_element, in_expression, in_name, in_segment, in_side, in_statement, in_statements, in_type, in_variable}
+use Rattle.sim_tree.specs.Order.{AllBelow, Behind, InOrder, Spot, Token as Mark, in_arms, in_block, in_bounds, in_declaration, in_declarations, in_each, in_element, in_expression, in_name, in_schedule, in_segment, in_side, in_statement, in_statements, in_type, in_variable}
 use Rattle.sim_tree.proofs.ReadExpressions.{Full, is_full-Full}
 use Rattle.sim_tree.proofs.ReadStatements.{acted_full}
 use Rattle.sim_tree.proofs.NamedExpressions as n
@@ -216,6 +218,13 @@ reference_elements_named [] full = none
 reference_elements_named (x ∷ xs) full =
     both (reference_element_named x full.1) (each_row g.NextReferenceElement d.next_reference_element t.reference_element_syntax in_element xs (λ x full. reference_element_named x full.1) full.2)
 
+timing_named : (x : Option Timing) → Full (d.timing_derivation x) → Lays (in_schedule (t.schedule_syntax x)) (spots (d.timing_derivation x))
+timing_named None full = none
+timing_named (Some (timing.At i e p)) full = skip (both (expr_named e full.1.0 full.1.1) (lays_none (d.prior_derivation p)))
+timing_named (Some (timing.Delay i e p)) full = skip (both (expr_named e full.1.0 full.1.1) (lays_none (d.prior_derivation p)))
+timing_named (Some (timing.Before i e)) full = skip (expr_named e full.1.0 full.1.1)
+timing_named (Some (timing.After i e)) full = skip (expr_named e full.1.0 full.1.1)
+
 called : (e : Expr) (rest : Forest) {h : List Spot → List Spot} → Full (acted (raise 1 (derivation_of e)) rest) → (Full rest → Lays h (spots rest)) → Lays (λ r. in_expression (syntax_of e) (h r)) (spots (acted (raise 1 (derivation_of e)) rest))
 called e rest full h =
     let f = raise 1 (derivation_of e) in
@@ -313,7 +322,7 @@ stmt_step (Stmt-F.Inspect i e n a m None) token full = skip (both (expr_named e 
 stmt_step (Stmt-F.Inspect i e n a m (Some b)) token full = skip (both (expr_named e full.0 full.1) (keep (both (a.value.1 full.2.1.0 full.2.1.1) (keep (b.value.1 full.2.2.1.0 full.2.2.1.1)))))
 stmt_step (Stmt-F.InspectWhen i e v None) token full = skip (both (expr_named e full.0 full.1) (arms_named v.items full.2.1))
 stmt_step (Stmt-F.InspectWhen i e v (Some b)) token full = skip (both (expr_named e full.0 full.1) (both (arms_named v.items full.2.1) (b.value.1 full.2.2.1.0 full.2.2.1.1)))
-stmt_step (Stmt-F.Activation i w e o) token full = skip (both (lays_none (expression e)) (lays_none (d.timing_derivation o)))
+stmt_step (Stmt-F.Activation i w e o) token full = keep (both (expr_named e full.0 full.1) (timing_named o full.2))
 
 decl_step : induction.DeclStep Says Declares Blocks Classes Procedures Arms
 decl_step (Decl-F.Variables n v) = λ full. both (type_named n) (variables_named v.items)

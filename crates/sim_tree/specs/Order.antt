@@ -1,12 +1,12 @@
 -- The tokens of a program stand in the order of its text: the identifiers that it declares, the classes that it names, the tokens that name its
--- expressions, each `inner`, and where its blocks and connections begin and end.
+-- expressions, each `inner`, the words of activations, and where its blocks and connections begin and end.
 use Rattle.std.specs.Prelude.{◌≤◌, ◌<◌, ◌+◌, ℕ, List, [], ◌∷◌, Option, Some, None}
 use Rattle.sim_tree.specs.declared.expr.Identifier.{Identifier}
 use Rattle.sim_tree.specs.declared.stmt.TypeName.{TypeName}
 use Rattle.sim_tree.specs.declared.stmt.TypeName.TheVariants as type_name
 use Rattle.sim_tree.specs.declared.stmt.Variable.{Variable}
 use Rattle.sim_tree.specs.Syntax as s
-use Rattle.sim_tree.specs.Syntax.{Expression, Statement, Statements, Arms, Block, Declarations, Declaration, RightSide, Element, BoundPair, Arrayed, Program}
+use Rattle.sim_tree.specs.Syntax.{Expression, Statement, Statements, Arms, Block, Declarations, Declaration, RightSide, Element, Schedule, BoundPair, Arrayed, Program}
 use Rattle.sim_tree.specs.Named.{named}
 
 -- a token of the text; or a place between two, by the number of the token behind it
@@ -50,6 +50,13 @@ in_element (s.Once a) l = in_expression a l
 in_element (s.Step a i b c) l = in_expression a (in_expression b (in_expression c l))
 in_element (s.While a i b) l = in_expression a (in_expression b l)
 
+abbrev pub in_schedule : Schedule → List Spot → List Spot
+in_schedule s.Now l = l
+in_schedule (s.At i a prior) l = in_expression a l
+in_schedule (s.Delay i a prior) l = in_expression a l
+in_schedule (s.Before i a) l = in_expression a l
+in_schedule (s.After i a) l = in_expression a l
+
 abbrev pub in_bounds : BoundPair → List Spot → List Spot
 in_bounds b l = in_expression b.lower (in_expression b.upper l)
 
@@ -86,7 +93,7 @@ abbrev mutual
   in_statement (s.Inner i) l = Token i ∷ l
   in_statement (s.Inspect i e j x end y) l = in_expression e (Token j ∷ in_statement x (Behind end ∷ in_statements y l))
   in_statement (s.InspectWhen i e arms y) l = in_expression e (in_arms arms (in_statements y l))
-  in_statement (s.Activate i word e schedule) l = l
+  in_statement (s.Activate i word e schedule) l = Token i ∷ in_expression e (in_schedule schedule l)
 
   pub in_statements : Statements → List Spot → List Spot
   in_statements s.NoStatement l = l

@@ -4,7 +4,7 @@ use Rattle.std.specs.Prelude.{◌≡◌, ℕ, ◌-◌, ◌^◌, pos, neg_ℤ, Bo
 use Rattle.sim_base.specs.declared.run_error.RunError.{RunError}
 use Rattle.sim_base.specs.declared.run_error.RunError.TheVariants as fault
 use Rattle.sim_values.specs.Operators.{Answer, one_of, step_test, two_of}
-use Rattle.sim_values.specs.Plain.{Plain, Integer, Truth, Character, Text, Object, Nothing}
+use Rattle.sim_values.specs.Plain.{Plain, Integer, Truth, Character, Text, Object, MainOf, Nothing}
 use Rattle.sim_values.specs.Standard.{on_image, standard_effect}
 use Rattle.sim_values.specs.Store.{Effect, Store, closing_store, first_store, image_at, with_frames, with_image}
 use Rattle.sim_values.specs.Texts.{Frame, assign, constant_text, join, notext, refused}
@@ -153,6 +153,10 @@ pub record WorkedOperators : Type 0 where
   pub object_and_none : two_of dyadic.SameObject texts (Object 0) Nothing ≡ value (Truth false)
   pub none_and_object : two_of dyadic.SameObject texts Nothing (Object 0) ≡ value (Truth false)
   pub none_and_none : two_of dyadic.SameObject texts Nothing Nothing ≡ value (Truth true)
+  pub same_main : two_of dyadic.SameObject texts (MainOf 3) (MainOf 3) ≡ value (Truth true)
+  pub other_main : two_of dyadic.SameObject texts (MainOf 3) (MainOf 4) ≡ value (Truth false)
+  pub main_and_object : two_of dyadic.SameObject texts (MainOf 3) (Object 3) ≡ value (Truth false)
+  pub none_and_main : two_of dyadic.SameObject texts Nothing (MainOf 0) ≡ value (Truth false)
   pub object_and_integer : two_of dyadic.SameObject texts (Object 1) (whole 1) ≡ None
   pub text_and_object : two_of dyadic.SameObject texts (Text constant) (Object 1) ≡ None
   -- `==` of texts: frame, start and length; any two of length 0

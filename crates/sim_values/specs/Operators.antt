@@ -6,7 +6,7 @@ use Rattle.std.specs.declared.cmp.Ordering.{Ordering}
 use Rattle.std.specs.declared.cmp.Ordering.TheVariants as order
 use Rattle.sim_base.specs.declared.run_error.RunError.{RunError}
 use Rattle.sim_values.specs.Arithmetic.{sum_of, difference_of, product_of, quotient_of, power_of, negation_of}
-use Rattle.sim_values.specs.Plain.{Plain, Integer, Truth, Character, Text, Object, Nothing}
+use Rattle.sim_values.specs.Plain.{Plain, Integer, Truth, Character, Text, Object, MainOf, Nothing}
 use Rattle.sim_values.specs.Texts.{Frame, compare_texts, same_text}
 use Rattle.sim_values.specs.declared.value.TextVal.{TextVal}
 use Rattle.sim_values.specs.declared.operators.Calculation.{Calculation}
@@ -92,17 +92,23 @@ abbrev pub with_text : Plain → (TextVal → Answer) → Answer
 with_text (Text t) f = f t
 with_text _ f = None
 
--- a reference is an instance or none
-abbrev pub with_reference : Plain → (Option ℕ → Answer) → Answer
-with_reference (Object i) f = f (Some i)
-with_reference Nothing f = f None
+-- what a reference names: an instance, the main program of one, or nothing
+pub data Reference : Type 0 where
+  ToNothing : Reference
+  ToObject : (instance : ℕ) → Reference
+  ToMain : (block : ℕ) → Reference
+
+abbrev pub with_reference : Plain → (Reference → Answer) → Answer
+with_reference (Object i) f = f (ToObject i)
+with_reference (MainOf i) f = f (ToMain i)
+with_reference Nothing f = f ToNothing
 with_reference _ f = None
 
-abbrev pub same_reference : Option ℕ → Option ℕ → Bool
-same_reference None None = true
-same_reference None (Some j) = false
-same_reference (Some i) None = false
-same_reference (Some i) (Some j) = i == j
+abbrev pub same_reference : Reference → Reference → Bool
+same_reference ToNothing ToNothing = true
+same_reference (ToObject i) (ToObject j) = i == j
+same_reference (ToMain i) (ToMain j) = i == j
+same_reference _ _ = false
 
 -- two integers to an integer
 unfoldable pub calculate : Calculation → Plain → Plain → Answer

@@ -5,7 +5,7 @@ use Rattle.sim_base.specs.declared.limits.Limits.{Limits}
 use Rattle.sim_values.specs.declared.standard.Standard.{Standard}
 use Rattle.sim_values.specs.declared.standard.StandardType.{StandardType}
 use Rattle.sim_values.specs.declared.value.TextVal.{TextVal}
-use Rattle.sim_values.specs.Plain.{Plain, Integer, Truth, Character, Text, Object, Nothing}
+use Rattle.sim_values.specs.Plain.{Plain, Integer, Truth, Character, Text, Object, MainOf, Nothing}
 use Rattle.sim_values.specs.Standard.{Function, applied, operands_of, row_of, standard_effect, take_character, take_integer, take_text}
 use Rattle.sim_values.specs.Store.{Effect}
 use Rattle.sim_code.specs.Outcome.{Run, World}
@@ -50,6 +50,7 @@ integer_is (Of (Truth b)) x h = absurd (no_some x (sym h))
 integer_is (Of (Character c)) x h = absurd (no_some x (sym h))
 integer_is (Of (Text t)) x h = absurd (no_some x (sym h))
 integer_is (Of (Object i)) x h = absurd (no_some x (sym h))
+integer_is (Of (MainOf i)) x h = absurd (no_some x (sym h))
 integer_is (Of Nothing) x h = absurd (no_some x (sym h))
 integer_is (Link n) x h = absurd (no_some x (sym h))
 integer_is (Address p) x h = absurd (no_some x (sym h))
@@ -63,6 +64,7 @@ character_is (Of (Truth b)) x h = absurd (no_some x (sym h))
 character_is (Of (Character c)) x h = ap (λ m. Of (Character (or_else x m))) (sym h)
 character_is (Of (Text t)) x h = absurd (no_some x (sym h))
 character_is (Of (Object i)) x h = absurd (no_some x (sym h))
+character_is (Of (MainOf i)) x h = absurd (no_some x (sym h))
 character_is (Of Nothing) x h = absurd (no_some x (sym h))
 character_is (Link n) x h = absurd (no_some x (sym h))
 character_is (Address p) x h = absurd (no_some x (sym h))
@@ -79,6 +81,7 @@ no_integer (Truth b) vs go h = refl
 no_integer (Character c) vs go h = refl
 no_integer (Text t) vs go h = refl
 no_integer (Object i) vs go h = refl
+no_integer (MainOf i) vs go h = refl
 no_integer Nothing vs go h = refl
 
 pub not_integer : (v : Value) (p : Plain) (vs : List Plain) (go : ℤ → List Plain → Option Effect) → None ≡ integer_of v → v ≡ Of p → take_integer (p ∷ vs) go ≡ None
@@ -99,6 +102,7 @@ no_character (Truth b) vs go h = refl
 no_character (Character c) vs go h = absurd (no_some c h)
 no_character (Text t) vs go h = refl
 no_character (Object i) vs go h = refl
+no_character (MainOf i) vs go h = refl
 no_character Nothing vs go h = refl
 
 pub not_character : (v : Value) (p : Plain) (vs : List Plain) (go : ℕ → List Plain → Option Effect) → None ≡ character_of v → v ≡ Of p → take_character (p ∷ vs) go ≡ None
@@ -119,6 +123,7 @@ not_text (Truth b) vs go h = refl
 not_text (Character c) vs go h = refl
 not_text (Text t) vs go h = absurd (h t refl)
 not_text (Object i) vs go h = refl
+not_text (MainOf i) vs go h = refl
 not_text Nothing vs go h = refl
 
 -- ---- rows

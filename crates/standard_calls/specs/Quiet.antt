@@ -5,14 +5,15 @@ use Rattle.sim_values.specs.declared.standard.Standard.TheVariants as name
 use Rattle.sim_values.specs.Standard.{Function, of_character, of_integer, of_integers, of_text, of_text_and_character, of_text_and_integer}
 use Rattle.sim_code.specs.Running.{name_runs}
 use Rattle.sim_code.specs.Sets.{is_set_name}
+use Rattle.sim_code.specs.Simulations.{is_process_name, is_simulation_name}
 use Rattle.standard_calls.specs.declared.manner.Manner.{Manner}
 use Rattle.standard_calls.specs.declared.manner.Manner.TheVariants as manner
 use Rattle.standard_calls.specs.declared.names.Performed.{Performed}
 use Rattle.standard_calls.specs.declared.names.Performed.TheVariants as performed
 
--- The names that are done here are those that run, but for the procedures of sets.
+-- The names that are done here are those that run, but for those of sets, of processes and of simulation blocks.
 abbrev pub is_done : Standard → Bool
-is_done n = if is_set_name n then false else name_runs n
+is_done n = if is_set_name n then false else if is_process_name n then false else if is_simulation_name n then false else name_runs n
 
 -- A name is quiet where its manner is not `Ports`.
 abbrev pub manner_of : Standard → Manner

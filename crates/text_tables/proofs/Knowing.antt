@@ -18,12 +18,12 @@ use Rattle.codegen_expr.specs.Known.{Known, formals_or_none, number_or}
 use Rattle.program_texts.specs.declared.tree.TextTree.{TextTree}
 use Rattle.program_texts.specs.TextTrees.{AreTexts}
 use Rattle.text_tables.specs.Constants.{ConstantsOf}
-use Rattle.text_tables.specs.Making.{ClassFormals, FilledTo, Formals, Numbers, PlacedTo, formals_of, is_class_tree, is_connection_tree, is_result, items_of, number_behind}
+use Rattle.text_tables.specs.Making.{ClassFormals, FilledTo, Formals, Numbers, PlacedTo, formals_of, is_class_tree, is_connection_tree, is_process_tree, is_result, items_of, number_behind}
 use Rattle.text_tables.specs.TokenTable.{AreNumbered}
 use Rattle.text_tables.proofs.Gathering.{constants_known}
 use Rattle.text_tables.proofs.Numbering.{number_at}
 use Rattle.text_tables.proofs.Passing.{get_map}
-use Rattle.text_tables.proofs.Placing.{classes_known, connections_known, counts_known, get_past, results_known, slots_known}
+use Rattle.text_tables.proofs.Placing.{classes_known, connections_known, counts_known, get_past, processes_known, results_known, slots_known}
 
 numbers_known : (b : Bound) (numbers : List ℕ) (count : ℕ) → Numbers b.scopes.blocks numbers count → (k : ℕ) → number_or count (slice_get numbers k) ≡ block_number (source_of b) k
 unfolding block_number source_of
@@ -74,9 +74,9 @@ class_formals_known b table f k = cases (slice_get table k) refl
     cases None is = beyond b k (get_past b.scopes.blocks k (let le = past table k is in let many = f.0 in omega (arith, le, many)))
 
 pub known : (b : Bound) (w : Cells) (ts : List TextTree) (free : List (Option ℕ)) (n : ℕ) (rows : List Row) (blocks : List BlockOf) → AreTexts b.program ts → w.results.items ≡ map is_result ts → n ≡ length rows → rows ≡ b.scopes.declarations → free ≡ replicate n None → PlacedTo b ts free w.slots.items w.counts.items (length ts)
-    → ConstantsOf ts rows w.constants.items → blocks ≡ b.scopes.blocks → Numbers blocks w.numbers.items w.block_count → Formals (source_of b) blocks w.formals.items → AreNumbered b w.texts.items → w.classes.items ≡ map is_class_tree ts → w.connections.items ≡ map is_connection_tree ts → ClassFormals (source_of b) w.class_formals.items (length b.scopes.blocks) → Known b w
+    → ConstantsOf ts rows w.constants.items → blocks ≡ b.scopes.blocks → Numbers blocks w.numbers.items w.block_count → Formals (source_of b) blocks w.formals.items → AreNumbered b w.texts.items → w.classes.items ≡ map is_class_tree ts → w.connections.items ≡ map is_connection_tree ts → w.processes.items ≡ map is_process_tree ts → ClassFormals (source_of b) w.class_formals.items (length b.scopes.blocks) → Known b w
 unfolding Known PlacedTo AreNumbered
-known b w ts free n rows blocks are er en erows ef placed constants eb numbers formals texts classes connections parameters =
+known b w ts free n rows blocks are er en erows ef placed constants eb numbers formals texts classes connections processes parameters =
     let there : FilledTo (source_of b) w.slots.items w.counts.items (length ts) = placed are (ef ∙ ap (λ z. replicate z None) (en ∙ ap length erows)) in
     let numbers' = subst (λ z. Numbers z w.numbers.items w.block_count) eb numbers in
     let formals' = subst (λ z. Formals (source_of b) z w.formals.items) eb formals in
@@ -88,6 +88,7 @@ known b w ts free n rows blocks are er en erows ef placed constants eb numbers f
       results = results_known b ts w.results.items are er;
       classes = classes_known b ts w.classes.items are classes;
       connections = connections_known b ts w.connections.items are connections;
+      processes = processes_known b ts w.processes.items are processes;
       counts = counts_known b ts w.slots.items w.counts.items are there;
       numbers = numbers_known b w.numbers.items w.block_count numbers';
       formals = formals_known b w.formals.items formals';
@@ -95,10 +96,10 @@ known b w ts free n rows blocks are er en erows ef placed constants eb numbers f
     }
 
 -- the same, each table made of a view of the texts
-pub known_from : (b : Bound) (w : Cells) (ts t1 t2 t3 t4 t5 : List TextTree) (free : List (Option ℕ)) (rows1 rows2 : List Row) (blocks1 blocks2 : List BlockOf) → AreTexts b.program ts → t1 ≡ ts → w.results.items ≡ map is_result t1 → rows1 ≡ b.scopes.declarations → free ≡ replicate (length rows1) None → t2 ≡ ts → PlacedTo b t2 free w.slots.items w.counts.items (length t2)
+pub known_from : (b : Bound) (w : Cells) (ts t1 t2 t3 t4 t5 t6 : List TextTree) (free : List (Option ℕ)) (rows1 rows2 : List Row) (blocks1 blocks2 : List BlockOf) → AreTexts b.program ts → t1 ≡ ts → w.results.items ≡ map is_result t1 → rows1 ≡ b.scopes.declarations → free ≡ replicate (length rows1) None → t2 ≡ ts → PlacedTo b t2 free w.slots.items w.counts.items (length t2)
     → t3 ≡ ts → rows2 ≡ b.scopes.declarations → ConstantsOf t3 rows2 w.constants.items → blocks1 ≡ b.scopes.blocks → Numbers blocks1 w.numbers.items w.block_count → blocks2 ≡ b.scopes.blocks → Formals (source_of b) blocks2 w.formals.items → AreNumbered b w.texts.items
-    → t4 ≡ ts → w.classes.items ≡ map is_class_tree t4 → t5 ≡ ts → w.connections.items ≡ map is_connection_tree t5 → ClassFormals (source_of b) w.class_formals.items (length b.scopes.blocks) → Known b w
-known_from b w ts t1 t2 t3 t4 t5 free rows1 rows2 blocks1 blocks2 are e1 er ed ef e2 placed e3 ed2 constants eb numbers eb2 formals texts e4 classes e5 connections parameters =
+    → t4 ≡ ts → w.classes.items ≡ map is_class_tree t4 → t5 ≡ ts → w.connections.items ≡ map is_connection_tree t5 → t6 ≡ ts → w.processes.items ≡ map is_process_tree t6 → ClassFormals (source_of b) w.class_formals.items (length b.scopes.blocks) → Known b w
+known_from b w ts t1 t2 t3 t4 t5 t6 free rows1 rows2 blocks1 blocks2 are e1 er ed ef e2 placed e3 ed2 constants eb numbers eb2 formals texts e4 classes e5 connections e6 processes parameters =
     known b w ts free (length rows1) rows1 blocks1 are (er ∙ ap (map is_result) e1) refl ed ef (subst (λ z. PlacedTo b z free w.slots.items w.counts.items (length z)) e2 placed)
     (subst (λ z. ConstantsOf ts z w.constants.items) (ed2 ∙ sym ed) (subst (λ z. ConstantsOf z rows2 w.constants.items) e3 constants)) eb numbers (subst (λ z. Formals (source_of b) z w.formals.items) (eb2 ∙ sym eb) formals) texts
-    (classes ∙ ap (map is_class_tree) e4) (connections ∙ ap (map is_connection_tree) e5) parameters
+    (classes ∙ ap (map is_class_tree) e4) (connections ∙ ap (map is_connection_tree) e5) (processes ∙ ap (map is_process_tree) e6) parameters

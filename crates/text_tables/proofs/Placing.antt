@@ -10,6 +10,7 @@ use Rattle.sim_base.specs.declared.numbering.DeclNo.{DeclNo}
 use Rattle.sim_scope.specs.declared.bound.Bound.{Bound}
 use Rattle.sim_scope.specs.declared.scopes.Declaration.{Declaration}
 use Rattle.sim_scope.specs.declared.types.StandardClass.{StandardClass}
+use Rattle.sim_scope.specs.declared.types.StandardClass.TheVariants as standard
 use Rattle.sim_scope.specs.declared.types.Entry.{Entry}
 use Rattle.sim_scope.specs.declared.types.Entry.TheVariants as entry
 use Rattle.sim_scope.specs.Access.{joined}
@@ -24,7 +25,7 @@ use Rattle.sim_tree.specs.declared.expr.Identifier.{Identifier}
 use Rattle.sim_tree.specs.Syntax.{Also, Begin, Heading, NoDeclaration, NoStatement, Prefix, Statement}
 use Rattle.sim_tree.specs.Syntax.{Block as BlockSyntax}
 use Rattle.sim_tree.specs.SyntaxOfProgram.{block_syntax, prefix_syntax, statement_syntax}
-use Rattle.sim_meaning.specs.Attributes.{is_connection}
+use Rattle.sim_meaning.specs.Attributes.{is_bare_process, is_connection}
 use Rattle.sim_meaning.specs.Entries.{cells_from, first_cells, numbers_of, with_cell, with_result}
 use Rattle.sim_meaning.specs.Levels.{is_class}
 use Rattle.sim_meaning.specs.Pending.{Declared, Held, Key, Val, same_key}
@@ -36,7 +37,7 @@ use Rattle.program_texts.specs.declared.tree.TextTree.{TextTree}
 use Rattle.program_texts.specs.declared.tree.TextTree.TheVariants as tree
 use Rattle.program_texts.specs.TextTrees.{AreTexts, block_text, class_text, heading_of, prefixed_text, text_in}
 use Rattle.text_tables.proofs.Passing.{get_map, pass_all, pass_end, pass_next}
-use Rattle.text_tables.specs.Making.{FilledTo, IsPlaced, OwesPlaces, PlacedTo, Places, PlacesCells, cell_alone, has_cell, is_class_tree, is_connection_tree, is_result, is_some, slot_at}
+use Rattle.text_tables.specs.Making.{FilledTo, IsPlaced, OwesPlaces, PlacedTo, Places, PlacesCells, cell_alone, has_cell, is_class_tree, is_connection_tree, is_process_tree, is_result, is_some, slot_at}
 
 -- ---- lists
 
@@ -475,5 +476,33 @@ connections_known b ts connections are e k = ap (λ z. truth_or_false (slice_get
     cases : (o : Option TextTree) → truth_or_false (option_map is_connection_tree o) ≡ is_connection (option_map text_in o)
     cases None = refl
     cases (Some x) = connection_of_text x
+
+process_of_text : (x : TextTree) → is_process_tree x ≡ is_bare_process (Some (text_in x))
+process_of_text (tree.Block r) = block (block_syntax r.now)
+  where
+    block : (z : BlockSyntax) → false ≡ is_bare_process (Some (block_text z))
+    block (Begin i ds ss e) = refl
+process_of_text (tree.Procedure r q) = refl
+process_of_text (tree.Class r q z) = block (block_syntax z.now)
+  where
+    block : (z : BlockSyntax) → false ≡ is_bare_process (Some (class_text r.now (heading_of q.now) z))
+    block (Begin i ds ss e) = refl
+process_of_text (tree.ClassOfStatement r q) = refl
+process_of_text (tree.Prefixed p r) = block (block_syntax r.now)
+  where
+    block : (z : BlockSyntax) → false ≡ is_bare_process (Some (prefixed_text (prefix_syntax p.now) z))
+    block (Begin i ds ss e) = refl
+process_of_text tree.Connection = refl
+process_of_text (tree.Standard standard.Linkage) = refl
+process_of_text (tree.Standard standard.Link) = refl
+process_of_text (tree.Standard standard.Head) = refl
+process_of_text (tree.Standard standard.Process) = refl
+
+pub processes_known : (b : Bound) (ts : List TextTree) (processes : List Bool) → AreTexts b.program ts → processes ≡ map is_process_tree ts → (k : ℕ) → truth_or_false (slice_get processes k) ≡ is_bare_process (text (source_of b) k)
+processes_known b ts processes are e k = ap (λ z. truth_or_false (slice_get z k)) e ∙ ap truth_or_false (get_map is_process_tree ts k) ∙ cases (slice_get ts k) ∙ ap is_bare_process (sym (text_at b ts k are))
+  where
+    cases : (o : Option TextTree) → truth_or_false (option_map is_process_tree o) ≡ is_bare_process (option_map text_in o)
+    cases None = refl
+    cases (Some x) = process_of_text x
 
 pub ruleset placing = (pass_all, pass_next, pass_end, placed_outside, placed_before, placed_beyond, placed_now, owes_places_all, place_block, place_result, place_plain, place_class, place_prefixed, place_connection, place_class_of_statement, place_standard, placed_first, placed_next, placed_end)

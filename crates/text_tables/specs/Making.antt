@@ -8,6 +8,7 @@ use Rattle.sim_scope.specs.declared.bound.Bound.{Bound}
 use Rattle.sim_scope.specs.declared.types.Entry.{Entry}
 use Rattle.sim_scope.specs.declared.types.Entry.TheVariants as entry
 use Rattle.sim_scope.specs.declared.types.Formal.{Formal}
+use Rattle.sim_scope.specs.declared.types.StandardClass.TheVariants as standard
 use Rattle.sim_scope.specs.Access.{joined}
 use Rattle.sim_scope.specs.Scopes.{class_formals, entry_of, formals_in}
 use Rattle.sim_scope.specs.Source.{Source, block_of, source_of}
@@ -97,6 +98,10 @@ is_class_tree _ = false
 abbrev pub is_connection_tree : TextTree → Bool
 is_connection_tree tree.Connection = true
 is_connection_tree _ = false
+
+abbrev pub is_process_tree : TextTree → Bool
+is_process_tree (tree.Standard standard.Process) = true
+is_process_tree _ = false
 
 abbrev pub has_cell : Option Entry → Bool
 has_cell (Some (entry.Variable type)) = true

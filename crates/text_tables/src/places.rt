@@ -4,12 +4,12 @@ ghost use Rattle.sim_scope.specs.Source.{source_of};
 ghost use Rattle.sim_meaning.specs.Entries.{cells_from, numbers_of as numbers_of_text};
 ghost use Rattle.codegen_expr.specs.Sites.{own_cells};
 ghost use Rattle.program_texts.specs.TextTrees.{text_in};
-ghost use Rattle.text_tables.specs.Making.{AllPlaced, IsPlaced, Places, cell_alone, has_cell as has_cell_of, is_class_tree, is_connection_tree, is_result, slot_at};
+ghost use Rattle.text_tables.specs.Making.{AllPlaced, IsPlaced, Places, cell_alone, has_cell as has_cell_of, is_class_tree, is_connection_tree, is_process_tree, is_result, slot_at};
 
 use codegen_expr::{block_of, deeper};
 use program_texts::TextTree;
 use sim_base::DeclNo;
-use sim_scope::{Bound, Entry, entry_of};
+use sim_scope::{Bound, Entry, StandardClass, entry_of};
 use std::alloc::{AllocError, Global};
 
 /// Whether a text is a procedure with a result.
@@ -76,6 +76,28 @@ pub(crate) fn connections_of(alloc: Global, texts: &[TextTree]) -> Result<Vec<bo
     let mut table = Vec::new(alloc);
     for text in texts {
         table.push(is_connection(*text))?;
+    }
+    Ok(table)
+}
+
+/// Whether a text is the class `process`.
+fn is_process(text: TextTree) -> bool
+    ensures { result ≡ is_process_tree text.entry }
+{
+    match text {
+        TextTree::Standard(StandardClass::Process) => true,
+        _ => false,
+    }
+}
+
+/// For each text whether it is the class `process`.
+#[tactic(auto, using(crate::proofs::Placing::placing))]
+pub(crate) fn processes_of(alloc: Global, texts: &[TextTree]) -> Result<Vec<bool>, AllocError>
+    ensures { IfOk result (λ v. v.items ≡ map is_process_tree texts.now) }
+{
+    let mut table = Vec::new(alloc);
+    for text in texts {
+        table.push(is_process(*text))?;
     }
     Ok(table)
 }

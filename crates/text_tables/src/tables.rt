@@ -6,7 +6,7 @@ use crate::by_token::texts_by_token;
 use crate::constants::constants_of;
 use crate::formals::{class_formals_table, formals_of};
 use crate::numbers::numbers_of;
-use crate::places::{cell_counts, classes_of, connections_of, no_slots, results_of};
+use crate::places::{cell_counts, classes_of, connections_of, no_slots, processes_of, results_of};
 use codegen_expr::Cells;
 use program_texts::texts_of;
 use sim_scope::Bound;
@@ -27,6 +27,7 @@ pub fn cells_of(alloc: Global, bound: &Bound) -> Result<Cells, AllocError>
     let formals = formals_of(alloc, bound, bound.scopes.blocks())?;
     let classes = classes_of(alloc, &texts)?;
     let connections = connections_of(alloc, &texts)?;
+    let processes = processes_of(alloc, &texts)?;
     let class_formals = class_formals_table(alloc, bound)?;
     Ok(Cells {
         slots,
@@ -35,6 +36,7 @@ pub fn cells_of(alloc: Global, bound: &Bound) -> Result<Cells, AllocError>
         results,
         classes,
         connections,
+        processes,
         counts,
         numbers,
         block_count,

@@ -1,6 +1,6 @@
 use Rattle.std.proofs.Common.{◌∙◌, inl, inr, ap, sym, arith}
 use Rattle.std.proofs.lemmas.Option.{slice_get_within}
-use Rattle.std.specs.Prelude.{Some, slice_get}
+use Rattle.std.specs.Prelude.{slice_get}
 use Rattle.sim_code.specs.Machine.{is_held}
 use Rattle.frame_arena.proofs.Changes.{same_or_not}
 use Rattle.object_machine.proofs.BlockFacts.{same_found}

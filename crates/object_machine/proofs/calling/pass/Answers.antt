@@ -37,7 +37,7 @@ returns-clause-row c l line before now p o m k b g parent cells ef h w others is
     ∙ ap (λ x. handed_over (length m.instances) (arrays_by_value c.args.formals.now (values_from x at count)) o) c.deref-2.ensures.value
     ∙ ap (λ fs. handed_over (length m.instances) (arrays_by_value fs (values_from stack at count)) o) (sym ef) in
     let opens3 : OpensWith l p p3 k b g parent cells c.args.next before now o o2 m = subst (λ x. OpensWith l p p3 k b g parent cells c.args.next before now o x m) same
-    (handed l p p2 p3 k b g parent cells c.args.next before now o m opens c.args.next.registers.home.stamp (arrays_by_value c.args.formals.now (values_from c.deref-2.result.now at count)) refl refl refl refl refl refl refl refl refl
+    (handed l p p2 p3 k b g parent cells c.args.next before now o m opens c.args.next.registers.home.stamp (arrays_by_value c.args.formals.now (values_from c.deref-2.result.now at count)) refl refl refl refl refl refl refl refl refl refl
     (c.hand_over.ensures.holds o opens.stores.arrays lead) (c.hand_over.ensures.leads o opens.stores.arrays lead) (c.hand_over.ensures.elements p2.frames.items (opened_with m k b g parent cells) opens.stores.elements)) in
     let r2 : Registers = record { home = t.registers.home; pc = t.registers.pc; depth = c.args.actuals.under; stage = t.registers.stage } in
     let w2 : AtWork p o m r2 stack = record { home = w.home; slots = w.slots; arrays_lead = w.arrays_lead } in

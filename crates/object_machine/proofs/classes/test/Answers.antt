@@ -26,3 +26,24 @@ returns-in-Some c = record {
       ap (λ k. is_class c.args.wanted k) (c.in-Some.ensures.row code cells m eb h (c.in-Object.ensures.leads c.args.frames.now m lead))
       ∙ sym (ap (λ b. tested (tests b code m c.args.wanted) (plain (value_of c.args.slot))) c.if-not-same.false ∙ ap (λ p. tested (tests true code m c.args.wanted) p) c.in-Object.ensures.is);
 }
+
+pub returns-then-not-same-2 : goal.returns-then-not-same-2
+returns-then-not-same-2 c = record {
+  row = λ code cells m eb ec h lead.
+      c.main_in_class.ensures.row code cells m eb ec h (c.in-Main.ensures.leads c.args.frames.now m lead)
+      ∙ sym (ap (λ b. tested (tests b code m c.args.wanted) (plain (value_of c.args.slot))) c.if-not-same-2.true ∙ ap (λ p. tested (tests false code m c.args.wanted) p) c.in-Main.ensures.is);
+}
+
+pub returns-in_default-process_at : goal.returns-in_default-process_at
+returns-in_default-process_at c = record {
+  row = λ code cells m eb ec h lead.
+      ap (λ k. is_class c.args.wanted k) (c.in_default-process_at.ensures.row code cells m eb ec h (c.in-Main.ensures.leads c.args.frames.now m lead))
+      ∙ sym (ap (λ b. tested (tests b code m c.args.wanted) (plain (value_of c.args.slot))) c.if-not-same-2.false ∙ ap (λ p. tested (tests true code m c.args.wanted) p) c.in-Main.ensures.is);
+}
+
+pub returns-in-Some-process_at : goal.returns-in-Some-process_at
+returns-in-Some-process_at c = record {
+  row = λ code cells m eb ec h lead.
+      ap (λ k. is_class c.args.wanted k) (c.in-Some-process_at.ensures.row code cells m eb ec h (c.in-Main.ensures.leads c.args.frames.now m lead))
+      ∙ sym (ap (λ b. tested (tests b code m c.args.wanted) (plain (value_of c.args.slot))) c.if-not-same-2.false ∙ ap (λ p. tested (tests true code m c.args.wanted) p) c.in-Main.ensures.is);
+}

@@ -26,5 +26,5 @@ returns-clause-row c on code l before now p o m k b g parent cells t r eb ec eh 
     let o2 = handed_over (length m.instances) (arrays_among vs) o in
     let same : o3 ≡ o2 = ap (λ n. handed_over n (arrays_among vs) o) stamp in
     subst (λ x. OpensWith l p p3 k b g parent cells t before now o x m) same
-    (handed l p p2 p3 k b g parent cells t before now o m opens c.args.home.stamp (arrays_among vs) refl refl refl refl refl refl refl refl refl
+    (handed l p p2 p3 k b g parent cells t before now o m opens c.args.home.stamp (arrays_among vs) refl refl refl refl refl refl refl refl refl refl
     (c.hand_over_all.ensures.holds o opens.stores.arrays w1.arrays_lead) (c.hand_over_all.ensures.leads o opens.stores.arrays w1.arrays_lead) (c.hand_over_all.ensures.elements p2.frames.items (opened_with m k b g parent cells) opens.stores.elements))

@@ -1,40 +1,37 @@
 use Rattle.std.proofs.Common.{rules, to_z, of_z, w64, ◌≡◌, ◌<◌, suc, ◌∙◌, ◌∷◌, List, length, ap, sym, subst, refl, arith}
-use Rattle.std.specs.Prelude.{Some, slice_get, true, false}
+use Rattle.std.specs.Prelude.{Some, slice_get, true}
 use Rattle.std.specs.Vec.{with_items}
 use Rattle.std.proofs.lemmas.List.{with_items_is, places}
 use Rattle.sim_values.specs.Plain.{Object}
 use Rattle.sim_values.specs.Words.{instance_words}
 use Rattle.sim_code.specs.Arrays.{handed_over}
 use Rattle.sim_code.specs.Events.{entering}
-use Rattle.sim_code.specs.Levels.{filled_by, generating, linkage_of_class, parameter_cell}
-use Rattle.sim_code.specs.Machine.{Machine, Of, Value, arrays_among, first_cells, in_object, pushing, waiting, words_of_block}
+use Rattle.sim_code.specs.Levels.{filled_by, generating, is_process_class, object_made, parameter_cell, words_of_object}
+use Rattle.sim_code.specs.Machine.{Machine, Of, Value, arrays_among, first_cells, in_object, pushing, waiting}
 use Rattle.sim_code.specs.Outcome.{Run}
-use Rattle.sim_code.specs.Sets.{enrolled}
 use Rattle.frame_arena.specs.Arrays.{AllLeadArrays}
 use Rattle.frame_arena.specs.Frames.{AllLead, Holds, Leads}
 use Rattle.frame_arena.specs.Slots.{value_of}
 use Rattle.frame_arena.specs.Stacks.{values_from, values_of}
 use Rattle.object_machine.specs.declared.machine.Flow.TheVariants as flow
 use Rattle.object_machine.specs.declared.machine.Registers.{Registers}
-use Rattle.object_machine.specs.declared.machine.Storage.{Storage}
 use Rattle.object_machine.specs.declared.openings.Beginning.{Beginning}
-use Rattle.object_machine.specs.Enrolling.{AllBelow, Enrolled}
+use Rattle.object_machine.specs.Making.{AllRegisteredBelow, Registered}
 use Rattle.object_machine.specs.Entering.{Pays, paid}
 use Rattle.object_machine.specs.Calling.{OpensWith, opened_with}
 use Rattle.object_machine.specs.Preparing.{ReadyFor, with_levels}
 use Rattle.object_machine.specs.Standing.{AllAtWork, AtWork, Leaves, Obeys, activation_at, below_of}
 use Rattle.object_machine.proofs.Covered.{covered_by}
-use Rattle.object_machine.proofs.Enrolments.{opens_enrolled}
 use Rattle.object_machine.proofs.Firsts.{pays_off}
 use Rattle.object_machine.proofs.Going.{act, along, no_rule_in}
 use Rattle.object_machine.proofs.Jumps.{found_at}
-use Rattle.object_machine.proofs.Linkages.{all_made}
 use Rattle.object_machine.specs.Covering.{Covers}
 use Rattle.object_machine.proofs.Prepared.{ReadyAs, ready_as}
 use Rattle.object_machine.proofs.Pushed.{pushes}
 use Rattle.object_machine.proofs.ReadOperands.{values_count}
+use Rattle.object_machine.proofs.Registrations.{all_registered, made_only, opens_registered, registered, registered_as, registered_at}
 use Rattle.object_machine.proofs.Scalars.{off}
-use Rattle.object_machine.proofs.Supplied.{handed_members}
+use Rattle.object_machine.proofs.Supplied.{handed_members, handed_simulations}
 use Rattle.object_machine.proofs.generating.generate.Goals as goal
 
 pub returns-in_default-clause-row : goal.returns-in_default-clause-row
@@ -63,9 +60,9 @@ pub returns-in_default-set_up-clause-row : goal.returns-in_default-set_up-clause
 unfolding Obeys Leaves
 returns-in_default-set_up-clause-row c code line now eb ei ec before o m s = tt
 
-pub returns-in_default-enroll-clause-row : goal.returns-in_default-enroll-clause-row
+pub returns-in_default-make_object-clause-row : goal.returns-in_default-make_object-clause-row
 unfolding Obeys Leaves
-returns-in_default-enroll-clause-row c code line now eb ei ec before o m s = tt
+returns-in_default-make_object-clause-row c code line now eb ei ec before o m s = tt
 
 pub returns-then-home-clause-row : goal.returns-then-home-clause-row
 unfolding Obeys Leaves
@@ -101,11 +98,12 @@ returns-in_default-flow c = record {
       let ready : ReadyAs b x code l o m t.registers stack under line c.args.class c.args.values = ready_as b x code l o m t.registers stack under line c.args.class c.args.values ready there in
       let inside : x.actuals.under < length stack = subst (λ z. x.actuals.under < length z) c.deref-2.ensures.value c.in-Some.ensures.under in
       let cells : b.cells ≡ c.block.inside.cells = ap (λ b. b.cells) (sym c.block.view_is) in
-      let w : c.words_instance.result ≡ words_of_block b = c.words_instance.ensures.words ∙ ap (λ n. instance_words n false) (sym cells) in
-      let pays : Pays c.pay-flow.result l line (words_of_block b) c.pay-flow.new.storage before now o m = subst (λ n. Pays c.pay-flow.result l line n c.pay-flow.new.storage before now o m) w (c.pay-flow.ensures.row line before now o m s.stores) in
+      let class : c.block.inside.class ≡ b.class = ap (λ b. b.class) c.block.view_is in
+      let w : c.words_instance.result ≡ words_of_object code b = c.words_instance.ensures.words ∙ ap (λ n. instance_words n c.is_process-process.result) (sym cells) ∙ ap (λ q. instance_words b.cells q) (c.is_process-process.ensures.row code ec ∙ ap (λ n. is_process_class code n) class) in
+      let pays : Pays c.pay-flow.result l line (words_of_object code b) c.pay-flow.new.storage before now o m = subst (λ n. Pays c.pay-flow.result l line n c.pay-flow.new.storage before now o m) w (c.pay-flow.ensures.row line before now o m s.stores) in
       along l line c.pay-flow.new.storage c.args.below.now.items before now c.pay-flow.result t.registers stack _ _
       (ready.is ∙ pushes (length stack) (values_of x.actuals.under stack) (Of (Object (length m.instances))) o _ (subst (λ n. n < length stack) (sym (values_count x.actuals.under stack (omega (arith, inside)))) inside))
-      (pays_off c.pay-flow.result l line (words_of_block b) c.pay-flow.new.storage before now o m c.in_default-flow.not-On pays t.registers stack c.args.below.now.items _);
+      (pays_off c.pay-flow.result l line (words_of_object code b) c.pay-flow.new.storage before now o m c.in_default-flow.not-On pays t.registers stack c.args.below.now.items _);
 }
 
 pub returns-clause-row : goal.returns-clause-row
@@ -128,9 +126,10 @@ returns-clause-row c code line now eb ei ec before o m s =
     let there : slice_get code.blocks x.block ≡ Some b = ap (λ v. slice_get v x.block) eb ∙ found_at c.args.blocks.now x.block b c.in-Some-get.ensures.lookup.3.0 c.in-Some-get.ensures.lookup.1 in
     let ready : ReadyAs b x code l o m t.registers stack under line c.args.class c.args.values = ready_as b x code l o m t.registers stack under line c.args.class c.args.values ready there in
     let cells : b.cells ≡ c.block.inside.cells = ap (λ b. b.cells) (sym c.block.view_is) in
-    let w : c.words_instance.result ≡ words_of_block b = c.words_instance.ensures.words ∙ ap (λ n. instance_words n false) (sym cells) in
-    let pays : Pays flow.On l line (words_of_block b) c.pay-flow.new.storage before now o m = subst (λ n. Pays flow.On l line n c.pay-flow.new.storage before now o m) w (c.in-On.ensures.row line before now o m s.stores) in
-    let world = paid o (words_of_block b) in
+    let class : c.block.inside.class ≡ b.class = ap (λ b. b.class) c.block.view_is in
+    let w : c.words_instance.result ≡ words_of_object code b = c.words_instance.ensures.words ∙ ap (λ n. instance_words n c.is_process-process.result) (sym cells) ∙ ap (λ q. instance_words b.cells q) (c.is_process-process.ensures.row code ec ∙ ap (λ n. is_process_class code n) class) in
+    let pays : Pays flow.On l line (words_of_object code b) c.pay-flow.new.storage before now o m = subst (λ n. Pays flow.On l line n c.pay-flow.new.storage before now o m) w (c.in-On.ensures.row line before now o m s.stores) in
+    let world = paid o (words_of_object code b) in
     let p1 = c.pay-flow.new.storage in
     let p3 = c.set_up.new.storage in
     let g : Beginning = with_levels x true in
@@ -147,17 +146,16 @@ returns-clause-row c code line now eb ei ec before o m s =
     (c.in-Some-set_up.ensures.row code l before now world m ready.cells t.registers eb ec pays.1 (subst (λ z. AtWork p1 world m t.registers z) (sym c.deref-3.ensures.value) works) leads
     (ap (λ z. filled_by (parameter_cell code b.class) 0 (values_from z x.actuals.at x.actuals.count) (Some (first_cells b))) c.deref-3.ensures.value ∙ ready.filled)) in
     let m2 = opened_with m x.block b g (Some x.actuals.parent) ready.cells in
-    let linkage = linkage_of_class code b.class in
-    let o4 = enrolled (length m.instances) linkage o2 in
+    let j = x.actuals.parent.stamp in
+    let o4 = object_made code b.class j (length m.instances) o2 in
     let stamp : next.registers.home.stamp ≡ length m.instances = ap (λ a. a.home) furnished.top in
-    let all : AllBelow next.registers.home.stamp o2.members.instances =
-    subst (λ n. AllBelow n o2.members.instances) (sym stamp) (subst (λ q. AllBelow (length m.instances) q.instances) (sym (handed_members (length m.instances) (arrays_among vs) world)) (all_made p1.frames.items m p1.members world.members pays.1.members)) in
-    let became : Enrolled p3.frames.items m2 c.enroll.new.members (enrolled (length m.instances) linkage o2).members =
-    subst (λ n. Enrolled p3.frames.items m2 c.enroll.new.members (enrolled n linkage o2).members) stamp (subst (λ q. Enrolled p3.frames.items m2 c.enroll.new.members (enrolled next.registers.home.stamp q o2).members) (c.linkage_of_class-linkage.ensures.row code eb ec ∙ ap (λ n. linkage_of_class code n) (ap (λ b. b.class) c.block.view_is))
-    (c.in-Ok.ensures.row p3.frames.items m2 o2 furnished.stores.members all furnished.works.home)) in
-    let p4 : Storage = record p3 { members = c.enroll.new.members } in
+    let all : AllRegisteredBelow next.registers.home.stamp o2 = registered_at (length m.instances) next.registers.home.stamp o2 (sym stamp)
+    (registered_as (length m.instances) world o2 (handed_members (length m.instances) (arrays_among vs) world) (handed_simulations (length m.instances) (arrays_among vs) world) (all_registered l p1 before now world m pays.1)) in
+    let p4 = c.make_object.new.storage in
+    let made : Registered p3.frames.items m2 p4 o4 = subst (λ n. Registered p3.frames.items m2 p4 (object_made code b.class j n o2)) stamp (subst (λ q. Registered p3.frames.items m2 p4 (object_made code q j next.registers.home.stamp o2)) class
+    (c.in-Ok.ensures.row code p3.frames.items m2 o2 eb ec (registered l p3 before now o2 m2 furnished.stores) all furnished.works.home)) in
     let joined : OpensWith l p1 p4 x.block b g (Some x.actuals.parent) ready.cells next before now world o4 m =
-    opens_enrolled l p1 p3 x.block b g (Some x.actuals.parent) ready.cells next before now world o2 m c.enroll.new.members (length m.instances) linkage furnished became in
+    opens_registered l p1 p3 p4 c.make_object.ensures.same x.block b g (Some x.actuals.parent) ready.cells next before now world o2 o4 (made_only code b.class j (length m.instances) o2) m furnished made in
     let w1 = joined.others t.registers stack works in
     let pushed = c.push.new.stack in
     let items : (with_items t.stack pushed).items ≡ pushed = with_items_is t.stack pushed (search (rules, places)) in
@@ -170,7 +168,7 @@ returns-clause-row c code line now eb ei ec before o m s =
       arrays_lead = c.push.ensures.leads_arrays p4.arrays.regions o4.arrays (subst (λ z. AllLeadArrays p4.arrays.regions o4.arrays z) (sym deref) w1.arrays_lead) (λ names. absurd (off (sym c.object.ensures.no_array ∙ names)));
     } in
     let long : length pushed ≡ length stack = c.push.ensures.long ∙ ap length deref in
-    let go : List Value → Run Machine = λ rest. entering l line (words_of_block b) o (λ p. in_object (enrolled (length m.instances) linkage (handed_over (length m.instances) (arrays_among vs) p)) m x.block b x.start x.actuals.parent.stamp ready.cells (waiting (activation_at t.registers stack) rest ∷ under)) in
+    let go : List Value → Run Machine = λ rest. entering l line (words_of_object code b) o (λ p. in_object (object_made code b.class j (length m.instances) (handed_over (length m.instances) (arrays_among vs) p)) m x.block b x.start x.actuals.parent.stamp ready.cells (waiting (activation_at t.registers stack) rest ∷ under)) in
     let row : pushing (length stack) (values_of x.actuals.under stack) (Of (Object (length m.instances))) o go ≡ go (values_of c.in-Some-push.depth pushed) =
     ap (λ v. pushing (length stack) (values_of x.actuals.under stack) v o go) (sym object) ∙ ap (λ z. pushing (length z) (values_of x.actuals.under z) (value_of c.object.result) o go) (sym deref) ∙ c.in-Some-push.ensures.row o go in
     let top = c.cover.new.top in

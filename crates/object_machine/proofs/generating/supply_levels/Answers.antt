@@ -17,7 +17,7 @@ pub returns-clause-row : goal.returns-clause-row
 returns-clause-row c on code l before now p o m k b g parent t r eb ec eh h w =
     let p1 = c.args.storage.now in
     let p2 : Storage = record p1 { cells = with_items p1.cells c.fill_parameters.new.cells } in
-    let same : SameBut p1 p2 = record { frames = refl; parks = refl; entered = refl; arrays = refl; texts = refl; image = refl; members = refl; ticks = refl; words = refl } in
+    let same : SameBut p1 p2 = record { frames = refl; parks = refl; entered = refl; arrays = refl; texts = refl; image = refl; members = refl; simulations = refl; ticks = refl; words = refl } in
     let m2 = opened m k b g parent in
     let vs = values_from c.args.stack.now c.args.actuals.at c.args.actuals.count in
     let w1 = h.others r c.args.stack.now w in

@@ -3,7 +3,6 @@ use Rattle.std.specs.Prelude.{Some, slice_get}
 use Rattle.sim_code.specs.Classes.{class_numbered}
 use Rattle.sim_code.specs.Code.{ClassOf}
 use Rattle.sim_code.specs.Levels.{record_in}
-use Rattle.object_machine.specs.declared.levels.Part.TheVariants as part
 use Rattle.object_machine.specs.Levelling.{index_in}
 use Rattle.object_machine.proofs.ClassRows.{numbered_at, numbered_past}
 use Rattle.object_machine.proofs.Jumps.{found_at, none_at}

@@ -1,8 +1,7 @@
 use Rattle.std.proofs.Common.{◌≡◌, ◌+◌, ◌-◌, ◌≤◌, ◌<◌, ◌∙◌, ap, sym, subst}
 use Rattle.std.specs.Prelude.{◌||◌, Some, slice_get}
-use Rattle.sim_code.specs.Classes.{class_numbered}
+use Rattle.sim_code.specs.Classes.{class_numbered, is_marked, is_marked_in}
 use Rattle.sim_code.specs.Code.{ClassOf}
-use Rattle.sim_code.specs.Levels.{is_marked, is_marked_in}
 use Rattle.object_machine.proofs.ClassRows.{numbered_at, numbered_past, or_found}
 use Rattle.object_machine.proofs.LevelMarks.{Unasked, mark_there, unasked_broken, unasked_first, unasked_last, unasked_more, unasked_none, unasked_over}
 use Rattle.object_machine.proofs.Jumps.{found_at, none_at}

@@ -1,7 +1,6 @@
 use Rattle.std.proofs.Common.{◌≡◌}
-use Rattle.sim_code.specs.Classes.{levels}
+use Rattle.sim_code.specs.Classes.{is_marked, levels}
 use Rattle.sim_code.specs.Code.{CodeOf}
-use Rattle.sim_code.specs.Levels.{is_marked}
 use Rattle.object_machine.specs.Enrolling.{any_level}
 use Rattle.object_machine.proofs.ClassRows.{or_found}
 use Rattle.object_machine.proofs.LevelMarks.{Unasked}

@@ -1,6 +1,5 @@
 use Rattle.std.proofs.Common.{◌∙◌, ap, sym}
-use Rattle.sim_code.specs.Classes.{levels}
-use Rattle.sim_code.specs.Levels.{is_marked}
+use Rattle.sim_code.specs.Classes.{is_marked, levels}
 use Rattle.object_machine.specs.Enrolling.{any_level, linkage_from}
 use Rattle.object_machine.proofs.LevelMarks.{linkage_asked}
 use Rattle.object_machine.proofs.marks.linkage_of_class.Goals as goal

@@ -1,4 +1,4 @@
-use Rattle.std.proofs.Common.{rules, ◌≡◌, ◌∷◌, ◌++◌, [], ◌∙◌, ap, sym}
+use Rattle.std.proofs.Common.{rules, ◌∷◌, ◌++◌, [], ◌∙◌, ap, sym}
 use Rattle.simset.specs.Sets.{Head, Link}
 use Rattle.object_machine.specs.Enrolling.{fresh_as}
 use Rattle.object_machine.proofs.Enrolments.{added}

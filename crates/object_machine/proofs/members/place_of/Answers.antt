@@ -1,4 +1,4 @@
-use Rattle.std.proofs.Common.{◌≡◌, ◌+◌, ◌-◌, ◌<◌, ◌≤◌, length, sym, refl, arith}
+use Rattle.std.proofs.Common.{sym, refl, arith}
 use Rattle.object_machine.specs.Enrolling.{stamps}
 use Rattle.object_machine.proofs.Searching.{is_there, lies_behind, lies_lower, lies_nowhere, stamp_index}
 use Rattle.object_machine.proofs.members.place_of.Goals as goal

@@ -1,4 +1,4 @@
-use Rattle.std.proofs.Common.{◌≡◌, ◌-◌, ◌≤◌, length}
+use Rattle.std.proofs.Common.{◌-◌, ◌≤◌, length}
 use Rattle.object_machine.specs.Enrolling.{Rises, stamps}
 use Rattle.object_machine.proofs.Searching.{LiesIn}
 use Rattle.object_machine.proofs.members.place_of.Given as goal

@@ -16,13 +16,13 @@ use Rattle.object_machine.proofs.names.quiet_standard.Goals as goal
 
 pub returns-in-Plain-clause-row : goal.returns-in-Plain-clause-row
 unfolding Obeys
-returns-in-Plain-clause-row c line below now =
+returns-in-Plain-clause-row c code line below now =
     let e : to_z w64 (of_z w64 c.args.operand) ≡ c.args.operand = search rules in
     let l = c.args.limits.now in
     let p = c.args.storage.now in
     let done = c.perform_plain-performed in
     let settled = c.settle_performed in
-    for_name _ l line c.args.operand c.in-Some.name (c.in-Some.ensures ∙ ap standard_of e) (done_apart c.in-Some.name (c.in-Plain.ensures.runs (not_ports manner.Plain tt))) _ _ _ _ _ _ below now
+    for_name _ code l line c.args.operand c.in-Some.name (c.in-Some.ensures ∙ ap standard_of e) (done_apart c.in-Some.name (c.in-Plain.ensures.runs (not_ports manner.Plain tt))) _ _ _ _ _ _ below now
     (λ before o m s.
     plain_name_row l line p settled.new.storage below before now c.args.regs.now settled.new.regs c.args.stack.now done.new.stack o m c.in-Some.name s c.requires.fits
     done.ensures.long (done.ensures.leads p.frames.items m s.top.slots) (done.ensures.leads_arrays p.arrays.regions o.arrays s.top.arrays_lead)
@@ -30,12 +30,12 @@ returns-in-Plain-clause-row c line below now =
 
 pub returns-then-depth-count-clause-row : goal.returns-then-depth-count-clause-row
 unfolding Obeys
-returns-then-depth-count-clause-row c line below now =
+returns-then-depth-count-clause-row c code line below now =
     let e : to_z w64 (of_z w64 c.args.operand) ≡ c.args.operand = search rules in
     let l = c.args.limits.now in
     let p = c.args.storage.now in
     let r = c.args.regs.now in
-    for_name _ l line c.args.operand c.in-Some.name (c.in-Some.ensures ∙ ap standard_of e) (done_apart c.in-Some.name (c.in-Scan.ensures.runs (not_ports manner.Scan tt))) _ _ _ _ _ _ below now
+    for_name _ code l line c.args.operand c.in-Some.name (c.in-Some.ensures ∙ ap standard_of e) (done_apart c.in-Some.name (c.in-Scan.ensures.runs (not_ports manner.Scan tt))) _ _ _ _ _ _ below now
     (λ before o m s.
     along l line p below before now _ _ _ _ _ (few_row l line c.in-Some.name o m r c.args.stack.now below c.requires.fits (subst (λ n. r.depth < n) c.operand_count-count.ensures.count c.if-depth-count.true))
     (none l line p below before now _ r _ c.args.stack.now o m s))
@@ -47,7 +47,7 @@ returns-in-Ok-clause-fits c =
 
 pub returns-in-Ok-clause-row : goal.returns-in-Ok-clause-row
 unfolding Obeys
-returns-in-Ok-clause-row c line below now =
+returns-in-Ok-clause-row c code line below now =
     let e : to_z w64 (of_z w64 c.args.operand) ≡ c.args.operand = search rules in
     let l = c.args.limits.now in
     let p = c.args.storage.now in
@@ -57,7 +57,7 @@ returns-in-Ok-clause-row c line below now =
     let done = c.perform_scan-performed in
     let settled = c.settle_scan in
     let seen = c.in-Ok.ensures.text.1 in
-    for_name _ l line c.args.operand c.in-Some.name (c.in-Some.ensures ∙ ap standard_of e) (done_apart c.in-Some.name (c.in-Scan.ensures.runs (not_ports manner.Scan tt))) _ _ _ _ _ _ below now
+    for_name _ code l line c.args.operand c.in-Some.name (c.in-Some.ensures ∙ ap standard_of e) (done_apart c.in-Some.name (c.in-Scan.ensures.runs (not_ports manner.Scan tt))) _ _ _ _ _ _ below now
     (λ before o m s.
     let is : operand o m (value_of (slot_at stack (r.depth - length (operands_of (row_of c.in-Some.name).function)))) ≡ Some (Text c.in-Ok.text) =
     subst (λ n. operand o m (value_of (slot_at stack (r.depth - n))) ≡ Some (Text c.in-Ok.text)) count
@@ -70,13 +70,13 @@ returns-in-Ok-clause-row c line below now =
 
 pub returns-in-Err-NoRule-clause-row : goal.returns-in-Err-NoRule-clause-row
 unfolding Obeys
-returns-in-Err-NoRule-clause-row c line below now =
+returns-in-Err-NoRule-clause-row c code line below now =
     let e : to_z w64 (of_z w64 c.args.operand) ≡ c.args.operand = search rules in
     let l = c.args.limits.now in
     let p = c.args.storage.now in
     let r = c.args.regs.now in
     let count = c.operand_count-count.ensures.count in
-    for_name _ l line c.args.operand c.in-Some.name (c.in-Some.ensures ∙ ap standard_of e) (done_apart c.in-Some.name (c.in-Scan.ensures.runs (not_ports manner.Scan tt))) _ _ _ _ _ _ below now
+    for_name _ code l line c.args.operand c.in-Some.name (c.in-Some.ensures ∙ ap standard_of e) (done_apart c.in-Some.name (c.in-Scan.ensures.runs (not_ports manner.Scan tt))) _ _ _ _ _ _ below now
     (λ before o m s.
     let no = subst (λ n. IsNoTextIn (operand o m (value_of (slot_at c.args.stack.now (r.depth - n))))) count
     (c.in-Err-NoRule.ensures.other (ap Err c.in-Err-NoRule.field-0-is) o m now.source s.stores.frames s.stores.arrays s.stores.world.image (s.top.slots _) (s.top.arrays_lead _)) in
@@ -86,9 +86,9 @@ returns-in-Err-NoRule-clause-row c line below now =
 
 pub returns-in-Err-Memory-clause-row : goal.returns-in-Err-Memory-clause-row
 unfolding Obeys Leaves
-returns-in-Err-Memory-clause-row c line below now before o m s = tt
+returns-in-Err-Memory-clause-row c code line below now before o m s = tt
 
 pub returns-in-Whole-clause-row : goal.returns-in-Whole-clause-row
-returns-in-Whole-clause-row c line below now =
+returns-in-Whole-clause-row c code line below now =
     let e : to_z w64 (of_z w64 c.args.operand) ≡ c.args.operand = search rules in
-    for_name _ c.args.limits.now line c.args.operand c.in-Some.name (c.in-Some.ensures ∙ ap standard_of e) (done_apart c.in-Some.name (c.in-Whole.ensures.runs (not_ports manner.Whole tt))) _ _ _ _ _ _ below now (c.whole_apart.ensures.row line below now)
+    for_name _ code c.args.limits.now line c.args.operand c.in-Some.name (c.in-Some.ensures ∙ ap standard_of e) (done_apart c.in-Some.name (c.in-Whole.ensures.runs (not_ports manner.Whole tt))) _ _ _ _ _ _ below now (c.whole_apart.ensures.row line below now)

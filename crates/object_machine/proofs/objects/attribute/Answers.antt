@@ -76,6 +76,20 @@ returns-else-object-clause-row c l line p below now before o m s =
     (lead_put p.frames.items m stack at slot inside s.top.slots (c.cell.ensures.leads p.frames.items m leads))
     (lead_arrays_put p.arrays.regions o.arrays stack at slot inside s.top.arrays_lead (λ names. absurd (off (sym c.cell.ensures.no_array ∙ names)))))
 
+pub returns-in-Main-clause-row : goal.returns-in-Main-clause-row
+unfolding Obeys
+returns-in-Main-clause-row c l line p below now before o m s =
+    let r = c.args.regs.now in
+    let stack = c.args.stack.now in
+    let K : List Value → Run Machine = λ st. on o m (activation_at r stack) st (below_of below) in
+    let put : ℕ → List Value → ℕ → Run Machine = λ j st n. K (Address (CellPlace j n c.args.class) ∷ st) in
+    let go : ℕ → List Value → Run Machine = λ j st. index c.args.cell o (put j st) in
+    let at = c.in-Some.at in
+    let v = value_of (slot_at stack at) in
+    let rest = values_of at stack in
+    let begun = popping_object line (values_of r.depth stack) o go ∙ c.in-Some.ensures.row o (object_of line o go) ∙ object_popped line o go c.reference_in.result v rest c.reference_in.ensures.is in
+    no_rule_in l line p p below before now _ _ _ _ o m s (begun ∙ ap (λ q. with_reference q line o (λ j. go j rest)) c.in-Main.is)
+
 pub returns-in-IsNone-clause-row : goal.returns-in-IsNone-clause-row
 unfolding Obeys
 returns-in-IsNone-clause-row c l line p below now before o m s =

@@ -1,5 +1,4 @@
 use Rattle.std.proofs.Common.{inl, inr, sym, subst, arith}
-use Rattle.std.specs.Prelude.{Some}
 use Rattle.frame_arena.proofs.Changes.{same_or_not}
 use Rattle.sim_code.specs.Levels.{parameter_cell}
 use Rattle.object_machine.proofs.ParameterCells.{Placed, all_placed, one_unplaced, put_nowhere, put_past}

@@ -2,13 +2,14 @@ use Rattle.std.proofs.Common.{rules, to_z, of_z, w64, ◌≡◌, ◌∙◌, leng
 use Rattle.std.specs.Prelude.{Some, slice_get, false}
 use Rattle.sim_values.specs.Words.{instance_words}
 use Rattle.sim_code.specs.Arrays.{handed_over}
-use Rattle.sim_code.specs.Levels.{entering_prefixed, filled_by, parameter_cell}
+use Rattle.sim_code.specs.Levels.{block_begun, entering_prefixed, filled_by, parameter_cell}
 use Rattle.sim_code.specs.Machine.{arrays_among, first_cells, words_of_block}
 use Rattle.frame_arena.specs.Frames.{Leads}
 use Rattle.frame_arena.specs.Stacks.{values_from}
 use Rattle.object_machine.specs.declared.machine.Flow.TheVariants as flow
 use Rattle.object_machine.specs.declared.machine.Registers.{Registers}
 use Rattle.object_machine.specs.declared.openings.Beginning.{Beginning}
+use Rattle.object_machine.specs.Making.{AllRegisteredBelow, Registered}
 use Rattle.object_machine.specs.Entering.{Pays, paid}
 use Rattle.object_machine.specs.Calling.{OpensWith, opened_with}
 use Rattle.object_machine.specs.Preparing.{PrefixReady, with_levels}
@@ -17,6 +18,8 @@ use Rattle.object_machine.proofs.Covered.{covered_by}
 use Rattle.object_machine.proofs.Firsts.{pays_off}
 use Rattle.object_machine.proofs.Going.{along, no_rule_in}
 use Rattle.object_machine.proofs.Jumps.{found_at}
+use Rattle.object_machine.proofs.Registrations.{all_registered, begun_only, opens_registered, registered, registered_as, registered_at}
+use Rattle.object_machine.proofs.Supplied.{handed_members, handed_simulations}
 use Rattle.object_machine.proofs.prefixing.enter_prefixed.Goals as goal
 
 pub returns-in_default-clause-row : goal.returns-in_default-clause-row
@@ -71,6 +74,10 @@ returns-in_default-flow c = record {
       (pays_off c.pay-flow.result l line (words_of_block b) c.pay-flow.new.storage before now o m c.in_default-flow.not-On pays t.registers stack c.args.below.now.items _);
 }
 
+pub returns-in_default-begin_block-clause-row : goal.returns-in_default-begin_block-clause-row
+unfolding Obeys Leaves
+returns-in_default-begin_block-clause-row c code line now eb ei ec before o m s = tt
+
 pub returns-clause-row : goal.returns-clause-row
 unfolding Obeys Pays
 returns-clause-row c code line now eb ei ec before o m s =
@@ -109,10 +116,20 @@ returns-clause-row c code line now eb ei ec before o m s =
     (c.in-Some-set_up.ensures.row code l before now world m ready.cells t.registers eb ec pays.1 (subst (λ z. AtWork p1 world m t.registers z) (sym c.deref-2.ensures.value) works) leads
     (ap (λ z. filled_by (parameter_cell code b.class) 0 (values_from z x.actuals.at x.actuals.count) (Some (first_cells b))) c.deref-2.ensures.value ∙ ready.filled))) in
     let m2 = opened_with m x.block b g (Some home) ready.cells in
-    let w1 = furnished.others t.registers stack works in
+    let class : c.block.inside.class ≡ b.class = ap (λ b. b.class) c.block.view_is in
+    let o4 = block_begun code b.class (length m.instances) o2 in
+    let stamp : next.registers.home.stamp ≡ length m.instances = ap (λ a. a.home) furnished.top in
+    let all : AllRegisteredBelow next.registers.home.stamp o2 = registered_at (length m.instances) next.registers.home.stamp o2 (sym stamp)
+    (registered_as (length m.instances) world o2 (handed_members (length m.instances) (arrays_among vs) world) (handed_simulations (length m.instances) (arrays_among vs) world) (all_registered l p1 before now world m pays.1)) in
+    let p4 = c.begin_block.new.storage in
+    let made : Registered p3.frames.items m2 p4 o4 = subst (λ n. Registered p3.frames.items m2 p4 (block_begun code b.class n o2)) stamp (subst (λ q. Registered p3.frames.items m2 p4 (block_begun code q next.registers.home.stamp o2)) class
+    (c.in-Ok.ensures.row code p3.frames.items m2 o2 eb ec (registered l p3 before now o2 m2 furnished.stores) all furnished.works.home)) in
+    let begun : OpensWith l p1 p4 x.block b g (Some home) ready.cells next before now world o4 m =
+    opens_registered l p1 p3 p4 c.begin_block.ensures.same x.block b g (Some home) ready.cells next before now world o2 o4 (begun_only code b.class (length m.instances) o2) m furnished made in
+    let w1 = begun.others t.registers stack works in
     let r2 : Registers = record t.registers { depth = x.actuals.under } in
-    let w2 : AtWork p3 o2 m2 r2 stack = record { home = w1.home; slots = w1.slots; arrays_lead = w1.arrays_lead } in
+    let w2 : AtWork p4 o4 m2 r2 stack = record { home = w1.home; slots = w1.slots; arrays_lead = w1.arrays_lead } in
     let top = c.cover.new.top in
     let f = c.cover.result in
-    along l line p3 c.cover.new.below.items before now f top.registers top.stack.items _ _ (ready.is ∙ pays.0 _)
-    (covered_by l line p1 p3 x.block b g (Some home) ready.cells next r2 stack c.args.below.now.items top c.cover.new.below.items before now world o2 m furnished w2 others f c.cover.ensures.row)
+    along l line p4 c.cover.new.below.items before now f top.registers top.stack.items _ _ (ready.is ∙ pays.0 _)
+    (covered_by l line p1 p4 x.block b g (Some home) ready.cells next r2 stack c.args.below.now.items top c.cover.new.below.items before now world o4 m begun w2 others f c.cover.ensures.row)

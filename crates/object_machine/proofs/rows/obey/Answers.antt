@@ -39,7 +39,7 @@ pub returns-in-Store-clause-row : goal.returns-in-Store-clause-row
 returns-in-Store-clause-row c code line below now e =
     let elevel : to_z w64 (of_z w64 c.in-Store.level) ≡ c.in-Store.level = search rules in
     let ecell : to_z w64 (of_z w64 c.in-Store.cell) ≡ c.in-Store.cell = search rules in
-    for_instr _ code c.args.limits.now line _ _ _ _ _ _ below now c.args.instr _ (c.in-Store.is ∙ ap (λ z. i.Store z c.in-Store.cell) (sym elevel) ∙ ap (λ z. i.Store (to_z w64 (of_z w64 c.in-Store.level)) z) (sym ecell)) (c.store.ensures.row c.args.limits.now line c.args.storage.now (record c.args.storage.now { cells = with_items c.args.storage.now.cells c.store.new.cells }) below now (record { frames = refl; parks = refl; entered = refl; arrays = refl; texts = refl; image = refl; members = refl; ticks = refl; words = refl }) (sym c.deref-in-Store.ensures.value) (sym c.deref_mut.ensures.value) (with_items_is c.args.storage.now.cells c.store.new.cells (search (rules, places))))
+    for_instr _ code c.args.limits.now line _ _ _ _ _ _ below now c.args.instr _ (c.in-Store.is ∙ ap (λ z. i.Store z c.in-Store.cell) (sym elevel) ∙ ap (λ z. i.Store (to_z w64 (of_z w64 c.in-Store.level)) z) (sym ecell)) (c.store.ensures.row c.args.limits.now line c.args.storage.now (record c.args.storage.now { cells = with_items c.args.storage.now.cells c.store.new.cells }) below now (record { frames = refl; parks = refl; entered = refl; arrays = refl; texts = refl; image = refl; members = refl; simulations = refl; ticks = refl; words = refl }) (sym c.deref-in-Store.ensures.value) (sym c.deref_mut.ensures.value) (with_items_is c.args.storage.now.cells c.store.new.cells (search (rules, places))))
 
 pub returns-in-Dup-clause-row : goal.returns-in-Dup-clause-row
 returns-in-Dup-clause-row c code line below now e =
@@ -158,4 +158,4 @@ pub returns-in-Std-clause-row : goal.returns-in-Std-clause-row
 returns-in-Std-clause-row c =
     let eoperand : to_z w64 (of_z w64 c.in-Std.operand) ≡ c.in-Std.operand = search rules in
     IfSome_then c.quiet_standard.result c.quiet_standard.ensures.row
-    (λ f did code line below now e. for_instr f code c.args.limits.now line _ _ _ _ _ _ below now c.args.instr _ (c.in-Std.is ∙ ap i.Std (sym eoperand)) (did line below now))
+    (λ f did code line below now e. for_instr f code c.args.limits.now line _ _ _ _ _ _ below now c.args.instr _ (c.in-Std.is ∙ ap i.Std (sym eoperand)) (did code line below now))

@@ -74,10 +74,6 @@ pub returns-in-EndThunk-clause-row : goal.returns-in-EndThunk-clause-row
 returns-in-EndThunk-clause-row c code line below now eb ec =
     for_instr _ code c.args.limits.now line _ _ _ _ _ _ below now c.args.instr _ (c.in-EndThunk.is) (c.no_rule-in-EndThunk.ensures c.args.limits.now line c.args.storage.now c.args.regs.now c.args.stack.now below now)
 
-pub returns-in-Act-clause-row : goal.returns-in-Act-clause-row
-returns-in-Act-clause-row c code line below now eb ec =
-    for_instr _ code c.args.limits.now line _ _ _ _ _ _ below now c.args.instr _ (c.in-Act.is) (c.no_rule-in-Act.ensures c.args.limits.now line c.args.storage.now c.args.regs.now c.args.stack.now below now)
-
 pub returns-in-NotNone-clause-row : goal.returns-in-NotNone-clause-row
 returns-in-NotNone-clause-row c code line below now eb ec =
     for_instr _ code c.args.limits.now line _ _ _ _ _ _ below now c.args.instr _ (c.in-NotNone.is) (c.not_none.ensures.row c.args.limits.now line c.args.storage.now below now)

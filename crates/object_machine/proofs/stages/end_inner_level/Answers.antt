@@ -1,7 +1,6 @@
 use Rattle.std.proofs.Common.{◌≡◌, ◌-◌, ◌∙◌, ap, sym, subst, refl}
 use Rattle.std.specs.Prelude.{Some}
 use Rattle.sim_code.specs.Levels.{class_at_level}
-use Rattle.sim_code.specs.Machine.{number}
 use Rattle.frame_arena.specs.Frames.{Holds, Leads}
 use Rattle.object_machine.specs.declared.levels.Part.TheVariants as part
 use Rattle.object_machine.specs.Standing.{Obeys, activation_at, below_of}

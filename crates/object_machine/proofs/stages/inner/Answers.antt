@@ -1,4 +1,4 @@
-use Rattle.std.proofs.Common.{rules, to_z, of_z, w64, ◌≡◌, ◌+◌, ◌-◌, ℕ, suc, ◌∙◌, ap, sym, subst, refl, arith}
+use Rattle.std.proofs.Common.{rules, to_z, of_z, w64, ◌≡◌, ◌+◌, ℕ, suc, ◌∙◌, ap, sym, subst, refl, arith}
 use Rattle.std.specs.Prelude.{Some}
 use Rattle.sim_code.specs.Levels.{class_at_level}
 use Rattle.sim_code.specs.Machine.{number}

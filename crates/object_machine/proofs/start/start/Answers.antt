@@ -6,6 +6,7 @@ use Rattle.sim_values.specs.Store.{constant_frames, image_frame}
 use Rattle.sim_values.specs.Texts.{Frame}
 use Rattle.frame_arena.specs.Frames.{empty_memory}
 use Rattle.object_machine.proofs.Parks.{parks_empty}
+use Rattle.object_machine.proofs.Simulations.{simulating_none}
 use Rattle.object_machine.proofs.Starting.{constants_count, count_behind, elements_empty, holds_empty, images_behind, leads_empty}
 use Rattle.object_machine.proofs.Written.{append_nothing}
 use Rattle.object_machine.proofs.start.start.Goals as goal
@@ -30,6 +31,7 @@ returns-clause-row c before input =
     let none2 : c.new-4.result.items ≡ [] = search rules in
     let none3 : c.new-6.result.items ≡ [] = search rules in
     let none4 : c.new-9.result.items ≡ [] = search rules in
+    let none5 : c.new-10.result.items ≡ [] = search rules in
     record {
       world = record {
         ticks = refl;
@@ -51,5 +53,6 @@ returns-clause-row c before input =
         rises = subst Rises (sym (ap stamps none4)) (λ x y a b less i j. absurd (cc));
         lead = subst (λ w. AllReach c.new-3.result.items empty_memory w) (sym none4) (λ x f there. absurd (cc));
       };
+      simulations = simulating_none c.new-3.result.items empty_memory c.new-10.result.items none5;
       parks = parks_empty c.new-3.result.items c.new-6.result.items empty_memory c.new-7.result.regions [] none none3;
     }

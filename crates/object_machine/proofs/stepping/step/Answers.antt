@@ -3,50 +3,94 @@ use Rattle.std.proofs.lemmas.List.{with_items_is, places}
 use Rattle.sim_code.specs.declared.instr.Instr.TheVariants as i
 use Rattle.object_machine.specs.Standing.{outside}
 use Rattle.object_machine.proofs.Going.{for_instr_in, obeys_stacks}
+use Rattle.object_machine.proofs.ScheduledNames.{for_block_name}
 use Rattle.object_machine.proofs.Taking.{std_takes, step_unread}
 use Rattle.object_machine.proofs.Whole.{flow_still, input_still, still_same}
 use Rattle.object_machine.proofs.stepping.step.Goals as goal
 
-pub returns-in-Std-clause-row : goal.returns-in-Std-clause-row
-returns-in-Std-clause-row g c s e =
+pub returns-in-None-clause-row : goal.returns-in-None-clause-row
+returns-in-None-clause-row g c s e =
     let l = c.args.limits.now in
-    let ename : to_z w64 (of_z w64 c.in-Std.name) ≡ c.in-Std.name = search rules in
+    let ename : to_z w64 (of_z w64 c.in-Std.operand) ≡ c.in-Std.operand = search rules in
     let w = c.standard.ensures.row s e in (
       w.0,
       w.1,
       (
         w.2.0,
         λ code line e1 e2 e3 e4.
-            for_instr_in c.standard.result code l line _ _ _ _ _ _ _ _ _ _ c.args.instr (i.Std (to_z w64 (of_z w64 c.in-Std.name))) (c.in-Std.is ∙ ap i.Std (sym ename))
+            for_instr_in c.standard.result code l line _ _ _ _ _ _ _ _ _ _ c.args.instr (i.Std (to_z w64 (of_z w64 c.in-Std.operand))) (c.in-Std.is ∙ ap i.Std (sym ename))
             (obeys_stacks c.standard.result l line _ _ _ _ _ _ c.args.top.now.stack.items _ _ _ _ _ _ c.deref_mut.ensures.value (with_items_is c.args.top.now.stack c.standard.new.stack (search (rules, places)))
-            (w.2.1 line c.args.below.now.items)),
+            (w.2.1 code line c.args.below.now.items)),
       ),
     )
 
-pub returns-in-Std-clause-takes : goal.returns-in-Std-clause-takes
-returns-in-Std-clause-takes g c s e code line =
-    let ename : to_z w64 (of_z w64 c.in-Std.name) ≡ c.in-Std.name = search rules in
-    std_takes code c.args.limits.now line _ _ _ c.args.top.now.stack.items c.args.below.now.items _ c.args.instr (to_z w64 (of_z w64 c.in-Std.name)) c.args.input.now c.standard.new.input (c.in-Std.is ∙ ap i.Std (sym ename)) c.deref_mut.ensures.value
-    (c.standard.ensures.takes s e line c.args.below.now.items)
+pub returns-in-None-clause-takes : goal.returns-in-None-clause-takes
+returns-in-None-clause-takes g c s e code line =
+    let ename : to_z w64 (of_z w64 c.in-Std.operand) ≡ c.in-Std.operand = search rules in
+    std_takes code c.args.limits.now line _ _ _ c.args.top.now.stack.items c.args.below.now.items _ c.args.instr (to_z w64 (of_z w64 c.in-Std.operand)) c.args.input.now c.standard.new.input (c.in-Std.is ∙ ap i.Std (sym ename)) c.deref_mut.ensures.value
+    (c.standard.ensures.takes s e code line c.args.below.now.items)
 
-pub returns-in-AssignT-clause-valid : goal.returns-in-AssignT-clause-valid
-returns-in-AssignT-clause-valid g c = record { input = c.assign-flow.ensures.images _ c.requires.images.input; output = c.assign-flow.ensures.images _ c.requires.images.output }
+pub returns-in-Some-clause-ends : goal.returns-in-Some-clause-ends
+returns-in-Some-clause-ends g c = flow_still g.O.Sink.written g.O.Sink.faults c.args.out.now _ c.without_ports.ensures.other
 
-pub returns-in-AssignT-clause-ends : goal.returns-in-AssignT-clause-ends
-returns-in-AssignT-clause-ends g c = flow_still g.O.Sink.written g.O.Sink.faults c.args.out.now _ c.without_ports.ensures.other
+pub returns-in-Some-clause-read : goal.returns-in-Some-clause-read
+returns-in-Some-clause-read g c = input_still (g.I.Source.faults c.args.input.now) _ c.without_ports.ensures.read
 
-pub returns-in-AssignT-clause-read : goal.returns-in-AssignT-clause-read
-returns-in-AssignT-clause-read g c = input_still (g.I.Source.faults c.args.input.now) _ c.without_ports.ensures.read
-
-pub returns-in-AssignT-clause-row : goal.returns-in-AssignT-clause-row
-returns-in-AssignT-clause-row g c s e = (
+pub returns-in-Some-clause-row : goal.returns-in-Some-clause-row
+returns-in-Some-clause-row g c s e = (
   s,
   e,
   (
     still_same c.without_ports.result (g.O.Sink.written c.args.out.now),
     λ code line e1 e2 e3 e4.
         let l = c.args.limits.now in
+        let ename : to_z w64 (of_z w64 c.in-Std.operand) ≡ c.in-Std.operand = search rules in
+        let z = to_z w64 (of_z w64 c.in-Std.operand) in
         c.without_ports.ensures.row _ _ _ _ _ _ _ _ _ _ _ _ _
+        (for_instr_in _ code l line _ _ _ _ _ _ _ _ _ _ c.args.instr (i.Std z) (c.in-Std.is ∙ ap i.Std (sym ename))
+        (for_block_name c.schedule-flow.result code l line z c.in-Some.name c.in-Some.ensures.is c.in-Some.ensures.named _ _ _ _ _ _ _ _ _ _ (c.schedule-flow.ensures.row code l line (outside (g.O.Sink.written c.args.out.now) s) e1 e4))),
+  ),
+)
+
+pub returns-in-Act-clause-ends : goal.returns-in-Act-clause-ends
+returns-in-Act-clause-ends g c = flow_still g.O.Sink.written g.O.Sink.faults c.args.out.now _ c.without_ports-in-Act.ensures.other
+
+pub returns-in-Act-clause-read : goal.returns-in-Act-clause-read
+returns-in-Act-clause-read g c = input_still (g.I.Source.faults c.args.input.now) _ c.without_ports-in-Act.ensures.read
+
+pub returns-in-Act-clause-row : goal.returns-in-Act-clause-row
+returns-in-Act-clause-row g c s e = (
+  s,
+  e,
+  (
+    still_same c.without_ports-in-Act.result (g.O.Sink.written c.args.out.now),
+    λ code line e1 e2 e3 e4.
+        let l = c.args.limits.now in
+        let eoperand : to_z w64 (of_z w64 c.in-Act.operand) ≡ c.in-Act.operand = search rules in
+        c.without_ports-in-Act.ensures.row _ _ _ _ _ _ _ _ _ _ _ _ _
+        (for_instr_in _ code l line _ _ _ _ _ _ _ _ _ _ c.args.instr (i.Act (to_z w64 (of_z w64 c.in-Act.operand))) (c.in-Act.is ∙ ap i.Act (sym eoperand))
+        (c.activate-flow.ensures.row code l line (outside (g.O.Sink.written c.args.out.now) s) e1 e4)),
+  ),
+)
+
+pub returns-in-AssignT-clause-valid : goal.returns-in-AssignT-clause-valid
+returns-in-AssignT-clause-valid g c = record { input = c.assign-flow.ensures.images _ c.requires.images.input; output = c.assign-flow.ensures.images _ c.requires.images.output }
+
+pub returns-in-AssignT-clause-ends : goal.returns-in-AssignT-clause-ends
+returns-in-AssignT-clause-ends g c = flow_still g.O.Sink.written g.O.Sink.faults c.args.out.now _ c.without_ports-in-AssignT.ensures.other
+
+pub returns-in-AssignT-clause-read : goal.returns-in-AssignT-clause-read
+returns-in-AssignT-clause-read g c = input_still (g.I.Source.faults c.args.input.now) _ c.without_ports-in-AssignT.ensures.read
+
+pub returns-in-AssignT-clause-row : goal.returns-in-AssignT-clause-row
+returns-in-AssignT-clause-row g c s e = (
+  s,
+  e,
+  (
+    still_same c.without_ports-in-AssignT.result (g.O.Sink.written c.args.out.now),
+    λ code line e1 e2 e3 e4.
+        let l = c.args.limits.now in
+        c.without_ports-in-AssignT.ensures.row _ _ _ _ _ _ _ _ _ _ _ _ _
         (for_instr_in _ code l line _ _ _ _ _ _ _ _ _ _ c.args.instr i.AssignT c.in-AssignT.is
         (obeys_stacks c.assign-flow.result l line _ _ _ _ _ _ c.args.top.now.stack.items _ _ _ _ _ _ c.deref.ensures.value (sym c.deref.ensures.value)
         (c.assign-flow.ensures.row l line c.args.storage.now _ c.args.below.now.items (outside (g.O.Sink.written c.args.out.now) s) refl refl))),

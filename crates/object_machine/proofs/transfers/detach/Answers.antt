@@ -1,14 +1,16 @@
 use Rattle.std.proofs.Common.{◌≡◌, ◌∷◌, sym, subst, ◌∙◌, arith}
-use Rattle.sim_values.specs.Plain.{Nothing, Object}
+use Rattle.sim_base.specs.declared.run_error.RunError.TheVariants.{ObjectNotOperating}
+use Rattle.sim_values.specs.Plain.{MainOf, Nothing, Object}
 use Rattle.sim_code.specs.Machine.{waiting}
 use Rattle.sim_code.specs.Transfers.{Detaching}
 use Rattle.frame_arena.specs.Frames.{Leads, SlotLeads}
 use Rattle.frame_arena.specs.Slots.{empty_slot}
 use Rattle.frame_arena.specs.Stacks.{slot_at, values_of}
+use Rattle.object_machine.specs.declared.machine.Flow.TheVariants as flow
 use Rattle.object_machine.specs.Standing.{Obeys, activation_of, below_of}
-use Rattle.object_machine.proofs.Going.{along}
+use Rattle.object_machine.proofs.Going.{along, faults}
 use Rattle.object_machine.proofs.Moving.{no_rule_left, row_none, row_of, row_other, slot_within}
-use Rattle.object_machine.proofs.Transferring.{detach_none}
+use Rattle.object_machine.proofs.Transferring.{detach_none, main_refused}
 use Rattle.object_machine.proofs.transfers.detach.Goals as goal
 
 pub returns-in_default-clause-row : goal.returns-in_default-clause-row
@@ -33,6 +35,18 @@ returns-in-Object-clause-row c l line now before o m s =
     along l line d.new.storage d.new.below.items before now d.result d.new.top.registers d.new.top.stack.items _ _
     (row_of l line p t below before now o m s Detaching at c.deref.result.now c.deref.ensures.value (c.in-Some.ensures.row o) c.index.result.now slot (Object f.stamp) c.in-Object.ensures.is)
     (d.ensures.row l line before now o m s leads)
+
+pub returns-in-Main-clause-row : goal.returns-in-Main-clause-row
+unfolding Obeys
+returns-in-Main-clause-row c l line now before o m s =
+    let p = c.args.storage.now in
+    let t = c.args.top.now in
+    let below = c.args.below.now.items in
+    let at = c.in-Some.at in
+    let slot : c.index.result.now ≡ slot_at t.stack.items at = c.index.ensures ∙ slot_within t.stack.items at c.index.result.now empty_slot (let e = c.in-Some.ensures.shallower in let f = c.requires.fits in omega (arith, e, f)) in
+    along l line p below before now (flow.Fault ObjectNotOperating) t.registers t.stack.items _ _
+    (row_of l line p t below before now o m s Detaching at c.deref.result.now c.deref.ensures.value (c.in-Some.ensures.row o) c.index.result.now slot (MainOf _) c.in-Main.ensures.is ∙ main_refused line o (waiting (activation_of t) (values_of at t.stack.items) ∷ below_of below) m Detaching _)
+    (faults l line p below before now ObjectNotOperating t.registers t.registers t.stack.items t.stack.items o m s)
 
 pub returns-in-IsNone-clause-row : goal.returns-in-IsNone-clause-row
 unfolding Obeys
