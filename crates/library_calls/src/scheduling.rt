@@ -1,6 +1,7 @@
 //! Sets, event notices and scheduling with ample memory, for more than 65,536 objects, so that no smaller limit is met.
 ghost use Rattle.std.specs.Prelude.{◌<◌};
 
+use notice_tree::NoticeTree;
 use notices::{NoticeSet, NoticeVec, ProcessNo};
 use simset::Rings;
 use simulation::Sim;
@@ -35,6 +36,19 @@ fn notices_of_many_processes(rt: HostRuntime) -> Result<(), Fail> {
     set.put_at(0, false, ProcessNo(65_536));
     assert_eq!(rt; set.first(), Some((0, ProcessNo(65_536))));
     assert_eq!(rt; set.next(ProcessNo(65_536)), Some(ProcessNo(69_999)));
+    Ok(())
+}
+
+#[test]
+fn a_tree_of_notices_of_many_processes(rt: HostRuntime) -> Result<(), Fail> {
+    let mut set = NoticeTree::new(rt.alloc());
+    set.reserve(MANY)?;
+    set.put_at(2, false, ProcessNo(69_999));
+    set.put_at(1, false, ProcessNo(69_998));
+    set.put_at(0, false, ProcessNo(65_536));
+    assert_eq!(rt; set.height(), 2);
+    assert_eq!(rt; set.first(), Some((0, ProcessNo(65_536))));
+    assert_eq!(rt; set.next(ProcessNo(69_998)), Some(ProcessNo(69_999)));
     Ok(())
 }
 

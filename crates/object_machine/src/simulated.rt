@@ -9,7 +9,8 @@ ghost use Rattle.frame_arena.specs.Frames.{Leads};
 ghost use Rattle.object_machine.specs.Enrolling.{AllBelow, Rises, stamps};
 ghost use Rattle.object_machine.specs.Simulating.{AllEarlier, IsSimulated, Simulating, blocks_of, simulation_of};
 
-use notices::{NoticeSet, NoticeVec};
+use notice_tree::NoticeTree;
+use notices::NoticeSet;
 use sim_base::Memory;
 use sim_values::FrameRef;
 use simulation::Sim;
@@ -26,7 +27,7 @@ pub struct Simulated {
     /// Whether each of them is terminated.
     pub ended: Vec<bool>,
     /// Its event notices.
-    pub sim: Sim<NoticeVec>,
+    pub sim: Sim<NoticeTree>,
 }
 
 // The place of the block with a number among these, whose numbers rise, if it is there.
@@ -112,7 +113,7 @@ pub fn begin_simulation(
     ensures row { IfOk result (λ u. (frames : List Frame) (m : Frames) (o : List Simulation) → Simulating frames m simulations.old.items o → AllEarlier block.stamp o → Leads frames m block →
         Simulating frames m simulations.new.items (o ++ begun block.stamp ∷ [])) }
 {
-    let mut notices = NoticeVec::new(alloc);
+    let mut notices = NoticeTree::new(alloc);
     notices.reserve(1)?;
     let simulated = Simulated {
         block,

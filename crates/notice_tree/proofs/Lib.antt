@@ -1,0 +1,12 @@
+pub mod BalanceLemmas
+pub mod ClimbLemmas
+pub mod FindLemmas
+pub mod HeightLemmas
+pub mod HeldLemmas
+pub mod InsertLemmas
+pub mod ListLemmas
+pub mod PlacingLemmas
+pub mod RemoveLemmas
+pub mod SpotLemmas
+pub mod StandLemmas
+pub mod TreeLemmas
